@@ -1,0 +1,3 @@
+pub mod Types
+pub mod Marks
+pub mod Column

@@ -1,0 +1,128 @@
+//! Lists of marks that grow.
+ghost use Rattle.std.specs.Prelude.{◌≡◌, ℕ, ◌<◌, [], ◌∷◌, ◌++◌, length, replicate, slice_get, slice_set, Some, OnOk, IfOk, IfErr, MatchOption};
+ghost use Rattle.arrow_memory.specs.Marks.{marks};
+
+use crate::bitmap::bits::{extend_marks, mark_of, push_mark, write_mark};
+use crate::bitmap::{Bitmap, BitmapIter};
+use crate::types::Error;
+use std::alloc::Global;
+use std::marker::Model;
+
+/// A list of marks that can be changed and grow. Marks are packed eight to a byte, the least
+/// significant bit first (Arrow columnar format, "Validity bitmaps").
+#[derive(Drop)]
+pub struct MutableBitmap {
+    bytes: Vec<u8>,
+    length: usize,
+}
+
+// Contracts see the marks. Bits past the last mark don't count.
+impl Model for MutableBitmap {
+    ghost use Rattle.std.specs.Prelude.{List, Bool, ◌*◌, ◌≤◌, vec_len};
+    ghost use Rattle.arrow_memory.specs.Marks.{marks};
+
+    ghost Value = { List Bool };
+
+    ghost view = { λ bitmap. marks bitmap.bytes.items 0 bitmap.length };
+
+    ghost invariant = { λ bitmap. bitmap.length ≤ 8 * vec_len bitmap.bytes };
+}
+
+#[tactic(auto, using(crate::proofs::MarkLemmas::mark_steps))]
+impl MutableBitmap {
+    /// No marks.
+    pub fn new(alloc: Global) -> Self
+        ensures { result ≡ [] }
+    {
+        MutableBitmap {
+            bytes: Vec::new(alloc),
+            length: 0,
+        }
+    }
+
+    /// The number of marks.
+    pub fn len(&self) -> usize
+        ensures { result ≡ length self.now }
+    {
+        self.length
+    }
+
+    /// The mark at a place.
+    pub fn get(&self, index: usize) -> bool
+        requires { index < length self.now }
+        ensures { slice_get self.now index ≡ Some result }
+    {
+        mark_of(&self.bytes, index)
+    }
+
+    /// Writes the mark at a place.
+    pub fn set(&mut self, index: usize, value: bool)
+        requires { index < length self.old }
+        ensures { self.new ≡ slice_set self.old index value }
+    {
+        write_mark(&mut self.bytes, index, value);
+    }
+
+    /// Appends a mark.
+    ///
+    /// # Errors
+    /// `OutOfMemory` where the growth is refused; the marks are then as before.
+    pub fn push(&mut self, value: bool) -> Result<(), Error>
+        ensures ok { OnOk result (self.new ≡ self.old ++ value ∷ []) }
+        ensures err { IfErr result (λ e. (e ≡ Error.OutOfMemory) × (self.new ≡ self.old)) }
+    {
+        let Some(length) = self.length.checked_add(1) else {
+            return Err(Error::OutOfMemory);
+        };
+        push_mark(&mut self.bytes, self.length, value)?;
+        self.length = length;
+        Ok(())
+    }
+
+    /// Removes the last mark and answers it; `None` where there is none.
+    pub fn pop(&mut self) -> Option<bool>
+        ensures { MatchOption result ((self.old ≡ []) × (self.new ≡ [])) (λ mark. self.old ≡ self.new ++ mark ∷ []) }
+    {
+        if self.length == 0 {
+            return None;
+        }
+        self.length -= 1;
+        Some(mark_of(&self.bytes, self.length))
+    }
+
+    /// Appends so many equal marks, whole bytes at a time.
+    ///
+    /// # Errors
+    /// `OutOfMemory` where the growth is refused, as one past `usize::MAX` marks is; the marks are
+    /// then as before.
+    pub fn extend_constant(&mut self, additional: usize, value: bool) -> Result<(), Error>
+        ensures ok { OnOk result (self.new ≡ self.old ++ replicate additional value) }
+        ensures err { IfErr result (λ e. (e ≡ Error.OutOfMemory) × (self.new ≡ self.old)) }
+    {
+        let Some(end) = self.length.checked_add(additional) else {
+            return Err(Error::OutOfMemory);
+        };
+        extend_marks(&mut self.bytes, self.length, end, value)?;
+        self.length = end;
+        Ok(())
+    }
+
+    /// The marks in order.
+    pub fn iter(&self) -> BitmapIter<'_>
+        ensures { result ≡ self.now }
+    {
+        BitmapIter::new(&self.bytes, 0, self.length)
+    }
+
+    /// The same marks, which no longer change.
+    ///
+    /// # Errors
+    /// `OutOfMemory` where a growth is refused; the marks are then lost.
+    pub fn freeze(self) -> Result<Bitmap, Error>
+        ensures ok { IfOk result (λ bitmap. bitmap ≡ self) }
+        ensures err { IfErr result (λ e. e ≡ Error.OutOfMemory) }
+    {
+        let MutableBitmap { bytes, length } = self;
+        Ok(Bitmap::from_bytes(bytes, length))
+    }
+}
