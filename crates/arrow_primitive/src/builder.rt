@@ -1,0 +1,165 @@
+//! The builder of arrays of native values.
+ghost use Rattle.std.specs.Prelude.{◌≡◌, ◌<◌, length, Some, None, OnOk, IfOk, IfErr};
+ghost use Rattle.std.specs.Option.{option_copied};
+ghost use Rattle.arrow_memory.specs.Types.{logical_type, physical_type, default_logical_type};
+ghost use Rattle.arrow_memory.specs.Column.{Column, IsColumn, append_slot, empty_column, freeze, last_slot, mask_of, slots_of, stored_values, without_last};
+
+use crate::PrimitiveArray;
+use crate::mask::{freeze_mask, pop_mark, push_null_mark, push_reserved, push_valid};
+use arrow_memory::bitmap::MutableBitmap;
+use arrow_memory::types::{DataType, Error, NativeType, PhysicalType};
+use arrow_memory::zip_validity::ZipValidity;
+use std::alloc::Global;
+use std::marker::Model;
+
+/// A list of native values, each of which may be null, that can be changed and grow.
+#[derive(Drop)]
+pub struct MutablePrimitiveArray<T: NativeType> {
+    data_type: DataType,
+    values: Vec<T>,
+    validity: Option<MutableBitmap>,
+}
+
+// Contracts see the column: the type, a row for each slot, and whether a mask is held.
+impl<T: NativeType> Model for MutablePrimitiveArray<T> {
+    ghost use Rattle.std.specs.Prelude.{◌≡◌, length, is_some, IfSome};
+    ghost use Rattle.arrow_memory.specs.Types.{logical_type, physical_type};
+    ghost use Rattle.arrow_memory.specs.Column.{Column, rows_of};
+    ghost use Rattle.arrow_memory.specs.declared.types.PhysicalType.TheVariants.{Primitive};
+
+    ghost Value = { Column T };
+
+    ghost view = { λ builder. record { data_type = logical_type builder.data_type; rows = rows_of builder.values.items builder.validity; held = is_some builder.validity } };
+
+    ghost invariant = { λ builder. (physical_type (logical_type builder.data_type) ≡ Primitive T.PRIMITIVE) × IfSome builder.validity (λ marks. length marks ≡ length builder.values.items) };
+}
+
+#[tactic(auto, using(crate::proofs::RowLemmas::row_steps))]
+impl<T: NativeType> MutablePrimitiveArray<T> {
+    /// No slot, and no mask; the data type is the default of the native type.
+    pub fn new(alloc: Global) -> Self
+        ensures { result ≡ empty_column (default_logical_type T.PRIMITIVE) }
+    {
+        MutablePrimitiveArray {
+            data_type: T::PRIMITIVE.default_data_type(),
+            values: Vec::new(alloc),
+            validity: None,
+        }
+    }
+
+    /// The number of slots.
+    pub fn len(&self) -> usize
+        ensures { result ≡ length self.now.rows }
+    {
+        self.values.len()
+    }
+
+    /// The stored values, those of null slots too.
+    pub fn values(&self) -> &Vec<T>
+        ensures { result.now.items ≡ stored_values self.now }
+    {
+        &self.values
+    }
+
+    /// The mask, where one is held; else no slot is null.
+    pub fn validity(&self) -> Option<&MutableBitmap>
+        ensures mask { option_copied result ≡ mask_of self.now }
+        ensures is_column { IsColumn self.now }
+    {
+        self.validity.as_ref()
+    }
+
+    /// The data type.
+    pub fn data_type(&self) -> &DataType
+        ensures value { logical_type result.now ≡ self.now.data_type }
+        ensures right { physical_type self.now.data_type ≡ PhysicalType.Primitive T.PRIMITIVE }
+    {
+        &self.data_type
+    }
+
+    /// The slots in order.
+    pub fn iter(&self) -> ZipValidity<'_, T>
+        ensures { result ≡ slots_of self.now }
+    {
+        let marks = match &self.validity {
+            None => None,
+            Some(validity) => Some(validity.iter()),
+        };
+        ZipValidity::new(&self.values, marks)
+    }
+
+    /// Appends a slot. A null stores the default value, and a mask is held from then on.
+    ///
+    /// # Errors
+    /// `OutOfMemory` where a growth is refused; the builder is then as before.
+    pub fn push(&mut self, value: Option<T>) -> Result<(), Error>
+        ensures ok { OnOk result (self.new ≡ append_slot T.zero self.old value) }
+        ensures err { IfErr result (λ e. (e ≡ Error.OutOfMemory) × (self.new ≡ self.old)) }
+    {
+        // Every growth comes before the first write, so that a refusal leaves all as it was.
+        self.values.reserve(1)?;
+        match value {
+            Some(value) => {
+                push_valid(&mut self.validity)?;
+                push_reserved(&mut self.values, value);
+            }
+            None => {
+                let alloc = *self.values.allocator();
+                push_null_mark(alloc, &mut self.validity, self.values.len())?;
+                push_reserved(&mut self.values, T::default());
+            }
+        }
+        Ok(())
+    }
+
+    /// Appends a slot, as `push` does.
+    ///
+    /// # Errors
+    /// `OutOfMemory` where a growth is refused; the builder is then as before.
+    pub fn try_push(&mut self, value: Option<T>) -> Result<(), Error>
+        ensures ok { OnOk result (self.new ≡ append_slot T.zero self.old value) }
+        ensures err { IfErr result (λ e. (e ≡ Error.OutOfMemory) × (self.new ≡ self.old)) }
+    {
+        self.push(value)
+    }
+
+    /// Appends a null.
+    ///
+    /// # Errors
+    /// `OutOfMemory` where a growth is refused; the builder is then as before.
+    pub fn push_null(&mut self) -> Result<(), Error>
+        ensures ok { OnOk result (self.new ≡ append_slot T.zero self.old None) }
+        ensures err { IfErr result (λ e. (e ≡ Error.OutOfMemory) × (self.new ≡ self.old)) }
+    {
+        self.push(None)
+    }
+
+    /// Removes the last slot and answers it; `None` where it is null, and where there is none.
+    pub fn pop(&mut self) -> Option<T>
+        ensures slot { result ≡ last_slot self.old }
+        ensures rest { self.new ≡ without_last self.old }
+    {
+        let value = self.values.pop()?;
+        if pop_mark(&mut self.validity) {
+            Some(value)
+        } else {
+            None
+        }
+    }
+
+    /// The array of the same slots, which holds a mask exactly where a slot is null.
+    ///
+    /// # Errors
+    /// `OutOfMemory` where a growth is refused; the builder is then lost.
+    pub fn freeze(self) -> Result<PrimitiveArray<T>, Error>
+        ensures ok { IfOk result (λ array. array ≡ freeze self) }
+        ensures err { IfErr result (λ e. e ≡ Error.OutOfMemory) }
+    {
+        let MutablePrimitiveArray {
+            data_type,
+            values,
+            validity,
+        } = self;
+        PrimitiveArray::from_parts(data_type, values, freeze_mask(validity)?)
+    }
+}
