@@ -66,3 +66,6 @@ impl<'a, T> Iterator for ZipValidity<'a, T> {
         (left, Some(left))
     }
 }
+
+#[cfg(test)]
+mod tests;

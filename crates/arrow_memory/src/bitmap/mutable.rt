@@ -126,3 +126,6 @@ impl MutableBitmap {
         Ok(Bitmap::from_bytes(bytes, length))
     }
 }
+
+#[cfg(test)]
+mod tests;

@@ -1,0 +1,9 @@
+use Rattle.std.proofs.Common.{◌≡◌, take}
+use Rattle.arrow_memory.specs.Types.{default_logical_type}
+use Rattle.arrow_cli.specs.Run.{AppendsRun}
+use Rattle.arrow_cli.proofs.table.runner.run.Given as goal
+
+abbrev pub invariant-loop-command : goal.invariant-loop-command
+invariant-loop-command g l =
+    (l.done ≡ l.command-index)
+    × AppendsRun g.T.NativeType.zero (default_logical_type g.T.NativeType.PRIMITIVE) l.fn.table (take l.command-index l.commands) l.fn.replies.items l.replies.items l.table-inside.entries.items

@@ -1,0 +1,14 @@
+pub mod Item
+pub mod Command
+pub mod Reply
+pub mod Entry
+pub mod Step
+pub mod Run
+pub mod Words
+pub mod Fields
+pub mod Lines
+pub mod Parse
+pub mod Text
+pub mod Counted
+pub mod Session
+pub mod Device

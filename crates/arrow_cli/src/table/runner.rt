@@ -1,0 +1,110 @@
+//! A table, and the run of a list of commands on it.
+ghost use Rattle.std.specs.Prelude.{◌≡◌, ◌≤◌, length, take, replicate, slice_get, IfOk, IfErr, None, option_and_then, option_map};
+ghost use Rattle.arrow_memory.specs.Types.{default_logical_type};
+ghost use Rattle.arrow_cli.specs.Command.{asked};
+ghost use Rattle.arrow_cli.specs.Entry.{kind_of};
+ghost use Rattle.arrow_cli.specs.Reply.{told};
+ghost use Rattle.arrow_cli.specs.Run.{AppendsRun};
+ghost use Rattle.arrow_cli.specs.Step.{IsStep};
+
+use crate::table::{Command, Entry, Kind, Reply, rows};
+use arrow_memory::types::{Error, NativeType};
+use std::alloc::Global;
+use std::marker::Model;
+
+/// A table of entries, each of which is empty or holds an array or a builder.
+#[derive(Drop)]
+pub struct Table<T: NativeType> {
+    entries: Vec<Option<Entry<T>>>,
+}
+
+// Contracts see the entries in order.
+impl<T: NativeType> Model for Table<T> {
+    ghost use Rattle.arrow_cli.specs.Entry.{State};
+
+    ghost Value = { State T };
+
+    ghost view = { λ table. table.entries.items };
+}
+
+impl<T: NativeType> Table<T> {
+    /// A table of n empty entries.
+    ///
+    /// # Errors
+    /// `OutOfMemory` where memory is refused.
+    pub fn new(alloc: Global, n: usize) -> Result<Self, Error>
+        ensures ok { IfOk result (λ table. table ≡ replicate n None) }
+        ensures err { IfErr result (λ e. e ≡ Error.OutOfMemory) }
+    {
+        let mut entries = Vec::with_capacity(alloc, n)?;
+        for _ in 0..n {
+            entries.push(None)?;
+        }
+        Ok(Table { entries })
+    }
+
+    /// The number of entries.
+    pub fn len(&self) -> usize
+        ensures { result ≡ length self.now }
+    {
+        self.entries.len()
+    }
+
+    /// The kind of an entry; `None` where it is empty or past the table.
+    pub fn kind(&self, i: usize) -> Option<Kind>
+        ensures { result ≡ option_map kind_of (option_and_then (λ entry. entry) (slice_get self.now i)) }
+    {
+        match self.entries.get(i)? {
+            Some(Entry::Primitive(_)) => Some(Kind::Primitive),
+            Some(Entry::MutablePrimitive(_)) => Some(Kind::MutablePrimitive),
+            None => None,
+        }
+    }
+}
+
+/// Does one command.
+fn step<T: NativeType>(entries: &mut Vec<Option<Entry<T>>>, command: &Command<T>) -> Reply<T>
+    ensures { IsStep T.zero (default_logical_type T.PRIMITIVE) entries.old.items (asked command.now) (told result) entries.new.items }
+{
+    let alloc = *entries.allocator();
+    let number = command.entry();
+    if number >= entries.len() {
+        return Reply::NotMet;
+    }
+    let entry = &mut entries[number];
+    match command {
+        Command::New(_, kind) => rows::new_entry(alloc, entry, *kind),
+        Command::Len(_) => rows::len(entry),
+        Command::Get(_, index) => rows::get(entry, *index),
+        Command::Slots(_) => rows::slots(alloc, entry),
+        Command::Slice(_, offset, len) => rows::slice(entry, *offset, *len),
+        Command::Push(_, slot) => rows::push(entry, slot),
+        Command::Pop(_) => rows::pop(entry),
+        Command::Freeze(_) => rows::freeze(entry),
+    }
+}
+
+/// Runs commands in order and appends a reply for each. Answers how many were done: all, or as many
+/// as there was room for replies; it stops before the first command whose reply there is none for.
+pub fn run<T: NativeType>(
+    table: &mut Table<T>,
+    commands: &[Command<T>],
+    replies: &mut Vec<Reply<T>>,
+) -> usize
+    ensures count { result ≤ length commands.now }
+    ensures run { AppendsRun T.zero (default_logical_type T.PRIMITIVE) table.old (take result commands.now) replies.old.items replies.new.items table.new }
+{
+    let mut done = 0;
+    for command in commands {
+        if replies.reserve(1).is_err() {
+            return done;
+        }
+        let reply = step(&mut table.entries, command);
+        match replies.push(reply) {
+            Ok(()) => (),
+            Err(_) => unreachable!(),
+        }
+        done += 1;
+    }
+    done
+}

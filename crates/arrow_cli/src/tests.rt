@@ -1,0 +1,6 @@
+//! What the program's lines, devices and outcomes do, by example.
+mod devices;
+mod lines;
+mod outcomes;
+mod replies;
+mod sessions;
