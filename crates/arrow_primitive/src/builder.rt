@@ -1,8 +1,8 @@
 //! The builder of arrays of native values.
 ghost use Rattle.std.specs.Prelude.{◌≡◌, ◌<◌, length, Some, None, OnOk, IfOk, IfErr};
 ghost use Rattle.std.specs.Option.{option_copied};
-ghost use Rattle.arrow_memory.specs.Types.{logical_type, physical_type, default_logical_type};
-ghost use Rattle.arrow_memory.specs.Column.{Column, IsColumn, append_slot, empty_column, freeze, last_slot, mask_of, slots_of, stored_values, without_last};
+ghost use Rattle.arrow_memory.specs.Types.{logical_type, IsRightType, default_logical_type};
+ghost use Rattle.arrow_memory.specs.Column.{Column, IsColumn, append_slot, empty_column, without_needless_mask, last_slot, mask_of, slots_of, stored_values, without_last};
 
 use crate::PrimitiveArray;
 use crate::mask::{freeze_mask, pop_mark, push_null_mark, push_reserved, push_valid};
@@ -22,16 +22,15 @@ pub struct MutablePrimitiveArray<T: NativeType> {
 
 // Contracts see the column: the type, a row for each slot, and whether a mask is held.
 impl<T: NativeType> Model for MutablePrimitiveArray<T> {
-    ghost use Rattle.std.specs.Prelude.{◌≡◌, length, is_some, IfSome};
-    ghost use Rattle.arrow_memory.specs.Types.{logical_type, physical_type};
-    ghost use Rattle.arrow_memory.specs.Column.{Column, rows_of};
+    ghost use Rattle.arrow_memory.specs.Types.{logical_type, IsRightType};
+    ghost use Rattle.arrow_memory.specs.Column.{Column, FitsMask, column_of_parts};
     ghost use Rattle.arrow_memory.specs.declared.types.PhysicalType.TheVariants.{Primitive};
 
     ghost Value = { Column T };
 
-    ghost view = { λ builder. record { data_type = logical_type builder.data_type; rows = rows_of builder.values.items builder.validity; held = is_some builder.validity } };
+    ghost view = { λ builder. column_of_parts (logical_type builder.data_type) builder.values.items builder.validity };
 
-    ghost invariant = { λ builder. (physical_type (logical_type builder.data_type) ≡ Primitive T.PRIMITIVE) × IfSome builder.validity (λ marks. length marks ≡ length builder.values.items) };
+    ghost invariant = { λ builder. IsRightType (Primitive T.PRIMITIVE) (logical_type builder.data_type) × FitsMask builder.values.items builder.validity };
 }
 
 #[tactic(auto, using(crate::proofs::RowLemmas::row_steps))]
@@ -72,7 +71,7 @@ impl<T: NativeType> MutablePrimitiveArray<T> {
     /// The data type.
     pub fn data_type(&self) -> &DataType
         ensures value { logical_type result.now ≡ self.now.data_type }
-        ensures right { physical_type self.now.data_type ≡ PhysicalType.Primitive T.PRIMITIVE }
+        ensures right { IsRightType (PhysicalType.Primitive T.PRIMITIVE) self.now.data_type }
     {
         &self.data_type
     }
@@ -92,18 +91,20 @@ impl<T: NativeType> MutablePrimitiveArray<T> {
     ///
     /// # Errors
     /// `OutOfMemory` where a growth is refused; the builder is then as before.
+    #[inline(always)]
     pub fn push(&mut self, value: Option<T>) -> Result<(), Error>
         ensures ok { OnOk result (self.new ≡ append_slot T.zero self.old value) }
         ensures err { IfErr result (λ e. (e ≡ Error.OutOfMemory) × (self.new ≡ self.old)) }
     {
         // Every growth comes before the first write, so that a refusal leaves all as it was.
-        self.values.reserve(1)?;
         match value {
             Some(value) => {
+                self.values.reserve(1)?;
                 push_valid(&mut self.validity)?;
                 push_reserved(&mut self.values, value);
             }
             None => {
+                self.values.reserve(1)?;
                 let alloc = *self.values.allocator();
                 push_null_mark(alloc, &mut self.validity, self.values.len())?;
                 push_reserved(&mut self.values, T::default());
@@ -152,7 +153,7 @@ impl<T: NativeType> MutablePrimitiveArray<T> {
     /// # Errors
     /// `OutOfMemory` where a growth is refused; the builder is then lost.
     pub fn freeze(self) -> Result<PrimitiveArray<T>, Error>
-        ensures ok { IfOk result (λ array. array ≡ freeze self) }
+        ensures ok { IfOk result (λ array. array ≡ without_needless_mask self) }
         ensures err { IfErr result (λ e. e ≡ Error.OutOfMemory) }
     {
         let MutablePrimitiveArray {

@@ -1,8 +1,8 @@
 //! Lists of marks that grow.
-ghost use Rattle.std.specs.Prelude.{◌≡◌, ℕ, ◌<◌, [], ◌∷◌, ◌++◌, length, replicate, slice_get, slice_set, Some, OnOk, IfOk, IfErr, MatchOption};
+ghost use Rattle.std.specs.Prelude.{◌≡◌, ℕ, ◌<◌, [], ◌∷◌, ◌++◌, count_by, length, not, replicate, slice_get, slice_set, Some, OnOk, IfOk, IfErr, MatchOption};
 ghost use Rattle.arrow_memory.specs.Marks.{marks};
 
-use crate::bitmap::bits::{extend_marks, mark_of, push_mark, write_mark};
+use crate::bitmap::bits::{count_clear, extend_marks, mark_of, push_mark, write_mark};
 use crate::bitmap::{Bitmap, BitmapIter};
 use crate::types::Error;
 use std::alloc::Global;
@@ -67,6 +67,7 @@ impl MutableBitmap {
     ///
     /// # Errors
     /// `OutOfMemory` where the growth is refused; the marks are then as before.
+    #[inline(always)]
     pub fn push(&mut self, value: bool) -> Result<(), Error>
         ensures ok { OnOk result (self.new ≡ self.old ++ value ∷ []) }
         ensures err { IfErr result (λ e. (e ≡ Error.OutOfMemory) × (self.new ≡ self.old)) }
@@ -95,6 +96,7 @@ impl MutableBitmap {
     /// # Errors
     /// `OutOfMemory` where the growth is refused, as one past `usize::MAX` marks is; the marks are
     /// then as before.
+    #[inline(always)]
     pub fn extend_constant(&mut self, additional: usize, value: bool) -> Result<(), Error>
         ensures ok { OnOk result (self.new ≡ self.old ++ replicate additional value) }
         ensures err { IfErr result (λ e. (e ≡ Error.OutOfMemory) × (self.new ≡ self.old)) }
@@ -105,6 +107,13 @@ impl MutableBitmap {
         extend_marks(&mut self.bytes, self.length, end, value)?;
         self.length = end;
         Ok(())
+    }
+
+    /// The number of clear marks, counted eight bytes at a time.
+    pub fn unset_bits(&self) -> usize
+        ensures { result ≡ count_by not self.now }
+    {
+        count_clear(&self.bytes, 0, self.length)
     }
 
     /// The marks in order.

@@ -1,0 +1,168 @@
+//! Reads of a frozen array, which is made once. Each sum begins at a number that is another in every
+//! round and stands in a function of its own, so that no compiler does one round's work for all.
+use crate::primitive::{array, builder};
+use crate::told;
+use arrow_primitive::{MutablePrimitiveArray, PrimitiveArray};
+use std::alloc::Global;
+
+#[inline(never)]
+fn by_iter(array: &PrimitiveArray<i64>, start: i64) -> i64 {
+    let mut sum = start;
+    for slot in array.iter() {
+        if let Some(value) = slot {
+            sum = sum.wrapping_add(*value);
+        }
+    }
+    sum
+}
+
+fn iter_sum(alloc: Global, values: &[i64], valid: &[u8], rounds: usize) -> Option<u64> {
+    let array = array(alloc, values, valid)?;
+    let mut sum = 0i64;
+    for _ in 0..rounds {
+        sum = by_iter(&array, sum);
+    }
+    Some(sum.cast_unsigned())
+}
+
+#[unsafe(no_mangle)]
+pub extern "C" fn rattle_flat_prim_iter_sum(
+    alloc: Global,
+    values: &[i64],
+    valid: &[u8],
+    rounds: usize,
+) -> u64 {
+    told(iter_sum(alloc, values, valid, rounds))
+}
+
+#[inline(never)]
+fn by_builder_iter(array: &MutablePrimitiveArray<i64>, start: i64) -> i64 {
+    let mut sum = start;
+    for slot in array.iter() {
+        if let Some(value) = slot {
+            sum = sum.wrapping_add(*value);
+        }
+    }
+    sum
+}
+
+fn builder_iter_sum(alloc: Global, values: &[i64], valid: &[u8], rounds: usize) -> Option<u64> {
+    let array = builder(alloc, values, valid)?;
+    let mut sum = 0i64;
+    for _ in 0..rounds {
+        sum = by_builder_iter(&array, sum);
+    }
+    Some(sum.cast_unsigned())
+}
+
+// as prim_iter_sum, of the builder
+#[unsafe(no_mangle)]
+pub extern "C" fn rattle_flat_prim_builder_iter_sum(
+    alloc: Global,
+    values: &[i64],
+    valid: &[u8],
+    rounds: usize,
+) -> u64 {
+    told(builder_iter_sum(alloc, values, valid, rounds))
+}
+
+#[inline(never)]
+fn by_values(array: &PrimitiveArray<i64>, start: i64) -> i64 {
+    let mut sum = start;
+    for value in array.values().as_slice() {
+        sum = sum.wrapping_add(*value);
+    }
+    sum
+}
+
+fn values_sum(alloc: Global, values: &[i64], rounds: usize) -> Option<u64> {
+    let array = array(alloc, values, &[])?;
+    let mut sum = 0i64;
+    for _ in 0..rounds {
+        sum = by_values(&array, sum);
+    }
+    Some(sum.cast_unsigned())
+}
+
+#[unsafe(no_mangle)]
+pub extern "C" fn rattle_flat_prim_values_sum(alloc: Global, values: &[i64], rounds: usize) -> u64 {
+    told(values_sum(alloc, values, rounds))
+}
+
+#[inline(never)]
+fn by_value(array: &PrimitiveArray<i64>, start: i64) -> i64 {
+    let mut sum = start;
+    for i in 0..array.len() {
+        sum = sum.wrapping_add(array.value(i));
+    }
+    sum
+}
+
+fn value_sum(alloc: Global, values: &[i64], rounds: usize) -> Option<u64> {
+    let array = array(alloc, values, &[])?;
+    let mut sum = 0i64;
+    for _ in 0..rounds {
+        sum = by_value(&array, sum);
+    }
+    Some(sum.cast_unsigned())
+}
+
+#[unsafe(no_mangle)]
+pub extern "C" fn rattle_flat_prim_value_sum(alloc: Global, values: &[i64], rounds: usize) -> u64 {
+    told(value_sum(alloc, values, rounds))
+}
+
+#[inline(never)]
+fn by_get(array: &PrimitiveArray<i64>, start: i64) -> i64 {
+    let mut sum = start;
+    for i in 0..array.len() {
+        if let Some(value) = array.get(i) {
+            sum = sum.wrapping_add(value);
+        }
+    }
+    sum
+}
+
+fn get_sum(alloc: Global, values: &[i64], valid: &[u8], rounds: usize) -> Option<u64> {
+    let array = array(alloc, values, valid)?;
+    let mut sum = 0i64;
+    for _ in 0..rounds {
+        sum = by_get(&array, sum);
+    }
+    Some(sum.cast_unsigned())
+}
+
+#[unsafe(no_mangle)]
+pub extern "C" fn rattle_flat_prim_get_sum(
+    alloc: Global,
+    values: &[i64],
+    valid: &[u8],
+    rounds: usize,
+) -> u64 {
+    told(get_sum(alloc, values, valid, rounds))
+}
+
+#[inline(never)]
+fn nulls(array: &PrimitiveArray<i64>, start: usize) -> usize {
+    start.wrapping_add(array.null_count())
+}
+
+fn null_count(alloc: Global, values: &[i64], valid: &[u8], rounds: usize) -> Option<u64> {
+    let array = array(alloc, values, valid)?;
+    let mut sum = 0usize;
+    for _ in 0..rounds {
+        sum = nulls(&array, sum);
+    }
+    Some(sum as u64)
+}
+
+// sum: null_count of a frozen array (made once)
+#[unsafe(no_mangle)]
+pub extern "C" fn rattle_flat_prim_null_count(
+    alloc: Global,
+    values: &[i64],
+    valid: &[u8],
+    rounds: usize,
+) -> u64 {
+    told(null_count(alloc, values, valid, rounds))
+}
