@@ -1,8 +1,9 @@
 //! Lists of marks that grow.
-ghost use Rattle.std.specs.Prelude.{◌≡◌, ℕ, ◌<◌, [], ◌∷◌, ◌++◌, count_by, length, not, replicate, slice_get, slice_set, Some, OnOk, IfOk, IfErr, MatchOption};
-ghost use Rattle.arrow_memory.specs.Marks.{marks};
+ghost use Rattle.std.specs.Prelude.{◌≡◌, ℕ, ◌<◌, [], ◌∷◌, ◌++◌, count_by, length, not, replicate, slice_get, slice_set, Some, OnOk, IfOk, IfErr, IsOkAnd, IsErrAnd, MatchOption, ◌*◌, ◌≤◌, vec_len};
+ghost use Rattle.arrow_memory.specs.Marks.{marks, bits_past_bytes};
+ghost use Rattle.arrow_memory.specs.Types.{refusal};
 
-use crate::bitmap::bits::{count_clear, extend_marks, mark_of, push_mark, write_mark};
+use crate::bitmap::bits::{count_clear, extend_marks, fits_bytes, mark_of, push_mark, write_mark};
 use crate::bitmap::{Bitmap, BitmapIter};
 use crate::types::Error;
 use std::alloc::Global;
@@ -38,6 +39,90 @@ impl MutableBitmap {
             bytes: Vec::new(alloc),
             length: 0,
         }
+    }
+
+    /// The first marks of packed bytes.
+    pub(crate) fn from_bytes(bytes: Vec<u8>, length: usize) -> Self
+        requires { length ≤ 8 * vec_len bytes }
+        ensures { result ≡ marks bytes.items 0 length }
+    {
+        MutableBitmap { bytes, length }
+    }
+
+    /// The bytes of the marks.
+    pub(crate) fn into_bytes(self) -> Vec<u8>
+        ensures room { length self ≤ 8 * vec_len result }
+        ensures value { marks result.items 0 (length self) ≡ self }
+    {
+        let MutableBitmap { bytes, length: _ } = self;
+        bytes
+    }
+
+    /// The first `length` marks of packed bytes, which are not copied. The bytes may have more bits.
+    ///
+    /// # Errors
+    /// `OutOfSpec` where the bytes have fewer bits; they are then lost.
+    pub fn try_new(bytes: Vec<u8>, length: usize) -> Result<Self, Error>
+        ensures fit { length ≤ 8 * vec_len bytes → IsOkAnd result (λ bitmap. bitmap ≡ marks bytes.items 0 length) }
+        ensures unfit { 8 * vec_len bytes < length → IsErrAnd result (λ e. refusal e ≡ bits_past_bytes) }
+    {
+        fits_bytes(bytes.len(), length)?;
+        Ok(MutableBitmap { bytes, length })
+    }
+
+    /// No marks, with room for so many.
+    ///
+    /// # Errors
+    /// `OutOfMemory` where memory is refused.
+    pub fn with_capacity(alloc: Global, capacity: usize) -> Result<Self, Error>
+        ensures ok { IfOk result (λ bitmap. bitmap ≡ []) }
+        ensures err { IfErr result (λ e. e ≡ Error.OutOfMemory) }
+    {
+        Ok(MutableBitmap {
+            bytes: Vec::with_capacity(alloc, capacity.div_ceil(8))?,
+            length: 0,
+        })
+    }
+
+    /// Makes room for so many more marks.
+    ///
+    /// # Errors
+    /// `OutOfMemory` where the growth is refused.
+    pub fn reserve(&mut self, additional: usize) -> Result<(), Error>
+        ensures kept { self.new ≡ self.old }
+        ensures err { IfErr result (λ e. e ≡ Error.OutOfMemory) }
+    {
+        let needed = self.length.saturating_add(additional).div_ceil(8);
+        self.bytes
+            .reserve(needed.saturating_sub(self.bytes.len()))?;
+        Ok(())
+    }
+
+    /// Gives back room that no mark needs, where the allocator takes it back.
+    ///
+    /// # Errors
+    /// `OutOfMemory` where the smaller room is refused; the allocator of today never does.
+    pub fn shrink_to_fit(&mut self) -> Result<(), Error>
+        ensures kept { self.new ≡ self.old }
+        ensures err { IfErr result (λ e. e ≡ Error.OutOfMemory) }
+    {
+        self.bytes.truncate(self.length.div_ceil(8));
+        self.bytes.shrink_to_fit();
+        Ok(())
+    }
+
+    /// A copy of the marks.
+    ///
+    /// # Errors
+    /// `OutOfMemory` where memory is refused.
+    pub fn clone(&self) -> Result<Self, Error>
+        ensures ok { IfOk result (λ bitmap. bitmap ≡ self.now) }
+        ensures err { IfErr result (λ e. e ≡ Error.OutOfMemory) }
+    {
+        Ok(MutableBitmap {
+            bytes: self.bytes.clone()?,
+            length: self.length,
+        })
     }
 
     /// The number of marks.
@@ -132,7 +217,7 @@ impl MutableBitmap {
         ensures err { IfErr result (λ e. e ≡ Error.OutOfMemory) }
     {
         let MutableBitmap { bytes, length } = self;
-        Ok(Bitmap::from_bytes(bytes, length))
+        Bitmap::from_bytes(bytes, length)
     }
 }
 
