@@ -6,11 +6,12 @@ ghost use Rattle.arrow_memory.specs.Column.{Column, IsColumn, append_slot, empty
 
 use crate::PrimitiveArray;
 use crate::mask::{freeze_mask, pop_mark, push_null_mark, push_reserved, push_valid};
-use arrow_memory::bitmap::MutableBitmap;
+use arrow_memory::bitmap::{BitmapIter, MutableBitmap};
 use arrow_memory::types::{DataType, Error, NativeType, PhysicalType};
 use arrow_memory::zip_validity::ZipValidity;
 use std::alloc::Global;
 use std::marker::Model;
+use std::slice::Iter;
 
 /// A list of native values, each of which may be null, that can be changed and grow.
 #[derive(Drop)]
@@ -77,14 +78,14 @@ impl<T: NativeType> MutablePrimitiveArray<T> {
     }
 
     /// The slots in order.
-    pub fn iter(&self) -> ZipValidity<'_, T>
+    pub fn iter(&self) -> ZipValidity<Iter<'_, T>, BitmapIter<'_>>
         ensures { result ≡ slots_of self.now }
     {
         let marks = match &self.validity {
             None => None,
             Some(validity) => Some(validity.iter()),
         };
-        ZipValidity::new(&self.values, marks)
+        ZipValidity::new(self.values.iter(), marks)
     }
 
     /// Appends a slot. A null stores the default value, and a mask is held from then on.

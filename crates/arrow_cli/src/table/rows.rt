@@ -6,10 +6,12 @@ ghost use Rattle.arrow_cli.specs.Reply.{told};
 ghost use Rattle.arrow_cli.specs.Step.{NewStep, LenStep, GetStep, SlotsStep, SliceStep, PushStep, PopStep, FreezeStep, pushed, shown};
 
 use crate::table::{Entry, Item, Kind, Reply};
+use arrow_memory::bitmap::BitmapIter;
 use arrow_memory::types::{Error, NativeType};
 use arrow_memory::zip_validity::ZipValidity;
 use arrow_primitive::{MutablePrimitiveArray, PrimitiveArray};
 use std::alloc::{AllocError, Global};
+use std::slice::Iter;
 
 /// The native value of a slot that is to be stored.
 fn value_of<T: NativeType>(slot: &Option<Item<T>>) -> Option<T>
@@ -90,7 +92,7 @@ pub(crate) fn get<T: NativeType>(entry: &Option<Entry<T>>, index: usize) -> Repl
 /// Slots as they are answered.
 fn items_of<T: NativeType>(
     alloc: Global,
-    slots: ZipValidity<'_, T>,
+    slots: ZipValidity<Iter<'_, T>, BitmapIter<'_>>,
 ) -> Result<Vec<Option<Item<T>>>, AllocError>
     ensures { IfOk result (λ items. map stored_slot items.items ≡ map shown slots.entry) }
 {
