@@ -1,7 +1,7 @@
 -- Lemmas about runs.
 use Rattle.std.proofs.Common.{◌≡◌, ℕ, ◌+◌, ◌<◌, List, [], ◌∷◌, ◌++◌, length, map, take, slice_index_or, refl, sym, ap, subst, ◌∙◌, append_assoc}
 use Rattle.std.proofs.lemmas.List.{append-nil, take_more, map_push}
-use Rattle.arrow_memory.specs.Types.{LogicalType}
+use Rattle.arrow_types.specs.Types.{LogicalType}
 use Rattle.arrow_cli.specs.declared.table.command.Command.{Command}
 use Rattle.arrow_cli.specs.declared.table.reply.Reply.{Reply}
 use Rattle.arrow_cli.specs.Command.{Request, asked}

@@ -1,6 +1,6 @@
 -- The entries of a table: a column for each, with the kind of array or builder that it is.
 use Rattle.std.specs.Prelude.{List, Option, Some, None}
-use Rattle.arrow_memory.specs.Types.{LogicalType}
+use Rattle.arrow_types.specs.Types.{LogicalType}
 use Rattle.arrow_memory.specs.Column.{Column, empty_column}
 use Rattle.arrow_cli.specs.declared.table.item.Kind.{Kind}
 use Rattle.arrow_cli.specs.declared.table.item.Kind.TheVariants as kind

@@ -1,6 +1,6 @@
 -- Replies, apart from where their items lie.
 use Rattle.std.specs.Prelude.{ℕ, List, map, Option}
-use Rattle.arrow_memory.specs.Types.{Refusal, refusal}
+use Rattle.arrow_types.specs.Types.{Refusal, refusal}
 use Rattle.arrow_cli.specs.declared.table.reply.Reply.{Reply}
 use Rattle.arrow_cli.specs.declared.table.reply.Reply.TheVariants as reply
 use Rattle.arrow_cli.specs.Item.{Stored, stored_slot}

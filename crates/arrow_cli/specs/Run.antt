@@ -1,6 +1,6 @@
 -- What a list of commands does: one step after the other.
 use Rattle.std.specs.Prelude.{◌≡◌, List, [], ◌∷◌, ◌++◌, map}
-use Rattle.arrow_memory.specs.Types.{LogicalType}
+use Rattle.arrow_types.specs.Types.{LogicalType}
 use Rattle.arrow_cli.specs.declared.table.command.Command.{Command}
 use Rattle.arrow_cli.specs.declared.table.reply.Reply.{Reply}
 use Rattle.arrow_cli.specs.Command.{Request, asked}

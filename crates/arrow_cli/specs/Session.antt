@@ -2,8 +2,8 @@
 use Rattle.std.specs.Prelude.{◌≡◌, ℕ, ◌⊎◌, List, [], ◌++◌, ℤ, pos, replicate, codes, decimal, Option, Some, None, Result, Ok, Err, String, string_bytes, ⊤}
 use Rattle.std.specs.declared.alloc.Global.{Global}
 use Rattle.std.specs.Io.{StartsWith}
-use Rattle.arrow_memory.specs.Types.{default_logical_type}
-use Rattle.arrow_memory.specs.declared.types.PrimitiveType.TheVariants.{Int64}
+use Rattle.arrow_types.specs.Types.{default_logical_type}
+use Rattle.arrow_types.specs.declared.primitive_type.PrimitiveType.TheVariants.{Int64}
 use Rattle.arrow_cli.specs.declared.outcome.Outcome.{Outcome}
 use Rattle.arrow_cli.specs.declared.outcome.Outcome.TheVariants as outcome
 use Rattle.arrow_cli.specs.declared.lines.parse.InputError.{InputError}

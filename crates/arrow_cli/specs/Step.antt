@@ -2,7 +2,7 @@
 -- A command's condition is tested: where it fails the answer is `not_met` and nothing changes, and it is `not_met` nowhere else.
 -- Want of memory is the one free choice.
 use Rattle.std.specs.Prelude.{◌≡◌, ℕ, ◌-◌, ◌&&◌, nat_le, length, map, Option, Some, None, option_map, MatchOption, MatchBool, slice_get, slice_set, slice_index_or}
-use Rattle.arrow_memory.specs.Types.{LogicalType, out_of_memory}
+use Rattle.arrow_types.specs.Types.{LogicalType, out_of_memory}
 use Rattle.arrow_memory.specs.Column.{slot, slots_of, cut, append_slot, last_slot, without_last, freeze}
 use Rattle.arrow_cli.specs.declared.table.item.Kind.{Kind}
 use Rattle.arrow_cli.specs.Item.{Stored, value}

@@ -2,7 +2,7 @@
 use Rattle.std.specs.Prelude.{ℕ, List, [], ◌∷◌, ◌++◌, map, flat_map, codes, decimal, Option, Some, None, ℤ}
 use Rattle.std.specs.List.{join_with_byte}
 use Rattle.std.specs.Fmt.{signed_decimal}
-use Rattle.arrow_memory.specs.Types.{refusal_text}
+use Rattle.arrow_types.specs.Types.{refusal_text}
 use Rattle.arrow_cli.specs.Item.{Stored, value}
 use Rattle.arrow_cli.specs.Words.{line_feed, space}
 use Rattle.arrow_cli.specs.Reply.{Answer, done, not_met, number, slot, slots, refused}

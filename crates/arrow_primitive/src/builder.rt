@@ -1,13 +1,16 @@
 //! The builder of arrays of native values.
 ghost use Rattle.std.specs.Prelude.{◌≡◌, ◌<◌, length, Some, None, OnOk, IfOk, IfErr};
 ghost use Rattle.std.specs.Option.{option_copied};
-ghost use Rattle.arrow_memory.specs.Types.{logical_type, IsRightType, default_logical_type};
+ghost use Rattle.arrow_types.specs.Types.{logical_type, IsRightType, default_logical_type};
 ghost use Rattle.arrow_memory.specs.Column.{Column, IsColumn, append_slot, empty_column, without_needless_mask, last_slot, mask_of, slots_of, stored_values, without_last};
 
 use crate::PrimitiveArray;
 use crate::mask::{freeze_mask, pop_mark, push_null_mark, push_reserved, push_valid};
 use arrow_memory::bitmap::{BitmapIter, MutableBitmap};
-use arrow_memory::types::{DataType, Error, NativeType, PhysicalType};
+use arrow_types::data_type::DataType;
+use arrow_types::error::Error;
+use arrow_types::native_type::NativeType;
+use arrow_types::physical_type::PhysicalType;
 use arrow_memory::zip_validity::ZipValidity;
 use std::alloc::Global;
 use std::marker::Model;
@@ -23,9 +26,9 @@ pub struct MutablePrimitiveArray<T: NativeType> {
 
 // Contracts see the column: the type, a row for each slot, and whether a mask is held.
 impl<T: NativeType> Model for MutablePrimitiveArray<T> {
-    ghost use Rattle.arrow_memory.specs.Types.{logical_type, IsRightType};
+    ghost use Rattle.arrow_types.specs.Types.{logical_type, IsRightType};
     ghost use Rattle.arrow_memory.specs.Column.{Column, FitsMask, column_of_parts};
-    ghost use Rattle.arrow_memory.specs.declared.types.PhysicalType.TheVariants.{Primitive};
+    ghost use Rattle.arrow_types.specs.declared.physical_type.PhysicalType.TheVariants.{Primitive};
 
     ghost Value = { Column T };
 

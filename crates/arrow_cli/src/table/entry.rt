@@ -1,5 +1,5 @@
 //! The entries of a table.
-use arrow_memory::types::NativeType;
+use arrow_types::native_type::NativeType;
 use arrow_primitive::{MutablePrimitiveArray, PrimitiveArray};
 
 /// An array or a builder.

@@ -1,6 +1,6 @@
 //! What a table answers.
 use crate::table::item::Item;
-use arrow_memory::types::Error;
+use arrow_types::error::Error;
 
 /// The answer to a command.
 #[derive(Debug, PartialEq, Drop)]

@@ -1,13 +1,14 @@
 //! What each command does to the entry that it names.
 ghost use Rattle.std.specs.Prelude.{◌≡◌, None, map, IfOk};
-ghost use Rattle.arrow_memory.specs.Types.{default_logical_type};
+ghost use Rattle.arrow_types.specs.Types.{default_logical_type};
 ghost use Rattle.arrow_cli.specs.Item.{stored_slot};
 ghost use Rattle.arrow_cli.specs.Reply.{told};
 ghost use Rattle.arrow_cli.specs.Step.{NewStep, LenStep, GetStep, SlotsStep, SliceStep, PushStep, PopStep, FreezeStep, pushed, shown};
 
 use crate::table::{Entry, Item, Kind, Reply};
 use arrow_memory::bitmap::BitmapIter;
-use arrow_memory::types::{Error, NativeType};
+use arrow_types::error::Error;
+use arrow_types::native_type::NativeType;
 use arrow_memory::zip_validity::ZipValidity;
 use arrow_primitive::{MutablePrimitiveArray, PrimitiveArray};
 use std::alloc::{AllocError, Global};

@@ -1,6 +1,6 @@
 //! A table, and the run of a list of commands on it.
 ghost use Rattle.std.specs.Prelude.{◌≡◌, ◌≤◌, length, take, replicate, slice_get, IfOk, IfErr, None, option_and_then, option_map};
-ghost use Rattle.arrow_memory.specs.Types.{default_logical_type};
+ghost use Rattle.arrow_types.specs.Types.{default_logical_type};
 ghost use Rattle.arrow_cli.specs.Command.{asked};
 ghost use Rattle.arrow_cli.specs.Entry.{kind_of};
 ghost use Rattle.arrow_cli.specs.Reply.{told};
@@ -8,7 +8,8 @@ ghost use Rattle.arrow_cli.specs.Run.{AppendsRun};
 ghost use Rattle.arrow_cli.specs.Step.{IsStep};
 
 use crate::table::{Command, Entry, Kind, Reply, rows};
-use arrow_memory::types::{Error, NativeType};
+use arrow_types::error::Error;
+use arrow_types::native_type::NativeType;
 use std::alloc::Global;
 use std::marker::Model;
 

@@ -1,6 +1,7 @@
 //! Runs of commands with ample memory, and with memory refused.
 use super::*;
-use arrow_memory::types::{Error, NativeType};
+use arrow_types::error::Error;
+use arrow_types::native_type::NativeType;
 use std::alloc::Global;
 use std::process::Abort;
 use std::test::Fail;

@@ -1,7 +1,7 @@
 //! The text of each reply.
 use crate::lines::print::text_of;
 use crate::table::{Item, Reply};
-use arrow_memory::types::Error;
+use arrow_types::error::Error;
 use std::test::Fail;
 
 #[test]

@@ -1,11 +1,11 @@
 //! Lists of marks that grow.
 ghost use Rattle.std.specs.Prelude.{◌≡◌, ℕ, ◌<◌, [], ◌∷◌, ◌++◌, count_by, length, not, replicate, slice_get, slice_set, Some, OnOk, IfOk, IfErr, IsOkAnd, IsErrAnd, MatchOption, ◌*◌, ◌≤◌, vec_len};
 ghost use Rattle.arrow_memory.specs.Marks.{marks, bits_past_bytes};
-ghost use Rattle.arrow_memory.specs.Types.{refusal};
+ghost use Rattle.arrow_types.specs.Types.{refusal};
 
 use crate::bitmap::bits::{count_clear, extend_marks, fits_bytes, mark_of, push_mark, write_mark};
 use crate::bitmap::{Bitmap, BitmapIter};
-use crate::types::Error;
+use arrow_types::error::Error;
 use std::alloc::Global;
 use std::marker::Model;
 

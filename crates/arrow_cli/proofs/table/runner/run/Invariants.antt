@@ -1,5 +1,5 @@
 use Rattle.std.proofs.Common.{◌≡◌, take}
-use Rattle.arrow_memory.specs.Types.{default_logical_type}
+use Rattle.arrow_types.specs.Types.{default_logical_type}
 use Rattle.arrow_cli.specs.Run.{AppendsRun}
 use Rattle.arrow_cli.proofs.table.runner.run.Given as goal
 

@@ -1,0 +1,102 @@
+//! What the values of an array mean.
+use crate::physical_type::PhysicalType;
+use crate::primitive_type::PrimitiveType;
+use crate::units::{IntervalUnit, TimeUnit};
+
+/// The logical types of the Arrow columnar format: what the values of an array mean.
+#[derive(Debug, Drop)]
+pub enum DataType {
+    /// True or false.
+    Boolean,
+    /// Signed integers of 8 bits.
+    Int8,
+    /// Signed integers of 16 bits.
+    Int16,
+    /// Signed integers of 32 bits.
+    Int32,
+    /// Signed integers of 64 bits.
+    Int64,
+    /// Unsigned integers of 8 bits.
+    UInt8,
+    /// Unsigned integers of 16 bits.
+    UInt16,
+    /// Unsigned integers of 32 bits.
+    UInt32,
+    /// Unsigned integers of 64 bits.
+    UInt64,
+    /// Days since the epoch, in 32 bits.
+    Date32,
+    /// Milliseconds since the epoch, in 64 bits.
+    Date64,
+    /// Times of a day, in 32 bits.
+    Time32(TimeUnit),
+    /// Times of a day, in 64 bits.
+    Time64(TimeUnit),
+    /// Times since the epoch, in the named time zone where there is one.
+    Timestamp(TimeUnit, Option<String>),
+    /// Lengths of time.
+    Duration(TimeUnit),
+    /// Lengths of time by the calendar.
+    Interval(IntervalUnit),
+    /// Decimal numbers of 128 bits: how many digits, and how many of them after the point.
+    Decimal(usize, usize),
+    /// Decimal numbers of 256 bits: how many digits, and how many of them after the point.
+    Decimal256(usize, usize),
+    /// Bytes, with offsets of 32 bits.
+    Binary,
+    /// Bytes, with offsets of 64 bits.
+    LargeBinary,
+    /// Text, with offsets of 32 bits.
+    Utf8,
+    /// Text, with offsets of 64 bits.
+    LargeUtf8,
+    /// A type of one's own: its name, the type that its values lie as, and its metadata.
+    Extension(String, Box<DataType>, Option<String>),
+}
+
+impl DataType {
+    ghost use Rattle.std.specs.Prelude.{◌≡◌};
+    ghost use Rattle.arrow_types.specs.Types.{logical_type, physical_type};
+
+    /// How the values of this type lie in memory; an extension's lie as those of what it extends.
+    pub fn to_physical_type(&self) -> PhysicalType
+        ensures { result ≡ physical_type (logical_type self.now) }
+    {
+        match self {
+            DataType::Boolean => PhysicalType::Boolean,
+            DataType::Int8 => PhysicalType::Primitive(PrimitiveType::Int8),
+            DataType::Int16 => PhysicalType::Primitive(PrimitiveType::Int16),
+            DataType::Int32
+            | DataType::Date32
+            | DataType::Time32(_)
+            | DataType::Interval(IntervalUnit::YearMonth) => {
+                PhysicalType::Primitive(PrimitiveType::Int32)
+            }
+            DataType::Int64
+            | DataType::Date64
+            | DataType::Time64(_)
+            | DataType::Timestamp(_, _)
+            | DataType::Duration(_) => PhysicalType::Primitive(PrimitiveType::Int64),
+            DataType::UInt8 => PhysicalType::Primitive(PrimitiveType::UInt8),
+            DataType::UInt16 => PhysicalType::Primitive(PrimitiveType::UInt16),
+            DataType::UInt32 => PhysicalType::Primitive(PrimitiveType::UInt32),
+            DataType::UInt64 => PhysicalType::Primitive(PrimitiveType::UInt64),
+            DataType::Interval(IntervalUnit::DayTime) => {
+                PhysicalType::Primitive(PrimitiveType::DaysMs)
+            }
+            DataType::Interval(IntervalUnit::MonthDayNano) => {
+                PhysicalType::Primitive(PrimitiveType::MonthDayNano)
+            }
+            DataType::Decimal(_, _) => PhysicalType::Primitive(PrimitiveType::Int128),
+            DataType::Decimal256(_, _) => PhysicalType::Primitive(PrimitiveType::Int256),
+            DataType::Binary => PhysicalType::Binary,
+            DataType::LargeBinary => PhysicalType::LargeBinary,
+            DataType::Utf8 => PhysicalType::Utf8,
+            DataType::LargeUtf8 => PhysicalType::LargeUtf8,
+            DataType::Extension(_, inner, _) => inner.to_physical_type(),
+        }
+    }
+}
+
+mod clone;
+mod equality;

@@ -1,0 +1,51 @@
+//! Why calls are refused.
+ghost use Rattle.std.specs.Prelude.{◌≡◌, Some};
+ghost use Rattle.arrow_types.specs.Types.{refusal, refusal_text};
+
+use std::alloc::{AllocError, AllocFailed};
+use std::fmt;
+
+/// Why a call was refused.
+#[derive(Clone, Copy, Debug, PartialEq, Eq)]
+pub enum Error {
+    /// What was handed in breaks a rule of the Arrow columnar format; the text says which.
+    OutOfSpec(&'static str),
+    /// An offset would pass the greatest number of its type.
+    Overflow,
+    /// A growth was refused.
+    OutOfMemory,
+}
+
+impl fmt::Display for Error {
+    ghost output = { λ e. Some (refusal_text (refusal e)) };
+
+    fn fmt<W: fmt::Write>(&self, f: &mut fmt::Formatter<W>) -> fmt::Result {
+        match self {
+            Error::OutOfSpec(text) => write!(f, "{text}"),
+            Error::Overflow => write!(f, "overflow"),
+            Error::OutOfMemory => write!(f, "out of memory"),
+        }
+    }
+}
+
+impl std::error::Error for Error {}
+
+impl From<AllocError> for Error {
+    ghost use Rattle.arrow_types.specs.declared.error.Error.TheVariants.{OutOfMemory};
+
+    ghost from_gives = { λ _ e. e ≡ OutOfMemory };
+
+    fn from(_refused: AllocError) -> Error {
+        Error::OutOfMemory
+    }
+}
+
+impl<T: Drop> From<AllocFailed<T>> for Error {
+    ghost use Rattle.arrow_types.specs.declared.error.Error.TheVariants.{OutOfMemory};
+
+    ghost from_gives = { λ _ e. e ≡ OutOfMemory };
+
+    fn from(_refused: AllocFailed<T>) -> Error {
+        Error::OutOfMemory
+    }
+}

@@ -1,0 +1,11 @@
+//! The types of Arrow arrays: what their values mean, how they lie, and why a call is refused.
+#![tactic(auto)]
+
+pub mod data_type;
+pub mod error;
+pub mod native_type;
+pub mod physical_type;
+pub mod primitive_type;
+#[cfg(test)]
+mod tests;
+pub mod units;

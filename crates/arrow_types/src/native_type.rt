@@ -1,0 +1,273 @@
+//! The types whose values primitive arrays hold.
+ghost use Rattle.std.specs.Prelude.{◌≡◌};
+ghost use Rattle.std.specs.Bool.{Decides};
+
+use crate::primitive_type::PrimitiveType;
+
+/// A type whose values a primitive array holds, one for each slot.
+pub trait NativeType: Copy + PartialEq {
+    ghost use Rattle.arrow_types.specs.declared.primitive_type.PrimitiveType.{PrimitiveType};
+
+    /// The primitive type that this is.
+    ghost PRIMITIVE: { PrimitiveType };
+
+    const PRIMITIVE: PrimitiveType;
+
+    /// The value that a null slot stores unless another is given.
+    ghost zero: { Self };
+
+    /// Zero in every part, which is what a null slot stores unless another value is given.
+    fn default() -> Self
+        ensures { result ≡ zero };
+
+    /// Equality holds exactly of the same value.
+    ghost same: { (x y : Self) → Decides (Self.eq x y) (x ≡ y) };
+}
+
+impl NativeType for i8 {
+    ghost use Rattle.std.specs.Prelude.{pos};
+    ghost use Rattle.arrow_types.specs.declared.primitive_type.PrimitiveType.TheVariants.{Int8};
+    ghost use Rattle.std.specs.Cmp.{signed_Decides};
+
+    ghost PRIMITIVE = { Int8 };
+
+    const PRIMITIVE: PrimitiveType = PrimitiveType::Int8;
+
+    ghost zero = { pos 0 };
+
+    ghost same = { signed_Decides };
+
+    #[inline(always)]
+    fn default() -> i8 {
+        0
+    }
+}
+
+impl NativeType for i16 {
+    ghost use Rattle.std.specs.Prelude.{pos};
+    ghost use Rattle.arrow_types.specs.declared.primitive_type.PrimitiveType.TheVariants.{Int16};
+    ghost use Rattle.std.specs.Cmp.{signed_Decides};
+
+    ghost PRIMITIVE = { Int16 };
+
+    const PRIMITIVE: PrimitiveType = PrimitiveType::Int16;
+
+    ghost zero = { pos 0 };
+
+    ghost same = { signed_Decides };
+
+    #[inline(always)]
+    fn default() -> i16 {
+        0
+    }
+}
+
+impl NativeType for i32 {
+    ghost use Rattle.std.specs.Prelude.{pos};
+    ghost use Rattle.arrow_types.specs.declared.primitive_type.PrimitiveType.TheVariants.{Int32};
+    ghost use Rattle.std.specs.Cmp.{signed_Decides};
+
+    ghost PRIMITIVE = { Int32 };
+
+    const PRIMITIVE: PrimitiveType = PrimitiveType::Int32;
+
+    ghost zero = { pos 0 };
+
+    ghost same = { signed_Decides };
+
+    #[inline(always)]
+    fn default() -> i32 {
+        0
+    }
+}
+
+impl NativeType for i64 {
+    ghost use Rattle.std.specs.Prelude.{pos};
+    ghost use Rattle.arrow_types.specs.declared.primitive_type.PrimitiveType.TheVariants.{Int64};
+    ghost use Rattle.std.specs.Cmp.{signed_Decides};
+
+    ghost PRIMITIVE = { Int64 };
+
+    const PRIMITIVE: PrimitiveType = PrimitiveType::Int64;
+
+    ghost zero = { pos 0 };
+
+    ghost same = { signed_Decides };
+
+    #[inline(always)]
+    fn default() -> i64 {
+        0
+    }
+}
+
+impl NativeType for i128 {
+    ghost use Rattle.std.specs.Prelude.{pos};
+    ghost use Rattle.arrow_types.specs.declared.primitive_type.PrimitiveType.TheVariants.{Int128};
+    ghost use Rattle.std.specs.Cmp.{signed_Decides};
+
+    ghost PRIMITIVE = { Int128 };
+
+    const PRIMITIVE: PrimitiveType = PrimitiveType::Int128;
+
+    ghost zero = { pos 0 };
+
+    ghost same = { signed_Decides };
+
+    #[inline(always)]
+    fn default() -> i128 {
+        0
+    }
+}
+
+impl NativeType for u8 {
+    ghost use Rattle.arrow_types.specs.declared.primitive_type.PrimitiveType.TheVariants.{UInt8};
+    ghost use Rattle.std.specs.Cmp.{unsigned_Decides};
+
+    ghost PRIMITIVE = { UInt8 };
+
+    const PRIMITIVE: PrimitiveType = PrimitiveType::UInt8;
+
+    ghost zero = { 0 };
+
+    ghost same = { unsigned_Decides };
+
+    #[inline(always)]
+    fn default() -> u8 {
+        0
+    }
+}
+
+impl NativeType for u16 {
+    ghost use Rattle.arrow_types.specs.declared.primitive_type.PrimitiveType.TheVariants.{UInt16};
+    ghost use Rattle.std.specs.Cmp.{unsigned_Decides};
+
+    ghost PRIMITIVE = { UInt16 };
+
+    const PRIMITIVE: PrimitiveType = PrimitiveType::UInt16;
+
+    ghost zero = { 0 };
+
+    ghost same = { unsigned_Decides };
+
+    #[inline(always)]
+    fn default() -> u16 {
+        0
+    }
+}
+
+impl NativeType for u32 {
+    ghost use Rattle.arrow_types.specs.declared.primitive_type.PrimitiveType.TheVariants.{UInt32};
+    ghost use Rattle.std.specs.Cmp.{unsigned_Decides};
+
+    ghost PRIMITIVE = { UInt32 };
+
+    const PRIMITIVE: PrimitiveType = PrimitiveType::UInt32;
+
+    ghost zero = { 0 };
+
+    ghost same = { unsigned_Decides };
+
+    #[inline(always)]
+    fn default() -> u32 {
+        0
+    }
+}
+
+impl NativeType for u64 {
+    ghost use Rattle.arrow_types.specs.declared.primitive_type.PrimitiveType.TheVariants.{UInt64};
+    ghost use Rattle.std.specs.Cmp.{unsigned_Decides};
+
+    ghost PRIMITIVE = { UInt64 };
+
+    const PRIMITIVE: PrimitiveType = PrimitiveType::UInt64;
+
+    ghost zero = { 0 };
+
+    ghost same = { unsigned_Decides };
+
+    #[inline(always)]
+    fn default() -> u64 {
+        0
+    }
+}
+
+/// Signed integers of 256 bits, as a high half and a low half.
+#[derive(Clone, Copy, Debug, PartialEq, Eq)]
+pub struct i256(pub i128, pub u128);
+
+/// An interval of days and milliseconds.
+#[derive(Clone, Copy, Debug, PartialEq, Eq)]
+pub struct days_ms(pub i32, pub i32);
+
+/// An interval of months, days and nanoseconds.
+#[derive(Clone, Copy, Debug, PartialEq, Eq)]
+pub struct months_days_ns(pub i32, pub i32, pub i64);
+
+impl NativeType for i256 {
+    ghost use Rattle.std.specs.Prelude.{pos};
+    ghost use Rattle.std.proofs.Common.{ap};
+    ghost use Rattle.std.specs.Cmp.{signed_Decides, unsigned_Decides};
+    ghost use Rattle.arrow_types.specs.Decisions.{both-Decides};
+    ghost use Rattle.arrow_types.specs.declared.primitive_type.PrimitiveType.TheVariants.{Int256};
+
+    ghost PRIMITIVE = { Int256 };
+
+    const PRIMITIVE: PrimitiveType = PrimitiveType::Int256;
+
+    ghost zero = { record { 0 = pos 0; 1 = 0 } };
+
+    ghost same = { λ x y.
+        let d = both-Decides (signed_Decides x.0 y.0) (unsigned_Decides x.1 y.1) in
+        (λ h. let p = d.0 h in λ i. record { 0 = p.0 i; 1 = p.1 i }, λ e. d.1 (ap (λ v. v.0) e, ap (λ v. v.1) e)) };
+
+    #[inline(always)]
+    fn default() -> i256 {
+        i256(0, 0)
+    }
+}
+
+impl NativeType for days_ms {
+    ghost use Rattle.std.specs.Prelude.{pos};
+    ghost use Rattle.std.proofs.Common.{ap};
+    ghost use Rattle.std.specs.Cmp.{signed_Decides};
+    ghost use Rattle.arrow_types.specs.Decisions.{both-Decides};
+    ghost use Rattle.arrow_types.specs.declared.primitive_type.PrimitiveType.TheVariants.{DaysMs};
+
+    ghost PRIMITIVE = { DaysMs };
+
+    const PRIMITIVE: PrimitiveType = PrimitiveType::DaysMs;
+
+    ghost zero = { record { 0 = pos 0; 1 = pos 0 } };
+
+    ghost same = { λ x y.
+        let d = both-Decides (signed_Decides x.0 y.0) (signed_Decides x.1 y.1) in
+        (λ h. let p = d.0 h in λ i. record { 0 = p.0 i; 1 = p.1 i }, λ e. d.1 (ap (λ v. v.0) e, ap (λ v. v.1) e)) };
+
+    #[inline(always)]
+    fn default() -> days_ms {
+        days_ms(0, 0)
+    }
+}
+
+impl NativeType for months_days_ns {
+    ghost use Rattle.std.specs.Prelude.{pos};
+    ghost use Rattle.std.proofs.Common.{ap};
+    ghost use Rattle.std.specs.Cmp.{signed_Decides};
+    ghost use Rattle.arrow_types.specs.Decisions.{both-Decides};
+    ghost use Rattle.arrow_types.specs.declared.primitive_type.PrimitiveType.TheVariants.{MonthDayNano};
+
+    ghost PRIMITIVE = { MonthDayNano };
+
+    const PRIMITIVE: PrimitiveType = PrimitiveType::MonthDayNano;
+
+    ghost zero = { record { 0 = pos 0; 1 = pos 0; 2 = pos 0 } };
+
+    ghost same = { λ x y.
+        let d = both-Decides (signed_Decides x.0 y.0) (both-Decides (signed_Decides x.1 y.1) (signed_Decides x.2 y.2)) in
+        (λ h. let p = d.0 h in λ i. record { 0 = p.0 i; 1 = p.1.0 i; 2 = p.1.1 i }, λ e. d.1 (ap (λ v. v.0) e, (ap (λ v. v.1) e, ap (λ v. v.2) e))) };
+
+    #[inline(always)]
+    fn default() -> months_days_ns {
+        months_days_ns(0, 0, 0)
+    }
+}

@@ -1,0 +1,41 @@
+// Expected answers were worked out by hand from Arrow's table of logical types.
+use crate::data_type::DataType;
+use crate::units::{IntervalUnit, TimeUnit};
+use std::alloc::{AllocError, Global};
+
+mod data_types;
+mod equality;
+mod errors;
+mod native_types;
+mod refusals;
+
+/// A time with this zone, which may be none.
+fn timestamp(alloc: Global, unit: TimeUnit, zone: Option<&str>) -> Result<DataType, AllocError> {
+    Ok(DataType::Timestamp(unit, text_of(alloc, zone)?))
+}
+
+/// An extension around a type, with this metadata, which may be none.
+fn extension(
+    alloc: Global,
+    name: &str,
+    inner: DataType,
+    metadata: Option<&str>,
+) -> Result<DataType, AllocError> {
+    let name = String::from_str(alloc, name)?;
+    let metadata = text_of(alloc, metadata)?;
+    Ok(DataType::Extension(name, Box::new(alloc, inner)?, metadata))
+}
+
+fn text_of(alloc: Global, text: Option<&str>) -> Result<Option<String>, AllocError> {
+    match text {
+        Some(text) => Ok(Some(String::from_str(alloc, text)?)),
+        None => Ok(None),
+    }
+}
+
+/// Two extensions, one around the other, around months.
+fn two_extensions(alloc: Global) -> Result<DataType, AllocError> {
+    let months = DataType::Interval(IntervalUnit::YearMonth);
+    let inner = extension(alloc, "months", months, None)?;
+    extension(alloc, "ages", inner, Some("whole"))
+}
