@@ -1,4 +1,4 @@
-use Rattle.std.proofs.Common.{◌∷◌, ◌++◌, [], ◌+◌, take, ap, sym, ◌∙◌, subst}
+use Rattle.std.proofs.Common.{◌∷◌, ◌++◌, [], ◌+◌, take, arith, ap, sym, ◌∙◌, subst}
 use Rattle.arrow_memory.specs.Types.{default_logical_type}
 use Rattle.arrow_cli.specs.Run.{AppendsRun}
 use Rattle.arrow_cli.proofs.RunLemmas.{appends-more}
@@ -15,5 +15,6 @@ loop-command-preserved g c =
     c.loop-command-test.true c.command-item.is c.loop-command.invariant.1 c.step-reply.ensures
     in (
       ap (λ n. n + 1) c.loop-command.invariant.0,
-      subst (λ replies. AppendsRun zero t c.args.table.now (take (i + 1) commands) c.args.replies.now.items replies c.step-reply.new.entries.items) (sym (c.in-Ok.ensures.items ∙ appended)) more,
+      subst (λ replies. AppendsRun zero t c.args.table.now (take (i + 1) commands) c.args.replies.now.items replies c.step-reply.new.entries.items) (sym (c.push_reserved.ensures.items ∙ appended)) more,
+      omega (arith, c.loop-command.invariant.2, c.reserve.ensures.capacity, c.push_reserved.ensures.capacity),
     )
