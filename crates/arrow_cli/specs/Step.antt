@@ -3,7 +3,7 @@
 -- Want of memory is the one free choice.
 use Rattle.std.specs.Prelude.{◌≡◌, ℕ, ◌-◌, ◌&&◌, nat_le, length, map, Option, Some, None, option_map, MatchOption, MatchBool, slice_get, slice_set, slice_index_or}
 use Rattle.arrow_types.specs.Types.{LogicalType, out_of_memory}
-use Rattle.arrow_memory.specs.Column.{slot, slots_of, cut, append_slot, last_slot, without_last, freeze}
+use Rattle.arrow_memory.specs.Column.{slot, slots_of, cut, append_slot, last_slot, without_last, without_needless_mask}
 use Rattle.arrow_cli.specs.declared.table.item.Kind.{Kind}
 use Rattle.arrow_cli.specs.Item.{Stored, value}
 use Rattle.arrow_cli.specs.Command.{Request}
@@ -87,7 +87,7 @@ module _ {T : Type 0} where
   abbrev pub FreezeStep : Option (Entry T) → Answer T → Option (Entry T) → Type 0
   FreezeStep old reply new =
       MatchOption (builder_in old) (IsNotMet old reply new) (λ column.
-      OrMemory reply None new (Gives done (Some (Primitive (freeze column))) reply new))
+      OrMemory reply None new (Gives done (Some (Primitive (without_needless_mask column))) reply new))
 
   -- a command on one entry: it follows its row there, and every other entry stays; past the table it is `not_met`
   abbrev pub AtEntry : State T → ℕ → (Option (Entry T) → Answer T → Option (Entry T) → Type 0) → Answer T → State T → Type 0

@@ -30,6 +30,17 @@ impl<R> Counted<R> {
     {
         self.faults
     }
+
+    /// Counts a fault, where there was one.
+    fn note(&mut self, is_fault: bool)
+        ensures count { fault_count self.new ≡ count_after is_fault (fault_count self.old) }
+        ensures never_less { fault_count self.old ≤ fault_count self.new }
+        ensures inside { inside self.new ≡ inside self.old }
+    {
+        if is_fault {
+            self.faults = self.faults.saturating_add(1);
+        }
+    }
 }
 
 impl<R: Read> Read for Counted<R> {
@@ -42,9 +53,7 @@ impl<R: Read> Read for Counted<R> {
         ensures never_less { fault_count self.old ≤ fault_count self.new }
     {
         let result = self.inner.read(buf);
-        if result.is_err() {
-            self.faults = self.faults.saturating_add(1);
-        }
+        self.note(result.is_err());
         result
     }
 }
@@ -63,9 +72,7 @@ impl<W: Write> Write for Counted<W> {
             Ok(taken) => *taken == 0 && !buf.is_empty(),
             Err(_) => true,
         };
-        if is_fault {
-            self.faults = self.faults.saturating_add(1);
-        }
+        self.note(is_fault);
         result
     }
 
@@ -75,9 +82,7 @@ impl<W: Write> Write for Counted<W> {
         ensures never_less { fault_count self.old ≤ fault_count self.new }
     {
         let result = self.inner.flush();
-        if result.is_err() {
-            self.faults = self.faults.saturating_add(1);
-        }
+        self.note(result.is_err());
         result
     }
 }

@@ -2,5 +2,6 @@
 mod devices;
 mod lines;
 mod outcomes;
+mod refusals;
 mod replies;
 mod sessions;

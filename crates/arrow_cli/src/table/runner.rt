@@ -1,5 +1,5 @@
 //! A table, and the run of a list of commands on it.
-ghost use Rattle.std.specs.Prelude.{◌≡◌, ◌≤◌, length, take, replicate, slice_get, IfOk, IfErr, None, option_and_then, option_map};
+ghost use Rattle.std.specs.Prelude.{◌≡◌, ◌<◌, ◌≤◌, length, take, replicate, slice_get, vec_len, vec_capacity, IfOk, IfErr, None, option_and_then, option_map};
 ghost use Rattle.arrow_types.specs.Types.{default_logical_type};
 ghost use Rattle.arrow_cli.specs.Command.{asked};
 ghost use Rattle.arrow_cli.specs.Entry.{kind_of};
@@ -85,8 +85,9 @@ fn step<T: NativeType>(entries: &mut Vec<Option<Entry<T>>>, command: &Command<T>
     }
 }
 
-/// Runs commands in order and appends a reply for each. Answers how many were done: all, or as many
-/// as there was room for replies; it stops before the first command whose reply there is none for.
+/// Runs commands in order and appends a reply for each. Answers how many were done: all, or as many as
+/// there was room for replies. It stops early only where the list of replies is full and its growth was
+/// refused, and never gives up room that the list has.
 pub fn run<T: NativeType>(
     table: &mut Table<T>,
     commands: &[Command<T>],
@@ -94,6 +95,8 @@ pub fn run<T: NativeType>(
 ) -> usize
     ensures count { result ≤ length commands.now }
     ensures run { AppendsRun T.zero (default_logical_type T.PRIMITIVE) table.old (take result commands.now) replies.old.items replies.new.items table.new }
+    ensures full { result < length commands.now → vec_len replies.new ≡ vec_capacity replies.new }
+    ensures room { vec_capacity replies.old ≤ vec_capacity replies.new }
 {
     let mut done = 0;
     for command in commands {
@@ -101,10 +104,7 @@ pub fn run<T: NativeType>(
             return done;
         }
         let reply = step(&mut table.entries, command);
-        match replies.push(reply) {
-            Ok(()) => (),
-            Err(_) => unreachable!(),
-        }
+        replies.push_reserved(reply);
         done += 1;
     }
     done

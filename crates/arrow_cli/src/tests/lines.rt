@@ -1,6 +1,6 @@
 //! Which lines are commands, and which.
 use crate::lines::parse::{InputError, read_commands};
-use crate::table::Command;
+use crate::table::{Command, Item, Kind};
 use std::alloc::Global;
 use std::test::Fail;
 
@@ -26,44 +26,48 @@ fn first_bad_line(alloc: Global, input: &[u8]) -> Result<Option<usize>, Fail> {
 
 #[test]
 fn commands(rt: HostRuntime) -> Result<(), Fail> {
-    let alloc = rt.alloc();
-    for (input, expected) in [
-        (b"new 1 prim".as_slice(), "New(1, Primitive)"),
-        (b"new 0 mprim\n".as_slice(), "New(0, MutablePrimitive)"),
-        (b"len 2".as_slice(), "Len(2)"),
-        (b"get 3 4".as_slice(), "Get(3, 4)"),
-        (b"list 5".as_slice(), "Slots(5)"),
-        (b"slice 6 7 8".as_slice(), "Slice(6, 7, 8)"),
-        (b"push 9 _".as_slice(), "Push(9, None)"),
-        (b"push 9 v-12".as_slice(), "Push(9, Some(Value(-12)))"),
-        (b"pop 10".as_slice(), "Pop(10)"),
-        (b"freeze 11".as_slice(), "Freeze(11)"),
+    for (line, expected) in [
+        (b"new 1 prim".as_slice(), Command::New(1, Kind::Primitive)),
+        (
+            b"new 0 mprim\n".as_slice(),
+            Command::New(0, Kind::MutablePrimitive),
+        ),
+        (b"get 3 4".as_slice(), Command::Get(3, 4)),
+        (b"list 5".as_slice(), Command::Slots(5)),
+        (b"push 9 _".as_slice(), Command::Push(9, None)),
+        (b"pop 10".as_slice(), Command::Pop(10)),
+        (b"freeze 11".as_slice(), Command::Freeze(11)),
         // Spaces at both ends and between words, and zeros in front.
-        (b"  slice   0  01 002   \n".as_slice(), "Slice(0, 1, 2)"),
         (
-            b"push 000000000000000000000000 v-0000000000000000000000001".as_slice(),
-            "Push(0, Some(Value(-1)))",
-        ),
-        (b"push 0 v-0".as_slice(), "Push(0, Some(Value(0)))"),
-        // The greatest and the least numbers.
-        (
-            b"len 18446744073709551615".as_slice(),
-            "Len(18446744073709551615)",
-        ),
-        (
-            b"push 0 v9223372036854775807".as_slice(),
-            "Push(0, Some(Value(9223372036854775807)))",
-        ),
-        (
-            b"push 0 v-9223372036854775808".as_slice(),
-            "Push(0, Some(Value(-9223372036854775808)))",
+            b"  slice   0  01 002   \n".as_slice(),
+            Command::Slice(0, 1, 2),
         ),
         // Lines that are passed over.
-        (b"\n#len 1\nlen 2\n \n".as_slice(), "Len(2)"),
+        (b"\n#len 1\nlen 2\n \n".as_slice(), Command::Len(2)),
     ] {
-        let command = only_command(alloc, input)?;
-        let shown = format!(in alloc; "{command:?}")?;
-        assert_eq!(rt; shown.as_str(), expected);
+        let command = only_command(rt.alloc(), line)?;
+        assert!(rt; command == expected);
+    }
+    Ok(())
+}
+
+/// The greatest and the least numbers, and zeros in front.
+#[test]
+fn numbers(rt: HostRuntime) -> Result<(), Fail> {
+    let command = only_command(rt.alloc(), b"len 18446744073709551615")?;
+    assert!(rt; command == Command::Len(18446744073709551615));
+    for (line, value) in [
+        (b"push 0 v-12".as_slice(), -12),
+        (b"push 0 v-0".as_slice(), 0),
+        (b"push 0 v9223372036854775807".as_slice(), i64::MAX),
+        (b"push 0 v-9223372036854775808".as_slice(), i64::MIN),
+        (
+            b"push 000000000000000000000000 v-0000000000000000000000001".as_slice(),
+            -1,
+        ),
+    ] {
+        let command = only_command(rt.alloc(), line)?;
+        assert!(rt; command == Command::Push(0, Some(Item::Value(value))));
     }
     Ok(())
 }

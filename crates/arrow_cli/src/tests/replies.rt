@@ -26,15 +26,3 @@ fn each_reply(rt: HostRuntime) -> Result<(), Fail> {
     );
     Ok(())
 }
-
-#[test]
-fn one_slot(rt: HostRuntime) -> Result<(), Fail> {
-    let alloc = rt.alloc();
-    let slots = vec![in alloc; Some(Item::Value(i64::MIN))]?;
-    let replies = vec![in alloc; Reply::Slots(slots)]?;
-    assert_eq!(rt;
-        text_of(alloc, &replies)?.as_str(),
-        "[v-9223372036854775808]\n"
-    );
-    Ok(())
-}

@@ -1,6 +1,5 @@
-use Rattle.std.proofs.Common.{◌∷◌, ◌++◌, [], ◌+◌, take, ap, sym, ◌∙◌, subst}
+use Rattle.std.proofs.Common.{◌+◌, arith, ap}
 use Rattle.arrow_types.specs.Types.{default_logical_type}
-use Rattle.arrow_cli.specs.Run.{AppendsRun}
 use Rattle.arrow_cli.proofs.RunLemmas.{appends-more}
 use Rattle.arrow_cli.proofs.table.runner.run.Goals as goal
 
@@ -10,10 +9,10 @@ loop-command-preserved g c =
     let t = default_logical_type g.T.NativeType.PRIMITIVE in
     let i = c.loop-command.command-index in
     let commands = c.args.commands.now in
-    let appended = ap (λ replies. replies ++ c.step-reply.result ∷ []) c.reserve.ensures.items in
     let more = appends-more zero t c.args.table.now c.loop-command.table-inside.entries.items c.step-reply.new.entries.items commands i c.args.replies.now.items c.loop-command.replies.items c.command-item.result c.step-reply.result
     c.loop-command-test.true c.command-item.is c.loop-command.invariant.1 c.step-reply.ensures
     in (
       ap (λ n. n + 1) c.loop-command.invariant.0,
-      subst (λ replies. AppendsRun zero t c.args.table.now (take (i + 1) commands) c.args.replies.now.items replies c.step-reply.new.entries.items) (sym (c.in-Ok.ensures.items ∙ appended)) more,
+      rw c.push_reserved.ensures.items (rw c.reserve.ensures.items more),
+      omega (arith, c.loop-command.invariant.2, c.reserve.ensures.capacity, c.push_reserved.ensures.capacity),
     )

@@ -1,0 +1,101 @@
+//! What is answered where memory is refused. A test that met a refusal, and the right answer to it, fails with
+//! the word `refused`, and only so: the script `refusals` has each allocation refused in turn, until no test fails.
+use crate::counted::Counted;
+use crate::outcome::Outcome;
+use crate::session::session;
+use crate::table::{Command, Item, Kind, Reply, Table, run};
+use arrow_types::error::Error;
+use std::test::Fail;
+
+/// A session says that memory was refused and has written nothing, or a reply says it of its own command.
+#[test]
+fn session_of_commands(rt: HostRuntime) -> Result<(), Fail> {
+    let mut room = [0; 29];
+    let outcome = session(
+        rt.alloc(),
+        &mut Counted::new(b"new 0 mprim\npush 0 v1\nlen 0".as_slice()),
+        &mut Counted::new(room.as_mut_slice()),
+    );
+    if outcome == Outcome::Memory {
+        assert_eq!(rt; room, [0; 29]);
+        return Err(Fail::from("refused"));
+    }
+    assert_eq!(rt; outcome, Outcome::Done);
+    if room.starts_with(b"ok\nrefused") {
+        assert_eq!(rt;
+            room.as_slice(),
+            b"ok\nrefused: out of memory\n0\n\0".as_slice()
+        );
+        return Err(Fail::from("refused"));
+    }
+    assert!(rt; room.starts_with(b"ok\nok\n1\n\0"));
+    Ok(())
+}
+
+/// The first bad line is named, unless memory is refused before it is found.
+#[test]
+fn session_of_a_bad_line(rt: HostRuntime) -> Result<(), Fail> {
+    let mut room = [0; 1];
+    let outcome = session(
+        rt.alloc(),
+        &mut Counted::new(b"len 0\n\nlen".as_slice()),
+        &mut Counted::new(room.as_mut_slice()),
+    );
+    assert_eq!(rt; room, [0; 1]);
+    if outcome == Outcome::Memory {
+        return Err(Fail::from("refused"));
+    }
+    assert_eq!(rt; outcome, Outcome::BadLine(3));
+    Ok(())
+}
+
+/// Whether a reply may come, where any growth may be refused; follows the length of the entry.
+fn may_come(length: &mut Option<usize>, command: &Command<i64>, reply: &Reply<i64>) -> bool {
+    match (command, *length, reply) {
+        (Command::New(..), None, Reply::Done) => *length = Some(0),
+        (Command::Push(..), Some(n), Reply::Done) => *length = Some(n.saturating_add(1)),
+        (Command::Len(_), Some(n), Reply::Number(answer)) => return *answer == n,
+        (Command::Freeze(_), Some(_), Reply::Done) | (_, None, Reply::NotMet) => (),
+        (Command::Len(_), _, _) => return false,
+        // A builder is lost where it could not be frozen.
+        (Command::Freeze(_), Some(_), Reply::Refused(Error::OutOfMemory)) => *length = None,
+        (_, _, Reply::Refused(Error::OutOfMemory)) => (),
+        _ => return false,
+    }
+    true
+}
+
+/// Whichever growth is refused, the replies say what was done, and a second run does the rest.
+#[test]
+fn run_of_commands(rt: HostRuntime) -> Result<(), Fail> {
+    let alloc = rt.alloc();
+    let mut table = match Table::<i64>::new(alloc, 1) {
+        Ok(table) => table,
+        Err(Error::OutOfMemory) => return Err(Fail::from("refused")),
+        Err(_) => return Err(Fail::from("another error")),
+    };
+    let commands = [
+        Command::New(0, Kind::MutablePrimitive),
+        Command::Push(0, Some(Item::Value(1))),
+        Command::Len(0),
+        Command::Push(0, None),
+        Command::Len(0),
+        Command::Freeze(0),
+        Command::Len(0),
+    ];
+    let mut replies = Vec::new(alloc);
+    let done = run(&mut table, &commands, &mut replies);
+    let rest = run(&mut table, &commands[done..], &mut replies);
+    assert_eq!(rt; done.saturating_add(rest), commands.len());
+    assert_eq!(rt; replies.len(), commands.len());
+    let mut length = None;
+    let mut is_refused = rest > 0;
+    for (command, reply) in commands.iter().zip(&replies) {
+        assert!(rt; may_come(&mut length, command, reply));
+        is_refused = is_refused || matches!(reply, Reply::Refused(_));
+    }
+    if is_refused {
+        return Err(Fail::from("refused"));
+    }
+    Ok(())
+}
