@@ -84,3 +84,6 @@ pub fn into_mut_values<T: Drop>(
     let bytes = mem::replace(all_bytes, Vec::new(bytes_alloc));
     Right((values, Some(MutableBitmap::from_bytes(bytes, marks))))
 }
+
+#[cfg(test)]
+mod tests;

@@ -7,11 +7,11 @@ ghost use Rattle.arrow_memory.specs.Column.{Column, IsColumn, append_slot, empty
 use crate::PrimitiveArray;
 use crate::mask::{freeze_mask, pop_mark, push_null_mark, push_reserved, push_valid};
 use arrow_memory::bitmap::{BitmapIter, MutableBitmap};
+use arrow_memory::zip_validity::ZipValidity;
 use arrow_types::data_type::DataType;
 use arrow_types::error::Error;
 use arrow_types::native_type::NativeType;
 use arrow_types::physical_type::PhysicalType;
-use arrow_memory::zip_validity::ZipValidity;
 use std::alloc::Global;
 use std::marker::Model;
 use std::slice::Iter;

@@ -93,8 +93,7 @@ impl MutableBitmap {
         ensures err { IfErr result (λ e. e ≡ Error.OutOfMemory) }
     {
         let needed = self.length.saturating_add(additional).div_ceil(8);
-        self.bytes
-            .reserve(needed.saturating_sub(self.bytes.len()))?;
+        self.bytes.reserve(needed.saturating_sub(self.bytes.len()))?;
         Ok(())
     }
 
