@@ -1,20 +1,29 @@
 // Bit maps of given bytes, clones, and what comes of them. Bytes were packed by hand.
 use super::*;
-use crate::bitmap::tests::{gives, pushed};
+use crate::bitmap::tests::{cut, gives, pushed};
 use arrow_types::error::Error;
 use either::{Left, Right};
 use std::alloc::Global;
 use std::test::Fail;
 
-/// Whether a byte has so many bits, for both kinds of bitmap; the refusal names the rule.
-fn fits(alloc: Global, bytes: &[u8], length: usize) -> Result<bool, Error> {
-    let rule = Error::OutOfSpec("the bits must fit in the bytes");
-    let growing = MutableBitmap::try_new(bytes.to_vec(alloc)?, length);
-    let frozen = Bitmap::try_new(bytes.to_vec(alloc)?, length);
-    match (growing, frozen) {
-        (Ok(growing), Ok(frozen)) => Ok(growing.len() == length && frozen.len() == length),
-        (Err(first), Err(second)) if first == rule && second == rule => Ok(false),
-        _ => Err(Error::Overflow),
+/// What is answered where marks don't fit in their bytes.
+const RULE: Error = Error::OutOfSpec("the bits must fit in the bytes");
+
+/// Whether so many marks fit in bytes that don't change.
+fn fits_frozen(alloc: Global, bytes: &[u8], length: usize) -> Result<bool, Error> {
+    match Bitmap::try_new(bytes.to_vec(alloc)?, length) {
+        Ok(bitmap) => Ok(bitmap.len() == length),
+        Err(error) if error == RULE => Ok(false),
+        Err(error) => Err(error),
+    }
+}
+
+/// Whether so many marks fit in bytes that grow.
+fn fits_growing(alloc: Global, bytes: &[u8], length: usize) -> Result<bool, Error> {
+    match MutableBitmap::try_new(bytes.to_vec(alloc)?, length) {
+        Ok(bitmap) => Ok(bitmap.len() == length),
+        Err(error) if error == RULE => Ok(false),
+        Err(error) => Err(error),
     }
 }
 
@@ -27,7 +36,9 @@ fn marks_fit_in_their_bytes(rt: HostRuntime) -> Result<(), Fail> {
         ([].as_slice(), 0, true),
         ([].as_slice(), 1, false),
     ] {
-        assert!(rt; fits(rt.alloc(), bytes, length)? == wanted, "{length}");
+        let frozen = fits_frozen(rt.alloc(), bytes, length)?;
+        let growing = fits_growing(rt.alloc(), bytes, length)?;
+        assert!(rt; frozen == wanted && growing == wanted, "{length}");
     }
     Ok(())
 }
@@ -76,7 +87,7 @@ fn clones_share_their_bytes(rt: HostRuntime) -> Result<(), Fail> {
 fn changes_leave_other_owners(rt: HostRuntime) -> Result<(), Fail> {
     let first = pushed(rt.alloc(), "1011000111")?.freeze()?;
     let mut second = first.clone()?;
-    second.slice(3, 6);
+    assert!(rt; cut(&mut second, 3, 6));
     second.apply_mut(|marks: MutableBitmap| {
         let mut marks = marks;
         if marks.len() > 1 {
