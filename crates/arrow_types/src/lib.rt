@@ -3,7 +3,9 @@
 
 pub mod data_type;
 pub mod error;
+pub mod index_key;
 pub mod native_type;
+pub mod offset;
 pub mod physical_type;
 pub mod primitive_type;
 #[cfg(test)]

@@ -1,0 +1,269 @@
+//! Offsets that grow.
+ghost use Rattle.std.specs.Prelude.{◌≡◌, ◌+◌, ◌-◌, ◌<◌, ◌≤◌, pos, [], ◌∷◌, ◌++◌, length, map, take, replicate, slice_index, None, OnOk, IfOk, IfErr, MatchOption};
+ghost use Rattle.arrow_types.specs.Types.{refusal, out_of_spec};
+ghost use Rattle.arrow_memory.specs.Offsets.{first_of, last_of, IsOffsets, first_fault, numbers_of, moved_behind, MatchGrowth};
+
+use crate::buffer::Buffer;
+use crate::offset::OffsetsBuffer;
+use crate::offset::faults::first_broken_rule;
+use crate::offset::numbers::{append_moved, start_end_of};
+use arrow_types::error::Error;
+use arrow_types::offset::Offset;
+use std::alloc::Global;
+use std::marker::Model;
+
+/// Offsets that can grow: at least one, the first not negative, none below the one before
+/// (Arrow columnar format, "Variable-size Binary Layout").
+#[derive(Drop)]
+pub struct Offsets<O: Offset> {
+    pub(super) offsets: Vec<O>,
+}
+
+// Contracts see the numbers.
+impl<O: Offset> Model for Offsets<O> {
+    ghost use Rattle.std.specs.Prelude.{List, ℕ};
+    ghost use Rattle.arrow_memory.specs.Offsets.{numbers_of, KeepsOffsets};
+
+    ghost Value = { List ℕ };
+
+    ghost view = { λ a. numbers_of O.number a.offsets.items };
+
+    ghost invariant = { λ a. KeepsOffsets O.number O.most a.offsets.items };
+}
+
+impl<O: Offset> Offsets<O> {
+    /// No slot: the one offset is zero.
+    ///
+    /// # Errors
+    /// `OutOfMemory` where memory is refused.
+    pub fn new(alloc: Global) -> Result<Self, Error>
+        ensures ok { IfOk result (λ offsets. offsets ≡ 0 ∷ []) }
+        ensures err { IfErr result (λ e. e ≡ Error.OutOfMemory) }
+    {
+        Offsets::with_capacity(alloc, 0)
+    }
+
+    /// So many empty slots: all offsets are zero.
+    ///
+    /// # Errors
+    /// `OutOfMemory` where memory is refused, as one offset more than `usize::MAX` is.
+    pub fn new_zeroed(alloc: Global, length: usize) -> Result<Self, Error>
+        ensures ok { IfOk result (λ offsets. offsets ≡ replicate (length + 1) 0) }
+        ensures err { IfErr result (λ e. e ≡ Error.OutOfMemory) }
+    {
+        let Some(count) = length.checked_add(1) else {
+            return Err(Error::OutOfMemory);
+        };
+        let mut offsets = Vec::new(alloc);
+        offsets.resize(count, O::from_as_usize(0))?;
+        Ok(Offsets { offsets })
+    }
+
+    /// No slot, with room for so many.
+    ///
+    /// # Errors
+    /// `OutOfMemory` where memory is refused, as one offset more than `usize::MAX` is.
+    pub fn with_capacity(alloc: Global, capacity: usize) -> Result<Self, Error>
+        ensures ok { IfOk result (λ offsets. offsets ≡ 0 ∷ []) }
+        ensures err { IfErr result (λ e. e ≡ Error.OutOfMemory) }
+    {
+        let Some(count) = capacity.checked_add(1) else {
+            return Err(Error::OutOfMemory);
+        };
+        let mut offsets = Vec::with_capacity(alloc, count)?;
+        offsets.push_reserved(O::from_as_usize(0));
+        Ok(Offsets { offsets })
+    }
+
+    /// Takes offsets over, which are not copied.
+    ///
+    /// # Errors
+    /// `OutOfSpec` where there is none, where the first is negative, or where one is below the one
+    /// before, the first of these that holds. The offsets are then lost.
+    pub fn try_from_vec(offsets: Vec<O>) -> Result<Self, Error>
+        ensures ok { IfOk result (λ taken. (first_fault (map O.number offsets.items) ≡ None) × (taken ≡ numbers_of O.number offsets.items)) }
+        ensures err { IfErr result (λ e. MatchOption (first_fault (map O.number offsets.items)) ⊥ (λ text. refusal e ≡ out_of_spec text)) }
+    {
+        match first_broken_rule(&offsets) {
+            Some(rule) => Err(Error::OutOfSpec(rule)),
+            None => Ok(Offsets { offsets }),
+        }
+    }
+
+    /// How many slots there is room for without a growth.
+    pub fn capacity(&self) -> usize
+        ensures { length self.now ≤ result + 1 }
+    {
+        self.offsets.capacity() - 1
+    }
+
+    /// The number of slots, one below the number of offsets.
+    #[inline(always)]
+    pub fn len_proxy(&self) -> usize
+        ensures { result + 1 ≡ length self.now }
+    {
+        self.offsets.len() - 1
+    }
+
+    /// The first offset, where the first slot begins.
+    #[inline(always)]
+    pub fn first(&self) -> &O
+        ensures value { O.number result.now ≡ pos (first_of self.now) }
+        ensures within { first_of self.now ≤ last_of self.now }
+        ensures legal { IsOffsets self.now }
+    {
+        &self.offsets[0]
+    }
+
+    /// The last offset, where the last slot ends.
+    #[inline(always)]
+    pub fn last(&self) -> &O
+        ensures value { O.number result.now ≡ pos (last_of self.now) }
+        ensures within { last_of self.now ≤ O.most }
+        ensures legal { IsOffsets self.now }
+    {
+        &self.offsets[self.offsets.len() - 1]
+    }
+
+    /// Where a slot begins and ends.
+    #[inline(always)]
+    pub fn start_end(&self, index: usize) -> (usize, usize)
+        requires { index + 1 < length self.now }
+        ensures start { result.0 ≡ slice_index self.now index }
+        ensures end { result.1 ≡ slice_index self.now (index + 1) }
+        ensures order { result.0 ≤ result.1 }
+        ensures within { result.1 ≤ last_of self.now }
+    {
+        start_end_of(&self.offsets, index)
+    }
+
+    /// The offsets.
+    #[inline(always)]
+    pub fn as_slice(&self) -> &[O]
+        ensures value { map O.number result.now ≡ map pos self.now }
+        ensures within { last_of self.now ≤ O.most }
+        ensures legal { IsOffsets self.now }
+    {
+        self.offsets.as_slice()
+    }
+
+    /// The vector of the offsets.
+    pub fn into_inner(self) -> Vec<O>
+        ensures value { map O.number result.items ≡ map pos self }
+        ensures legal { first_fault (map O.number result.items) ≡ None }
+    {
+        let Offsets { offsets } = self;
+        offsets
+    }
+
+    /// Removes the last offset and answers it; `None` where there is no slot.
+    pub fn pop(&mut self) -> Option<O>
+        ensures { MatchOption result ((length self.old ≡ 1) × (self.new ≡ self.old)) (λ offset. (1 < length self.old) × (O.number offset ≡ pos (last_of self.old)) × (self.new ≡ take (length self.old - 1) self.old)) }
+    {
+        if self.len_proxy() == 0 {
+            None
+        } else {
+            self.offsets.pop()
+        }
+    }
+
+    /// Appends the end of a slot of this length.
+    ///
+    /// # Errors
+    /// `Overflow` where the end would be above the greatest number of the offset type, which is
+    /// found before memory is asked for; `OutOfMemory` where the growth is refused. The offsets
+    /// are then as before.
+    #[inline(always)]
+    pub fn try_push_usize(&mut self, length: usize) -> Result<(), Error>
+        ensures ok { OnOk result ((last_of self.old + length ≤ O.most) × (self.new ≡ self.old ++ (last_of self.old + length) ∷ [])) }
+        ensures err { IfErr result (λ e. MatchGrowth e (O.most < last_of self.old + length) (last_of self.old + length ≤ O.most) × (self.new ≡ self.old)) }
+    {
+        let last = self.last().to_usize();
+        let Some(end) = last.checked_add(length) else {
+            return Err(Error::Overflow);
+        };
+        let Some(end) = O::from_usize(end) else {
+            return Err(Error::Overflow);
+        };
+        self.offsets.reserve(1)?;
+        self.offsets.push_reserved(end);
+        Ok(())
+    }
+
+    /// Appends the slots of another, which keep their lengths: its offsets move by the distance
+    /// from its first offset to this one's last.
+    ///
+    /// # Errors
+    /// `Overflow` where the last end would be above the greatest number of the offset type, which
+    /// is found before memory is asked for; `OutOfMemory` where the growth is refused. The offsets
+    /// are then as before.
+    pub fn try_extend_from_self(&mut self, other: &Offsets<O>) -> Result<(), Error>
+        ensures ok { OnOk result ((last_of self.old + (last_of other.now - first_of other.now) ≤ O.most) × (self.new ≡ self.old ++ moved_behind (last_of self.old) other.now)) }
+        ensures err { IfErr result (λ e. MatchGrowth e (O.most < last_of self.old + (last_of other.now - first_of other.now)) (last_of self.old + (last_of other.now - first_of other.now) ≤ O.most) × (self.new ≡ self.old)) }
+    {
+        let last = self.last().to_usize();
+        let added = other.last().to_usize() - other.first().to_usize();
+        let Some(end) = last.checked_add(added) else {
+            return Err(Error::Overflow);
+        };
+        if O::from_usize(end).is_none() {
+            return Err(Error::Overflow);
+        }
+        append_moved(&mut self.offsets, &other.offsets, last)?;
+        Ok(())
+    }
+
+    /// Makes room for so many slots more.
+    ///
+    /// # Errors
+    /// `OutOfMemory` where the growth is refused.
+    pub fn reserve(&mut self, additional: usize) -> Result<(), Error>
+        ensures kept { self.new ≡ self.old }
+        ensures err { IfErr result (λ e. e ≡ Error.OutOfMemory) }
+    {
+        self.offsets.reserve(additional)?;
+        Ok(())
+    }
+
+    /// Gives back room that no offset needs, where the allocator takes it back.
+    ///
+    /// # Errors
+    /// `OutOfMemory` where the smaller room is refused; the allocator of today never does.
+    pub fn shrink_to_fit(&mut self) -> Result<(), Error>
+        ensures kept { self.new ≡ self.old }
+        ensures err { IfErr result (λ e. e ≡ Error.OutOfMemory) }
+    {
+        self.offsets.shrink_to_fit();
+        Ok(())
+    }
+
+    /// The same offsets, copied.
+    ///
+    /// # Errors
+    /// `OutOfMemory` where memory is refused.
+    pub fn clone(&self) -> Result<Self, Error>
+        ensures ok { IfOk result (λ copy. copy ≡ self.now) }
+        ensures err { IfErr result (λ e. e ≡ Error.OutOfMemory) }
+    {
+        Ok(Offsets {
+            offsets: Vec::from_slice(*self.offsets.allocator(), &self.offsets)?,
+        })
+    }
+
+    /// The same offsets, which no longer change. They are not copied.
+    ///
+    /// # Errors
+    /// `OutOfMemory` where memory is refused; the offsets are then lost.
+    pub fn freeze(self) -> Result<OffsetsBuffer<O>, Error>
+        ensures ok { IfOk result (λ frozen. frozen ≡ self) }
+        ensures err { IfErr result (λ e. e ≡ Error.OutOfMemory) }
+    {
+        let Offsets { offsets } = self;
+        Ok(OffsetsBuffer {
+            offsets: Buffer::from_vec(offsets)?,
+        })
+    }
+}
+
+#[cfg(test)]
+mod tests;

@@ -1,0 +1,134 @@
+//! Offsets that don't change, and share their memory.
+ghost use Rattle.std.specs.Prelude.{◌≡◌, ◌+◌, ◌<◌, ◌≤◌, pos, [], ◌∷◌, length, map, take, drop, slice_index, IfOk, IfErr};
+ghost use Rattle.either.specs.Either.{MatchEither};
+ghost use Rattle.arrow_memory.specs.Offsets.{first_of, last_of, IsOffsets};
+
+use crate::buffer::Buffer;
+use crate::offset::Offsets;
+use crate::offset::numbers::start_end_of;
+use arrow_types::error::Error;
+use arrow_types::offset::Offset;
+use either::{Either, Left, Right};
+use std::alloc::Global;
+use std::marker::Model;
+
+/// Offsets that don't change: at least one, the first not negative, none below the one before
+/// (Arrow columnar format, "Variable-size Binary Layout").
+#[derive(Drop)]
+pub struct OffsetsBuffer<O: Offset> {
+    pub(super) offsets: Buffer<O>,
+}
+
+// Contracts see the numbers.
+impl<O: Offset> Model for OffsetsBuffer<O> {
+    ghost use Rattle.std.specs.Prelude.{List, ℕ};
+    ghost use Rattle.arrow_memory.specs.Offsets.{numbers_of, KeepsOffsets};
+
+    ghost Value = { List ℕ };
+
+    ghost view = { λ a. numbers_of O.number a.offsets };
+
+    ghost invariant = { λ a. KeepsOffsets O.number O.most a.offsets };
+}
+
+impl<O: Offset> OffsetsBuffer<O> {
+    /// No slot: the one offset is zero.
+    ///
+    /// # Errors
+    /// `OutOfMemory` where memory is refused.
+    pub fn new(alloc: Global) -> Result<Self, Error>
+        ensures ok { IfOk result (λ offsets. offsets ≡ 0 ∷ []) }
+        ensures err { IfErr result (λ e. e ≡ Error.OutOfMemory) }
+    {
+        Offsets::new(alloc)?.freeze()
+    }
+
+    /// The same offsets, which are not copied.
+    ///
+    /// # Errors
+    /// `OutOfMemory` where one owner more can't be counted.
+    pub fn clone(&self) -> Result<Self, Error>
+        ensures ok { IfOk result (λ copy. copy ≡ self.now) }
+        ensures err { IfErr result (λ e. e ≡ Error.OutOfMemory) }
+    {
+        Ok(OffsetsBuffer {
+            offsets: self.offsets.clone()?,
+        })
+    }
+
+    /// The buffer of the offsets.
+    #[inline(always)]
+    pub fn buffer(&self) -> &Buffer<O>
+        ensures value { map O.number result.now ≡ map pos self.now }
+        ensures within { last_of self.now ≤ O.most }
+        ensures legal { IsOffsets self.now }
+    {
+        &self.offsets
+    }
+
+    /// The number of slots, one below the number of offsets.
+    #[inline(always)]
+    pub fn len_proxy(&self) -> usize
+        ensures { result + 1 ≡ length self.now }
+    {
+        self.offsets.len() - 1
+    }
+
+    /// The first offset, where the first slot begins.
+    #[inline(always)]
+    pub fn first(&self) -> &O
+        ensures value { O.number result.now ≡ pos (first_of self.now) }
+        ensures within { first_of self.now ≤ last_of self.now }
+        ensures legal { IsOffsets self.now }
+    {
+        &self.offsets.as_slice()[0]
+    }
+
+    /// The last offset, where the last slot ends.
+    #[inline(always)]
+    pub fn last(&self) -> &O
+        ensures value { O.number result.now ≡ pos (last_of self.now) }
+        ensures within { last_of self.now ≤ O.most }
+        ensures legal { IsOffsets self.now }
+    {
+        let offsets = self.offsets.as_slice();
+        &offsets[offsets.len() - 1]
+    }
+
+    /// Where a slot begins and ends.
+    #[inline(always)]
+    pub fn start_end(&self, index: usize) -> (usize, usize)
+        requires { index + 1 < length self.now }
+        ensures start { result.0 ≡ slice_index self.now index }
+        ensures end { result.1 ≡ slice_index self.now (index + 1) }
+        ensures order { result.0 ≤ result.1 }
+        ensures within { result.1 ≤ last_of self.now }
+    {
+        start_end_of(self.offsets.as_slice(), index)
+    }
+
+    /// Keeps only the `len` offsets from `offset` on, of which there is at least one. No offset is
+    /// copied, and none changes: the first slots then lie in front of the first offset.
+    pub fn slice(&mut self, offset: usize, len: usize)
+        requires some { 1 ≤ len }
+        requires within { offset + len ≤ length self.old }
+        ensures { self.new ≡ take len (drop offset self.old) }
+    {
+        self.offsets.slice(offset, len);
+    }
+
+    /// The offsets to be grown, where no one else has them and all of the vector is shown; else
+    /// the same offsets.
+    pub fn into_mut(self) -> Either<Self, Offsets<O>>
+        ensures { MatchEither result (λ shared. shared ≡ self) (λ offsets. offsets ≡ self) }
+    {
+        let OffsetsBuffer { offsets } = self;
+        match offsets.into_mut() {
+            Left(offsets) => Left(OffsetsBuffer { offsets }),
+            Right(offsets) => Right(Offsets { offsets }),
+        }
+    }
+}
+
+#[cfg(test)]
+mod tests;

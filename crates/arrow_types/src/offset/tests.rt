@@ -1,0 +1,113 @@
+ghost use Rattle.std.specs.Prelude.{◌≡◌, ◌≤◌, pos, ◌≤ℤ◌};
+
+use super::*;
+
+/// A narrow offset, whose greatest number is 100.
+#[derive(Clone, Copy, Debug)]
+struct Tiny {
+    kept: i8,
+    ghost within: { kept ≤ℤ pos 100 },
+}
+
+impl Offset for Tiny {
+    ghost use Rattle.std.specs.Prelude.{false};
+    ghost use Rattle.std.proofs.Common.{lit<};
+
+    ghost number = { λ x. x.kept };
+
+    ghost most = { 100 };
+
+    ghost IS_LARGE = { false };
+
+    const IS_LARGE: bool = false;
+
+    ghost fits = { lit< tt };
+
+    fn max() -> Tiny {
+        Tiny { kept: 100 }
+    }
+
+    fn from_usize(value: usize) -> Option<Tiny> {
+        if value <= 100 {
+            Some(Tiny { kept: value as i8 })
+        } else {
+            None
+        }
+    }
+
+    fn try_to_usize(&self) -> Option<usize> {
+        if self.kept < 0 {
+            None
+        } else {
+            Some(self.kept as usize)
+        }
+    }
+
+    fn to_usize(&self) -> usize {
+        self.kept as usize
+    }
+}
+
+/// The greatest number of an offset type, by its bound.
+fn greatest<O: Offset>() -> Option<usize> {
+    O::max().try_to_usize()
+}
+
+/// The number of the offset that is made of a number, by the bound.
+fn through<O: Offset>(value: usize) -> Option<usize> {
+    let offset = O::from_usize(value)?;
+    Some(offset.to_usize())
+}
+
+#[test]
+fn offsets_hold_numbers_up_to_their_greatest(rt: HostRuntime) {
+    assert_eq!(rt; greatest::<i32>(), Some(2147483647));
+    assert_eq!(rt; greatest::<i64>(), Some(9223372036854775807));
+    assert_eq!(rt; greatest::<Tiny>(), Some(100));
+    assert_eq!(rt; through::<i32>(2147483647), Some(2147483647));
+    assert_eq!(rt; through::<i32>(2147483648), None);
+    assert_eq!(rt;
+        through::<i64>(9223372036854775807),
+        Some(9223372036854775807)
+    );
+    assert_eq!(rt; through::<i64>(9223372036854775808), None);
+    assert_eq!(rt; through::<Tiny>(100), Some(100));
+    assert_eq!(rt; through::<Tiny>(101), None);
+    assert_eq!(rt; through::<i32>(0), Some(0));
+}
+
+/// The same without a test, for a number that is at most the greatest one.
+fn through_untested<O: Offset>(value: usize) -> usize
+    requires { value ≤ O.most }
+    ensures { result ≡ value }
+{
+    O::from_as_usize(value).to_usize()
+}
+
+#[test]
+fn numbers_known_to_fit_need_no_test(rt: HostRuntime) {
+    assert_eq!(rt; through_untested::<i32>(2147483647), 2147483647);
+    assert_eq!(rt;
+        through_untested::<i64>(9223372036854775807),
+        9223372036854775807
+    );
+    assert_eq!(rt; through_untested::<Tiny>(100), 100);
+    assert_eq!(rt; through_untested::<Tiny>(0), 0);
+}
+
+#[test]
+fn negative_values_have_no_place(rt: HostRuntime) {
+    assert_eq!(rt; (-1_i32).try_to_usize(), None);
+    assert_eq!(rt; i32::MIN.try_to_usize(), None);
+    assert_eq!(rt; (-1_i64).try_to_usize(), None);
+    assert_eq!(rt; 7_i32.try_to_usize(), Some(7));
+    assert_eq!(rt; 7_i64.to_usize(), 7);
+    assert_eq!(rt; (Tiny { kept: -1 }).try_to_usize(), None);
+}
+
+#[test]
+fn wide_offsets_are_large(rt: HostRuntime) {
+    assert!(rt; i64::IS_LARGE);
+    assert!(rt; !i32::IS_LARGE);
+    assert!(rt; !Tiny::IS_LARGE);
+}
