@@ -1,13 +1,13 @@
 -- Lemmas about marks that are copied between packed bytes.
-use Rattle.std.proofs.Common.{◌≡◌, ◌≢◌, ℕ, zero, suc, ◌+◌, ◌-◌, ◌*◌, ◌/◌, ◌%◌, ◌^◌, ◌<◌, ◌≤◌, Bool, false, if◌then◌else◌, subst, List, [], ◌∷◌, ◌++◌, length, get_or, set, take, drop, get_or-take, get_or-drop, length-take, length-drop, ap, ap₂, refl, sym, ◌∙◌, inl, inr, ◌==◌, bit_and, bit_or, max, min, w16, arith, zero-add}
-use Rattle.std.specs.Int.{bit_at, div_ceil, from_le_bytes}
+use Rattle.std.proofs.Common.{◌≡◌, ◌≢◌, ℕ, zero, suc, ◌+◌, ◌-◌, ◌*◌, ◌/◌, ◌%◌, ◌^◌, ◌<◌, ◌≤◌, Bool, false, if◌then◌else◌, subst, List, [], ◌∷◌, ◌++◌, length, get_or, set, take, drop, get_or-take, get_or-drop, length-take, length-drop, ap, ap₂, refl, sym, ◌∙◌, inl, inr, ◌==◌, bit_and, bit_or, max, arith, zero-add}
+use Rattle.std.specs.Int.{bit_at, div_ceil}
 use Rattle.std.proofs.lemmas.List.{same_lists, get_or-append_right, get_or_default}
 use Rattle.std.proofs.lemmas.Bool.{cases_eq, cases_lt}
 use Rattle.std.proofs.lemmas.Nat.{pow_pos, shr-shr}
-use Rattle.std.proofs.lemmas.Nat.Bits.{bit_at_and, bit_at_or, bit_at_ones, bit_at-lt, bit_at-zero, bit_at_cat_low, bit_at_cat_high}
+use Rattle.std.proofs.lemmas.Nat.Bits.{bit_at_above, bit_at_or, bit_at-zero, bit_at_cat_low, bit_at_cat_high}
 use Rattle.arrow_memory.specs.Marks.{mark_at, marks}
 use Rattle.arrow_memory.specs.MarkWrites.{CopiesMarks}
-use Rattle.arrow_memory.proofs.MarkLemmas.{mark_at-set_same, mark_at-append, mark_at-set_other, mark-bit_of, mark_of_same, length-marks, get_or-marks, marks-add, same_marks, top_clear, top_clear-kept, two-bit}
+use Rattle.arrow_memory.proofs.MarkLemmas.{mark_at-set_same, mark_at-append, mark_at-set_other, mark-bit_of, mark_of_same, length-marks, get_or-marks, marks-add, same_marks, top_clear, top_clear-kept}
 
 -- ---- bits of a byte that is shifted
 
@@ -46,15 +46,31 @@ module _ (b from above : ℕ) (within : from < 8) where
 
 -- ---- marks between two bytes
 
-min-one : (x y : ℕ) → x < 2 → y ≡ 1 → min x y ≡ x
-min-one x y low e = omega (arith, low, e)
+-- the high byte's bits come behind the low one's
+module _ (high shift : ℕ) (within : shift < 8) where
+  high_below : (k : ℕ) → k < 8 → shift + k < 8 → bit_at (high * 2 ^ 1 % 256 * 2 ^ (7 - shift) % 256) k ≡ 0
+  high_below k inner early = elim (cases_lt k (7 - shift)) [
+    | inl low ↦ shifted_below (high * 2 ^ 1 % 256) (7 - shift) k low inner
+    | inr past ↦
+        let last : k ≡ 7 - shift + 0 = omega arith in
+        ap (bit_at (high * 2 ^ 1 % 256 * 2 ^ (7 - shift) % 256)) last ∙ shifted_above (high * 2 ^ 1 % 256) (7 - shift) 0 (omega arith) ∙ shifted_below high 1 0 (omega arith) (omega arith)
+  ]
 
-pub between-mark : (low high word shift : ℕ) → low < 256 → high < 256 → shift < 8 → word ≡ from_le_bytes w16 (low ∷ high ∷ []) → (k : ℕ) → k < 8 → (bit_at (bit_and (word / 2 ^ shift) 255) k == 1) ≡ mark_at (low ∷ high ∷ []) (shift + k)
+  high_above : (k : ℕ) → k < 8 → 8 ≤ shift + k → bit_at (high * 2 ^ 1 % 256 * 2 ^ (7 - shift) % 256) k ≡ bit_at high (shift + k - 8)
+  high_above k inner late =
+      let place : k ≡ 7 - shift + (1 + (shift + k - 8)) = omega arith in
+      ap (bit_at (high * 2 ^ 1 % 256 * 2 ^ (7 - shift) % 256)) place ∙ shifted_above (high * 2 ^ 1 % 256) (7 - shift) (1 + (shift + k - 8)) (omega arith) ∙ shifted_above high 1 (shift + k - 8) (omega arith)
+
+pub between-mark : (low high shift : ℕ) → low < 256 → shift < 8 → (k : ℕ) → k < 8 → (bit_at (bit_or (low / 2 ^ shift) (high * 2 ^ 1 % 256 * 2 ^ (7 - shift) % 256)) k == 1) ≡ mark_at (low ∷ high ∷ []) (shift + k)
 unfolding mark_at
-between-mark low high word shift below₁ below₂ within is k inner = ap (λ x. x == 1)
-    (bit_at_and (word / 2 ^ shift) 255 k ∙ min-one _ _ (bit_at-lt (word / 2 ^ shift) k) (bit_at_ones 8 k inner)
-    ∙ ap (λ x. x % 2) (shr-shr word shift k) ∙ ap (λ n. bit_at n (shift + k)) is
-    ∙ two-bit low high below₁ below₂ (shift + k) (omega arith))
+between-mark low high shift small within k inner = ap (λ x. x == 1) (bit_at_or (low / 2 ^ shift) (high * 2 ^ 1 % 256 * 2 ^ (7 - shift) % 256) k ∙ elim (cases_lt (shift + k) 8) [
+  | inl early ↦
+      max-zero _ _ (high_below high shift within k inner early) ∙ ap (λ x. x % 2) (shr-shr low shift k)
+      ∙ ap₂ (λ x y. bit_at (get_or (low ∷ high ∷ []) x 0) y) (let first : 0 ≡ (shift + k) / 8 = omega arith in first) (let same : shift + k ≡ (shift + k) % 8 = omega arith in same)
+  | inr late ↦
+      zero-max _ _ (ap (λ x. x % 2) (shr-shr low shift k) ∙ bit_at_above low 8 (shift + k) small late) ∙ high_above high shift within k inner late
+      ∙ ap₂ (λ x y. bit_at (get_or (low ∷ high ∷ []) x 0) y) (let second : 1 ≡ (shift + k) / 8 = omega arith in second) (let rest : shift + k - 8 ≡ (shift + k) % 8 = omega arith in rest)
+])
 
 -- two bytes that stand side by side have the marks of the bytes that they stand in
 two-same : (bytes : List ℕ) (low high k i : ℕ) → low ≡ get_or bytes k 0 → high ≡ get_or bytes (k + 1) 0 → i < 2 → get_or (low ∷ high ∷ []) i 0 ≡ get_or bytes (k + i) 0

@@ -1,6 +1,6 @@
 //! Marks that are copied between packed bytes, whole bytes at a time, where the places need not agree
 //! within a byte.
-ghost use Rattle.std.specs.Prelude.{◌≡◌, ℕ, ◌+◌, ◌-◌, ◌*◌, ◌%◌, ◌^◌, ◌≤◌, ◌<◌, ◌==◌, slice_index, [], ◌∷◌, length, vec_len, ◌++◌, OnOk, OnErr};
+ghost use Rattle.std.specs.Prelude.{◌≡◌, ℕ, ◌+◌, ◌-◌, ◌*◌, ◌^◌, ◌≤◌, ◌<◌, ◌==◌, slice_index, [], ◌∷◌, length, vec_len, ◌++◌, OnOk, OnErr};
 ghost use Rattle.std.specs.Int.{bit_at, div_ceil};
 ghost use Rattle.arrow_memory.specs.Marks.{mark_at, marks};
 ghost use Rattle.arrow_memory.specs.MarkWrites.{CopiesMarks};
@@ -13,7 +13,7 @@ fn between(low: u8, high: u8, shift: usize) -> u8
     requires { shift < 8 }
     ensures { (k : ℕ) → k < 8 → (bit_at result k == 1) ≡ mark_at (low ∷ high ∷ []) (shift + k) }
 {
-    ((u16::from_le_bytes([low, high]) >> shift) & 0xff) as u8
+    low >> shift | high << 1 << (7 - shift)
 }
 
 /// The byte at a place, or one of clear marks past the last.
@@ -116,6 +116,7 @@ pub(crate) fn extend_from_bytes(
     ensures room_left { len ≤ 8 * vec_len bytes.new }
 {
     bytes.truncate(len.div_ceil(8));
+    // bits behind the last mark are free, so these may be written before memory is asked for
     join_byte(bytes, len, source, start);
     let head = (8 - len % 8) % 8;
     if head < count {

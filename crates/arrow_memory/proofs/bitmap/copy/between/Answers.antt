@@ -2,4 +2,4 @@ use Rattle.arrow_memory.proofs.CopyLemmas.{between-mark}
 use Rattle.arrow_memory.proofs.bitmap.copy.between.Goals as goal
 
 pub returns : goal.returns
-returns c = between-mark c.args.low c.args.high c.from_le_bytes.result c.args.shift c.ranges.low.fits c.ranges.high.fits c.requires c.from_le_bytes.ensures
+returns c = between-mark c.args.low c.args.high c.args.shift c.ranges.low.fits c.requires
