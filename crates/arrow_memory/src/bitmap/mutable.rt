@@ -4,6 +4,8 @@ ghost use Rattle.arrow_memory.specs.Marks.{marks, bits_past_bytes};
 ghost use Rattle.arrow_types.specs.Types.{refusal};
 
 use crate::bitmap::bits::{count_clear, extend_marks, fits_bytes, mark_of, push_mark, write_mark};
+use crate::bitmap::copy::extend_from_bytes;
+use crate::bitmap::pack::pack;
 use crate::bitmap::{Bitmap, BitmapIter};
 use arrow_types::error::Error;
 use std::alloc::Global;
@@ -68,6 +70,18 @@ impl MutableBitmap {
     {
         fits_bytes(bytes.len(), length)?;
         Ok(MutableBitmap { bytes, length })
+    }
+
+    /// A mark for each truth value.
+    ///
+    /// # Errors
+    /// `OutOfMemory` where memory is refused.
+    pub fn from_slice(alloc: Global, slice: &[bool]) -> Result<Self, Error>
+        ensures ok { IfOk result (λ bitmap. bitmap ≡ slice.now) }
+        ensures err { IfErr result (λ e. e ≡ Error.OutOfMemory) }
+    {
+        let bytes = pack(alloc, slice)?;
+        Ok(MutableBitmap::from_bytes(bytes, slice.len()))
     }
 
     /// No marks, with room for so many.
@@ -189,6 +203,23 @@ impl MutableBitmap {
             return Err(Error::OutOfMemory);
         };
         extend_marks(&mut self.bytes, self.length, end, value)?;
+        self.length = end;
+        Ok(())
+    }
+
+    /// Appends the marks of another list, whole bytes at a time.
+    ///
+    /// # Errors
+    /// `OutOfMemory` where the growth is refused, as one past `usize::MAX` marks is; the marks are
+    /// then as before.
+    pub fn extend_from_bitmap(&mut self, other: &MutableBitmap) -> Result<(), Error>
+        ensures ok { OnOk result (self.new ≡ self.old ++ other.now) }
+        ensures err { IfErr result (λ e. (e ≡ Error.OutOfMemory) × (self.new ≡ self.old)) }
+    {
+        let Some(end) = self.length.checked_add(other.length) else {
+            return Err(Error::OutOfMemory);
+        };
+        extend_from_bytes(&mut self.bytes, self.length, &other.bytes, 0, other.length)?;
         self.length = end;
         Ok(())
     }
