@@ -1,6 +1,6 @@
 //! The entries of a table.
-use arrow_types::native_type::NativeType;
 use arrow_primitive::{MutablePrimitiveArray, PrimitiveArray};
+use arrow_types::native_type::NativeType;
 
 /// An array or a builder.
 #[derive(Drop)]

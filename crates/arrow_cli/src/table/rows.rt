@@ -7,10 +7,10 @@ ghost use Rattle.arrow_cli.specs.Step.{NewStep, LenStep, GetStep, SlotsStep, Sli
 
 use crate::table::{Entry, Item, Kind, Reply};
 use arrow_memory::bitmap::BitmapIter;
-use arrow_types::error::Error;
-use arrow_types::native_type::NativeType;
 use arrow_memory::zip_validity::ZipValidity;
 use arrow_primitive::{MutablePrimitiveArray, PrimitiveArray};
+use arrow_types::error::Error;
+use arrow_types::native_type::NativeType;
 use std::alloc::{AllocError, Global};
 use std::slice::Iter;
 
