@@ -1,5 +1,5 @@
 //! Lists of marks that grow.
-ghost use Rattle.std.specs.Prelude.{◌≡◌, ℕ, ◌<◌, [], ◌∷◌, ◌++◌, count_by, length, not, replicate, slice_get, slice_set, Some, OnOk, IfOk, IfErr, IsOkAnd, IsErrAnd, MatchOption, ◌*◌, ◌≤◌, vec_len};
+ghost use Rattle.std.specs.Prelude.{◌≡◌, ℕ, ◌<◌, [], ◌∷◌, ◌++◌, count_by, length, not, replicate, slice_get, slice_set, take, Some, OnOk, IfOk, IfErr, IsOkAnd, IsErrAnd, MatchOption, ◌*◌, ◌≤◌, vec_len};
 ghost use Rattle.arrow_memory.specs.Marks.{marks, bits_past_bytes};
 ghost use Rattle.arrow_types.specs.Types.{refusal};
 
@@ -187,6 +187,19 @@ impl MutableBitmap {
         }
         self.length -= 1;
         Some(mark_of(&self.bytes, self.length))
+    }
+
+    /// Keeps only the first `len` marks.
+    pub(crate) fn truncate(&mut self, len: usize)
+        requires { len ≤ length self.old }
+        ensures { self.new ≡ take len self.old }
+    {
+        self.length = len;
+    }
+
+    /// What the bytes are allocated by.
+    pub(crate) fn allocator(&self) -> Global {
+        *self.bytes.allocator()
     }
 
     /// Appends so many equal marks, whole bytes at a time.

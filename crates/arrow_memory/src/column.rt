@@ -1,0 +1,11 @@
+//! Columns: stored values and a mask, which is held or not. Arrays and builders of every kind are made of
+//! them.
+mod extend;
+mod frozen;
+mod growing;
+mod mask;
+mod values;
+
+pub use frozen::FrozenColumn;
+pub use growing::GrowingColumn;
+pub use values::{Grow, MutableValues, PushValue, Values};

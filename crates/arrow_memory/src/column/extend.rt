@@ -1,0 +1,49 @@
+//! Columns that grow by the items of an iterator.
+ghost use Rattle.std.specs.Prelude.{◌≡◌, List, Option, Some, true, map, OnOk, IfErr, option_map};
+ghost use Rattle.std.specs.Iterator.{Drains, IsFinite, YieldsThen};
+ghost use Rattle.arrow_memory.specs.Column.{append_slots, refused_growth, slot_overflows, slots_fit, stored_values};
+
+use crate::column::GrowingColumn;
+use crate::column::values::{MutableValues, PushValue};
+use arrow_types::error::Error;
+
+#[tactic(auto, using(crate::proofs::RowLemmas::row_steps))]
+impl<V: MutableValues> GrowingColumn<V> {
+    /// Appends the slots that an iterator gives. What it says of their number is not trusted.
+    ///
+    /// # Errors
+    /// `Overflow` at the first slot with which there would be more than the values' type can count, or
+    /// `OutOfMemory` where a growth is refused; the slots that came before are then appended.
+    pub fn extend<X, I: Iterator<Item = Option<X>>>(&mut self, slots: I) -> Result<(), Error>
+    where
+        V: PushValue<X>,
+        requires can { I.can_next slots }
+        requires ends { IsFinite (I.remaining slots) }
+        ensures ok { OnOk result ((items : List (Option X)) × Drains I.next_gives slots items × (slots_fit V.overflows V.shown V.default self.old items ≡ true) × (self.new ≡ append_slots V.default self.old (map (option_map V.shown) items))) }
+        ensures err { IfErr result (λ e. (begun : List (Option X)) × (last : Option X) × (rest : I) × YieldsThen I.next_gives slots begun (Some last) rest × (slots_fit V.overflows V.shown V.default self.old begun ≡ true) × (self.new ≡ append_slots V.default self.old (map (option_map V.shown) begun)) × (e ≡ refused_growth (slot_overflows V.overflows self.new last))) }
+    {
+        for slot in slots {
+            self.push(slot)?;
+        }
+        Ok(())
+    }
+
+    /// Appends valid slots of the values that an iterator gives. What it says of their number is not trusted.
+    ///
+    /// # Errors
+    /// `Overflow` at the first value with which there would be more than the values' type can count, or
+    /// `OutOfMemory` where a growth is refused; the values that came before are then appended.
+    pub fn extend_values<X, I: Iterator<Item = X>>(&mut self, values: I) -> Result<(), Error>
+    where
+        V: PushValue<X>,
+        requires can { I.can_next values }
+        requires ends { IsFinite (I.remaining values) }
+        ensures ok { OnOk result ((items : List X) × Drains I.next_gives values items × (slots_fit V.overflows V.shown V.default self.old (map Some items) ≡ true) × (self.new ≡ append_slots V.default self.old (map (λ x. Some (V.shown x)) items))) }
+        ensures err { IfErr result (λ e. (begun : List X) × (last : X) × (rest : I) × YieldsThen I.next_gives values begun (Some last) rest × (slots_fit V.overflows V.shown V.default self.old (map Some begun) ≡ true) × (self.new ≡ append_slots V.default self.old (map (λ x. Some (V.shown x)) begun)) × (e ≡ refused_growth (V.overflows self.new.around (stored_values self.new) last))) }
+    {
+        for value in values {
+            self.push_valid(value)?;
+        }
+        Ok(())
+    }
+}
