@@ -1,11 +1,11 @@
 -- Lemmas about the rows that stored values and a mask make.
-use Rattle.std.proofs.Common.{length-append, ◌≡◌, ℕ, zero, suc, ◌+◌, ◌-◌, ◌<◌, Bool, true, false, not, ◌&&◌, ◌||◌, length-take, cond, IsTrue, if◌then◌else◌, List, [], ◌∷◌, ◌++◌, length, map, take, drop, min, replicate, count_by, slice_get, Option, Some, None, option_map, option_and_then, unwrap_or, subst, is_some, IfSome, IfNone, refl, sym, ap, ap₂, ◌∙◌, zero-add, arith}
+use Rattle.std.proofs.Common.{length-append, ◌≡◌, ℕ, zero, suc, ◌+◌, ◌-◌, ◌<◌, Bool, true, false, not, ◌&&◌, ◌||◌, length-take, cond, IsTrue, if◌then◌else◌, List, [], ◌∷◌, ◌++◌, length, map, take, drop, min, replicate, count_by, slice_get, slice_set, Option, Some, None, option_map, option_and_then, unwrap_or, subst, is_some, IfSome, IfNone, refl, sym, ap, ap₂, ◌∙◌, zero-add, arith}
 use Rattle.std.specs.List.{zip, list_all}
 use Rattle.std.proofs.lemmas.List.{length-map, map-append, length_push, take_at}
 use Rattle.std.proofs.lemmas.Slice.Zip.{length-zip}
 use Rattle.std.proofs.lemmas.List.Sums.{sum_by-cons}
 use Rattle.arrow_types.specs.Types.{LogicalType}
-use Rattle.arrow_memory.specs.Column.{ColumnWith, Row, FitsMask, column_with, cut_with, append_nulls, append_slot, append_slots, append_values, joined, joined_mask, slot, slot_overflows, slots_fit, stored_values, without_last, rows_of}
+use Rattle.arrow_memory.specs.Column.{ColumnWith, Row, FitsMask, column_with, cut_with, append_nulls, append_slot, append_slots, append_values, with_slot, with_stored, joined, joined_mask, slot, slot_overflows, slots_fit, stored_values, without_last, rows_of}
 use Rattle.arrow_memory.specs.Column.{mask_with_nulls}
 
 down : (m n : ℕ) → suc m ≡ suc n → m ≡ n
@@ -401,5 +401,62 @@ pub joined-fits : {S : Type 0} (values ws more : List S) (mask ns other : Option
     → ns ≡ joined_mask mask m other n → FitsMask ws ns
 joined-fits values ws more mask ns other m n fits matches e d f g =
     subst (λ k. FitsMask ws k) (sym (g ∙ ap₂ (λ j k. joined_mask mask j other k) d f)) (subst (λ xs. FitsMask xs (joined_mask mask (length values) other (length more))) (sym e) (join-fits values more mask other fits matches))
+
+-- what is tested of the parts holds of the column
+pub same-test : {A S : Type 0} (test : A → List S → Bool) (t : LogicalType) (o : A) (values : List S) (mask : Option (List Bool)) (column : ColumnWith A S) (b : Bool) → FitsMask values mask → column_with t o values mask ≡ column
+    → test o values ≡ b → test column.around (stored_values column) ≡ b
+same-test test t o values mask column b fits e f = ap₂ test (ap (λ whole. whole.around) (sym e)) (stored-column t o values mask column fits e) ∙ f
+
+-- ---- other stored values, and another slot
+
+zip-marks : {S : Type 0} (values ws : List S) (mask : Option (List Bool)) → FitsMask values mask → length ws ≡ length values → rows_of ws mask ≡ zip ws (map (λ (row : Row S). row.1) (rows_of values mask))
+zip-marks values ws None fits long = sym (zip-replicate ws) ∙ ap (zip ws) (ap (λ n. replicate n true) long ∙ sym (marks-all values))
+zip-marks values ws (Some marks) fits long = ap (zip ws) (sym (marks-zip values marks fits))
+
+pub replaced-column : {A S : Type 0} (t : LogicalType) (o p : A) (values ws : List S) (mask : Option (List Bool)) (column : ColumnWith A S) → FitsMask values mask → column_with t o values mask ≡ column
+    → p ≡ column.around → length ws ≡ length column.rows → column_with t p ws mask ≡ with_stored column ws
+replaced-column t o p values ws mask column fits e f long =
+    let same : length ws ≡ length values = long ∙ ap (λ whole. length whole.rows) (sym e) ∙ length-rows values mask fits in
+    ap₂ (λ a rows. record { data_type = t; around = a; rows = rows; held = is_some mask }) (f ∙ ap (λ whole. whole.around) (sym e)) (zip-marks values ws mask fits same)
+    ∙ ap (λ whole. with_stored whole ws) e
+
+pub replaced-fits : {A S : Type 0} (t : LogicalType) (o : A) (values ws : List S) (mask : Option (List Bool)) (column : ColumnWith A S) → FitsMask values mask → column_with t o values mask ≡ column
+    → length ws ≡ length column.rows → FitsMask ws mask
+replaced-fits t o values ws None column fits e long = tt
+replaced-fits t o values ws (Some marks) column fits e long = fits ∙ sym (long ∙ ap (λ whole. length whole.rows) (sym e) ∙ length-rows values (Some marks) fits)
+
+set-all : {S : Type 0} (values : List S) (i : ℕ) (v : S) → rows_of (slice_set values i v) None ≡ slice_set (rows_of values None) i (v, true)
+set-all [] i v = refl
+set-all (x ∷ values) zero v = refl
+set-all (x ∷ values) (suc i) v = ap (λ rest. (x, true) ∷ rest) (set-all values i v)
+
+set-zip : {S : Type 0} (values : List S) (marks : List Bool) (i : ℕ) (v : S) (m : Bool) → zip (slice_set values i v) (slice_set marks i m) ≡ slice_set (zip values marks) i (v, m)
+set-zip [] marks i v m = refl
+set-zip (x ∷ values) [] zero v m = refl
+set-zip (x ∷ values) [] (suc i) v m = refl
+set-zip (x ∷ values) (k ∷ marks) zero v m = refl
+set-zip (x ∷ values) (k ∷ marks) (suc i) v m = ap (λ rest. (x, k) ∷ rest) (set-zip values marks i v m)
+
+set-valid-rows : {S : Type 0} (values : List S) (mask : Option (List Bool)) (i : ℕ) (v : S) → rows_of (slice_set values i v) (option_map (λ marks. slice_set marks i true) mask) ≡ slice_set (rows_of values mask) i (v, true)
+set-valid-rows values None i v = set-all values i v
+set-valid-rows values (Some marks) i v = set-zip values marks i v true
+
+set-null-rows : {S : Type 0} (values : List S) (mask : Option (List Bool)) (n i : ℕ) (v : S) → n ≡ length values → rows_of (slice_set values i v) (Some (slice_set (unwrap_or mask (replicate n true)) i false)) ≡ slice_set (rows_of values mask) i (v, false)
+set-null-rows values None n i v e = set-zip values (replicate n true) i v false ∙ ap (λ rows. slice_set rows i (v, false)) (ap (λ k. zip values (replicate k true)) e ∙ zip-replicate values)
+set-null-rows values (Some marks) n i v e = set-zip values marks i v false
+
+pub valid-set : {A S : Type 0} (d : S) (t : LogicalType) (o p : A) (values ws : List S) (mask ns : Option (List Bool)) (i : ℕ) (v : S)
+    → ws ≡ slice_set values i v → ns ≡ option_map (λ marks. slice_set marks i true) mask → p ≡ o → column_with t p ws ns ≡ with_slot d (column_with t o values mask) i (Some v)
+valid-set d t o p values ws mask ns i v e f h =
+    same-column t p o (rows_of ws ns) (slice_set (rows_of values mask) i (v, true)) (is_some ns) (is_some mask) h
+    (ap₂ rows_of e f ∙ set-valid-rows values mask i v)
+    (ap is_some f ∙ held-map (λ marks. slice_set marks i true) mask)
+
+pub null-set : {A S : Type 0} (d : S) (t : LogicalType) (o p : A) (values ws : List S) (mask ns : Option (List Bool)) (n i : ℕ) → n ≡ length values
+    → ws ≡ slice_set values i d → ns ≡ Some (slice_set (unwrap_or mask (replicate n true)) i false) → p ≡ o → column_with t p ws ns ≡ with_slot d (column_with t o values mask) i None
+null-set d t o p values ws mask ns n i long e f h =
+    same-column t p o (rows_of ws ns) (slice_set (rows_of values mask) i (d, false)) (is_some ns) true h
+    (ap₂ rows_of e f ∙ set-null-rows values mask n i d long)
+    (ap is_some f)
 
 pub ruleset row_steps = (first-rows, first-fits, length-rows, stored-rows, mask-rows, valid-rows, marks-zip, marks-all, set-mark, no-clear, cut-rows, held-map, push_valid-rows, push_null-rows, push_valid-fits, push_null-fits, frozen-rows, frozen-held, appended-more, fit-more)

@@ -1,11 +1,14 @@
 //! Columns: stored values and a mask, which is held or not. Arrays and builders of every kind are made of
 //! them.
+mod change;
 mod extend;
 mod frozen;
+mod grow;
 mod growing;
 mod mask;
+mod room;
 mod values;
 
 pub use frozen::FrozenColumn;
 pub use growing::GrowingColumn;
-pub use values::{Grow, MutableValues, PushValue, Values};
+pub use values::{Grow, MutableValues, PushValue, Repeated, SetValue, Values};

@@ -13,9 +13,9 @@ use std::marker::Model;
 /// A data type, stored values, and a mark for each of them where a mask is held; else every slot is valid.
 #[derive(Drop)]
 pub struct FrozenColumn<V: Values> {
-    data_type: DataType,
-    values: V,
-    validity: Option<Bitmap>,
+    pub(super) data_type: DataType,
+    pub(super) values: V,
+    pub(super) validity: Option<Bitmap>,
 }
 
 // Contracts see the column: the type, a row for each slot, and whether a mask is held.

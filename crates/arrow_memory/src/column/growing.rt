@@ -14,9 +14,9 @@ use std::marker::Model;
 /// A data type, stored values, and a mark for each of them where a mask is held; else every slot is valid.
 #[derive(Drop)]
 pub struct GrowingColumn<V: MutableValues> {
-    data_type: DataType,
-    values: V,
-    validity: Option<MutableBitmap>,
+    pub(super) data_type: DataType,
+    pub(super) values: V,
+    pub(super) validity: Option<MutableBitmap>,
 }
 
 // Contracts see the column: the type, a row for each slot, and whether a mask is held.

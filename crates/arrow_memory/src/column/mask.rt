@@ -1,6 +1,6 @@
 //! Masks, which are held or not.
-ghost use Rattle.std.specs.Prelude.{◌≡◌, ◌<◌, Bool, true, false, [], ◌∷◌, ◌++◌, replicate, Some, option_map, unwrap_or, vec_len, vec_capacity, length, take, drop, ◌+◌, ◌≤◌, IfSome, IfNone, OnOk, IfOk, IfErr};
-ghost use Rattle.arrow_memory.specs.Column.{mask_with_nulls};
+ghost use Rattle.std.specs.Prelude.{slice_set, ◌≡◌, ◌<◌, Bool, true, false, [], ◌∷◌, ◌++◌, replicate, Some, option_map, unwrap_or, vec_len, vec_capacity, length, take, drop, ◌+◌, ◌≤◌, IfSome, IfNone, OnOk, IfOk, IfErr};
+ghost use Rattle.arrow_memory.specs.Column.{joined_mask, mask_with_nulls};
 
 use crate::bitmap::{Bitmap, MutableBitmap};
 use arrow_types::error::Error;
@@ -85,4 +85,189 @@ pub(crate) fn freeze_mask(validity: Option<MutableBitmap>) -> Result<Option<Bitm
         return Ok(None);
     }
     Ok(Some(marks.freeze()?))
+}
+
+/// Appends the marks of so many valid slots, where a mask is held.
+#[inline(always)]
+pub(crate) fn extend_valid_marks(
+    validity: &mut Option<MutableBitmap>,
+    count: usize,
+) -> Result<(), Error>
+    ensures ok { OnOk result (validity.new ≡ option_map (λ marks. marks ++ replicate count true) validity.old) }
+    ensures err { IfErr result (λ e. (e ≡ Error.OutOfMemory) × (validity.new ≡ validity.old)) }
+{
+    match validity {
+        None => Ok(()),
+        Some(marks) => marks.extend_constant(count, true),
+    }
+}
+
+/// A mask of so many valid slots and then so many nulls.
+fn null_marks(alloc: Global, length: usize, count: usize) -> Result<MutableBitmap, Error>
+    ensures ok { IfOk result (λ marks. marks ≡ replicate length true ++ replicate count false) }
+    ensures err { IfErr result (λ e. e ≡ Error.OutOfMemory) }
+{
+    let mut marks = MutableBitmap::new(alloc);
+    marks.extend_constant(length, true)?;
+    marks.extend_constant(count, false)?;
+    Ok(marks)
+}
+
+/// Appends the marks of so many nulls. Where no mask is held it makes one, in which the `length` earlier slots are
+/// valid.
+pub(crate) fn extend_null_marks(
+    alloc: Global,
+    validity: &mut Option<MutableBitmap>,
+    length: usize,
+    count: usize,
+) -> Result<(), Error>
+    ensures ok { OnOk result (validity.new ≡ Some (unwrap_or validity.old (replicate length true) ++ replicate count false)) }
+    ensures err { IfErr result (λ e. (e ≡ Error.OutOfMemory) × (validity.new ≡ validity.old)) }
+{
+    match validity {
+        Some(marks) => marks.extend_constant(count, false),
+        None => {
+            *validity = Some(null_marks(alloc, length, count)?);
+            Ok(())
+        }
+    }
+}
+
+/// A mask of so many valid slots and then these marks.
+fn marks_behind(
+    alloc: Global,
+    length: usize,
+    others: &MutableBitmap,
+) -> Result<MutableBitmap, Error>
+    ensures ok { IfOk result (λ marks. marks ≡ replicate length true ++ others.now) }
+    ensures err { IfErr result (λ e. e ≡ Error.OutOfMemory) }
+{
+    let mut marks = MutableBitmap::new(alloc);
+    marks.extend_constant(length, true)?;
+    marks.extend_from_bitmap(others)?;
+    Ok(marks)
+}
+
+/// Appends the mask of `count` other slots to that of `length` slots. A mask is held where either is, and slots
+/// without one are valid in it.
+pub(crate) fn join_marks(
+    alloc: Global,
+    validity: &mut Option<MutableBitmap>,
+    length: usize,
+    others: &Option<MutableBitmap>,
+    count: usize,
+) -> Result<(), Error>
+    ensures ok { OnOk result (validity.new ≡ joined_mask validity.old length others.now count) }
+    ensures err { IfErr result (λ e. (e ≡ Error.OutOfMemory) × (validity.new ≡ validity.old)) }
+{
+    match validity {
+        Some(marks) => match others {
+            Some(others) => marks.extend_from_bitmap(others),
+            None => marks.extend_constant(count, true),
+        },
+        None => match others {
+            Some(others) => {
+                *validity = Some(marks_behind(alloc, length, others)?);
+                Ok(())
+            }
+            None => Ok(()),
+        },
+    }
+}
+
+/// Sets the mark at a place, where a mask is held.
+#[inline(always)]
+pub(crate) fn set_valid_mark(validity: &mut Option<MutableBitmap>, i: usize)
+    requires { IfSome validity.old (λ marks. i < length marks) }
+    ensures { validity.new ≡ option_map (λ marks. slice_set marks i true) validity.old }
+{
+    if let Some(marks) = validity {
+        marks.set(i, true);
+    }
+}
+
+/// A mask of so many slots of which the one at a place is null.
+#[cold]
+#[inline(never)]
+fn null_mark_at(alloc: Global, count: usize, i: usize) -> Result<MutableBitmap, Error>
+    requires { i < count }
+    ensures ok { IfOk result (λ marks. marks ≡ slice_set (replicate count true) i false) }
+    ensures err { IfErr result (λ e. e ≡ Error.OutOfMemory) }
+{
+    let mut marks = MutableBitmap::new(alloc);
+    marks.extend_constant(count, true)?;
+    marks.set(i, false);
+    Ok(marks)
+}
+
+/// Clears the mark at a place. Where no mask is held it makes one, in which the other slots are valid.
+#[inline(always)]
+pub(crate) fn set_null_mark(
+    alloc: Global,
+    validity: &mut Option<MutableBitmap>,
+    count: usize,
+    i: usize,
+) -> Result<(), Error>
+    requires within { i < count }
+    requires fits { IfSome validity.old (λ marks. length marks ≡ count) }
+    ensures ok { OnOk result (validity.new ≡ Some (slice_set (unwrap_or validity.old (replicate count true)) i false)) }
+    ensures err { IfErr result (λ e. (e ≡ Error.OutOfMemory) × (validity.new ≡ validity.old)) }
+{
+    match validity {
+        Some(marks) => {
+            marks.set(i, false);
+            Ok(())
+        }
+        None => {
+            *validity = Some(null_mark_at(alloc, count, i)?);
+            Ok(())
+        }
+    }
+}
+
+/// Makes room for so many marks more, where a mask is held.
+pub(crate) fn reserve_marks(
+    validity: &mut Option<MutableBitmap>,
+    additional: usize,
+) -> Result<(), Error>
+    ensures kept { validity.new ≡ validity.old }
+    ensures err { IfErr result (λ e. e ≡ Error.OutOfMemory) }
+{
+    match validity {
+        None => Ok(()),
+        Some(marks) => marks.reserve(additional),
+    }
+}
+
+/// Gives back the room that is not used, where a mask is held.
+pub(crate) fn shrink_marks(validity: &mut Option<MutableBitmap>) -> Result<(), Error>
+    ensures kept { validity.new ≡ validity.old }
+    ensures err { IfErr result (λ e. e ≡ Error.OutOfMemory) }
+{
+    match validity {
+        None => Ok(()),
+        Some(marks) => marks.shrink_to_fit(),
+    }
+}
+
+/// A copy of a builder's mask, where one is held.
+pub(crate) fn copy_marks(validity: &Option<MutableBitmap>) -> Result<Option<MutableBitmap>, Error>
+    ensures ok { IfOk result (λ copy. copy ≡ validity.now) }
+    ensures err { IfErr result (λ e. e ≡ Error.OutOfMemory) }
+{
+    match validity {
+        None => Ok(None),
+        Some(marks) => Ok(Some(marks.clone()?)),
+    }
+}
+
+/// An array's mask once more, where one is held. No mark is copied.
+pub(crate) fn share_mask(validity: &Option<Bitmap>) -> Result<Option<Bitmap>, Error>
+    ensures ok { IfOk result (λ copy. copy ≡ validity.now) }
+    ensures err { IfErr result (λ e. e ≡ Error.OutOfMemory) }
+{
+    match validity {
+        None => Ok(None),
+        Some(marks) => Ok(Some(marks.clone()?)),
+    }
 }

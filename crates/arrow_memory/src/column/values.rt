@@ -1,5 +1,5 @@
 //! The stored values that columns are made of.
-ghost use Rattle.std.specs.Prelude.{◌≡◌, ℕ, ◌+◌, ◌≤◌, List, Bool, false, [], ◌∷◌, ◌++◌, length, take, drop, OnOk, IfErr};
+ghost use Rattle.std.specs.Prelude.{slice_set, replicate, ◌<◌, IfOk, ◌≡◌, ℕ, ◌+◌, ◌≤◌, List, Bool, false, [], ◌∷◌, ◌++◌, length, take, drop, OnOk, IfErr};
 ghost use Rattle.arrow_memory.specs.Column.{refused_growth};
 
 use crate::bitmap::{Bitmap, MutableBitmap};
@@ -34,6 +34,15 @@ pub trait Values: Drop {
         requires { offset + len ≤ length (stored self.old) }
         ensures stored { stored self.new ≡ take len (drop offset (stored self.old)) }
         ensures around { around self.new ≡ cut_around (around self.old) (stored self.old) offset len };
+
+    /// The same values once more, which are not copied.
+    ///
+    /// # Errors
+    /// `OutOfMemory` where one owner more can't be counted.
+    fn share(&self) -> Result<Self, Error>
+        ensures stored { IfOk result (λ copy. stored copy ≡ stored self.now) }
+        ensures around { IfOk result (λ copy. around copy ≡ around self.now) }
+        ensures err { IfErr result (λ e. e ≡ Error.OutOfMemory) };
 }
 
 impl<T: Drop> Values for Buffer<T> {
@@ -56,6 +65,11 @@ impl<T: Drop> Values for Buffer<T> {
     fn cut(&mut self, offset: usize, len: usize) {
         self.slice(offset, len);
     }
+
+    #[inline(always)]
+    fn share(&self) -> Result<Self, Error> {
+        self.clone()
+    }
 }
 
 impl Values for Bitmap {
@@ -77,6 +91,11 @@ impl Values for Bitmap {
     #[inline(always)]
     fn cut(&mut self, offset: usize, len: usize) {
         self.slice(offset, len);
+    }
+
+    #[inline(always)]
+    fn share(&self) -> Result<Self, Error> {
+        self.clone()
     }
 }
 
@@ -118,6 +137,46 @@ pub trait MutableValues: Drop {
         requires { len ≤ length (stored self.old) }
         ensures stored { stored self.new ≡ take len (stored self.old) }
         ensures around { around self.new ≡ around self.old };
+
+    /// Whether there would be more than the values' type can count with others' behind these.
+    ghost overjoins: { Self.Around → List Self.Stored → List Self.Stored → Bool };
+
+    /// Appends others' values.
+    ///
+    /// # Errors
+    /// `Overflow` where there would be more than the type can count, which is tested first, or
+    /// `OutOfMemory` where the growth is refused; the values are then as before.
+    fn append(&mut self, other: &Self) -> Result<(), Error>
+        ensures ok { OnOk result ((overjoins (around self.old) (stored self.old) (stored other.now) ≡ false) × (stored self.new ≡ stored self.old ++ stored other.now)) }
+        ensures around { around self.new ≡ around self.old }
+        ensures err { IfErr result (λ e. (e ≡ refused_growth (overjoins (around self.old) (stored self.old) (stored other.now))) × (stored self.new ≡ stored self.old)) };
+
+    /// Makes room for so many values more.
+    ///
+    /// # Errors
+    /// `OutOfMemory` where the growth is refused.
+    fn make_room(&mut self, additional: usize) -> Result<(), Error>
+        ensures stored { stored self.new ≡ stored self.old }
+        ensures around { around self.new ≡ around self.old }
+        ensures err { IfErr result (λ e. e ≡ Error.OutOfMemory) };
+
+    /// Gives back the room that is not used.
+    ///
+    /// # Errors
+    /// `OutOfMemory` where smaller memory is refused.
+    fn drop_room(&mut self) -> Result<(), Error>
+        ensures stored { stored self.new ≡ stored self.old }
+        ensures around { around self.new ≡ around self.old }
+        ensures err { IfErr result (λ e. e ≡ Error.OutOfMemory) };
+
+    /// A copy of the values.
+    ///
+    /// # Errors
+    /// `OutOfMemory` where memory is refused.
+    fn copy(&self) -> Result<Self, Error>
+        ensures stored { IfOk result (λ copy. stored copy ≡ stored self.now) }
+        ensures around { IfOk result (λ copy. around copy ≡ around self.now) }
+        ensures err { IfErr result (λ e. e ≡ Error.OutOfMemory) };
 }
 
 /// Values to which one more is appended.
@@ -147,13 +206,13 @@ pub trait Grow<X>: MutableValues {
     /// Whether there would be more than the values' type can count.
     ghost overgrows: { Self.Around → List Self.Stored → X → Bool };
 
-    /// Appends values.
+    /// Appends values, and answers how many.
     ///
     /// # Errors
     /// `Overflow` where there would be more than the type can count, which is tested first, or
     /// `OutOfMemory` where the growth is refused; the values are then as before.
-    fn grow(&mut self, values: X) -> Result<(), Error>
-        ensures ok { OnOk result ((overgrows (Self.around self.old) (Self.stored self.old) values ≡ false) × (Self.stored self.new ≡ Self.stored self.old ++ given values)) }
+    fn grow(&mut self, values: X) -> Result<usize, Error>
+        ensures ok { IfOk result (λ count. (overgrows (Self.around self.old) (Self.stored self.old) values ≡ false) × (count ≡ length (given values)) × (Self.stored self.new ≡ Self.stored self.old ++ given values)) }
         ensures around { Self.around self.new ≡ Self.around self.old }
         ensures err { IfErr result (λ e. (e ≡ refused_growth (overgrows (Self.around self.old) (Self.stored self.old) values)) × (Self.stored self.new ≡ Self.stored self.old)) };
 }
@@ -187,6 +246,31 @@ impl<T: NativeType> MutableValues for Vec<T> {
     #[inline(always)]
     fn keep_first(&mut self, len: usize) {
         self.truncate(len);
+    }
+
+    ghost overjoins = { λ _ _ _. false };
+
+    #[inline(always)]
+    fn append(&mut self, other: &Vec<T>) -> Result<(), Error> {
+        Ok(self.extend_from_slice(other)?)
+    }
+
+    #[inline(always)]
+    fn make_room(&mut self, additional: usize) -> Result<(), Error> {
+        Ok(self.reserve(additional)?)
+    }
+
+    #[inline(always)]
+    fn drop_room(&mut self) -> Result<(), Error> {
+        self.shrink_to_fit();
+        Ok(())
+    }
+
+    #[inline(always)]
+    fn copy(&self) -> Result<Vec<T>, Error> {
+        let mut copy = Vec::new(*self.allocator());
+        copy.extend_from_slice(self)?;
+        Ok(copy)
     }
 }
 
@@ -231,6 +315,28 @@ impl MutableValues for MutableBitmap {
     fn keep_first(&mut self, len: usize) {
         self.truncate(len);
     }
+
+    ghost overjoins = { λ _ _ _. false };
+
+    #[inline(always)]
+    fn append(&mut self, other: &MutableBitmap) -> Result<(), Error> {
+        self.extend_from_bitmap(other)
+    }
+
+    #[inline(always)]
+    fn make_room(&mut self, additional: usize) -> Result<(), Error> {
+        self.reserve(additional)
+    }
+
+    #[inline(always)]
+    fn drop_room(&mut self) -> Result<(), Error> {
+        self.shrink_to_fit()
+    }
+
+    #[inline(always)]
+    fn copy(&self) -> Result<MutableBitmap, Error> {
+        self.clone()
+    }
 }
 
 impl PushValue<bool> for MutableBitmap {
@@ -241,5 +347,80 @@ impl PushValue<bool> for MutableBitmap {
     #[inline(always)]
     fn push_value(&mut self, value: bool) -> Result<(), Error> {
         self.push(value)
+    }
+}
+
+/// Values that can be changed in place.
+pub trait SetValue<X>: PushValue<X> {
+    /// Stores a value at a place.
+    fn set_value(&mut self, i: usize, value: X)
+        requires { i < length (Self.stored self.old) }
+        ensures stored { Self.stored self.new ≡ slice_set (Self.stored self.old) i (Self.shown value) }
+        ensures around { Self.around self.new ≡ Self.around self.old };
+
+    /// Stores what a null stores at a place.
+    fn set_default(&mut self, i: usize)
+        requires { i < length (Self.stored self.old) }
+        ensures stored { Self.stored self.new ≡ slice_set (Self.stored self.old) i Self.default }
+        ensures around { Self.around self.new ≡ Self.around self.old };
+}
+
+impl<T: NativeType> SetValue<T> for Vec<T> {
+    #[inline(always)]
+    fn set_value(&mut self, i: usize, value: T) {
+        self[i] = value;
+    }
+
+    #[inline(always)]
+    fn set_default(&mut self, i: usize) {
+        self[i] = T::default();
+    }
+}
+
+impl SetValue<bool> for MutableBitmap {
+    #[inline(always)]
+    fn set_value(&mut self, i: usize, value: bool) {
+        self.set(i, value);
+    }
+
+    #[inline(always)]
+    fn set_default(&mut self, i: usize) {
+        self.set(i, false);
+    }
+}
+
+impl<'a, T: NativeType> Grow<&'a [T]> for Vec<T> {
+    ghost given = { λ slice. slice.now };
+
+    ghost overgrows = { λ _ _ _. false };
+
+    #[inline(always)]
+    fn grow(&mut self, values: &'a [T]) -> Result<usize, Error> {
+        self.extend_from_slice(values)?;
+        Ok(values.len())
+    }
+}
+
+/// A value so many times.
+#[derive(Clone, Copy)]
+pub struct Repeated<T> {
+    /// The value.
+    pub value: T,
+    /// How often.
+    pub count: usize,
+}
+
+impl<T: NativeType> Grow<Repeated<T>> for Vec<T> {
+    ghost given = { λ repeated. replicate repeated.count repeated.value };
+
+    ghost overgrows = { λ _ _ _. false };
+
+    #[inline(always)]
+    fn grow(&mut self, values: Repeated<T>) -> Result<usize, Error> {
+        let Some(total) = self.len().checked_add(values.count) else {
+            return Err(Error::OutOfMemory);
+        };
+        self.resize(total, values.value)?;
+        Ok(values.count)
     }
 }

@@ -1,0 +1,67 @@
+//! The room of columns, and their clones.
+ghost use Rattle.std.specs.Prelude.{◌≡◌, IfOk, IfErr};
+
+use crate::column::mask::{copy_marks, reserve_marks, share_mask, shrink_marks};
+use crate::column::values::{MutableValues, Values};
+use crate::column::{FrozenColumn, GrowingColumn};
+use arrow_types::error::Error;
+
+#[tactic(auto, using(crate::proofs::RowLemmas::row_steps))]
+impl<V: MutableValues> GrowingColumn<V> {
+    /// Makes room for so many slots more, in a held mask too.
+    ///
+    /// # Errors
+    /// `OutOfMemory` where a growth is refused.
+    pub fn reserve(&mut self, additional: usize) -> Result<(), Error>
+        ensures kept { self.new ≡ self.old }
+        ensures err { IfErr result (λ e. e ≡ Error.OutOfMemory) }
+    {
+        self.values.make_room(additional)?;
+        reserve_marks(&mut self.validity, additional)
+    }
+
+    /// Gives back the room that is not used.
+    ///
+    /// # Errors
+    /// `OutOfMemory` where smaller memory is refused.
+    pub fn shrink_to_fit(&mut self) -> Result<(), Error>
+        ensures kept { self.new ≡ self.old }
+        ensures err { IfErr result (λ e. e ≡ Error.OutOfMemory) }
+    {
+        self.values.drop_room()?;
+        shrink_marks(&mut self.validity)
+    }
+
+    /// A copy of the column.
+    ///
+    /// # Errors
+    /// `OutOfMemory` where memory is refused.
+    pub fn clone(&self) -> Result<Self, Error>
+        ensures ok { IfOk result (λ copy. copy ≡ self.now) }
+        ensures err { IfErr result (λ e. e ≡ Error.OutOfMemory) }
+    {
+        Ok(GrowingColumn {
+            data_type: self.data_type.clone()?,
+            values: self.values.copy()?,
+            validity: copy_marks(&self.validity)?,
+        })
+    }
+}
+
+#[tactic(auto, using(crate::proofs::RowLemmas::row_steps))]
+impl<V: Values> FrozenColumn<V> {
+    /// The same column once more. Neither values nor marks are copied.
+    ///
+    /// # Errors
+    /// `OutOfMemory` where memory is refused.
+    pub fn clone(&self) -> Result<Self, Error>
+        ensures ok { IfOk result (λ copy. copy ≡ self.now) }
+        ensures err { IfErr result (λ e. e ≡ Error.OutOfMemory) }
+    {
+        Ok(FrozenColumn {
+            data_type: self.data_type.clone()?,
+            values: self.values.share()?,
+            validity: share_mask(&self.validity)?,
+        })
+    }
+}
