@@ -1,12 +1,14 @@
 //! Columns: stored values and a mask, which is held or not. Arrays and builders of every kind are made of
 //! them.
 mod change;
+mod closures;
 mod extend;
 mod frozen;
 mod grow;
 mod growing;
 mod mask;
 mod room;
+mod thaw;
 mod values;
 
 pub use frozen::FrozenColumn;
