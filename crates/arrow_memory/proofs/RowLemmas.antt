@@ -287,6 +287,15 @@ fit-more overflows shown default column (y ∷ xs) x fit last =
     both-right true b e = e
     both-right false b e = cc
 
+pub appended-to : {A S X : Type 0} (shown : X → S) (default : S) (column : ColumnWith A S) (xs ys : List (Option X)) (x : Option X) → ys ≡ xs ++ x ∷ []
+    → append_slots default column (map (option_map shown) ys) ≡ append_slot default (append_slots default column (map (option_map shown) xs)) (option_map shown x)
+appended-to shown default column xs ys x e = ap (λ zs. append_slots default column (map (option_map shown) zs)) e ∙ appended-more shown default column xs x
+
+pub fit-to : {A S X : Type 0} (overflows : A → List S → X → Bool) (shown : X → S) (default : S) (column : ColumnWith A S) (xs ys : List (Option X)) (x : Option X) → ys ≡ xs ++ x ∷ []
+    → slots_fit overflows shown default column xs ≡ true → slot_overflows overflows (append_slots default column (map (option_map shown) xs)) x ≡ false
+    → slots_fit overflows shown default column ys ≡ true
+fit-to overflows shown default column xs ys x e fit last = ap (slots_fit overflows shown default column) e ∙ fit-more overflows shown default column xs x fit last
+
 -- the same of values, which are valid slots
 valid-shown : {X S : Type 0} (shown : X → S) (xs : List X) → map (λ x. Some (shown x)) xs ≡ map (option_map shown) (map Some xs)
 valid-shown shown [] = refl

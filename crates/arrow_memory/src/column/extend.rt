@@ -1,5 +1,5 @@
 //! Columns that grow by the items of an iterator.
-ghost use Rattle.std.specs.Prelude.{◌≡◌, List, Option, Some, true, map, OnOk, IfErr, option_map};
+ghost use Rattle.std.specs.Prelude.{◌++◌, ◌∷◌, ◌≡◌, List, Option, Some, true, map, OnOk, IfErr, option_map};
 ghost use Rattle.std.specs.Iterator.{Drains, IsFinite, YieldsThen};
 ghost use Rattle.arrow_memory.specs.Column.{append_slots, refused_growth, slot_overflows, slots_fit, stored_values};
 
@@ -43,6 +43,26 @@ impl<V: MutableValues> GrowingColumn<V> {
     {
         for value in values {
             self.push_valid(value)?;
+        }
+        Ok(())
+    }
+
+    /// Appends the slots of a list.
+    ///
+    /// # Errors
+    /// `Overflow` at the first slot with which there would be more than the values' type can count, or
+    /// `OutOfMemory` where a growth is refused; the slots that came before are then appended.
+    pub fn extend_from_slots<X: Copy>(&mut self, slots: &[Option<X>]) -> Result<(), Error>
+    where
+        V: PushValue<X>,
+        ensures ok { OnOk result ((slots_fit V.overflows V.shown V.default self.old slots.now ≡ true) × (self.new ≡ append_slots V.default self.old (map (option_map V.shown) slots.now))) }
+        ensures err { IfErr result (λ e. (begun rest : List (Option X)) × (last : Option X) × (slots.now ≡ begun ++ last ∷ rest) × (slots_fit V.overflows V.shown V.default self.old begun ≡ true) × (self.new ≡ append_slots V.default self.old (map (option_map V.shown) begun)) × (e ≡ refused_growth (slot_overflows V.overflows self.new last))) }
+    {
+        for slot in slots {
+            match self.push(*slot) {
+                Ok(()) => (),
+                Err(refused) => return Err(refused),
+            }
         }
         Ok(())
     }

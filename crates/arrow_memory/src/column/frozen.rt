@@ -1,8 +1,8 @@
 //! Columns that don't change, of which arrays are made.
-ghost use Rattle.std.specs.Prelude.{◌≡◌, ℕ, ◌+◌, ◌-◌, ◌<◌, ◌≤◌, List, Bool, length, take, drop, not, count_by, slice_get, Some, option_map, is_some, IfSome};
+ghost use Rattle.std.specs.Prelude.{IsTrue, None, ◌≡◌, ℕ, ◌+◌, ◌-◌, ◌<◌, ◌≤◌, List, Bool, length, take, drop, not, count_by, slice_get, Some, option_map, is_some, IfSome};
 ghost use Rattle.std.specs.Option.{option_copied};
 ghost use Rattle.arrow_types.specs.Types.{logical_type};
-ghost use Rattle.arrow_memory.specs.Column.{ColumnWith, FitsCut, FitsMask, IsColumn, column_with, cut_with, marks_of, mask_of, rows_of, stored_values, with_mask};
+ghost use Rattle.arrow_memory.specs.Column.{slots_of, ColumnWith, FitsCut, FitsMask, IsColumn, column_with, cut_with, marks_of, mask_of, rows_of, stored_values, with_mask, with_type};
 
 use crate::bitmap::{Bitmap, BitmapIter};
 use crate::column::mask::slice_mask;
@@ -21,7 +21,7 @@ pub struct FrozenColumn<V: Values> {
 // Contracts see the column: the type, a row for each slot, and whether a mask is held.
 impl<V: Values> Model for FrozenColumn<V> {
     ghost use Rattle.arrow_types.specs.Types.{logical_type};
-    ghost use Rattle.arrow_memory.specs.Column.{ColumnWith, FitsMask, column_with};
+    ghost use Rattle.arrow_memory.specs.Column.{slots_of, ColumnWith, FitsMask, column_with};
 
     ghost Value = { ColumnWith V.Around V.Stored };
 
@@ -52,9 +52,20 @@ impl<V: Values> FrozenColumn<V> {
         ensures around { V.around result.1 ≡ self.around }
         ensures values { V.stored result.1 ≡ stored_values self }
         ensures mask { result.2 ≡ mask_of self }
+        ensures rows { rows_of (V.stored result.1) result.2 ≡ self.rows }
+        ensures fits { FitsMask (V.stored result.1) result.2 }
         ensures is_column { IsColumn self }
     {
         (self.data_type, self.values, self.validity)
+    }
+
+    /// The same slots under another type.
+    #[inline(always)]
+    pub fn to(mut self, data_type: DataType) -> Self
+        ensures { result ≡ with_type self (logical_type data_type) }
+    {
+        self.data_type = data_type;
+        self
     }
 
     /// The data type.
@@ -104,16 +115,27 @@ impl<V: Values> FrozenColumn<V> {
         }
     }
 
-    /// Whether the slot at a place is null.
+    /// Whether the slot at a place is valid, which is not null.
+    #[inline(always)]
+    pub fn is_valid(&self, i: usize) -> bool
+        requires { i < length self.now.rows }
+        ensures { slice_get (marks_of self.now) i ≡ Some result }
+    {
+        match &self.validity {
+            None => true,
+            Some(validity) => validity.get_bit(i),
+        }
+    }
+
+    /// Whether the slot at a place is null; else it shows what is stored there.
     #[inline(always)]
     pub fn is_null(&self, i: usize) -> bool
         requires { i < length self.now.rows }
-        ensures { slice_get (marks_of self.now) i ≡ Some (not result) }
+        ensures mark { slice_get (marks_of self.now) i ≡ Some (not result) }
+        ensures null { IsTrue result → slice_get (slots_of self.now) i ≡ Some None }
+        ensures valid { IsTrue (not result) → (value : V.Stored) → slice_get (stored_values self.now) i ≡ Some value → slice_get (slots_of self.now) i ≡ Some (Some value) }
     {
-        match &self.validity {
-            None => false,
-            Some(validity) => !validity.get_bit(i),
-        }
+        !self.is_valid(i)
     }
 
     /// The number of null slots.

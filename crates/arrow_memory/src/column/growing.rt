@@ -2,7 +2,7 @@
 ghost use Rattle.std.specs.Prelude.{slice_get, not, is_some, ◌≡◌, ◌<◌, length, false, Some, None, OnOk, IfOk, IfErr, IfSome, option_map};
 ghost use Rattle.std.specs.Option.{option_copied};
 ghost use Rattle.arrow_types.specs.Types.{logical_type};
-ghost use Rattle.arrow_memory.specs.Column.{FitsMask, all_valid, marks_of, slot_overflows, IsColumn, append_slot, column_with, mask_of, refused_growth, rows_of, stored_values, with_mask, without_last};
+ghost use Rattle.arrow_memory.specs.Column.{FitsMask, all_valid, marks_of, slot_overflows, IsColumn, append_slot, column_with, mask_of, refused_growth, rows_of, stored_values, with_mask, with_type, without_last};
 
 use crate::bitmap::{Bitmap, BitmapIter, MutableBitmap};
 use crate::column::mask::{freeze_mask, keep_first_marks, push_null_mark, push_valid};
@@ -53,9 +53,20 @@ impl<V: MutableValues> GrowingColumn<V> {
         ensures around { V.around result.1 ≡ self.around }
         ensures values { V.stored result.1 ≡ stored_values self }
         ensures mask { result.2 ≡ mask_of self }
+        ensures rows { rows_of (V.stored result.1) result.2 ≡ self.rows }
+        ensures fits { FitsMask (V.stored result.1) result.2 }
         ensures is_column { IsColumn self }
     {
         (self.data_type, self.values, self.validity)
+    }
+
+    /// The same slots under another type.
+    #[inline(always)]
+    pub fn to(mut self, data_type: DataType) -> Self
+        ensures { result ≡ with_type self (logical_type data_type) }
+    {
+        self.data_type = data_type;
+        self
     }
 
     /// The data type.

@@ -1,4 +1,4 @@
-use Rattle.std.proofs.Common.{ap, map, Some, sym, ◌∙◌}
+use Rattle.std.proofs.Common.{ap, Some, sym, ◌∙◌}
 use Rattle.arrow_memory.specs.Column.{append_slot, slot_overflows}
 use Rattle.arrow_memory.proofs.RowLemmas.{values-more, values-fit}
 use Rattle.arrow_memory.proofs.column.growing.GrowingColumn.extend_values.Goals as goal

@@ -1,4 +1,4 @@
-use Rattle.std.proofs.Common.{◌≡◌, [], ◌∷◌, ap, ap₂, sym, ◌∙◌}
+use Rattle.std.proofs.Common.{[], ◌∷◌, ap, ap₂, sym, ◌∙◌}
 use Rattle.arrow_types.specs.Types.{logical_type}
 use Rattle.arrow_memory.specs.Column.{refused_growth}
 use Rattle.arrow_memory.proofs.RowLemmas.{grown-back, stored-column, undone-column}

@@ -1,4 +1,4 @@
-use Rattle.std.proofs.Common.{◌≡◌, ◌-◌, length, ap, ◌∙◌, arith}
+use Rattle.std.proofs.Common.{◌≡◌, ◌-◌, length, ap, ◌∙◌}
 use Rattle.arrow_types.specs.Types.{logical_type}
 use Rattle.arrow_memory.specs.Column.{without_last}
 use Rattle.arrow_memory.proofs.RowLemmas.{shorter-column}
