@@ -1,0 +1,106 @@
+//! Arrays and builders whose values or masks are replaced, and arrays that are thawed.
+ghost use Rattle.std.specs.Prelude.{◌≡◌, List, Bool, Some, length, IfSome, IsTrue, MatchOption, OnOk, IfErr, vec_len};
+ghost use Rattle.std.specs.Bool.{OnFalse};
+ghost use Rattle.std.specs.Borrow.{MutBor};
+ghost use Rattle.std.specs.Fn.{FnOnceReturnsAtMut};
+ghost use Rattle.either.specs.Either.{MatchEither};
+ghost use Rattle.arrow_memory.specs.Column.{mask_of, stored_values, with_mask, with_stored};
+
+use crate::{MutablePrimitiveArray, PrimitiveArray};
+use arrow_memory::bitmap::{Bitmap, MutableBitmap};
+use arrow_memory::buffer::Buffer;
+use arrow_types::native_type::NativeType;
+use either::{Either, Left, Right};
+
+impl<T: NativeType> PrimitiveArray<T> {
+    /// Replaces the mask, which has a mark for each slot; without one every slot is valid.
+    pub fn set_validity(&mut self, validity: Option<Bitmap>)
+        requires { IfSome validity (λ marks. length marks ≡ length self.old.rows) }
+        ensures { self.new ≡ with_mask self.old validity }
+    {
+        self.column.set_validity(validity);
+    }
+
+    /// The same stored values under another mask, which has a mark for each slot; without one every slot is valid.
+    pub fn with_validity(mut self, validity: Option<Bitmap>) -> Self
+        requires { IfSome validity (λ marks. length marks ≡ length self.rows) }
+        ensures { result ≡ with_mask self validity }
+    {
+        self.set_validity(validity);
+        self
+    }
+
+    /// Replaces a held mask by what the closure makes of it, as many marks; without a mask nothing is done.
+    pub fn apply_validity<F: FnOnce(Bitmap) -> Bitmap + Drop>(&mut self, change: F)
+        requires callable { IfSome (mask_of self.old) (λ marks. F.pre change marks) }
+        requires keeps { IfSome (mask_of self.old) (λ marks. (changed : List Bool) → F.post change marks changed → length changed ≡ length marks) }
+        ensures { MatchOption (mask_of self.old) (self.new ≡ self.old) (λ marks. (changed : List Bool) × F.post change marks changed × (length changed ≡ length marks) × (self.new ≡ with_mask self.old (Some changed))) }
+    {
+        self.column.apply_validity(change);
+    }
+
+    /// Replaces the stored values by as many others. The marks stay.
+    pub fn set_values(&mut self, values: Buffer<T>)
+        requires { length values ≡ length self.old.rows }
+        ensures { self.new ≡ with_stored self.old values }
+    {
+        self.column.set_values(values);
+    }
+
+    /// As many other stored values under the same marks.
+    pub fn with_values(mut self, values: Buffer<T>) -> Self
+        requires { length values ≡ length self.rows }
+        ensures { result ≡ with_stored self values }
+    {
+        self.set_values(values);
+        self
+    }
+
+    /// Lends the stored values to be written to, where no one else has them, and tells whether it did. The marks
+    /// stay.
+    pub fn get_mut_values<F: FnOnce(&mut [T]) + Drop>(&mut self, change: F) -> bool
+        requires { (values : MutBor (List T)) → values.now ≡ stored_values self.old → F.pre change values }
+        ensures changed { IsTrue result → (ws : List T) × FnOnceReturnsAtMut F.FnOnce change (stored_values self.old) tt ws × (length ws ≡ length self.old.rows) × (self.new ≡ with_stored self.old ws) }
+        ensures unchanged { OnFalse result (self.new ≡ self.old) }
+    {
+        self.column.get_mut_values(change)
+    }
+
+    /// The builder of the same slots, where no one else has the values or the mask and both are shown from the
+    /// first on, the values whole; else the array as it is.
+    pub fn into_mut(self) -> Either<Self, MutablePrimitiveArray<T>>
+        ensures { MatchEither result (λ array. array ≡ self) (λ builder. builder ≡ self) }
+    {
+        match self.column.into_mut() {
+            Left(column) => Left(PrimitiveArray { column }),
+            Right(column) => Right(MutablePrimitiveArray { column }),
+        }
+    }
+}
+
+impl<T: NativeType> MutablePrimitiveArray<T> {
+    /// Replaces the mask, which has a mark for each slot; without one every slot is valid.
+    pub fn set_validity(&mut self, validity: Option<MutableBitmap>)
+        requires { IfSome validity (λ marks. length marks ≡ length self.old.rows) }
+        ensures { self.new ≡ with_mask self.old validity }
+    {
+        self.column.set_validity(validity);
+    }
+
+    /// Replaces the stored values by as many others. The marks stay.
+    pub fn set_values(&mut self, values: Vec<T>)
+        requires { length values.items ≡ length self.old.rows }
+        ensures { self.new ≡ with_stored self.old values.items }
+    {
+        self.column.set_values(values);
+    }
+
+    /// Replaces the stored values by what the closure makes of them, as many. The marks stay.
+    pub fn apply_values<F: Fn(Vec<T>) -> Vec<T>>(&mut self, change: F)
+        requires callable { (values : _) → values.items ≡ stored_values self.old → F.pre change values }
+        requires keeps { (values changed : _) → values.items ≡ stored_values self.old → F.post change values changed → vec_len changed ≡ length self.old.rows }
+        ensures { (values : _) × (changed : _) × (values.items ≡ stored_values self.old) × F.post change values changed × (vec_len changed ≡ length self.old.rows) × (self.new ≡ with_stored self.old changed.items) }
+    {
+        self.column.apply_values(change);
+    }
+}
