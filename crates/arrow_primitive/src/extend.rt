@@ -20,10 +20,7 @@ impl<T: NativeType> MutablePrimitiveArray<T> {
         ensures ok { OnOk result ((items : List (Option T)) × Drains I.next_gives iter items × (self.new ≡ append_slots T.zero self.old items)) }
         ensures err { IfErr result (λ e. (e ≡ Error.OutOfMemory) × ((begun : List (Option T)) × (rest : I) × Yields I.next_gives iter begun rest × (self.new ≡ append_slots T.zero self.old begun))) }
     {
-        match self.column.extend(iter) {
-            Ok(()) => Ok(()),
-            Err(refused) => Err(refused),
-        }
+        self.column.extend(iter)
     }
 
     /// Appends the slots that an iterator gives, as `extend` does.
@@ -49,10 +46,7 @@ impl<T: NativeType> MutablePrimitiveArray<T> {
         ensures ok { OnOk result ((items : List T) × Drains I.next_gives iter items × (self.new ≡ append_slots T.zero self.old (map Some items))) }
         ensures err { IfErr result (λ e. (e ≡ Error.OutOfMemory) × ((begun : List T) × (rest : I) × Yields I.next_gives iter begun rest × (self.new ≡ append_slots T.zero self.old (map Some begun)))) }
     {
-        match self.column.extend_values(iter) {
-            Ok(()) => Ok(()),
-            Err(refused) => Err(refused),
-        }
+        self.column.extend_values(iter)
     }
 
     /// Appends valid slots of these values.

@@ -19,6 +19,7 @@ impl<V: MutableValues> GrowingColumn<V> {
         V: PushValue<X>,
         requires can { I.can_next slots }
         requires ends { IsFinite (I.remaining slots) }
+        ensures data_type { self.new.data_type ≡ self.old.data_type }
         ensures ok { OnOk result ((items : List (Option X)) × Drains I.next_gives slots items × (slots_fit V.overflows V.shown V.default self.old items ≡ true) × (self.new ≡ append_slots V.default self.old (map (option_map V.shown) items))) }
         ensures err { IfErr result (λ e. (begun : List (Option X)) × (last : Option X) × (rest : I) × YieldsThen I.next_gives slots begun (Some last) rest × (slots_fit V.overflows V.shown V.default self.old begun ≡ true) × (self.new ≡ append_slots V.default self.old (map (option_map V.shown) begun)) × (e ≡ refused_growth (slot_overflows V.overflows self.new last))) }
     {
@@ -38,6 +39,7 @@ impl<V: MutableValues> GrowingColumn<V> {
         V: PushValue<X>,
         requires can { I.can_next values }
         requires ends { IsFinite (I.remaining values) }
+        ensures data_type { self.new.data_type ≡ self.old.data_type }
         ensures ok { OnOk result ((items : List X) × Drains I.next_gives values items × (slots_fit V.overflows V.shown V.default self.old (map Some items) ≡ true) × (self.new ≡ append_slots V.default self.old (map (λ x. Some (V.shown x)) items))) }
         ensures err { IfErr result (λ e. (begun : List X) × (last : X) × (rest : I) × YieldsThen I.next_gives values begun (Some last) rest × (slots_fit V.overflows V.shown V.default self.old (map Some begun) ≡ true) × (self.new ≡ append_slots V.default self.old (map (λ x. Some (V.shown x)) begun)) × (e ≡ refused_growth (V.overflows self.new.around (stored_values self.new) last))) }
     {
@@ -55,6 +57,7 @@ impl<V: MutableValues> GrowingColumn<V> {
     pub fn extend_from_slots<X: Copy>(&mut self, slots: &[Option<X>]) -> Result<(), Error>
     where
         V: PushValue<X>,
+        ensures data_type { self.new.data_type ≡ self.old.data_type }
         ensures ok { OnOk result ((slots_fit V.overflows V.shown V.default self.old slots.now ≡ true) × (self.new ≡ append_slots V.default self.old (map (option_map V.shown) slots.now))) }
         ensures err { IfErr result (λ e. (begun rest : List (Option X)) × (last : Option X) × (slots.now ≡ begun ++ last ∷ rest) × (slots_fit V.overflows V.shown V.default self.old begun ≡ true) × (self.new ≡ append_slots V.default self.old (map (option_map V.shown) begun)) × (e ≡ refused_growth (slot_overflows V.overflows self.new last))) }
     {

@@ -131,6 +131,7 @@ impl<V: MutableValues> GrowingColumn<V> {
     /// `OutOfMemory` where a growth is refused; the column is then as before.
     #[inline(always)]
     pub fn push_null(&mut self) -> Result<(), Error>
+        ensures data_type { self.new.data_type ≡ self.old.data_type }
         ensures ok { OnOk result (self.new ≡ append_slot V.default self.old None) }
         ensures err { IfErr result (λ e. (e ≡ Error.OutOfMemory) × (self.new ≡ self.old)) }
     {
@@ -155,6 +156,7 @@ impl<V: MutableValues> GrowingColumn<V> {
     pub fn push_valid<X>(&mut self, value: X) -> Result<(), Error>
     where
         V: PushValue<X>,
+        ensures data_type { self.new.data_type ≡ self.old.data_type }
         ensures ok { OnOk result ((V.overflows self.old.around (stored_values self.old) value ≡ false) × (self.new ≡ append_slot V.default self.old (Some (V.shown value)))) }
         ensures err { IfErr result (λ e. (e ≡ refused_growth (V.overflows self.old.around (stored_values self.old) value)) × (self.new ≡ self.old)) }
     {
@@ -178,6 +180,7 @@ impl<V: MutableValues> GrowingColumn<V> {
     pub fn push<X>(&mut self, slot: Option<X>) -> Result<(), Error>
     where
         V: PushValue<X>,
+        ensures data_type { self.new.data_type ≡ self.old.data_type }
         ensures ok { OnOk result ((slot_overflows V.overflows self.old slot ≡ false) × (self.new ≡ append_slot V.default self.old (option_map V.shown slot))) }
         ensures err { IfErr result (λ e. (e ≡ refused_growth (slot_overflows V.overflows self.old slot)) × (self.new ≡ self.old)) }
     {

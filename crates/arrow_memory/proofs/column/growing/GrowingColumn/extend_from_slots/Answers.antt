@@ -17,6 +17,7 @@ loop-slot-preserved g c =
     let more = take_more slots i x c.loop-slot-test.true ∙ ap (λ y. take i slots ++ y ∷ []) (sym c.slot-item.is) in (
       pushed.1 ∙ ap (λ column. append_slot V.default column (option_map P.shown x)) so_far.0 ∙ sym (appended-to P.shown V.default c.args.self.now (take i slots) (take (i + 1) slots) x more),
       fit-to P.overflows P.shown V.default c.args.self.now (take i slots) (take (i + 1) slots) x more so_far.1 (ap (λ column. slot_overflows P.overflows column x) (sym so_far.0) ∙ pushed.0),
+      c.in-Ok.ensures.data_type ∙ so_far.2,
     )
 
 pub returns-in-Err-clause-err : goal.returns-in-Err-clause-err
