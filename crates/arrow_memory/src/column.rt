@@ -13,4 +13,5 @@ mod values;
 
 pub use frozen::FrozenColumn;
 pub use growing::GrowingColumn;
+pub use mask::{is_growing_mask_of, is_mask_of};
 pub use values::{Grow, MutableValues, PushValue, Repeated, SetValue, Values};

@@ -55,8 +55,15 @@ pub enum DataType {
 }
 
 impl DataType {
-    ghost use Rattle.std.specs.Prelude.{◌≡◌};
-    ghost use Rattle.arrow_types.specs.Types.{logical_type, physical_type};
+    ghost use Rattle.std.specs.Prelude.{◌≡◌, IsTrue, ◌↔◌};
+    ghost use Rattle.arrow_types.specs.Types.{logical_type, physical_type, IsRightType};
+
+    /// Whether this type is right for values that lie in memory in such a way.
+    pub fn is_right_for(&self, physical: PhysicalType) -> bool
+        ensures { IsTrue result ↔ IsRightType physical (logical_type self.now) }
+    {
+        self.to_physical_type() == physical
+    }
 
     /// How the values of this type lie in memory; an extension's lie as those of what it extends.
     pub fn to_physical_type(&self) -> PhysicalType

@@ -1,5 +1,5 @@
 //! Masks, which are held or not.
-ghost use Rattle.std.specs.Prelude.{slice_set, ◌≡◌, ◌<◌, Bool, true, false, [], ◌∷◌, ◌++◌, replicate, Some, option_map, unwrap_or, vec_len, vec_capacity, length, take, drop, ◌+◌, ◌≤◌, IfSome, IfNone, OnOk, IfOk, IfErr};
+ghost use Rattle.std.specs.Prelude.{IsTrue, ◌↔◌, slice_set, ◌≡◌, ◌<◌, Bool, true, false, [], ◌∷◌, ◌++◌, replicate, Some, option_map, unwrap_or, vec_len, vec_capacity, length, take, drop, ◌+◌, ◌≤◌, IfSome, IfNone, OnOk, IfOk, IfErr};
 ghost use Rattle.arrow_memory.specs.Column.{joined_mask, mask_with_nulls};
 
 use crate::bitmap::{Bitmap, MutableBitmap};
@@ -269,5 +269,27 @@ pub(crate) fn share_mask(validity: &Option<Bitmap>) -> Result<Option<Bitmap>, Er
     match validity {
         None => Ok(None),
         Some(marks) => Ok(Some(marks.clone()?)),
+    }
+}
+
+/// Whether a mask, where there is one, has a mark for each of so many slots.
+#[inline(always)]
+pub fn is_mask_of(validity: &Option<Bitmap>, slots: usize) -> bool
+    ensures { IsTrue result ↔ IfSome validity.now (λ marks. length marks ≡ slots) }
+{
+    match validity {
+        None => true,
+        Some(marks) => marks.len() == slots,
+    }
+}
+
+/// Whether a growing mask, where there is one, has a mark for each of so many slots.
+#[inline(always)]
+pub fn is_growing_mask_of(validity: &Option<MutableBitmap>, slots: usize) -> bool
+    ensures { IsTrue result ↔ IfSome validity.now (λ marks. length marks ≡ slots) }
+{
+    match validity {
+        None => true,
+        Some(marks) => marks.len() == slots,
     }
 }

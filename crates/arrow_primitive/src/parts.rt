@@ -1,0 +1,89 @@
+//! Arrays and builders made of parts from outside, which are tested.
+ghost use Rattle.std.specs.Prelude.{◌≡◌, IsOkAnd, IsErrAnd};
+ghost use Rattle.arrow_types.specs.Types.{logical_type, refusal, IsRightType};
+ghost use Rattle.arrow_memory.specs.Column.{FitsMask, column_of_parts};
+ghost use Rattle.arrow_primitive.specs.Fits.{unfit_mask, wrong_type};
+
+use crate::{MutablePrimitiveArray, PrimitiveArray};
+use arrow_memory::bitmap::{Bitmap, MutableBitmap};
+use arrow_memory::buffer::Buffer;
+use arrow_memory::column::{GrowingColumn, is_growing_mask_of, is_mask_of};
+use arrow_types::data_type::DataType;
+use arrow_types::error::Error;
+use arrow_types::native_type::NativeType;
+use arrow_types::physical_type::PhysicalType;
+
+/// The text of the refusal of a mask.
+const UNFIT_MASK: &str = "validity mask length must match the number of values";
+
+/// The text of the refusal of a type.
+const WRONG_TYPE: &str =
+    "PrimitiveArray can only be initialized with a DataType whose physical type is Primitive";
+
+impl<T: NativeType> PrimitiveArray<T> {
+    /// The array of such parts.
+    ///
+    /// # Errors
+    /// `OutOfSpec` where a mask has another number of marks than there are values, or else where the type is none
+    /// of the array's physical type.
+    pub fn try_new(
+        data_type: DataType,
+        values: Buffer<T>,
+        validity: Option<Bitmap>,
+    ) -> Result<Self, Error>
+        ensures fit { FitsMask values validity → IsRightType (PhysicalType.Primitive T.PRIMITIVE) (logical_type data_type) → IsOkAnd result (λ array. array ≡ column_of_parts (logical_type data_type) values validity) }
+        ensures mask { (FitsMask values validity → ⊥) → IsErrAnd result (λ e. refusal e ≡ unfit_mask) }
+        ensures data_type { FitsMask values validity → (IsRightType (PhysicalType.Primitive T.PRIMITIVE) (logical_type data_type) → ⊥) → IsErrAnd result (λ e. refusal e ≡ wrong_type) }
+    {
+        if !is_mask_of(&validity, values.len()) {
+            return Err(Error::OutOfSpec(UNFIT_MASK));
+        }
+        if !data_type.is_right_for(PhysicalType::Primitive(T::PRIMITIVE)) {
+            return Err(Error::OutOfSpec(WRONG_TYPE));
+        }
+        Ok(PrimitiveArray::new(data_type, values, validity))
+    }
+
+    /// The array of such parts, as `try_new` makes it.
+    ///
+    /// # Errors
+    /// As of `try_new`.
+    pub fn from_inner(
+        data_type: DataType,
+        values: Buffer<T>,
+        validity: Option<Bitmap>,
+    ) -> Result<Self, Error>
+        ensures fit { FitsMask values validity → IsRightType (PhysicalType.Primitive T.PRIMITIVE) (logical_type data_type) → IsOkAnd result (λ array. array ≡ column_of_parts (logical_type data_type) values validity) }
+        ensures mask { (FitsMask values validity → ⊥) → IsErrAnd result (λ e. refusal e ≡ unfit_mask) }
+        ensures data_type { FitsMask values validity → (IsRightType (PhysicalType.Primitive T.PRIMITIVE) (logical_type data_type) → ⊥) → IsErrAnd result (λ e. refusal e ≡ wrong_type) }
+    {
+        PrimitiveArray::try_new(data_type, values, validity)
+    }
+}
+
+impl<T: NativeType> MutablePrimitiveArray<T> {
+    /// The builder of such parts.
+    ///
+    /// # Errors
+    /// `OutOfSpec` where a mask has another number of marks than there are values, or else where the type is none
+    /// of the builder's physical type.
+    pub fn try_new(
+        data_type: DataType,
+        values: Vec<T>,
+        validity: Option<MutableBitmap>,
+    ) -> Result<Self, Error>
+        ensures fit { FitsMask values.items validity → IsRightType (PhysicalType.Primitive T.PRIMITIVE) (logical_type data_type) → IsOkAnd result (λ builder. builder ≡ column_of_parts (logical_type data_type) values.items validity) }
+        ensures mask { (FitsMask values.items validity → ⊥) → IsErrAnd result (λ e. refusal e ≡ unfit_mask) }
+        ensures data_type { FitsMask values.items validity → (IsRightType (PhysicalType.Primitive T.PRIMITIVE) (logical_type data_type) → ⊥) → IsErrAnd result (λ e. refusal e ≡ wrong_type) }
+    {
+        if !is_growing_mask_of(&validity, values.len()) {
+            return Err(Error::OutOfSpec(UNFIT_MASK));
+        }
+        if !data_type.is_right_for(PhysicalType::Primitive(T::PRIMITIVE)) {
+            return Err(Error::OutOfSpec(WRONG_TYPE));
+        }
+        Ok(MutablePrimitiveArray {
+            column: GrowingColumn::new(data_type, values, validity),
+        })
+    }
+}
