@@ -89,6 +89,28 @@ pub extern "C" fn rattle_flat_bits_unset(
     told(unset(alloc, pattern, times, rounds))
 }
 
+fn freeze_unset(alloc: Global, pattern: &[u8], times: usize, rounds: usize) -> Option<u64> {
+    let mut bitmap = marks(alloc, pattern, times)?;
+    let mut sum = 0usize;
+    for _ in 0..rounds {
+        let frozen = bitmap.freeze().ok()?;
+        sum = sum.wrapping_add(frozen.unset_bits());
+        bitmap = frozen.into_mut().right()?;
+    }
+    Some(sum as u64)
+}
+
+// sum: unset_bits after freeze; then into_mut, which gives the bits of the next round
+#[unsafe(no_mangle)]
+pub extern "C" fn rattle_flat_bits_freeze_unset(
+    alloc: Global,
+    pattern: &[u8],
+    times: usize,
+    rounds: usize,
+) -> u64 {
+    told(freeze_unset(alloc, pattern, times, rounds))
+}
+
 #[inline(never)]
 fn set_by_iter(bitmap: &Bitmap, start: u64) -> u64 {
     let mut sum = start;

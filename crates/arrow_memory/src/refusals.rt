@@ -1,22 +1,21 @@
 //! What is answered where memory is refused. A test that met a refusal, and the right answer to it, fails with
 //! the word `refused`, and only so: the script `refusals` has each allocation refused in turn, until no test fails.
+ghost use Rattle.std.specs.Prelude.{◌≡◌, length};
+
 use crate::bitmap::{Bitmap, BitmapIter, MutableBitmap};
 use crate::buffer::Buffer;
 use arrow_types::error::Error;
 use std::alloc::Global;
 use std::test::Fail;
 
-/// Whether a call was refused memory.
-fn is_refused<T>(answer: &Result<T, Error>) -> bool {
-    matches!(answer, Err(Error::OutOfMemory))
-}
-
-/// How a test ends.
-fn told(refused: bool) -> Result<(), Fail> {
-    if refused {
-        return Err(Fail::from("refused"));
+/// How a test ends whose calls gave what they should, or something else, or were refused.
+pub(crate) fn told(answer: Result<bool, Error>) -> Result<(), Fail> {
+    match answer {
+        Ok(true) => Ok(()),
+        Ok(false) => Err(Fail::from("a wrong answer")),
+        Err(Error::OutOfMemory) => Err(Fail::from("refused")),
+        Err(_) => Err(Fail::from("another refusal than of memory")),
     }
-    Ok(())
 }
 
 /// Whether so many marks are given, of which every third is set, the first one too.
@@ -29,95 +28,131 @@ fn gives_thirds(mut marks: BitmapIter<'_>, count: usize) -> bool {
     marks.next().is_none()
 }
 
-/// A refused push leaves the marks, and the next try succeeds.
+/// Whether a refused push leaves the marks, and the next try succeeds.
+fn pushed(alloc: Global) -> Result<bool, Error> {
+    let mut marks = MutableBitmap::new(alloc);
+    for index in 0..600 {
+        if let Err(refused) = marks.push(index % 3 == 0) {
+            let is_left = gives_thirds(marks.iter(), index);
+            marks.push(true)?;
+            return if is_left { Err(refused) } else { Ok(false) };
+        }
+    }
+    Ok(gives_thirds(marks.iter(), 600))
+}
+
 #[test]
 fn push(rt: HostRuntime) -> Result<(), Fail> {
-    let mut marks = MutableBitmap::new(rt.alloc());
-    let mut refused = false;
-    for index in 0..600 {
-        let answer = marks.push(index % 3 == 0);
-        if answer.is_err() {
-            assert!(rt; is_refused(&answer) && gives_thirds(marks.iter(), index));
-            marks.push(index % 3 == 0)?;
-            refused = true;
-        }
-    }
-    assert!(rt; gives_thirds(marks.iter(), 600));
-    told(refused)
+    told(pushed(rt.alloc()))
 }
 
-/// A refused extension leaves the marks, and the next try succeeds.
+/// Whether a refused extension leaves the marks, and the next try succeeds.
+fn extended(alloc: Global) -> Result<bool, Error> {
+    let mut marks = MutableBitmap::new(alloc);
+    for (length, count) in [(0, 5), (5, 100), (105, 1000)] {
+        if let Err(refused) = marks.extend_constant(count, true) {
+            let is_left = marks.len() == length && marks.unset_bits() == 0;
+            marks.extend_constant(count, true)?;
+            return if is_left { Err(refused) } else { Ok(false) };
+        }
+    }
+    Ok(marks.len() == 1105 && marks.unset_bits() == 0)
+}
+
 #[test]
 fn extend_constant(rt: HostRuntime) -> Result<(), Fail> {
-    let mut marks = MutableBitmap::new(rt.alloc());
-    let mut refused = false;
-    for (length, count) in [(0, 5), (5, 100), (105, 1000)] {
-        let answer = marks.extend_constant(count, true);
-        if answer.is_err() {
-            assert!(rt; is_refused(&answer) && marks.len() == length && marks.unset_bits() == 0);
-            marks.extend_constant(count, true)?;
-            refused = true;
-        }
-    }
-    assert!(rt; marks.len() == 1105 && marks.unset_bits() == 0);
-    told(refused)
+    told(extended(rt.alloc()))
 }
 
-/// More than `usize::MAX` marks, and as many as are counted but not held, are always refused.
+/// Whether marks that are copied behind one are there, or that one is left.
+fn joined(alloc: Global) -> Result<bool, Error> {
+    let mut marks = MutableBitmap::from_slice(alloc, [true].as_slice())?;
+    let more = Bitmap::new_zeroed(alloc, 100)?.into_mut().right();
+    let Some(more) = more else {
+        return Ok(false);
+    };
+    if let Err(refused) = marks.extend_from_bitmap(&more) {
+        let is_left = gives_thirds(marks.iter(), 1);
+        return if is_left { Err(refused) } else { Ok(false) };
+    }
+    Ok(marks.len() == 101 && marks.unset_bits() == 100)
+}
+
 #[test]
-fn marks_that_no_memory_holds(rt: HostRuntime) -> Result<(), Fail> {
-    let mut marks = MutableBitmap::new(rt.alloc());
-    if marks.push(true).is_err() {
-        return told(true);
-    }
-    for count in [usize::MAX, usize::MAX - 1, usize::MAX - 8] {
-        let answer = marks.extend_constant(count, false);
-        assert!(rt;
-            is_refused(&answer) && gives_thirds(marks.iter(), 1),
-            "{count}"
-        );
-    }
-    Ok(())
+fn extend_from_bitmap(rt: HostRuntime) -> Result<(), Fail> {
+    told(joined(rt.alloc()))
 }
 
-/// One mark, frozen and shared.
-fn shared(alloc: Global) -> Result<(Bitmap, Bitmap), Error> {
+/// Whether so many clear marks are refused behind one, and that one is left.
+fn is_too_many(alloc: Global, count: usize) -> Result<bool, Error> {
     let mut marks = MutableBitmap::new(alloc);
     marks.push(true)?;
-    let first = marks.freeze()?;
-    let second = first.clone()?;
-    Ok((first, second))
+    let answer = marks.extend_constant(count, false);
+    Ok(matches!(answer, Err(Error::OutOfMemory)) && gives_thirds(marks.iter(), 1))
 }
 
-/// Marks that are refused memory when they are frozen are lost. Where the copy that `apply_mut` makes of shared
-/// marks is refused, they are as before and the closure is not called.
+/// More than `usize::MAX` marks.
 #[test]
-fn frozen_marks(rt: HostRuntime) -> Result<(), Fail> {
-    let answer = shared(rt.alloc());
-    let Ok((first, mut second)) = answer else {
-        assert!(rt; is_refused(&answer));
-        return told(true);
-    };
-    let answer = second.apply_mut(|marks| marks);
-    assert!(rt; answer.is_ok() || is_refused(&answer));
-    assert!(rt; gives_thirds(first.iter(), 1) && gives_thirds(second.iter(), 1));
-    told(answer.is_err())
+fn marks_that_no_number_counts(rt: HostRuntime) -> Result<(), Fail> {
+    told(is_too_many(rt.alloc(), usize::MAX))
 }
 
-/// A buffer of two values, and an empty one.
-fn filled(alloc: Global) -> Result<(Buffer<i64>, Buffer<i64>), Error> {
+/// As many as are counted but not held.
+#[test]
+fn marks_that_no_memory_holds(rt: HostRuntime) -> Result<(), Fail> {
+    told(is_too_many(rt.alloc(), usize::MAX - 8))
+}
+
+/// Whether a change of shared marks is made in a copy, or, where that is refused, the marks are as before and
+/// the closure is not called.
+fn changed(alloc: Global) -> Result<bool, Error> {
+    let first = Bitmap::from_slice(alloc, [true].as_slice())?;
+    let mut second = first.clone()?;
+    if let Err(refused) = second.apply_mut(cleared) {
+        let is_left = gives_thirds(second.iter(), 1);
+        return if is_left { Err(refused) } else { Ok(false) };
+    }
+    Ok(gives_thirds(first.iter(), 1) && second.unset_bits() == 1)
+}
+
+/// Clears the first mark.
+fn cleared(marks: MutableBitmap) -> MutableBitmap
+    ensures { length result ≡ length marks }
+{
+    let mut marks = marks;
+    if marks.len() > 0 {
+        marks.set(0, false);
+    }
+    marks
+}
+
+#[test]
+fn apply_mut(rt: HostRuntime) -> Result<(), Fail> {
+    told(changed(rt.alloc()))
+}
+
+/// Whether copies of marks are there.
+fn copied(alloc: Global) -> Result<bool, Error> {
+    let mut marks = MutableBitmap::with_capacity(alloc, 9)?;
+    marks.reserve(100)?;
+    let copy = marks.clone()?;
+    Ok(copy.len() == 0)
+}
+
+#[test]
+fn copies_of_marks(rt: HostRuntime) -> Result<(), Fail> {
+    told(copied(rt.alloc()))
+}
+
+/// Whether buffers have their values.
+fn filled(alloc: Global) -> Result<bool, Error> {
     let buffer = Buffer::from_vec([7, 8].to_vec(alloc)?)?;
-    Ok((buffer.clone()?, Buffer::new(alloc)?))
+    let copy = buffer.clone()?;
+    let empty = Buffer::<i64>::new(alloc)?;
+    Ok(copy.as_slice() == [7, 8].as_slice() && empty.len() == 0)
 }
 
-/// A buffer that is refused memory is lost.
 #[test]
 fn buffers(rt: HostRuntime) -> Result<(), Fail> {
-    let answer = filled(rt.alloc());
-    let Ok((buffer, empty)) = answer else {
-        assert!(rt; is_refused(&answer));
-        return told(true);
-    };
-    assert!(rt; buffer.as_slice() == [7, 8].as_slice() && empty.len() == 0);
-    Ok(())
+    told(filled(rt.alloc()))
 }

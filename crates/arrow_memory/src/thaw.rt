@@ -1,12 +1,91 @@
-//! Thawing the parts of an array together.
-ghost use Rattle.std.specs.Prelude.{◌≡◌};
+//! Thawing the parts of an array together: all of them, or none.
+ghost use Rattle.std.specs.Prelude.{◌≡◌, ◌≤◌, length, take, MatchOption, IsTrue};
 ghost use Rattle.either.specs.Either.{MatchEither};
+ghost use Rattle.arrow_memory.specs.Offsets.{last_of};
 
 use crate::bitmap::{Bitmap, MutableBitmap};
 use crate::buffer::Buffer;
+use crate::offset::{Offsets, OffsetsBuffer};
+use arrow_types::offset::Offset;
 use either::{Either, Left, Right};
 use std::mem;
 use std::rc::Rc;
+
+/// Takes two vectors out where that is asked for and no one else has either. Both are held for writing before
+/// one is taken, and empty ones, which need no memory, are left.
+fn take_two<S, T>(
+    asked: bool,
+    first: &mut Rc<Vec<S>>,
+    second: &mut Rc<Vec<T>>,
+) -> Option<(Vec<S>, Vec<T>)>
+    ensures { MatchOption result ((first.new.value ≡ first.old.value) × (second.new.value ≡ second.old.value)) (λ taken. IsTrue asked × (taken.0 ≡ first.old.value) × (taken.1 ≡ second.old.value)) }
+{
+    if !asked {
+        return None;
+    }
+    let Some(first) = Rc::get_mut(first) else {
+        return None;
+    };
+    let Some(second) = Rc::get_mut(second) else {
+        return None;
+    };
+    let first_empty = Vec::new(*first.allocator());
+    let second_empty = Vec::new(*second.allocator());
+    Some((
+        mem::replace(first, first_empty),
+        mem::replace(second, second_empty),
+    ))
+}
+
+/// Takes three vectors out, likewise.
+fn take_three<S, T, U>(
+    asked: bool,
+    first: &mut Rc<Vec<S>>,
+    second: &mut Rc<Vec<T>>,
+    third: &mut Rc<Vec<U>>,
+) -> Option<(Vec<S>, Vec<T>, Vec<U>)>
+    ensures { MatchOption result ((first.new.value ≡ first.old.value) × (second.new.value ≡ second.old.value) × (third.new.value ≡ third.old.value)) (λ taken. IsTrue asked × (taken.0 ≡ first.old.value) × (taken.1 ≡ second.old.value) × (taken.2 ≡ third.old.value)) }
+{
+    if !asked {
+        return None;
+    }
+    let Some(first) = Rc::get_mut(first) else {
+        return None;
+    };
+    let Some(second) = Rc::get_mut(second) else {
+        return None;
+    };
+    let Some(third) = Rc::get_mut(third) else {
+        return None;
+    };
+    let first_empty = Vec::new(*first.allocator());
+    let second_empty = Vec::new(*second.allocator());
+    let third_empty = Vec::new(*third.allocator());
+    Some((
+        mem::replace(first, first_empty),
+        mem::replace(second, second_empty),
+        mem::replace(third, third_empty),
+    ))
+}
+
+/// Thaws values and their mask.
+fn thaw_values<T: Drop>(
+    values: Buffer<T>,
+    mask: Bitmap,
+) -> Either<(Buffer<T>, Bitmap), (Vec<T>, MutableBitmap)>
+    ensures { MatchEither result (λ parts. (parts.0 ≡ values) × (parts.1 ≡ mask)) (λ parts. (parts.0.items ≡ values) × (parts.1 ≡ mask)) }
+{
+    let (mut items, offset, length) = values.into_parts();
+    let (mut bytes, first, marks, unset) = mask.into_parts();
+    let is_whole = (offset == 0) & (length == items.len()) & (first == 0);
+    match take_two(is_whole, &mut items, &mut bytes) {
+        Some((items, bytes)) => Right((items, MutableBitmap::from_bytes(bytes, marks))),
+        None => Left((
+            Buffer::from_parts(items, offset, length),
+            Bitmap::from_parts(bytes, first, marks, unset),
+        )),
+    }
+}
 
 /// The vector of the values and the marks to change, where no one else has either and both are shown
 /// from the first on, the values whole; else the parts as given.
@@ -16,73 +95,142 @@ pub fn into_mut_values<T: Drop>(
 ) -> Either<(Buffer<T>, Option<Bitmap>), (Vec<T>, Option<MutableBitmap>)>
     ensures { MatchEither result (λ parts. (parts.0 ≡ values) × (parts.1 ≡ validity)) (λ parts. (parts.0.items ≡ values) × (parts.1 ≡ validity)) }
 {
-    let Some(validity) = validity else {
-        return match values.into_mut() {
+    match validity {
+        None => match values.into_mut() {
             Left(values) => Left((values, None)),
             Right(values) => Right((values, None)),
-        };
-    };
-    let Buffer {
-        mut items,
-        offset,
-        length,
-    } = values;
-    let Bitmap {
-        mut bytes,
-        offset: first,
-        length: marks,
-        unset,
-    } = validity;
-    if offset != 0 || length != items.len() || first != 0 {
-        return Left((
-            Buffer {
-                items,
-                offset,
-                length,
-            },
-            Some(Bitmap {
-                bytes,
-                offset: first,
-                length: marks,
-                unset,
-            }),
-        ));
+        },
+        Some(mask) => match thaw_values(values, mask) {
+            Left((values, mask)) => Left((values, Some(mask))),
+            Right((values, mask)) => Right((values, Some(mask))),
+        },
     }
-    let Some(all_items) = Rc::get_mut(&mut items) else {
-        return Left((
-            Buffer {
-                items,
-                offset,
-                length,
-            },
-            Some(Bitmap {
-                bytes,
-                offset: first,
-                length: marks,
-                unset,
-            }),
-        ));
-    };
-    let Some(all_bytes) = Rc::get_mut(&mut bytes) else {
-        return Left((
-            Buffer {
-                items,
-                offset,
-                length,
-            },
-            Some(Bitmap {
-                bytes,
-                offset: first,
-                length: marks,
-                unset,
-            }),
-        ));
-    };
-    let items_alloc = *all_items.allocator();
-    let bytes_alloc = *all_bytes.allocator();
-    let values = mem::replace(all_items, Vec::new(items_alloc));
-    let bytes = mem::replace(all_bytes, Vec::new(bytes_alloc));
-    Right((values, Some(MutableBitmap::from_bytes(bytes, marks))))
+}
+
+/// Thaws bits and their mask.
+fn thaw_bits(
+    values: Bitmap,
+    mask: Bitmap,
+) -> Either<(Bitmap, Bitmap), (MutableBitmap, MutableBitmap)>
+    ensures { MatchEither result (λ parts. (parts.0 ≡ values) × (parts.1 ≡ mask)) (λ parts. (parts.0 ≡ values) × (parts.1 ≡ mask)) }
+{
+    let (mut bits, offset, length, clear) = values.into_parts();
+    let (mut bytes, first, marks, unset) = mask.into_parts();
+    match take_two((offset == 0) & (first == 0), &mut bits, &mut bytes) {
+        Some((bits, bytes)) => Right((
+            MutableBitmap::from_bytes(bits, length),
+            MutableBitmap::from_bytes(bytes, marks),
+        )),
+        None => Left((
+            Bitmap::from_parts(bits, offset, length, clear),
+            Bitmap::from_parts(bytes, first, marks, unset),
+        )),
+    }
+}
+
+/// The bits and the marks to change, where no one else has either and both are shown from the first on;
+/// else the parts as given.
+pub fn into_mut_bits(
+    values: Bitmap,
+    validity: Option<Bitmap>,
+) -> Either<(Bitmap, Option<Bitmap>), (MutableBitmap, Option<MutableBitmap>)>
+    ensures { MatchEither result (λ parts. (parts.0 ≡ values) × (parts.1 ≡ validity)) (λ parts. (parts.0 ≡ values) × (parts.1 ≡ validity)) }
+{
+    match validity {
+        None => match values.into_mut() {
+            Left(values) => Left((values, None)),
+            Right(values) => Right((values, None)),
+        },
+        Some(mask) => match thaw_bits(values, mask) {
+            Left((values, mask)) => Left((values, Some(mask))),
+            Right((values, mask)) => Right((values, Some(mask))),
+        },
+    }
+}
+
+/// Thaws offsets and the bytes of their slots.
+fn thaw_slots<O: Offset>(
+    offsets: OffsetsBuffer<O>,
+    values: Buffer<u8>,
+) -> Either<(OffsetsBuffer<O>, Buffer<u8>), (Offsets<O>, Vec<u8>)>
+    requires { last_of offsets ≤ length values }
+    ensures { MatchEither result (λ parts. (parts.0 ≡ offsets) × (parts.1 ≡ values)) (λ parts. (parts.0 ≡ offsets) × (parts.1.items ≡ take (last_of offsets) values)) }
+{
+    let end = offsets.last().to_usize();
+    let OffsetsBuffer { offsets } = offsets;
+    let (mut ends, offset, count) = offsets.into_parts();
+    let (mut bytes, start, length) = values.into_parts();
+    let is_whole = (offset == 0) & (count == ends.len()) & (start == 0);
+    match take_two(is_whole, &mut ends, &mut bytes) {
+        Some((offsets, mut bytes)) => {
+            bytes.truncate(end);
+            Right((Offsets { offsets }, bytes))
+        }
+        None => {
+            let offsets = Buffer::from_parts(ends, offset, count);
+            Left((
+                OffsetsBuffer { offsets },
+                Buffer::from_parts(bytes, start, length),
+            ))
+        }
+    }
+}
+
+/// Thaws offsets, the bytes of their slots and a mask.
+fn thaw_slots_with_mask<O: Offset>(
+    offsets: OffsetsBuffer<O>,
+    values: Buffer<u8>,
+    mask: Bitmap,
+) -> Either<(OffsetsBuffer<O>, Buffer<u8>, Bitmap), (Offsets<O>, Vec<u8>, MutableBitmap)>
+    requires { last_of offsets ≤ length values }
+    ensures { MatchEither result (λ parts. (parts.0 ≡ offsets) × (parts.1 ≡ values) × (parts.2 ≡ mask)) (λ parts. (parts.0 ≡ offsets) × (parts.1.items ≡ take (last_of offsets) values) × (parts.2 ≡ mask)) }
+{
+    let end = offsets.last().to_usize();
+    let OffsetsBuffer { offsets } = offsets;
+    let (mut ends, offset, count) = offsets.into_parts();
+    let (mut bytes, start, length) = values.into_parts();
+    let (mut bits, first, marks, unset) = mask.into_parts();
+    let is_whole = (offset == 0) & (count == ends.len()) & (start == 0) & (first == 0);
+    match take_three(is_whole, &mut ends, &mut bytes, &mut bits) {
+        Some((offsets, mut bytes, bits)) => {
+            bytes.truncate(end);
+            let mask = MutableBitmap::from_bytes(bits, marks);
+            Right((Offsets { offsets }, bytes, mask))
+        }
+        None => {
+            let offsets = Buffer::from_parts(ends, offset, count);
+            Left((
+                OffsetsBuffer { offsets },
+                Buffer::from_parts(bytes, start, length),
+                Bitmap::from_parts(bits, first, marks, unset),
+            ))
+        }
+    }
+}
+
+/// The offsets, the bytes up to the last of them and the marks to change, where no one else has any of
+/// these and all are shown from the first on, the offsets whole; else the parts as given.
+pub fn into_mut_bytes<O: Offset>(
+    offsets: OffsetsBuffer<O>,
+    values: Buffer<u8>,
+    validity: Option<Bitmap>,
+) -> Either<
+    (OffsetsBuffer<O>, Buffer<u8>, Option<Bitmap>),
+    (Offsets<O>, Vec<u8>, Option<MutableBitmap>),
+>
+    requires { last_of offsets ≤ length values }
+    ensures { MatchEither result (λ parts. (parts.0 ≡ offsets) × (parts.1 ≡ values) × (parts.2 ≡ validity)) (λ parts. (parts.0 ≡ offsets) × (parts.1.items ≡ take (last_of offsets) values) × (parts.2 ≡ validity)) }
+{
+    match validity {
+        None => match thaw_slots(offsets, values) {
+            Left((offsets, values)) => Left((offsets, values, None)),
+            Right((offsets, values)) => Right((offsets, values, None)),
+        },
+        Some(mask) => match thaw_slots_with_mask(offsets, values, mask) {
+            Left((offsets, values, mask)) => Left((offsets, values, Some(mask))),
+            Right((offsets, values, mask)) => Right((offsets, values, Some(mask))),
+        },
+    }
 }
 
 #[cfg(test)]

@@ -1,11 +1,13 @@
 //! Marks that are copied between packed bytes, whole bytes at a time, where the places need not agree
 //! within a byte.
-ghost use Rattle.std.specs.Prelude.{◌≡◌, ℕ, ◌+◌, ◌-◌, ◌*◌, ◌^◌, ◌≤◌, ◌<◌, ◌==◌, slice_index, [], ◌∷◌, length, vec_len, ◌++◌, OnOk, OnErr};
+ghost use Rattle.std.specs.Prelude.{◌≡◌, ℕ, ◌+◌, ◌-◌, ◌*◌, ◌^◌, ◌≤◌, ◌<◌, ◌==◌, slice_index, [], ◌∷◌, length, vec_len, ◌++◌, OnOk, OnErr, IfErr};
 ghost use Rattle.std.specs.Int.{bit_at, div_ceil};
 ghost use Rattle.arrow_memory.specs.Marks.{mark_at, marks};
 ghost use Rattle.arrow_memory.specs.MarkWrites.{CopiesMarks};
 
+use arrow_types::error::Error;
 use std::alloc::AllocError;
+use std::rc::Rc;
 
 /// Eight marks of two bytes, from a place in the lower one on.
 #[inline(always)]
@@ -122,5 +124,24 @@ pub(crate) fn extend_from_bytes(
     if head < count {
         append_bytes(bytes, source, start + head, (count - head).div_ceil(8))?;
     }
+    Ok(())
+}
+
+/// Makes the marks stand from the first on in bytes that no one else has, if need be in a copy.
+#[tactic(auto, using(crate::proofs::MarkLemmas::mark_steps))]
+pub(crate) fn own_bytes(bytes: &mut Rc<Vec<u8>>, offset: usize, length: usize) -> Result<(), Error>
+    requires within { offset + length ≤ 8 * vec_len bytes.old.value }
+    requires fits { offset + length < 2 ^ 64 }
+    ensures ok { OnOk result (marks bytes.new.value.items 0 length ≡ marks bytes.old.value.items offset length) }
+    ensures room { OnOk result (length ≤ 8 * vec_len bytes.new.value) }
+    ensures err { IfErr result (λ e. (e ≡ Error.OutOfMemory) × (bytes.new ≡ bytes.old)) }
+{
+    if offset == 0 && Rc::strong_count(bytes) == 1 {
+        return Ok(());
+    }
+    let alloc = *bytes.allocator();
+    let mut copy = Vec::new(alloc);
+    extend_from_bytes(&mut copy, 0, bytes.as_slice(), offset, length)?;
+    *bytes = Rc::new(alloc, copy)?;
     Ok(())
 }

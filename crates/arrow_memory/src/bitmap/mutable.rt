@@ -43,6 +43,13 @@ impl MutableBitmap {
         }
     }
 
+    /// No marks, as [`MutableBitmap::new`].
+    pub fn default(alloc: Global) -> Self
+        ensures { result ≡ [] }
+    {
+        MutableBitmap::new(alloc)
+    }
+
     /// The first marks of packed bytes.
     pub(crate) fn from_bytes(bytes: Vec<u8>, length: usize) -> Self
         requires { length ≤ 8 * vec_len bytes }

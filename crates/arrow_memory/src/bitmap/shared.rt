@@ -1,8 +1,9 @@
 // Bit maps of given bytes, clones, and what comes of them. Bytes were packed by hand.
 use super::*;
 use crate::bitmap::tests::{cut, gives, pushed};
+use crate::refusals::told;
 use arrow_types::error::Error;
-use either::{Left, Right};
+use either::Right;
 use std::alloc::Global;
 use std::test::Fail;
 
@@ -18,15 +19,6 @@ fn fits_frozen(alloc: Global, bytes: &[u8], length: usize) -> Result<bool, Error
     }
 }
 
-/// Whether so many marks fit in bytes that grow.
-fn fits_growing(alloc: Global, bytes: &[u8], length: usize) -> Result<bool, Error> {
-    match MutableBitmap::try_new(bytes.to_vec(alloc)?, length) {
-        Ok(bitmap) => Ok(bitmap.len() == length),
-        Err(error) if error == RULE => Ok(false),
-        Err(error) => Err(error),
-    }
-}
-
 #[test]
 fn marks_fit_in_their_bytes(rt: HostRuntime) -> Result<(), Fail> {
     for (bytes, length, wanted) in [
@@ -36,58 +28,82 @@ fn marks_fit_in_their_bytes(rt: HostRuntime) -> Result<(), Fail> {
         ([].as_slice(), 0, true),
         ([].as_slice(), 1, false),
     ] {
+        let growing = MutableBitmap::try_new(bytes.to_vec(rt.alloc())?, length).is_ok();
         let frozen = fits_frozen(rt.alloc(), bytes, length)?;
-        let growing = fits_growing(rt.alloc(), bytes, length)?;
         assert!(rt; frozen == wanted && growing == wanted, "{length}");
     }
     Ok(())
 }
 
+/// Whether a mark that is pushed behind the first ones of given bytes is the last.
+fn pushes(
+    alloc: Global,
+    bytes: &[u8],
+    length: usize,
+    mark: bool,
+    text: &str,
+) -> Result<bool, Error> {
+    let mut marks = MutableBitmap::try_new(bytes.to_vec(alloc)?, length)?;
+    marks.push(mark)?;
+    Ok(gives(marks.iter(), text))
+}
+
 #[test]
 fn pushes_behind_given_marks(rt: HostRuntime) -> Result<(), Fail> {
-    let mut marks = MutableBitmap::try_new([0xff].to_vec(rt.alloc())?, 3)?;
-    marks.push(false)?;
-    assert!(rt; gives(marks.iter(), "1110") && marks.unset_bits() == 1);
+    let rest = pushes(rt.alloc(), [0xff].as_slice(), 3, false, "1110")?;
     // the bytes are longer than the marks
-    let mut marks = MutableBitmap::try_new([0xff, 0x00].to_vec(rt.alloc())?, 8)?;
-    marks.push(true)?;
-    assert!(rt; gives(marks.iter(), "111111111"));
+    let longer = pushes(rt.alloc(), [0xff, 0x00].as_slice(), 8, true, "111111111")?;
+    assert!(rt; rest && longer);
     Ok(())
+}
+
+/// Whether a mark that is pushed behind a mask that was cut at its end is the last.
+fn pushes_behind_cut(alloc: Global) -> Result<bool, Error> {
+    let mut mask = Bitmap::try_new([0xff, 0x01].to_vec(alloc)?, 9)?;
+    let is_there = cut(&mut mask, 0, 8);
+    let Right(mut marks) = mask.into_mut() else {
+        return Ok(false);
+    };
+    marks.push(false)?;
+    Ok(is_there && gives(marks.iter(), "111111110"))
+}
+
+#[test]
+fn cut_marks_do_not_come_back(rt: HostRuntime) -> Result<(), Fail> {
+    told(pushes_behind_cut(rt.alloc()))
+}
+
+/// Whether new marks are clear, or none.
+fn zeroed(alloc: Global) -> Result<bool, Error> {
+    let zeroed = Bitmap::new_zeroed(alloc, 70)?.unset_bits();
+    Ok(zeroed == 70 && Bitmap::default(alloc)?.len() == 0)
 }
 
 #[test]
 fn zeroed_marks_are_clear(rt: HostRuntime) -> Result<(), Fail> {
-    let zeroed = Bitmap::new_zeroed(rt.alloc(), 70)?;
-    assert!(rt; zeroed.len() == 70 && zeroed.unset_bits() == 70);
-    let empty = Bitmap::new(rt.alloc())?;
-    assert!(rt; empty.len() == 0 && empty.unset_bits() == 0);
-    Ok(())
+    told(zeroed(rt.alloc()))
 }
 
-/// A bitmap is thawed only while no clone of it lives.
-#[test]
-fn clones_share_their_bytes(rt: HostRuntime) -> Result<(), Fail> {
-    let first = pushed(rt.alloc(), "1011000111")?.freeze()?;
+/// Whether marks are thawed while a clone lives, and once it doesn't.
+fn sides(alloc: Global) -> Result<(bool, bool), Error> {
+    let first = pushed(alloc, "1011000111")?.freeze()?;
     let second = first.clone()?;
-    let Left(first) = first.into_mut() else {
-        return Err(Fail::from("a shared bitmap was thawed"));
-    };
-    assert!(rt; gives(first.iter(), "1011000111") && first.unset_bits() == 4);
-    drop(second);
-    let Right(mut thawed) = first.into_mut() else {
-        return Err(Fail::from("an unshared bitmap was not thawed"));
-    };
-    thawed.push(false)?;
-    assert!(rt; gives(thawed.iter(), "10110001110"));
+    let shared = first.into_mut().is_right();
+    Ok((shared, second.into_mut().is_right()))
+}
+
+#[test]
+fn marks_thaw_where_nothing_shares_them(rt: HostRuntime) -> Result<(), Fail> {
+    let (shared, alone) = sides(rt.alloc())?;
+    assert!(rt; !shared && alone);
     Ok(())
 }
 
-/// A change of shared marks leaves the other owner's.
-#[test]
-fn changes_leave_other_owners(rt: HostRuntime) -> Result<(), Fail> {
-    let first = pushed(rt.alloc(), "1011000111")?.freeze()?;
+/// Whether a change of shared marks is seen, and leaves the other owner's.
+fn changes(alloc: Global) -> Result<bool, Error> {
+    let first = pushed(alloc, "1011000111")?.freeze()?;
     let mut second = first.clone()?;
-    assert!(rt; cut(&mut second, 3, 6));
+    let is_there = cut(&mut second, 3, 6);
     second.apply_mut(|marks: MutableBitmap| {
         let mut marks = marks;
         if marks.len() > 1 {
@@ -95,33 +111,25 @@ fn changes_leave_other_owners(rt: HostRuntime) -> Result<(), Fail> {
         }
         marks
     })?;
-    assert!(rt; gives(second.iter(), "110011") && second.unset_bits() == 2);
-    assert!(rt; gives(first.iter(), "1011000111") && first.unset_bits() == 4);
-    Ok(())
+    let is_changed = gives(second.iter(), "110011") && second.unset_bits() == 2;
+    Ok(is_there && is_changed && gives(first.iter(), "1011000111"))
+}
+
+#[test]
+fn changes_leave_other_owners(rt: HostRuntime) -> Result<(), Fail> {
+    told(changes(rt.alloc()))
+}
+
+/// Whether owned marks are given from both ends.
+fn gives_owned(alloc: Global) -> Result<bool, Error> {
+    let mut bitmap = pushed(alloc, "00110")?.freeze()?;
+    let is_there = cut(&mut bitmap, 1, 3);
+    let mut marks = bitmap.into_iter();
+    let ends = (marks.next_back(), marks.next(), marks.next_back());
+    Ok(is_there && ends == (Some(true), Some(false), Some(true)) && marks.next().is_none())
 }
 
 #[test]
 fn owned_marks_come_from_both_ends(rt: HostRuntime) -> Result<(), Fail> {
-    let mut bitmap = pushed(rt.alloc(), "00110")?.freeze()?;
-    if 4 <= bitmap.len() {
-        bitmap.slice(1, 3);
-    }
-    let mut marks = bitmap.into_iter();
-    assert!(rt; marks.next_back() == Some(true) && marks.next() == Some(false));
-    assert!(rt; marks.size_hint() == (1, Some(1)) && marks.next_back() == Some(true));
-    assert!(rt; marks.next().is_none() && marks.next_back().is_none());
-    Ok(())
-}
-
-#[test]
-fn copies_are_apart(rt: HostRuntime) -> Result<(), Fail> {
-    let mut first = pushed(rt.alloc(), "101")?;
-    let mut second = first.clone()?;
-    second.push(false)?;
-    first.reserve(1000)?;
-    first.shrink_to_fit()?;
-    assert!(rt; gives(first.iter(), "101") && gives(second.iter(), "1010"));
-    let room = MutableBitmap::with_capacity(rt.alloc(), 1000)?;
-    assert!(rt; room.len() == 0);
-    Ok(())
+    told(gives_owned(rt.alloc()))
 }

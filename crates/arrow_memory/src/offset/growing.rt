@@ -16,7 +16,7 @@ use std::marker::Model;
 /// (Arrow columnar format, "Variable-size Binary Layout").
 #[derive(Drop)]
 pub struct Offsets<O: Offset> {
-    pub(super) offsets: Vec<O>,
+    pub(crate) offsets: Vec<O>,
 }
 
 // Contracts see the numbers.
@@ -41,6 +41,17 @@ impl<O: Offset> Offsets<O> {
         ensures err { IfErr result (λ e. e ≡ Error.OutOfMemory) }
     {
         Offsets::with_capacity(alloc, 0)
+    }
+
+    /// No slot, as [`Offsets::new`].
+    ///
+    /// # Errors
+    /// `OutOfMemory` where memory is refused.
+    pub fn default(alloc: Global) -> Result<Self, Error>
+        ensures ok { IfOk result (λ offsets. offsets ≡ 0 ∷ []) }
+        ensures err { IfErr result (λ e. e ≡ Error.OutOfMemory) }
+    {
+        Offsets::new(alloc)
     }
 
     /// So many empty slots: all offsets are zero.

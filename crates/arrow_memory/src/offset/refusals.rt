@@ -1,96 +1,79 @@
 //! What is answered where memory is refused. A test that met a refusal, and the right answer to it, fails with
 //! the word `refused`, and only so: the script `refusals` has each allocation refused in turn, until no test fails.
 use super::*;
+use crate::refusals::told;
 use arrow_types::error::Error;
 use std::alloc::Global;
 use std::test::Fail;
 
-/// How a test ends that met a refusal.
-fn told(refused: Error) -> Result<(), Fail> {
-    match refused {
-        Error::OutOfMemory => Err(Fail::from("refused")),
-        _ => Err(Fail::from("another refusal than of memory")),
-    }
-}
-
-/// Whether a refusal is one of memory.
-fn wants_memory<T: Drop>(answer: Result<T, Error>) -> bool {
-    matches!(answer, Err(Error::OutOfMemory))
-}
-
-/// Offsets of 32 bits, or the refusal.
+/// Offsets of 32 bits.
 fn narrow(alloc: Global, list: &[i32]) -> Result<Offsets<i32>, Error> {
     Offsets::try_from_vec(list.to_vec(alloc)?)
+}
+
+/// Whether so many slots are refused.
+fn most(alloc: Global, count: usize) -> Result<bool, Error> {
+    let mut offsets = narrow(alloc, [1, 3].as_slice())?;
+    let is_refused = matches!(offsets.reserve(count), Err(Error::OutOfMemory));
+    Ok(is_refused && offsets.as_slice() == [1, 3].as_slice())
 }
 
 /// Room that no memory holds is always refused.
 #[test]
 fn most_offsets(rt: HostRuntime) -> Result<(), Fail> {
-    assert!(rt; wants_memory(Offsets::<i32>::new_zeroed(rt.alloc(), usize::MAX)));
-    assert!(rt; wants_memory(Offsets::<i64>::with_capacity(rt.alloc(), usize::MAX - 1)));
-    let mut offsets = match narrow(rt.alloc(), &[1, 3]) {
-        Ok(offsets) => offsets,
-        Err(refused) => return told(refused),
-    };
-    assert!(rt; wants_memory(offsets.reserve(usize::MAX)));
-    assert_eq!(rt; offsets.as_slice(), [1, 3].as_slice());
-    Ok(())
+    let zeroed = Offsets::<i32>::new_zeroed(rt.alloc(), usize::MAX).is_err();
+    let roomy = Offsets::<i64>::with_capacity(rt.alloc(), usize::MAX - 1).is_err();
+    assert!(rt; zeroed && roomy);
+    told(most(rt.alloc(), usize::MAX))
+}
+
+/// Whether new offsets end so.
+fn made(alloc: Global) -> Result<bool, Error> {
+    let zeroed = Offsets::<i64>::new_zeroed(alloc, 1)?;
+    let empty = OffsetsBuffer::<i64>::new(alloc)?;
+    Ok(zeroed.len_proxy() == 1 && empty.len_proxy() == 0)
 }
 
 #[test]
 fn makers(rt: HostRuntime) -> Result<(), Fail> {
-    match Offsets::<i64>::new_zeroed(rt.alloc(), 1) {
-        Ok(offsets) => assert_eq!(rt; offsets.as_slice(), [0, 0].as_slice()),
-        Err(refused) => return told(refused),
-    }
-    match OffsetsBuffer::<i64>::new(rt.alloc()) {
-        Ok(offsets) => assert_eq!(rt; offsets.buffer().as_slice(), [0].as_slice()),
-        Err(refused) => return told(refused),
-    }
-    Ok(())
+    told(made(rt.alloc()))
 }
 
-/// A refused growth leaves the offsets.
-#[test]
-fn growths(rt: HostRuntime) -> Result<(), Fail> {
-    let mut offsets = match narrow(rt.alloc(), &[0, 2]) {
-        Ok(offsets) => offsets,
-        Err(refused) => return told(refused),
-    };
-    let more = match narrow(rt.alloc(), &[3, 4, 7]) {
-        Ok(more) => more,
-        Err(refused) => return told(refused),
-    };
+/// Whether growths that are refused leave the offsets.
+fn grown(alloc: Global) -> Result<bool, Error> {
+    let more = narrow(alloc, [3, 4, 7].as_slice())?;
+    let mut offsets = narrow(alloc, [0, 2].as_slice())?;
     if let Err(refused) = offsets.try_push_usize(1) {
-        assert_eq!(rt; offsets.as_slice(), [0, 2].as_slice());
-        return told(refused);
+        return left(&offsets, [0, 2].as_slice(), refused);
     }
     if let Err(refused) = offsets.try_extend_from_self(&more) {
-        assert_eq!(rt; offsets.as_slice(), [0, 2, 3].as_slice());
-        return told(refused);
+        return left(&offsets, [0, 2, 3].as_slice(), refused);
     }
-    // an end past the greatest number is told before memory is asked for
-    assert!(rt; matches!(offsets.try_push_usize(2147483647), Err(Error::Overflow)));
-    Ok(())
+    Ok(offsets.as_slice() == [0, 2, 3, 4, 7].as_slice())
+}
+
+/// The refusal, where these offsets are left.
+fn left(offsets: &Offsets<i32>, list: &[i32], refused: Error) -> Result<bool, Error> {
+    if offsets.as_slice() == list {
+        return Err(refused);
+    }
+    Ok(false)
+}
+
+#[test]
+fn growths(rt: HostRuntime) -> Result<(), Fail> {
+    told(grown(rt.alloc()))
+}
+
+/// Whether offsets and their copies, of either kind, have one slot.
+fn copied(alloc: Global) -> Result<bool, Error> {
+    let offsets = narrow(alloc, [0, 2].as_slice())?;
+    let copy = offsets.clone()?.freeze()?;
+    let second = copy.clone()?;
+    Ok(offsets.len_proxy() == 1 && second.len_proxy() == 1)
 }
 
 #[test]
 fn copies(rt: HostRuntime) -> Result<(), Fail> {
-    let offsets = match narrow(rt.alloc(), &[0, 2]) {
-        Ok(offsets) => offsets,
-        Err(refused) => return told(refused),
-    };
-    if let Err(refused) = offsets.clone() {
-        assert_eq!(rt; offsets.as_slice(), [0, 2].as_slice());
-        return told(refused);
-    }
-    let frozen = match offsets.freeze() {
-        Ok(frozen) => frozen,
-        Err(refused) => return told(refused),
-    };
-    match frozen.clone() {
-        Ok(copy) => assert_eq!(rt; copy.buffer().as_slice(), [0, 2].as_slice()),
-        Err(refused) => return told(refused),
-    }
-    Ok(())
+    told(copied(rt.alloc()))
 }

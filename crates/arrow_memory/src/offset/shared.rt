@@ -16,7 +16,7 @@ use std::marker::Model;
 /// (Arrow columnar format, "Variable-size Binary Layout").
 #[derive(Drop)]
 pub struct OffsetsBuffer<O: Offset> {
-    pub(super) offsets: Buffer<O>,
+    pub(crate) offsets: Buffer<O>,
 }
 
 // Contracts see the numbers.
@@ -41,6 +41,17 @@ impl<O: Offset> OffsetsBuffer<O> {
         ensures err { IfErr result (λ e. e ≡ Error.OutOfMemory) }
     {
         Offsets::new(alloc)?.freeze()
+    }
+
+    /// No slot, as [`OffsetsBuffer::new`].
+    ///
+    /// # Errors
+    /// `OutOfMemory` where memory is refused.
+    pub fn default(alloc: Global) -> Result<Self, Error>
+        ensures ok { IfOk result (λ offsets. offsets ≡ 0 ∷ []) }
+        ensures err { IfErr result (λ e. e ≡ Error.OutOfMemory) }
+    {
+        OffsetsBuffer::new(alloc)
     }
 
     /// The same offsets, which are not copied.
