@@ -1,6 +1,8 @@
 //! Arrays whose items are lent.
 ghost use Rattle.std.specs.Prelude.{◌≡◌, ◌<◌, List, length, slice_get, Some};
 
+use std::marker::Model;
+
 /// An array whose items are lent.
 pub trait ArrayAccessor<'a> {
     /// What is lent.
@@ -23,4 +25,19 @@ pub trait ArrayAccessor<'a> {
     /// The number of items.
     fn len(&self) -> usize
         ensures { result ≡ length (items self.now) };
+}
+
+/// What contracts see of an item of bytes or of text: its bytes. It stands where a type has to be named;
+/// no call makes one.
+#[derive(Drop)]
+pub struct Bytes {
+    bytes: Vec<u8>,
+}
+
+impl Model for Bytes {
+    ghost use Rattle.std.specs.Prelude.{List, ℕ};
+
+    ghost Value = { List ℕ };
+
+    ghost view = { λ seen. seen.bytes.items };
 }
