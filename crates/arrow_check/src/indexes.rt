@@ -1,5 +1,6 @@
 //! Whether keys point at items.
-ghost use Rattle.std.specs.Prelude.{◌≡◌, ◌<◌, not, find, All, IsOk, IsErrAnd, IsSomeAnd, MatchOption, OnOk};
+ghost use Rattle.std.specs.Prelude.{◌≡◌, ◌<◌, not, find, All, IfNone, IsOk, IsErrAnd, IsSomeAnd, MatchOption, OnOk};
+ghost use Rattle.std.specs.Option.{option_copied};
 ghost use Rattle.arrow_types.specs.IndexKey.{index_of};
 ghost use Rattle.arrow_types.specs.Types.{refusal};
 ghost use Rattle.arrow_check.specs.Indexes.{is_place, key_refusal};
@@ -32,6 +33,15 @@ fn key_fault<K: IndexKey>(key: &K) -> Error
     }
 }
 
+/// The first key that points at no item of a list of this length.
+#[inline(always)]
+fn first_astray<K: IndexKey>(keys: &[K], len: usize) -> Option<&K>
+    ensures first { option_copied result ≡ find (λ key. not (is_place len (K.number key))) keys.now }
+    ensures none { IfNone result (All (λ key. IsSomeAnd (index_of (K.number key)) (λ index. index < len)) keys.now) }
+{
+    keys.iter().find(|key| !points_at_item(*key, len))
+}
+
 /// Whether every key points at an item of a list of this length, as a dictionary's keys at its values
 /// (Arrow columnar format, "Dictionary-encoded Layout"). Keys behind the first that doesn't are not
 /// looked at.
@@ -43,7 +53,7 @@ pub fn check_indexes<K: IndexKey>(keys: &[K], len: usize) -> Result<(), Error>
     ensures first { MatchOption (find (λ key. not (is_place len (K.number key))) keys.now) (IsOk result) (λ key. IsErrAnd result (λ e. refusal e ≡ key_refusal (K.number key))) }
     ensures ok { OnOk result (All (λ key. IsSomeAnd (index_of (K.number key)) (λ index. index < len)) keys.now) }
 {
-    match keys.iter().find(|key| !points_at_item(*key, len)) {
+    match first_astray(keys, len) {
         Some(key) => Err(key_fault(key)),
         None => Ok(()),
     }
