@@ -46,3 +46,6 @@ pub fn check_last<O: Offset>(offsets: &[O], values_len: usize) -> Result<(), Err
     }
     Ok(())
 }
+
+#[cfg(test)]
+mod tests;

@@ -58,3 +58,6 @@ pub fn check_indexes<K: IndexKey>(keys: &[K], len: usize) -> Result<(), Error>
         None => Ok(()),
     }
 }
+
+#[cfg(test)]
+mod tests;

@@ -125,3 +125,6 @@ impl<'a, A: ArrayAccessor<'a>> DoubleEndedIterator for ArrayValuesIter<'a, A> {
         Some(item)
     }
 }
+
+#[cfg(test)]
+mod tests;
