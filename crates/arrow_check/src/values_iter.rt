@@ -46,7 +46,8 @@ impl<'a, A: ArrayAccessor<'a>> ArrayValuesIter<'a, A> {
         ensures steps { SkipsThenFirstBy A.seen (rest_of A.items) n self.old result self.new }
         ensures keeps { IsWithin A.items self.new }
     {
-        if n >= self.len() {
+        let left = self.len();
+        if n >= left {
             self.index = self.end;
             return None;
         }
