@@ -2,8 +2,9 @@ use super::*;
 
 const NO_INDEX: Error = Error::OutOfSpec("the dictionary key must fit in a usize");
 
-const PAST: Error =
-    Error::OutOfSpec("a dictionary key must be below the length of the dictionary values");
+const PAST: Error = Error::OutOfSpec(
+    "a dictionary key must be below the length of the dictionary values",
+);
 
 #[test]
 fn the_first_failing_key_tells_the_fault(rt: HostRuntime) {
@@ -29,5 +30,8 @@ fn keys_of_other_types(rt: HostRuntime) {
     assert_eq!(rt; check_indexes([254_u8, 0].as_slice(), 255), Ok(()));
     assert_eq!(rt; check_indexes([1_i32, 3, -1].as_slice(), 3), Err(PAST));
     assert_eq!(rt; check_indexes([u64::MAX].as_slice(), usize::MAX), Err(PAST));
-    assert_eq!(rt; check_indexes([18446744073709551614_u64].as_slice(), usize::MAX), Ok(()));
+    assert_eq!(rt;
+        check_indexes([18446744073709551614_u64].as_slice(), usize::MAX),
+        Ok(())
+    );
 }

@@ -66,8 +66,18 @@ fn turns_from_both_ends(rt: HostRuntime) {
 #[test]
 fn items_are_passed_over(rt: HostRuntime) {
     let array = tens();
-    for (n, wanted) in [(0, Some(10)), (1, Some(20)), (2, Some(30)), (3, None), (usize::MAX, None)] {
-        assert_eq!(rt; read(ArrayValuesIter::new(&array).nth(n)), wanted, "after {n}");
+    for (n, wanted) in [
+        (0, Some(10)),
+        (1, Some(20)),
+        (2, Some(30)),
+        (3, None),
+        (usize::MAX, None),
+    ] {
+        assert_eq!(rt;
+            read(ArrayValuesIter::new(&array).nth(n)),
+            wanted,
+            "after {n}"
+        );
     }
     let mut items = ArrayValuesIter::new(&array);
     assert!(rt; items.nth(3).is_none() && items.next_back().is_none());
@@ -121,7 +131,10 @@ impl<'a> ListIter for NumberValues<'a> {
 }
 
 /// The slots of the numbers.
-fn slots<'a>(array: &'a Numbers, marks: BitmapIter<'a>) -> ZipValidity<NumberValues<'a>, BitmapIter<'a>>
+fn slots<'a>(
+    array: &'a Numbers,
+    marks: BitmapIter<'a>,
+) -> ZipValidity<NumberValues<'a>, BitmapIter<'a>>
     requires { length marks ≡ 3 }
     ensures { result ≡ map slot (rows_of array.entry.now.numbers (Some marks.entry)) }
 {
