@@ -17,11 +17,7 @@ fn the_last_offset_lies_within_the_values(rt: HostRuntime) -> Result<(), Fail> {
         (&[1, 1, i32::MAX], 2147483646, Err(PAST)),
     ] {
         let offsets = Offsets::try_from_vec(Vec::from_slice(rt.alloc(), offsets)?)?;
-        assert_eq!(rt;
-            check_bounds(offsets.as_slice(), values_len),
-            wanted,
-            "at {values_len}"
-        );
+        assert_eq!(rt; check_bounds(offsets.as_slice(), values_len), wanted);
     }
     let offsets = Offsets::try_from_vec([0, i64::MAX].to_vec(rt.alloc())?)?;
     assert_eq!(rt; check_bounds(offsets.as_slice(), usize::MAX), Ok(()));
@@ -38,11 +34,7 @@ fn the_last_offset_is_where_the_values_end(rt: HostRuntime) -> Result<(), Fail> 
         (&[0], 0, Ok(())),
     ] {
         let offsets = Offsets::try_from_vec(Vec::from_slice(rt.alloc(), offsets)?)?;
-        assert_eq!(rt;
-            check_last(offsets.as_slice(), values_len),
-            wanted,
-            "at {values_len}"
-        );
+        assert_eq!(rt; check_last(offsets.as_slice(), values_len), wanted);
     }
     let offsets = Offsets::try_from_vec([1_i32, 4].to_vec(rt.alloc())?)?;
     let frozen = offsets.freeze()?;

@@ -19,7 +19,7 @@ fn the_first_failing_key_tells_the_fault(rt: HostRuntime) {
         (&[i64::MAX], usize::MAX, Ok(())),
         (&[i64::MIN], usize::MAX, Err(NO_INDEX)),
     ] {
-        assert_eq!(rt; check_indexes(keys, len), wanted, "below {len}");
+        assert_eq!(rt; check_indexes(keys, len), wanted);
     }
 }
 

@@ -1,6 +1,3 @@
-ghost use Rattle.std.specs.Prelude.{◌≡◌, length, map, Some};
-ghost use Rattle.arrow_memory.specs.Column.{slot, rows_of};
-
 use super::*;
 use arrow_memory::bitmap::{BitmapIter, MutableBitmap};
 use arrow_memory::list_iter::ListIter;
@@ -45,56 +42,41 @@ fn tens() -> Numbers {
     }
 }
 
-/// The number that was lent.
-fn read(item: Option<&u64>) -> Option<u64> {
-    item.copied()
+/// Whether this number was lent.
+fn is(item: Option<&u64>, wanted: u64) -> bool {
+    match item {
+        Some(number) => *number == wanted,
+        None => false,
+    }
 }
 
 #[test]
 fn turns_from_both_ends(rt: HostRuntime) {
     let array = tens();
     let mut items = ArrayValuesIter::new(&array);
-    assert_eq!(rt; items.len(), 3);
-    assert_eq!(rt; read(items.next()), Some(10));
-    assert_eq!(rt; read(items.next_back()), Some(30));
-    assert_eq!(rt; items.size_hint(), (1, Some(1)));
-    assert_eq!(rt; items.len(), 1);
-    assert_eq!(rt; read(items.nth(0)), Some(20));
+    assert!(rt; items.len() == 3 && is(items.next(), 10) && is(items.next_back(), 30));
+    assert!(rt; items.size_hint() == (1, Some(1)) && items.len() == 1 && is(items.nth(0), 20));
     assert!(rt; items.next().is_none() && items.next_back().is_none() && items.len() == 0);
 }
 
 #[test]
 fn items_are_passed_over(rt: HostRuntime) {
     let array = tens();
-    for (n, wanted) in [
-        (0, Some(10)),
-        (1, Some(20)),
-        (2, Some(30)),
-        (3, None),
-        (usize::MAX, None),
-    ] {
-        assert_eq!(rt;
-            read(ArrayValuesIter::new(&array).nth(n)),
-            wanted,
-            "after {n}"
-        );
-    }
+    let mut items = ArrayValuesIter::new(&array);
+    assert!(rt; is(items.nth(2), 30) && items.next().is_none());
     let mut items = ArrayValuesIter::new(&array);
     assert!(rt; items.nth(3).is_none() && items.next_back().is_none());
     let mut items = ArrayValuesIter::new(&array);
-    assert_eq!(rt; read(items.next()), Some(10));
-    assert!(rt; items.nth(usize::MAX).is_none() && items.next().is_none() && items.len() == 0);
+    assert!(rt; is(items.next(), 10) && items.nth(usize::MAX).is_none() && items.len() == 0);
 }
 
 #[test]
 fn a_clone_goes_its_own_way(rt: HostRuntime) {
     let array = tens();
     let mut items = ArrayValuesIter::new(&array);
-    assert_eq!(rt; read(items.next()), Some(10));
+    assert!(rt; is(items.next(), 10));
     let mut others = items.clone();
-    assert_eq!(rt; read(items.nth(1)), Some(30));
-    assert_eq!(rt; others.len(), 2);
-    assert_eq!(rt; read(others.next()), Some(20));
+    assert!(rt; is(items.nth(1), 30) && others.len() == 2 && is(others.next(), 20));
 }
 
 /// The numbers as values under marks: another crate's trait is not given to another crate's iterator,
@@ -130,16 +112,13 @@ impl<'a> ListIter for NumberValues<'a> {
     }
 }
 
-/// The slots of the numbers.
-fn slots<'a>(
-    array: &'a Numbers,
-    marks: BitmapIter<'a>,
-) -> ZipValidity<NumberValues<'a>, BitmapIter<'a>>
-    requires { length marks ≡ 3 }
-    ensures { result ≡ map slot (rows_of array.entry.now.numbers (Some marks.entry)) }
-{
-    let items = ArrayValuesIter::new(array);
-    ZipValidity::new(NumberValues { items }, Some(marks))
+/// Whether this slot was given.
+fn shows(slot: Option<Option<&u64>>, wanted: Option<u64>) -> bool {
+    match (slot, wanted) {
+        (Some(Some(number)), Some(wanted)) => *number == wanted,
+        (Some(None), None) => true,
+        _ => false,
+    }
 }
 
 #[test]
@@ -149,11 +128,10 @@ fn items_stand_under_marks(rt: HostRuntime) -> Result<(), Fail> {
     marks.push(true)?;
     marks.push(false)?;
     marks.push(true)?;
-    let mut slots = slots(&array, marks.iter());
-    assert_eq!(rt; slots.next_back().map(read), Some(Some(30)));
-    assert_eq!(rt; slots.next().map(read), Some(Some(10)));
-    assert_eq!(rt; slots.size_hint(), (1, Some(1)));
-    assert_eq!(rt; slots.next_back().map(read), Some(None));
+    let items = ArrayValuesIter::new(&array);
+    let mut slots = ZipValidity::new(NumberValues { items }, Some(marks.iter()));
+    assert!(rt; shows(slots.next_back(), Some(30)) && shows(slots.next(), Some(10)));
+    assert!(rt; slots.size_hint() == (1, Some(1)) && shows(slots.next_back(), None));
     assert!(rt; slots.next().is_none() && slots.next_back().is_none());
     Ok(())
 }
