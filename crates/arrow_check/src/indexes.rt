@@ -13,10 +13,8 @@ use arrow_types::index_key::IndexKey;
 fn points_at_item<K: IndexKey>(key: &K, len: usize) -> bool
     ensures { result ≡ is_place len (K.number key.now) }
 {
-    match key.to_index() {
-        Some(index) => index < len,
-        None => false,
-    }
+    // `usize::MAX` is below no length, so it stands for no index, without a branch.
+    key.to_index().unwrap_or(usize::MAX) < len
 }
 
 /// Why a key that points at no item is refused.
