@@ -1,7 +1,7 @@
 //! Offsets that grow.
 ghost use Rattle.std.specs.Prelude.{◌≡◌, ◌+◌, ◌-◌, ◌<◌, ◌≤◌, pos, [], ◌∷◌, ◌++◌, length, map, take, replicate, slice_index, None, OnOk, IfOk, IfErr, MatchOption};
 ghost use Rattle.arrow_types.specs.Types.{refusal, out_of_spec};
-ghost use Rattle.arrow_memory.specs.Offsets.{first_of, last_of, IsOffsets, first_fault, numbers_of, moved_behind, MatchGrowth};
+ghost use Rattle.arrow_memory.specs.Offsets.{first_of, last_of, IsOffsets, KeepsOffsets, first_fault, numbers_of, moved_behind, MatchGrowth};
 
 use crate::buffer::Buffer;
 use crate::offset::OffsetsBuffer;
@@ -151,6 +151,8 @@ impl<O: Offset> Offsets<O> {
     /// The offsets.
     #[inline(always)]
     pub fn as_slice(&self) -> &[O]
+        ensures keeps { KeepsOffsets O.number O.most result.now }
+        ensures numbers { numbers_of O.number result.now ≡ self.now }
         ensures value { map O.number result.now ≡ map pos self.now }
         ensures within { last_of self.now ≤ O.most }
         ensures legal { IsOffsets self.now }

@@ -1,7 +1,7 @@
 //! Offsets that don't change, and share their memory.
 ghost use Rattle.std.specs.Prelude.{◌≡◌, ◌+◌, ◌<◌, ◌≤◌, pos, [], ◌∷◌, length, map, take, drop, slice_index, IfOk, IfErr};
 ghost use Rattle.either.specs.Either.{MatchEither};
-ghost use Rattle.arrow_memory.specs.Offsets.{first_of, last_of, IsOffsets};
+ghost use Rattle.arrow_memory.specs.Offsets.{first_of, last_of, IsOffsets, KeepsOffsets, numbers_of};
 
 use crate::buffer::Buffer;
 use crate::offset::Offsets;
@@ -70,6 +70,8 @@ impl<O: Offset> OffsetsBuffer<O> {
     /// The buffer of the offsets.
     #[inline(always)]
     pub fn buffer(&self) -> &Buffer<O>
+        ensures keeps { KeepsOffsets O.number O.most result.now }
+        ensures numbers { numbers_of O.number result.now ≡ self.now }
         ensures value { map O.number result.now ≡ map pos self.now }
         ensures within { last_of self.now ≤ O.most }
         ensures legal { IsOffsets self.now }

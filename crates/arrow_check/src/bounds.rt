@@ -1,0 +1,51 @@
+//! Whether offsets fit the values that they point into.
+ghost use Rattle.std.specs.Prelude.{◌≡◌, ◌≢◌, ◌<◌, ◌≤◌, OnOk, IfErr};
+ghost use Rattle.arrow_types.specs.Types.{refusal};
+ghost use Rattle.arrow_memory.specs.Offsets.{last_of, numbers_of, KeepsOffsets};
+ghost use Rattle.arrow_check.specs.Bounds.{past_values, not_at_end};
+
+use arrow_types::error::Error;
+use arrow_types::offset::Offset;
+
+/// The last of legal offsets, where the last slot ends.
+#[inline(always)]
+fn last_number<O: Offset>(offsets: &[O]) -> usize
+    requires { KeepsOffsets O.number O.most offsets.now }
+    ensures { result ≡ last_of (numbers_of O.number offsets.now) }
+{
+    offsets[offsets.len() - 1].to_usize()
+}
+
+/// Whether legal offsets lie within so many values: as they never fall, whether the last does
+/// (Arrow columnar format, "Variable-size Binary Layout").
+///
+/// # Errors
+/// `OutOfSpec` where the last offset is above the number of values.
+pub fn check_bounds<O: Offset>(offsets: &[O], values_len: usize) -> Result<(), Error>
+    requires { KeepsOffsets O.number O.most offsets.now }
+    ensures ok { OnOk result (last_of (numbers_of O.number offsets.now) ≤ values_len) }
+    ensures err { IfErr result (λ e. (values_len < last_of (numbers_of O.number offsets.now)) × (refusal e ≡ past_values)) }
+{
+    if last_number(offsets) > values_len {
+        return Err(Error::OutOfSpec("offsets must not exceed the values length"));
+    }
+    Ok(())
+}
+
+/// Whether the last of legal offsets is where so many values end.
+///
+/// # Errors
+/// `OutOfSpec` where the last offset is another than the number of values.
+pub fn check_last<O: Offset>(offsets: &[O], values_len: usize) -> Result<(), Error>
+    requires { KeepsOffsets O.number O.most offsets.now }
+    ensures ok { OnOk result (last_of (numbers_of O.number offsets.now) ≡ values_len) }
+    ensures err { IfErr result (λ e. (last_of (numbers_of O.number offsets.now) ≢ values_len) × (refusal e ≡ not_at_end)) }
+{
+    if last_number(offsets) != values_len {
+        return Err(Error::OutOfSpec("the last offset must equal the values length"));
+    }
+    Ok(())
+}
+
+#[cfg(test)]
+mod tests;

@@ -1,0 +1,61 @@
+//! Whether keys point at items.
+ghost use Rattle.std.specs.Prelude.{◌≡◌, ◌<◌, not, find, All, IfNone, IsOk, IsErrAnd, IsSomeAnd, MatchOption, OnOk};
+ghost use Rattle.std.specs.Option.{option_copied};
+ghost use Rattle.arrow_types.specs.IndexKey.{index_of};
+ghost use Rattle.arrow_types.specs.Types.{refusal};
+ghost use Rattle.arrow_check.specs.Indexes.{is_place, key_refusal};
+
+use arrow_types::error::Error;
+use arrow_types::index_key::IndexKey;
+
+/// Whether a key points at an item of a list of this length.
+#[inline(always)]
+fn points_at_item<K: IndexKey>(key: &K, len: usize) -> bool
+    ensures { result ≡ is_place len (K.number key.now) }
+{
+    // `usize::MAX` is below no length, so it stands for no index, without a branch.
+    key.to_index().unwrap_or(usize::MAX) < len
+}
+
+/// Why a key that points at no item is refused.
+#[cold]
+#[inline(never)]
+fn key_fault<K: IndexKey>(key: &K) -> Error
+    ensures { refusal result ≡ key_refusal (K.number key.now) }
+{
+    match key.to_index() {
+        Some(_) => {
+            Error::OutOfSpec("a dictionary key must be below the length of the dictionary values")
+        }
+        None => Error::OutOfSpec("the dictionary key must fit in a usize"),
+    }
+}
+
+/// The first key that points at no item of a list of this length.
+#[inline(always)]
+fn first_astray<K: IndexKey>(keys: &[K], len: usize) -> Option<&K>
+    ensures first { option_copied result ≡ find (λ key. not (is_place len (K.number key))) keys.now }
+    ensures none { IfNone result (All (λ key. IsSomeAnd (index_of (K.number key)) (λ index. index < len)) keys.now) }
+{
+    keys.iter().find(|key| !points_at_item(*key, len))
+}
+
+/// Whether every key points at an item of a list of this length, as a dictionary's keys at its values
+/// (Arrow columnar format, "Dictionary-encoded Layout"). Keys behind the first that doesn't are not
+/// looked at.
+///
+/// # Errors
+/// `OutOfSpec` with the fault of the first key that points at no item: it is negative or doesn't fit in a
+/// `usize`, or else it is not below the length.
+pub fn check_indexes<K: IndexKey>(keys: &[K], len: usize) -> Result<(), Error>
+    ensures first { MatchOption (find (λ key. not (is_place len (K.number key))) keys.now) (IsOk result) (λ key. IsErrAnd result (λ e. refusal e ≡ key_refusal (K.number key))) }
+    ensures ok { OnOk result (All (λ key. IsSomeAnd (index_of (K.number key)) (λ index. index < len)) keys.now) }
+{
+    match first_astray(keys, len) {
+        Some(key) => Err(key_fault(key)),
+        None => Ok(()),
+    }
+}
+
+#[cfg(test)]
+mod tests;
