@@ -56,8 +56,7 @@ impl<T: NativeType> Table<T> {
         ensures { result ≡ option_map kind_of (option_and_then (λ entry. entry) (slice_get self.now i)) }
     {
         match self.entries.get(i)? {
-            Some(Entry::Primitive(_)) => Some(Kind::Primitive),
-            Some(Entry::MutablePrimitive(_)) => Some(Kind::MutablePrimitive),
+            Some(entry) => Some(entry.kind()),
             None => None,
         }
     }
