@@ -13,6 +13,7 @@ use arrow_primitive::{MutablePrimitiveArray, PrimitiveArray};
 use arrow_types::error::Error;
 use arrow_types::native_type::NativeType;
 use std::alloc::{AllocError, Global};
+use std::mem::replace;
 use std::slice::Iter;
 
 /// The native value of a slot that is to be stored.
@@ -33,6 +34,13 @@ fn item_of<T: NativeType>(slot: Option<T>) -> Option<Item<T>>
         Some(value) => Some(Item::Value(value)),
         None => None,
     }
+}
+
+/// Puts something in the place of what is in an entry.
+fn put<T: NativeType>(entry: &mut Option<Entry<T>>, kept: Option<Entry<T>>)
+    ensures { entry.new ≡ kept }
+{
+    drop(replace(entry, kept));
 }
 
 /// An empty array or builder.
@@ -62,7 +70,7 @@ pub(crate) fn new_entry<T: NativeType>(
     }
     match empty_entry(alloc, kind) {
         Ok(made) => {
-            *entry = Some(made);
+            put(entry, Some(made));
             Reply::Done
         }
         Err(error) => Reply::Refused(error),
@@ -188,6 +196,6 @@ pub(crate) fn freeze<T: NativeType>(entry: &mut Option<Entry<T>>) -> Reply<T>
     ensures { FreezeStep entry.old (told result) entry.new }
 {
     let (kept, reply) = frozen(entry.take());
-    *entry = kept;
+    put(entry, kept);
     reply
 }
