@@ -5,7 +5,7 @@ ghost use Rattle.arrow_cli.specs.Command.{asked};
 ghost use Rattle.arrow_cli.specs.Entry.{kind_of};
 ghost use Rattle.arrow_cli.specs.Reply.{told};
 ghost use Rattle.arrow_cli.specs.Run.{AppendsRun};
-ghost use Rattle.arrow_cli.specs.Step.{IsStep};
+ghost use Rattle.arrow_cli.specs.Step.{IsStep, RowStep};
 
 use crate::table::{Command, Entry, Kind, Reply, rows};
 use arrow_types::error::Error;
@@ -62,16 +62,10 @@ impl<T: NativeType> Table<T> {
     }
 }
 
-/// Does one command.
-fn step<T: NativeType>(entries: &mut Vec<Option<Entry<T>>>, command: &Command<T>) -> Reply<T>
-    ensures { IsStep T.zero (default_logical_type T.PRIMITIVE) entries.old.items (asked command.now) (told result) entries.new.items }
+/// Does to an entry what a command about it says.
+fn row<T: NativeType>(alloc: Global, entry: &mut Option<Entry<T>>, command: &Command<T>) -> Reply<T>
+    ensures { RowStep T.zero (default_logical_type T.PRIMITIVE) (asked command.now) entry.old (told result) entry.new }
 {
-    let alloc = *entries.allocator();
-    let number = command.entry();
-    if number >= entries.len() {
-        return Reply::NotMet;
-    }
-    let entry = &mut entries[number];
     match command {
         Command::New(_, kind) => rows::new_entry(alloc, entry, *kind),
         Command::Len(_) => rows::len(entry),
@@ -82,6 +76,19 @@ fn step<T: NativeType>(entries: &mut Vec<Option<Entry<T>>>, command: &Command<T>
         Command::Pop(_) => rows::pop(entry),
         Command::Freeze(_) => rows::freeze(entry),
     }
+}
+
+/// Does one command.
+fn step<T: NativeType>(entries: &mut Vec<Option<Entry<T>>>, command: &Command<T>) -> Reply<T>
+    ensures { IsStep T.zero (default_logical_type T.PRIMITIVE) entries.old.items (asked command.now) (told result) entries.new.items }
+{
+    let alloc = *entries.allocator();
+    let number = command.entry();
+    if number >= entries.len() {
+        return Reply::NotMet;
+    }
+    let entry = &mut entries[number];
+    row(alloc, entry, command)
 }
 
 /// Runs commands in order and appends a reply for each. Answers how many were done: all, or as many as
