@@ -106,9 +106,9 @@ pub fn run<T: NativeType>(
 {
     let mut done = 0;
     for command in commands {
-        if replies.reserve(1).is_err() {
+        let Ok(()) = replies.reserve(1) else {
             return done;
-        }
+        };
         let reply = step(&mut table.entries, command);
         replies.push_reserved(reply);
         done += 1;

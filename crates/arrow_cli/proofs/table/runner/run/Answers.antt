@@ -21,14 +21,15 @@ loop-command-preserved g c =
       omega (arith, c.loop-command.invariant.2, c.reserve.ensures.capacity, c.push_reserved.ensures.capacity),
     )
 
-pub returns-then-is_err-clause-count : goal.returns-then-is_err-clause-count
-returns-then-is_err-clause-count g c = omega (arith, c.loop-command.invariant.0, c.loop-command-test.true)
+pub returns-in_default-clause-count : goal.returns-in_default-clause-count
+returns-in_default-clause-count g c = omega (arith, c.loop-command.invariant.0, c.loop-command-test.true)
 
-pub returns-then-is_err-clause-run : goal.returns-then-is_err-clause-run
-returns-then-is_err-clause-run g c = rw (c.reserve.ensures.items, c.loop-command.invariant.0) c.loop-command.invariant.1
+pub returns-in_default-clause-run : goal.returns-in_default-clause-run
+returns-in_default-clause-run g c = rw (c.reserve.ensures.items, c.loop-command.invariant.0) c.loop-command.invariant.1
 
 pub returns-clause-count : goal.returns-clause-count
 returns-clause-count g c = omega (arith, c.loop-command.invariant.0, c.loop-command.auto.command-index-end)
 
 pub returns-clause-run : goal.returns-clause-run
 returns-clause-run g c = rw c.loop-command.invariant.0 c.loop-command.invariant.1
+
