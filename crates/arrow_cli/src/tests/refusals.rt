@@ -13,22 +13,18 @@ fn session_of_commands(rt: HostRuntime) -> Result<(), Fail> {
     let mut room = [0; 29];
     let outcome = session(
         rt.alloc(),
-        &mut Counted::new(b"new 0 mprim\npush 0 v1\nlen 0".as_slice()),
+        &mut Counted::new("new 0 mprim\npush 0 v1\nlen 0".as_bytes()),
         &mut Counted::new(room.as_mut_slice()),
     );
-    if outcome == Outcome::Memory {
-        assert_eq!(rt; room, [0; 29]);
+    let is_refused = match outcome {
+        Outcome::Memory => room == [0; 29],
+        Outcome::Done => room == *b"ok\nrefused: out of memory\n0\n\0",
+        _ => false,
+    };
+    if is_refused {
         return Err(Fail::from("refused"));
     }
-    assert_eq!(rt; outcome, Outcome::Done);
-    if room.starts_with(b"ok\nrefused") {
-        assert_eq!(rt;
-            room.as_slice(),
-            b"ok\nrefused: out of memory\n0\n\0".as_slice()
-        );
-        return Err(Fail::from("refused"));
-    }
-    assert!(rt; room.starts_with(b"ok\nok\n1\n\0"));
+    assert!(rt; outcome == Outcome::Done && room.starts_with(b"ok\nok\n1\n\0"));
     Ok(())
 }
 
@@ -38,14 +34,13 @@ fn session_of_a_bad_line(rt: HostRuntime) -> Result<(), Fail> {
     let mut room = [0; 1];
     let outcome = session(
         rt.alloc(),
-        &mut Counted::new(b"len 0\n\nlen".as_slice()),
+        &mut Counted::new("len 0\n\nlen".as_bytes()),
         &mut Counted::new(room.as_mut_slice()),
     );
-    assert_eq!(rt; room, [0; 1]);
-    if outcome == Outcome::Memory {
+    if outcome == Outcome::Memory && room == [0; 1] {
         return Err(Fail::from("refused"));
     }
-    assert_eq!(rt; outcome, Outcome::BadLine(3));
+    assert!(rt; outcome == Outcome::BadLine(3) && room == [0; 1]);
     Ok(())
 }
 
@@ -61,6 +56,17 @@ fn may_come(length: &mut Option<usize>, command: &Command<i64>, reply: &Reply<i6
         (Command::Freeze(_), Some(_), Reply::Refused(Error::OutOfMemory)) => *length = None,
         (_, _, Reply::Refused(Error::OutOfMemory)) => (),
         _ => return false,
+    }
+    true
+}
+
+/// Whether these replies may come, one after the other.
+fn all_may_come(commands: &[Command<i64>], replies: &[Reply<i64>]) -> bool {
+    let mut length = None;
+    for (command, reply) in commands.iter().zip(replies) {
+        if !may_come(&mut length, command, reply) {
+            return false;
+        }
     }
     true
 }
@@ -86,15 +92,9 @@ fn run_of_commands(rt: HostRuntime) -> Result<(), Fail> {
     let mut replies = Vec::new(alloc);
     let done = run(&mut table, &commands, &mut replies);
     let rest = run(&mut table, &commands[done..], &mut replies);
-    assert_eq!(rt; done.saturating_add(rest), commands.len());
-    assert_eq!(rt; replies.len(), commands.len());
-    let mut length = None;
-    let mut is_refused = rest > 0;
-    for (command, reply) in commands.iter().zip(&replies) {
-        assert!(rt; may_come(&mut length, command, reply));
-        is_refused = is_refused || matches!(reply, Reply::Refused(_));
-    }
-    if is_refused {
+    let is_all = done.saturating_add(rest) == commands.len() && replies.len() == commands.len();
+    assert!(rt; is_all && all_may_come(&commands, &replies));
+    if rest > 0 || replies.iter().any(|it| matches!(it, Reply::Refused(_))) {
         return Err(Fail::from("refused"));
     }
     Ok(())

@@ -32,4 +32,3 @@ returns-clause-count g c = omega (arith, c.loop-command.invariant.0, c.loop-comm
 
 pub returns-clause-run : goal.returns-clause-run
 returns-clause-run g c = rw c.loop-command.invariant.0 c.loop-command.invariant.1
-
