@@ -6,7 +6,6 @@ use crate::tests::sessions::{FIRST_REPLIES, FIRST_RUN};
 use std::alloc::Global;
 use std::io;
 use std::io::{ErrorKind, Read, Write};
-use std::test::Fail;
 
 /// Gives seven bytes at a time; the second read fails in this way.
 #[derive(Drop)]
@@ -68,6 +67,13 @@ struct Wanted {
     text: &'static str,
 }
 
+/// How a session over this input ends on this writer, and how many faults the writer had.
+fn session_to(alloc: Global, input: &str, writer: Writer<'_>) -> (Outcome, u64) {
+    let mut output = Counted::new(writer);
+    let outcome = session(alloc, &mut Counted::new(input.as_bytes()), &mut output);
+    (outcome, output.count())
+}
+
 /// Whether a session whose second write fails in this way, as each flush may, comes to this.
 fn is_written(
     alloc: Global,
@@ -78,16 +84,14 @@ fn is_written(
 ) -> bool {
     let mut taken = Vec::new(alloc);
     let mut flushes = 0;
-    let mut output = Counted::new(Writer {
+    let writer = Writer {
         taken: &mut taken,
         flushes: &mut flushes,
         second,
         flush_fails,
         writes: 0,
-    });
-    let outcome = session(alloc, &mut Counted::new(input.as_bytes()), &mut output);
-    let faults = output.count();
-    drop(output);
+    };
+    let (outcome, faults) = session_to(alloc, input, writer);
     outcome == wanted.outcome
         && faults == wanted.faults
         && flushes == wanted.flushes
@@ -189,28 +193,31 @@ fn failing_readers(rt: HostRuntime) {
     }
 }
 
+/// How a session over the first run ends on a writer into memory of this size, and how many faults the writer had.
+fn session_into(alloc: Global, room: &mut [u8]) -> (Outcome, u64) {
+    let mut output = Counted::new(room);
+    let outcome = session(alloc, &mut Counted::new(FIRST_RUN.as_bytes()), &mut output);
+    (outcome, output.count())
+}
+
 /// A writer that takes nothing more ends the session.
 #[test]
 fn full_writer(rt: HostRuntime) {
     let mut room = [0; 3];
+    let (outcome, faults) = session_into(rt.alloc(), &mut room);
+    assert!(rt; outcome == Outcome::Device && faults == 1 && room == *b"ok\n");
+}
+
+/// How many faults a full writer has after a write of these bytes.
+fn faults_of(piece: &str) -> u64 {
+    let mut room = [0; 0];
     let mut output = Counted::new(room.as_mut_slice());
-    let outcome = session(
-        rt.alloc(),
-        &mut Counted::new(FIRST_RUN.as_bytes()),
-        &mut output,
-    );
-    let is_fault = outcome == Outcome::Device && output.count() == 1;
-    assert!(rt; is_fault && room == *b"ok\n");
+    let _ = output.write(piece.as_bytes());
+    output.count()
 }
 
 /// A writer is at fault that takes nothing of a piece, unless there was nothing to take.
 #[test]
-fn empty_piece_is_no_fault(rt: HostRuntime) -> Result<(), Fail> {
-    let mut room = [0; 0];
-    let mut output = Counted::new(room.as_mut_slice());
-    for (piece, faults) in [("", 0), ("a", 1)] {
-        let taken = output.write(piece.as_bytes())?;
-        assert!(rt; taken == 0 && output.count() == faults);
-    }
-    Ok(())
+fn empty_piece_is_no_fault(rt: HostRuntime) {
+    assert!(rt; faults_of("") == 0 && faults_of("a") == 1);
 }

@@ -1,9 +1,10 @@
 //! What is answered where memory is refused. A test that met a refusal, and the right answer to it, fails with
 //! the word `refused`, and only so: the script `refusals` has each allocation refused in turn, until no test fails.
 use crate::counted::Counted;
+use crate::lines::parse::read_commands;
 use crate::outcome::Outcome;
 use crate::session::session;
-use crate::table::{Command, Item, Kind, Reply, Table, run};
+use crate::table::{Command, Reply, Table, run};
 use arrow_types::error::Error;
 use std::test::Fail;
 
@@ -71,24 +72,19 @@ fn all_may_come(commands: &[Command<i64>], replies: &[Reply<i64>]) -> bool {
     true
 }
 
+/// A builder that is filled and frozen.
+const COMMANDS: &str = "new 0 mprim\npush 0 v1\nlen 0\npush 0 _\nlen 0\nfreeze 0\nlen 0";
+
 /// Whichever growth is refused, the replies say what was done, and a second run does the rest.
 #[test]
 fn run_of_commands(rt: HostRuntime) -> Result<(), Fail> {
     let alloc = rt.alloc();
-    let mut table = match Table::<i64>::new(alloc, 1) {
-        Ok(table) => table,
-        Err(Error::OutOfMemory) => return Err(Fail::from("refused")),
-        Err(_) => return Err(Fail::from("another error")),
+    let Ok(mut table) = Table::<i64>::new(alloc, 1) else {
+        return Err(Fail::from("refused"));
     };
-    let commands = [
-        Command::New(0, Kind::MutablePrimitive),
-        Command::Push(0, Some(Item::Value(1))),
-        Command::Len(0),
-        Command::Push(0, None),
-        Command::Len(0),
-        Command::Freeze(0),
-        Command::Len(0),
-    ];
+    let Ok(commands) = read_commands(alloc, COMMANDS.as_bytes()) else {
+        return Err(Fail::from("refused"));
+    };
     let mut replies = Vec::new(alloc);
     let done = run(&mut table, &commands, &mut replies);
     let rest = run(&mut table, &commands[done..], &mut replies);
