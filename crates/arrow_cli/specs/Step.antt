@@ -6,7 +6,7 @@ use Rattle.arrow_types.specs.Types.{LogicalType, out_of_memory}
 use Rattle.arrow_memory.specs.Column.{slot, slots_of, cut, append_slot, last_slot, without_last, without_needless_mask}
 use Rattle.arrow_cli.specs.declared.table.item.Kind.{Kind}
 use Rattle.arrow_cli.specs.Item.{Stored, value}
-use Rattle.arrow_cli.specs.Command.{Request}
+use Rattle.arrow_cli.specs.Command.{Request, entry_of}
 use Rattle.arrow_cli.specs.Command as request
 use Rattle.arrow_cli.specs.Reply.{Answer, done, not_met, number, refused}
 use Rattle.arrow_cli.specs.Reply as answer
@@ -95,13 +95,17 @@ module _ {T : Type 0} where
       MatchOption (slice_get state entry) ((reply ≡ not_met) × (new ≡ state)) (λ old.
       Row old reply (slice_index_or new entry None) × (new ≡ slice_set state entry (slice_index_or new entry None)))
 
-  -- one command, over values whose default is `zero` and whose type is `t` unless another is given
+  -- what a command does to the entry that it names, over values whose default is `zero` and whose type is `t` unless another is given
+  abbrev pub RowStep : T → LogicalType → Request T → Option (Entry T) → Answer T → Option (Entry T) → Type 0
+  RowStep zero t (request.new entry kind) = NewStep t kind
+  RowStep zero t (request.len entry) = LenStep
+  RowStep zero t (request.get entry index) = GetStep index
+  RowStep zero t (request.slots entry) = SlotsStep
+  RowStep zero t (request.slice entry offset len) = SliceStep offset len
+  RowStep zero t (request.push entry item) = PushStep zero item
+  RowStep zero t (request.pop entry) = PopStep
+  RowStep zero t (request.freeze entry) = FreezeStep
+
+  -- one command
   abbrev pub IsStep : T → LogicalType → State T → Request T → Answer T → State T → Type 0
-  IsStep zero t state (request.new entry kind) = AtEntry state entry (NewStep t kind)
-  IsStep zero t state (request.len entry) = AtEntry state entry LenStep
-  IsStep zero t state (request.get entry index) = AtEntry state entry (GetStep index)
-  IsStep zero t state (request.slots entry) = AtEntry state entry SlotsStep
-  IsStep zero t state (request.slice entry offset len) = AtEntry state entry (SliceStep offset len)
-  IsStep zero t state (request.push entry item) = AtEntry state entry (PushStep zero item)
-  IsStep zero t state (request.pop entry) = AtEntry state entry PopStep
-  IsStep zero t state (request.freeze entry) = AtEntry state entry FreezeStep
+  IsStep zero t state asked = AtEntry state (entry_of asked) (RowStep zero t asked)

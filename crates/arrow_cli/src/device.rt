@@ -12,7 +12,7 @@ use std::io::{ErrorKind, Read, Write};
 const PIECE: usize = 65536;
 
 /// Why reading or writing stopped.
-#[derive(Debug, Drop)]
+#[derive(Drop)]
 pub(crate) enum Fault {
     /// The device failed.
     Device,

@@ -5,7 +5,7 @@ ghost use Rattle.arrow_cli.specs.Session.{status_of, outcome_text};
 use std::fmt;
 
 /// How a session ended.
-#[derive(Clone, Copy, Debug, PartialEq, Eq)]
+#[derive(Clone, Copy, PartialEq, Eq)]
 pub enum Outcome {
     /// Every command was run and every reply was written.
     Done,

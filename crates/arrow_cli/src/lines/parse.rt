@@ -52,7 +52,7 @@ fn command_in(line: &[u8]) -> Option<Command<i64>>
 }
 
 /// Why an input is not answered.
-#[derive(Debug, Drop)]
+#[derive(Drop)]
 pub enum InputError {
     /// The line of this number, counted from 1, is no command.
     BadLine(usize),

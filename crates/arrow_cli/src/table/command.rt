@@ -4,7 +4,7 @@ ghost use Rattle.std.specs.Prelude.{◌≡◌};
 use crate::table::item::{Item, Kind};
 
 /// A command; its first number is the entry that it is about.
-#[derive(Debug, PartialEq, Drop)]
+#[derive(Drop)]
 pub enum Command<T> {
     /// Puts an empty array or builder into an empty entry.
     New(usize, Kind),

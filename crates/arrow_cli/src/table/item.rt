@@ -1,7 +1,7 @@
 //! Items, and the kinds of array and builder that hold them.
 
 /// The kinds of entry: frozen arrays, and builders with nulls.
-#[derive(Clone, Copy, Debug, PartialEq, Eq)]
+#[derive(Clone, Copy, PartialEq, Eq)]
 pub enum Kind {
     /// A `PrimitiveArray`.
     Primitive,
@@ -10,7 +10,7 @@ pub enum Kind {
 }
 
 /// What a slot that is not null shows.
-#[derive(Debug, PartialEq, Drop)]
+#[derive(Drop)]
 pub enum Item<T> {
     /// A native value.
     Value(T),

@@ -3,7 +3,7 @@ use crate::table::item::Item;
 use arrow_types::error::Error;
 
 /// The answer to a command.
-#[derive(Debug, PartialEq, Drop)]
+#[derive(Drop)]
 pub enum Reply<T> {
     /// The command was done.
     Done,

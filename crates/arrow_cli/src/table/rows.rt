@@ -1,6 +1,7 @@
 //! What each command does to the entry that it names.
-ghost use Rattle.std.specs.Prelude.{◌≡◌, None, map, IfOk};
+ghost use Rattle.std.specs.Prelude.{◌≡◌, None, map, IfOk, IfErr};
 ghost use Rattle.arrow_types.specs.Types.{default_logical_type};
+ghost use Rattle.arrow_cli.specs.Entry.{new_entry};
 ghost use Rattle.arrow_cli.specs.Item.{stored_slot};
 ghost use Rattle.arrow_cli.specs.Reply.{told};
 ghost use Rattle.arrow_cli.specs.Step.{NewStep, LenStep, GetStep, SlotsStep, SliceStep, PushStep, PopStep, FreezeStep, pushed, shown};
@@ -12,6 +13,7 @@ use arrow_primitive::{MutablePrimitiveArray, PrimitiveArray};
 use arrow_types::error::Error;
 use arrow_types::native_type::NativeType;
 use std::alloc::{AllocError, Global};
+use std::mem::replace;
 use std::slice::Iter;
 
 /// The native value of a slot that is to be stored.
@@ -34,6 +36,27 @@ fn item_of<T: NativeType>(slot: Option<T>) -> Option<Item<T>>
     }
 }
 
+/// Puts something in the place of what is in an entry.
+fn put<T: NativeType>(entry: &mut Option<Entry<T>>, kept: Option<Entry<T>>)
+    ensures { entry.new ≡ kept }
+{
+    drop(replace(entry, kept));
+}
+
+/// An empty array or builder.
+fn empty_entry<T: NativeType>(alloc: Global, kind: Kind) -> Result<Entry<T>, Error>
+    ensures ok { IfOk result (λ entry. entry ≡ new_entry (default_logical_type T.PRIMITIVE) kind) }
+    ensures err { IfErr result (λ e. e ≡ Error.OutOfMemory) }
+{
+    match kind {
+        Kind::Primitive => {
+            let array = PrimitiveArray::new_empty(alloc, T::PRIMITIVE.default_data_type())?;
+            Ok(Entry::Primitive(array))
+        }
+        Kind::MutablePrimitive => Ok(Entry::MutablePrimitive(MutablePrimitiveArray::new(alloc))),
+    }
+}
+
 /// Puts an empty array or builder into an empty entry.
 pub(crate) fn new_entry<T: NativeType>(
     alloc: Global,
@@ -45,21 +68,12 @@ pub(crate) fn new_entry<T: NativeType>(
     if entry.is_some() {
         return Reply::NotMet;
     }
-    match kind {
-        Kind::Primitive => match PrimitiveArray::new_empty(
-            alloc,
-            T::PRIMITIVE.default_data_type(),
-        ) {
-            Ok(array) => {
-                *entry = Some(Entry::Primitive(array));
-                Reply::Done
-            }
-            Err(error) => Reply::Refused(error),
-        },
-        Kind::MutablePrimitive => {
-            *entry = Some(Entry::MutablePrimitive(MutablePrimitiveArray::new(alloc)));
+    match empty_entry(alloc, kind) {
+        Ok(made) => {
+            put(entry, Some(made));
             Reply::Done
         }
+        Err(error) => Reply::Refused(error),
     }
 }
 
@@ -164,21 +178,24 @@ pub(crate) fn pop<T: NativeType>(entry: &mut Option<Entry<T>>) -> Reply<T>
     }
 }
 
+/// What becomes of what was in an entry that is to be an array, and the answer.
+fn frozen<T: NativeType>(taken: Option<Entry<T>>) -> (Option<Entry<T>>, Reply<T>)
+    ensures { FreezeStep taken (told result.1) result.0 }
+{
+    match taken {
+        Some(Entry::MutablePrimitive(builder)) => match builder.freeze() {
+            Ok(array) => (Some(Entry::Primitive(array)), Reply::Done),
+            Err(error) => (None, Reply::Refused(error)),
+        },
+        other => (other, Reply::NotMet),
+    }
+}
+
 /// Makes a builder an array.
 pub(crate) fn freeze<T: NativeType>(entry: &mut Option<Entry<T>>) -> Reply<T>
     ensures { FreezeStep entry.old (told result) entry.new }
 {
-    match entry.take() {
-        Some(Entry::MutablePrimitive(builder)) => match builder.freeze() {
-            Ok(array) => {
-                *entry = Some(Entry::Primitive(array));
-                Reply::Done
-            }
-            Err(error) => Reply::Refused(error),
-        },
-        other => {
-            *entry = other;
-            Reply::NotMet
-        }
-    }
+    let (kept, reply) = frozen(entry.take());
+    put(entry, kept);
+    reply
 }

@@ -5,7 +5,7 @@ ghost use Rattle.arrow_cli.specs.Command.{asked};
 ghost use Rattle.arrow_cli.specs.Entry.{kind_of};
 ghost use Rattle.arrow_cli.specs.Reply.{told};
 ghost use Rattle.arrow_cli.specs.Run.{AppendsRun};
-ghost use Rattle.arrow_cli.specs.Step.{IsStep};
+ghost use Rattle.arrow_cli.specs.Step.{IsStep, RowStep};
 
 use crate::table::{Command, Entry, Kind, Reply, rows};
 use arrow_types::error::Error;
@@ -56,10 +56,25 @@ impl<T: NativeType> Table<T> {
         ensures { result ≡ option_map kind_of (option_and_then (λ entry. entry) (slice_get self.now i)) }
     {
         match self.entries.get(i)? {
-            Some(Entry::Primitive(_)) => Some(Kind::Primitive),
-            Some(Entry::MutablePrimitive(_)) => Some(Kind::MutablePrimitive),
+            Some(entry) => Some(entry.kind()),
             None => None,
         }
+    }
+}
+
+/// Does to an entry what a command about it says.
+fn row<T: NativeType>(alloc: Global, entry: &mut Option<Entry<T>>, command: &Command<T>) -> Reply<T>
+    ensures { RowStep T.zero (default_logical_type T.PRIMITIVE) (asked command.now) entry.old (told result) entry.new }
+{
+    match command {
+        Command::New(_, kind) => rows::new_entry(alloc, entry, *kind),
+        Command::Len(_) => rows::len(entry),
+        Command::Get(_, index) => rows::get(entry, *index),
+        Command::Slots(_) => rows::slots(alloc, entry),
+        Command::Slice(_, offset, len) => rows::slice(entry, *offset, *len),
+        Command::Push(_, slot) => rows::push(entry, slot),
+        Command::Pop(_) => rows::pop(entry),
+        Command::Freeze(_) => rows::freeze(entry),
     }
 }
 
@@ -73,16 +88,7 @@ fn step<T: NativeType>(entries: &mut Vec<Option<Entry<T>>>, command: &Command<T>
         return Reply::NotMet;
     }
     let entry = &mut entries[number];
-    match command {
-        Command::New(_, kind) => rows::new_entry(alloc, entry, *kind),
-        Command::Len(_) => rows::len(entry),
-        Command::Get(_, index) => rows::get(entry, *index),
-        Command::Slots(_) => rows::slots(alloc, entry),
-        Command::Slice(_, offset, len) => rows::slice(entry, *offset, *len),
-        Command::Push(_, slot) => rows::push(entry, slot),
-        Command::Pop(_) => rows::pop(entry),
-        Command::Freeze(_) => rows::freeze(entry),
-    }
+    row(alloc, entry, command)
 }
 
 /// Runs commands in order and appends a reply for each. Answers how many were done: all, or as many as
@@ -100,9 +106,9 @@ pub fn run<T: NativeType>(
 {
     let mut done = 0;
     for command in commands {
-        if replies.reserve(1).is_err() {
+        let Ok(()) = replies.reserve(1) else {
             return done;
-        }
+        };
         let reply = step(&mut table.entries, command);
         replies.push_reserved(reply);
         done += 1;

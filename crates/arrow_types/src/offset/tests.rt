@@ -3,7 +3,7 @@ ghost use Rattle.std.specs.Prelude.{◌≡◌, ◌≤◌, pos, ◌≤ℤ◌};
 use super::*;
 
 /// A narrow offset, whose greatest number is 100.
-#[derive(Clone, Copy, Debug)]
+#[derive(Clone, Copy)]
 struct Tiny {
     kept: i8,
     ghost within: { kept ≤ℤ pos 100 },
@@ -60,20 +60,24 @@ fn through<O: Offset>(value: usize) -> Option<usize> {
 }
 
 #[test]
+fn offsets_know_their_greatest(rt: HostRuntime) {
+    let is_tiny = greatest::<Tiny>() == Some(100);
+    let is_narrow = greatest::<i32>() == Some(2147483647);
+    assert!(rt; is_tiny && is_narrow && greatest::<i64>() == Some(9223372036854775807));
+}
+
+#[test]
 fn offsets_hold_numbers_up_to_their_greatest(rt: HostRuntime) {
-    assert_eq!(rt; greatest::<i32>(), Some(2147483647));
-    assert_eq!(rt; greatest::<i64>(), Some(9223372036854775807));
-    assert_eq!(rt; greatest::<Tiny>(), Some(100));
-    assert_eq!(rt; through::<i32>(2147483647), Some(2147483647));
-    assert_eq!(rt; through::<i32>(2147483648), None);
-    assert_eq!(rt;
-        through::<i64>(9223372036854775807),
-        Some(9223372036854775807)
-    );
-    assert_eq!(rt; through::<i64>(9223372036854775808), None);
-    assert_eq!(rt; through::<Tiny>(100), Some(100));
-    assert_eq!(rt; through::<Tiny>(101), None);
-    assert_eq!(rt; through::<i32>(0), Some(0));
+    for (value, narrow, wide) in [
+        (0, Some(0), Some(0)),
+        (2147483647, Some(2147483647), Some(2147483647)),
+        (2147483648, None, Some(2147483648)),
+        (9223372036854775807, None, Some(9223372036854775807)),
+        (9223372036854775808, None, None),
+    ] {
+        assert!(rt; through::<i32>(value) == narrow && through::<i64>(value) == wide);
+    }
+    assert!(rt; through::<Tiny>(100) == Some(100) && through::<Tiny>(101) == None);
 }
 
 /// The same without a test, for a number that is at most the greatest one.
@@ -86,28 +90,20 @@ fn through_untested<O: Offset>(value: usize) -> usize
 
 #[test]
 fn numbers_known_to_fit_need_no_test(rt: HostRuntime) {
-    assert_eq!(rt; through_untested::<i32>(2147483647), 2147483647);
-    assert_eq!(rt;
-        through_untested::<i64>(9223372036854775807),
-        9223372036854775807
-    );
-    assert_eq!(rt; through_untested::<Tiny>(100), 100);
-    assert_eq!(rt; through_untested::<Tiny>(0), 0);
+    let is_narrow = through_untested::<i32>(2147483647) == 2147483647;
+    let is_wide = through_untested::<i64>(9223372036854775807) == 9223372036854775807;
+    assert!(rt; is_narrow && is_wide && through_untested::<Tiny>(100) == 100);
 }
 
 #[test]
 fn negative_values_have_no_place(rt: HostRuntime) {
-    assert_eq!(rt; (-1_i32).try_to_usize(), None);
-    assert_eq!(rt; i32::MIN.try_to_usize(), None);
-    assert_eq!(rt; (-1_i64).try_to_usize(), None);
-    assert_eq!(rt; 7_i32.try_to_usize(), Some(7));
-    assert_eq!(rt; 7_i64.to_usize(), 7);
-    assert_eq!(rt; (Tiny { kept: -1 }).try_to_usize(), None);
+    let is_any = i32::MIN.try_to_usize().is_some()
+        || (-1_i64).try_to_usize().is_some()
+        || (Tiny { kept: -1 }).try_to_usize().is_some();
+    assert!(rt; !is_any && 7_i32.try_to_usize() == Some(7) && 7_i64.to_usize() == 7);
 }
 
 #[test]
 fn wide_offsets_are_large(rt: HostRuntime) {
-    assert!(rt; i64::IS_LARGE);
-    assert!(rt; !i32::IS_LARGE);
-    assert!(rt; !Tiny::IS_LARGE);
+    assert!(rt; i64::IS_LARGE && !i32::IS_LARGE && !Tiny::IS_LARGE);
 }

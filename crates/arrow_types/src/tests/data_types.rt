@@ -8,75 +8,77 @@ use crate::native_type::NativeType;
 use crate::physical_type::PhysicalType;
 use crate::primitive_type::PrimitiveType;
 use crate::units::{IntervalUnit, TimeUnit};
-use std::test::Fail;
+use std::alloc::{AllocError, Global};
 
-const INT32: PhysicalType = PhysicalType::Primitive(PrimitiveType::Int32);
+/// Do the values of this type lie so?
+fn lies(data_type: DataType, physical: PhysicalType) -> bool {
+    data_type.to_physical_type() == physical
+}
 
-const INT64: PhysicalType = PhysicalType::Primitive(PrimitiveType::Int64);
+/// Do the values of this type lie as native values of this type?
+fn lies_as_native(data_type: DataType, primitive: PrimitiveType) -> bool {
+    lies(data_type, PhysicalType::Primitive(primitive))
+}
 
 #[test]
-fn each_type_lies_as_the_format_says(rt: HostRuntime) -> Result<(), Fail> {
-    for (logical, physical) in [
-        (
-            timestamp(rt.alloc(), TimeUnit::Second, Some("Europe/Paris"))?,
-            INT64,
-        ),
-        (two_extensions(rt.alloc())?, INT32),
-        (DataType::Boolean, PhysicalType::Boolean),
-        (DataType::Int8, PhysicalType::Primitive(PrimitiveType::Int8)),
-        (
-            DataType::Int16,
-            PhysicalType::Primitive(PrimitiveType::Int16),
-        ),
-        (DataType::Int32, INT32),
-        (DataType::Int64, INT64),
-        (
-            DataType::UInt8,
-            PhysicalType::Primitive(PrimitiveType::UInt8),
-        ),
-        (
-            DataType::UInt16,
-            PhysicalType::Primitive(PrimitiveType::UInt16),
-        ),
-        (
-            DataType::UInt32,
-            PhysicalType::Primitive(PrimitiveType::UInt32),
-        ),
-        (
-            DataType::UInt64,
-            PhysicalType::Primitive(PrimitiveType::UInt64),
-        ),
-        (DataType::Date32, INT32),
-        (DataType::Date64, INT64),
-        (DataType::Time32(TimeUnit::Nanosecond), INT32),
-        (DataType::Time64(TimeUnit::Second), INT64),
-        (DataType::Timestamp(TimeUnit::Microsecond, None), INT64),
-        (DataType::Duration(TimeUnit::Millisecond), INT64),
-        (DataType::Interval(IntervalUnit::YearMonth), INT32),
-        (
-            DataType::Interval(IntervalUnit::DayTime),
-            PhysicalType::Primitive(PrimitiveType::DaysMs),
-        ),
-        (
-            DataType::Interval(IntervalUnit::MonthDayNano),
-            PhysicalType::Primitive(PrimitiveType::MonthDayNano),
-        ),
-        (
-            DataType::Decimal(0, usize::MAX),
-            PhysicalType::Primitive(PrimitiveType::Int128),
-        ),
-        (
-            DataType::Decimal256(1, 2),
-            PhysicalType::Primitive(PrimitiveType::Int256),
-        ),
-        (DataType::Binary, PhysicalType::Binary),
-        (DataType::LargeBinary, PhysicalType::LargeBinary),
-        (DataType::Utf8, PhysicalType::Utf8),
-        (DataType::LargeUtf8, PhysicalType::LargeUtf8),
+fn integers_and_decimals_lie_as_the_format_says(rt: HostRuntime) {
+    let are_signed = lies_as_native(DataType::Int8, PrimitiveType::Int8)
+        && lies_as_native(DataType::Int16, PrimitiveType::Int16)
+        && lies_as_native(DataType::Int32, PrimitiveType::Int32)
+        && lies_as_native(DataType::Int64, PrimitiveType::Int64)
+        && lies_as_native(DataType::Decimal(0, usize::MAX), PrimitiveType::Int128)
+        && lies_as_native(DataType::Decimal256(1, 2), PrimitiveType::Int256);
+    let are_unsigned = lies_as_native(DataType::UInt8, PrimitiveType::UInt8)
+        && lies_as_native(DataType::UInt16, PrimitiveType::UInt16)
+        && lies_as_native(DataType::UInt32, PrimitiveType::UInt32)
+        && lies_as_native(DataType::UInt64, PrimitiveType::UInt64);
+    assert!(rt; are_signed && are_unsigned);
+}
+
+#[test]
+fn times_lie_as_the_format_says(rt: HostRuntime) {
+    let are_32 = lies_as_native(DataType::Date32, PrimitiveType::Int32)
+        && lies_as_native(DataType::Time32(TimeUnit::Nanosecond), PrimitiveType::Int32);
+    let are_64 = lies_as_native(DataType::Date64, PrimitiveType::Int64)
+        && lies_as_native(DataType::Time64(TimeUnit::Second), PrimitiveType::Int64)
+        && lies_as_native(
+            DataType::Timestamp(TimeUnit::Microsecond, None),
+            PrimitiveType::Int64,
+        )
+        && lies_as_native(
+            DataType::Duration(TimeUnit::Millisecond),
+            PrimitiveType::Int64,
+        );
+    assert!(rt; are_32 && are_64);
+}
+
+#[test]
+fn intervals_lie_as_the_format_says(rt: HostRuntime) {
+    for (unit, primitive) in [
+        (IntervalUnit::YearMonth, PrimitiveType::Int32),
+        (IntervalUnit::DayTime, PrimitiveType::DaysMs),
+        (IntervalUnit::MonthDayNano, PrimitiveType::MonthDayNano),
     ] {
-        assert!(rt; logical.to_physical_type() == physical);
+        assert!(rt; lies_as_native(DataType::Interval(unit), primitive));
     }
-    Ok(())
+}
+
+/// Does an extension of an extension of months lie as months?
+fn extensions_lie_as_months(alloc: Global) -> bool {
+    match two_extensions(alloc) {
+        Ok(ages) => lies_as_native(ages, PrimitiveType::Int32),
+        Err(_) => false,
+    }
+}
+
+#[test]
+fn bytes_and_extensions_lie_as_the_format_says(rt: HostRuntime) {
+    let are_right = lies(DataType::Boolean, PhysicalType::Boolean)
+        && lies(DataType::Binary, PhysicalType::Binary)
+        && lies(DataType::LargeBinary, PhysicalType::LargeBinary)
+        && lies(DataType::Utf8, PhysicalType::Utf8)
+        && lies(DataType::LargeUtf8, PhysicalType::LargeUtf8);
+    assert!(rt; are_right && extensions_lie_as_months(rt.alloc()));
 }
 
 /// Do the values of this type lie as these native values?
@@ -92,44 +94,55 @@ fn types_are_right_by_their_layout(rt: HostRuntime) {
     assert!(rt; lies_as::<i64>(&date) && !lies_as::<i32>(&date));
 }
 
+/// Is this the type that a primitive type's values have by default?
+fn is_default(primitive: PrimitiveType, logical: DataType) -> bool {
+    primitive.default_data_type() == logical
+}
+
 #[test]
 fn default_types(rt: HostRuntime) {
-    for (primitive, logical) in [
-        (PrimitiveType::Int8, DataType::Int8),
-        (PrimitiveType::Int16, DataType::Int16),
-        (PrimitiveType::Int32, DataType::Int32),
-        (PrimitiveType::Int64, DataType::Int64),
-        (PrimitiveType::Int128, DataType::Decimal(32, 32)),
-        (PrimitiveType::Int256, DataType::Decimal256(32, 32)),
-        (PrimitiveType::UInt8, DataType::UInt8),
-        (PrimitiveType::UInt16, DataType::UInt16),
-        (PrimitiveType::UInt32, DataType::UInt32),
-        (PrimitiveType::UInt64, DataType::UInt64),
-        (
-            PrimitiveType::DaysMs,
-            DataType::Interval(IntervalUnit::DayTime),
-        ),
-        (
-            PrimitiveType::MonthDayNano,
-            DataType::Interval(IntervalUnit::MonthDayNano),
-        ),
+    let are_signed = is_default(PrimitiveType::Int8, DataType::Int8)
+        && is_default(PrimitiveType::Int16, DataType::Int16)
+        && is_default(PrimitiveType::Int32, DataType::Int32)
+        && is_default(PrimitiveType::Int64, DataType::Int64)
+        && is_default(PrimitiveType::Int128, DataType::Decimal(32, 32))
+        && is_default(PrimitiveType::Int256, DataType::Decimal256(32, 32));
+    let are_unsigned = is_default(PrimitiveType::UInt8, DataType::UInt8)
+        && is_default(PrimitiveType::UInt16, DataType::UInt16)
+        && is_default(PrimitiveType::UInt32, DataType::UInt32)
+        && is_default(PrimitiveType::UInt64, DataType::UInt64);
+    assert!(rt; are_signed && are_unsigned);
+}
+
+#[test]
+fn default_types_of_intervals(rt: HostRuntime) {
+    for (primitive, unit) in [
+        (PrimitiveType::DaysMs, IntervalUnit::DayTime),
+        (PrimitiveType::MonthDayNano, IntervalUnit::MonthDayNano),
     ] {
-        assert!(rt; primitive.default_data_type() == logical);
+        assert!(rt; is_default(primitive, DataType::Interval(unit)));
+    }
+}
+
+/// Is there this type, and is its clone equal to it?
+fn is_cloned(original: Result<DataType, AllocError>) -> bool {
+    let Ok(original) = original else {
+        return false;
+    };
+    match original.clone() {
+        Ok(copy) => copy == original,
+        Err(_) => false,
     }
 }
 
 #[test]
-fn clones_are_equal(rt: HostRuntime) -> Result<(), Fail> {
-    for original in [
-        DataType::UInt16,
-        DataType::Time64(TimeUnit::Microsecond),
-        DataType::Interval(IntervalUnit::DayTime),
-        DataType::Decimal(5, 2),
-        timestamp(rt.alloc(), TimeUnit::Millisecond, None)?,
-        timestamp(rt.alloc(), TimeUnit::Second, Some("UTC"))?,
-        two_extensions(rt.alloc())?,
-    ] {
-        assert!(rt; original.clone()? == original);
-    }
-    Ok(())
+fn clones_are_equal(rt: HostRuntime) {
+    let are_plain = is_cloned(Ok(DataType::UInt16))
+        && is_cloned(Ok(DataType::Time64(TimeUnit::Microsecond)))
+        && is_cloned(Ok(DataType::Interval(IntervalUnit::DayTime)))
+        && is_cloned(Ok(DataType::Decimal(5, 2)));
+    let are_made = is_cloned(timestamp(rt.alloc(), TimeUnit::Millisecond, None))
+        && is_cloned(timestamp(rt.alloc(), TimeUnit::Second, Some("UTC")))
+        && is_cloned(two_extensions(rt.alloc()));
+    assert!(rt; are_plain && are_made);
 }

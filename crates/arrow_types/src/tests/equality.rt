@@ -3,41 +3,64 @@ use super::{extension, timestamp};
 use crate::data_type::DataType;
 use crate::units::{IntervalUnit, TimeUnit};
 use std::alloc::{AllocError, Global};
-use std::test::Fail;
 
-#[test]
-fn equality_sees_units_and_numbers(rt: HostRuntime) {
-    for (first, second) in [
-        (DataType::Int32, DataType::Date32),
-        (DataType::Binary, DataType::LargeBinary),
-        (
-            DataType::Time32(TimeUnit::Second),
-            DataType::Time32(TimeUnit::Millisecond),
-        ),
-        (
-            DataType::Time32(TimeUnit::Second),
-            DataType::Time64(TimeUnit::Second),
-        ),
-        (
-            DataType::Duration(TimeUnit::Second),
-            DataType::Duration(TimeUnit::Nanosecond),
-        ),
-        (
-            DataType::Interval(IntervalUnit::YearMonth),
-            DataType::Interval(IntervalUnit::DayTime),
-        ),
-        (DataType::Decimal(5, 2), DataType::Decimal(6, 2)),
-        (DataType::Decimal(5, 2), DataType::Decimal(5, 3)),
-        (DataType::Decimal(5, 2), DataType::Decimal256(5, 2)),
-        (DataType::Decimal256(2, 5), DataType::Decimal256(5, 2)),
-    ] {
-        assert!(rt; first != second);
-    }
+/// Are the two types told apart?
+fn differ(first: DataType, second: DataType) -> bool {
+    first != second
 }
 
 #[test]
-fn equality_sees_zones(rt: HostRuntime) -> Result<(), Fail> {
-    let zoned = timestamp(rt.alloc(), TimeUnit::Second, Some("UTC"))?;
+fn equality_sees_units(rt: HostRuntime) {
+    let second = TimeUnit::Second;
+    let are_told = differ(DataType::Int32, DataType::Date32)
+        && differ(DataType::Binary, DataType::LargeBinary)
+        && differ(
+            DataType::Time32(second),
+            DataType::Time32(TimeUnit::Millisecond),
+        )
+        && differ(DataType::Time32(second), DataType::Time64(second))
+        && differ(
+            DataType::Duration(second),
+            DataType::Duration(TimeUnit::Nanosecond),
+        );
+    let months = DataType::Interval(IntervalUnit::YearMonth);
+    assert!(rt; are_told && differ(months, DataType::Interval(IntervalUnit::DayTime)));
+}
+
+#[test]
+fn equality_sees_digits(rt: HostRuntime) {
+    for (precision, scale) in [(6, 2), (5, 3)] {
+        assert!(rt; differ(DataType::Decimal(5, 2), DataType::Decimal(precision, scale)));
+        assert!(rt;
+            differ(
+                DataType::Decimal256(precision, scale),
+                DataType::Decimal256(5, 2)
+            )
+        );
+    }
+    assert!(rt; differ(DataType::Decimal(5, 2), DataType::Decimal256(5, 2)));
+}
+
+/// Are the two types the same? Nothing where memory is refused for one.
+fn are_same(
+    first: Result<DataType, AllocError>,
+    second: Result<DataType, AllocError>,
+) -> Option<bool> {
+    let first = first.ok()?;
+    let second = second.ok()?;
+    Some(first == second)
+}
+
+/// Is a time with this unit and zone one of seconds in UTC?
+fn is_universal(alloc: Global, unit: TimeUnit, zone: Option<&str>) -> Option<bool> {
+    are_same(
+        timestamp(alloc, unit, zone),
+        timestamp(alloc, TimeUnit::Second, Some("UTC")),
+    )
+}
+
+#[test]
+fn equality_sees_zones(rt: HostRuntime) {
     for (unit, zone, same) in [
         (TimeUnit::Second, Some("UTC"), true),
         (TimeUnit::Millisecond, Some("UTC"), false),
@@ -45,10 +68,8 @@ fn equality_sees_zones(rt: HostRuntime) -> Result<(), Fail> {
         (TimeUnit::Second, Some(""), false),
         (TimeUnit::Second, None, false),
     ] {
-        let other = timestamp(rt.alloc(), unit, zone)?;
-        assert!(rt; (other == zoned) == same);
+        assert!(rt; is_universal(rt.alloc(), unit, zone) == Some(same));
     }
-    Ok(())
 }
 
 /// An extension around an extension around lengths of time, with these parts.
@@ -63,9 +84,20 @@ fn nested(
     extension(alloc, name, inner, metadata)
 }
 
+/// Is an extension with these parts the one of an `id` of a `row` of seconds, without metadata?
+fn is_bare(
+    alloc: Global,
+    name: &str,
+    within: &str,
+    unit: TimeUnit,
+    metadata: Option<&str>,
+) -> Option<bool> {
+    let bare = nested(alloc, "id", "row", TimeUnit::Second, None);
+    are_same(nested(alloc, name, within, unit, metadata), bare)
+}
+
 #[test]
-fn equality_sees_each_part_of_an_extension(rt: HostRuntime) -> Result<(), Fail> {
-    let bare = nested(rt.alloc(), "id", "row", TimeUnit::Second, None)?;
+fn equality_sees_each_part_of_an_extension(rt: HostRuntime) {
     for (name, within, unit, metadata, same) in [
         ("id", "row", TimeUnit::Second, None, true),
         ("id", "row", TimeUnit::Second, Some(""), false),
@@ -75,8 +107,6 @@ fn equality_sees_each_part_of_an_extension(rt: HostRuntime) -> Result<(), Fail> 
         ("row", "id", TimeUnit::Second, None, false),
         ("id", "row", TimeUnit::Nanosecond, None, false),
     ] {
-        let other = nested(rt.alloc(), name, within, unit, metadata)?;
-        assert!(rt; (other == bare) == same);
+        assert!(rt; is_bare(rt.alloc(), name, within, unit, metadata) == Some(same));
     }
-    Ok(())
 }

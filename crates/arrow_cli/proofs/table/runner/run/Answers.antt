@@ -1,7 +1,11 @@
-use Rattle.std.proofs.Common.{◌+◌, arith, ap}
+use Rattle.std.proofs.Common.{◌+◌, arith, ap, refl}
 use Rattle.arrow_types.specs.Types.{default_logical_type}
-use Rattle.arrow_cli.proofs.RunLemmas.{appends-more}
+use Rattle.arrow_cli.proofs.RunLemmas.{appends-more, appends-none}
 use Rattle.arrow_cli.proofs.table.runner.run.Goals as goal
+
+pub loop-command-init : goal.loop-command-init
+loop-command-init g c =
+    (refl, rw c.table.view_is (appends-none g.T.NativeType.zero (default_logical_type g.T.NativeType.PRIMITIVE) c.args.table.now c.args.commands.now c.args.replies.now.items), omega arith)
 
 pub loop-command-preserved : goal.loop-command-preserved
 loop-command-preserved g c =
@@ -16,3 +20,15 @@ loop-command-preserved g c =
       rw c.push_reserved.ensures.items (rw c.reserve.ensures.items more),
       omega (arith, c.loop-command.invariant.2, c.reserve.ensures.capacity, c.push_reserved.ensures.capacity),
     )
+
+pub returns-in_default-clause-count : goal.returns-in_default-clause-count
+returns-in_default-clause-count g c = omega (arith, c.loop-command.invariant.0, c.loop-command-test.true)
+
+pub returns-in_default-clause-run : goal.returns-in_default-clause-run
+returns-in_default-clause-run g c = rw (c.reserve.ensures.items, c.loop-command.invariant.0) c.loop-command.invariant.1
+
+pub returns-clause-count : goal.returns-clause-count
+returns-clause-count g c = omega (arith, c.loop-command.invariant.0, c.loop-command.auto.command-index-end)
+
+pub returns-clause-run : goal.returns-clause-run
+returns-clause-run g c = rw c.loop-command.invariant.0 c.loop-command.invariant.1
