@@ -1,8 +1,8 @@
 //! Columns that grow, of which builders are made.
-ghost use Rattle.std.specs.Prelude.{slice_get, not, is_some, ◌≡◌, ◌<◌, length, false, Some, None, OnOk, IfOk, IfErr, IfSome, option_map};
+ghost use Rattle.std.specs.Prelude.{IsTrue, slice_get, not, is_some, ◌≡◌, ◌<◌, length, false, Some, None, OnOk, IfOk, IfErr, IfSome, option_map};
 ghost use Rattle.std.specs.Option.{option_copied};
 ghost use Rattle.arrow_types.specs.Types.{logical_type};
-ghost use Rattle.arrow_memory.specs.Column.{FitsMask, all_valid, marks_of, slot_overflows, IsColumn, append_slot, column_with, mask_of, refused_growth, rows_of, stored_values, with_mask, with_type, without_last};
+ghost use Rattle.arrow_memory.specs.Column.{slots_of, FitsMask, all_valid, marks_of, slot_overflows, IsColumn, append_slot, column_with, mask_of, refused_growth, rows_of, stored_values, with_mask, with_type, without_last};
 
 use crate::bitmap::{Bitmap, BitmapIter, MutableBitmap};
 use crate::column::mask::{freeze_mask, keep_first_marks, push_null_mark, push_valid};
@@ -201,16 +201,27 @@ impl<V: MutableValues> GrowingColumn<V> {
         keep_first_marks(&mut self.validity, last);
     }
 
-    /// Whether the slot at a place is null.
+    /// Whether the slot at a place is valid, which is not null.
+    #[inline(always)]
+    pub fn is_valid(&self, i: usize) -> bool
+        requires { i < length self.now.rows }
+        ensures { slice_get (marks_of self.now) i ≡ Some result }
+    {
+        match &self.validity {
+            None => true,
+            Some(validity) => validity.get(i),
+        }
+    }
+
+    /// Whether the slot at a place is null; else it shows what is stored there.
     #[inline(always)]
     pub fn is_null(&self, i: usize) -> bool
         requires { i < length self.now.rows }
-        ensures { slice_get (marks_of self.now) i ≡ Some (not result) }
+        ensures mark { slice_get (marks_of self.now) i ≡ Some (not result) }
+        ensures null { IsTrue result → slice_get (slots_of self.now) i ≡ Some None }
+        ensures valid { IsTrue (not result) → (value : V.Stored) → slice_get (stored_values self.now) i ≡ Some value → slice_get (slots_of self.now) i ≡ Some (Some value) }
     {
-        match &self.validity {
-            None => false,
-            Some(validity) => !validity.get(i),
-        }
+        !self.is_valid(i)
     }
 
     /// The data type, the stored values, and the mask of an array of the same slots, which is held only where
