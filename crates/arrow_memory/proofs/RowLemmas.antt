@@ -1,5 +1,5 @@
 -- Lemmas about the rows that stored values and a mask make.
-use Rattle.std.proofs.Common.{length-append, ◌≡◌, ℕ, zero, suc, ◌+◌, ◌-◌, ◌<◌, Bool, true, false, not, ◌&&◌, ◌||◌, length-take, cond, IsTrue, if◌then◌else◌, List, [], ◌∷◌, ◌++◌, length, map, take, drop, min, replicate, count_by, slice_get, slice_set, Option, Some, None, option_map, option_and_then, unwrap_or, subst, is_some, IfSome, IfNone, refl, sym, ap, ap₂, ◌∙◌, zero-add, arith}
+use Rattle.std.proofs.Common.{length-append, ◌≡◌, ℕ, zero, suc, ◌+◌, ◌-◌, ◌<◌, Bool, true, false, not, ◌&&◌, ◌||◌, length-take, length-drop, cond, IsTrue, if◌then◌else◌, List, [], ◌∷◌, ◌++◌, length, map, take, drop, min, replicate, count_by, slice_get, slice_set, Option, Some, None, option_map, option_and_then, unwrap_or, subst, is_some, IfSome, IfNone, refl, sym, ap, ap₂, ◌∙◌, zero-add, arith}
 use Rattle.std.specs.List.{zip, list_all}
 use Rattle.std.proofs.lemmas.List.{length-map, map-append, length_push, take_at}
 use Rattle.std.proofs.lemmas.Slice.Zip.{length-zip}
@@ -417,6 +417,9 @@ pub same-test : {A S : Type 0} (test : A → List S → Bool) (t : LogicalType) 
 same-test test t o values mask column b fits e f = ap₂ test (ap (λ whole. whole.around) (sym e)) (stored-column t o values mask column fits e) ∙ f
 
 -- ---- other stored values, and another slot
+
+pub rewritten-length : {S : Type 0} (n : ℕ) (values ws : List S) → n ≡ length values → length (take n (ws ++ drop (length ws) values)) ≡ length values
+rewritten-length n values ws e = simp (length-take, length-append, length-drop) (omega (arith, e))
 
 zip-marks : {S : Type 0} (values ws : List S) (mask : Option (List Bool)) → FitsMask values mask → length ws ≡ length values → rows_of ws mask ≡ zip ws (map (λ (row : Row S). row.1) (rows_of values mask))
 zip-marks values ws None fits long = sym (zip-replicate ws) ∙ ap (zip ws) (ap (λ n. replicate n true) long ∙ sym (marks-all values))

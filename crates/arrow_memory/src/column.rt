@@ -6,6 +6,7 @@ mod extend;
 mod frozen;
 mod grow;
 mod growing;
+mod lend;
 mod mask;
 mod room;
 mod thaw;
@@ -13,5 +14,6 @@ mod values;
 
 pub use frozen::FrozenColumn;
 pub use growing::GrowingColumn;
+pub use lend::LendValues;
 pub use mask::{is_growing_mask_of, is_mask_of};
 pub use values::{Grow, MutableValues, PushValue, Repeated, SetValue, Values};

@@ -9,6 +9,7 @@ ghost use Rattle.arrow_memory.specs.Column.{mask_of, stored_values, with_mask, w
 use crate::{MutablePrimitiveArray, PrimitiveArray};
 use arrow_memory::bitmap::{Bitmap, MutableBitmap};
 use arrow_memory::buffer::Buffer;
+use arrow_memory::column::LendValues;
 use arrow_types::native_type::NativeType;
 use either::{Either, Left, Right};
 
@@ -102,5 +103,20 @@ impl<T: NativeType> MutablePrimitiveArray<T> {
         ensures { (values : _) × (changed : _) × (values.items ≡ stored_values self.old) × F.post change values changed × (vec_len changed ≡ length self.old.rows) × (self.new ≡ with_stored self.old changed.items) }
     {
         self.column.apply_values(change);
+    }
+}
+
+/// Once its values were written over, a builder has these values under the same marks.
+impl<T: NativeType> LendValues<T> for MutablePrimitiveArray<T> {
+    ghost use Rattle.arrow_memory.specs.Column.{stored_values, with_written};
+
+    ghost lent = { stored_values };
+
+    ghost written = { with_written };
+
+    /// The stored values, to be written to. The marks stay.
+    #[inline(always)]
+    fn values_mut_slice(&mut self) -> &mut [T] {
+        self.column.values_mut_slice()
     }
 }
