@@ -5,6 +5,7 @@
 mod bits;
 mod primitive;
 mod read;
+mod whole;
 
 /// A checksum as the driver reads it: `u64::MAX` where memory was refused. That is all that can be
 /// refused here, so a refusal is an `Option` within this crate and carries no text through its loops.

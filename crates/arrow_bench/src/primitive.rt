@@ -28,7 +28,7 @@ pub(crate) fn array(alloc: Global, values: &[i64], valid: &[u8]) -> Option<Primi
 }
 
 /// The number of rows and the value that is stored in one of them.
-fn probe(out: &MutablePrimitiveArray<i64>, round: usize) -> u64 {
+pub(crate) fn probe(out: &MutablePrimitiveArray<i64>, round: usize) -> u64 {
     let rows = out.len() as u64;
     match out.values().get(place(round, out.len())) {
         Some(value) => rows.wrapping_add(value.cast_unsigned()),
