@@ -3,6 +3,7 @@
 mod change;
 mod closures;
 mod extend;
+mod freeze;
 mod frozen;
 mod grow;
 mod growing;

@@ -2,7 +2,7 @@
 ghost use Rattle.std.specs.Prelude.{◌≡◌, ◌<◌, Bool, List, [], ◌∷◌, ◌++◌, length, ⊤};
 ghost use Rattle.std.specs.Iterator.{YieldsFirstBy, YieldsLastBy};
 
-use crate::bitmap::BitmapIter;
+use crate::bitmap::{BitmapIntoIter, BitmapIter};
 use std::iter::Copied;
 use std::slice::Iter;
 use std::vec::IntoIter;
@@ -108,6 +108,32 @@ impl<'a> ListIter for BitmapIter<'a> {
     #[inline(always)]
     fn count_left(&self) -> usize {
         self.len()
+    }
+}
+
+impl ListIter for BitmapIntoIter {
+    type Item = bool;
+
+    type Seen = bool;
+
+    ghost seen = { λ mark. mark };
+
+    ghost rest = { λ marks. marks };
+
+    #[inline(always)]
+    fn take_first(&mut self) -> Option<bool> {
+        self.next()
+    }
+
+    #[inline(always)]
+    fn take_last(&mut self) -> Option<bool> {
+        self.next_back()
+    }
+
+    #[inline(always)]
+    fn count_left(&self) -> usize {
+        let (left, _) = self.size_hint();
+        left
     }
 }
 

@@ -1,0 +1,181 @@
+//! Arrays of truth values.
+ghost use Rattle.std.specs.Prelude.{◌≡◌, ◌<◌, length, not, count_by, slice_get, Some, IfOk, IfErr};
+ghost use Rattle.std.specs.Option.{option_copied};
+ghost use Rattle.arrow_types.specs.Types.{logical_type, IsRightType};
+ghost use Rattle.arrow_memory.specs.Column.{FitsCut, FitsMask, IsColumn, column_of_parts, cut, empty_column, mask_of, marks_of, slots_of, stored_values};
+
+use arrow_memory::bitmap::Bitmap;
+use arrow_memory::column::FrozenColumn;
+use arrow_types::data_type::DataType;
+use arrow_types::error::Error;
+use arrow_types::physical_type::PhysicalType;
+use std::alloc::Global;
+use std::marker::Model;
+
+/// An array of truth values, each of which may be null. A null slot stores a value too.
+#[derive(Drop)]
+pub struct BooleanArray {
+    pub(crate) column: FrozenColumn<Bitmap>,
+}
+
+// Contracts see the column: the type, a row for each slot, and whether a mask is held.
+impl Model for BooleanArray {
+    ghost use Rattle.std.specs.Prelude.{Bool};
+    ghost use Rattle.arrow_types.specs.Types.{IsRightType};
+    ghost use Rattle.arrow_memory.specs.Column.{Column};
+    ghost use Rattle.arrow_types.specs.declared.physical_type.PhysicalType.TheVariants.{Boolean};
+
+    ghost Value = { Column Bool };
+
+    ghost view = { λ array. array.column };
+
+    ghost invariant = { λ array. IsRightType Boolean array.column.data_type };
+}
+
+impl BooleanArray {
+    /// The array of such parts, which have to fit: a mask has a mark for each value, and the type is one of the
+    /// array's physical type.
+    pub fn new(data_type: DataType, values: Bitmap, validity: Option<Bitmap>) -> Self
+        requires mask { FitsMask values validity }
+        requires right { IsRightType PhysicalType.Boolean (logical_type data_type) }
+        ensures { result ≡ column_of_parts (logical_type data_type) values validity }
+    {
+        BooleanArray {
+            column: FrozenColumn::new(data_type, values, validity),
+        }
+    }
+
+    /// No slot, and no mask. The type has to be one of the array's physical type.
+    ///
+    /// # Errors
+    /// `OutOfMemory` where memory is refused.
+    pub fn new_empty(alloc: Global, data_type: DataType) -> Result<Self, Error>
+        requires { IsRightType PhysicalType.Boolean (logical_type data_type) }
+        ensures ok { IfOk result (λ array. array ≡ empty_column (logical_type data_type)) }
+        ensures err { IfErr result (λ e. e ≡ Error.OutOfMemory) }
+    {
+        Ok(BooleanArray::new(data_type, Bitmap::new(alloc)?, None))
+    }
+
+    /// The data type, the stored values, and the mask where one is held.
+    pub fn into_inner(self) -> (DataType, Bitmap, Option<Bitmap>)
+        ensures data_type { logical_type result.0 ≡ self.data_type }
+        ensures values { result.1 ≡ stored_values self }
+        ensures mask { result.2 ≡ mask_of self }
+        ensures is_column { IsColumn self }
+        ensures right { IsRightType PhysicalType.Boolean (logical_type result.0) }
+    {
+        self.column.into_inner()
+    }
+
+    /// The number of slots.
+    #[inline(always)]
+    pub fn len(&self) -> usize
+        ensures { result ≡ length self.now.rows }
+    {
+        self.column.len()
+    }
+
+    /// The value that is stored at a place, also where the slot is null.
+    #[inline(always)]
+    pub fn value(&self, i: usize) -> bool
+        requires { i < length self.now.rows }
+        ensures { slice_get (stored_values self.now) i ≡ Some result }
+    {
+        self.column.values().get_bit(i)
+    }
+
+    /// The slot at a place: its value, or `None` where it is null.
+    #[inline(always)]
+    pub fn get(&self, i: usize) -> Option<bool>
+        requires { i < length self.now.rows }
+        ensures { slice_get (slots_of self.now) i ≡ Some result }
+    {
+        if self.column.is_null(i) {
+            return None;
+        }
+        Some(self.value(i))
+    }
+
+    /// Whether the slot at a place is null.
+    #[inline(always)]
+    pub fn is_null(&self, i: usize) -> bool
+        requires { i < length self.now.rows }
+        ensures { slice_get (marks_of self.now) i ≡ Some (not result) }
+    {
+        self.column.is_null(i)
+    }
+
+    /// Whether the slot at a place is valid, which is not null.
+    #[inline(always)]
+    pub fn is_valid(&self, i: usize) -> bool
+        requires { i < length self.now.rows }
+        ensures { slice_get (marks_of self.now) i ≡ Some result }
+    {
+        !self.is_null(i)
+    }
+
+    /// The number of null slots.
+    #[inline(always)]
+    pub fn null_count(&self) -> usize
+        ensures { result ≡ count_by not (marks_of self.now) }
+    {
+        self.column.null_count()
+    }
+
+    /// The stored values, those of null slots too.
+    #[inline(always)]
+    pub fn values(&self) -> &Bitmap
+        ensures { result.now ≡ stored_values self.now }
+    {
+        self.column.values()
+    }
+
+    /// The mask, where one is held; else no slot is null.
+    #[inline(always)]
+    pub fn validity(&self) -> Option<&Bitmap>
+        ensures mask { option_copied result ≡ mask_of self.now }
+        ensures is_column { IsColumn self.now }
+    {
+        self.column.validity()
+    }
+
+    /// The data type.
+    #[inline(always)]
+    pub fn data_type(&self) -> &DataType
+        ensures value { logical_type result.now ≡ self.now.data_type }
+        ensures right { IsRightType PhysicalType.Boolean self.now.data_type }
+    {
+        self.column.data_type()
+    }
+
+    /// Keeps only the `len` slots from `offset` on. A held mask stays held.
+    pub fn slice(&mut self, offset: usize, len: usize)
+        requires { FitsCut self.old offset len }
+        ensures { self.new ≡ cut self.old offset len }
+    {
+        self.column.slice(offset, len);
+    }
+
+    /// The `len` slots from `offset` on. A held mask stays held.
+    pub fn sliced(mut self, offset: usize, len: usize) -> Self
+        requires { FitsCut self offset len }
+        ensures { result ≡ cut self offset len }
+    {
+        self.slice(offset, len);
+        self
+    }
+
+    /// The same array once more. Neither values nor marks are copied.
+    ///
+    /// # Errors
+    /// `OutOfMemory` where memory is refused.
+    pub fn clone(&self) -> Result<Self, Error>
+        ensures ok { IfOk result (λ copy. copy ≡ self.now) }
+        ensures err { IfErr result (λ e. e ≡ Error.OutOfMemory) }
+    {
+        Ok(BooleanArray {
+            column: self.column.clone()?,
+        })
+    }
+}

@@ -1,0 +1,214 @@
+//! The builder of arrays of truth values.
+ghost use Rattle.std.specs.Prelude.{◌≡◌, ◌<◌, length, false, None, OnOk, IfOk, IfErr};
+ghost use Rattle.std.specs.Option.{option_copied};
+ghost use Rattle.arrow_types.specs.Types.{logical_type, IsRightType};
+ghost use Rattle.arrow_memory.specs.Column.{IsColumn, append_slot, empty_column, last_slot, mask_of, stored_values, with_slot, without_last};
+ghost use Rattle.arrow_boolean.specs.Fits.{boolean_type};
+
+use crate::BooleanArray;
+use arrow_memory::bitmap::MutableBitmap;
+use arrow_memory::column::GrowingColumn;
+use arrow_types::data_type::DataType;
+use arrow_types::error::Error;
+use arrow_types::physical_type::PhysicalType;
+use std::alloc::Global;
+use std::marker::Model;
+
+/// A list of truth values, each of which may be null, that can be changed and grow.
+#[derive(Drop)]
+pub struct MutableBooleanArray {
+    pub(crate) column: GrowingColumn<MutableBitmap>,
+}
+
+// Contracts see the column: the type, a row for each slot, and whether a mask is held.
+impl Model for MutableBooleanArray {
+    ghost use Rattle.std.specs.Prelude.{Bool};
+    ghost use Rattle.arrow_types.specs.Types.{IsRightType};
+    ghost use Rattle.arrow_memory.specs.Column.{Column};
+    ghost use Rattle.arrow_types.specs.declared.physical_type.PhysicalType.TheVariants.{Boolean};
+
+    ghost Value = { Column Bool };
+
+    ghost view = { λ builder. builder.column };
+
+    ghost invariant = { λ builder. IsRightType Boolean builder.column.data_type };
+}
+
+impl MutableBooleanArray {
+    /// No slot, and no mask; the data type is Boolean.
+    #[inline(always)]
+    pub fn new(alloc: Global) -> Self
+        ensures { result ≡ empty_column boolean_type }
+    {
+        MutableBooleanArray::from_values(MutableBitmap::new(alloc))
+    }
+
+    /// No slot, and no mask; the data type is Boolean.
+    pub fn default(alloc: Global) -> Self
+        ensures { result ≡ empty_column boolean_type }
+    {
+        MutableBooleanArray::new(alloc)
+    }
+
+    /// No slot and no mask, with room for so many slots.
+    ///
+    /// # Errors
+    /// `OutOfMemory` where memory is refused.
+    pub fn with_capacity(alloc: Global, capacity: usize) -> Result<Self, Error>
+        ensures ok { IfOk result (λ builder. builder ≡ empty_column boolean_type) }
+        ensures err { IfErr result (λ e. e ≡ Error.OutOfMemory) }
+    {
+        Ok(MutableBooleanArray::from_values(
+            MutableBitmap::with_capacity(alloc, capacity)?,
+        ))
+    }
+
+    /// The number of slots.
+    #[inline(always)]
+    pub fn len(&self) -> usize
+        ensures { result ≡ length self.now.rows }
+    {
+        self.column.len()
+    }
+
+    /// The stored values, those of null slots too.
+    #[inline(always)]
+    pub fn values(&self) -> &MutableBitmap
+        ensures { result.now ≡ stored_values self.now }
+    {
+        self.column.values()
+    }
+
+    /// The mask, where one is held; else no slot is null.
+    #[inline(always)]
+    pub fn validity(&self) -> Option<&MutableBitmap>
+        ensures mask { option_copied result ≡ mask_of self.now }
+        ensures is_column { IsColumn self.now }
+    {
+        self.column.validity()
+    }
+
+    /// The data type.
+    #[inline(always)]
+    pub fn data_type(&self) -> &DataType
+        ensures value { logical_type result.now ≡ self.now.data_type }
+        ensures right { IsRightType PhysicalType.Boolean self.now.data_type }
+    {
+        self.column.data_type()
+    }
+
+    /// Appends a slot. A null stores false, and a mask is held from then on.
+    ///
+    /// # Errors
+    /// `OutOfMemory` where a growth is refused; the builder is then as before.
+    #[inline(always)]
+    pub fn push(&mut self, value: Option<bool>) -> Result<(), Error>
+        ensures ok { OnOk result (self.new ≡ append_slot false self.old value) }
+        ensures err { IfErr result (λ e. (e ≡ Error.OutOfMemory) × (self.new ≡ self.old)) }
+    {
+        match value {
+            Some(value) => self.column.push_valid(value),
+            None => self.column.push_null(),
+        }
+    }
+
+    /// Appends a slot, as `push` does.
+    ///
+    /// # Errors
+    /// `OutOfMemory` where a growth is refused; the builder is then as before.
+    #[inline(always)]
+    pub fn try_push(&mut self, value: Option<bool>) -> Result<(), Error>
+        ensures ok { OnOk result (self.new ≡ append_slot false self.old value) }
+        ensures err { IfErr result (λ e. (e ≡ Error.OutOfMemory) × (self.new ≡ self.old)) }
+    {
+        self.push(value)
+    }
+
+    /// Appends a null.
+    ///
+    /// # Errors
+    /// `OutOfMemory` where a growth is refused; the builder is then as before.
+    #[inline(always)]
+    pub fn push_null(&mut self) -> Result<(), Error>
+        ensures ok { OnOk result (self.new ≡ append_slot false self.old None) }
+        ensures err { IfErr result (λ e. (e ≡ Error.OutOfMemory) × (self.new ≡ self.old)) }
+    {
+        self.column.push_null()
+    }
+
+    /// Removes the last slot and answers it; `None` where it is null, and where there is none.
+    #[inline(always)]
+    pub fn pop(&mut self) -> Option<bool>
+        ensures slot { result ≡ last_slot self.old }
+        ensures rest { self.new ≡ without_last self.old }
+    {
+        let last = self.len().checked_sub(1)?;
+        let slot = if self.column.is_null(last) {
+            None
+        } else {
+            Some(self.values().get(last))
+        };
+        self.column.remove_last();
+        slot
+    }
+
+    /// Replaces the slot at a place. A null stores false, and a mask is held from then on.
+    ///
+    /// # Errors
+    /// `OutOfMemory` where a mask's memory is refused; the builder is then as before.
+    #[inline(always)]
+    pub fn set(&mut self, i: usize, value: Option<bool>) -> Result<(), Error>
+        requires { i < length self.old.rows }
+        ensures ok { OnOk result (self.new ≡ with_slot false self.old i value) }
+        ensures err { IfErr result (λ e. (e ≡ Error.OutOfMemory) × (self.new ≡ self.old)) }
+    {
+        self.column.set(i, value)
+    }
+
+    /// Makes room for so many slots more, in a held mask too.
+    ///
+    /// # Errors
+    /// `OutOfMemory` where a growth is refused.
+    pub fn reserve(&mut self, additional: usize) -> Result<(), Error>
+        ensures kept { self.new ≡ self.old }
+        ensures err { IfErr result (λ e. e ≡ Error.OutOfMemory) }
+    {
+        self.column.reserve(additional)
+    }
+
+    /// Gives back the room that is not used.
+    ///
+    /// # Errors
+    /// `OutOfMemory` where smaller memory is refused.
+    pub fn shrink_to_fit(&mut self) -> Result<(), Error>
+        ensures kept { self.new ≡ self.old }
+        ensures err { IfErr result (λ e. e ≡ Error.OutOfMemory) }
+    {
+        self.column.shrink_to_fit()
+    }
+
+    /// A copy of the builder.
+    ///
+    /// # Errors
+    /// `OutOfMemory` where memory is refused.
+    pub fn clone(&self) -> Result<Self, Error>
+        ensures ok { IfOk result (λ copy. copy ≡ self.now) }
+        ensures err { IfErr result (λ e. e ≡ Error.OutOfMemory) }
+    {
+        Ok(MutableBooleanArray {
+            column: self.column.clone()?,
+        })
+    }
+
+    /// The array of the same slots, which holds a mask where the builder does, also where no slot is null.
+    ///
+    /// # Errors
+    /// `OutOfMemory` where a growth is refused; the builder is then lost.
+    pub fn freeze(self) -> Result<BooleanArray, Error>
+        ensures ok { IfOk result (λ array. array ≡ self) }
+        ensures err { IfErr result (λ e. e ≡ Error.OutOfMemory) }
+    {
+        let (data_type, values, validity) = self.column.freeze_whole_mask()?;
+        Ok(BooleanArray::new(data_type, values.freeze()?, validity))
+    }
+}

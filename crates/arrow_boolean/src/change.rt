@@ -1,0 +1,87 @@
+//! Arrays whose values or masks are replaced, and arrays that are thawed.
+ghost use Rattle.std.specs.Prelude.{◌≡◌, List, Bool, Some, length, IfSome, MatchOption, OnOk, IfOk, IfErr};
+ghost use Rattle.either.specs.Either.{MatchEither};
+ghost use Rattle.arrow_memory.specs.Column.{mask_of, stored_values, with_mask, with_stored};
+
+use crate::{BooleanArray, MutableBooleanArray};
+use arrow_memory::bitmap::{Bitmap, MutableBitmap};
+use arrow_types::error::Error;
+use either::{Either, Left, Right};
+
+impl BooleanArray {
+    /// Replaces the mask, which has a mark for each slot; without one every slot is valid.
+    pub fn set_validity(&mut self, validity: Option<Bitmap>)
+        requires { IfSome validity (λ marks. length marks ≡ length self.old.rows) }
+        ensures { self.new ≡ with_mask self.old validity }
+    {
+        self.column.set_validity(validity);
+    }
+
+    /// The same stored values under another mask, which has a mark for each slot; without one every slot is valid.
+    pub fn with_validity(mut self, validity: Option<Bitmap>) -> Self
+        requires { IfSome validity (λ marks. length marks ≡ length self.rows) }
+        ensures { result ≡ with_mask self validity }
+    {
+        self.set_validity(validity);
+        self
+    }
+
+    /// Replaces a held mask by what the closure makes of it, as many marks; without a mask nothing is done.
+    pub fn apply_validity<F: FnOnce(Bitmap) -> Bitmap + Drop>(&mut self, change: F)
+        requires callable { IfSome (mask_of self.old) (λ marks. F.pre change marks) }
+        requires keeps { IfSome (mask_of self.old) (λ marks. (changed : List Bool) → F.post change marks changed → length changed ≡ length marks) }
+        ensures { MatchOption (mask_of self.old) (self.new ≡ self.old) (λ marks. (changed : List Bool) × F.post change marks changed × (length changed ≡ length marks) × (self.new ≡ with_mask self.old (Some changed))) }
+    {
+        self.column.apply_validity(change);
+    }
+
+    /// Replaces the stored values by as many others. The marks stay.
+    pub fn set_values(&mut self, values: Bitmap)
+        requires { length values ≡ length self.old.rows }
+        ensures { self.new ≡ with_stored self.old values }
+    {
+        self.column.set_values(values);
+    }
+
+    /// As many other stored values under the same marks, which are not copied. The array stays.
+    ///
+    /// # Errors
+    /// `OutOfMemory` where memory is refused; the values are then lost.
+    pub fn with_values(&self, values: Bitmap) -> Result<Self, Error>
+        requires { length values ≡ length self.now.rows }
+        ensures ok { IfOk result (λ array. array ≡ with_stored self.now values) }
+        ensures err { IfErr result (λ e. e ≡ Error.OutOfMemory) }
+    {
+        let mut array = self.clone()?;
+        array.set_values(values);
+        Ok(array)
+    }
+
+    /// Replaces the stored values by what the closure makes of them, as many, of a copy where someone else has them.
+    /// The marks stay. All memory is taken before the closure is called.
+    ///
+    /// # Errors
+    /// `OutOfMemory` where memory is refused; the closure is then not called, and the array is as before.
+    pub fn apply_values_mut<F: Fn(MutableBitmap) -> MutableBitmap>(
+        &mut self,
+        change: F,
+    ) -> Result<(), Error>
+        requires callable { F.pre change (stored_values self.old) }
+        requires keeps { (changed : List Bool) → F.post change (stored_values self.old) changed → length changed ≡ length self.old.rows }
+        ensures ok { OnOk result ((changed : List Bool) × F.post change (stored_values self.old) changed × (length changed ≡ length self.old.rows) × (self.new ≡ with_stored self.old changed)) }
+        ensures err { IfErr result (λ e. (e ≡ Error.OutOfMemory) × (self.new ≡ self.old)) }
+    {
+        self.column.apply_values_mut(change)
+    }
+
+    /// The builder of the same slots, where no one else has the values or the mask and both are shown from the
+    /// first on; else the array as it is.
+    pub fn into_mut(self) -> Either<Self, MutableBooleanArray>
+        ensures { MatchEither result (λ array. array ≡ self) (λ builder. builder ≡ self) }
+    {
+        match self.column.into_mut() {
+            Left(column) => Left(BooleanArray { column }),
+            Right(column) => Right(MutableBooleanArray { column }),
+        }
+    }
+}

@@ -1,0 +1,86 @@
+//! Iterators over arrays and builders of truth values.
+ghost use Rattle.std.specs.Prelude.{◌≡◌};
+ghost use Rattle.arrow_memory.specs.Column.{slots_of, stored_values};
+
+use crate::{BooleanArray, MutableBooleanArray};
+use arrow_memory::bitmap::{BitmapIntoIter, BitmapIter};
+use arrow_memory::zip_validity::ZipValidity;
+
+impl BooleanArray {
+    /// The slots in order.
+    #[inline(always)]
+    pub fn iter(&self) -> ZipValidity<BitmapIter<'_>, BitmapIter<'_>>
+        ensures { result ≡ slots_of self.now }
+    {
+        ZipValidity::new(self.column.values().iter(), self.column.marks())
+    }
+
+    /// The stored values in order, those of null slots too.
+    #[inline(always)]
+    pub fn values_iter(&self) -> BitmapIter<'_>
+        ensures { result ≡ stored_values self.now }
+    {
+        self.column.values().iter()
+    }
+}
+
+impl MutableBooleanArray {
+    /// The slots in order.
+    #[inline(always)]
+    pub fn iter(&self) -> ZipValidity<BitmapIter<'_>, BitmapIter<'_>>
+        ensures { result ≡ slots_of self.now }
+    {
+        ZipValidity::new(self.column.values().iter(), self.column.marks())
+    }
+
+    /// The stored values in order, those of null slots too.
+    #[inline(always)]
+    pub fn values_iter(&self) -> BitmapIter<'_>
+        ensures { result ≡ stored_values self.now }
+    {
+        self.column.values().iter()
+    }
+}
+
+impl IntoIterator for BooleanArray {
+    type Item = Option<bool>;
+
+    type IntoIter = ZipValidity<BitmapIntoIter, BitmapIntoIter>;
+
+    ghost into_iter_gives = { λ array slots. slots ≡ slots_of array };
+
+    fn into_iter(self) -> ZipValidity<BitmapIntoIter, BitmapIntoIter> {
+        let (_, values, validity) = self.column.into_inner();
+        let marks = match validity {
+            None => None,
+            Some(validity) => Some(validity.into_iter()),
+        };
+        ZipValidity::new(values.into_iter(), marks)
+    }
+}
+
+impl<'a> IntoIterator for &'a BooleanArray {
+    type Item = Option<bool>;
+
+    type IntoIter = ZipValidity<BitmapIter<'a>, BitmapIter<'a>>;
+
+    ghost into_iter_gives = { λ array slots. slots ≡ slots_of array.now };
+
+    #[inline(always)]
+    fn into_iter(self) -> ZipValidity<BitmapIter<'a>, BitmapIter<'a>> {
+        self.iter()
+    }
+}
+
+impl<'a> IntoIterator for &'a MutableBooleanArray {
+    type Item = Option<bool>;
+
+    type IntoIter = ZipValidity<BitmapIter<'a>, BitmapIter<'a>>;
+
+    ghost into_iter_gives = { λ builder slots. slots ≡ slots_of builder.now };
+
+    #[inline(always)]
+    fn into_iter(self) -> ZipValidity<BitmapIter<'a>, BitmapIter<'a>> {
+        self.iter()
+    }
+}

@@ -1,0 +1,18 @@
+//! Arrays of truth values, and their builder (Arrow columnar format, "Fixed-size primitive layout", of one bit a
+//! value).
+#![tactic(auto)]
+
+mod array;
+mod builder;
+mod change;
+mod extend;
+mod from_natural;
+mod iterator;
+mod parts;
+#[cfg(test)]
+mod refusals;
+#[cfg(test)]
+mod tests;
+
+pub use array::BooleanArray;
+pub use builder::MutableBooleanArray;

@@ -1,0 +1,75 @@
+//! Arrays and builders made of parts from outside, which are tested.
+ghost use Rattle.std.specs.Prelude.{◌≡◌, IsOkAnd, IsErrAnd};
+ghost use Rattle.arrow_types.specs.Types.{logical_type, refusal, IsRightType};
+ghost use Rattle.arrow_memory.specs.Column.{FitsMask, column_of_parts};
+ghost use Rattle.arrow_boolean.specs.Fits.{unfit_mask, wrong_builder_type, wrong_type};
+
+use crate::{BooleanArray, MutableBooleanArray};
+use arrow_memory::bitmap::{Bitmap, MutableBitmap};
+use arrow_memory::column::{GrowingColumn, is_growing_mask_of, is_mask_of};
+use arrow_types::data_type::DataType;
+use arrow_types::error::Error;
+use arrow_types::physical_type::PhysicalType;
+
+/// The text of the refusal of a mask.
+const UNFIT_MASK: &str = "validity mask length must match the number of values";
+
+/// The text of the refusal of an array's type.
+const WRONG_TYPE: &str =
+    "BooleanArray can only be initialized with a DataType whose physical type is Boolean";
+
+/// The text of the refusal of a builder's type.
+const WRONG_BUILDER_TYPE: &str =
+    "MutableBooleanArray can only be initialized with a DataType whose physical type is Boolean";
+
+impl BooleanArray {
+    /// The array of such parts.
+    ///
+    /// # Errors
+    /// `OutOfSpec` where a mask has another number of marks than there are values, or else where the type is none
+    /// of the array's physical type.
+    pub fn try_new(
+        data_type: DataType,
+        values: Bitmap,
+        validity: Option<Bitmap>,
+    ) -> Result<Self, Error>
+        ensures fit { FitsMask values validity → IsRightType PhysicalType.Boolean (logical_type data_type) → IsOkAnd result (λ array. array ≡ column_of_parts (logical_type data_type) values validity) }
+        ensures mask { (FitsMask values validity → ⊥) → IsErrAnd result (λ e. refusal e ≡ unfit_mask) }
+        ensures data_type { FitsMask values validity → (IsRightType PhysicalType.Boolean (logical_type data_type) → ⊥) → IsErrAnd result (λ e. refusal e ≡ wrong_type) }
+    {
+        if !is_mask_of(&validity, values.len()) {
+            return Err(Error::OutOfSpec(UNFIT_MASK));
+        }
+        if !data_type.is_right_for(PhysicalType::Boolean) {
+            return Err(Error::OutOfSpec(WRONG_TYPE));
+        }
+        Ok(BooleanArray::new(data_type, values, validity))
+    }
+}
+
+impl MutableBooleanArray {
+    /// The builder of such parts.
+    ///
+    /// # Errors
+    /// `OutOfSpec` where a mask has another number of marks than there are values, or else where the type is none
+    /// of the builder's physical type.
+    pub fn try_new(
+        data_type: DataType,
+        values: MutableBitmap,
+        validity: Option<MutableBitmap>,
+    ) -> Result<Self, Error>
+        ensures fit { FitsMask values validity → IsRightType PhysicalType.Boolean (logical_type data_type) → IsOkAnd result (λ builder. builder ≡ column_of_parts (logical_type data_type) values validity) }
+        ensures mask { (FitsMask values validity → ⊥) → IsErrAnd result (λ e. refusal e ≡ unfit_mask) }
+        ensures data_type { FitsMask values validity → (IsRightType PhysicalType.Boolean (logical_type data_type) → ⊥) → IsErrAnd result (λ e. refusal e ≡ wrong_builder_type) }
+    {
+        if !is_growing_mask_of(&validity, values.len()) {
+            return Err(Error::OutOfSpec(UNFIT_MASK));
+        }
+        if !data_type.is_right_for(PhysicalType::Boolean) {
+            return Err(Error::OutOfSpec(WRONG_BUILDER_TYPE));
+        }
+        Ok(MutableBooleanArray {
+            column: GrowingColumn::new(data_type, values, validity),
+        })
+    }
+}
