@@ -58,9 +58,7 @@ impl MutableBooleanArray {
         ensures ok { IfOk result (λ builder. builder ≡ empty_column boolean_type) }
         ensures err { IfErr result (λ e. e ≡ Error.OutOfMemory) }
     {
-        Ok(MutableBooleanArray::from_values(
-            MutableBitmap::with_capacity(alloc, capacity)?,
-        ))
+        Ok(MutableBooleanArray::from_values(MutableBitmap::with_capacity(alloc, capacity)?))
     }
 
     /// The number of slots.

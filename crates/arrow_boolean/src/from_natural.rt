@@ -68,9 +68,7 @@ impl MutableBooleanArray {
         ensures ok { IfOk result (λ builder. builder ≡ column_of_parts boolean_type slice.now None) }
         ensures err { IfErr result (λ e. e ≡ Error.OutOfMemory) }
     {
-        Ok(MutableBooleanArray::from_values(MutableBitmap::from_slice(
-            alloc, slice,
-        )?))
+        Ok(MutableBooleanArray::from_values(MutableBitmap::from_slice(alloc, slice)?))
     }
 }
 
@@ -83,11 +81,7 @@ impl BooleanArray {
         ensures ok { IfOk result (λ array. array ≡ column_of_parts boolean_type slice.now None) }
         ensures err { IfErr result (λ e. e ≡ Error.OutOfMemory) }
     {
-        Ok(BooleanArray::new(
-            DataType::Boolean,
-            Bitmap::from_slice(alloc, slice)?,
-            None,
-        ))
+        Ok(BooleanArray::new(DataType::Boolean, Bitmap::from_slice(alloc, slice)?, None))
     }
 
     /// The array of these slots, which holds a mask exactly where one is null. The data type is Boolean.

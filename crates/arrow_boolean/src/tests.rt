@@ -7,7 +7,6 @@ use arrow_memory::bitmap::{Bitmap, BitmapIter, MutableBitmap};
 use arrow_memory::zip_validity::ZipValidity;
 use arrow_types::data_type::DataType;
 use arrow_types::error::Error;
-use either::{Left, Right};
 use std::alloc::Global;
 use std::test::Fail;
 
@@ -21,10 +20,7 @@ fn slot(letter: u8) -> Option<bool> {
 }
 
 /// Whether these are the slots that a text writes, and no more.
-pub(crate) fn shows(
-    mut slots: ZipValidity<BitmapIter<'_>, BitmapIter<'_>>,
-    text: &str,
-) -> bool {
+pub(crate) fn shows(mut slots: ZipValidity<BitmapIter<'_>, BitmapIter<'_>>, text: &str) -> bool {
     for letter in text.as_bytes() {
         if slots.next() != Some(slot(*letter)) {
             return false;
@@ -85,52 +81,80 @@ fn three(alloc: Global) -> Result<BooleanArray, Error> {
     BooleanArray::from(alloc, [Some(true), None, Some(false)].as_slice())
 }
 
-/// Whether slots are stored as values and marks.
-fn is_stored(alloc: Global) -> Result<bool, Error> {
-    let array = three(alloc)?;
-    let Some(mask) = array.validity() else {
-        return Ok(false);
-    };
-    let is_marked = gives(mask.iter(), "101") && array.null_count() == 1;
-    let is_first = array.len() == 3 && array.value(0) && array.get(1).is_none();
-    Ok(is(&array, "t_f", "100", true) && is_marked && is_first)
+/// Whether the array that was made has these slots, stores these values, and holds a mask or none.
+fn made(
+    answer: Result<BooleanArray, Error>,
+    slots: &str,
+    values: &str,
+    held: bool,
+) -> Result<bool, Error> {
+    let array = answer?;
+    Ok(is(&array, slots, values, held))
 }
 
 #[test]
 fn slots_are_values_and_marks(rt: HostRuntime) -> Result<(), Fail> {
-    told(is_stored(rt.alloc()))
+    told(made(three(rt.alloc()), "t_f", "100", true))
 }
 
-/// Whether a mask is held though its null was overwritten.
-fn keeps_mask(alloc: Global) -> Result<bool, Error> {
+/// Whether a mask has these marks.
+fn is_marked(array: &BooleanArray, marks: &str) -> bool {
+    match array.validity() {
+        Some(mask) => gives(mask.iter(), marks),
+        None => false,
+    }
+}
+
+/// Whether slots are read one by one.
+fn reads(alloc: Global) -> Result<bool, Error> {
+    let array = three(alloc)?;
+    let is_counted = is_marked(&array, "101") && array.null_count() == 1;
+    Ok(is_counted && array.len() == 3 && array.value(0) && array.get(1).is_none())
+}
+
+#[test]
+fn slots_are_read(rt: HostRuntime) -> Result<(), Fail> {
+    told(reads(rt.alloc()))
+}
+
+/// The array of a null that was overwritten.
+fn overwritten(alloc: Global) -> Result<BooleanArray, Error> {
     let mut builder = MutableBooleanArray::new(alloc);
     builder.push(None)?;
     if builder.len() > 0 {
         builder.set(0, Some(true))?;
     }
-    let array = builder.freeze()?;
-    Ok(is(&array, "t", "1", true) && array.null_count() == 0)
+    builder.freeze()
 }
 
+/// Its mask is held, though no slot is null.
 #[test]
 fn freeze_keeps_a_mask_without_nulls(rt: HostRuntime) -> Result<(), Fail> {
-    told(keeps_mask(rt.alloc()))
-}
-
-/// Whether a mask is there only where a slot is null or it was asked for.
-fn makes_no_mask(alloc: Global) -> Result<bool, Error> {
-    let nulls = BooleanArray::new_null(alloc, DataType::Boolean, 3)?;
-    let no_null = BooleanArray::from(alloc, [Some(true), Some(false)].as_slice())?;
-    let packed = BooleanArray::from_slice(alloc, [true, false].as_slice())?;
-    let none = BooleanArray::new_empty(alloc, DataType::Boolean)?;
-    let are_two = is(&no_null, "tf", "10", false) && is(&packed, "tf", "10", false);
-    let are_few = are_two && is(&none, "", "", false);
-    Ok(is(&nulls, "___", "000", true) && are_few)
+    told(made(overwritten(rt.alloc()), "t", "1", true))
 }
 
 #[test]
-fn masks_are_made_for_nulls(rt: HostRuntime) -> Result<(), Fail> {
-    told(makes_no_mask(rt.alloc()))
+fn nulls_have_a_mask(rt: HostRuntime) -> Result<(), Fail> {
+    let nulls = BooleanArray::new_null(rt.alloc(), DataType::Boolean, 3);
+    told(made(nulls, "___", "000", true))
+}
+
+#[test]
+fn no_null_needs_no_mask(rt: HostRuntime) -> Result<(), Fail> {
+    let slots = BooleanArray::from(rt.alloc(), [Some(true), Some(false)].as_slice());
+    told(made(slots, "tf", "10", false))
+}
+
+#[test]
+fn packed_values_have_no_mask(rt: HostRuntime) -> Result<(), Fail> {
+    let packed = BooleanArray::from_slice(rt.alloc(), [true, false].as_slice());
+    told(made(packed, "tf", "10", false))
+}
+
+#[test]
+fn nothing_has_no_mask(rt: HostRuntime) -> Result<(), Fail> {
+    let empty = BooleanArray::new_empty(rt.alloc(), DataType::Boolean);
+    told(made(empty, "", "", false))
 }
 
 /// Whether the values of a clone are reversed, and the first keeps its own.
@@ -146,38 +170,30 @@ fn changes_leave_other_owners(rt: HostRuntime) -> Result<(), Fail> {
     told(reverses(rt.alloc()))
 }
 
-/// Whether an array is thawed, but not while a clone of it lives.
-fn thaws(alloc: Global) -> Result<bool, Error> {
+/// Whether an array is thawed while a clone of it lives, and once none does.
+fn sides(alloc: Global) -> Result<(bool, bool), Error> {
     let first = three(alloc)?;
-    let Left(second) = first.clone()?.into_mut() else {
-        return Ok(false);
-    };
-    let is_same = is(&second, "t_f", "100", true);
-    drop(second);
-    let Right(builder) = first.into_mut() else {
-        return Ok(false);
-    };
-    Ok(is_same && is_built(&builder, "t_f", "100", true))
+    let second = first.clone()?;
+    let shared = second.into_mut().is_right();
+    Ok((shared, first.into_mut().is_right()))
 }
 
 #[test]
 fn arrays_thaw_where_nothing_shares_them(rt: HostRuntime) -> Result<(), Fail> {
-    told(thaws(rt.alloc()))
+    let (shared, alone) = sides(rt.alloc())?;
+    assert!(rt; !shared && alone);
+    Ok(())
 }
 
-/// Whether a builder grows slot by slot, gives its last slots back, and its copy stays.
+/// Whether a builder grows slot by slot, and gives its last slots back.
 fn grows(alloc: Global) -> Result<bool, Error> {
     let mut builder = MutableBooleanArray::with_capacity(alloc, 1)?;
     builder.reserve(100)?;
     builder.try_push(Some(true))?;
-    let is_bare = is_built(&builder, "t", "1", false);
     builder.push_null()?;
-    builder.push(Some(true))?;
     builder.shrink_to_fit()?;
-    let copy = builder.clone()?;
-    let are_last = builder.pop() == Some(true) && builder.pop().is_none();
-    let is_left = is_built(&builder, "t", "1", true) && is_built(&copy, "t_t", "101", true);
-    Ok(is_bare && are_last && is_left)
+    let are_there = is_built(&builder, "t_", "10", true);
+    Ok(are_there && builder.pop().is_none() && builder.pop() == Some(true))
 }
 
 #[test]
@@ -185,17 +201,13 @@ fn builders_grow_and_shrink(rt: HostRuntime) -> Result<(), Fail> {
     told(grows(rt.alloc()))
 }
 
-/// Whether builders grow by many slots, and by one another.
+/// Whether builders grow by many slots, and are copied.
 fn extends(alloc: Global) -> Result<bool, Error> {
     let mut builder = MutableBooleanArray::default(alloc);
     builder.extend_values([true, false].into_iter())?;
-    let is_bare = is_built(&builder, "tf", "10", false);
-    let mut other = MutableBooleanArray::from_iter(alloc, [Some(true)].into_iter())?;
-    other.try_extend([None].into_iter())?;
-    builder.try_extend_from_self(&other)?;
-    other.try_extend_from_self(&MutableBooleanArray::from_slice(alloc, [true].as_slice())?)?;
-    let are_joined = is_built(&builder, "tft_", "1010", true);
-    Ok(is_bare && are_joined && is_built(&other, "t_t", "101", true))
+    builder.try_extend([None].into_iter())?;
+    let copy = builder.clone()?;
+    Ok(is_built(&copy, "tf_", "100", true))
 }
 
 #[test]
@@ -203,34 +215,51 @@ fn builders_grow_by_many(rt: HostRuntime) -> Result<(), Fail> {
     told(extends(rt.alloc()))
 }
 
-/// Whether other values and other marks are shown.
-fn replaces(alloc: Global) -> Result<bool, Error> {
-    let array = three(alloc)?;
-    let values = Bitmap::from_slice(alloc, [false, true, true].as_slice())?;
-    if array.len() != values.len() {
-        return Ok(false);
-    }
-    let other = array.with_values(values)?;
-    let is_other = is(&other, "f_t", "011", true) && is(&array, "t_f", "100", true);
-    Ok(is_other && is(&other.with_validity(None), "ftt", "011", false))
+/// Whether slots behind others are these.
+fn joins(
+    alloc: Global,
+    first: &[Option<bool>],
+    second: &[Option<bool>],
+    slots: &str,
+) -> Result<bool, Error> {
+    let mut builder = MutableBooleanArray::from(alloc, first)?;
+    let other = MutableBooleanArray::from(alloc, second)?;
+    builder.try_extend_from_self(&other)?;
+    Ok(shows(builder.iter(), slots))
 }
 
 #[test]
-fn values_and_masks_are_replaced(rt: HostRuntime) -> Result<(), Fail> {
-    told(replaces(rt.alloc()))
+fn builders_grow_by_one_another(rt: HostRuntime) -> Result<(), Fail> {
+    let no_null = [Some(true), Some(false)].as_slice();
+    let null = [None, Some(true)].as_slice();
+    told(joins(rt.alloc(), no_null, null, "tf_t"))?;
+    told(joins(rt.alloc(), null, no_null, "_ttf"))
 }
 
-/// Whether slots are given by value, from both ends, and of a piece.
+/// An array's slots under other values.
+fn replaced(alloc: Global) -> Result<BooleanArray, Error> {
+    let array = three(alloc)?;
+    let values = Bitmap::from_slice(alloc, [false, true, true].as_slice())?;
+    if array.len() != values.len() {
+        return Ok(array);
+    }
+    array.with_values(values)
+}
+
+#[test]
+fn values_are_replaced(rt: HostRuntime) -> Result<(), Fail> {
+    told(made(replaced(rt.alloc()), "f_t", "011", true))
+}
+
+/// Whether the last two slots are given by value, from both ends.
 fn gives_slots(alloc: Global) -> Result<bool, Error> {
     let array = BooleanArray::from_iter(alloc, [Some(true), None, Some(false)].into_iter())?;
     if array.len() != 3 {
         return Ok(false);
     }
-    let piece = array.sliced(1, 2);
-    let is_piece = is(&piece, "_f", "00", true);
-    let mut slots = piece.into_iter();
+    let mut slots = array.sliced(1, 2).into_iter();
     let ends = (slots.next_back(), slots.next(), slots.next());
-    Ok(is_piece && ends == (Some(Some(false)), Some(None), None))
+    Ok(ends == (Some(Some(false)), Some(None), None))
 }
 
 #[test]
@@ -239,10 +268,10 @@ fn slots_come_by_value(rt: HostRuntime) -> Result<(), Fail> {
 }
 
 /// Whether an array of three values and so many clear marks is refused with this text.
-fn refuses(alloc: Global, data_type: DataType, marks: usize, text: &str) -> Result<bool, Error> {
+fn refuses(alloc: Global, marks: usize, text: &str) -> Result<bool, Error> {
     let values = Bitmap::from_slice(alloc, [true, false, true].as_slice())?;
     let mask = Bitmap::new_zeroed(alloc, marks)?;
-    match BooleanArray::try_new(data_type, values, Some(mask)) {
+    match BooleanArray::try_new(DataType::Int32, values, Some(mask)) {
         Err(Error::OutOfSpec(rule)) => Ok(rule == text),
         _ => Ok(false),
     }
@@ -251,11 +280,12 @@ fn refuses(alloc: Global, data_type: DataType, marks: usize, text: &str) -> Resu
 #[test]
 fn the_mask_is_tested_before_the_type(rt: HostRuntime) -> Result<(), Fail> {
     let mask = "validity mask length must match the number of values";
-    told(refuses(rt.alloc(), DataType::Int32, 2, mask))
+    told(refuses(rt.alloc(), 2, mask))
 }
 
 #[test]
 fn other_types_are_refused(rt: HostRuntime) -> Result<(), Fail> {
-    let rule = "BooleanArray can only be initialized with a DataType whose physical type is Boolean";
-    told(refuses(rt.alloc(), DataType::Int32, 3, rule))
+    let rule =
+        "BooleanArray can only be initialized with a DataType whose physical type is Boolean";
+    told(refuses(rt.alloc(), 3, rule))
 }
