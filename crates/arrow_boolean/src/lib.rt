@@ -5,6 +5,7 @@
 mod array;
 mod builder;
 mod change;
+mod equality;
 mod extend;
 mod from_natural;
 mod iterator;

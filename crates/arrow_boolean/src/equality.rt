@@ -1,0 +1,64 @@
+//! Equality of builders of truth values, which compares slots alone.
+ghost use Rattle.std.specs.Prelude.{◌≡◌, ◌<◌, length, slice_get, Some, IsTrue, ◌↔◌};
+ghost use Rattle.std.specs.Bool.{beq};
+ghost use Rattle.arrow_memory.specs.Column.{slots_of};
+ghost use Rattle.arrow_memory.specs.SlotEquality.{same_slots};
+
+use crate::MutableBooleanArray;
+
+impl MutableBooleanArray {
+    /// The slot at a place.
+    #[inline(always)]
+    fn slot(&self, i: usize) -> Option<bool>
+        requires { i < length self.now.rows }
+        ensures { slice_get (slots_of self.now) i ≡ Some result }
+    {
+        if self.column.is_null(i) {
+            return None;
+        }
+        Some(self.values().get(i))
+    }
+
+    /// Whether both have the same slots.
+    fn has_slots_of(&self, other: &Self) -> bool
+        ensures { IsTrue result ↔ slots_of self.now ≡ slots_of other.now }
+    {
+        if self.len() != other.len() {
+            return false;
+        }
+        for i in 0..self.len() {
+            if self.slot(i) != other.slot(i) {
+                return false;
+            }
+        }
+        true
+    }
+}
+
+impl PartialEq for MutableBooleanArray {
+    ghost use Rattle.std.specs.Bool.{beq};
+    ghost use Rattle.std.specs.Cmp.{booleans_Decides, decided, on_per, partial_equiv_from_equiv};
+    ghost use Rattle.arrow_memory.specs.Column.{slots_of};
+    ghost use Rattle.arrow_memory.specs.SlotEquality.{same_slots, same_slots-Decides};
+
+    ghost eq = { λ first second. same_slots beq (slots_of first) (slots_of second) };
+
+    ghost laws = { on_per slots_of (partial_equiv_from_equiv (decided (same_slots beq) (same_slots-Decides beq booleans_Decides))) };
+
+    /// Whether both have the same slots. Types, held masks and values under nulls are not compared.
+    fn eq(&self, other: &Self) -> bool
+        ensures value { result ≡ same_slots beq (slots_of self.now) (slots_of other.now) }
+        ensures decides { IsTrue result ↔ slots_of self.now ≡ slots_of other.now }
+    {
+        self.has_slots_of(other)
+    }
+}
+
+impl Eq for MutableBooleanArray {
+    ghost use Rattle.std.specs.Bool.{beq};
+    ghost use Rattle.std.specs.Cmp.{booleans_Decides, decided, on_equiv};
+    ghost use Rattle.arrow_memory.specs.Column.{slots_of};
+    ghost use Rattle.arrow_memory.specs.SlotEquality.{same_slots, same_slots-Decides};
+
+    ghost laws = { on_equiv slots_of (decided (same_slots beq) (same_slots-Decides beq booleans_Decides)) };
+}
