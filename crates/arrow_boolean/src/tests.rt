@@ -289,17 +289,3 @@ fn other_types_are_refused(rt: HostRuntime) -> Result<(), Fail> {
         "BooleanArray can only be initialized with a DataType whose physical type is Boolean";
     told(refuses(rt.alloc(), 3, rule))
 }
-
-/// Whether a builder of true and null equals one of these values, the second of which is null.
-fn equals(alloc: Global, second: &[bool]) -> Result<bool, Error> {
-    let pushed = MutableBooleanArray::from(alloc, [Some(true), None].as_slice())?;
-    let values = MutableBitmap::from_slice(alloc, second)?;
-    let mask = MutableBitmap::from_slice(alloc, [true, false].as_slice())?;
-    let given = MutableBooleanArray::try_new(DataType::Boolean, values, Some(mask))?;
-    Ok(pushed == given)
-}
-
-#[test]
-fn values_under_nulls_are_not_compared(rt: HostRuntime) -> Result<(), Fail> {
-    told(equals(rt.alloc(), [true, true].as_slice()))
-}
