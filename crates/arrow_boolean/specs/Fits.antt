@@ -1,5 +1,5 @@
 -- The type of boolean arrays and builders, which parts make one, and what is said of those that don't.
-use Rattle.std.specs.Prelude.{codes, List}
+use Rattle.std.specs.Prelude.{codes}
 use Rattle.arrow_types.specs.Types.{LogicalType, Refusal, boolean, out_of_spec, plain}
 
 -- the type of an array or a builder unless another is given
