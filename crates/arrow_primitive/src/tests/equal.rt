@@ -1,0 +1,30 @@
+use super::*;
+use arrow_memory::bitmap::MutableBitmap;
+use arrow_memory::column::LendValues;
+
+/// Whether builders are equal whatever their nulls store, and not where a null stands beside a value.
+fn compared(alloc: Global) -> Result<bool, Error> {
+    let marks = MutableBitmap::from_slice(alloc, [true, false].as_slice())?;
+    let values = [1, 9].to_vec(alloc)?;
+    let masked = MutablePrimitiveArray::try_new(DataType::Int64, values, Some(marks))?;
+    let slots = built(alloc, [Some(1), None].as_slice())?;
+    let valid = built(alloc, [Some(1), Some(9)].as_slice())?;
+    Ok(slots == masked && valid != masked)
+}
+
+#[test]
+fn nulls_are_equal_whatever_they_store(rt: HostRuntime) -> Result<(), Fail> {
+    told(compared(rt.alloc()))
+}
+
+/// Whether what is written to the values of a builder is there.
+fn written(alloc: Global) -> Result<bool, Error> {
+    let mut builder = MutablePrimitiveArray::from_vec([1, 2, 3].to_vec(alloc)?);
+    builder.values_mut_slice()[0] = 7;
+    Ok(builds(&builder, [7, 2, 3].as_slice(), "none"))
+}
+
+#[test]
+fn values_of_builders_are_written_over(rt: HostRuntime) -> Result<(), Fail> {
+    told(written(rt.alloc()))
+}
