@@ -40,11 +40,10 @@ impl<V: MutableValues> GrowingColumn<V> {
         ensures ok { IfOk result (λ copy. copy ≡ self.now) }
         ensures err { IfErr result (λ e. e ≡ Error.OutOfMemory) }
     {
-        Ok(GrowingColumn {
-            data_type: self.data_type.clone()?,
-            values: self.values.copy()?,
-            validity: copy_marks(&self.validity)?,
-        })
+        let validity = copy_marks(&self.validity)?;
+        let values = self.values.copy()?;
+        let data_type = self.data_type.clone()?;
+        Ok(GrowingColumn::new(data_type, values, validity))
     }
 }
 
@@ -58,10 +57,9 @@ impl<V: Values> FrozenColumn<V> {
         ensures ok { IfOk result (λ copy. copy ≡ self.now) }
         ensures err { IfErr result (λ e. e ≡ Error.OutOfMemory) }
     {
-        Ok(FrozenColumn {
-            data_type: self.data_type.clone()?,
-            values: self.values.share()?,
-            validity: share_mask(&self.validity)?,
-        })
+        let validity = share_mask(&self.validity)?;
+        let values = self.values.share()?;
+        let data_type = self.data_type.clone()?;
+        Ok(FrozenColumn::new(data_type, values, validity))
     }
 }
