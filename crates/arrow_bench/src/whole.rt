@@ -1,9 +1,25 @@
 //! Builders that grow by many values, and arrays that are cloned, cut and thawed.
-use crate::primitive::{array, builder, probe};
+use crate::primitive::{array, probe};
 use crate::told;
+use arrow_memory::bitmap::MutableBitmap;
 use arrow_primitive::{MutablePrimitiveArray, PrimitiveArray};
+use arrow_types::data_type::DataType;
 use either::{Left, Right};
 use std::alloc::Global;
+
+/// A builder of values and marks, one byte each, as parts; a null stores its value too.
+fn of_parts(alloc: Global, values: &[i64], valid: &[u8]) -> Option<MutablePrimitiveArray<i64>> {
+    let mut all = Vec::new(alloc);
+    all.extend_from_slice(values).ok()?;
+    if valid.is_empty() {
+        return MutablePrimitiveArray::try_new(DataType::Int64, all, None).ok();
+    }
+    let mut marks = MutableBitmap::new(alloc);
+    for mark in valid {
+        marks.push(*mark != 0).ok()?;
+    }
+    MutablePrimitiveArray::try_new(DataType::Int64, all, Some(marks)).ok()
+}
 
 fn push_reserved(alloc: Global, values: &[i64], rounds: usize) -> Option<u64> {
     let mut sum = 0u64;
@@ -52,7 +68,7 @@ pub extern "C" fn rattle_flat_prim_extend_slice(
 }
 
 fn extend_self(alloc: Global, values: &[i64], valid: &[u8], rounds: usize) -> Option<u64> {
-    let big = builder(alloc, values, valid)?;
+    let big = of_parts(alloc, values, valid)?;
     let mut sum = 0u64;
     for round in 0..rounds {
         let mut out = MutablePrimitiveArray::<i64>::new(alloc);
@@ -166,7 +182,7 @@ fn probe_array(array: &PrimitiveArray<i64>, round: usize) -> u64 {
 }
 
 fn freeze_thaw(alloc: Global, values: &[i64], valid: &[u8], rounds: usize) -> Option<u64> {
-    let mut kept = builder(alloc, values, valid)?;
+    let mut kept = of_parts(alloc, values, valid)?;
     let mut sum = 0u64;
     for round in 0..rounds {
         let array = kept.freeze().ok()?;
@@ -190,7 +206,7 @@ pub extern "C" fn rattle_flat_prim_freeze_thaw(
 }
 
 fn thaw_push(alloc: Global, values: &[i64], valid: &[u8], rounds: usize) -> Option<u64> {
-    let mut kept = array(alloc, values, valid)?;
+    let mut kept = of_parts(alloc, values, valid)?.freeze().ok()?;
     let mut sum = 0u64;
     for round in 0..rounds {
         let mut thawed = match kept.into_mut() {
