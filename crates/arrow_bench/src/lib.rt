@@ -3,6 +3,7 @@
 #![tactic(auto)]
 
 mod bits;
+mod boolean;
 mod primitive;
 mod read;
 mod whole;

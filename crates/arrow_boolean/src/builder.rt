@@ -141,13 +141,8 @@ impl MutableBooleanArray {
         ensures rest { self.new ≡ without_last self.old }
     {
         let last = self.len().checked_sub(1)?;
-        let slot = if self.column.is_null(last) {
-            None
-        } else {
-            Some(self.values().get(last))
-        };
-        self.column.remove_last();
-        slot
+        let value = self.values().get(last);
+        self.column.remove_last().then_some(value)
     }
 
     /// Replaces the slot at a place. A null stores false, and a mask is held from then on.

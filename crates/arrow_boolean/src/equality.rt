@@ -1,39 +1,10 @@
 //! Equality of builders of truth values, which compares slots alone.
-ghost use Rattle.std.specs.Prelude.{◌≡◌, ◌<◌, length, slice_get, Some, IsTrue, ◌↔◌};
+ghost use Rattle.std.specs.Prelude.{◌≡◌, ◌↔◌, IsTrue};
 ghost use Rattle.std.specs.Bool.{beq};
 ghost use Rattle.arrow_memory.specs.Column.{slots_of};
 ghost use Rattle.arrow_memory.specs.SlotEquality.{same_slots};
 
 use crate::MutableBooleanArray;
-
-impl MutableBooleanArray {
-    /// The slot at a place.
-    #[inline(always)]
-    fn slot(&self, i: usize) -> Option<bool>
-        requires { i < length self.now.rows }
-        ensures { slice_get (slots_of self.now) i ≡ Some result }
-    {
-        if self.column.is_null(i) {
-            return None;
-        }
-        Some(self.values().get(i))
-    }
-
-    /// Whether both have the same slots.
-    fn has_slots_of(&self, other: &Self) -> bool
-        ensures { IsTrue result ↔ slots_of self.now ≡ slots_of other.now }
-    {
-        if self.len() != other.len() {
-            return false;
-        }
-        for i in 0..self.len() {
-            if self.slot(i) != other.slot(i) {
-                return false;
-            }
-        }
-        true
-    }
-}
 
 impl PartialEq for MutableBooleanArray {
     ghost use Rattle.std.specs.Bool.{beq};
@@ -50,7 +21,7 @@ impl PartialEq for MutableBooleanArray {
         ensures value { result ≡ same_slots beq (slots_of self.now) (slots_of other.now) }
         ensures decides { IsTrue result ↔ slots_of self.now ≡ slots_of other.now }
     {
-        self.has_slots_of(other)
+        self.column.has_slots_of(&other.column)
     }
 }
 

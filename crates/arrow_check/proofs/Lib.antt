@@ -1,1 +1,3 @@
 pub mod ItemLemmas
+mod TextLemmas
+pub mod Utf8Lemmas

@@ -1,12 +1,14 @@
 -- Lemmas about the rows that stored values and a mask make.
-use Rattle.std.proofs.Common.{length-append, ◌≡◌, ℕ, zero, suc, ◌+◌, ◌-◌, ◌<◌, Bool, true, false, not, ◌&&◌, ◌||◌, length-take, length-drop, cond, IsTrue, if◌then◌else◌, List, [], ◌∷◌, ◌++◌, length, map, take, drop, min, replicate, count_by, slice_get, slice_set, Option, Some, None, option_map, option_and_then, unwrap_or, subst, is_some, IfSome, IfNone, refl, sym, ap, ap₂, ◌∙◌, zero-add, arith}
+use Rattle.std.proofs.Common.{length-append, ◌≡◌, ℕ, zero, suc, ◌+◌, ◌-◌, ◌<◌, Bool, true, false, not, ◌&&◌, ◌||◌, length-take, length-drop, cond, IsTrue, if◌then◌else◌, List, [], ◌∷◌, ◌++◌, length, map, take, drop, min, replicate, count_by, slice_get, slice_set, Option, Some, None, Result, Ok, Err, OnOk, option_map, option_and_then, IfSome, unwrap_or, subst, is_some, IfNone, refl, sym, ap, ap₂, ◌∙◌, zero-add, arith}
 use Rattle.std.specs.List.{zip, list_all}
+use Rattle.std.proofs.lemmas.Bool.{true≢false}
 use Rattle.std.proofs.lemmas.List.{length-map, map-append, length_push, take_at}
 use Rattle.std.proofs.lemmas.Slice.Zip.{length-zip}
 use Rattle.std.proofs.lemmas.List.Sums.{sum_by-cons}
 use Rattle.arrow_types.specs.Types.{LogicalType}
 use Rattle.arrow_memory.specs.Column.{ColumnWith, Row, FitsMask, column_with, cut_with, append_nulls, append_slot, append_slots, append_values, with_slot, with_stored, joined, joined_mask, slot, slot_overflows, slots_fit, stored_values, without_last, rows_of}
 use Rattle.arrow_memory.specs.Column.{mask_with_nulls}
+use Rattle.arrow_memory.specs.Marks.{TakesLastMark}
 
 down : (m n : ℕ) → suc m ≡ suc n → m ≡ n
 down m n e = omega arith
@@ -252,6 +254,51 @@ shorter-column t o p values ws mask ns n fits last e f g =
     (ap₂ rows_of e f ∙ first-rows n values mask ∙ ap (λ k. take k (rows_of values mask)) same)
     (ap is_some f ∙ held-map (λ marks. take n marks) mask)
 
+-- the last mark was taken from the mask: the other marks, and that mark
+taken-mask : (mask ns : Option (List Bool)) (m : Bool) (n : ℕ) → IfSome mask (λ marks. length marks ≡ n) → TakesLastMark mask ns m → ns ≡ option_map (λ marks. take (n - 1) marks) mask
+taken-mask None ns m n fits takes = takes.0
+taken-mask (Some marks) None m n fits takes = absurd takes
+taken-mask (Some marks) (Some rest) m n fits takes =
+    ap Some (sym (rest-push rest m) ∙ ap (λ ms. take (length ms - 1) ms) (sym takes) ∙ ap (λ k. take (k - 1) marks) fits)
+
+-- and a column without its last row, by that mask
+pub popped-column : {A S : Type 0} (t : LogicalType) (o p : A) (values ws : List S) (mask ns : Option (List Bool)) (m : Bool) → FitsMask values mask
+    → ws ≡ take (length values - 1) values → TakesLastMark mask ns m → p ≡ o → column_with t p ws ns ≡ without_last (column_with t o values mask)
+popped-column t o p values ws mask ns m fits e takes g =
+    shorter-column t o p values ws mask ns (length values - 1) fits refl e (taken-mask mask ns m (length values) fits takes) g
+
+pub popped-fits : {S : Type 0} (values ws : List S) (mask ns : Option (List Bool)) (m : Bool) → FitsMask values mask → ws ≡ take (length values - 1) values → TakesLastMark mask ns m → FitsMask ws ns
+popped-fits values ws mask ns m fits e takes =
+    subst (λ k. FitsMask ws k) (sym (taken-mask mask ns m (length values) fits takes))
+    (subst (λ xs. FitsMask xs (option_map (λ marks. take (length values - 1) marks) mask)) (sym e) (first-fits (length values - 1) values mask fits))
+
+-- the mark that was taken is that of the last row
+pub popped-mark : {S : Type 0} (values : List S) (mask ns : Option (List Bool)) (m : Bool) → FitsMask values mask → 0 < length values → TakesLastMark mask ns m
+    → slice_get (map (λ (row : Row S). row.1) (rows_of values mask)) (length (rows_of values mask) - 1) ≡ Some m
+popped-mark values None ns m fits some takes =
+    let last : length (rows_of values None) - 1 < length values = omega (arith, some, length-rows values None tt) in
+    ap (λ ms. slice_get ms (length (rows_of values None) - 1)) (marks-all values) ∙ set-mark (length values) (length (rows_of values None) - 1) last ∙ ap Some (sym takes.1)
+popped-mark values (Some marks) None m fits some takes = absurd takes
+popped-mark values (Some marks) (Some rest) m fits some takes =
+    let long : length (zip values marks) ≡ length marks = length-rows values (Some marks) fits ∙ sym fits in
+    ap₂ (λ ms k. slice_get ms (k - 1)) (marks-zip values marks fits) long ∙ ap (λ ms. slice_get ms (length ms - 1)) takes ∙ last-push rest m
+
+-- what a row shows
+pub shown-null : {S : Type 0} (rows : List (Row S)) (i : ℕ) → slice_get (map (λ (row : Row S). row.1) rows) i ≡ Some false → option_and_then slot (slice_get rows i) ≡ None
+shown-null [] i e = refl
+shown-null (row ∷ rows) zero e =
+    let mark : row.1 ≡ false = cc in
+    ap (λ b. if b then Some row.0 else None) mark
+shown-null (row ∷ rows) (suc i) e = shown-null rows i e
+
+pub shown-valid : {S : Type 0} (rows : List (Row S)) (i : ℕ) (v : S) → slice_get (map (λ (row : Row S). row.1) rows) i ≡ Some true → slice_get (map (λ (row : Row S). row.0) rows) i ≡ Some v → option_and_then slot (slice_get rows i) ≡ Some v
+shown-valid [] i v e f = cc
+shown-valid (row ∷ rows) zero v e f =
+    let mark : row.1 ≡ true = cc in
+    let value : row.0 ≡ v = cc in
+    ap₂ (λ b x. if b then Some x else None) mark value
+shown-valid (row ∷ rows) (suc i) v e f = shown-valid rows i v e f
+
 -- a growth that is taken back
 pub grown-back : {S : Type 0} (values grown back more : List S) (n : ℕ) → n ≡ length values → grown ≡ values ++ more → back ≡ take n grown → back ≡ values
 grown-back values grown back more n e f g = g ∙ ap (take n) f ∙ take_at values more n (sym e)
@@ -472,3 +519,16 @@ null-set d t o p values ws mask ns n i long e f h =
     (ap is_some f)
 
 pub ruleset row_steps = (first-rows, first-fits, length-rows, stored-rows, mask-rows, valid-rows, marks-zip, marks-all, set-mark, no-clear, cut-rows, held-map, push_valid-rows, push_null-rows, push_valid-fits, push_null-fits, frozen-rows, frozen-held, appended-more, fit-more)
+
+-- what follows from an answer's clause
+pub on-ok : {X E P Q : Type 0} (answer : Result X E) → (P → Q) → OnOk answer P → OnOk answer Q
+on-ok (Ok x) f p = f p
+on-ok (Err e) f p = tt
+
+-- a valid row behind those of a column without a mask
+pub unmasked-push : {A S : Type 0} (t : LogicalType) (around then_around : A) (values more : List S) (mask : Option (List Bool)) (v : S) (column : ColumnWith A S)
+    → column_with t around values mask ≡ column → column.held ≡ false → more ≡ values ++ v ∷ [] → then_around ≡ around
+    → column_with t then_around more mask ≡ record column { rows = column.rows ++ (v, true) ∷ [] }
+unmasked-push t around then_around values more None v column is bare grown same =
+    rw (← is, grown, same) (ap (λ rows. let whole : ColumnWith _ _ = record { data_type = t; around = around; rows = rows; held = false } in whole) (map-append (λ x. (x, true)) values (v ∷ [])))
+unmasked-push t around then_around values more (Some marks) v column is bare grown same = absurd (true≢false (ap (λ c. c.held) is ∙ bare))

@@ -1,9 +1,18 @@
--- Whether two lists of slots are the same, as a test: what `==` of builders answers.
-use Rattle.std.specs.Prelude.{◌≡◌, List, Option, None, Some, Bool, true, false, is_some, unwrap_or, refl}
+-- When two lists of slots are the same, and whether, as a test: what `==` of builders answers.
+use Rattle.std.specs.Prelude.{⊤, ◌≡◌, ◌<◌, ℕ, length, slice_get, List, Option, None, Some, Bool, true, is_some, unwrap_or, refl}
 use Rattle.std.specs.Bool.{Decides}
 use Rattle.std.specs.Cmp.Lexicographic.{pointwise, pointwise_decides}
 use Rattle.std.specs.Option.{option_eq}
 use Rattle.std.proofs.Common.{sym, ap, true≢false}
+
+-- the slot at this place is valid; without a mask each is
+abbrev pub IsValidAt : Option (List Bool) → ℕ → Type 0
+IsValidAt None i = ⊤
+IsValidAt (Some marks) i = slice_get marks i ≡ Some true
+
+-- two lists of as many stored values have the same value wherever a slot is valid
+abbrev pub AgreeWhere : {S : Type 0} → Option (List Bool) → List S → List S → Type 0
+AgreeWhere mask values others = (i : ℕ) → i < length values → IsValidAt mask i → slice_get values i ≡ slice_get others i
 
 -- two slots are the same if both are null, or both show values that the test holds of
 same_slot-Decides : {X : Type 0} (test : X → X → Bool) → ((x y : X) → Decides (test x y) (x ≡ y)) → (s t : Option X) → Decides (option_eq test s t) (s ≡ t)

@@ -2,6 +2,7 @@
 //! them.
 mod change;
 mod closures;
+mod equality;
 mod extend;
 mod freeze;
 mod frozen;
@@ -11,10 +12,13 @@ mod lend;
 mod mask;
 mod room;
 mod thaw;
+mod unmasked;
 mod values;
 
+pub use equality::EqualValues;
 pub use frozen::FrozenColumn;
 pub use growing::GrowingColumn;
 pub use lend::LendValues;
 pub use mask::{is_growing_mask_of, is_mask_of};
+pub use room::ReserveItems;
 pub use values::{Grow, MutableValues, PushValue, Repeated, SetValue, Values};

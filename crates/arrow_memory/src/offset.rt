@@ -1,10 +1,12 @@
 //! Offsets of the variable-size layout: where each slot's bytes begin and end.
 mod faults;
 mod growing;
+mod items;
 mod numbers;
 mod shared;
 
 pub use growing::Offsets;
+pub use numbers::{number_at, start_end_of};
 pub use shared::OffsetsBuffer;
 
 #[cfg(test)]

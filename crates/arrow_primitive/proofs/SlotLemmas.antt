@@ -1,5 +1,5 @@
 -- Lemmas about slots, and about what a call answers.
-use Rattle.std.proofs.Common.{◌≡◌, ℕ, zero, suc, List, [], ◌∷◌, length, map, replicate, Option, Some, None, option_map, Result, Ok, Err, OnOk, IfErr, refl, ap, ap₂, false, take, ◌++◌, ◌-◌, ◌∙◌, arith, ◌<◌, slice_get, unwrap_or}
+use Rattle.std.proofs.Common.{◌≡◌, ℕ, zero, suc, List, [], ◌∷◌, length, map, replicate, Option, Some, None, option_map, Result, Ok, Err, OnOk, IfErr, refl, ap, ap₂, false, take, ◌++◌, ◌-◌, ◌∙◌, arith}
 use Rattle.arrow_memory.specs.Column.{ColumnWith, slot_overflows}
 
 same-slot : {X : Type 0} (slot : Option X) → option_map (λ x. x) slot ≡ slot
@@ -29,16 +29,6 @@ pub filled : {X : Type 0} (xs ys : List X) (n m : ℕ) (x z : X) → xs ≡ [] �
 filled xs ys n m x z e f g h =
     let whole : n - m ≡ n = omega (arith, f) in
     h ∙ ap (λ zs. take n zs ++ replicate (n - m) x) e ∙ none-before n (replicate (n - m) x) ∙ ap₂ replicate whole g
-
--- lists that agree at each place are the same
-pub agree-all : {X : Type 0} (xs ys : List X) → length xs ≡ length ys → ((k : ℕ) → k < length xs → slice_get xs k ≡ slice_get ys k) → xs ≡ ys
-agree-all [] [] long same = refl
-agree-all [] (y ∷ ys) long same = absurd (omega (arith, long))
-agree-all (x ∷ xs) [] long same = absurd (omega (arith, long))
-agree-all (x ∷ xs) (y ∷ ys) long same =
-    let first : Some x ≡ Some y = same 0 (omega arith) in
-    let others : length xs ≡ length ys = omega (arith, long) in
-    ap₂ (λ z zs. z ∷ zs) (ap (λ o. unwrap_or o x) first) (agree-all xs ys others (λ k h. same (suc k) (omega (arith, h))))
 
 -- what follows from an answer's clause
 pub on-ok : {X E P Q : Type 0} (answer : Result X E) → (P → Q) → OnOk answer P → OnOk answer Q

@@ -207,13 +207,8 @@ impl<T: NativeType> MutablePrimitiveArray<T> {
         ensures rest { self.new ≡ without_last self.old }
     {
         let last = self.len().checked_sub(1)?;
-        let slot = if self.column.is_null(last) {
-            None
-        } else {
-            Some(self.values()[last])
-        };
-        self.column.remove_last();
-        slot
+        let value = self.values()[last];
+        self.column.remove_last().then_some(value)
     }
 
     /// Replaces the slot at a place. A null stores the default value, and a mask is held from then on.

@@ -1,39 +1,10 @@
 //! Equality of builders of native values, which compares slots alone.
-ghost use Rattle.std.specs.Prelude.{◌≡◌, ◌<◌, length, slice_get, Some, IsTrue, ◌↔◌};
+ghost use Rattle.std.specs.Prelude.{◌≡◌, ◌↔◌, IsTrue};
 ghost use Rattle.arrow_memory.specs.Column.{slots_of};
 ghost use Rattle.arrow_memory.specs.SlotEquality.{same_slots};
 
 use crate::MutablePrimitiveArray;
 use arrow_types::native_type::NativeType;
-
-impl<T: NativeType> MutablePrimitiveArray<T> {
-    /// The slot at a place.
-    #[inline(always)]
-    fn slot(&self, i: usize) -> Option<T>
-        requires { i < length self.now.rows }
-        ensures { slice_get (slots_of self.now) i ≡ Some result }
-    {
-        if self.column.is_null(i) {
-            return None;
-        }
-        Some(self.values()[i])
-    }
-
-    /// Whether both have the same slots.
-    fn has_slots_of(&self, other: &Self) -> bool
-        ensures { IsTrue result ↔ slots_of self.now ≡ slots_of other.now }
-    {
-        if self.len() != other.len() {
-            return false;
-        }
-        for i in 0..self.len() {
-            if self.slot(i) != other.slot(i) {
-                return false;
-            }
-        }
-        true
-    }
-}
 
 impl<T: NativeType> PartialEq for MutablePrimitiveArray<T> {
     ghost use Rattle.std.specs.Cmp.{decided, on_per, partial_equiv_from_equiv};
@@ -49,7 +20,7 @@ impl<T: NativeType> PartialEq for MutablePrimitiveArray<T> {
         ensures value { result ≡ same_slots T.eq (slots_of self.now) (slots_of other.now) }
         ensures decides { IsTrue result ↔ slots_of self.now ≡ slots_of other.now }
     {
-        self.has_slots_of(other)
+        self.column.has_slots_of(&other.column)
     }
 }
 

@@ -1,8 +1,10 @@
 //! Lists of marks that grow.
-ghost use Rattle.std.specs.Prelude.{◌≡◌, ℕ, ◌<◌, [], ◌∷◌, ◌++◌, count_by, length, not, replicate, slice_get, slice_set, take, Some, OnOk, IfOk, IfErr, IsOkAnd, IsErrAnd, MatchOption, ◌*◌, ◌≤◌, vec_len};
+ghost use Rattle.std.specs.Prelude.{◌≡◌, ℕ, ◌<◌, ◌+◌, ◌↔◌, ◌==◌, IsTrue, [], ◌∷◌, ◌++◌, count_by, length, not, replicate, slice_get, slice_set, take, Some, OnOk, IfOk, IfErr, IsOkAnd, IsErrAnd, MatchOption, ◌*◌, ◌≤◌, vec_len};
+ghost use Rattle.std.specs.Int.{bit_at};
 ghost use Rattle.arrow_memory.specs.Marks.{marks, bits_past_bytes};
 ghost use Rattle.arrow_types.specs.Types.{refusal};
 
+use crate::bitmap::agree::agree_where;
 use crate::bitmap::bits::{count_clear, extend_marks, fits_bytes, mark_of, push_mark, write_mark};
 use crate::bitmap::copy::extend_from_bytes;
 use crate::bitmap::pack::pack;
@@ -185,7 +187,27 @@ impl MutableBitmap {
         Ok(())
     }
 
+    /// The eight marks from place `8 * i` on, as the bits of a byte. Its bits past the last mark don't count.
+    #[inline(always)]
+    pub(crate) fn byte(&self, i: usize) -> u8
+        requires { 8 * i < length self.now }
+        ensures { (k : ℕ) → k < 8 → 8 * i + k < length self.now → slice_get self.now (8 * i + k) ≡ Some (bit_at result k == 1) }
+    {
+        self.bytes[i]
+    }
+
+    /// Whether both have the same marks.
+    pub(crate) fn has_marks_of(&self, other: &Self) -> bool
+        ensures { IsTrue result ↔ self.now ≡ other.now }
+    {
+        if self.length != other.length {
+            return false;
+        }
+        agree_where(self, other, &None)
+    }
+
     /// Removes the last mark and answers it; `None` where there is none.
+    #[inline(always)]
     pub fn pop(&mut self) -> Option<bool>
         ensures { MatchOption result ((self.old ≡ []) × (self.new ≡ [])) (λ mark. self.old ≡ self.new ++ mark ∷ []) }
     {

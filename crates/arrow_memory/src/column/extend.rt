@@ -49,6 +49,27 @@ impl<V: MutableValues> GrowingColumn<V> {
         Ok(())
     }
 
+    /// Appends valid slots of the values of a list.
+    ///
+    /// # Errors
+    /// `Overflow` at the first value with which there would be more than the values' type can count, or
+    /// `OutOfMemory` where a growth is refused; the values that came before are then appended.
+    pub fn extend_from_values<X: Copy>(&mut self, values: &[X]) -> Result<(), Error>
+    where
+        V: PushValue<X>,
+        ensures data_type { self.new.data_type ≡ self.old.data_type }
+        ensures ok { OnOk result ((slots_fit V.overflows V.shown V.default self.old (map Some values.now) ≡ true) × (self.new ≡ append_slots V.default self.old (map (λ x. Some (V.shown x)) values.now))) }
+        ensures err { IfErr result (λ e. (begun rest : List X) × (last : X) × (values.now ≡ begun ++ last ∷ rest) × (slots_fit V.overflows V.shown V.default self.old (map Some begun) ≡ true) × (self.new ≡ append_slots V.default self.old (map (λ x. Some (V.shown x)) begun)) × (e ≡ refused_growth (V.overflows self.new.around (stored_values self.new) last))) }
+    {
+        for value in values {
+            match self.push_valid(*value) {
+                Ok(()) => (),
+                Err(refused) => return Err(refused),
+            }
+        }
+        Ok(())
+    }
+
     /// Appends the slots of a list.
     ///
     /// # Errors

@@ -55,6 +55,7 @@ impl<V: Values> FrozenColumn<V> {
         ensures rows { rows_of (V.stored result.1) result.2 ≡ self.rows }
         ensures fits { FitsMask (V.stored result.1) result.2 }
         ensures is_column { IsColumn self }
+        ensures again { column_with (logical_type result.0) (V.around result.1) (V.stored result.1) result.2 ≡ self }
     {
         (self.data_type, self.values, self.validity)
     }

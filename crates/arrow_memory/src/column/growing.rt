@@ -1,11 +1,11 @@
 //! Columns that grow, of which builders are made.
-ghost use Rattle.std.specs.Prelude.{IsTrue, slice_get, not, is_some, ◌≡◌, ◌<◌, length, false, Some, None, OnOk, IfOk, IfErr, IfSome, option_map};
+ghost use Rattle.std.specs.Prelude.{IsTrue, slice_get, not, is_some, ◌≡◌, ◌<◌, ◌-◌, length, false, Some, None, OnOk, IfOk, IfErr, IfSome, option_map};
 ghost use Rattle.std.specs.Option.{option_copied};
 ghost use Rattle.arrow_types.specs.Types.{logical_type};
-ghost use Rattle.arrow_memory.specs.Column.{slots_of, FitsMask, all_valid, marks_of, slot_overflows, IsColumn, append_slot, column_with, mask_of, refused_growth, rows_of, stored_values, with_mask, with_type, without_last};
+ghost use Rattle.arrow_memory.specs.Column.{slots_of, FitsMask, all_valid, marks_of, slot_overflows, IsColumn, append_slot, column_with, last_slot, mask_of, refused_growth, rows_of, stored_values, with_mask, with_type, without_last};
 
 use crate::bitmap::{Bitmap, BitmapIter, MutableBitmap};
-use crate::column::mask::{freeze_mask, keep_first_marks, push_null_mark, push_valid};
+use crate::column::mask::{freeze_mask, pop_mark, push_null_mark, push_valid};
 use crate::column::values::{MutableValues, PushValue};
 use arrow_types::data_type::DataType;
 use arrow_types::error::Error;
@@ -56,6 +56,7 @@ impl<V: MutableValues> GrowingColumn<V> {
         ensures rows { rows_of (V.stored result.1) result.2 ≡ self.rows }
         ensures fits { FitsMask (V.stored result.1) result.2 }
         ensures is_column { IsColumn self }
+        ensures again { column_with (logical_type result.0) (V.around result.1) (V.stored result.1) result.2 ≡ self }
     {
         (self.data_type, self.values, self.validity)
     }
@@ -190,15 +191,17 @@ impl<V: MutableValues> GrowingColumn<V> {
         }
     }
 
-    /// Removes the last slot.
+    /// Removes the last slot, and answers whether it was valid; it then showed what was stored there.
     #[inline(always)]
-    pub fn remove_last(&mut self)
+    pub fn remove_last(&mut self) -> bool
         requires { 0 < length self.old.rows }
-        ensures { self.new ≡ without_last self.old }
+        ensures mark { slice_get (marks_of self.old) (length self.old.rows - 1) ≡ Some result }
+        ensures null { IsTrue (not result) → last_slot self.old ≡ None }
+        ensures valid { IsTrue result → (value : V.Stored) → slice_get (stored_values self.old) (length self.old.rows - 1) ≡ Some value → last_slot self.old ≡ Some value }
+        ensures rest { self.new ≡ without_last self.old }
     {
-        let last = self.values.count() - 1;
-        self.values.keep_first(last);
-        keep_first_marks(&mut self.validity, last);
+        self.values.drop_last();
+        pop_mark(&mut self.validity)
     }
 
     /// Whether the slot at a place is valid, which is not null.

@@ -1,5 +1,7 @@
 //! Masks, which are held or not.
 ghost use Rattle.std.specs.Prelude.{IsTrue, ◌↔◌, slice_set, ◌≡◌, ◌<◌, Bool, true, false, [], ◌∷◌, ◌++◌, replicate, Some, option_map, unwrap_or, vec_len, vec_capacity, length, take, drop, ◌+◌, ◌≤◌, IfSome, IfNone, OnOk, IfOk, IfErr};
+ghost use Rattle.arrow_memory.specs.Marks.{TakesLastMark};
+ghost use Rattle.arrow_memory.specs.SlotEquality.{IsValidAt};
 ghost use Rattle.arrow_memory.specs.Column.{joined_mask, mask_with_nulls};
 
 use crate::bitmap::{Bitmap, MutableBitmap};
@@ -50,14 +52,18 @@ pub(crate) fn push_null_mark(
     }
 }
 
-/// Keeps only the first `len` marks, where a mask is held.
+/// Removes the last slot's mark and answers it; where no mask is held the slot is valid.
 #[inline(always)]
-pub(crate) fn keep_first_marks(validity: &mut Option<MutableBitmap>, len: usize)
-    requires { IfSome validity.old (λ marks. len ≤ length marks) }
-    ensures { validity.new ≡ option_map (λ marks. take len marks) validity.old }
+pub(crate) fn pop_mark(validity: &mut Option<MutableBitmap>) -> bool
+    requires { IfSome validity.old (λ marks. 0 < length marks) }
+    ensures { TakesLastMark validity.old validity.new result }
 {
-    if let Some(marks) = validity {
-        marks.truncate(len);
+    match validity {
+        None => true,
+        Some(marks) => match marks.pop() {
+            Some(mark) => mark,
+            None => false,
+        },
     }
 }
 
@@ -291,5 +297,39 @@ pub fn is_growing_mask_of(validity: &Option<MutableBitmap>, slots: usize) -> boo
     match validity {
         None => true,
         Some(marks) => marks.len() == slots,
+    }
+}
+
+/// Whether a slot is valid; without a mask each is.
+#[inline(always)]
+pub(crate) fn is_valid_at(validity: &Option<MutableBitmap>, i: usize) -> bool
+    requires { IfSome validity.now (λ marks. i < length marks) }
+    ensures { IsTrue result ↔ IsValidAt validity.now i }
+{
+    match validity {
+        None => true,
+        Some(marks) => marks.get(i),
+    }
+}
+
+/// Whether two masks of so many slots mark the same as valid. Marks are compared and counted many at a time.
+pub(crate) fn same_masks(
+    first: &Option<MutableBitmap>,
+    second: &Option<MutableBitmap>,
+    count: usize,
+) -> bool
+    requires first { IfSome first.now (λ marks. length marks ≡ count) }
+    requires second { IfSome second.now (λ marks. length marks ≡ count) }
+    ensures { IsTrue result ↔ unwrap_or first.now (replicate count true) ≡ unwrap_or second.now (replicate count true) }
+{
+    match first {
+        Some(marks) => match second {
+            Some(others) => marks.has_marks_of(others),
+            None => marks.unset_bits() == 0,
+        },
+        None => match second {
+            Some(others) => others.unset_bits() == 0,
+            None => true,
+        },
     }
 }

@@ -6,8 +6,34 @@ use crate::column::values::{MutableValues, Values};
 use crate::column::{FrozenColumn, GrowingColumn};
 use arrow_types::error::Error;
 
+/// Values of several bytes each, so that room is made for both.
+pub trait ReserveItems: MutableValues {
+    /// Makes room for so many values more, and for so many bytes of theirs.
+    ///
+    /// # Errors
+    /// `OutOfMemory` where a growth is refused.
+    fn make_room_of(&mut self, additional: usize, bytes: usize) -> Result<(), Error>
+        ensures stored { Self.stored self.new ≡ Self.stored self.old }
+        ensures around { Self.around self.new ≡ Self.around self.old }
+        ensures err { IfErr result (λ e. e ≡ Error.OutOfMemory) };
+}
+
 #[tactic(auto, using(crate::proofs::RowLemmas::row_steps))]
 impl<V: MutableValues> GrowingColumn<V> {
+    /// Makes room for so many slots more, in a held mask too, and for so many bytes of their values.
+    ///
+    /// # Errors
+    /// `OutOfMemory` where a growth is refused.
+    pub fn reserve_items(&mut self, additional: usize, bytes: usize) -> Result<(), Error>
+    where
+        V: ReserveItems,
+        ensures kept { self.new ≡ self.old }
+        ensures err { IfErr result (λ e. e ≡ Error.OutOfMemory) }
+    {
+        self.values.make_room_of(additional, bytes)?;
+        reserve_marks(&mut self.validity, additional)
+    }
+
     /// Makes room for so many slots more, in a held mask too.
     ///
     /// # Errors

@@ -1,5 +1,5 @@
 //! The stored values that columns are made of.
-ghost use Rattle.std.specs.Prelude.{slice_set, replicate, ◌<◌, IfOk, ◌≡◌, ℕ, ◌+◌, ◌≤◌, List, Bool, false, [], ◌∷◌, ◌++◌, length, take, drop, OnOk, IfErr};
+ghost use Rattle.std.specs.Prelude.{slice_set, replicate, ◌<◌, IfOk, ◌≡◌, ℕ, ◌+◌, ◌-◌, ◌≤◌, List, Bool, false, [], ◌∷◌, ◌++◌, length, take, drop, OnOk, IfErr};
 ghost use Rattle.arrow_memory.specs.Column.{refused_growth};
 
 use crate::bitmap::{Bitmap, MutableBitmap};
@@ -138,6 +138,12 @@ pub trait MutableValues: Drop {
         ensures stored { stored self.new ≡ take len (stored self.old) }
         ensures around { around self.new ≡ around self.old };
 
+    /// Removes the last value.
+    fn drop_last(&mut self)
+        requires { 0 < length (stored self.old) }
+        ensures stored { stored self.new ≡ take (length (stored self.old) - 1) (stored self.old) }
+        ensures around { around self.new ≡ around self.old };
+
     /// Whether there would be more than the values' type can count with others' behind these.
     ghost overjoins: { Self.Around → List Self.Stored → List Self.Stored → Bool };
 
@@ -248,6 +254,11 @@ impl<T: NativeType> MutableValues for Vec<T> {
         self.truncate(len);
     }
 
+    #[inline(always)]
+    fn drop_last(&mut self) {
+        let _last = self.pop();
+    }
+
     ghost overjoins = { λ _ _ _. false };
 
     #[inline(always)]
@@ -314,6 +325,11 @@ impl MutableValues for MutableBitmap {
     #[inline(always)]
     fn keep_first(&mut self, len: usize) {
         self.truncate(len);
+    }
+
+    #[inline(always)]
+    fn drop_last(&mut self) {
+        self.truncate(self.len() - 1);
     }
 
     ghost overjoins = { λ _ _ _. false };

@@ -180,6 +180,15 @@ impl<O: Offset> Offsets<O> {
         }
     }
 
+    /// Keeps only the first so many slots.
+    #[inline(always)]
+    pub fn truncate(&mut self, slots: usize)
+        requires { slots < length self.old }
+        ensures { self.new ≡ take (slots + 1) self.old }
+    {
+        self.offsets.truncate(slots + 1);
+    }
+
     /// Appends the end of a slot of this length.
     ///
     /// # Errors
@@ -188,6 +197,7 @@ impl<O: Offset> Offsets<O> {
     /// are then as before.
     #[inline(always)]
     pub fn try_push_usize(&mut self, length: usize) -> Result<(), Error>
+        ensures legal { IsOffsets self.new }
         ensures ok { OnOk result ((last_of self.old + length ≤ O.most) × (self.new ≡ self.old ++ (last_of self.old + length) ∷ [])) }
         ensures err { IfErr result (λ e. MatchGrowth e (O.most < last_of self.old + length) (last_of self.old + length ≤ O.most) × (self.new ≡ self.old)) }
     {
@@ -203,6 +213,21 @@ impl<O: Offset> Offsets<O> {
         Ok(())
     }
 
+    /// Appends the end of an empty slot.
+    ///
+    /// # Errors
+    /// `OutOfMemory` where the growth is refused; the offsets are then as before.
+    #[inline(always)]
+    pub fn push_empty(&mut self) -> Result<(), Error>
+        ensures legal { IsOffsets self.new }
+        ensures ok { OnOk result (self.new ≡ self.old ++ last_of self.old ∷ []) }
+        ensures err { IfErr result (λ e. (e ≡ Error.OutOfMemory) × (self.new ≡ self.old)) }
+    {
+        let last = *self.last();
+        self.offsets.push(last)?;
+        Ok(())
+    }
+
     /// Appends the slots of another, which keep their lengths: its offsets move by the distance
     /// from its first offset to this one's last.
     ///
@@ -211,6 +236,7 @@ impl<O: Offset> Offsets<O> {
     /// is found before memory is asked for; `OutOfMemory` where the growth is refused. The offsets
     /// are then as before.
     pub fn try_extend_from_self(&mut self, other: &Offsets<O>) -> Result<(), Error>
+        ensures legal { IsOffsets self.new }
         ensures ok { OnOk result ((last_of self.old + (last_of other.now - first_of other.now) ≤ O.most) × (self.new ≡ self.old ++ moved_behind (last_of self.old) other.now)) }
         ensures err { IfErr result (λ e. MatchGrowth e (O.most < last_of self.old + (last_of other.now - first_of other.now)) (last_of self.old + (last_of other.now - first_of other.now) ≤ O.most) × (self.new ≡ self.old)) }
     {

@@ -8,7 +8,7 @@ use std::alloc::AllocError;
 /// The number of the offset at a place.
 #[inline(always)]
 #[tactic(auto, using(crate::proofs::OffsetLemmas::offset_reads))]
-pub(super) fn number_at<O: Offset>(offsets: &[O], index: usize) -> usize
+pub fn number_at<O: Offset>(offsets: &[O], index: usize) -> usize
     requires keeps { KeepsOffsets O.number O.most offsets.now }
     requires within { index < length offsets.now }
     ensures { result ≡ slice_index (numbers_of O.number offsets.now) index }
@@ -18,7 +18,7 @@ pub(super) fn number_at<O: Offset>(offsets: &[O], index: usize) -> usize
 
 /// Where a slot begins and ends.
 #[inline(always)]
-pub(super) fn start_end_of<O: Offset>(offsets: &[O], index: usize) -> (usize, usize)
+pub fn start_end_of<O: Offset>(offsets: &[O], index: usize) -> (usize, usize)
     requires keeps { KeepsOffsets O.number O.most offsets.now }
     requires within { index + 1 < length offsets.now }
     ensures start { result.0 ≡ slice_index (numbers_of O.number offsets.now) index }

@@ -70,6 +70,7 @@ impl<O: Offset> OffsetsBuffer<O> {
     /// The buffer of the offsets.
     #[inline(always)]
     pub fn buffer(&self) -> &Buffer<O>
+        ensures count { length result.now ≡ length self.now }
         ensures keeps { KeepsOffsets O.number O.most result.now }
         ensures numbers { numbers_of O.number result.now ≡ self.now }
         ensures value { map O.number result.now ≡ map pos self.now }
@@ -125,7 +126,8 @@ impl<O: Offset> OffsetsBuffer<O> {
     pub fn slice(&mut self, offset: usize, len: usize)
         requires some { 1 ≤ len }
         requires within { offset + len ≤ length self.old }
-        ensures { self.new ≡ take len (drop offset self.old) }
+        ensures value { self.new ≡ take len (drop offset self.old) }
+        ensures legal { IsOffsets self.new }
     {
         self.offsets.slice(offset, len);
     }

@@ -45,11 +45,15 @@ fn builders_are_joined(rt: HostRuntime) -> Result<(), Fail> {
     told(joined(rt.alloc()))
 }
 
-/// Appends slots in each way, of which the fifth is the first null.
-fn grow(alloc: Global, builder: &mut MutablePrimitiveArray<i64>) -> Result<(), Error> {
+/// Appends valid slots in each way.
+fn grow_valid(alloc: Global, builder: &mut MutablePrimitiveArray<i64>) -> Result<(), Error> {
     builder.extend_values([1].to_vec(alloc)?.into_iter())?;
     builder.extend_from_slice([2].as_slice())?;
-    builder.extend_constant(1, Some(3))?;
+    builder.extend_constant(1, Some(3))
+}
+
+/// Appends slots in each way, of which the second is the first null.
+fn grow(alloc: Global, builder: &mut MutablePrimitiveArray<i64>) -> Result<(), Error> {
     builder.extend([Some(4), None].to_vec(alloc)?.into_iter())?;
     builder.try_extend([Some(6)].to_vec(alloc)?.into_iter())?;
     builder.extend_constant(2, None)?;
@@ -59,6 +63,7 @@ fn grow(alloc: Global, builder: &mut MutablePrimitiveArray<i64>) -> Result<(), E
 /// Whether each growth by many slots appends them.
 fn grows(alloc: Global) -> Result<bool, Error> {
     let mut builder = MutablePrimitiveArray::default(alloc);
+    grow_valid(alloc, &mut builder)?;
     grow(alloc, &mut builder)?;
     let mask = "111101001";
     Ok(builds(&builder, [1, 2, 3, 4, 0, 6, 0, 0, 9].as_slice(), mask))

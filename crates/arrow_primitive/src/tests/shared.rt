@@ -1,22 +1,29 @@
 use super::*;
+use crate::Int64Vec;
 use either::{Left, Right};
+
+/// The array's builder, where nothing shares the array.
+fn thawed(array: PrimitiveArray<i64>) -> Result<Int64Vec, Error> {
+    match array.into_mut() {
+        Right(builder) => Ok(builder),
+        Left(_) => Err(Error::OutOfSpec("shared")),
+    }
+}
+
+/// The array of a slot more.
+fn with_five(mut builder: Int64Vec) -> Result<PrimitiveArray<i64>, Error> {
+    builder.push(Some(5))?;
+    builder.freeze()
+}
 
 /// Whether an array that nothing shares is thawed, grows, and is thawed again.
 fn thaws(alloc: Global) -> Result<bool, Error> {
-    let array = MutablePrimitiveArray::from_vec([1, 2, 3].to_vec(alloc)?).freeze()?;
-    let Right(mut builder) = array.into_mut() else {
-        return Ok(false);
-    };
-    builder.push(Some(5))?;
-    let array = builder.freeze()?;
-    if !shows(&array, [1, 2, 3, 5].as_slice(), "none") {
-        return Ok(false);
-    }
-    let Right(mut builder) = array.into_mut() else {
-        return Ok(false);
-    };
+    let array = Int64Vec::from_vec([1, 2, 3].to_vec(alloc)?).freeze()?;
+    let array = with_five(thawed(array)?)?;
+    let same = shows(&array, [1, 2, 3, 5].as_slice(), "none");
+    let mut builder = thawed(array)?;
     builder.extend_constant(256, Some(9))?;
-    Ok(builder.freeze()?.len() == 260)
+    Ok(same && builder.len() == 260)
 }
 
 #[test]
@@ -24,20 +31,29 @@ fn arrays_of_one_owner_thaw(rt: HostRuntime) -> Result<(), Fail> {
     told(thaws(rt.alloc()))
 }
 
+/// Whether an array of three slots is thawed.
+fn is_thawed(array: PrimitiveArray<i64>) -> bool {
+    match array.into_mut() {
+        Right(builder) => builds(&builder, [1, 0, 3].as_slice(), "101"),
+        Left(_) => false,
+    }
+}
+
 /// Whether a clone is not thawed while the first lives, and is once it doesn't. Its mask is shared too.
+fn is_thawed_alone(first: PrimitiveArray<i64>, second: PrimitiveArray<i64>) -> bool {
+    let Left(second) = second.into_mut() else {
+        return false;
+    };
+    let same = shows(&first, [1, 0, 3].as_slice(), "101");
+    drop(first);
+    same && is_thawed(second)
+}
+
+/// The same of an array and its clone.
 fn shares(alloc: Global) -> Result<bool, Error> {
     let first = built(alloc, [Some(1), None, Some(3)].as_slice())?.freeze()?;
-    let Left(second) = first.clone()?.into_mut() else {
-        return Ok(false);
-    };
-    if !shows(&first, [1, 0, 3].as_slice(), "101") || !shows(&second, [1, 0, 3].as_slice(), "101") {
-        return Ok(false);
-    }
-    drop(first);
-    match second.into_mut() {
-        Right(builder) => Ok(builds(&builder, [1, 0, 3].as_slice(), "101")),
-        Left(_) => Ok(false),
-    }
+    let second = first.clone()?;
+    Ok(is_thawed_alone(first, second))
 }
 
 #[test]

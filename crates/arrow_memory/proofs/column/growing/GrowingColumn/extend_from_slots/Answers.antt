@@ -1,7 +1,7 @@
-use Rattle.std.proofs.Common.{◌≡◌, true, ap, ◌+◌, suc, drop, take, [], ◌∷◌, ◌++◌, option_map, sym, subst, ◌∙◌}
+use Rattle.std.proofs.Common.{ap, ◌+◌, suc, drop, take, [], ◌∷◌, ◌++◌, option_map, sym, ◌∙◌}
 use Rattle.std.proofs.Math.Seq.{drop-cons}
 use Rattle.std.proofs.lemmas.List.{take_more, take-append-drop}
-use Rattle.arrow_memory.specs.Column.{append_slot, refused_growth, slot_overflows, slots_fit}
+use Rattle.arrow_memory.specs.Column.{append_slot, refused_growth, slot_overflows}
 use Rattle.arrow_memory.proofs.RowLemmas.{appended-to, fit-to}
 use Rattle.arrow_memory.proofs.column.growing.GrowingColumn.extend_from_slots.Goals as goal
 

@@ -1,0 +1,285 @@
+// Offsets and bytes are written as numbers, and masks as texts of '1' and '0', or as `none` where none is held.
+// The checks are written once for all types of offsets, and each is run for two of them.
+mod growth;
+mod iterators;
+mod masks;
+mod parts;
+mod shared;
+mod tiny;
+mod values;
+
+use crate::refusals::told;
+use crate::{BinaryArray, MutableBinaryArray, MutableBinaryValuesArray};
+use arrow_memory::bitmap::{Bitmap, BitmapIter, MutableBitmap};
+use arrow_memory::buffer::Buffer;
+use arrow_memory::offset::Offsets;
+use arrow_types::data_type::DataType;
+use arrow_types::error::Error;
+use arrow_types::offset::Offset;
+use std::alloc::Global;
+use std::test::Fail;
+
+/// Whether offsets are these numbers, and no more.
+fn are<O: Offset>(offsets: &[O], numbers: &[usize]) -> bool {
+    let mut offsets = offsets.iter();
+    for number in numbers {
+        match offsets.next() {
+            Some(offset) => {
+                if offset.try_to_usize() != Some(*number) {
+                    return false;
+                }
+            }
+            None => return false,
+        }
+    }
+    offsets.next().is_none()
+}
+
+/// Whether a mask has the marks that a text writes, and no more.
+fn is_mask(marks: Option<BitmapIter<'_>>, text: &str) -> bool {
+    let Some(mut marks) = marks else {
+        return text == "none";
+    };
+    for mark in text.as_bytes() {
+        if marks.next() != Some(*mark == b'1') {
+            return false;
+        }
+    }
+    marks.next().is_none()
+}
+
+/// Whether an array has these offsets over these bytes, and these marks.
+pub(crate) fn shows<O: Offset>(
+    array: &BinaryArray<O>,
+    offsets: &[usize],
+    bytes: &[u8],
+    mask: &str,
+) -> bool {
+    let marks = match array.validity() {
+        Some(marks) => Some(marks.iter()),
+        None => None,
+    };
+    let are_bytes = array.values().as_slice() == bytes && is_mask(marks, mask);
+    are_bytes && are(array.offsets().buffer().as_slice(), offsets)
+}
+
+/// Whether a builder has these offsets over these bytes, and these marks.
+pub(crate) fn builds<O: Offset>(
+    builder: &MutableBinaryArray<O>,
+    offsets: &[usize],
+    bytes: &[u8],
+    mask: &str,
+) -> bool {
+    let marks = match builder.validity() {
+        Some(marks) => Some(marks.iter()),
+        None => None,
+    };
+    let are_bytes = builder.values().as_slice() == bytes && is_mask(marks, mask);
+    are_bytes && are(builder.offsets().as_slice(), offsets)
+}
+
+/// Whether a builder without nulls has these offsets over these bytes.
+pub(crate) fn holds<O: Offset>(
+    builder: &MutableBinaryValuesArray<O>,
+    offsets: &[usize],
+    bytes: &[u8],
+) -> bool {
+    builder.values().as_slice() == bytes && are(builder.offsets().as_slice(), offsets)
+}
+
+/// Offsets of these numbers.
+fn offsets_of<O: Offset>(alloc: Global, numbers: &[usize]) -> Result<Offsets<O>, Error> {
+    let mut offsets = Vec::new(alloc);
+    for number in numbers {
+        let Some(offset) = O::from_usize(*number) else {
+            return Err(Error::Overflow);
+        };
+        offsets.push(offset)?;
+    }
+    Offsets::try_from_vec(offsets)
+}
+
+/// The growing mask that a text writes.
+fn growing_mask(alloc: Global, text: &str) -> Result<Option<MutableBitmap>, Error> {
+    if text == "none" {
+        return Ok(None);
+    }
+    let mut marks = MutableBitmap::new(alloc);
+    for mark in text.as_bytes() {
+        marks.push(*mark == b'1')?;
+    }
+    Ok(Some(marks))
+}
+
+/// The mask that a text writes.
+fn mask(alloc: Global, text: &str) -> Result<Option<Bitmap>, Error> {
+    match growing_mask(alloc, text)? {
+        Some(marks) => Ok(Some(marks.freeze()?)),
+        None => Ok(None),
+    }
+}
+
+/// The array of such parts.
+fn array_of<O: Offset>(
+    alloc: Global,
+    data_type: DataType,
+    numbers: &[usize],
+    bytes: &[u8],
+    text: &str,
+) -> Result<BinaryArray<O>, Error> {
+    let offsets = offsets_of(alloc, numbers)?.freeze()?;
+    let values = Buffer::from_vec(bytes.to_vec(alloc)?)?;
+    BinaryArray::try_new(data_type, offsets, values, mask(alloc, text)?)
+}
+
+/// The builder of such parts.
+fn builder_of<O: Offset>(
+    alloc: Global,
+    data_type: DataType,
+    numbers: &[usize],
+    bytes: &[u8],
+    text: &str,
+) -> Result<MutableBinaryArray<O>, Error> {
+    let offsets = offsets_of(alloc, numbers)?;
+    let values = bytes.to_vec(alloc)?;
+    MutableBinaryArray::try_new(data_type, offsets, values, growing_mask(alloc, text)?)
+}
+
+/// The type of arrays over these offsets.
+fn type_of<O: Offset>() -> DataType {
+    if O::IS_LARGE {
+        DataType::LargeBinary
+    } else {
+        DataType::Binary
+    }
+}
+
+/// Items of one, no and two bytes, the second of which is null, with bytes around them.
+fn around<O: Offset>(alloc: Global) -> Result<BinaryArray<O>, Error> {
+    let bytes = [9, 9, 1, 4, 4, 8].as_slice();
+    array_of(alloc, type_of::<O>(), [2, 3, 3, 5].as_slice(), bytes, "101")
+}
+
+/// Whether the slots of these are read one by one.
+fn reads<O: Offset>(alloc: Global) -> Result<bool, Error> {
+    let array = around::<O>(alloc)?;
+    if array.len() != 3 || array.null_count() != 1 {
+        return Ok(false);
+    }
+    let values = array.value(0) == b"\x01".as_slice()
+        && array.value(1) == b"".as_slice()
+        && array.value(2) == b"\x04\x04".as_slice();
+    let marks = array.is_valid(0) && array.is_null(1) && !array.is_valid(1) && !array.is_null(2);
+    Ok(values && marks && *array.data_type() == type_of::<O>())
+}
+
+#[test]
+fn slots_lie_between_other_bytes(rt: HostRuntime) -> Result<(), Fail> {
+    told(reads::<i32>(rt.alloc()))?;
+    told(reads::<i64>(rt.alloc()))
+}
+
+/// Whether the last two slots of these are left, over all bytes.
+fn cuts<O: Offset>(alloc: Global) -> Result<bool, Error> {
+    let mut array = around::<O>(alloc)?;
+    if array.len() != 3 {
+        return Ok(false);
+    }
+    array.slice(1, 2);
+    if array.len() != 2 {
+        return Ok(false);
+    }
+    let bytes = [9, 9, 1, 4, 4, 8].as_slice();
+    let is_left = shows(&array, [3, 3, 5].as_slice(), bytes, "01") && array.null_count() == 1;
+    Ok(is_left && array.get(0).is_none() && array.get(1) == Some(b"\x04\x04".as_slice()))
+}
+
+#[test]
+fn slices_keep_all_bytes(rt: HostRuntime) -> Result<(), Fail> {
+    told(cuts::<i32>(rt.alloc()))?;
+    told(cuts::<i64>(rt.alloc()))
+}
+
+/// Whether the first slot of these is cut off by value, and then the rest.
+fn cuts_by_value<O: Offset>(alloc: Global) -> Result<bool, Error> {
+    let array = around::<O>(alloc)?;
+    if array.len() != 3 {
+        return Ok(false);
+    }
+    let one = array.sliced(2, 1);
+    if one.len() != 1 {
+        return Ok(false);
+    }
+    let bytes = [9, 9, 1, 4, 4, 8].as_slice();
+    let is_left = shows(&one, [3, 5].as_slice(), bytes, "1");
+    Ok(is_left && shows(&one.sliced(1, 0), [5].as_slice(), bytes, ""))
+}
+
+#[test]
+fn slices_by_value_keep_all_bytes(rt: HostRuntime) -> Result<(), Fail> {
+    told(cuts_by_value::<i32>(rt.alloc()))?;
+    told(cuts_by_value::<i64>(rt.alloc()))
+}
+
+/// Whether the array that was made has these offsets, bytes and marks, and the default type.
+fn made<O: Offset>(
+    answer: Result<BinaryArray<O>, Error>,
+    offsets: &[usize],
+    bytes: &[u8],
+    mask: &str,
+) -> Result<bool, Error> {
+    let array = answer?;
+    let is_shown = shows(&array, offsets, bytes, mask);
+    Ok(is_shown && *array.data_type() == type_of::<O>())
+}
+
+/// Slots with a null.
+fn three() -> [Option<&'static [u8]>; 3] {
+    [Some(b"\x01\x02".as_slice()), None, Some(b"\x03".as_slice())]
+}
+
+/// Whether arrays of slots have these, from a slice and from an iterator.
+fn from_slots<O: Offset>(alloc: Global) -> Result<bool, Error> {
+    let (offsets, bytes) = ([0, 2, 2, 3].as_slice(), [1, 2, 3].as_slice());
+    let first = BinaryArray::<O>::from(alloc, three().as_slice());
+    let second = BinaryArray::<O>::from_iter(alloc, three().into_iter());
+    Ok(made(first, offsets, bytes, "101")? && made(second, offsets, bytes, "101")?)
+}
+
+#[test]
+fn slots_are_offsets_bytes_and_marks(rt: HostRuntime) -> Result<(), Fail> {
+    told(from_slots::<i32>(rt.alloc()))?;
+    told(from_slots::<i64>(rt.alloc()))
+}
+
+/// Whether arrays of slots and of items none of which is null hold no mask.
+fn from_items<O: Offset>(alloc: Global) -> Result<bool, Error> {
+    let items = [b"ab".as_slice(), b"".as_slice(), b"c".as_slice()];
+    let (offsets, bytes) = ([0, 2, 2, 3].as_slice(), b"abc");
+    let first = BinaryArray::<O>::from_slice(alloc, items.as_slice());
+    let second = BinaryArray::<O>::from_iter_values(alloc, items.into_iter());
+    let third = BinaryArray::<O>::from(alloc, [Some(b"x".as_slice())].as_slice());
+    let is_made = made(first, offsets, bytes, "none")? && made(second, offsets, bytes, "none")?;
+    Ok(is_made && made(third, [0, 1].as_slice(), b"x", "none")?)
+}
+
+#[test]
+fn no_null_needs_no_mask(rt: HostRuntime) -> Result<(), Fail> {
+    told(from_items::<i32>(rt.alloc()))?;
+    told(from_items::<i64>(rt.alloc()))
+}
+
+/// Whether arrays of no slot and of nulls store no byte.
+fn without_bytes<O: Offset>(alloc: Global) -> Result<bool, Error> {
+    let empty = BinaryArray::<O>::new_empty(alloc, BinaryArray::<O>::default_data_type());
+    let nulls = BinaryArray::<O>::new_null(alloc, BinaryArray::<O>::default_data_type(), 3);
+    let none = BinaryArray::<O>::new_null(alloc, BinaryArray::<O>::default_data_type(), 0);
+    let is_made = made(empty, [0].as_slice(), &[], "none")? && made(none, [0].as_slice(), &[], "")?;
+    Ok(is_made && made(nulls, [0, 0, 0, 0].as_slice(), &[], "000")?)
+}
+
+#[test]
+fn nulls_have_a_mask_and_no_bytes(rt: HostRuntime) -> Result<(), Fail> {
+    told(without_bytes::<i32>(rt.alloc()))?;
+    told(without_bytes::<i64>(rt.alloc()))
+}

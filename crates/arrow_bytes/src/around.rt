@@ -1,0 +1,18 @@
+//! What lies around items, as contracts see it.
+use std::marker::Model;
+
+/// What contracts see around items of bytes: the bytes before the first of them, and those behind the last. It stands
+/// where a type has to be named; no call makes one.
+#[derive(Drop)]
+pub struct BytesAround {
+    lead: Vec<u8>,
+    tail: Vec<u8>,
+}
+
+impl Model for BytesAround {
+    ghost use Rattle.arrow_bytes.specs.Pieces.{Around};
+
+    ghost Value = { Around };
+
+    ghost view = { λ around. record { lead = around.lead.items; tail = around.tail.items } };
+}

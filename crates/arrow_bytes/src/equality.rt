@@ -1,0 +1,18 @@
+//! Equality of stored values of bytes, place by place.
+use crate::MutableByteValues;
+use arrow_memory::column::EqualValues;
+use arrow_types::offset::Offset;
+
+impl<O: Offset> EqualValues for MutableByteValues<O> {
+    ghost use Rattle.std.specs.Prelude.{ℕ};
+    ghost use Rattle.arrow_bytes.specs.Equality.{same_bytes, same_bytes-Decides};
+
+    ghost test = { same_bytes };
+
+    #[inline(always)]
+    fn is_same_at(&self, other: &Self, i: usize) -> bool {
+        self.value(i) == other.value(i)
+    }
+
+    ghost test_decides = { same_bytes-Decides };
+}

@@ -1,0 +1,220 @@
+//! Stored values of bytes that grow.
+ghost use Rattle.std.specs.Prelude.{◌≡◌, ◌+◌, ◌<◌, ◌≤◌, [], length, take, slice_get, Some, IfOk, IfErr};
+ghost use Rattle.arrow_types.specs.Types.{logical_type};
+ghost use Rattle.arrow_memory.specs.Offsets.{last_of, IsOffsets};
+ghost use Rattle.arrow_check.specs.Pieces.{bytes_of, offsets_of};
+ghost use Rattle.arrow_bytes.specs.Pieces.{nothing_around, pieces_of};
+
+use crate::around::BytesAround;
+use crate::{ByteItem, ByteValues};
+use arrow_check::accessor::Bytes;
+use arrow_memory::buffer::Buffer;
+use arrow_memory::column::{MutableValues, PushValue, ReserveItems};
+use arrow_memory::offset::Offsets;
+use arrow_types::error::Error;
+use arrow_types::offset::Offset;
+use std::alloc::Global;
+use std::marker::Model;
+
+/// Stored values of bytes that grow. There may be bytes before the first of them, and there are none behind the last.
+#[derive(Drop)]
+pub struct MutableByteValues<O: Offset> {
+    pub(crate) offsets: Offsets<O>,
+    pub(crate) bytes: Vec<u8>,
+}
+
+// Contracts see three pieces: the items, and what lies before and behind them.
+impl<O: Offset> Model for MutableByteValues<O> {
+    ghost use Rattle.std.specs.Prelude.{◌≡◌, length};
+    ghost use Rattle.arrow_memory.specs.Offsets.{last_of, IsOffsets};
+    ghost use Rattle.arrow_bytes.specs.Pieces.{Pieces, pieces_of};
+
+    ghost Value = { Pieces };
+
+    ghost view = { λ values. pieces_of values.offsets values.bytes.items };
+
+    ghost invariant = { λ values. IsOffsets values.offsets × (last_of values.offsets ≡ length values.bytes.items) };
+}
+
+#[tactic(auto, using(crate::proofs::PieceLemmas::piece_reads, crate::proofs::PieceLemmas::piece_growth))]
+impl<O: Offset> MutableByteValues<O> {
+    /// The items that offsets cut out of bytes, which end at the last offset.
+    #[inline(always)]
+    pub fn new(offsets: Offsets<O>, bytes: Vec<u8>) -> Self
+        requires { last_of offsets ≡ length bytes.items }
+        ensures { result ≡ pieces_of offsets bytes.items }
+    {
+        // The offsets themselves tell that they are legal.
+        offsets.first();
+        MutableByteValues { offsets, bytes }
+    }
+
+    /// No item, with room for so many, and for so many bytes.
+    ///
+    /// # Errors
+    /// `OutOfMemory` where memory is refused.
+    pub fn with_capacities(alloc: Global, capacity: usize, values: usize) -> Result<Self, Error>
+        ensures ok { IfOk result (λ values. values ≡ record { around = nothing_around; items = [] }) }
+        ensures err { IfErr result (λ e. e ≡ Error.OutOfMemory) }
+    {
+        let offsets = Offsets::with_capacity(alloc, capacity)?;
+        let bytes = Vec::with_capacity(alloc, values)?;
+        Ok(MutableByteValues { offsets, bytes })
+    }
+
+    /// The offsets, and all bytes.
+    #[inline(always)]
+    pub fn into_inner(self) -> (Offsets<O>, Vec<u8>)
+        ensures offsets { result.0 ≡ offsets_of (length self.around.lead) self.items }
+        ensures bytes { result.1.items ≡ bytes_of self.around.lead self.items self.around.tail }
+        ensures pieces { pieces_of result.0 result.1.items ≡ self }
+        ensures ends { last_of result.0 ≡ length result.1.items }
+    {
+        (self.offsets, self.bytes)
+    }
+
+    /// The offsets.
+    #[inline(always)]
+    pub fn offsets(&self) -> &Offsets<O>
+        ensures { result.now ≡ offsets_of (length self.now.around.lead) self.now.items }
+    {
+        &self.offsets
+    }
+
+    /// All bytes, those before the first item too.
+    #[inline(always)]
+    pub fn bytes(&self) -> &Vec<u8>
+        ensures value { result.now.items ≡ bytes_of self.now.around.lead self.now.items self.now.around.tail }
+        ensures tail { self.now.around.tail ≡ [] }
+    {
+        &self.bytes
+    }
+
+    /// The number of items.
+    #[inline(always)]
+    pub fn len(&self) -> usize
+        ensures { result ≡ length self.now.items }
+    {
+        self.offsets.len_proxy()
+    }
+
+    /// The item at a place.
+    #[inline(always)]
+    pub fn value(&self, i: usize) -> &[u8]
+        requires { i < length self.now.items }
+        ensures { slice_get self.now.items i ≡ Some result.now }
+    {
+        let (start, end) = self.offsets.start_end(i);
+        &self.bytes.as_slice()[start..end]
+    }
+
+    /// How many items there is room for without a growth of the offsets.
+    pub fn capacity(&self) -> usize
+        ensures { length self.now.items ≤ result }
+    {
+        self.offsets.capacity()
+    }
+
+    /// The same items, which no longer change. No byte is copied.
+    ///
+    /// # Errors
+    /// `OutOfMemory` where memory is refused; the items are then lost.
+    pub fn freeze(self) -> Result<ByteValues<O>, Error>
+        ensures ok { IfOk result (λ frozen. frozen ≡ self) }
+        ensures err { IfErr result (λ e. e ≡ Error.OutOfMemory) }
+    {
+        let MutableByteValues { offsets, bytes } = self;
+        let offsets = offsets.freeze()?;
+        let bytes = Buffer::from_vec(bytes)?;
+        Ok(ByteValues { offsets, bytes })
+    }
+}
+
+#[tactic(auto, using(crate::proofs::PieceLemmas::piece_reads, crate::proofs::PieceLemmas::piece_growth, crate::proofs::PieceLemmas::piece_joins))]
+impl<O: Offset> MutableValues for MutableByteValues<O> {
+    ghost use Rattle.std.specs.Prelude.{[], length};
+    ghost use Rattle.std.specs.List.{concat};
+    ghost use Rattle.arrow_bytes.specs.Pieces.{overflows_by};
+
+    type Stored = Bytes;
+
+    type Around = BytesAround;
+
+    ghost stored = { λ values. values.items };
+
+    ghost around = { λ values. values.around };
+
+    ghost default = { [] };
+
+    #[inline(always)]
+    fn count(&self) -> usize {
+        self.offsets.len_proxy()
+    }
+
+    #[inline(always)]
+    fn allocated_by(&self) -> Global {
+        *self.bytes.allocator()
+    }
+
+    #[inline(always)]
+    fn push_default(&mut self) -> Result<(), Error> {
+        self.offsets.push_empty()
+    }
+
+    fn keep_first(&mut self, len: usize) {
+        self.offsets.truncate(len);
+        self.bytes.truncate(self.offsets.last().to_usize());
+    }
+
+    #[inline(always)]
+    fn drop_last(&mut self) {
+        let last = self.offsets.len_proxy() - 1;
+        self.keep_first(last);
+    }
+
+    ghost overjoins = { λ around items others. overflows_by O.most around items (length (concat others)) };
+
+    fn append(&mut self, other: &Self) -> Result<(), Error> {
+        self.offsets
+            .try_extend_items(&mut self.bytes, &other.offsets, &other.bytes)
+    }
+
+    fn make_room(&mut self, additional: usize) -> Result<(), Error> {
+        self.offsets.reserve(additional)
+    }
+
+    fn drop_room(&mut self) -> Result<(), Error> {
+        self.offsets.shrink_to_fit()?;
+        self.bytes.shrink_to_fit();
+        Ok(())
+    }
+
+    fn copy(&self) -> Result<Self, Error> {
+        let offsets = self.offsets.clone()?;
+        let bytes = Vec::from_slice(*self.bytes.allocator(), &self.bytes)?;
+        Ok(MutableByteValues { offsets, bytes })
+    }
+}
+
+#[tactic(auto, using(crate::proofs::PieceLemmas::piece_reads, crate::proofs::PieceLemmas::piece_growth))]
+impl<X: ByteItem, O: Offset> PushValue<X> for MutableByteValues<O> {
+    ghost use Rattle.arrow_bytes.specs.Column.{item_overflows};
+
+    ghost shown = { X.bytes };
+
+    ghost overflows = { item_overflows X.bytes O.most };
+
+    #[inline(always)]
+    fn push_value(&mut self, value: X) -> Result<(), Error> {
+        self.offsets.try_push_item(&mut self.bytes, value.bytes())
+    }
+}
+
+#[tactic(auto, using(crate::proofs::PieceLemmas::piece_reads))]
+impl<O: Offset> ReserveItems for MutableByteValues<O> {
+    fn make_room_of(&mut self, additional: usize, bytes: usize) -> Result<(), Error> {
+        self.offsets.reserve(additional)?;
+        self.bytes.reserve(bytes)?;
+        Ok(())
+    }
+}

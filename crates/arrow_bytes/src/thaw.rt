@@ -1,0 +1,29 @@
+//! Stored values of bytes that are thawed with their mask.
+ghost use Rattle.std.specs.Prelude.{◌≡◌};
+ghost use Rattle.either.specs.Either.{MatchEither};
+ghost use Rattle.arrow_bytes.specs.Pieces.{without_tail};
+
+use crate::{ByteValues, MutableByteValues};
+use arrow_memory::bitmap::{Bitmap, MutableBitmap};
+use arrow_memory::thaw::into_mut_bytes;
+use arrow_types::offset::Offset;
+use either::{Either, Left, Right};
+
+/// The same items and the same mask to change, where no one else has any of them and all are shown from the first on;
+/// bytes behind the last item are cut off. Else the parts as given.
+#[tactic(auto, using(crate::proofs::PieceLemmas::piece_reads, crate::proofs::PieceLemmas::piece_thaws))]
+pub fn into_mut_values<O: Offset>(
+    values: ByteValues<O>,
+    validity: Option<Bitmap>,
+) -> Either<(ByteValues<O>, Option<Bitmap>), (MutableByteValues<O>, Option<MutableBitmap>)>
+    ensures { MatchEither result (λ parts. (parts.0 ≡ values) × (parts.1 ≡ validity)) (λ parts. (parts.0 ≡ without_tail values) × (parts.1 ≡ validity)) }
+{
+    let ByteValues { offsets, bytes } = values;
+    match into_mut_bytes(offsets, bytes, validity) {
+        Left((offsets, bytes, validity)) => Left((ByteValues { offsets, bytes }, validity)),
+        Right((offsets, bytes, validity)) => Right((
+            MutableByteValues { offsets, bytes },
+            validity,
+        )),
+    }
+}

@@ -1,0 +1,142 @@
+//! Stored values of bytes that don't change.
+ghost use Rattle.std.specs.Prelude.{◌≡◌, ◌<◌, ◌≤◌, [], length, replicate, slice_get, Some, IfOk, IfErr};
+ghost use Rattle.arrow_memory.specs.Offsets.{last_of, IsOffsets};
+ghost use Rattle.arrow_check.specs.Pieces.{bytes_of, offsets_of};
+ghost use Rattle.arrow_bytes.specs.Pieces.{nothing_around, pieces_of};
+
+use crate::around::BytesAround;
+use arrow_check::accessor::Bytes;
+use arrow_memory::buffer::Buffer;
+use arrow_memory::column::Values;
+use arrow_memory::offset::{Offsets, OffsetsBuffer};
+use arrow_types::error::Error;
+use arrow_types::offset::Offset;
+use std::alloc::Global;
+use std::marker::Model;
+
+/// Stored values of bytes that share their memory. There may be bytes before the first of them, and behind the last.
+#[derive(Drop)]
+pub struct ByteValues<O: Offset> {
+    pub(crate) offsets: OffsetsBuffer<O>,
+    pub(crate) bytes: Buffer<u8>,
+}
+
+// Contracts see three pieces: the items, and what lies before and behind them.
+impl<O: Offset> Model for ByteValues<O> {
+    ghost use Rattle.std.specs.Prelude.{◌≤◌, length};
+    ghost use Rattle.arrow_memory.specs.Offsets.{last_of, IsOffsets};
+    ghost use Rattle.arrow_bytes.specs.Pieces.{Pieces, pieces_of};
+
+    ghost Value = { Pieces };
+
+    ghost view = { λ values. pieces_of values.offsets values.bytes };
+
+    ghost invariant = { λ values. IsOffsets values.offsets × (last_of values.offsets ≤ length values.bytes) };
+}
+
+#[tactic(auto, using(crate::proofs::PieceLemmas::piece_reads, crate::proofs::PieceLemmas::piece_zeros))]
+impl<O: Offset> ByteValues<O> {
+    /// The items that offsets cut out of bytes, in which they lie.
+    #[inline(always)]
+    pub fn new(offsets: OffsetsBuffer<O>, bytes: Buffer<u8>) -> Self
+        requires { last_of offsets ≤ length bytes }
+        ensures { result ≡ pieces_of offsets bytes }
+    {
+        // The offsets themselves tell that they are legal.
+        offsets.first();
+        ByteValues { offsets, bytes }
+    }
+
+    /// So many empty items.
+    ///
+    /// # Errors
+    /// `OutOfMemory` where memory is refused.
+    pub fn new_empty_items(alloc: Global, length: usize) -> Result<Self, Error>
+        ensures ok { IfOk result (λ values. values ≡ record { around = nothing_around; items = replicate length [] }) }
+        ensures err { IfErr result (λ e. e ≡ Error.OutOfMemory) }
+    {
+        let offsets = Offsets::new_zeroed(alloc, length)?.freeze()?;
+        let bytes = Buffer::new(alloc)?;
+        Ok(ByteValues { offsets, bytes })
+    }
+
+    /// The offsets, and all bytes.
+    #[inline(always)]
+    pub fn into_inner(self) -> (OffsetsBuffer<O>, Buffer<u8>)
+        ensures offsets { result.0 ≡ offsets_of (length self.around.lead) self.items }
+        ensures bytes { result.1 ≡ bytes_of self.around.lead self.items self.around.tail }
+        ensures pieces { pieces_of result.0 result.1 ≡ self }
+        ensures within { last_of result.0 ≤ length result.1 }
+    {
+        (self.offsets, self.bytes)
+    }
+
+    /// The offsets.
+    #[inline(always)]
+    pub fn offsets(&self) -> &OffsetsBuffer<O>
+        ensures { result.now ≡ offsets_of (length self.now.around.lead) self.now.items }
+    {
+        &self.offsets
+    }
+
+    /// All bytes, those before the first item and behind the last too.
+    #[inline(always)]
+    pub fn bytes(&self) -> &Buffer<u8>
+        ensures { result.now ≡ bytes_of self.now.around.lead self.now.items self.now.around.tail }
+    {
+        &self.bytes
+    }
+
+    /// The number of items.
+    #[inline(always)]
+    pub fn len(&self) -> usize
+        ensures { result ≡ length self.now.items }
+    {
+        self.offsets.len_proxy()
+    }
+
+    /// The item at a place.
+    #[inline(always)]
+    pub fn value(&self, i: usize) -> &[u8]
+        requires { i < length self.now.items }
+        ensures { slice_get self.now.items i ≡ Some result.now }
+    {
+        let (start, end) = self.offsets.start_end(i);
+        &self.bytes.as_slice()[start..end]
+    }
+}
+
+#[tactic(auto, using(crate::proofs::PieceLemmas::piece_reads, crate::proofs::PieceLemmas::piece_cuts))]
+impl<O: Offset> Values for ByteValues<O> {
+    ghost use Rattle.std.specs.Prelude.{List, ℕ};
+    ghost use Rattle.arrow_bytes.specs.Pieces.{Around, around_cut};
+
+    type Stored = Bytes;
+
+    type Around = BytesAround;
+
+    ghost stored = { λ values. values.items };
+
+    ghost around = { λ values. values.around };
+
+    ghost cut_around = { around_cut };
+
+    #[inline(always)]
+    fn count(&self) -> usize {
+        self.offsets.len_proxy()
+    }
+
+    #[inline(always)]
+    fn cut(&mut self, offset: usize, len: usize) {
+        // As many offsets are dropped as items.
+        let dropped = self.offsets.len_proxy() - len;
+        let kept = self.offsets.buffer().len() - dropped;
+        self.offsets.slice(offset, kept);
+    }
+
+    fn share(&self) -> Result<Self, Error> {
+        let offsets = self.offsets.clone()?;
+        let bytes = self.bytes.clone()?;
+        Ok(ByteValues { offsets, bytes })
+    }
+}

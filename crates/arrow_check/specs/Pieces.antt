@@ -1,0 +1,40 @@
+-- Three pieces: the items that offsets cut out of bytes, what lies before the first of them, and what lies behind
+-- the last (Arrow columnar format, "Variable-size Binary Layout").
+use Rattle.std.specs.Prelude.{ℕ, ◌+◌, ◌-◌, List, [], ◌∷◌, ◌++◌, length, take, drop}
+use Rattle.std.specs.List.{concat}
+use Rattle.arrow_memory.specs.Offsets.{first_of, last_of}
+
+-- the bytes from one place up to another
+abbrev pub bytes_between : ℕ → ℕ → List ℕ → List ℕ
+bytes_between start end bytes = take (end - start) (drop start bytes)
+
+-- the items that end at each of these offsets, the first of which begins at start
+abbrev pub items_after : ℕ → List ℕ → List ℕ → List (List ℕ)
+items_after start [] bytes = []
+items_after start (end ∷ ends) bytes = bytes_between start end bytes ∷ items_after end ends bytes
+
+-- the items: the bytes from each offset up to the next
+abbrev pub items_of : List ℕ → List ℕ → List (List ℕ)
+items_of [] bytes = []
+items_of (start ∷ ends) bytes = items_after start ends bytes
+
+-- what lies before the first item
+abbrev pub lead_of : List ℕ → List ℕ → List ℕ
+lead_of offsets bytes = take (first_of offsets) bytes
+
+-- what lies behind the last item
+abbrev pub tail_of : List ℕ → List ℕ → List ℕ
+tail_of offsets bytes = drop (last_of offsets) bytes
+
+-- where these items end, one behind the other, from start on
+abbrev pub ends_after : ℕ → List (List ℕ) → List ℕ
+ends_after start [] = []
+ends_after start (item ∷ items) = (start + length item) ∷ ends_after (start + length item) items
+
+-- the other way: the offsets of these items behind a lead of so many bytes
+abbrev pub offsets_of : ℕ → List (List ℕ) → List ℕ
+offsets_of start items = start ∷ ends_after start items
+
+-- and the bytes of the three pieces
+abbrev pub bytes_of : List ℕ → List (List ℕ) → List ℕ → List ℕ
+bytes_of lead items tail = lead ++ (concat items ++ tail)

@@ -1,0 +1,149 @@
+//! Bytes that checks of text read, and what the reading costs.
+ghost use Rattle.std.specs.Prelude.{◌≡◌, ◌+◌, ◌<◌, ◌≤◌, ◌↔◌, IsTrue, MatchBool, length, take, drop, slice_get, Some};
+ghost use Rattle.std.specs.Str.{IsAscii, IsNotAscii};
+ghost use Rattle.arrow_check.specs.Reading.{no_cost, one_more, after_ascii, after_whole_test, after_look};
+ghost use Rattle.arrow_check.specs.Utf8.{IsWellFormed};
+
+use std::marker::Model;
+
+/// One more, up to the greatest number.
+#[inline(always)]
+fn one_more(count: u64) -> u64
+    ensures { result ≡ one_more count }
+{
+    count.saturating_add(1)
+}
+
+/// Whether bytes are UTF-8.
+#[inline(always)]
+fn is_text(bytes: &[u8]) -> bool
+    ensures { IsTrue result ↔ IsWellFormed bytes.now }
+{
+    simdutf8::is_utf8(bytes)
+}
+
+/// What checks of text cost: how often each act of reading was done. Each count stays at `u64::MAX`.
+#[derive(Clone, Copy, Debug, Drop, PartialEq, Eq)]
+pub struct TextCost {
+    ascii_tests: u64,
+    whole_tests: u64,
+    bytes_looked: u64,
+}
+
+// Contracts see the three counts.
+impl Model for TextCost {
+    ghost use Rattle.arrow_check.specs.Reading.{Cost};
+
+    ghost Value = { Cost };
+
+    ghost view = { λ c. record { ascii_tests = c.ascii_tests; whole_tests = c.whole_tests; bytes_looked = c.bytes_looked } };
+
+    ghost inverse = { λ c. record { ascii_tests = c.ascii_tests; whole_tests = c.whole_tests; bytes_looked = c.bytes_looked } };
+}
+
+impl TextCost {
+    /// No act was done yet.
+    pub fn new() -> Self
+        ensures { result ≡ no_cost }
+    {
+        TextCost {
+            ascii_tests: 0,
+            whole_tests: 0,
+            bytes_looked: 0,
+        }
+    }
+
+    /// How often bytes were tested for ASCII.
+    pub fn ascii_tests(&self) -> u64
+        ensures { result ≡ self.now.ascii_tests }
+    {
+        self.ascii_tests
+    }
+
+    /// How often bytes were tested for UTF-8.
+    pub fn whole_tests(&self) -> u64
+        ensures { result ≡ self.now.whole_tests }
+    {
+        self.whole_tests
+    }
+
+    /// How often one byte was looked at.
+    pub fn bytes_looked(&self) -> u64
+        ensures { result ≡ self.now.bytes_looked }
+    {
+        self.bytes_looked
+    }
+}
+
+/// Bytes that a check of text reads by three acts, each of which is counted. It lends no byte otherwise.
+#[derive(Drop)]
+pub struct TextBytes<'a> {
+    bytes: &'a [u8],
+    cost: TextCost,
+}
+
+// Contracts see the bytes and the counts.
+impl<'a> Model for TextBytes<'a> {
+    ghost use Rattle.arrow_check.specs.Reading.{Reading};
+
+    ghost Value = { Reading };
+
+    ghost view = { λ t. record { bytes = t.bytes.now; cost = t.cost } };
+}
+
+impl<'a> TextBytes<'a> {
+    /// These bytes, with what was counted before.
+    pub fn new(bytes: &'a [u8], cost: TextCost) -> Self
+        ensures bytes { result.bytes ≡ bytes.entry.now }
+        ensures cost { result.cost ≡ cost }
+    {
+        TextBytes { bytes, cost }
+    }
+
+    /// What was counted, in all.
+    pub fn cost(&self) -> TextCost
+        ensures { result ≡ self.now.cost }
+    {
+        self.cost
+    }
+
+    /// The number of bytes.
+    pub fn len(&self) -> usize
+        ensures { result ≡ length self.now.bytes }
+    {
+        self.bytes.len()
+    }
+
+    /// Whether the `len` bytes from `offset` on are ASCII: all below 80 (hexadecimal).
+    pub fn ascii(&mut self, offset: usize, len: usize) -> bool
+        requires { offset + len ≤ length self.old.bytes }
+        ensures answer { MatchBool result (IsAscii (take len (drop offset self.old.bytes))) (IsNotAscii (take len (drop offset self.old.bytes))) }
+        ensures counted { self.new ≡ after_ascii self.old }
+    {
+        self.cost.ascii_tests = one_more(self.cost.ascii_tests);
+        self.bytes[offset..offset + len].is_ascii()
+    }
+
+    /// Whether the `len` bytes from `offset` on are UTF-8.
+    pub fn whole_test(&mut self, offset: usize, len: usize) -> bool
+        requires { offset + len ≤ length self.old.bytes }
+        ensures answer { IsTrue result ↔ IsWellFormed (take len (drop offset self.old.bytes)) }
+        ensures counted { self.new ≡ after_whole_test self.old }
+    {
+        self.cost.whole_tests = one_more(self.cost.whole_tests);
+        is_text(&self.bytes[offset..offset + len])
+    }
+
+    /// The byte at a place.
+    pub fn look(&mut self, place: usize) -> u8
+        requires { place < length self.old.bytes }
+        ensures byte { slice_get self.old.bytes place ≡ Some result }
+        ensures counted { self.new ≡ after_look self.old }
+    {
+        self.cost.bytes_looked = one_more(self.cost.bytes_looked);
+        self.bytes[place]
+    }
+}
+
+#[cfg(test)]
+mod tests;

@@ -1,0 +1,65 @@
+//! Items that are appended together with their ends.
+ghost use Rattle.std.specs.Prelude.{◌≡◌, ◌+◌, ◌-◌, ◌<◌, ◌≤◌, [], ◌∷◌, ◌++◌, length, take, drop, OnOk, IfErr};
+ghost use Rattle.arrow_memory.specs.Offsets.{first_of, last_of, IsOffsets, MatchGrowth, moved_behind};
+
+use crate::offset::Offsets;
+use arrow_types::error::Error;
+use arrow_types::offset::Offset;
+
+impl<O: Offset> Offsets<O> {
+    /// Appends an item to the values, and the end of a slot as long to the offsets.
+    ///
+    /// # Errors
+    /// `Overflow` where the end would be above the greatest number of the offset type, which is found before
+    /// memory is asked for; `OutOfMemory` where a growth is refused. Offsets and values are then as before.
+    #[inline(always)]
+    pub fn try_push_item(&mut self, values: &mut Vec<u8>, item: &[u8]) -> Result<(), Error>
+        ensures legal { IsOffsets self.new }
+        ensures ok { OnOk result ((last_of self.old + length item.now ≤ O.most) × (self.new ≡ self.old ++ (last_of self.old + length item.now) ∷ []) × (values.new.items ≡ values.old.items ++ item.now)) }
+        ensures err { IfErr result (λ e. MatchGrowth e (O.most < last_of self.old + length item.now) (last_of self.old + length item.now ≤ O.most) × (self.new ≡ self.old) × (values.new.items ≡ values.old.items)) }
+    {
+        let last = self.last().to_usize();
+        let Some(end) = last.checked_add(item.len()) else {
+            return Err(Error::Overflow);
+        };
+        let Some(end) = O::from_usize(end) else {
+            return Err(Error::Overflow);
+        };
+        // Room for the end comes first, so that nothing has to be taken back.
+        self.offsets.reserve(1)?;
+        values.extend_from_slice(item)?;
+        self.offsets.push_reserved(end);
+        Ok(())
+    }
+
+    /// Appends another's items to the values, and their ends to the offsets: the bytes from the other's first offset
+    /// to its last, and its slots, which keep their lengths.
+    ///
+    /// # Errors
+    /// `Overflow` where the last end would be above the greatest number of the offset type, which is found before
+    /// memory is asked for; `OutOfMemory` where a growth is refused. Offsets and values are then as before.
+    pub fn try_extend_items(
+        &mut self,
+        values: &mut Vec<u8>,
+        other: &Offsets<O>,
+        others: &[u8],
+    ) -> Result<(), Error>
+        requires { last_of other.now ≤ length others.now }
+        ensures legal { IsOffsets self.new }
+        ensures other { IsOffsets other.now }
+        ensures ok { OnOk result ((last_of self.old + (last_of other.now - first_of other.now) ≤ O.most) × (self.new ≡ self.old ++ moved_behind (last_of self.old) other.now) × (values.new.items ≡ values.old.items ++ take (last_of other.now - first_of other.now) (drop (first_of other.now) others.now))) }
+        ensures err { IfErr result (λ e. MatchGrowth e (O.most < last_of self.old + (last_of other.now - first_of other.now)) (last_of self.old + (last_of other.now - first_of other.now) ≤ O.most) × (self.new ≡ self.old) × (values.new.items ≡ values.old.items)) }
+    {
+        let before = self.len_proxy();
+        let start = other.first().to_usize();
+        let end = other.last().to_usize();
+        self.try_extend_from_self(other)?;
+        match values.extend_from_slice(&others[start..end]) {
+            Ok(()) => Ok(()),
+            Err(_) => {
+                self.truncate(before);
+                Err(Error::OutOfMemory)
+            }
+        }
+    }
+}

@@ -1,0 +1,3 @@
+mod GrowthLemmas
+mod PartLemmas
+mod TextLemmas
