@@ -4,8 +4,10 @@
 
 mod bits;
 mod boolean;
+mod bytes;
 mod primitive;
 mod read;
+mod text;
 mod whole;
 
 /// A checksum as the driver reads it: `u64::MAX` where memory was refused. That is all that can be

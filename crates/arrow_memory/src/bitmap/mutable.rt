@@ -291,6 +291,16 @@ impl MutableBitmap {
         let MutableBitmap { bytes, length } = self;
         Bitmap::from_bytes(bytes, length)
     }
+
+    /// The same marks, of which so many are clear, which no longer change. They are not counted again.
+    pub(crate) fn freeze_counted(self, unset: usize) -> Result<Bitmap, Error>
+        requires { unset ≡ count_by not self }
+        ensures ok { IfOk result (λ bitmap. bitmap ≡ self) }
+        ensures err { IfErr result (λ e. e ≡ Error.OutOfMemory) }
+    {
+        let MutableBitmap { bytes, length } = self;
+        Bitmap::from_counted(bytes, length, unset)
+    }
 }
 
 #[cfg(test)]

@@ -87,10 +87,11 @@ pub(crate) fn freeze_mask(validity: Option<MutableBitmap>) -> Result<Option<Bitm
         return Ok(None);
     };
     // Counted before it is frozen, so that a mask that no slot needs takes no memory.
-    if marks.unset_bits() == 0 {
+    let unset = marks.unset_bits();
+    if unset == 0 {
         return Ok(None);
     }
-    Ok(Some(marks.freeze()?))
+    Ok(Some(marks.freeze_counted(unset)?))
 }
 
 /// Appends the marks of so many valid slots, where a mask is held.

@@ -1,10 +1,35 @@
 //! Items that are appended together with their ends.
-ghost use Rattle.std.specs.Prelude.{◌≡◌, ◌+◌, ◌-◌, ◌<◌, ◌≤◌, [], ◌∷◌, ◌++◌, length, take, drop, OnOk, IfErr};
+ghost use Rattle.std.specs.Prelude.{◌≡◌, ◌+◌, ◌-◌, ◌<◌, ◌≤◌, [], ◌∷◌, ◌++◌, length, take, drop, OnOk, OnErr, IfErr};
 ghost use Rattle.arrow_memory.specs.Offsets.{first_of, last_of, IsOffsets, MatchGrowth, moved_behind};
 
 use crate::offset::Offsets;
 use arrow_types::error::Error;
 use arrow_types::offset::Offset;
+use std::alloc::AllocError;
+
+/// Appends bytes. From eight to sixteen of them are copied as two words, the first eight and the last eight, which may
+/// lie over one another: that asks for no call that finds out how many there are.
+#[inline(always)]
+fn append_bytes(values: &mut Vec<u8>, bytes: &[u8]) -> Result<(), AllocError>
+    ensures ok { OnOk result (values.new.items ≡ values.old.items ++ bytes.now) }
+    ensures err { OnErr result (values.new.items ≡ values.old.items) }
+{
+    if bytes.len() > 16 {
+        return values.extend_from_slice(bytes);
+    }
+    let (Some(first), Some(last)) = (bytes.first_chunk::<8>(), bytes.last_chunk::<8>()) else {
+        return values.extend_from_slice(bytes);
+    };
+    let (first, last) = (*first, *last);
+    let before = values.len();
+    values.extend_from_slice(&first)?;
+    values.truncate(values.len() - (16 - bytes.len()));
+    if let Err(refused) = values.extend_from_slice(&last) {
+        values.truncate(before);
+        return Err(refused);
+    }
+    Ok(())
+}
 
 impl<O: Offset> Offsets<O> {
     /// Appends an item to the values, and the end of a slot as long to the offsets.
@@ -19,16 +44,15 @@ impl<O: Offset> Offsets<O> {
         ensures err { IfErr result (λ e. MatchGrowth e (O.most < last_of self.old + length item.now) (last_of self.old + length item.now ≤ O.most) × (self.new ≡ self.old) × (values.new.items ≡ values.old.items)) }
     {
         let last = self.last().to_usize();
-        let Some(end) = last.checked_add(item.len()) else {
+        if item.len() > O::max().to_usize() - last {
             return Err(Error::Overflow);
-        };
-        let Some(end) = O::from_usize(end) else {
-            return Err(Error::Overflow);
-        };
-        // Room for the end comes first, so that nothing has to be taken back.
-        self.offsets.reserve(1)?;
-        values.extend_from_slice(item)?;
-        self.offsets.push_reserved(end);
+        }
+        self.offsets.push(O::from_as_usize(last + item.len()))?;
+        if append_bytes(values, item).is_err() {
+            // The end that was pushed goes back: no item stands before it.
+            self.offsets.truncate(self.offsets.len() - 1);
+            return Err(Error::OutOfMemory);
+        }
         Ok(())
     }
 
