@@ -110,6 +110,7 @@ impl<O: Offset> MutableBinaryValuesArray<O> {
         ensures ok { OnOk result ((joins_overflow O.most self.old other.now ≡ false) × (self.new ≡ joined self.old other.now)) }
         ensures err { IfErr result (λ e. (e ≡ refused_growth (joins_overflow O.most self.old other.now)) × (self.new ≡ self.old)) }
     {
-        self.column.try_extend_from_self(&other.column)
+        let items = &other.column;
+        self.column.try_extend_from_self(items)
     }
 }

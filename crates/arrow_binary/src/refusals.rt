@@ -26,49 +26,56 @@ fn is_one(builder: &MutableBinaryArray<i32>) -> bool {
     builds(builder, [0, 1].as_slice(), b"a", "none")
 }
 
-/// Whether a slot that is refused leaves the builder, and the next try succeeds.
-fn pushed(
-    alloc: Global,
+/// Whether a slot that is refused leaves the builder of one slot, and the next try succeeds.
+fn pushes(
+    builder: &mut MutableBinaryArray<i32>,
     slot: Option<&[u8]>,
     offsets: &[usize],
     bytes: &[u8],
     mask: &str,
 ) -> Result<bool, Error> {
-    let mut builder = one(alloc)?;
     if let Err(refused) = builder.push(slot) {
-        let is_left = is_one(&builder);
+        let is_left = is_one(builder);
         builder.push(slot)?;
         return if is_left { Err(refused) } else { Ok(false) };
     }
-    Ok(builds(&builder, offsets, bytes, mask))
+    Ok(builds(builder, offsets, bytes, mask))
+}
+
+/// Whether more bytes than there is room for do.
+fn pushed(alloc: Global) -> Result<bool, Error> {
+    let bytes = b"abcdefghijklmnopqrstuvwxyz0123456789";
+    let offsets = [0, 1, 36].as_slice();
+    pushes(&mut one(alloc)?, bytes.get(1..), offsets, bytes, "none")
 }
 
 #[test]
 fn push(rt: HostRuntime) -> Result<(), Fail> {
-    let bytes = b"abcdefghijklmnopqrstuvwxyz0123456789";
-    told(pushed(
-        rt.alloc(),
-        bytes.get(1..),
-        [0, 1, 36].as_slice(),
-        bytes,
-        "none",
-    ))
+    told(pushed(rt.alloc()))
 }
 
-/// The first null needs a mask, too.
+/// Whether a null does, for which the first mask is needed.
+fn pushed_null(alloc: Global) -> Result<bool, Error> {
+    pushes(&mut one(alloc)?, None, [0, 1, 1].as_slice(), b"a", "10")
+}
+
 #[test]
 fn push_of_a_null(rt: HostRuntime) -> Result<(), Fail> {
-    told(pushed(rt.alloc(), None, [0, 1, 1].as_slice(), b"a", "10"))
+    told(pushed_null(rt.alloc()))
 }
 
 /// Whether an item that is refused leaves the builder without nulls.
-fn pushed_item(alloc: Global) -> Result<bool, Error> {
-    let mut builder = MutableBinaryValuesArray::<i64>::new(alloc)?;
+fn pushes_item(builder: &mut MutableBinaryValuesArray<i64>) -> Result<bool, Error> {
     if let Err(refused) = builder.push(b"ab") {
-        let is_left = holds(&builder, [0].as_slice(), b"");
+        let is_left = holds(builder, [0].as_slice(), b"");
         return if is_left { Err(refused) } else { Ok(false) };
     }
-    Ok(holds(&builder, [0, 2].as_slice(), b"ab"))
+    Ok(holds(builder, [0, 2].as_slice(), b"ab"))
+}
+
+/// Whether one does that is the first.
+fn pushed_item(alloc: Global) -> Result<bool, Error> {
+    pushes_item(&mut MutableBinaryValuesArray::new(alloc)?)
 }
 
 #[test]
@@ -76,20 +83,24 @@ fn push_of_an_item(rt: HostRuntime) -> Result<(), Fail> {
     told(pushed_item(rt.alloc()))
 }
 
-/// Whether a pop whose copy is refused leaves the builder.
-fn popped(alloc: Global) -> Result<bool, Error> {
-    let mut builder = one(alloc)?;
+/// Whether a pop whose copy is refused leaves the builder of one slot.
+fn pops(builder: &mut MutableBinaryArray<i32>) -> Result<bool, Error> {
     match builder.pop() {
         Ok(Some(slot)) => Ok(
-            slot.as_slice() == b"a".as_slice() && builds(&builder, [0].as_slice(), b"", "none"),
+            slot.as_slice() == b"a".as_slice() && builds(builder, [0].as_slice(), b"", "none"),
         ),
         Ok(None) => Ok(false),
-        Err(refused) => if is_one(&builder) {
+        Err(refused) => if is_one(builder) {
             Err(refused)
         } else {
             Ok(false)
         },
     }
+}
+
+/// Whether that of a new one does.
+fn popped(alloc: Global) -> Result<bool, Error> {
+    pops(&mut one(alloc)?)
 }
 
 #[test]
@@ -98,16 +109,20 @@ fn pop(rt: HostRuntime) -> Result<(), Fail> {
 }
 
 /// Whether an extension that is refused leaves a beginning.
-fn extended(alloc: Global) -> Result<bool, Error> {
+fn extends(builder: &mut MutableBinaryArray<i32>) -> Result<bool, Error> {
     let slots = [Some(b"x".as_slice()), None, Some(b"yz".as_slice())];
-    let mut builder = one(alloc)?;
     if let Err(refused) = builder.extend(slots.into_iter()) {
-        let is_first = builds(&builder, [0, 1, 2].as_slice(), b"ax", "none");
-        let is_second = builds(&builder, [0, 1, 2, 2].as_slice(), b"ax", "110");
-        let is_begun = is_one(&builder) || is_first || is_second;
+        let is_first = builds(builder, [0, 1, 2].as_slice(), b"ax", "none");
+        let is_second = builds(builder, [0, 1, 2, 2].as_slice(), b"ax", "110");
+        let is_begun = is_one(builder) || is_first || is_second;
         return if is_begun { Err(refused) } else { Ok(false) };
     }
-    Ok(builds(&builder, [0, 1, 2, 2, 4].as_slice(), b"axyz", "1101"))
+    Ok(builds(builder, [0, 1, 2, 2, 4].as_slice(), b"axyz", "1101"))
+}
+
+/// Whether that of a builder of one slot does.
+fn extended(alloc: Global) -> Result<bool, Error> {
+    extends(&mut one(alloc)?)
 }
 
 #[test]
@@ -115,18 +130,25 @@ fn extend(rt: HostRuntime) -> Result<(), Fail> {
     told(extended(rt.alloc()))
 }
 
-/// Whether rows that are refused leave the builder.
-fn joined(alloc: Global) -> Result<bool, Error> {
-    let mut builder = one(alloc)?;
-    let other = MutableBinaryArray::from(alloc, [Some(b"xy".as_slice()), None].as_slice())?;
-    if let Err(refused) = builder.try_extend_from_self(&other) {
-        return if is_one(&builder) {
+/// Whether rows that are refused leave the builder of one slot.
+fn joins(
+    builder: &mut MutableBinaryArray<i32>,
+    other: &MutableBinaryArray<i32>,
+) -> Result<bool, Error> {
+    if let Err(refused) = builder.try_extend_from_self(other) {
+        return if is_one(builder) {
             Err(refused)
         } else {
             Ok(false)
         };
     }
-    Ok(builds(&builder, [0, 1, 3, 3].as_slice(), b"axy", "110"))
+    Ok(builds(builder, [0, 1, 3, 3].as_slice(), b"axy", "110"))
+}
+
+/// Whether those of a builder with a null do.
+fn joined(alloc: Global) -> Result<bool, Error> {
+    let other = MutableBinaryArray::from(alloc, [Some(b"xy".as_slice()), None].as_slice())?;
+    joins(&mut one(alloc)?, &other)
 }
 
 #[test]
@@ -134,25 +156,29 @@ fn try_extend_from_self(rt: HostRuntime) -> Result<(), Fail> {
     told(joined(rt.alloc()))
 }
 
-/// Whether room that is refused leaves the builder, and so does room that is given back.
-fn roomy(alloc: Global) -> Result<bool, Error> {
-    let mut builder = one(alloc)?;
+/// Whether room that is refused leaves the builder of one slot, and so does room that is given back.
+fn makes_room(builder: &mut MutableBinaryArray<i32>) -> Result<bool, Error> {
     if let Err(refused) = builder.reserve(100, 1000) {
-        return if is_one(&builder) {
+        return if is_one(builder) {
             Err(refused)
         } else {
             Ok(false)
         };
     }
-    let is_kept = is_one(&builder);
+    let is_kept = is_one(builder);
     if let Err(refused) = builder.shrink_to_fit() {
-        return if is_kept && is_one(&builder) {
+        return if is_kept && is_one(builder) {
             Err(refused)
         } else {
             Ok(false)
         };
     }
-    Ok(is_kept && is_one(&builder))
+    Ok(is_kept && is_one(builder))
+}
+
+/// Whether that of a new one does.
+fn roomy(alloc: Global) -> Result<bool, Error> {
+    makes_room(&mut one(alloc)?)
 }
 
 #[test]
@@ -160,13 +186,21 @@ fn reserve(rt: HostRuntime) -> Result<(), Fail> {
     told(roomy(rt.alloc()))
 }
 
+/// Whether an array's copy is as the array; where it is refused, the refusal.
+fn is_copied(copy: Result<BinaryArray<i64>, Error>) -> Result<bool, Error> {
+    Ok(shows(&copy?, [0, 2, 2].as_slice(), b"ab", "10"))
+}
+
 /// Whether a clone that is refused leaves the array.
 fn cloned(alloc: Global) -> Result<bool, Error> {
     let slots = [Some(b"ab".as_slice()), None];
     let array = BinaryArray::<i64>::from(alloc, slots.as_slice())?;
-    let copy = array.clone();
-    let is_left = shows(&array, [0, 2, 2].as_slice(), b"ab", "10");
-    Ok(shows(&copy?, [0, 2, 2].as_slice(), b"ab", "10") && is_left)
+    let is_copied = is_copied(array.clone());
+    if shows(&array, [0, 2, 2].as_slice(), b"ab", "10") {
+        is_copied
+    } else {
+        Ok(false)
+    }
 }
 
 #[test]
@@ -174,14 +208,17 @@ fn clone(rt: HostRuntime) -> Result<(), Fail> {
     told(cloned(rt.alloc()))
 }
 
+/// Whether memory was refused.
+fn is_refused<T: Drop>(answer: Result<T, Error>) -> bool {
+    matches!(answer, Err(Error::OutOfMemory))
+}
+
 /// More slots, or bytes, than any memory holds.
 #[test]
-fn slots_that_no_memory_holds(rt: HostRuntime) {
+fn slots_that_no_memory_holds(rt: HostRuntime) -> Result<(), Fail> {
     let data_type = BinaryArray::<i32>::default_data_type();
-    let nulls = BinaryArray::<i32>::new_null(rt.alloc(), data_type, usize::MAX);
-    let slots = MutableBinaryArray::<i32>::with_capacity(rt.alloc(), usize::MAX);
+    let nulls = is_refused(BinaryArray::<i32>::new_null(rt.alloc(), data_type, usize::MAX));
+    let slots = is_refused(MutableBinaryArray::<i32>::with_capacity(rt.alloc(), usize::MAX));
     let bytes = MutableBinaryValuesArray::<i32>::with_capacities(rt.alloc(), 0, usize::MAX);
-    let is_refused = matches!(nulls, Err(Error::OutOfMemory));
-    let are_refused = matches!(slots, Err(Error::OutOfMemory)) && is_refused;
-    assert!(rt; are_refused && matches!(bytes, Err(Error::OutOfMemory)));
+    told(Ok(nulls & slots & is_refused(bytes)))
 }

@@ -25,21 +25,26 @@ fn text_of<T: Drop>(answer: Result<T, Error>) -> Result<&'static str, Error> {
     }
 }
 
-/// The text with which a text's type, or else the default, is refused of an array of these parts.
-fn array_fault<O: Offset>(
+/// A text's type, or else the default over these offsets.
+fn given_type<O: Offset>(is_text: bool) -> DataType {
+    if is_text {
+        DataType::Utf8
+    } else {
+        type_of::<O>()
+    }
+}
+
+/// Whether a text's type, or else the default, is refused with this text of an array of these parts.
+fn refuses<O: Offset>(
     alloc: Global,
     is_text: bool,
     offsets: &[usize],
     bytes: usize,
     mask: &str,
-) -> Result<&'static str, Error> {
-    let data_type = if is_text {
-        DataType::Utf8
-    } else {
-        type_of::<O>()
-    };
+    text: &str,
+) -> Result<bool, Error> {
     let bytes = [9; 4].as_slice().get(..bytes).unwrap_or(&[]);
-    text_of(array_of::<O>(alloc, data_type, offsets, bytes, mask))
+    Ok(text_of(array_of::<O>(alloc, given_type::<O>(is_text), offsets, bytes, mask))? == text)
 }
 
 #[test]
@@ -52,28 +57,23 @@ fn arrays_are_refused(rt: HostRuntime) -> Result<(), Fail> {
         (true, [1, 3].as_slice(), 3, "1", TYPE),
         (false, [1, 3].as_slice(), 3, "1", ""),
     ] {
-        let narrow = array_fault::<i32>(rt.alloc(), is_text, offsets, bytes, mask)?;
-        let wide = array_fault::<i64>(rt.alloc(), is_text, offsets, bytes, mask)?;
-        assert!(rt; narrow == text && wide == text);
+        told(refuses::<i32>(rt.alloc(), is_text, offsets, bytes, mask, text))?;
+        told(refuses::<i64>(rt.alloc(), is_text, offsets, bytes, mask, text))?;
     }
     Ok(())
 }
 
-/// The text with which a text's type, or else the default, is refused of a builder of these parts.
-fn builder_fault<O: Offset>(
+/// Whether a text's type, or else the default, is refused with this text of a builder of these parts.
+fn refuses_builder<O: Offset>(
     alloc: Global,
     is_text: bool,
     offsets: &[usize],
     bytes: usize,
     mask: &str,
-) -> Result<&'static str, Error> {
-    let data_type = if is_text {
-        DataType::Utf8
-    } else {
-        type_of::<O>()
-    };
+    text: &str,
+) -> Result<bool, Error> {
     let bytes = [9; 4].as_slice().get(..bytes).unwrap_or(&[]);
-    text_of(builder_of::<O>(alloc, data_type, offsets, bytes, mask))
+    Ok(text_of(builder_of::<O>(alloc, given_type::<O>(is_text), offsets, bytes, mask))? == text)
 }
 
 #[test]
@@ -87,27 +87,23 @@ fn builders_are_refused(rt: HostRuntime) -> Result<(), Fail> {
         (false, [1, 3].as_slice(), 3, "11", BUILDER_MASK),
         (false, [1, 3].as_slice(), 3, "1", ""),
     ] {
-        let narrow = builder_fault::<i32>(rt.alloc(), is_text, offsets, bytes, mask)?;
-        let wide = builder_fault::<i64>(rt.alloc(), is_text, offsets, bytes, mask)?;
-        assert!(rt; narrow == text && wide == text);
+        told(refuses_builder::<i32>(rt.alloc(), is_text, offsets, bytes, mask, text))?;
+        told(refuses_builder::<i64>(rt.alloc(), is_text, offsets, bytes, mask, text))?;
     }
     Ok(())
 }
 
-/// The text with which a text's type, or else the default, is refused of a builder without nulls of these parts.
-fn values_fault<O: Offset>(
+/// Whether a text's type, or else the default, is refused with this text of a builder without nulls of these parts.
+fn refuses_values<O: Offset>(
     alloc: Global,
     is_text: bool,
     offsets: &[usize],
-) -> Result<&'static str, Error> {
-    let data_type = if is_text {
-        DataType::Utf8
-    } else {
-        type_of::<O>()
-    };
+    text: &str,
+) -> Result<bool, Error> {
     let values = b"abc".to_vec(alloc)?;
     let offsets = offsets_of::<O>(alloc, offsets)?;
-    text_of(MutableBinaryValuesArray::try_new(data_type, offsets, values))
+    let answer = MutableBinaryValuesArray::try_new(given_type::<O>(is_text), offsets, values);
+    Ok(text_of(answer)? == text)
 }
 
 #[test]
@@ -118,21 +114,23 @@ fn builders_without_nulls_are_refused(rt: HostRuntime) -> Result<(), Fail> {
         (true, [0, 3].as_slice(), BUILDER_TYPE),
         (false, [1, 3].as_slice(), ""),
     ] {
-        let narrow = values_fault::<i32>(rt.alloc(), is_text, offsets)?;
-        let wide = values_fault::<i64>(rt.alloc(), is_text, offsets)?;
-        assert!(rt; narrow == text && wide == text);
+        told(refuses_values::<i32>(rt.alloc(), is_text, offsets, text))?;
+        told(refuses_values::<i64>(rt.alloc(), is_text, offsets, text))?;
     }
     Ok(())
 }
 
-/// The type of the other offsets is refused.
+/// Whether the type of the other offsets is refused.
+fn refuses_others(alloc: Global) -> Result<bool, Error> {
+    let offsets = [0, 0].as_slice();
+    let narrow = text_of(array_of::<i32>(alloc, DataType::LargeBinary, offsets, &[], "none"))?;
+    let wide = text_of(array_of::<i64>(alloc, DataType::Binary, offsets, &[], "none"))?;
+    Ok(narrow == TYPE && wide == TYPE)
+}
+
 #[test]
 fn types_of_other_offsets_are_refused(rt: HostRuntime) -> Result<(), Fail> {
-    let (alloc, offsets) = (rt.alloc(), [0, 0].as_slice());
-    let narrow = array_of::<i32>(alloc, DataType::LargeBinary, offsets, &[], "none");
-    let wide = array_of::<i64>(alloc, DataType::Binary, offsets, &[], "none");
-    assert!(rt; text_of(narrow)? == TYPE && text_of(wide)? == TYPE);
-    Ok(())
+    told(refuses_others(rt.alloc()))
 }
 
 /// An extension around a type.
@@ -141,32 +139,38 @@ fn extension(alloc: Global, inner: DataType) -> Result<DataType, Error> {
     Ok(DataType::Extension(name, Box::new(alloc, inner)?, None))
 }
 
-/// Whether an array holds an extension around its type, and a builder too.
-fn keeps_type<O: Offset>(alloc: Global) -> Result<bool, Error> {
-    let photo = extension(alloc, type_of::<O>())?;
+/// Whether an array holds the extension that it is given.
+fn keeps_type<O: Offset>(alloc: Global, photo: &DataType) -> Result<bool, Error> {
     let given = extension(alloc, type_of::<O>())?;
     let array = array_of::<O>(alloc, given, [0, 0].as_slice(), &[], "none")?;
+    Ok(array.data_type() == photo)
+}
+
+/// Whether a builder holds the extension that it is given.
+fn builder_keeps_type<O: Offset>(alloc: Global, photo: &DataType) -> Result<bool, Error> {
     let given = extension(alloc, type_of::<O>())?;
     let builder = builder_of::<O>(alloc, given, [0].as_slice(), &[], "none")?;
-    Ok(*array.data_type() == photo && *builder.data_type() == photo)
+    Ok(builder.data_type() == photo)
+}
+
+/// Whether both hold an extension around their type.
+fn keep_types<O: Offset>(alloc: Global) -> Result<bool, Error> {
+    let photo = extension(alloc, type_of::<O>())?;
+    Ok(keeps_type::<O>(alloc, &photo)? & builder_keeps_type::<O>(alloc, &photo)?)
 }
 
 #[test]
 fn extensions_are_held(rt: HostRuntime) -> Result<(), Fail> {
-    told(keeps_type::<i32>(rt.alloc()))?;
-    told(keeps_type::<i64>(rt.alloc()))
+    told(keep_types::<i32>(rt.alloc()))?;
+    told(keep_types::<i64>(rt.alloc()))
 }
 
 /// Whether the parts of an array make it again.
 fn arrays_again<O: Offset>(alloc: Global) -> Result<bool, Error> {
     let (data_type, offsets, values, validity) = around::<O>(alloc)?.into_inner();
     let again = BinaryArray::try_new(data_type, offsets, values, validity);
-    made(
-        again,
-        [2, 3, 3, 5].as_slice(),
-        [9, 9, 1, 4, 4, 8].as_slice(),
-        "101",
-    )
+    let bytes = [9, 9, 1, 4, 4, 8].as_slice();
+    made(again, [2, 3, 3, 5].as_slice(), bytes, "101")
 }
 
 #[test]
@@ -175,13 +179,21 @@ fn parts_of_arrays_make_them_again(rt: HostRuntime) -> Result<(), Fail> {
     told(arrays_again::<i64>(rt.alloc()))
 }
 
+/// The builder of another's parts.
+fn again<O: Offset>(
+    first: MutableBinaryValuesArray<O>,
+) -> Result<MutableBinaryValuesArray<O>, Error> {
+    let (data_type, offsets, values) = first.into_inner();
+    MutableBinaryValuesArray::try_new(data_type, offsets, values)
+}
+
 /// Whether the parts of a builder without nulls make it again.
 fn builders_again<O: Offset>(alloc: Global) -> Result<bool, Error> {
+    let values = b"xy".to_vec(alloc)?;
     let offsets = offsets_of::<O>(alloc, [1, 2, 2].as_slice())?;
-    let first = MutableBinaryValuesArray::try_new(type_of::<O>(), offsets, b"xy".to_vec(alloc)?)?;
-    let (data_type, offsets, values) = first.into_inner();
-    let again = MutableBinaryValuesArray::try_new(data_type, offsets, values)?;
-    Ok(holds(&again, [1, 2, 2].as_slice(), b"xy") && *again.data_type() == type_of::<O>())
+    let again = again(MutableBinaryValuesArray::try_new(type_of::<O>(), offsets, values)?)?;
+    let is_held = holds(&again, [1, 2, 2].as_slice(), b"xy");
+    Ok(is_held & is_default::<O>(again.data_type()))
 }
 
 #[test]
@@ -192,10 +204,10 @@ fn parts_of_builders_make_them_again(rt: HostRuntime) -> Result<(), Fail> {
 
 /// Whether parts that are known to fit are taken as they are.
 fn takes<O: Offset>(alloc: Global) -> Result<bool, Error> {
-    let data_type = BinaryArray::<O>::default_data_type();
     let values = Buffer::from_vec(b"xy".to_vec(alloc)?)?;
-    let array = BinaryArray::<O>::new(data_type, OffsetsBuffer::new(alloc)?, values, None);
-    made(Ok(array), [0].as_slice(), b"xy", "none")
+    let offsets = OffsetsBuffer::<O>::new(alloc)?;
+    let array = BinaryArray::new(BinaryArray::<O>::default_data_type(), offsets, values, None);
+    Ok(shows(&array, [0].as_slice(), b"xy", "none"))
 }
 
 #[test]

@@ -49,13 +49,6 @@ impl Offset for Tiny {
     }
 }
 
-/// So many bytes.
-fn bytes(alloc: Global, count: usize) -> Result<Vec<u8>, Error> {
-    let mut bytes = Vec::new(alloc);
-    bytes.resize(count, 7)?;
-    Ok(bytes)
-}
-
 /// Whether an item of so many bytes is refused, and the builder is as before.
 fn is_refused(
     builder: &mut MutableBinaryArray<Tiny>,
@@ -73,32 +66,28 @@ fn is_refused(
 }
 
 /// Whether items are pushed up to the greatest offset, and none past it.
-fn fills(alloc: Global) -> Result<bool, Error> {
-    let item = bytes(alloc, 60)?;
-    let (long, fit) = (bytes(alloc, 41)?, bytes(alloc, 40)?);
-    let mut builder = MutableBinaryArray::<Tiny>::new(alloc)?;
-    builder.push(Some(&item))?;
-    let is_first = is_refused(&mut builder, &long, [0, 60].as_slice())?;
-    builder.push(Some(&fit))?;
+fn fills(builder: &mut MutableBinaryArray<Tiny>) -> Result<bool, Error> {
+    builder.push(Some([7; 60].as_slice()))?;
+    let is_first = is_refused(builder, [7; 41].as_slice(), [0, 60].as_slice())?;
+    builder.push(Some([7; 40].as_slice()))?;
     builder.push(Some(&[]))?;
-    Ok(is_first && is_refused(&mut builder, &[1], [0, 60, 100, 100].as_slice())?)
+    Ok(is_first & is_refused(builder, &[1], [0, 60, 100, 100].as_slice())?)
+}
+
+/// Whether they are onto a new builder.
+fn fills_new(alloc: Global) -> Result<bool, Error> {
+    fills(&mut MutableBinaryArray::<Tiny>::new(alloc)?)
 }
 
 #[test]
 fn items_end_at_the_greatest_offset(rt: HostRuntime) -> Result<(), Fail> {
-    told(fills(rt.alloc()))
+    told(fills_new(rt.alloc()))
 }
 
 /// Whether an extension stops before the first item that ends past the greatest offset.
-fn extends(alloc: Global) -> Result<bool, Error> {
-    let (item, last) = (bytes(alloc, 50)?, bytes(alloc, 1)?);
-    let slots = [
-        Some(item.as_slice()),
-        Some(item.as_slice()),
-        Some(last.as_slice()),
-    ];
-    let mut builder = MutableBinaryArray::<Tiny>::new(alloc)?;
-    match builder.extend(slots.into_iter()) {
+fn extends(builder: &mut MutableBinaryArray<Tiny>) -> Result<bool, Error> {
+    let (item, last) = ([7; 50].as_slice(), [7].as_slice());
+    match builder.extend([Some(item), Some(item), Some(last)].into_iter()) {
         Err(Error::Overflow) => {}
         Err(error) => return Err(error),
         Ok(()) => return Ok(false),
@@ -106,22 +95,38 @@ fn extends(alloc: Global) -> Result<bool, Error> {
     Ok(are(builder.offsets().as_slice(), [0, 50, 100].as_slice()) && builder.values().len() == 100)
 }
 
+/// Whether that of a new builder does.
+fn extends_new(alloc: Global) -> Result<bool, Error> {
+    extends(&mut MutableBinaryArray::<Tiny>::new(alloc)?)
+}
+
 #[test]
 fn extensions_stop_at_the_greatest_offset(rt: HostRuntime) -> Result<(), Fail> {
-    told(extends(rt.alloc()))
+    told(extends_new(rt.alloc()))
 }
 
 /// Whether another's items that would end past the greatest offset are refused, and the builder is as before.
-fn joins(alloc: Global) -> Result<bool, Error> {
-    let item = bytes(alloc, 51)?;
-    let mut builder = MutableBinaryValuesArray::<Tiny>::new(alloc)?;
-    builder.push(&item)?;
+fn joins(
+    builder: &mut MutableBinaryValuesArray<Tiny>,
+    other: &MutableBinaryValuesArray<Tiny>,
+) -> bool {
+    let is_refused = matches!(builder.try_extend_from_self(other), Err(Error::Overflow));
+    is_refused && holds(builder, [0, 51].as_slice(), [7; 51].as_slice())
+}
+
+/// Whether those of a copy are.
+fn joins_copy(builder: &mut MutableBinaryValuesArray<Tiny>) -> Result<bool, Error> {
+    builder.push([7; 51].as_slice())?;
     let other = builder.clone()?;
-    let is_refused = matches!(builder.try_extend_from_self(&other), Err(Error::Overflow));
-    Ok(is_refused && holds(&builder, [0, 51].as_slice(), &item))
+    Ok(joins(builder, &other))
+}
+
+/// Whether those of a copy of a new builder are.
+fn joins_new(alloc: Global) -> Result<bool, Error> {
+    joins_copy(&mut MutableBinaryValuesArray::<Tiny>::new(alloc)?)
 }
 
 #[test]
 fn joined_items_end_at_the_greatest_offset(rt: HostRuntime) -> Result<(), Fail> {
-    told(joins(rt.alloc()))
+    told(joins_new(rt.alloc()))
 }

@@ -9,79 +9,84 @@ fn two<O: Offset>(alloc: Global) -> Result<MutableBinaryValuesArray<O>, Error> {
     Ok(builder)
 }
 
-/// Whether an item that was popped has these bytes.
-fn is(item: &Option<Vec<u8>>, bytes: &[u8]) -> bool {
-    match item {
-        Some(item) => item.as_slice() == bytes,
-        None => false,
+/// Whether the item that is popped has these bytes.
+fn pops<O: Offset>(builder: &mut MutableBinaryValuesArray<O>, bytes: &[u8]) -> Result<bool, Error> {
+    match builder.pop()? {
+        Some(item) => Ok(item.as_slice() == bytes),
+        None => Ok(false),
     }
 }
 
 /// Whether an empty item is pushed for a null, and popped as any other.
-fn pops<O: Offset>(alloc: Global) -> Result<bool, Error> {
-    let mut builder = two::<O>(alloc)?;
+fn pops_both<O: Offset>(builder: &mut MutableBinaryValuesArray<O>) -> Result<bool, Error> {
     builder.push_null()?;
-    let is_pushed = holds(&builder, [0, 1, 3, 3].as_slice(), b"\x01\x02\x03");
-    let (empty, item) = (builder.pop()?, builder.pop()?);
-    let is_popped = is(&empty, b"") && is(&item, b"\x02\x03");
-    Ok(is_pushed && is_popped && holds(&builder, [0, 1].as_slice(), b"\x01"))
-}
-
-#[test]
-fn nulls_are_empty_items(rt: HostRuntime) -> Result<(), Fail> {
-    told(pops::<i32>(rt.alloc()))?;
-    told(pops::<i64>(rt.alloc()))
+    let is_pushed = holds(builder, [0, 1, 3, 3].as_slice(), b"\x01\x02\x03");
+    let is_popped = pops(builder, b"")? & pops(builder, b"\x02\x03")?;
+    Ok(is_pushed & is_popped && holds(builder, [0, 1].as_slice(), b"\x01"))
 }
 
 /// Whether the items are read one by one, and their type is the default.
-fn reads<O: Offset>(alloc: Global) -> Result<bool, Error> {
-    let builder = two::<O>(alloc)?;
+fn reads<O: Offset>(builder: &MutableBinaryValuesArray<O>) -> bool {
     if builder.len() != 2 {
-        return Ok(false);
+        return false;
     }
     let are_items = builder.value(0) == b"\x01".as_slice()
         && builder.value(1) == b"\x02\x03".as_slice();
     let default = MutableBinaryValuesArray::<O>::default_data_type();
-    Ok(are_items && *builder.data_type() == default && default == type_of::<O>())
+    are_items & is_default::<O>(builder.data_type()) & is_default::<O>(&default)
+}
+
+/// Whether two items are read, and popped.
+fn reads_and_pops<O: Offset>(alloc: Global) -> Result<bool, Error> {
+    let mut builder = two::<O>(alloc)?;
+    let are_read = reads(&builder);
+    Ok(are_read & pops_both(&mut builder)?)
 }
 
 #[test]
-fn items_are_read(rt: HostRuntime) -> Result<(), Fail> {
-    told(reads::<i32>(rt.alloc()))?;
-    told(reads::<i64>(rt.alloc()))
+fn nulls_are_empty_items(rt: HostRuntime) -> Result<(), Fail> {
+    told(reads_and_pops::<i32>(rt.alloc()))?;
+    told(reads_and_pops::<i64>(rt.alloc()))
+}
+
+/// Whether the builder that was made has these offsets and bytes.
+fn built<O: Offset>(
+    answer: Result<MutableBinaryValuesArray<O>, Error>,
+    offsets: &[usize],
+    bytes: &[u8],
+) -> Result<bool, Error> {
+    Ok(holds(&answer?, offsets, bytes))
 }
 
 /// Whether room is made and given back, and items stay in a copy.
-fn rooms<O: Offset>(alloc: Global) -> Result<bool, Error> {
-    let mut builder = MutableBinaryValuesArray::<O>::with_capacity(alloc, 40)?;
+fn rooms<O: Offset>(builder: &mut MutableBinaryValuesArray<O>) -> Result<bool, Error> {
     let first = builder.capacity();
     builder.push(b"ab")?;
     builder.reserve(100, 1000)?;
     let more = builder.capacity();
     builder.shrink_to_fit()?;
-    let copy = builder.clone()?;
-    let is_kept = holds(&copy, [0, 2].as_slice(), b"ab");
+    let is_kept = built(builder.clone(), [0, 2].as_slice(), b"ab")?;
     Ok(is_kept && first >= 40 && more >= 101 && builder.capacity() < 40)
+}
+
+/// Whether it is in a builder with room.
+fn rooms_in_room<O: Offset>(alloc: Global) -> Result<bool, Error> {
+    rooms(&mut MutableBinaryValuesArray::<O>::with_capacity(alloc, 40)?)
 }
 
 #[test]
 fn room_is_made_and_given_back(rt: HostRuntime) -> Result<(), Fail> {
-    told(rooms::<i32>(rt.alloc()))?;
-    told(rooms::<i64>(rt.alloc()))
+    told(rooms_in_room::<i32>(rt.alloc()))?;
+    told(rooms_in_room::<i64>(rt.alloc()))
 }
 
 /// Whether builders of items have these.
 fn from_items<O: Offset>(alloc: Global) -> Result<bool, Error> {
-    let first = MutableBinaryValuesArray::<O>::from_iter(
-        alloc,
-        [b"ab".as_slice(), b"".as_slice()].into_iter(),
-    )?;
-    let second = MutableBinaryValuesArray::<O>::try_from_iter(
-        alloc,
-        [b"ab".as_slice(), b"".as_slice()].into_iter(),
-    )?;
-    let offsets = [0, 2, 2].as_slice();
-    Ok(holds(&first, offsets, b"ab") && holds(&second, offsets, b"ab"))
+    let items = [b"ab".as_slice(), b"".as_slice()];
+    let first = MutableBinaryValuesArray::<O>::from_iter(alloc, items.into_iter());
+    let is_first = built(first, [0, 2, 2].as_slice(), b"ab")?;
+    let second = MutableBinaryValuesArray::<O>::try_from_iter(alloc, items.into_iter());
+    Ok(is_first & built(second, [0, 2, 2].as_slice(), b"ab")?)
 }
 
 #[test]
@@ -90,62 +95,67 @@ fn builders_of_items(rt: HostRuntime) -> Result<(), Fail> {
     told(from_items::<i64>(rt.alloc()))
 }
 
-/// Whether builders grow by many items.
-fn extends<O: Offset>(alloc: Global) -> Result<bool, Error> {
-    let mut builder = MutableBinaryValuesArray::<O>::default(alloc)?;
+/// Whether a builder grows by many items.
+fn extends<O: Offset>(builder: &mut MutableBinaryValuesArray<O>) -> Result<bool, Error> {
     builder.extend([b"a".as_slice(), b"bc".as_slice()].into_iter())?;
     builder.try_extend([b"".as_slice(), b"d".as_slice()].into_iter())?;
-    Ok(holds(&builder, [0, 1, 3, 3, 4].as_slice(), b"abcd"))
+    Ok(holds(builder, [0, 1, 3, 3, 4].as_slice(), b"abcd"))
+}
+
+/// Whether a builder of no item does.
+fn extends_default<O: Offset>(alloc: Global) -> Result<bool, Error> {
+    extends(&mut MutableBinaryValuesArray::<O>::default(alloc)?)
 }
 
 #[test]
 fn builders_grow_by_many(rt: HostRuntime) -> Result<(), Fail> {
-    told(extends::<i32>(rt.alloc()))?;
-    told(extends::<i64>(rt.alloc()))
+    told(extends_default::<i32>(rt.alloc()))?;
+    told(extends_default::<i64>(rt.alloc()))
 }
 
 /// Whether only the bytes of another's items come behind these.
-fn joins<O: Offset>(alloc: Global) -> Result<bool, Error> {
-    let mut builder = MutableBinaryValuesArray::<O>::with_capacities(alloc, 1, 1)?;
+fn joins<O: Offset>(
+    builder: &mut MutableBinaryValuesArray<O>,
+    other: &MutableBinaryValuesArray<O>,
+) -> Result<bool, Error> {
     builder.push(b"x")?;
+    builder.try_extend_from_self(other)?;
+    Ok(holds(builder, [0, 1, 2].as_slice(), b"xz") && holds(other, [1, 2].as_slice(), b"yz"))
+}
+
+/// Whether they do where another byte lies before the other's.
+fn joins_rest<O: Offset>(alloc: Global) -> Result<bool, Error> {
     let offsets = offsets_of::<O>(alloc, [1, 2].as_slice())?;
-    let other = MutableBinaryValuesArray::try_new(type_of::<O>(), offsets, b"yz".to_vec(alloc)?)?;
-    builder.try_extend_from_self(&other)?;
-    Ok(holds(&builder, [0, 1, 2].as_slice(), b"xz") && holds(&other, [1, 2].as_slice(), b"yz"))
-}
-
-#[test]
-fn builders_grow_by_one_another(rt: HostRuntime) -> Result<(), Fail> {
-    told(joins::<i32>(rt.alloc()))?;
-    told(joins::<i64>(rt.alloc()))
-}
-
-/// Whether items are frozen without a mask.
-fn freezes<O: Offset>(alloc: Global) -> Result<bool, Error> {
-    made(
-        two::<O>(alloc)?.freeze(),
-        [0, 1, 3].as_slice(),
-        b"\x01\x02\x03",
-        "none",
+    let values = b"yz".to_vec(alloc)?;
+    let other = MutableBinaryValuesArray::try_new(type_of::<O>(), offsets, values)?;
+    joins(
+        &mut MutableBinaryValuesArray::with_capacities(alloc, 1, 1)?,
+        &other,
     )
 }
 
 #[test]
-fn items_freeze_without_a_mask(rt: HostRuntime) -> Result<(), Fail> {
-    told(freezes::<i32>(rt.alloc()))?;
-    told(freezes::<i64>(rt.alloc()))
+fn builders_grow_by_one_another(rt: HostRuntime) -> Result<(), Fail> {
+    told(joins_rest::<i32>(rt.alloc()))?;
+    told(joins_rest::<i64>(rt.alloc()))
 }
 
-/// Whether the builder with nulls has the same items, and holds no mask until a null comes.
-fn takes<O: Offset>(alloc: Global) -> Result<bool, Error> {
-    let mut builder = MutableBinaryArray::<O>::from_values_builder(two(alloc)?);
-    let is_taken = builds(&builder, [0, 1, 3].as_slice(), b"\x01\x02\x03", "none");
+/// Whether a builder with nulls has these items, and holds no mask until a null comes.
+fn takes<O: Offset>(builder: &mut MutableBinaryArray<O>) -> Result<bool, Error> {
+    let is_taken = builds(builder, [0, 1, 3].as_slice(), b"\x01\x02\x03", "none");
     builder.push(None)?;
-    Ok(is_taken && builds(&builder, [0, 1, 3, 3].as_slice(), b"\x01\x02\x03", "110"))
+    Ok(is_taken && builds(builder, [0, 1, 3, 3].as_slice(), b"\x01\x02\x03", "110"))
+}
+
+/// Whether items are frozen without a mask, and become those of a builder with nulls.
+fn freezes_and_takes<O: Offset>(alloc: Global) -> Result<bool, Error> {
+    let array = two::<O>(alloc)?.freeze();
+    let is_frozen = made(array, [0, 1, 3].as_slice(), b"\x01\x02\x03", "none")?;
+    Ok(is_frozen & takes(&mut MutableBinaryArray::<O>::from_values_builder(two(alloc)?))?)
 }
 
 #[test]
 fn items_become_slots(rt: HostRuntime) -> Result<(), Fail> {
-    told(takes::<i32>(rt.alloc()))?;
-    told(takes::<i64>(rt.alloc()))
+    told(freezes_and_takes::<i32>(rt.alloc()))?;
+    told(freezes_and_takes::<i64>(rt.alloc()))
 }
