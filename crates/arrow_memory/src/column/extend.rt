@@ -23,6 +23,9 @@ impl<V: MutableValues> GrowingColumn<V> {
         ensures ok { OnOk result ((items : List (Option X)) × Drains I.next_gives slots items × (slots_fit V.overflows V.shown V.default self.old items ≡ true) × (self.new ≡ append_slots V.default self.old (map (option_map V.shown) items))) }
         ensures err { IfErr result (λ e. (begun : List (Option X)) × (last : Option X) × (rest : I) × YieldsThen I.next_gives slots begun (Some last) rest × (slots_fit V.overflows V.shown V.default self.old begun ≡ true) × (self.new ≡ append_slots V.default self.old (map (option_map V.shown) begun)) × (e ≡ refused_growth (slot_overflows V.overflows self.new last))) }
     {
+        let (least, _) = slots.size_hint();
+        // Where as much is refused at once, each slot asks for its own room.
+        let _ = self.reserve(least);
         for slot in slots {
             self.push(slot)?;
         }
@@ -43,6 +46,9 @@ impl<V: MutableValues> GrowingColumn<V> {
         ensures ok { OnOk result ((items : List X) × Drains I.next_gives values items × (slots_fit V.overflows V.shown V.default self.old (map Some items) ≡ true) × (self.new ≡ append_slots V.default self.old (map (λ x. Some (V.shown x)) items))) }
         ensures err { IfErr result (λ e. (begun : List X) × (last : X) × (rest : I) × YieldsThen I.next_gives values begun (Some last) rest × (slots_fit V.overflows V.shown V.default self.old (map Some begun) ≡ true) × (self.new ≡ append_slots V.default self.old (map (λ x. Some (V.shown x)) begun)) × (e ≡ refused_growth (V.overflows self.new.around (stored_values self.new) last))) }
     {
+        let (least, _) = values.size_hint();
+        // Where as much is refused at once, each value asks for its own room.
+        let _ = self.reserve(least);
         for value in values {
             self.push_valid(value)?;
         }

@@ -57,6 +57,9 @@ impl<V: MutableValues> GrowingColumn<V> {
         ensures ok { OnOk result ((items : List X) × Drains I.next_gives values items × (slots_fit V.overflows V.shown V.default self.old (map Some items) ≡ true) × (self.new ≡ append_slots V.default self.old (map (λ x. Some (V.shown x)) items))) }
         ensures err { IfErr result (λ e. (begun : List X) × (last : X) × (rest : I) × YieldsThen I.next_gives values begun (Some last) rest × (slots_fit V.overflows V.shown V.default self.old (map Some begun) ≡ true) × (self.new ≡ append_slots V.default self.old (map (λ x. Some (V.shown x)) begun)) × (e ≡ refused_growth (V.overflows self.new.around (stored_values self.new) last))) }
     {
+        let (least, _) = values.size_hint();
+        // Where as much is refused at once, each value asks for its own room.
+        let _ = self.reserve(least);
         for value in values {
             self.push_unmasked(value)?;
         }
