@@ -9,6 +9,7 @@ ghost use Rattle.arrow_bytes.specs.Pieces.{nothing_around, without_tail};
 use crate::growing::MutableTextValues;
 use arrow_bytes::{ByteValues, BytesAround, into_mut_values};
 use arrow_check::accessor::Bytes;
+use arrow_check::laws::well_formed_is_utf8;
 use arrow_memory::bitmap::{Bitmap, MutableBitmap};
 use arrow_memory::buffer::Buffer;
 use arrow_memory::column::Values;
@@ -39,12 +40,13 @@ impl<O: Offset> Model for TextValues<O> {
 }
 
 /// These bytes as text, which they are.
-#[tactic(auto, using(crate::proofs::TextLemmas::texts))]
 #[inline(always)]
 pub(crate) fn text_of(bytes: &[u8]) -> &str
     requires { IsWellFormed bytes.now }
     ensures { result.now ≡ bytes.now }
 {
+    // Text by Unicode's table is text for std, too.
+    well_formed_is_utf8();
     match simdutf8::compat::from_utf8(bytes) {
         Ok(text) => text,
         Err(_) => unreachable!(),
