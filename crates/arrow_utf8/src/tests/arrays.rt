@@ -57,7 +57,8 @@ fn reads(array: &Utf8Array<i32>) -> bool {
     let are_marked = array.is_valid(0) && array.is_null(1) && !array.is_valid(1);
     let are_stored = array.value(1) == "" && array.value(2) == "there" && array.null_count() == 1;
     let default = Utf8Array::<i32>::default_data_type();
-    are_slots && are_marked && are_stored && *array.data_type() == default
+    let is_default = *array.data_type() == default && default == DataType::Utf8;
+    are_slots && are_marked && are_stored && is_default
 }
 
 /// Whether the slots and the stored texts of these come from both ends.

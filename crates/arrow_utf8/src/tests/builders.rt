@@ -194,3 +194,22 @@ fn builders_are_compared(rt: HostRuntime) -> Result<(), Fail> {
     assert!(rt; !is_same);
     Ok(())
 }
+
+/// Whether a builder has room for forty slots and four hundred bytes, then for more, and then gives it back.
+fn has_room(answer: Result<MutableUtf8Array<i32>, Error>) -> Result<bool, Error> {
+    let mut builder = answer?;
+    let is_given = builder.capacity() >= 40 && builder.values().capacity() >= 400;
+    builder.reserve(100, 1000)?;
+    let is_more = builder.capacity() >= 100 && builder.values().capacity() >= 1000;
+    builder.shrink_to_fit()?;
+    let is_back = builder.capacity() < 40 && builder.values().capacity() < 400;
+    Ok(is_given && is_more && is_back)
+}
+
+#[test]
+fn room_is_made_and_given_back(rt: HostRuntime) -> Result<(), Fail> {
+    told(has_room(MutableUtf8Array::with_capacities(rt.alloc(), 40, 400)))?;
+    let roomy = MutableUtf8Array::<i32>::with_capacity(rt.alloc(), 40)?.capacity();
+    assert!(rt; roomy >= 40);
+    Ok(())
+}

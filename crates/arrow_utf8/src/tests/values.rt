@@ -1,5 +1,7 @@
 //! Builders without nulls.
 use super::*;
+use crate::MutableTextValues;
+use arrow_memory::column::{MutableValues, PushValue};
 
 #[test]
 fn builders_are_made(rt: HostRuntime) -> Result<(), Fail> {
@@ -34,7 +36,8 @@ fn reads(builder: &MutableUtf8ValuesArray<i32>) -> bool {
     let are_items = items.next_back() == Some("") && items.size_hint() == (1, Some(1));
     let are_lent = lent.nth(1) == Some("") && lent.next().is_none() && items.next() == Some("hi");
     let default = MutableUtf8ValuesArray::<i32>::default_data_type();
-    are_items && are_lent && builder.value(0) == "hi" && *builder.data_type() == default
+    let is_default = *builder.data_type() == default && default == DataType::Utf8;
+    are_items && are_lent && builder.value(0) == "hi" && is_default
 }
 
 /// Whether a builder of such items is read.
@@ -111,4 +114,41 @@ fn builders_grow(rt: HostRuntime) -> Result<(), Fail> {
     ))?;
     told(held(again(alloc), offsets, "éab"))?;
     told(made(frozen(alloc), offsets, "éab", "none"))
+}
+
+/// Whether a builder has room for forty items and four hundred bytes, then for more, and then gives it back.
+fn has_room(answer: Result<MutableUtf8ValuesArray<i32>, Error>) -> Result<bool, Error> {
+    let mut builder = answer?;
+    let is_given = builder.capacity() >= 40 && builder.values().capacity() >= 400;
+    builder.reserve(100, 1000)?;
+    let is_more = builder.capacity() >= 100 && builder.values().capacity() >= 1000;
+    builder.shrink_to_fit()?;
+    let is_back = builder.capacity() < 40 && builder.values().capacity() < 400;
+    Ok(is_given && is_more && is_back)
+}
+
+#[test]
+fn room_is_made_and_given_back(rt: HostRuntime) -> Result<(), Fail> {
+    told(has_room(MutableUtf8ValuesArray::with_capacities(rt.alloc(), 40, 400)))?;
+    let roomy = MutableUtf8ValuesArray::<i32>::with_capacity(rt.alloc(), 40)?.capacity();
+    assert!(rt; roomy >= 40);
+    Ok(())
+}
+
+/// Whether stored texts are cut back to the first, with room for more.
+fn is_cut_back(answer: Result<MutableTextValues<i32>, Error>) -> Result<bool, Error> {
+    let mut texts = answer?;
+    texts.push_value("a")?;
+    texts.push_value("bc")?;
+    texts.make_room(40)?;
+    if texts.len() > 1 {
+        texts.keep_first(1);
+    }
+    let is_first = texts.len() == 1 && texts.bytes().as_slice() == b"a".as_slice();
+    Ok(is_first && texts.capacity() >= 41)
+}
+
+#[test]
+fn stored_texts_are_cut_back(rt: HostRuntime) -> Result<(), Fail> {
+    told(is_cut_back(MutableTextValues::with_capacities(rt.alloc(), 0, 0)))
 }

@@ -76,7 +76,9 @@ fn reads(array: &Utf8Array<i64>) -> bool {
     let are_slots = array.get(0) == Some("hi") && array.get(1).is_none();
     let are_marked = array.is_valid(0) && array.is_null(1) && !array.is_valid(1);
     let are_stored = array.value(1) == "" && array.value(2) == "there" && array.null_count() == 1;
-    are_slots && are_marked && are_stored && *array.data_type() == DataType::LargeUtf8
+    let default = Utf8Array::<i64>::default_data_type();
+    let is_default = *array.data_type() == default && default == DataType::LargeUtf8;
+    are_slots && are_marked && are_stored && is_default
 }
 
 /// Whether the slots and the stored texts of these come from both ends.

@@ -1,5 +1,7 @@
 //! Builders without nulls, over wide offsets.
 use super::*;
+use crate::MutableTextValues;
+use arrow_memory::column::{MutableValues, PushValue};
 
 /// Whether a builder was made that has these offsets over this text.
 fn held(
@@ -39,7 +41,8 @@ fn reads(builder: &MutableUtf8ValuesArray<i64>) -> bool {
     let are_items = items.next_back() == Some("") && items.size_hint() == (1, Some(1));
     let are_lent = lent.nth(1) == Some("") && lent.next().is_none() && items.next() == Some("hi");
     let default = MutableUtf8ValuesArray::<i64>::default_data_type();
-    are_items && are_lent && builder.value(0) == "hi" && *builder.data_type() == default
+    let is_default = *builder.data_type() == default && default == DataType::LargeUtf8;
+    are_items && are_lent && builder.value(0) == "hi" && is_default
 }
 
 /// Appends items in each way.
@@ -107,4 +110,22 @@ fn builders_are_tested(rt: HostRuntime) -> Result<(), Fail> {
         told(fault(rt.alloc(), name, end, bytes, text))?;
     }
     Ok(())
+}
+
+/// Whether stored texts are cut back to the first, with room for more.
+fn is_cut_back(answer: Result<MutableTextValues<i64>, Error>) -> Result<bool, Error> {
+    let mut texts = answer?;
+    texts.push_value("a")?;
+    texts.push_value("bc")?;
+    texts.make_room(40)?;
+    if texts.len() > 1 {
+        texts.keep_first(1);
+    }
+    let is_first = texts.len() == 1 && texts.bytes().as_slice() == b"a".as_slice();
+    Ok(is_first && texts.capacity() >= 41)
+}
+
+#[test]
+fn stored_texts_are_cut_back(rt: HostRuntime) -> Result<(), Fail> {
+    told(is_cut_back(MutableTextValues::with_capacities(rt.alloc(), 0, 0)))
 }
