@@ -1,5 +1,5 @@
 -- Lemmas about lists of texts.
-use Rattle.std.proofs.Common.{◌≡◌, ℕ, ◌<◌, List, [], ◌∷◌, ◌++◌, length, take, drop, get_or, replicate, slice_get, Some, refl, sym, subst}
+use Rattle.std.proofs.Common.{◌≡◌, ℕ, List, [], ◌∷◌, ◌++◌, take, drop, replicate, slice_get, Some, refl, subst}
 use Rattle.std.proofs.lemmas.List.Elements.{All-nil, All-replicate, All-get_or, All-append, All-push, All-take, All-drop}
 use Rattle.std.proofs.lemmas.Option.{get_or_from_slice_get, slice_get_within}
 use Rattle.arrow_check.specs.Texts.{AreTexts}

@@ -1,4 +1,3 @@
-use Rattle.std.proofs.Common.{◌≡◌}
 use Rattle.arrow_utf8.proofs.values.text_of.Goals as goal
 
 pub unreachable-requires : goal.unreachable-requires
