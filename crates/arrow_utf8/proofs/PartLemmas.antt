@@ -1,7 +1,7 @@
 -- Lemmas about parts that were tested.
-use Rattle.std.proofs.Common.{◌≡◌, ◌≤◌, List, ℕ, length, ap, sym, subst, arith}
+use Rattle.std.proofs.Common.{◌≡◌, ◌≤◌, List, ℕ, length, subst, arith}
 use Rattle.arrow_memory.specs.Offsets.{last_of}
-use Rattle.arrow_check.specs.Texts.{AreTexts, CutTexts}
+use Rattle.arrow_check.specs.Texts.{CutTexts}
 
 -- what was tested is what was given
 pub cut-same : (numbers offsets read bytes : List ℕ) → numbers ≡ offsets → read ≡ bytes → CutTexts numbers read → CutTexts offsets bytes

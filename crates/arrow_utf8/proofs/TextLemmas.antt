@@ -1,21 +1,12 @@
 -- Lemmas about lists of texts.
-use Rattle.std.proofs.Common.{◌≡◌, ℕ, ◌<◌, List, [], ◌∷◌, ◌++◌, length, take, drop, get_or, replicate, slice_get, Some, sym, subst, arith}
-use Rattle.std.specs.Str.{IsUtf8}
+use Rattle.std.proofs.Common.{◌≡◌, ℕ, List, [], ◌∷◌, ◌++◌, take, drop, replicate, slice_get, Some, refl, subst}
 use Rattle.std.proofs.lemmas.List.Elements.{All-nil, All-replicate, All-get_or, All-append, All-push, All-take, All-drop}
 use Rattle.std.proofs.lemmas.Option.{get_or_from_slice_get, slice_get_within}
-use Rattle.std.proofs.lemmas.Str.{IsUtf8-nil}
 use Rattle.arrow_check.specs.Texts.{AreTexts}
 use Rattle.arrow_check.specs.Utf8.{IsWellFormed}
-use Rattle.arrow_check.proofs.Utf8Lemmas.{well_formed-IsUtf8}
-
-pub text-utf8 : (bytes : List ℕ) → IsWellFormed bytes → IsUtf8 bytes
-text-utf8 bytes text = (well_formed-IsUtf8 bytes).0 text
-
-pub utf8-text : (bytes : List ℕ) → IsUtf8 bytes → IsWellFormed bytes
-utf8-text bytes text = (well_formed-IsUtf8 bytes).1 text
 
 pub no-bytes : IsWellFormed []
-no-bytes = utf8-text [] IsUtf8-nil
+no-bytes = ([], tt, refl)
 
 pub no-texts : AreTexts []
 no-texts = All-nil IsWellFormed
@@ -39,4 +30,4 @@ texts-push items item texts text = All-push IsWellFormed items item texts text
 pub text-at : (items : List (List ℕ)) (i : ℕ) (item : List ℕ) → slice_get items i ≡ Some item → AreTexts items → IsWellFormed item
 text-at items i item found texts = subst IsWellFormed (get_or_from_slice_get items i item [] found) (All-get_or IsWellFormed items i [] (slice_get_within items i item found) texts)
 
-pub ruleset texts = (text-utf8, utf8-text, no-texts, empty-texts, texts-cut, texts-take, texts-joined, texts-push, text-at)
+pub ruleset texts = (no-texts, empty-texts, texts-cut, texts-take, texts-joined, texts-push, text-at)

@@ -8,6 +8,7 @@ use crate::TextItem;
 use crate::values::{TextValues, text_of};
 use arrow_bytes::{BytesAround, MutableByteValues};
 use arrow_check::accessor::Bytes;
+use arrow_check::laws::well_formed_is_utf8;
 use arrow_memory::column::{MutableValues, PushValue, ReserveItems};
 use arrow_memory::offset::Offsets;
 use arrow_types::error::Error;
@@ -199,6 +200,8 @@ impl<X: TextItem, O: Offset> PushValue<X> for MutableTextValues<O> {
 
     #[inline(always)]
     fn push_value(&mut self, value: X) -> Result<(), Error> {
+        // Text for std is text by Unicode's table, too.
+        well_formed_is_utf8();
         self.values.push_value(value.text().as_bytes())
     }
 }

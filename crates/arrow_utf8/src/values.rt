@@ -9,6 +9,7 @@ ghost use Rattle.arrow_bytes.specs.Pieces.{nothing_around, without_tail};
 use crate::growing::MutableTextValues;
 use arrow_bytes::{ByteValues, BytesAround, into_mut_values};
 use arrow_check::accessor::Bytes;
+use arrow_check::laws::well_formed_is_utf8;
 use arrow_memory::bitmap::{Bitmap, MutableBitmap};
 use arrow_memory::buffer::Buffer;
 use arrow_memory::column::Values;
@@ -39,13 +40,13 @@ impl<O: Offset> Model for TextValues<O> {
 }
 
 /// These bytes as text, which they are.
-#[tactic(auto, using(crate::proofs::TextLemmas::texts))]
 #[inline(always)]
 pub(crate) fn text_of(bytes: &[u8]) -> &str
     requires { IsWellFormed bytes.now }
     ensures { result.now ≡ bytes.now }
 {
-    // No byte is looked at: the contract of the unchecked call asks for the proof that these bytes are text.
+    // Text by Unicode's table is text for std, too. So no byte is looked at: the unchecked call asks for that proof.
+    well_formed_is_utf8();
     unsafe { std::str::from_utf8_unchecked(bytes) }
 }
 

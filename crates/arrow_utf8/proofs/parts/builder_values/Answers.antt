@@ -1,5 +1,4 @@
-use Rattle.std.proofs.Common.{◌≡◌, ◌∙◌, ap, sym, subst}
-use Rattle.arrow_memory.specs.Offsets.{last_of, numbers_of}
+use Rattle.std.proofs.Common.{◌∙◌, sym, subst}
 use Rattle.arrow_check.specs.Texts.{AreTexts}
 use Rattle.arrow_utf8.proofs.PartLemmas.{cut-at-end, cut-same}
 use Rattle.arrow_utf8.proofs.parts.builder_values.Goals as goal

@@ -1,4 +1,4 @@
-use Rattle.std.proofs.Common.{◌≡◌, ◌∙◌, ap, sym, subst}
+use Rattle.std.proofs.Common.{◌∙◌, ap, sym, subst}
 use Rattle.arrow_check.specs.Texts.{AreTexts}
 use Rattle.arrow_utf8.proofs.values.into_mut_texts.Goals as goal
 

@@ -1,4 +1,4 @@
-use Rattle.std.proofs.Common.{◌≡◌, sym, subst}
+use Rattle.std.proofs.Common.{sym, subst}
 use Rattle.arrow_check.specs.Texts.{AreTexts}
 use Rattle.arrow_utf8.proofs.array.Utf8Array.new.Goals as goal
 

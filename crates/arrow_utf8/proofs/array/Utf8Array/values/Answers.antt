@@ -1,4 +1,4 @@
-use Rattle.std.proofs.Common.{◌≡◌, subst}
+use Rattle.std.proofs.Common.{subst}
 use Rattle.arrow_check.specs.Texts.{AreTexts}
 use Rattle.arrow_utf8.proofs.array.Utf8Array.values.Goals as goal
 

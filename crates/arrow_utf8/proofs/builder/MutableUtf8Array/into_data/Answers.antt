@@ -1,4 +1,4 @@
-use Rattle.std.proofs.Common.{◌≡◌, ◌∙◌, ap, sym, subst, arith}
+use Rattle.std.proofs.Common.{◌∙◌, ap, sym, subst, arith}
 use Rattle.arrow_check.specs.Texts.{AreTexts}
 use Rattle.arrow_utf8.proofs.builder.MutableUtf8Array.into_data.Goals as goal
 

@@ -1,5 +1,3 @@
-use Rattle.std.proofs.Common.{◌≡◌}
-use Rattle.arrow_check.specs.Texts.{AreTexts}
 use Rattle.arrow_utf8.proofs.values.TextValues.into_bytes.Goals as goal
 
 pub returns-clause-texts : goal.returns-clause-texts

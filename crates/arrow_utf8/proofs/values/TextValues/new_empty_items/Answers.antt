@@ -1,4 +1,4 @@
-use Rattle.std.proofs.Common.{◌≡◌, sym, subst}
+use Rattle.std.proofs.Common.{sym, subst}
 use Rattle.arrow_check.specs.Texts.{AreTexts}
 use Rattle.arrow_utf8.proofs.TextLemmas.{empty-texts}
 use Rattle.arrow_utf8.proofs.values.TextValues.new_empty_items.Goals as goal
