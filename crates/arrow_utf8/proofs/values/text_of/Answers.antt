@@ -1,4 +1,4 @@
 use Rattle.arrow_utf8.proofs.values.text_of.Goals as goal
 
-pub unreachable-requires : goal.unreachable-requires
-unreachable-requires c = c.in-Err.ensures.cases.0 ((c.well_formed_is_utf8.ensures c.args.bytes.now).0 c.requires)
+pub from_utf8_unchecked-requires : goal.from_utf8_unchecked-requires
+from_utf8_unchecked-requires c = (c.well_formed_is_utf8.ensures c.args.bytes.now).0 c.requires
