@@ -1,18 +1,16 @@
 -- Lemmas about bytes that are appended as two words.
-use Rattle.std.proofs.Common.{◌≡◌, ◌+◌, ◌-◌, ◌≤◌, List, ◌++◌, length, take, drop, append_assoc, length-append, sym, ap, ◌∙◌, arith}
+use Rattle.std.proofs.Common.{◌≡◌, ◌+◌, ◌-◌, ◌≤◌, List, ◌++◌, length, take, drop, append_assoc, sym, ap, ◌∙◌, arith}
 use Rattle.std.proofs.Math.Seq.{take-append-add, take-append_seam}
 use Rattle.std.proofs.lemmas.List.{take-append-drop, take-append-le, length-take-le}
 
 module _ {X : Type 0} (old bytes first kept : List X) (long : 8 ≤ length bytes) (short : length bytes ≤ 16) (is-first : first ≡ take 8 bytes)
-    (cut : kept ≡ take (length (old ++ first) - (16 - length bytes)) (old ++ first)) where
+    (cut : kept ≡ take (length old + (length bytes - 8)) (old ++ first)) where
   -- what the first word has before the last one begins
   kept-is : kept ≡ old ++ take (length bytes - 8) bytes
   kept-is =
       let r = length bytes - 8 in
-      let word : length first ≡ 8 = ap length is-first ∙ length-take-le 8 bytes long in
-      let place : length (old ++ first) - (16 - length bytes) ≡ length old + r = omega (arith, length-append old first, word) in
       let within : r ≤ length (take 8 bytes) = omega (arith, length-take-le 8 bytes long) in
-      cut ∙ ap (λ n. take n (old ++ first)) place ∙ take-append-add old first r ∙ ap (λ ys. old ++ take r ys) is-first
+      cut ∙ take-append-add old first r ∙ ap (λ ys. old ++ take r ys) is-first
       ∙ ap (λ ys. old ++ ys) (sym (take-append-le r (take 8 bytes) (drop 8 bytes) within) ∙ ap (take r) (take-append-drop 8 bytes))
 
   pub words-joined : (last grown : List X) → last ≡ drop (length bytes - 8) bytes → grown ≡ kept ++ last → grown ≡ old ++ bytes

@@ -8,8 +8,3 @@ mod shared;
 pub use growing::Offsets;
 pub use numbers::{number_at, start_end_of};
 pub use shared::OffsetsBuffer;
-
-#[cfg(test)]
-mod refusals;
-#[cfg(test)]
-mod tiny;

@@ -232,6 +232,3 @@ pub fn into_mut_bytes<O: Offset>(
         },
     }
 }
-
-#[cfg(test)]
-mod tests;

@@ -60,8 +60,8 @@ impl MutableBitmap {
         MutableBitmap { bytes, length }
     }
 
-    /// The bytes of the marks.
-    pub(crate) fn into_bytes(self) -> Vec<u8>
+    /// The packed bytes of the marks, which are not copied. They may have more bits than there are marks.
+    pub fn into_vec(self) -> Vec<u8>
         ensures room { length self ≤ 8 * vec_len result }
         ensures value { marks result.items 0 (length self) ≡ self }
     {
@@ -302,6 +302,3 @@ impl MutableBitmap {
         Bitmap::from_counted(bytes, length, unset)
     }
 }
-
-#[cfg(test)]
-mod tests;

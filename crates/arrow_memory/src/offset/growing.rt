@@ -303,6 +303,3 @@ impl<O: Offset> Offsets<O> {
         })
     }
 }
-
-#[cfg(test)]
-mod tests;

@@ -23,7 +23,7 @@ fn append_bytes(values: &mut Vec<u8>, bytes: &[u8]) -> Result<(), AllocError>
     let (first, last) = (*first, *last);
     let before = values.len();
     values.extend_from_slice(&first)?;
-    values.truncate(values.len() - (16 - bytes.len()));
+    values.truncate(before + (bytes.len() - 8));
     if let Err(refused) = values.extend_from_slice(&last) {
         values.truncate(before);
         return Err(refused);

@@ -144,6 +144,3 @@ impl<O: Offset> OffsetsBuffer<O> {
         }
     }
 }
-
-#[cfg(test)]
-mod tests;

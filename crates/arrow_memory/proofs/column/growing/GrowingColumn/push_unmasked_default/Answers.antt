@@ -1,4 +1,3 @@
-use Rattle.std.proofs.Common.{◌≡◌}
 use Rattle.arrow_types.specs.Types.{logical_type}
 use Rattle.arrow_memory.proofs.RowLemmas.{on-ok, unmasked-push}
 use Rattle.arrow_memory.proofs.column.growing.GrowingColumn.push_unmasked_default.Goals as goal
