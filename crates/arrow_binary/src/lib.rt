@@ -9,10 +9,6 @@ mod extend;
 mod from_natural;
 mod iterator;
 mod parts;
-#[cfg(test)]
-mod refusals;
-#[cfg(test)]
-mod tests;
 mod values_builder;
 
 pub use array::BinaryArray;

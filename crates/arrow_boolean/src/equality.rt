@@ -33,6 +33,3 @@ impl Eq for MutableBooleanArray {
 
     ghost laws = { on_equiv slots_of (decided (same_slots beq) (same_slots-Decides beq booleans_Decides)) };
 }
-
-#[cfg(test)]
-mod tests;

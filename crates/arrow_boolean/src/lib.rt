@@ -10,10 +10,6 @@ mod extend;
 mod from_natural;
 mod iterator;
 mod parts;
-#[cfg(test)]
-mod refusals;
-#[cfg(test)]
-mod tests;
 
 pub use array::BooleanArray;
 pub use builder::MutableBooleanArray;

@@ -12,10 +12,6 @@ mod item;
 mod items;
 mod iterator;
 mod parts;
-#[cfg(test)]
-mod refusals;
-#[cfg(test)]
-mod tests;
 mod values;
 mod values_builder;
 

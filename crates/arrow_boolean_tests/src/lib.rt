@@ -1,0 +1,9 @@
+//! Tests of `arrow_boolean`, in a crate of their own, since the gate proves a crate with tests twice.
+#![tactic(auto)]
+
+#[cfg(test)]
+mod equality;
+#[cfg(test)]
+mod refusals;
+#[cfg(test)]
+mod tests;

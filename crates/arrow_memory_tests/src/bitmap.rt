@@ -1,0 +1,74 @@
+// Marks are written as texts, in which '1' is a set mark.
+mod copies;
+mod mutable;
+mod shared;
+
+use arrow_memory::bitmap::{Bitmap, BitmapIter, MutableBitmap};
+use arrow_types::error::Error;
+use std::alloc::Global;
+use std::test::Fail;
+
+/// Appends the marks that a text writes, one by one.
+fn push_all(marks: &mut MutableBitmap, text: &str) -> Result<(), Error> {
+    for mark in text.as_bytes() {
+        marks.push(*mark == b'1')?;
+    }
+    Ok(())
+}
+
+/// The marks that a text writes.
+pub(crate) fn pushed(alloc: Global, text: &str) -> Result<MutableBitmap, Error> {
+    let mut marks = MutableBitmap::new(alloc);
+    push_all(&mut marks, text)?;
+    Ok(marks)
+}
+
+/// Whether the iterator gives the marks that a text writes and no more, and always tells how many are left.
+pub(crate) fn gives(mut marks: BitmapIter<'_>, text: &str) -> bool {
+    let mut left = text.len();
+    for mark in text.as_bytes() {
+        if marks.size_hint() != (left, Some(left)) || marks.next() != Some(*mark == b'1') {
+            return false;
+        }
+        left = left.saturating_sub(1);
+    }
+    marks.size_hint() == (0, Some(0)) && marks.next().is_none()
+}
+
+/// Keeps some marks, where they are there.
+pub(crate) fn cut(bitmap: &mut Bitmap, offset: usize, len: usize) -> bool {
+    if offset <= bitmap.len() && len <= bitmap.len() - offset {
+        bitmap.slice(offset, len);
+        return true;
+    }
+    false
+}
+
+/// Whether the marks of a text are read one by one, and there are no more.
+fn reads(bitmap: &Bitmap, text: &str) -> bool {
+    for (index, mark) in text.as_bytes().iter().enumerate() {
+        if index >= bitmap.len() || bitmap.get_bit(index) != (*mark == b'1') {
+            return false;
+        }
+    }
+    bitmap.len() == text.len()
+}
+
+#[test]
+fn slices_of_slices_add_their_places(rt: HostRuntime) -> Result<(), Fail> {
+    let mut bitmap = pushed(rt.alloc(), "00011111111110000011111111111111")?.freeze()?;
+    for (offset, len, text, clear) in [
+        (0, 32, "00011111111110000011111111111111", 8),
+        (2, 20, "01111111111000001111", 6),
+        (5, 10, "1111110000", 4),
+        (5, 3, "100", 2),
+        (3, 0, "", 0),
+    ] {
+        let is_there = cut(&mut bitmap, offset, len) && bitmap.unset_bits() == clear;
+        assert!(rt;
+            is_there && reads(&bitmap, text) && gives(bitmap.iter(), text),
+            "{text}"
+        );
+    }
+    Ok(())
+}

@@ -1,0 +1,4 @@
+mod growing;
+mod refusals;
+mod shared;
+mod tiny;

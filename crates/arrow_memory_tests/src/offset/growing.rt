@@ -1,0 +1,99 @@
+use crate::offset::tiny::Tiny;
+use arrow_memory::offset::Offsets;
+use arrow_types::error::Error;
+use arrow_types::offset::Offset;
+use std::alloc::Global;
+use std::test::Fail;
+
+/// Offsets of 32 bits.
+fn narrow(alloc: Global, list: &[i32]) -> Result<Offsets<i32>, Error> {
+    Offsets::try_from_vec(list.to_vec(alloc)?)
+}
+
+/// The text with which offsets are refused; none where they are taken over.
+fn fault_of(alloc: Global, list: &[i32]) -> Result<&'static str, Error> {
+    match narrow(alloc, list) {
+        Ok(_) => Ok(""),
+        Err(Error::OutOfSpec(text)) => Ok(text),
+        Err(error) => Err(error),
+    }
+}
+
+#[test]
+fn the_first_fault_is_told(rt: HostRuntime) -> Result<(), Fail> {
+    let negative = "the first offset must not be negative";
+    let falls = "offsets must never fall";
+    for (list, text) in [
+        ([].as_slice(), "offsets must have at least one element"),
+        ([-1, -2].as_slice(), negative),
+        ([-1, 0].as_slice(), negative),
+        ([0, 2, 1].as_slice(), falls),
+        ([0, -1, 5].as_slice(), falls),
+        ([2, 3, 3, 5].as_slice(), ""),
+        ([5].as_slice(), ""),
+    ] {
+        assert!(rt; fault_of(rt.alloc(), list)? == text, "{text}");
+    }
+    Ok(())
+}
+
+/// Whether a slot of one byte is refused, as one that ends too far, and nothing changes.
+fn is_full(offsets: &mut Offsets<i32>, list: &[i32]) -> bool {
+    matches!(offsets.try_push_usize(1), Err(Error::Overflow)) && offsets.as_slice() == list
+}
+
+#[test]
+fn ends_up_to_the_greatest_number_are_pushed(rt: HostRuntime) -> Result<(), Fail> {
+    let mut offsets = narrow(rt.alloc(), [0, 2147483647].as_slice())?;
+    assert!(rt; is_full(&mut offsets, [0, 2147483647].as_slice()));
+    offsets.try_push_usize(0)?;
+    assert!(rt; is_full(&mut offsets, [0, 2147483647, 2147483647].as_slice()));
+    Ok(())
+}
+
+/// What there is room for at first, once more is asked for, and once what isn't needed is given back.
+fn rooms(alloc: Global) -> Result<(usize, usize, usize), Error> {
+    let mut offsets = Offsets::<i32>::with_capacity(alloc, 40)?;
+    let first = offsets.capacity();
+    offsets.reserve(100)?;
+    let more = offsets.capacity();
+    offsets.shrink_to_fit()?;
+    Ok((first, more, offsets.capacity()))
+}
+
+#[test]
+fn room_is_made_and_given_back(rt: HostRuntime) -> Result<(), Fail> {
+    let (first, more, least) = rooms(rt.alloc())?;
+    assert!(rt; first >= 40 && more >= 100 && least < 40);
+    Ok(())
+}
+
+/// Two empty slots and one of 20 bytes.
+fn pushed<O: Offset>(alloc: Global) -> Result<Offsets<O>, Error> {
+    let mut offsets = Offsets::new_zeroed(alloc, 2)?;
+    offsets.try_push_usize(20)?;
+    Ok(offsets)
+}
+
+/// Where the last of these slots ends behind the same slots.
+fn joined<O: Offset>(alloc: Global) -> Result<usize, Error> {
+    let mut offsets = pushed::<O>(alloc)?;
+    let copy = offsets.clone()?;
+    offsets.try_extend_from_self(&copy)?;
+    Ok(offsets.last().to_usize())
+}
+
+/// How many slots there are in a clone of the same offsets, frozen.
+fn frozen<O: Offset>(alloc: Global) -> Result<usize, Error> {
+    let offsets = pushed::<O>(alloc)?.freeze()?;
+    Ok(offsets.clone()?.len_proxy())
+}
+
+#[test]
+fn each_type_of_offset_grows(rt: HostRuntime) -> Result<(), Fail> {
+    let narrow = (joined::<i32>(rt.alloc())?, frozen::<i32>(rt.alloc())?);
+    let wide = (joined::<i64>(rt.alloc())?, frozen::<i64>(rt.alloc())?);
+    let least = (joined::<Tiny>(rt.alloc())?, frozen::<Tiny>(rt.alloc())?);
+    assert!(rt; narrow == (40, 3) && wide == (40, 3) && least == (40, 3));
+    Ok(())
+}

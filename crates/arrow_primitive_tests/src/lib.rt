@@ -1,0 +1,7 @@
+//! Tests of `arrow_primitive`, in a crate of their own, since the gate proves a crate with tests twice.
+#![tactic(auto)]
+
+#[cfg(test)]
+mod refusals;
+#[cfg(test)]
+mod tests;
