@@ -42,13 +42,15 @@ fn gives(mut bits: BitmapIter<'_>, text: &str) -> bool {
 /// Whether an array has these slots, stores these values, and holds a mask or none.
 fn is(array: &BooleanArray, slots: &str, values: &str, held: bool) -> bool {
     let is_held = array.validity().is_some();
-    shows(array.iter(), slots) && gives(array.values_iter(), values) && is_held == held
+    let are_slots = shows(array.iter(), slots) && shows(array.into_iter(), slots);
+    are_slots && gives(array.values_iter(), values) && is_held == held
 }
 
 /// Whether a builder has these slots, stores these values, and holds a mask or none.
 fn is_built(builder: &MutableBooleanArray, slots: &str, values: &str, held: bool) -> bool {
     let is_held = builder.validity().is_some();
-    shows(builder.iter(), slots) && gives(builder.values_iter(), values) && is_held == held
+    let are_slots = shows(builder.iter(), slots) && shows(builder.into_iter(), slots);
+    are_slots && gives(builder.values_iter(), values) && is_held == held
 }
 
 /// Inverts the first of some marks.

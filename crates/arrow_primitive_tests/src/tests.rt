@@ -98,7 +98,8 @@ fn reads_each(array: &PrimitiveArray<i64>) -> bool {
         return false;
     }
     let values = arrays::reads(array, 0, Some(1), 1) && arrays::reads(array, 2, Some(10), 10);
-    values && arrays::reads(array, 1, None, 0) && shows(array, [1, 0, 10].as_slice(), "101")
+    let lent = array.into_iter().next_back() == Some(Some(&10));
+    lent && values && arrays::reads(array, 1, None, 0) && shows(array, [1, 0, 10].as_slice(), "101")
 }
 
 /// Whether they do of a new array.
