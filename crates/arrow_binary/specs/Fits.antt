@@ -12,14 +12,6 @@ binary_type large = if large then plain large_binary else plain binary
 abbrev pub binary_layout : Bool → PhysicalType
 binary_layout large = if large then physical.LargeBinary else physical.Binary
 
--- the refusal of an array's mask that has another number of marks than there are values
-abbrev pub unfit_mask : Refusal
-unfit_mask = out_of_spec (codes "validity mask length must match the number of values")
-
--- the refusal of a builder's mask that has another number of marks than there are values
-abbrev pub unfit_builder_mask : Refusal
-unfit_builder_mask = out_of_spec (codes "validity's length must be equal to the number of values")
-
 -- the refusal of an array's type of another physical type
 abbrev pub wrong_type : Refusal
 wrong_type = out_of_spec (codes "BinaryArray can only be initialized with DataType::Binary or DataType::LargeBinary")

@@ -6,10 +6,6 @@ use Rattle.arrow_types.specs.Types.{LogicalType, Refusal, boolean, out_of_spec, 
 abbrev pub boolean_type : LogicalType
 boolean_type = plain boolean
 
--- the refusal of a mask that has another number of marks than there are values
-abbrev pub unfit_mask : Refusal
-unfit_mask = out_of_spec (codes "validity mask length must match the number of values")
-
 -- the refusal of an array's type of another physical type
 abbrev pub wrong_type : Refusal
 wrong_type = out_of_spec (codes "BooleanArray can only be initialized with a DataType whose physical type is Boolean")

@@ -2,7 +2,7 @@
 use Rattle.std.proofs.Common.{◌≡◌, ℕ, zero, suc, ◌+◌, ◌-◌, ◌<◌, ◌≤◌, ℤ, pos, negsuc, Bool, true, false, List, [], ◌∷◌, ◌++◌, length, map, take, drop, set, replicate, get_or, ◌≤ℤ◌, ap₂, append_assoc, length-drop, Option, Some, None, MatchOption, nat_lt, if◌then◌else◌, refl, sym, ap, ◌∙◌, arith, inl, inr, length-append}
 use Rattle.std.specs.Int.RustNames.{unsigned_abs}
 use Rattle.std.proofs.lemmas.Bool.{true≢false, or_parts, or_from, ltb-false, le-ltb, cases_lt}
-use Rattle.std.proofs.lemmas.List.{get_or-map, length-map, map-append, get_or_append_left, get_or-append_right, get_or-take, get_or-drop, get_or-replicate, length-replicate, take-map, take_more_set, take_more, take_all, take_at}
+use Rattle.std.proofs.lemmas.List.{get_or-map, length-map, map-append, get_or_append_left, get_or-append_right, get_or-take, get_or-drop, get_or-replicate, length-replicate, take-map, take_more_set, take_more, take_all, take_at, ext_get_or}
 use Rattle.std.proofs.lemmas.Int.{ints}
 use Rattle.std.specs.List.{drop-map}
 use Rattle.arrow_memory.proofs.ColumnLemmas.{length-piece}
@@ -181,6 +181,23 @@ pub moved-at : (last : ℕ) (ns : List ℕ) (i : ℕ) → i + 1 < length ns → 
 moved-at last ns i low =
     get_or-map (λ n. last + (n - first_of ns)) (drop 1 ns) i 0 0 (omega (arith, length-drop 1 ns))
     ∙ ap (λ n. last + (n - first_of ns)) (get_or-drop 1 ns i 0 ∙ ap (λ k. get_or ns k 0) (let e : 1 + i ≡ i + 1 = omega arith in e))
+
+-- behind the offset that they begin at, nothing moves
+unmoved : (ns : List ℕ) → IsOffsets ns → moved_behind (first_of ns) ns ≡ drop 1 ns
+unmoved ns legal =
+    let same : length (moved_behind (first_of ns) ns) ≡ length (drop 1 ns) = length-moved (first_of ns) ns ∙ sym (length-drop 1 ns) in
+    ext_get_or 0 (moved_behind (first_of ns) ns) (drop 1 ns) same (λ i low.
+    let inside : i + 1 < length ns = omega (arith, length-moved (first_of ns) ns) in
+    let rises : first_of ns ≤ get_or ns (i + 1) 0 = legal.order 0 (i + 1) (omega arith) inside in
+    let there : get_or (drop 1 ns) i 0 ≡ get_or ns (i + 1) 0 = get_or-drop 1 ns i 0 ∙ ap (λ k. get_or ns k 0) (let e : 1 + i ≡ i + 1 = omega arith in e) in
+    moved-at (first_of ns) ns i inside ∙ (omega (arith, rises, there)))
+
+pub copied : {O : Type 0} (number : O → ℤ) (most last : ℕ) (old other : List O) → KeepsOffsets number most other → last ≡ first_of (numbers_of number other)
+    → map number (old ++ drop 1 other) ≡ map number old ++ map pos (moved_behind last (numbers_of number other))
+copied number most last old other keeps here =
+    let ns = numbers_of number other in
+    map-append number old (drop 1 other) ∙ ap (λ zs. map number old ++ zs)
+    (sym (drop-map number 1 other) ∙ ap (drop 1) keeps.whole ∙ drop-map pos 1 ns ∙ ap (map pos) (sym (unmoved ns keeps.legal) ∙ ap (λ n. moved_behind n ns) (sym here)))
 
 pub moved-step : {O : Type 0} (number : O → ℤ) (before xs : List O) (place i last : ℕ) (v : O) (ns : List ℕ)
     → place + i < length xs → i + 1 < length ns → number v ≡ pos (last + (get_or ns (i + 1) 0 - first_of ns))

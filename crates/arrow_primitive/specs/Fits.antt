@@ -2,10 +2,6 @@
 use Rattle.std.specs.Prelude.{codes, List}
 use Rattle.arrow_types.specs.Types.{Refusal, out_of_spec}
 
--- the refusal of a mask that has another number of marks than there are values
-abbrev pub unfit_mask : Refusal
-unfit_mask = out_of_spec (codes "validity mask length must match the number of values")
-
 -- the refusal of a type of another physical type
 abbrev pub wrong_type : Refusal
 wrong_type = out_of_spec (codes "PrimitiveArray can only be initialized with a DataType whose physical type is Primitive")

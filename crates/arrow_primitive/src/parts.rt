@@ -1,8 +1,8 @@
 //! Arrays and builders made of parts from outside, which are tested.
 ghost use Rattle.std.specs.Prelude.{◌≡◌, IsOkAnd, IsErrAnd};
 ghost use Rattle.arrow_types.specs.Types.{logical_type, refusal, IsRightType};
-ghost use Rattle.arrow_memory.specs.Column.{FitsMask, column_of_parts};
-ghost use Rattle.arrow_primitive.specs.Fits.{unfit_mask, wrong_type};
+ghost use Rattle.arrow_memory.specs.Column.{FitsMask, column_of_parts, unfit_mask};
+ghost use Rattle.arrow_primitive.specs.Fits.{wrong_type};
 
 use crate::{MutablePrimitiveArray, PrimitiveArray};
 use arrow_memory::bitmap::{Bitmap, MutableBitmap};

@@ -13,14 +13,6 @@ text_type large = if large then plain large_utf8 else plain utf8
 abbrev pub text_layout : Bool → PhysicalType
 text_layout large = if large then physical.LargeUtf8 else physical.Utf8
 
--- the refusal of an array's mask that has another number of marks than there are values
-abbrev pub unfit_mask : Refusal
-unfit_mask = out_of_spec (codes "validity mask length must match the number of values")
-
--- the refusal of a builder's mask that has another number of marks than there are values
-abbrev pub unfit_builder_mask : Refusal
-unfit_builder_mask = out_of_spec (codes "validity's length must be equal to the number of values")
-
 -- the refusal of an array's type of another physical type
 abbrev pub wrong_type : Refusal
 wrong_type = out_of_spec (codes "Utf8Array can only be initialized with DataType::Utf8 or DataType::LargeUtf8")

@@ -2,13 +2,13 @@
 ghost use Rattle.std.specs.Prelude.{◌≡◌, ◌≢◌, ◌<◌, ◌≤◌, ◌-◌, None, length, OnOk, IfOk, IsOkAnd, IsErrAnd};
 ghost use Rattle.arrow_types.specs.Types.{logical_type, refusal, IsRightType};
 ghost use Rattle.arrow_memory.specs.Offsets.{last_of};
-ghost use Rattle.arrow_memory.specs.Column.{FitsMask};
+ghost use Rattle.arrow_memory.specs.Column.{FitsMask, unfit_builder_mask, unfit_mask};
 ghost use Rattle.arrow_check.specs.Bounds.{past_values, not_at_end};
 ghost use Rattle.arrow_check.specs.Pieces.{items_of};
 ghost use Rattle.arrow_check.specs.Texts.{AreTexts, CutTexts, not_text};
 ghost use Rattle.arrow_bytes.specs.Pieces.{pieces_of};
 ghost use Rattle.arrow_bytes.specs.Column.{byte_column};
-ghost use Rattle.arrow_utf8.specs.Fits.{TestsSlots, text_layout, unfit_builder_mask, unfit_mask, wrong_builder_type, wrong_type};
+ghost use Rattle.arrow_utf8.specs.Fits.{TestsSlots, text_layout, wrong_builder_type, wrong_type};
 
 use crate::array::layout;
 use crate::growing::MutableTextValues;

@@ -7,27 +7,39 @@ use arrow_types::error::Error;
 use arrow_types::offset::Offset;
 use std::alloc::AllocError;
 
-/// Appends bytes. From eight to sixteen of them are copied as two words, the first eight and the last eight, which may
-/// lie over one another: that asks for no call that finds out how many there are.
+/// Appends bytes, however many they are.
+#[inline(never)]
+fn append_any(values: &mut Vec<u8>, bytes: &[u8]) -> Result<(), AllocError>
+    ensures ok { OnOk result (values.new.items ≡ values.old.items ++ bytes.now) }
+    ensures err { OnErr result (values.new.items ≡ values.old.items) }
+{
+    values.extend_from_slice(bytes)
+}
+
+/// Appends bytes. Where there is room for sixteen, from eight to sixteen of them are copied as two words, the first
+/// eight and the last eight, which may lie over one another: that asks for no call that finds out how many there are,
+/// and since nothing can grow then, only the length is written back.
 #[inline(always)]
 fn append_bytes(values: &mut Vec<u8>, bytes: &[u8]) -> Result<(), AllocError>
     ensures ok { OnOk result (values.new.items ≡ values.old.items ++ bytes.now) }
     ensures err { OnErr result (values.new.items ≡ values.old.items) }
 {
-    if bytes.len() > 16 {
-        return values.extend_from_slice(bytes);
+    let before = values.len();
+    // A length never comes near the second bound. It tells the compiler that the sums below don't wrap.
+    if bytes.len() > 16 || before > usize::MAX - 16 || values.capacity() - before < 16 {
+        return append_any(values, bytes);
     }
     let (Some(first), Some(last)) = (bytes.first_chunk::<8>(), bytes.last_chunk::<8>()) else {
-        return values.extend_from_slice(bytes);
+        return append_any(values, bytes);
     };
     let (first, last) = (*first, *last);
-    let before = values.len();
-    values.extend_from_slice(&first)?;
-    values.truncate(before + (bytes.len() - 8));
-    if let Err(refused) = values.extend_from_slice(&last) {
-        values.truncate(before);
-        return Err(refused);
-    }
+    values.extend_from_slice([first, first].as_flattened())?;
+    values.truncate(before + bytes.len());
+    // The first word fills the room up to the end, where the last eight bytes then take their place.
+    let Some(word) = values.as_mut_slice().last_chunk_mut::<8>() else {
+        unreachable!();
+    };
+    *word = last;
     Ok(())
 }
 

@@ -45,6 +45,11 @@ pub(super) fn append_moved<O: Offset>(
     ensures ok { OnOk result (KeepsOffsets O.number O.most offsets.new.items × (numbers_of O.number offsets.new.items ≡ numbers_of O.number offsets.old.items ++ moved_behind last (numbers_of O.number other.now))) }
     ensures err { OnErr result (offsets.new.items ≡ offsets.old.items) }
 {
+    if number_at(other, 0) == last {
+        // Nothing moves, so the ends are copied as they are.
+        offsets.extend_from_slice(&other[1..])?;
+        return Ok(());
+    }
     let old = offsets.len();
     let Some(count) = old.checked_add(other.len() - 1) else {
         return Err(AllocError);
