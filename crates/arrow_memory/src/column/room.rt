@@ -38,6 +38,7 @@ impl<V: MutableValues> GrowingColumn<V> {
     ///
     /// # Errors
     /// `OutOfMemory` where a growth is refused.
+    #[inline(never)]
     pub fn reserve(&mut self, additional: usize) -> Result<(), Error>
         ensures kept { self.new ≡ self.old }
         ensures err { IfErr result (λ e. e ≡ Error.OutOfMemory) }
