@@ -19,7 +19,7 @@ module _ {X : Type 0} (old bytes first filler kept : List X) (long : 8 ≤ lengt
   kept-whole : kept ≡ old ++ take (length bytes) (first ++ filler)
   kept-whole = cut ∙ take-append-add old (first ++ filler) (length bytes)
 
-  pub kept-long : length kept ≡ length old + length bytes
+  kept-long : length kept ≡ length old + length bytes
   kept-long = ap length kept-whole ∙ length-append old (take (length bytes) (first ++ filler)) ∙ ap (λ n. length old + n) (length-take-le (length bytes) (first ++ filler) enough)
 
   -- what stands before the last word

@@ -98,6 +98,7 @@ impl<O: Offset> MutableUtf8Array<O> {
     ///
     /// # Errors
     /// `OutOfMemory` where memory is refused.
+    // Out of line, so that the compiler follows the new builder through a loop of appends.
     #[inline(never)]
     pub fn with_capacities(alloc: Global, capacity: usize, values: usize) -> Result<Self, Error>
         ensures ok { IfOk result (λ builder. builder ≡ empty_bytes (text_type O.IS_LARGE)) }

@@ -38,6 +38,7 @@ impl<V: MutableValues> GrowingColumn<V> {
     ///
     /// # Errors
     /// `OutOfMemory` where a growth is refused.
+    // Out of line, so that the compiler follows the column through the loop that comes behind.
     #[inline(never)]
     pub fn reserve(&mut self, additional: usize) -> Result<(), Error>
         ensures kept { self.new ≡ self.old }
