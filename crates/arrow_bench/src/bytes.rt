@@ -61,28 +61,6 @@ fn of_parts(
     MutableBinaryArray::try_new(DataType::Binary, offsets, all, marks(alloc, valid)?).ok()
 }
 
-/// Pushes the items of one round over the data, of which those with a clear mark are null.
-fn push_all(
-    out: &mut MutableBinaryArray<i32>,
-    data: &[u8],
-    item: usize,
-    valid: &[u8],
-) -> Option<()> {
-    if item == 0 {
-        return None;
-    }
-    if valid.is_empty() {
-        for part in data.chunks_exact(item) {
-            out.push(Some(part)).ok()?;
-        }
-    } else {
-        for (part, mark) in data.chunks_exact(item).zip(valid) {
-            out.push(if *mark != 0 { Some(part) } else { None }).ok()?;
-        }
-    }
-    Some(())
-}
-
 /// The marks of one time over the data.
 pub(crate) fn marks_of(valid: &[u8], time: usize, rows: usize) -> &[u8] {
     if valid.is_empty() {
@@ -92,7 +70,25 @@ pub(crate) fn marks_of(valid: &[u8], time: usize, rows: usize) -> &[u8] {
     valid.get(start..start.wrapping_add(rows)).unwrap_or(&[])
 }
 
-fn push(
+fn push(alloc: Global, data: &[u8], item: usize, times: usize, rounds: usize) -> Option<u64> {
+    if item == 0 {
+        return None;
+    }
+    let mut sum = 0u64;
+    for round in 0..rounds {
+        let mut out = MutableBinaryArray::<i32>::new(alloc).ok()?;
+        for _ in 0..times {
+            for part in data.chunks_exact(item) {
+                out.push(Some(part)).ok()?;
+            }
+        }
+        sum = sum.wrapping_add(probe_builder(&out, round));
+    }
+    Some(sum)
+}
+
+/// As `push`, where the items with a clear mark are null.
+fn push_marked(
     alloc: Global,
     data: &[u8],
     item: usize,
@@ -100,12 +96,17 @@ fn push(
     valid: &[u8],
     rounds: usize,
 ) -> Option<u64> {
-    let rows = data.len().checked_div(item)?;
+    if item == 0 {
+        return None;
+    }
+    let rows = data.len() / item;
     let mut sum = 0u64;
     for round in 0..rounds {
         let mut out = MutableBinaryArray::<i32>::new(alloc).ok()?;
         for time in 0..times {
-            push_all(&mut out, data, item, marks_of(valid, time, rows))?;
+            for (part, mark) in data.chunks_exact(item).zip(marks_of(valid, time, rows)) {
+                out.push(if *mark != 0 { Some(part) } else { None }).ok()?;
+            }
         }
         sum = sum.wrapping_add(probe_builder(&out, round));
     }
@@ -121,7 +122,11 @@ pub extern "C" fn rattle_flat_bin_push(
     valid: &[u8],
     rounds: usize,
 ) -> u64 {
-    told(push(alloc, data, item, times, valid, rounds))
+    if valid.is_empty() {
+        told(push(alloc, data, item, times, rounds))
+    } else {
+        told(push_marked(alloc, data, item, times, valid, rounds))
+    }
 }
 
 fn push_values(

@@ -72,31 +72,26 @@ fn probe_builder(out: &MutableUtf8Array<i32>, round: usize) -> u64 {
     probe(out.offsets().as_slice(), out.values(), round)
 }
 
-/// Pushes the items of one round over the text, of which those with a clear mark are null.
-fn push_all(
-    out: &mut MutableUtf8Array<i32>,
-    text: &str,
-    item: usize,
-    rows: usize,
-    valid: &[u8],
-) -> Option<()> {
-    if valid.is_empty() {
-        for i in 0..rows {
-            let start = i.wrapping_mul(item);
-            out.push(Some(text.get(start..start.wrapping_add(item))?))
-                .ok()?;
+fn push(alloc: Global, data: &[u8], item: usize, times: usize, rounds: usize) -> Option<u64> {
+    let rows = data.len().checked_div(item)?;
+    let text = std::str::from_utf8(data).ok()?;
+    let mut sum = 0u64;
+    for round in 0..rounds {
+        let mut out = MutableUtf8Array::<i32>::new(alloc).ok()?;
+        for _ in 0..times {
+            for i in 0..rows {
+                let start = i.wrapping_mul(item);
+                out.push(Some(text.get(start..start.wrapping_add(item))?))
+                    .ok()?;
+            }
         }
-    } else {
-        for (i, mark) in (0..rows).zip(valid) {
-            let start = i.wrapping_mul(item);
-            let part = text.get(start..start.wrapping_add(item))?;
-            out.push(if *mark != 0 { Some(part) } else { None }).ok()?;
-        }
+        sum = sum.wrapping_add(probe_builder(&out, round));
     }
-    Some(())
+    Some(sum)
 }
 
-fn push(
+/// As `push`, where the items with a clear mark are null.
+fn push_marked(
     alloc: Global,
     data: &[u8],
     item: usize,
@@ -110,7 +105,11 @@ fn push(
     for round in 0..rounds {
         let mut out = MutableUtf8Array::<i32>::new(alloc).ok()?;
         for time in 0..times {
-            push_all(&mut out, text, item, rows, marks_of(valid, time, rows))?;
+            for (i, mark) in (0..rows).zip(marks_of(valid, time, rows)) {
+                let start = i.wrapping_mul(item);
+                let part = text.get(start..start.wrapping_add(item))?;
+                out.push(if *mark != 0 { Some(part) } else { None }).ok()?;
+            }
         }
         sum = sum.wrapping_add(probe_builder(&out, round));
     }
@@ -126,7 +125,11 @@ pub extern "C" fn rattle_flat_utf8_push(
     valid: &[u8],
     rounds: usize,
 ) -> u64 {
-    told(push(alloc, data, item, times, valid, rounds))
+    if valid.is_empty() {
+        told(push(alloc, data, item, times, rounds))
+    } else {
+        told(push_marked(alloc, data, item, times, valid, rounds))
+    }
 }
 
 fn extend_self(

@@ -1,5 +1,5 @@
 -- Lemmas about offsets.
-use Rattle.std.proofs.Common.{◌≡◌, ℕ, zero, suc, ◌+◌, ◌-◌, ◌<◌, ◌≤◌, ℤ, pos, negsuc, Bool, true, false, List, [], ◌∷◌, ◌++◌, length, map, take, drop, set, replicate, get_or, ◌≤ℤ◌, ap₂, append_assoc, length-drop, Option, Some, None, MatchOption, nat_lt, if◌then◌else◌, refl, sym, ap, ◌∙◌, arith, inl, inr, length-append}
+use Rattle.std.proofs.Common.{◌≡◌, ℕ, zero, suc, ◌+◌, ◌-◌, ◌<◌, ◌≤◌, ℤ, pos, negsuc, Bool, true, false, List, [], ◌∷◌, ◌++◌, length, map, take, drop, set, replicate, get_or, ◌≤ℤ◌, ◌+ℤ◌, ap₂, append_assoc, length-drop, Option, Some, None, MatchOption, nat_lt, if◌then◌else◌, refl, sym, ap, ◌∙◌, arith, inl, inr, length-append}
 use Rattle.std.specs.Int.RustNames.{unsigned_abs}
 use Rattle.std.proofs.lemmas.Bool.{true≢false, or_parts, or_from, ltb-false, le-ltb, cases_lt}
 use Rattle.std.proofs.lemmas.List.{get_or-map, length-map, map-append, get_or_append_left, get_or-append_right, get_or-take, get_or-drop, get_or-replicate, length-replicate, take-map, take_more_set, take_more, take_all, take_at, ext_get_or}
@@ -99,6 +99,24 @@ pub not-negative : (z : ℤ) (n : ℕ) → z ≡ pos n → pos 0 ≤ℤ z
 not-negative z n e = rw e (omega (arith, ints))
 
 pub ruleset offset_reads = (value-at, length-numbers)
+
+-- the offset behind another is not below it
+pub order-at : {O : Type 0} (number : O → ℤ) (most : ℕ) (xs : List O) (x y : O) (i : ℕ) → KeepsOffsets number most xs → i + 1 < length xs → x ≡ get_or xs i x → y ≡ get_or xs (i + 1) y → number x ≤ℤ number y
+order-at number most xs x y i keeps within first second =
+    let long = length-numbers number xs in
+    let start = value-at number xs x i keeps.whole (omega arith) first in
+    let end = value-at number xs y (i + 1) keeps.whole (omega arith) second in
+    let up = keeps.legal.order i (i + 1) (omega arith) (omega (arith, long)) in
+    omega (arith, ints, start, end, up)
+
+-- where the offset behind another lies so far from it, that end is within the last offset
+pub slot-end : {O : Type 0} (number : O → ℤ) (most : ℕ) (xs : List O) (x y : O) (i d : ℕ) → KeepsOffsets number most xs → i + 1 < length xs → x ≡ get_or xs i x → y ≡ get_or xs (i + 1) y → number y ≡ number x +ℤ pos d → get_or (numbers_of number xs) i 0 + d ≤ last_of (numbers_of number xs)
+slot-end number most xs x y i d keeps within first second far =
+    let long = length-numbers number xs in
+    let start = value-at number xs x i keeps.whole (omega arith) first in
+    let end = value-at number xs y (i + 1) keeps.whole (omega arith) second in
+    let up = keeps.legal.order (i + 1) (length (numbers_of number xs) - 1) (omega (arith, long)) (omega (arith, long)) in
+    omega (arith, ints, start, end, far, up)
 
 -- ---- pieces
 

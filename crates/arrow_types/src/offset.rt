@@ -1,5 +1,5 @@
 //! The integers that offsets of the variable-size layout are kept as.
-ghost use Rattle.std.specs.Prelude.{◌≡◌, ◌<◌, ◌≤◌, ◌^◌, ℕ, Bool, ℤ, pos, ◌<ℤ◌, ◌≤ℤ◌, MatchOption};
+ghost use Rattle.std.specs.Prelude.{◌≡◌, ◌<◌, ◌≤◌, ◌^◌, ℕ, Bool, ℤ, pos, ◌+ℤ◌, ◌<ℤ◌, ◌≤ℤ◌, MatchOption};
 
 /// An integer that an offset is kept as (Arrow columnar format, "Variable-size Binary Layout").
 pub trait Offset: Copy {
@@ -43,6 +43,17 @@ pub trait Offset: Copy {
         requires { pos 0 ≤ℤ number self.now }
         ensures value { number self.now ≡ pos result }
         ensures within { result ≤ most };
+
+    /// How far another number that is not below this one lies from it. An `impl` may subtract in its own width, which
+    /// spares the widening of one of the two.
+    #[inline(always)]
+    fn distance_to(&self, end: &Self) -> usize
+        requires start { pos 0 ≤ℤ number self.now }
+        requires order { number self.now ≤ℤ number end.now }
+        ensures { number end.now ≡ number self.now +ℤ pos result }
+    {
+        end.to_usize() - self.to_usize()
+    }
 
     /// Every number that is not negative fits in a `usize`.
     ghost fits: { most < 2 ^ 64 };
@@ -93,6 +104,11 @@ impl Offset for i32 {
     #[inline(always)]
     fn to_usize(&self) -> usize {
         *self as usize
+    }
+
+    #[inline(always)]
+    fn distance_to(&self, end: &i32) -> usize {
+        (*end - *self) as u32 as usize
     }
 }
 

@@ -18,6 +18,7 @@ pub fn number_at<O: Offset>(offsets: &[O], index: usize) -> usize
 
 /// Where a slot begins and ends.
 #[inline(always)]
+#[tactic(auto, using(crate::proofs::OffsetLemmas::offset_reads))]
 pub fn start_end_of<O: Offset>(offsets: &[O], index: usize) -> (usize, usize)
     requires keeps { KeepsOffsets O.number O.most offsets.now }
     requires within { index + 1 < length offsets.now }
@@ -26,7 +27,9 @@ pub fn start_end_of<O: Offset>(offsets: &[O], index: usize) -> (usize, usize)
     ensures order { result.0 ≤ result.1 }
     ensures last { result.1 ≤ last_of (numbers_of O.number offsets.now) }
 {
-    (number_at(offsets, index), number_at(offsets, index + 1))
+    let start = number_at(offsets, index);
+    let length = offsets[index].distance_to(&offsets[index + 1]);
+    (start, start + length)
 }
 
 /// Appends the ends of another's slots, moved to lie behind the last offset.

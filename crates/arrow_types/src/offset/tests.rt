@@ -107,3 +107,29 @@ fn negative_values_have_no_place(rt: HostRuntime) {
 fn wide_offsets_are_large(rt: HostRuntime) {
     assert!(rt; i64::IS_LARGE && !i32::IS_LARGE && !Tiny::IS_LARGE);
 }
+
+/// How far the second number lies from the first, by the bound.
+fn between<O: Offset>(start: usize, end: usize) -> Option<usize> {
+    let start = O::from_usize(start)?;
+    let end = O::from_usize(end)?;
+    if start.to_usize() <= end.to_usize() {
+        Some(start.distance_to(&end))
+    } else {
+        None
+    }
+}
+
+#[test]
+fn distances_are_differences(rt: HostRuntime) {
+    for (start, end, distance) in [
+        (0, 0, Some(0)),
+        (3, 100, Some(97)),
+        (0, 2147483647, Some(2147483647)),
+        (2147483646, 2147483647, Some(1)),
+    ] {
+        assert!(rt;
+            between::<i32>(start, end) == distance && between::<i64>(start, end) == distance
+        );
+    }
+    assert!(rt; between::<Tiny>(3, 100) == Some(97));
+}
