@@ -70,25 +70,64 @@ pub(crate) fn marks_of(valid: &[u8], time: usize, rows: usize) -> &[u8] {
     valid.get(start..start.wrapping_add(rows)).unwrap_or(&[])
 }
 
-fn push(alloc: Global, data: &[u8], item: usize, times: usize, rounds: usize) -> Option<u64> {
+fn push_all(
+    out: &mut MutableBinaryArray<i32>,
+    data: &[u8],
+    item: usize,
+    times: usize,
+) -> Option<()> {
     if item == 0 {
         return None;
     }
-    let mut sum = 0u64;
-    for round in 0..rounds {
-        let mut out = MutableBinaryArray::<i32>::new(alloc).ok()?;
-        for _ in 0..times {
-            for part in data.chunks_exact(item) {
-                out.push(Some(part)).ok()?;
-            }
+    for _ in 0..times {
+        for part in data.chunks_exact(item) {
+            out.push(Some(part)).ok()?;
         }
-        sum = sum.wrapping_add(probe_builder(&out, round));
     }
-    Some(sum)
+    Some(())
 }
 
-/// As `push`, where the items with a clear mark are null.
+/// As `push_all`, where the items with a clear mark are null.
 fn push_marked(
+    out: &mut MutableBinaryArray<i32>,
+    data: &[u8],
+    item: usize,
+    times: usize,
+    valid: &[u8],
+) -> Option<()> {
+    if item == 0 {
+        return None;
+    }
+    let rows = data.len() / item;
+    for time in 0..times {
+        for (part, mark) in data.chunks_exact(item).zip(marks_of(valid, time, rows)) {
+            out.push(if *mark != 0 { Some(part) } else { None }).ok()?;
+        }
+    }
+    Some(())
+}
+
+// Of the two each has a builder of its own, so that its loop is small enough for the compiler to follow.
+fn push_once(
+    alloc: Global,
+    data: &[u8],
+    item: usize,
+    times: usize,
+    valid: &[u8],
+    round: usize,
+) -> Option<u64> {
+    if valid.is_empty() {
+        let mut out = MutableBinaryArray::<i32>::new(alloc).ok()?;
+        let pushed = push_all(&mut out, data, item, times);
+        pushed.map(|_| probe_builder(&out, round))
+    } else {
+        let mut out = MutableBinaryArray::<i32>::new(alloc).ok()?;
+        let pushed = push_marked(&mut out, data, item, times, valid);
+        pushed.map(|_| probe_builder(&out, round))
+    }
+}
+
+fn push(
     alloc: Global,
     data: &[u8],
     item: usize,
@@ -96,19 +135,9 @@ fn push_marked(
     valid: &[u8],
     rounds: usize,
 ) -> Option<u64> {
-    if item == 0 {
-        return None;
-    }
-    let rows = data.len() / item;
     let mut sum = 0u64;
     for round in 0..rounds {
-        let mut out = MutableBinaryArray::<i32>::new(alloc).ok()?;
-        for time in 0..times {
-            for (part, mark) in data.chunks_exact(item).zip(marks_of(valid, time, rows)) {
-                out.push(if *mark != 0 { Some(part) } else { None }).ok()?;
-            }
-        }
-        sum = sum.wrapping_add(probe_builder(&out, round));
+        sum = sum.wrapping_add(push_once(alloc, data, item, times, valid, round)?);
     }
     Some(sum)
 }
@@ -122,11 +151,7 @@ pub extern "C" fn rattle_flat_bin_push(
     valid: &[u8],
     rounds: usize,
 ) -> u64 {
-    if valid.is_empty() {
-        told(push(alloc, data, item, times, rounds))
-    } else {
-        told(push_marked(alloc, data, item, times, valid, rounds))
-    }
+    told(push(alloc, data, item, times, valid, rounds))
 }
 
 fn push_values(

@@ -72,26 +72,58 @@ fn probe_builder(out: &MutableUtf8Array<i32>, round: usize) -> u64 {
     probe(out.offsets().as_slice(), out.values(), round)
 }
 
-fn push(alloc: Global, data: &[u8], item: usize, times: usize, rounds: usize) -> Option<u64> {
-    let rows = data.len().checked_div(item)?;
-    let text = std::str::from_utf8(data).ok()?;
-    let mut sum = 0u64;
-    for round in 0..rounds {
-        let mut out = MutableUtf8Array::<i32>::new(alloc).ok()?;
-        for _ in 0..times {
-            for i in 0..rows {
-                let start = i.wrapping_mul(item);
-                out.push(Some(text.get(start..start.wrapping_add(item))?))
-                    .ok()?;
-            }
+fn push_all(out: &mut MutableUtf8Array<i32>, text: &str, item: usize, times: usize) -> Option<()> {
+    let rows = text.len().checked_div(item)?;
+    for _ in 0..times {
+        for i in 0..rows {
+            let start = i.wrapping_mul(item);
+            out.push(Some(text.get(start..start.wrapping_add(item))?))
+                .ok()?;
         }
-        sum = sum.wrapping_add(probe_builder(&out, round));
     }
-    Some(sum)
+    Some(())
 }
 
-/// As `push`, where the items with a clear mark are null.
+/// As `push_all`, where the items with a clear mark are null.
 fn push_marked(
+    out: &mut MutableUtf8Array<i32>,
+    text: &str,
+    item: usize,
+    times: usize,
+    valid: &[u8],
+) -> Option<()> {
+    let rows = text.len().checked_div(item)?;
+    for time in 0..times {
+        for (i, mark) in (0..rows).zip(marks_of(valid, time, rows)) {
+            let start = i.wrapping_mul(item);
+            let part = text.get(start..start.wrapping_add(item))?;
+            out.push(if *mark != 0 { Some(part) } else { None }).ok()?;
+        }
+    }
+    Some(())
+}
+
+// Of the two each has a builder of its own, so that its loop is small enough for the compiler to follow.
+fn push_once(
+    alloc: Global,
+    text: &str,
+    item: usize,
+    times: usize,
+    valid: &[u8],
+    round: usize,
+) -> Option<u64> {
+    if valid.is_empty() {
+        let mut out = MutableUtf8Array::<i32>::new(alloc).ok()?;
+        let pushed = push_all(&mut out, text, item, times);
+        pushed.map(|_| probe_builder(&out, round))
+    } else {
+        let mut out = MutableUtf8Array::<i32>::new(alloc).ok()?;
+        let pushed = push_marked(&mut out, text, item, times, valid);
+        pushed.map(|_| probe_builder(&out, round))
+    }
+}
+
+fn push(
     alloc: Global,
     data: &[u8],
     item: usize,
@@ -99,19 +131,10 @@ fn push_marked(
     valid: &[u8],
     rounds: usize,
 ) -> Option<u64> {
-    let rows = data.len().checked_div(item)?;
     let text = std::str::from_utf8(data).ok()?;
     let mut sum = 0u64;
     for round in 0..rounds {
-        let mut out = MutableUtf8Array::<i32>::new(alloc).ok()?;
-        for time in 0..times {
-            for (i, mark) in (0..rows).zip(marks_of(valid, time, rows)) {
-                let start = i.wrapping_mul(item);
-                let part = text.get(start..start.wrapping_add(item))?;
-                out.push(if *mark != 0 { Some(part) } else { None }).ok()?;
-            }
-        }
-        sum = sum.wrapping_add(probe_builder(&out, round));
+        sum = sum.wrapping_add(push_once(alloc, text, item, times, valid, round)?);
     }
     Some(sum)
 }
@@ -125,11 +148,7 @@ pub extern "C" fn rattle_flat_utf8_push(
     valid: &[u8],
     rounds: usize,
 ) -> u64 {
-    if valid.is_empty() {
-        told(push(alloc, data, item, times, rounds))
-    } else {
-        told(push_marked(alloc, data, item, times, valid, rounds))
-    }
+    told(push(alloc, data, item, times, valid, rounds))
 }
 
 fn extend_self(

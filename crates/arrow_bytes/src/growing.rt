@@ -161,6 +161,9 @@ impl<O: Offset> MutableValues for MutableByteValues<O> {
         self.offsets.push_empty()
     }
 
+    // A call, so that a loop of appends, which comes here where memory is refused, stays small enough for the compiler
+    // to follow.
+    #[inline(never)]
     fn keep_first(&mut self, len: usize) {
         self.offsets.truncate(len);
         self.bytes.truncate(self.offsets.last().to_usize());
@@ -168,8 +171,9 @@ impl<O: Offset> MutableValues for MutableByteValues<O> {
 
     #[inline(always)]
     fn drop_last(&mut self) {
-        let last = self.offsets.len_proxy() - 1;
-        self.keep_first(last);
+        self.offsets.truncate(self.offsets.len_proxy() - 1);
+        let end = self.offsets.last().to_usize();
+        self.bytes.truncate(end);
     }
 
     ghost overjoins = { λ around items others. overflows_by O.most around items (length (concat others)) };

@@ -20,17 +20,23 @@ pub(crate) fn push_valid(validity: &mut Option<MutableBitmap>) -> Result<(), Err
     }
 }
 
-/// A mask of so many valid slots and then a null.
+/// Holds a mask of so many valid slots and then a null. It is a call, so that a loop of appends stays small enough for
+/// the compiler to follow.
 #[cold]
 #[inline(never)]
-fn first_null_mark(alloc: Global, length: usize) -> Result<MutableBitmap, Error>
-    ensures ok { IfOk result (λ marks. marks ≡ replicate length true ++ false ∷ []) }
-    ensures err { IfErr result (λ e. e ≡ Error.OutOfMemory) }
+fn hold_mask(
+    alloc: Global,
+    validity: &mut Option<MutableBitmap>,
+    length: usize,
+) -> Result<(), Error>
+    ensures ok { OnOk result (validity.new ≡ Some (replicate length true ++ false ∷ [])) }
+    ensures err { IfErr result (λ e. (e ≡ Error.OutOfMemory) × (validity.new ≡ validity.old)) }
 {
     let mut marks = MutableBitmap::new(alloc);
     marks.extend_constant(length, true)?;
     marks.push(false)?;
-    Ok(marks)
+    *validity = Some(marks);
+    Ok(())
 }
 
 /// Appends the mark of a null. Where no mask is held it makes one, in which the earlier slots are valid.
@@ -45,10 +51,7 @@ pub(crate) fn push_null_mark(
 {
     match validity {
         Some(marks) => marks.push(false),
-        None => {
-            *validity = Some(first_null_mark(alloc, length)?);
-            Ok(())
-        }
+        None => hold_mask(alloc, validity, length),
     }
 }
 
