@@ -44,8 +44,8 @@ pub trait Offset: Copy {
         ensures value { number self.now ≡ pos result }
         ensures within { result ≤ most };
 
-    /// How far another number that is not below this one lies from it. An `impl` may subtract in its own width, which
-    /// spares the widening of one of the two.
+    /// How far `end` lies behind this offset, which is not negative and not above it. An `impl` may subtract in its own
+    /// width, which spares the widening of one of the two.
     #[inline(always)]
     fn distance_to(&self, end: &Self) -> usize
         requires start { pos 0 ≤ℤ number self.now }

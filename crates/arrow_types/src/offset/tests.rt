@@ -108,7 +108,7 @@ fn wide_offsets_are_large(rt: HostRuntime) {
     assert!(rt; i64::IS_LARGE && !i32::IS_LARGE && !Tiny::IS_LARGE);
 }
 
-/// How far the second number lies from the first, by the bound.
+/// How far the second number lies behind the first, by the bound; `None` where it is below, or one does not fit.
 fn between<O: Offset>(start: usize, end: usize) -> Option<usize> {
     let start = O::from_usize(start)?;
     let end = O::from_usize(end)?;
