@@ -2,6 +2,4 @@
 #![tactic(auto)]
 
 #[cfg(test)]
-mod refusals;
-#[cfg(test)]
 mod tests;

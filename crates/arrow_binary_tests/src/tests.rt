@@ -9,63 +9,29 @@ mod shared;
 mod tiny;
 mod values;
 
-use crate::refusals::told;
 use arrow_binary::{BinaryArray, MutableBinaryArray, MutableBinaryValuesArray};
-use arrow_memory::bitmap::{Bitmap, BitmapIter, MutableBitmap};
+use arrow_memory::bitmap::{Bitmap, MutableBitmap};
 use arrow_memory::buffer::Buffer;
 use arrow_memory::offset::Offsets;
+use arrow_testing::{are_offsets, is_mask, told};
 use arrow_types::data_type::DataType;
 use arrow_types::error::Error;
 use arrow_types::offset::Offset;
 use std::alloc::Global;
 use std::test::Fail;
 
-/// Whether offsets are these numbers, and no more.
-fn are<O: Offset>(offsets: &[O], numbers: &[usize]) -> bool {
-    let mut offsets = offsets.iter();
-    for number in numbers {
-        match offsets.next() {
-            Some(offset) => {
-                if offset.try_to_usize() != Some(*number) {
-                    return false;
-                }
-            }
-            None => return false,
-        }
-    }
-    offsets.next().is_none()
-}
-
-/// Whether a mask has the marks that a text writes, and no more.
-fn is_mask(marks: Option<BitmapIter<'_>>, text: &str) -> bool {
-    let Some(mut marks) = marks else {
-        return text == "none";
-    };
-    for mark in text.as_bytes() {
-        if marks.next() != Some(*mark == b'1') {
-            return false;
-        }
-    }
-    marks.next().is_none()
-}
-
 /// Whether an array has these offsets over these bytes, and these marks.
-pub(crate) fn shows<O: Offset>(
-    array: &BinaryArray<O>,
-    offsets: &[usize],
-    bytes: &[u8],
-    mask: &str,
-) -> bool {
+fn shows<O: Offset>(array: &BinaryArray<O>, offsets: &[usize], bytes: &[u8], mask: &str) -> bool {
     let marks = match array.validity() {
         Some(marks) => Some(marks.iter()),
         None => None,
     };
     let are_bytes = array.values().as_slice() == bytes && is_mask(marks, mask);
-    are_bytes && are(array.offsets().buffer().as_slice(), offsets)
+    are_bytes && are_offsets(array.offsets().buffer().as_slice(), offsets)
 }
 
 /// Whether a builder has these offsets over these bytes, and these marks.
-pub(crate) fn builds<O: Offset>(
+fn builds<O: Offset>(
     builder: &MutableBinaryArray<O>,
     offsets: &[usize],
     bytes: &[u8],
@@ -76,16 +42,16 @@ pub(crate) fn builds<O: Offset>(
         None => None,
     };
     let are_bytes = builder.values().as_slice() == bytes && is_mask(marks, mask);
-    are_bytes && are(builder.offsets().as_slice(), offsets)
+    are_bytes && are_offsets(builder.offsets().as_slice(), offsets)
 }
 
 /// Whether a builder without nulls has these offsets over these bytes.
-pub(crate) fn holds<O: Offset>(
+fn holds<O: Offset>(
     builder: &MutableBinaryValuesArray<O>,
     offsets: &[usize],
     bytes: &[u8],
 ) -> bool {
-    builder.values().as_slice() == bytes && are(builder.offsets().as_slice(), offsets)
+    builder.values().as_slice() == bytes && are_offsets(builder.offsets().as_slice(), offsets)
 }
 
 /// Offsets of these numbers.
@@ -251,7 +217,7 @@ fn from_slots<O: Offset>(alloc: Global) -> Result<bool, Error> {
         bytes,
         "101",
     )?;
-    let second = BinaryArray::<O>::from_iter(alloc, three().into_iter());
+    let second = BinaryArray::<O>::from_iter(alloc, three().iter().copied());
     Ok(first & made(second, offsets, bytes, "101")?)
 }
 
@@ -269,7 +235,7 @@ fn from_items<O: Offset>(alloc: Global) -> Result<bool, Error> {
     let is_third = made(third, [0, 1].as_slice(), b"x", "none")?;
     let first = BinaryArray::<O>::from_slice(alloc, items.as_slice());
     let is_first = made(first, offsets, bytes, "none")?;
-    let second = BinaryArray::<O>::from_iter_values(alloc, items.into_iter());
+    let second = BinaryArray::<O>::from_iter_values(alloc, items.iter().copied());
     Ok(is_third & is_first & made(second, offsets, bytes, "none")?)
 }
 

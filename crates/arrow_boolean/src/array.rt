@@ -63,6 +63,8 @@ impl BooleanArray {
         ensures values { result.1 ≡ stored_values self }
         ensures mask { result.2 ≡ mask_of self }
         ensures is_column { IsColumn self }
+        ensures fits { FitsMask result.1 result.2 }
+        ensures again { column_of_parts (logical_type result.0) result.1 result.2 ≡ self }
         ensures right { IsRightType PhysicalType.Boolean (logical_type result.0) }
     {
         self.column.into_inner()

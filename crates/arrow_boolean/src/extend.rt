@@ -7,7 +7,8 @@ use crate::MutableBooleanArray;
 use arrow_types::error::Error;
 
 impl MutableBooleanArray {
-    /// Appends the slots that an iterator gives. What it says of their number is not trusted.
+    /// Appends the slots that an iterator gives. What it says of their number is not trusted: room for so many is
+    /// asked for first, and where that is refused nothing is told.
     ///
     /// # Errors
     /// `OutOfMemory` where a growth is refused; the slots that came before are then appended.
@@ -33,7 +34,8 @@ impl MutableBooleanArray {
         self.extend(iter)
     }
 
-    /// Appends valid slots of the values that an iterator gives. What it says of their number is not trusted.
+    /// Appends valid slots of the values that an iterator gives. What it says of their number is not trusted: room
+    /// for so many is asked for first, and where that is refused nothing is told.
     ///
     /// # Errors
     /// `OutOfMemory` where a growth is refused; the values that came before are then appended.

@@ -9,6 +9,7 @@ mod equality;
 mod extend;
 mod from_natural;
 mod iterator;
+pub mod laws;
 mod parts;
 
 pub use array::BooleanArray;

@@ -1,6 +1,6 @@
-use crate::refusals::told;
 use arrow_boolean::MutableBooleanArray;
 use arrow_memory::bitmap::MutableBitmap;
+use arrow_testing::told;
 use arrow_types::data_type::DataType;
 use arrow_types::error::Error;
 use std::alloc::Global;

@@ -4,6 +4,4 @@
 #[cfg(test)]
 mod equality;
 #[cfg(test)]
-mod refusals;
-#[cfg(test)]
 mod tests;

@@ -1,10 +1,10 @@
 // Slots are written as texts: 't', 'f', and '_' for a null. Stored values and marks are texts of '1' and '0'.
 ghost use Rattle.std.specs.Prelude.{◌≡◌, length};
 
-use crate::refusals::told;
 use arrow_boolean::{BooleanArray, MutableBooleanArray};
 use arrow_memory::bitmap::{Bitmap, BitmapIter, MutableBitmap};
 use arrow_memory::zip_validity::ZipValidity;
+use arrow_testing::told;
 use arrow_types::data_type::DataType;
 use arrow_types::error::Error;
 use std::alloc::Global;
@@ -20,7 +20,7 @@ fn slot(letter: u8) -> Option<bool> {
 }
 
 /// Whether these are the slots that a text writes, and no more.
-pub(crate) fn shows(mut slots: ZipValidity<BitmapIter<'_>, BitmapIter<'_>>, text: &str) -> bool {
+fn shows(mut slots: ZipValidity<BitmapIter<'_>, BitmapIter<'_>>, text: &str) -> bool {
     for letter in text.as_bytes() {
         if slots.next() != Some(slot(*letter)) {
             return false;
@@ -51,18 +51,6 @@ fn is_built(builder: &MutableBooleanArray, slots: &str, values: &str, held: bool
     let is_held = builder.validity().is_some();
     let are_slots = shows(builder.iter(), slots) && shows(builder.into_iter(), slots);
     are_slots && gives(builder.values_iter(), values) && is_held == held
-}
-
-/// Inverts the first of some marks.
-pub(crate) fn inverted(marks: MutableBitmap) -> MutableBitmap
-    ensures { length result ≡ length marks }
-{
-    let mut marks = marks;
-    if marks.len() > 0 {
-        let first = marks.get(0);
-        marks.set(0, !first);
-    }
-    marks
 }
 
 /// Three marks the other way round; others as they are.

@@ -1,1 +1,3 @@
-pub mod PieceLemmas
+mod KindLemmas
+mod PieceLemmas
+mod TextLemmas

@@ -1,9 +1,9 @@
 //! Equality of stored values of bytes, place by place.
-use crate::MutableByteValues;
+use crate::{ByteKind, MutableByteValues};
 use arrow_memory::column::EqualValues;
 use arrow_types::offset::Offset;
 
-impl<O: Offset> EqualValues for MutableByteValues<O> {
+impl<K: ByteKind, O: Offset> EqualValues for MutableByteValues<K, O> {
     ghost use Rattle.std.specs.Prelude.{ℕ};
     ghost use Rattle.arrow_bytes.specs.Equality.{same_bytes, same_bytes-Decides};
 

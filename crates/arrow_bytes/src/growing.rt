@@ -2,11 +2,12 @@
 ghost use Rattle.std.specs.Prelude.{◌≡◌, ◌+◌, ◌<◌, ◌≤◌, [], length, take, slice_get, Some, IfOk, IfErr};
 ghost use Rattle.arrow_types.specs.Types.{logical_type};
 ghost use Rattle.arrow_memory.specs.Offsets.{last_of, IsOffsets};
-ghost use Rattle.arrow_check.specs.Pieces.{bytes_of, offsets_of};
+ghost use Rattle.arrow_check.specs.Pieces.{bytes_of, items_of, offsets_of};
+ghost use Rattle.arrow_bytes.specs.Kinds.{AreItems, IsItem};
 ghost use Rattle.arrow_bytes.specs.Pieces.{nothing_around, pieces_of};
 
 use crate::around::BytesAround;
-use crate::{ByteItem, ByteValues};
+use crate::{ByteItem, ByteKind, ByteValues};
 use arrow_check::accessor::Bytes;
 use arrow_memory::buffer::Buffer;
 use arrow_memory::column::{MutableValues, PushValue, ReserveItems};
@@ -14,39 +15,47 @@ use arrow_memory::offset::Offsets;
 use arrow_types::error::Error;
 use arrow_types::offset::Offset;
 use std::alloc::Global;
-use std::marker::Model;
+use std::marker::{Model, PhantomData};
 
 /// Stored values of bytes that grow. There may be bytes before the first of them, and there are none behind the last.
 #[derive(Drop)]
-pub struct MutableByteValues<O: Offset> {
+pub struct MutableByteValues<K: ByteKind, O: Offset> {
     pub(crate) offsets: Offsets<O>,
     pub(crate) bytes: Vec<u8>,
+    pub(crate) kind: PhantomData<K>,
 }
 
 // Contracts see three pieces: the items, and what lies before and behind them.
-impl<O: Offset> Model for MutableByteValues<O> {
+impl<K: ByteKind, O: Offset> Model for MutableByteValues<K, O> {
     ghost use Rattle.std.specs.Prelude.{◌≡◌, length};
     ghost use Rattle.arrow_memory.specs.Offsets.{last_of, IsOffsets};
+    ghost use Rattle.arrow_check.specs.Pieces.{items_of};
+    ghost use Rattle.arrow_bytes.specs.Kinds.{AreItems};
     ghost use Rattle.arrow_bytes.specs.Pieces.{Pieces, pieces_of};
 
     ghost Value = { Pieces };
 
     ghost view = { λ values. pieces_of values.offsets values.bytes.items };
 
-    ghost invariant = { λ values. IsOffsets values.offsets × (last_of values.offsets ≡ length values.bytes.items) };
+    ghost invariant = { λ values. IsOffsets values.offsets × (last_of values.offsets ≡ length values.bytes.items) × AreItems K.is_text (items_of values.offsets values.bytes.items) };
 }
 
-#[tactic(auto, using(crate::proofs::PieceLemmas::piece_reads, crate::proofs::PieceLemmas::piece_growth))]
-impl<O: Offset> MutableByteValues<O> {
+#[tactic(auto, using(crate::proofs::PieceLemmas::piece_reads, crate::proofs::PieceLemmas::piece_growth, crate::proofs::KindLemmas::kind_growth))]
+impl<K: ByteKind, O: Offset> MutableByteValues<K, O> {
     /// The items that offsets cut out of bytes, which end at the last offset.
     #[inline(always)]
     pub fn new(offsets: Offsets<O>, bytes: Vec<u8>) -> Self
-        requires { last_of offsets ≡ length bytes.items }
+        requires ends { last_of offsets ≡ length bytes.items }
+        requires items { AreItems K.is_text (items_of offsets bytes.items) }
         ensures { result ≡ pieces_of offsets bytes.items }
     {
         // The offsets themselves tell that they are legal.
         offsets.first();
-        MutableByteValues { offsets, bytes }
+        MutableByteValues {
+            offsets,
+            bytes,
+            kind: PhantomData,
+        }
     }
 
     /// No item, with room for so many, and for so many bytes.
@@ -59,7 +68,11 @@ impl<O: Offset> MutableByteValues<O> {
     {
         let offsets = Offsets::with_capacity(alloc, capacity)?;
         let bytes = Vec::with_capacity(alloc, values)?;
-        Ok(MutableByteValues { offsets, bytes })
+        Ok(MutableByteValues {
+            offsets,
+            bytes,
+            kind: PhantomData,
+        })
     }
 
     /// The offsets, and all bytes.
@@ -69,6 +82,7 @@ impl<O: Offset> MutableByteValues<O> {
         ensures bytes { result.1.items ≡ bytes_of self.around.lead self.items self.around.tail }
         ensures pieces { pieces_of result.0 result.1.items ≡ self }
         ensures ends { last_of result.0 ≡ length result.1.items }
+        ensures items { AreItems K.is_text (items_of result.0 result.1.items) }
     {
         (self.offsets, self.bytes)
     }
@@ -86,6 +100,7 @@ impl<O: Offset> MutableByteValues<O> {
     pub fn bytes(&self) -> &Vec<u8>
         ensures value { result.now.items ≡ bytes_of self.now.around.lead self.now.items self.now.around.tail }
         ensures tail { self.now.around.tail ≡ [] }
+        ensures items { AreItems K.is_text self.now.items }
     {
         &self.bytes
     }
@@ -102,13 +117,14 @@ impl<O: Offset> MutableByteValues<O> {
     #[inline(always)]
     pub fn value(&self, i: usize) -> &[u8]
         requires { i < length self.now.items }
-        ensures { slice_get self.now.items i ≡ Some result.now }
+        ensures value { slice_get self.now.items i ≡ Some result.now }
+        ensures item { IsItem K.is_text result.now }
     {
         let (start, end) = self.offsets.start_end(i);
         &self.bytes.as_slice()[start..end]
     }
 
-    /// How many items there is room for without a growth of the offsets.
+    /// How many items there is room for without a growth of the offsets; their bytes may have less.
     pub fn capacity(&self) -> usize
         ensures { length self.now.items ≤ result }
     {
@@ -119,19 +135,23 @@ impl<O: Offset> MutableByteValues<O> {
     ///
     /// # Errors
     /// `OutOfMemory` where memory is refused; the items are then lost.
-    pub fn freeze(self) -> Result<ByteValues<O>, Error>
+    pub fn freeze(self) -> Result<ByteValues<K, O>, Error>
         ensures ok { IfOk result (λ frozen. frozen ≡ self) }
         ensures err { IfErr result (λ e. e ≡ Error.OutOfMemory) }
     {
-        let MutableByteValues { offsets, bytes } = self;
+        let MutableByteValues { offsets, bytes, .. } = self;
         let offsets = offsets.freeze()?;
         let bytes = Buffer::from_vec(bytes)?;
-        Ok(ByteValues { offsets, bytes })
+        Ok(ByteValues {
+            offsets,
+            bytes,
+            kind: PhantomData,
+        })
     }
 }
 
-#[tactic(auto, using(crate::proofs::PieceLemmas::piece_reads, crate::proofs::PieceLemmas::piece_growth, crate::proofs::PieceLemmas::piece_joins))]
-impl<O: Offset> MutableValues for MutableByteValues<O> {
+#[tactic(auto, using(crate::proofs::PieceLemmas::piece_reads, crate::proofs::PieceLemmas::piece_growth, crate::proofs::KindLemmas::kind_growth, crate::proofs::PieceLemmas::piece_joins, crate::proofs::KindLemmas::kind_joins))]
+impl<K: ByteKind, O: Offset> MutableValues for MutableByteValues<K, O> {
     ghost use Rattle.std.specs.Prelude.{[], length};
     ghost use Rattle.std.specs.List.{concat};
     ghost use Rattle.arrow_bytes.specs.Pieces.{overflows_by};
@@ -196,12 +216,16 @@ impl<O: Offset> MutableValues for MutableByteValues<O> {
     fn copy(&self) -> Result<Self, Error> {
         let offsets = self.offsets.clone()?;
         let bytes = Vec::from_slice(*self.bytes.allocator(), &self.bytes)?;
-        Ok(MutableByteValues { offsets, bytes })
+        Ok(MutableByteValues {
+            offsets,
+            bytes,
+            kind: PhantomData,
+        })
     }
 }
 
-#[tactic(auto, using(crate::proofs::PieceLemmas::piece_reads, crate::proofs::PieceLemmas::piece_growth))]
-impl<X: ByteItem, O: Offset> PushValue<X> for MutableByteValues<O> {
+#[tactic(auto, using(crate::proofs::PieceLemmas::piece_reads, crate::proofs::PieceLemmas::piece_growth, crate::proofs::KindLemmas::kind_growth))]
+impl<K: ByteKind, X: ByteItem<K>, O: Offset> PushValue<X> for MutableByteValues<K, O> {
     ghost use Rattle.arrow_bytes.specs.Column.{item_overflows};
 
     ghost shown = { X.bytes };
@@ -215,7 +239,7 @@ impl<X: ByteItem, O: Offset> PushValue<X> for MutableByteValues<O> {
 }
 
 #[tactic(auto, using(crate::proofs::PieceLemmas::piece_reads))]
-impl<O: Offset> ReserveItems for MutableByteValues<O> {
+impl<K: ByteKind, O: Offset> ReserveItems for MutableByteValues<K, O> {
     fn make_room_of(&mut self, additional: usize, bytes: usize) -> Result<(), Error> {
         self.offsets.reserve(additional)?;
         self.bytes.reserve(bytes)?;

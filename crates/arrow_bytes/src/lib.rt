@@ -1,20 +1,22 @@
-//! Stored values of bytes: offsets, and the bytes that they cut into items. Byte and text arrays share them
-//! (Arrow columnar format, "Variable-size Binary Layout").
+//! Stored values of bytes, of one kind: offsets, and the bytes that they cut into items. Arrays of bytes and of text share
+//! them (Arrow columnar format, "Variable-size Binary Layout").
 #![tactic(auto)]
 
 mod around;
+mod binary;
 mod equality;
 mod growing;
-mod item;
 mod items;
-#[cfg(test)]
-mod tests;
+mod kind;
 mod thaw;
+mod utf8;
 mod values;
 
 pub use around::BytesAround;
+pub use binary::Binary;
 pub use growing::MutableByteValues;
-pub use item::ByteItem;
 pub use items::ByteItems;
+pub use kind::{ByteItem, ByteKind, ItemError};
 pub use thaw::into_mut_values;
+pub use utf8::Utf8;
 pub use values::ByteValues;

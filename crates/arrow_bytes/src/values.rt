@@ -1,9 +1,11 @@
 //! Stored values of bytes that don't change.
 ghost use Rattle.std.specs.Prelude.{◌≡◌, ◌<◌, ◌≤◌, [], length, replicate, slice_get, Some, IfOk, IfErr};
 ghost use Rattle.arrow_memory.specs.Offsets.{last_of, IsOffsets};
-ghost use Rattle.arrow_check.specs.Pieces.{bytes_of, offsets_of};
+ghost use Rattle.arrow_check.specs.Pieces.{bytes_of, items_of, offsets_of};
+ghost use Rattle.arrow_bytes.specs.Kinds.{AreItems, CutItems, IsItem};
 ghost use Rattle.arrow_bytes.specs.Pieces.{nothing_around, pieces_of};
 
+use crate::ByteKind;
 use crate::around::BytesAround;
 use arrow_check::accessor::Bytes;
 use arrow_memory::buffer::Buffer;
@@ -12,39 +14,46 @@ use arrow_memory::offset::{Offsets, OffsetsBuffer};
 use arrow_types::error::Error;
 use arrow_types::offset::Offset;
 use std::alloc::Global;
-use std::marker::Model;
+use std::marker::{Model, PhantomData};
 
 /// Stored values of bytes that share their memory. There may be bytes before the first of them, and behind the last.
 #[derive(Drop)]
-pub struct ByteValues<O: Offset> {
+pub struct ByteValues<K: ByteKind, O: Offset> {
     pub(crate) offsets: OffsetsBuffer<O>,
     pub(crate) bytes: Buffer<u8>,
+    pub(crate) kind: PhantomData<K>,
 }
 
 // Contracts see three pieces: the items, and what lies before and behind them.
-impl<O: Offset> Model for ByteValues<O> {
+impl<K: ByteKind, O: Offset> Model for ByteValues<K, O> {
     ghost use Rattle.std.specs.Prelude.{◌≤◌, length};
     ghost use Rattle.arrow_memory.specs.Offsets.{last_of, IsOffsets};
+    ghost use Rattle.arrow_check.specs.Pieces.{items_of};
+    ghost use Rattle.arrow_bytes.specs.Kinds.{AreItems};
     ghost use Rattle.arrow_bytes.specs.Pieces.{Pieces, pieces_of};
 
     ghost Value = { Pieces };
 
     ghost view = { λ values. pieces_of values.offsets values.bytes };
 
-    ghost invariant = { λ values. IsOffsets values.offsets × (last_of values.offsets ≤ length values.bytes) };
+    ghost invariant = { λ values. IsOffsets values.offsets × (last_of values.offsets ≤ length values.bytes) × AreItems K.is_text (items_of values.offsets values.bytes) };
 }
 
-#[tactic(auto, using(crate::proofs::PieceLemmas::piece_reads, crate::proofs::PieceLemmas::piece_zeros))]
-impl<O: Offset> ByteValues<O> {
+#[tactic(auto, using(crate::proofs::PieceLemmas::piece_reads, crate::proofs::PieceLemmas::piece_zeros, crate::proofs::KindLemmas::kind_zeros))]
+impl<K: ByteKind, O: Offset> ByteValues<K, O> {
     /// The items that offsets cut out of bytes, in which they lie.
     #[inline(always)]
     pub fn new(offsets: OffsetsBuffer<O>, bytes: Buffer<u8>) -> Self
-        requires { last_of offsets ≤ length bytes }
+        requires { CutItems K.is_text offsets bytes }
         ensures { result ≡ pieces_of offsets bytes }
     {
         // The offsets themselves tell that they are legal.
         offsets.first();
-        ByteValues { offsets, bytes }
+        ByteValues {
+            offsets,
+            bytes,
+            kind: PhantomData,
+        }
     }
 
     /// So many empty items.
@@ -57,7 +66,11 @@ impl<O: Offset> ByteValues<O> {
     {
         let offsets = Offsets::new_zeroed(alloc, length)?.freeze()?;
         let bytes = Buffer::new(alloc)?;
-        Ok(ByteValues { offsets, bytes })
+        Ok(ByteValues {
+            offsets,
+            bytes,
+            kind: PhantomData,
+        })
     }
 
     /// The offsets, and all bytes.
@@ -66,7 +79,7 @@ impl<O: Offset> ByteValues<O> {
         ensures offsets { result.0 ≡ offsets_of (length self.around.lead) self.items }
         ensures bytes { result.1 ≡ bytes_of self.around.lead self.items self.around.tail }
         ensures pieces { pieces_of result.0 result.1 ≡ self }
-        ensures within { last_of result.0 ≤ length result.1 }
+        ensures cut { CutItems K.is_text result.0 result.1 }
     {
         (self.offsets, self.bytes)
     }
@@ -82,7 +95,8 @@ impl<O: Offset> ByteValues<O> {
     /// All bytes, those before the first item and behind the last too.
     #[inline(always)]
     pub fn bytes(&self) -> &Buffer<u8>
-        ensures { result.now ≡ bytes_of self.now.around.lead self.now.items self.now.around.tail }
+        ensures value { result.now ≡ bytes_of self.now.around.lead self.now.items self.now.around.tail }
+        ensures items { AreItems K.is_text self.now.items }
     {
         &self.bytes
     }
@@ -99,7 +113,8 @@ impl<O: Offset> ByteValues<O> {
     #[inline(always)]
     pub fn value(&self, i: usize) -> &[u8]
         requires { i < length self.now.items }
-        ensures { slice_get self.now.items i ≡ Some result.now }
+        ensures value { slice_get self.now.items i ≡ Some result.now }
+        ensures item { IsItem K.is_text result.now }
     {
         let (start, end) = self.offsets.start_end(i);
         &self.bytes.as_slice()[start..end]
@@ -107,9 +122,10 @@ impl<O: Offset> ByteValues<O> {
 }
 
 #[tactic(auto, using(crate::proofs::PieceLemmas::piece_reads, crate::proofs::PieceLemmas::piece_cuts))]
-impl<O: Offset> Values for ByteValues<O> {
+impl<K: ByteKind, O: Offset> Values for ByteValues<K, O> {
     ghost use Rattle.std.specs.Prelude.{List, ℕ};
     ghost use Rattle.arrow_bytes.specs.Pieces.{Around, around_cut};
+    ghost use Rattle.arrow_bytes.specs.Cuts.{around-twice};
 
     type Stored = Bytes;
 
@@ -137,6 +153,12 @@ impl<O: Offset> Values for ByteValues<O> {
     fn share(&self) -> Result<Self, Error> {
         let offsets = self.offsets.clone()?;
         let bytes = self.bytes.clone()?;
-        Ok(ByteValues { offsets, bytes })
+        Ok(ByteValues {
+            offsets,
+            bytes,
+            kind: PhantomData,
+        })
     }
+
+    ghost cut_twice = { around-twice };
 }

@@ -1,3 +1,6 @@
 pub mod ItemLemmas
-mod TextLemmas
 pub mod Utf8Lemmas
+pub mod WindowLemmas
+mod CountLemmas
+mod InnerLemmas
+mod AsciiLemmas

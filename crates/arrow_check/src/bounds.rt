@@ -9,7 +9,7 @@ use arrow_types::offset::Offset;
 
 /// The last of legal offsets, where the last slot ends.
 #[inline(always)]
-fn last_number<O: Offset>(offsets: &[O]) -> usize
+pub(crate) fn last_number<O: Offset>(offsets: &[O]) -> usize
     requires { KeepsOffsets O.number O.most offsets.now }
     ensures { result ≡ last_of (numbers_of O.number offsets.now) }
 {
@@ -46,6 +46,3 @@ pub fn check_last<O: Offset>(offsets: &[O], values_len: usize) -> Result<(), Err
     }
     Ok(())
 }
-
-#[cfg(test)]
-mod tests;

@@ -1,9 +1,12 @@
 //! Bytes that checks of text read, and what the reading costs.
 ghost use Rattle.std.specs.Prelude.{◌≡◌, ◌+◌, ◌<◌, ◌≤◌, ◌↔◌, IsTrue, MatchBool, length, take, drop, slice_get, Some};
 ghost use Rattle.std.specs.Str.{IsAscii, IsNotAscii};
-ghost use Rattle.arrow_check.specs.Reading.{no_cost, one_more, after_ascii, after_whole_test, after_look};
+ghost use Rattle.arrow_check.specs.Reading.{no_cost, many_more, one_more, after_ascii, after_whole_test, after_look, after_looks};
 ghost use Rattle.arrow_check.specs.Utf8.{IsWellFormed};
 
+use crate::judge::Judge;
+use crate::window::is_cut_text;
+use arrow_types::offset::Offset;
 use std::marker::Model;
 
 /// One more, up to the greatest number.
@@ -14,12 +17,44 @@ fn one_more(count: u64) -> u64
     count.saturating_add(1)
 }
 
+/// So many more, up to the greatest number.
+#[inline(always)]
+fn many_more(count: u64, steps: usize) -> u64
+    ensures { result ≡ many_more steps count }
+{
+    count.saturating_add(steps as u64)
+}
+
 /// Whether bytes are UTF-8.
 #[inline(always)]
 fn is_text(bytes: &[u8]) -> bool
     ensures { IsTrue result ↔ IsWellFormed bytes.now }
 {
     simdutf8::is_utf8(bytes)
+}
+
+/// Whether bytes are ASCII. The halves are read side by side, since memory is read ahead faster at two places than at
+/// one.
+fn is_ascii_by_halves(bytes: &[u8]) -> bool
+    ensures { MatchBool result (IsAscii bytes.now) (IsNotAscii bytes.now) }
+{
+    let half = bytes.len() / 2;
+    let front = &bytes[..half];
+    let back = &bytes[half..];
+    let mut at = 0;
+    while half - at >= 64 {
+        if !front[at..at + 64].is_ascii() {
+            return false;
+        }
+        if !back[at..at + 64].is_ascii() {
+            return false;
+        }
+        at += 64;
+    }
+    if !front[at..].is_ascii() {
+        return false;
+    }
+    back[at..].is_ascii()
 }
 
 /// What checks of text cost: how often each act of reading was done. Each count stays at `u64::MAX`.
@@ -93,6 +128,7 @@ impl<'a> Model for TextBytes<'a> {
 
 impl<'a> TextBytes<'a> {
     /// These bytes, with what was counted before.
+    #[inline(always)]
     pub fn new(bytes: &'a [u8], cost: TextCost) -> Self
         ensures bytes { result.bytes ≡ bytes.entry.now }
         ensures cost { result.cost ≡ cost }
@@ -101,6 +137,7 @@ impl<'a> TextBytes<'a> {
     }
 
     /// What was counted, in all.
+    #[inline(always)]
     pub fn cost(&self) -> TextCost
         ensures { result ≡ self.now.cost }
     {
@@ -108,33 +145,53 @@ impl<'a> TextBytes<'a> {
     }
 
     /// The number of bytes.
+    #[inline(always)]
     pub fn len(&self) -> usize
         ensures { result ≡ length self.now.bytes }
     {
         self.bytes.len()
     }
 
+    /// Counts one test for UTF-8.
+    #[inline(always)]
+    fn count_whole_test(&mut self)
+        ensures { self.new ≡ after_whole_test self.old }
+    {
+        self.cost.whole_tests = one_more(self.cost.whole_tests);
+    }
+
+    /// Counts so many looks at a byte.
+    #[inline(always)]
+    fn count_looks(&mut self, looks: usize)
+        ensures { self.new ≡ after_looks looks self.old }
+    {
+        self.cost.bytes_looked = many_more(self.cost.bytes_looked, looks);
+    }
+
     /// Whether the `len` bytes from `offset` on are ASCII: all below 80 (hexadecimal).
+    #[inline(always)]
     pub fn ascii(&mut self, offset: usize, len: usize) -> bool
         requires { offset + len ≤ length self.old.bytes }
         ensures answer { MatchBool result (IsAscii (take len (drop offset self.old.bytes))) (IsNotAscii (take len (drop offset self.old.bytes))) }
         ensures counted { self.new ≡ after_ascii self.old }
     {
         self.cost.ascii_tests = one_more(self.cost.ascii_tests);
-        self.bytes[offset..offset + len].is_ascii()
+        is_ascii_by_halves(&self.bytes[offset..offset + len])
     }
 
     /// Whether the `len` bytes from `offset` on are UTF-8.
+    #[inline(always)]
     pub fn whole_test(&mut self, offset: usize, len: usize) -> bool
         requires { offset + len ≤ length self.old.bytes }
         ensures answer { IsTrue result ↔ IsWellFormed (take len (drop offset self.old.bytes)) }
         ensures counted { self.new ≡ after_whole_test self.old }
     {
-        self.cost.whole_tests = one_more(self.cost.whole_tests);
+        self.count_whole_test();
         is_text(&self.bytes[offset..offset + len])
     }
 
     /// The byte at a place.
+    #[inline(always)]
     pub fn look(&mut self, place: usize) -> u8
         requires { place < length self.old.bytes }
         ensures byte { slice_get self.old.bytes place ≡ Some result }
@@ -145,5 +202,58 @@ impl<'a> TextBytes<'a> {
     }
 }
 
-#[cfg(test)]
-mod tests;
+// The judge whose rule is Unicode's.
+impl<'a> Judge for TextBytes<'a> {
+    ghost use Rattle.arrow_check.specs.Utf8.{IsWellFormed};
+    ghost use Rattle.arrow_check.specs.AsciiText.{ascii_is_text};
+
+    ghost reading = { λ text. text };
+
+    ghost accepts = { IsWellFormed };
+
+    ghost takes_ascii = { ascii_is_text };
+
+    #[inline(always)]
+    fn len(&self) -> usize {
+        self.len()
+    }
+
+    #[inline(always)]
+    fn ascii(&mut self, offset: usize, len: usize) -> bool {
+        self.ascii(offset, len)
+    }
+
+    #[inline(always)]
+    fn whole_test(&mut self, offset: usize, len: usize) -> bool {
+        self.whole_test(offset, len)
+    }
+
+    #[inline(always)]
+    fn look(&mut self, place: usize) -> u8 {
+        self.look(place)
+    }
+
+    #[inline(always)]
+    fn ascii_tests(&self) -> u64 {
+        self.cost.ascii_tests
+    }
+
+    #[inline(always)]
+    fn whole_tests(&self) -> u64 {
+        self.cost.whole_tests
+    }
+
+    #[inline(always)]
+    fn bytes_looked(&self) -> u64 {
+        self.cost.bytes_looked
+    }
+
+    /// Each part of the bytes is tested and then looked at, while it is at hand.
+    #[inline(always)]
+    fn test_cut<O: Offset>(&mut self, offsets: &[O]) -> bool {
+        let (is_cut, looks) = is_cut_text(self.bytes, offsets);
+        self.count_whole_test();
+        self.count_looks(looks);
+        is_cut
+    }
+}

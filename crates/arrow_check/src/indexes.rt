@@ -56,6 +56,3 @@ pub fn check_indexes<K: IndexKey>(keys: &[K], len: usize) -> Result<(), Error>
         None => Ok(()),
     }
 }
-
-#[cfg(test)]
-mod tests;

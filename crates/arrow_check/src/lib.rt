@@ -5,6 +5,8 @@ pub mod accessor;
 pub mod bounds;
 pub mod cost;
 pub mod indexes;
+pub mod judge;
 pub mod laws;
 pub mod text;
 pub mod values_iter;
+mod window;

@@ -2,7 +2,8 @@
 ghost use Rattle.std.specs.Prelude.{◌≡◌, ◌-◌, length, Some, IfSome};
 ghost use Rattle.std.specs.Iterator.{MakesProgress, YieldsFirstBy, YieldsLastBy, at_most, UpTo};
 ghost use Rattle.std.specs.Iterator.SizeHint.{IsWithinCount};
-ghost use Rattle.arrow_check.specs.Items.{IsWithin, rest_of, SkipsThenFirstBy};
+ghost use Rattle.arrow_memory.specs.Items.{SkipsThenFirstBy};
+ghost use Rattle.arrow_check.specs.Items.{IsWithin, rest_of};
 
 use crate::accessor::ArrayAccessor;
 
@@ -126,6 +127,3 @@ impl<'a, A: ArrayAccessor<'a>> DoubleEndedIterator for ArrayValuesIter<'a, A> {
         Some(item)
     }
 }
-
-#[cfg(test)]
-mod tests;

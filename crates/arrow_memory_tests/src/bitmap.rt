@@ -44,14 +44,22 @@ pub(crate) fn cut(bitmap: &mut Bitmap, offset: usize, len: usize) -> bool {
     false
 }
 
-/// Whether the marks of a text are read one by one, and there are no more.
+/// Whether an iterator that passes over so many marks gives the one behind them, or ends.
+fn passes(mut marks: BitmapIter<'_>, text: &str, count: usize) -> bool {
+    let mark = text.as_bytes().get(count).map(|mark| *mark == b'1');
+    let left = text.len().saturating_sub(count).saturating_sub(1);
+    marks.nth(count) == mark && marks.len() == left
+}
+
+/// Whether the marks of a text are read one by one and past some of them, and there are no more.
 fn reads(bitmap: &Bitmap, text: &str) -> bool {
     for (index, mark) in text.as_bytes().iter().enumerate() {
         if index >= bitmap.len() || bitmap.get_bit(index) != (*mark == b'1') {
             return false;
         }
     }
-    bitmap.len() == text.len()
+    let is_passed = passes(bitmap.iter(), text, 2) && passes(bitmap.iter(), text, usize::MAX);
+    is_passed && bitmap.len() == text.len()
 }
 
 #[test]

@@ -1,5 +1,5 @@
-use crate::refusals::told;
 use arrow_memory::buffer::Buffer;
+use arrow_testing::told;
 use arrow_types::error::Error;
 use std::alloc::Global;
 use std::test::Fail;

@@ -10,8 +10,6 @@ mod laws;
 #[cfg(test)]
 mod offset;
 #[cfg(test)]
-mod refusals;
-#[cfg(test)]
 mod thaw;
 #[cfg(test)]
 mod zip_validity;

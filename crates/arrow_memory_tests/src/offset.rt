@@ -1,4 +1,2 @@
 mod growing;
-mod refusals;
 mod shared;
-mod tiny;

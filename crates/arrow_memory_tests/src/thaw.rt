@@ -1,8 +1,8 @@
-use crate::refusals::told;
 use arrow_memory::bitmap::Bitmap;
 use arrow_memory::buffer::Buffer;
 use arrow_memory::offset::Offsets;
 use arrow_memory::thaw::{into_mut_bits, into_mut_bytes, into_mut_values};
+use arrow_testing::told;
 use arrow_types::error::Error;
 use arrow_types::offset::Offset;
 use either::{Left, Right};

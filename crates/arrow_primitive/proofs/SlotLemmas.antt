@@ -1,6 +1,8 @@
 -- Lemmas about slots, and about what a call answers.
 use Rattle.std.proofs.Common.{◌≡◌, ℕ, zero, suc, List, [], ◌∷◌, length, map, replicate, Option, Some, None, option_map, Result, Ok, Err, OnOk, IfErr, refl, ap, ap₂, false, take, ◌++◌, ◌-◌, ◌∙◌, arith}
-use Rattle.arrow_memory.specs.Column.{ColumnWith, slot_overflows}
+use Rattle.arrow_types.specs.Types.{LogicalType}
+use Rattle.arrow_memory.specs.Column.{Column, ColumnWith, append_slots, column_of_parts, empty_column, slot_overflows, without_needless_mask}
+use Rattle.arrow_memory.proofs.ColumnLemmas.{all-bare, appended-values, needless-bare}
 
 same-slot : {X : Type 0} (slot : Option X) → option_map (λ x. x) slot ≡ slot
 same-slot None = refl
@@ -15,6 +17,14 @@ same-slots (slot ∷ slots) = ap₂ (λ first rest. first ∷ rest) (same-slot s
 pub never-over : {A S X : Type 0} (column : ColumnWith A S) (slot : Option X) → slot_overflows (λ _ _ _. false) column slot ≡ false
 never-over column None = refl
 never-over column (Some x) = refl
+
+-- the array of values that were appended one after the other
+pub made-of-values : {X : Type 0} (default : X) (t : LogicalType) (values : List X) (start grown array : Column X)
+    → start ≡ empty_column t → grown ≡ append_slots default start (map Some values) → array ≡ without_needless_mask grown → array ≡ column_of_parts t values None
+made-of-values default t values start grown array e f h =
+    h
+    ∙ ap without_needless_mask (f ∙ ap (λ column. append_slots default column (map Some values)) e ∙ appended-values default (empty_column t) values)
+    ∙ needless-bare (column_of_parts t values None) (λ bare. all-bare values) refl
 
 pub long-replicate : {X : Type 0} (n : ℕ) (x : X) → length (replicate n x) ≡ n
 long-replicate zero x = refl

@@ -105,6 +105,8 @@ impl<T: NativeType> MutablePrimitiveArray<T> {
         ensures values { result.1.items ≡ stored_values self }
         ensures mask { result.2 ≡ mask_of self }
         ensures is_column { IsColumn self }
+        ensures fits { FitsMask result.1.items result.2 }
+        ensures again { column_of_parts (logical_type result.0) result.1.items result.2 ≡ self }
         ensures right { IsRightType (PhysicalType.Primitive T.PRIMITIVE) (logical_type result.0) }
     {
         self.column.into_inner()
@@ -128,7 +130,7 @@ impl<T: NativeType> MutablePrimitiveArray<T> {
         self.column.len()
     }
 
-    /// How many slots there is room for.
+    /// How many values there is room for without a growth of the values; a mask may have less.
     pub fn capacity(&self) -> usize
         ensures { length self.now.rows ≤ result }
     {
@@ -238,7 +240,7 @@ impl<T: NativeType> MutablePrimitiveArray<T> {
     /// Gives back the room that is not used.
     ///
     /// # Errors
-    /// `OutOfMemory` where smaller memory is refused.
+    /// Never: where smaller memory is refused, the room stays.
     pub fn shrink_to_fit(&mut self) -> Result<(), Error>
         ensures kept { self.new ≡ self.old }
         ensures err { IfErr result (λ e. e ≡ Error.OutOfMemory) }

@@ -10,7 +10,8 @@ use arrow_types::native_type::NativeType;
 
 #[tactic(auto, using(crate::proofs::SlotLemmas::slot_steps))]
 impl<T: NativeType> MutablePrimitiveArray<T> {
-    /// Appends the slots that an iterator gives. What it says of their number is not trusted.
+    /// Appends the slots that an iterator gives. What it says of their number is not trusted: room for so many is
+    /// asked for first, and where that is refused nothing is told.
     ///
     /// # Errors
     /// `OutOfMemory` where a growth is refused; the slots that came before are then appended.
@@ -36,7 +37,8 @@ impl<T: NativeType> MutablePrimitiveArray<T> {
         self.extend(iter)
     }
 
-    /// Appends valid slots of the values that an iterator gives. What it says of their number is not trusted.
+    /// Appends valid slots of the values that an iterator gives. What it says of their number is not trusted: room
+    /// for so many is asked for first, and where that is refused nothing is told.
     ///
     /// # Errors
     /// `OutOfMemory` where a growth is refused; the values that came before are then appended.

@@ -110,7 +110,7 @@ impl<T: NativeType> PrimitiveArray<T> {
     pub fn from_values<I: Iterator<Item = T>>(alloc: Global, iter: I) -> Result<Self, Error>
         requires can { I.can_next iter }
         requires ends { IsFinite (I.remaining iter) }
-        ensures ok { IfOk result (λ array. (items : List T) × Drains I.next_gives iter items × (array ≡ without_needless_mask (append_slots T.zero (empty_column (default_logical_type T.PRIMITIVE)) (map Some items)))) }
+        ensures ok { IfOk result (λ array. (items : List T) × Drains I.next_gives iter items × (array ≡ column_of_parts (default_logical_type T.PRIMITIVE) items None)) }
         ensures err { IfErr result (λ e. e ≡ Error.OutOfMemory) }
     {
         let mut builder = MutablePrimitiveArray::new(alloc);

@@ -10,30 +10,15 @@ mod parts;
 mod shared;
 mod shy;
 
-use crate::refusals::told;
-use arrow_memory::bitmap::BitmapIter;
 use arrow_primitive::{MutablePrimitiveArray, PrimitiveArray};
+use arrow_testing::{is_mask, told};
 use arrow_types::data_type::DataType;
 use arrow_types::error::Error;
 use std::alloc::Global;
 use std::test::Fail;
 
-/// Whether a mask has the marks that a text writes and no more, where '1' is a set mark; no mask is held where the
-/// text is `none`.
-fn is_mask(marks: Option<BitmapIter<'_>>, text: &str) -> bool {
-    let Some(mut marks) = marks else {
-        return text == "none";
-    };
-    for mark in text.as_bytes() {
-        if marks.next() != Some(*mark == b'1') {
-            return false;
-        }
-    }
-    marks.next().is_none()
-}
-
 /// Whether an array has these stored values and marks.
-pub(crate) fn shows(array: &PrimitiveArray<i64>, values: &[i64], mask: &str) -> bool {
+fn shows(array: &PrimitiveArray<i64>, values: &[i64], mask: &str) -> bool {
     let marks = match array.validity() {
         Some(marks) => Some(marks.iter()),
         None => None,
@@ -42,7 +27,7 @@ pub(crate) fn shows(array: &PrimitiveArray<i64>, values: &[i64], mask: &str) -> 
 }
 
 /// Whether a builder has these stored values and marks.
-pub(crate) fn builds(builder: &MutablePrimitiveArray<i64>, values: &[i64], mask: &str) -> bool {
+fn builds(builder: &MutablePrimitiveArray<i64>, values: &[i64], mask: &str) -> bool {
     let marks = match builder.validity() {
         Some(marks) => Some(marks.iter()),
         None => None,
@@ -51,10 +36,7 @@ pub(crate) fn builds(builder: &MutablePrimitiveArray<i64>, values: &[i64], mask:
 }
 
 /// A builder of slots that are pushed one by one.
-pub(crate) fn built(
-    alloc: Global,
-    slots: &[Option<i64>],
-) -> Result<MutablePrimitiveArray<i64>, Error> {
+fn built(alloc: Global, slots: &[Option<i64>]) -> Result<MutablePrimitiveArray<i64>, Error> {
     let mut builder = MutablePrimitiveArray::new(alloc);
     for slot in slots {
         builder.push(*slot)?;
@@ -63,7 +45,7 @@ pub(crate) fn built(
 }
 
 /// Whether the array that was made has these stored values and marks.
-pub(crate) fn made_array(
+fn made_array(
     answer: Result<PrimitiveArray<i64>, Error>,
     values: &[i64],
     mask: &str,
@@ -72,7 +54,7 @@ pub(crate) fn made_array(
 }
 
 /// Whether the builder that was made has these stored values and marks.
-pub(crate) fn made_builder(
+fn made_builder(
     answer: Result<MutablePrimitiveArray<i64>, Error>,
     values: &[i64],
     mask: &str,

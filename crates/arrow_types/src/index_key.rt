@@ -100,6 +100,3 @@ impl IndexKey for u64 {
         Some(*self as usize)
     }
 }
-
-#[cfg(test)]
-mod tests;

@@ -4,10 +4,9 @@
 pub mod data_type;
 pub mod error;
 pub mod index_key;
+pub mod laws;
 pub mod native_type;
 pub mod offset;
 pub mod physical_type;
 pub mod primitive_type;
-#[cfg(test)]
-mod tests;
 pub mod units;

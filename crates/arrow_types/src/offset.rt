@@ -159,6 +159,3 @@ impl Offset for i64 {
         *self as usize
     }
 }
-
-#[cfg(test)]
-mod tests;

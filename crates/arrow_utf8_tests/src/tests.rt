@@ -4,13 +4,14 @@ mod arrays;
 mod builders;
 mod parts;
 mod shared;
+mod tiny;
 mod values;
 mod wide;
 
-use crate::refusals::told;
-use arrow_memory::bitmap::{Bitmap, BitmapIter, MutableBitmap};
+use arrow_memory::bitmap::{Bitmap, MutableBitmap};
 use arrow_memory::buffer::Buffer;
 use arrow_memory::offset::Offsets;
+use arrow_testing::{is_mask, told};
 use arrow_types::data_type::DataType;
 use arrow_types::error::Error;
 use arrow_types::offset::Offset;
@@ -19,7 +20,7 @@ use std::alloc::Global;
 use std::test::Fail;
 
 /// Whether an array stores these texts.
-pub(crate) fn stores<O: Offset>(array: &Utf8Array<O>, texts: &[&str]) -> bool {
+fn stores<O: Offset>(array: &Utf8Array<O>, texts: &[&str]) -> bool {
     if array.len() != texts.len() {
         return false;
     }
@@ -29,19 +30,6 @@ pub(crate) fn stores<O: Offset>(array: &Utf8Array<O>, texts: &[&str]) -> bool {
         }
     }
     true
-}
-
-/// Whether a mask has the marks that a text writes, and no more.
-fn is_mask(marks: Option<BitmapIter<'_>>, text: &str) -> bool {
-    let Some(mut marks) = marks else {
-        return text == "none";
-    };
-    for mark in text.as_bytes() {
-        if marks.next() != Some(*mark == b'1') {
-            return false;
-        }
-    }
-    marks.next().is_none()
 }
 
 /// Whether an array has these offsets over this text, and these marks.

@@ -87,10 +87,10 @@ fn from_slots<O: Offset>(alloc: Global) -> Result<bool, Error> {
     let (offsets, bytes) = ([0, 2, 2, 3].as_slice(), [1, 2, 3].as_slice());
     let first = MutableBinaryArray::<O>::from(alloc, three().as_slice());
     let is_first = built(first, offsets, bytes, "101")?;
-    let second = MutableBinaryArray::<O>::from_iter(alloc, three().into_iter());
+    let second = MutableBinaryArray::<O>::from_iter(alloc, three().iter().copied());
     let is_second = built(second, offsets, bytes, "101")?;
     let items = [b"ab".as_slice(), b"".as_slice()];
-    let third = MutableBinaryArray::<O>::from_iter_values(alloc, items.into_iter());
+    let third = MutableBinaryArray::<O>::from_iter_values(alloc, items.iter().copied());
     Ok(is_first & is_second & built(third, [0, 2, 2].as_slice(), b"ab", "none")?)
 }
 
@@ -102,10 +102,14 @@ fn builders_of_slots_and_items(rt: HostRuntime) -> Result<(), Fail> {
 
 /// Whether a builder grows by many slots.
 fn extends<O: Offset>(builder: &mut MutableBinaryArray<O>) -> Result<bool, Error> {
-    builder.extend_values([b"a".as_slice(), b"bc".as_slice()].into_iter())?;
+    builder.extend_values([b"a".as_slice(), b"bc".as_slice()].iter().copied())?;
     let is_unmasked = builds(builder, [0, 1, 3].as_slice(), b"abc", "none");
-    builder.extend([Some(b"d".as_slice()), None].into_iter())?;
-    builder.try_extend([Some(b"".as_slice()), Some(b"e".as_slice())].into_iter())?;
+    builder.extend([Some(b"d".as_slice()), None].iter().copied())?;
+    builder.try_extend(
+        [Some(b"".as_slice()), Some(b"e".as_slice())]
+            .iter()
+            .copied(),
+    )?;
     let offsets = [0, 1, 3, 4, 4, 4, 5].as_slice();
     Ok(is_unmasked && builds(builder, offsets, b"abcde", "111011"))
 }
@@ -121,19 +125,28 @@ fn builders_grow_by_many(rt: HostRuntime) -> Result<(), Fail> {
     told(extends_default::<i64>(rt.alloc()))
 }
 
-/// Whether room is made and given back, and slots stay.
+/// Whether there is room for so many slots and so many bytes, each in its own place.
+fn has_room<O: Offset>(builder: &MutableBinaryArray<O>, slots: usize, bytes: usize) -> bool {
+    slots <= builder.offsets().capacity() && bytes <= builder.values().capacity()
+}
+
+/// Whether room for forty slots and four hundred bytes is there, then for more, and is given back, and slots stay.
 fn rooms<O: Offset>(builder: &mut MutableBinaryArray<O>) -> Result<bool, Error> {
+    let is_given = has_room(builder, 40, 400);
     builder.push(Some(b"ab"))?;
     builder.push(None)?;
     builder.reserve(100, 1000)?;
-    let is_kept = builds(builder, [0, 2, 2].as_slice(), b"ab", "10");
+    let is_more = has_room(builder, 102, 1002);
     builder.shrink_to_fit()?;
-    Ok(is_kept & built(builder.clone(), [0, 2, 2].as_slice(), b"ab", "10")?)
+    let is_back = builder.offsets().capacity() < 40 && builder.values().capacity() < 400;
+    let is_kept = built(builder.clone(), [0, 2, 2].as_slice(), b"ab", "10")?;
+    Ok(is_given & is_more & is_back & is_kept)
 }
 
-/// Whether a builder with room does.
+/// Whether those of a new builder are.
 fn rooms_in_room<O: Offset>(alloc: Global) -> Result<bool, Error> {
-    rooms(&mut MutableBinaryArray::<O>::with_capacity(alloc, 9)?)
+    let is_given = has_room(&MutableBinaryArray::<O>::with_capacity(alloc, 40)?, 40, 0);
+    Ok(is_given & rooms(&mut MutableBinaryArray::<O>::with_capacities(alloc, 40, 400)?)?)
 }
 
 #[test]

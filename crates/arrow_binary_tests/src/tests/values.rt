@@ -58,20 +58,31 @@ fn built<O: Offset>(
     Ok(holds(&answer?, offsets, bytes))
 }
 
-/// Whether room is made and given back, and items stay in a copy.
-fn rooms<O: Offset>(builder: &mut MutableBinaryValuesArray<O>) -> Result<bool, Error> {
-    let first = builder.capacity();
-    builder.push(b"ab")?;
-    builder.reserve(100, 1000)?;
-    let more = builder.capacity();
-    builder.shrink_to_fit()?;
-    let is_kept = built(builder.clone(), [0, 2].as_slice(), b"ab")?;
-    Ok(is_kept && first >= 40 && more >= 101 && builder.capacity() < 40)
+/// Whether there is room for so many items and so many bytes, each in its own place.
+fn has_room<O: Offset>(builder: &MutableBinaryValuesArray<O>, items: usize, bytes: usize) -> bool {
+    items <= builder.capacity() && bytes <= builder.values().capacity()
 }
 
-/// Whether it is in a builder with room.
+/// Whether room for forty items and four hundred bytes is there, then for more, and is given back, and items stay.
+fn rooms<O: Offset>(builder: &mut MutableBinaryValuesArray<O>) -> Result<bool, Error> {
+    let is_given = has_room(builder, 40, 400);
+    builder.push(b"ab")?;
+    builder.reserve(100, 1000)?;
+    let is_more = has_room(builder, 101, 1002);
+    builder.shrink_to_fit()?;
+    let is_back = builder.capacity() < 40 && builder.values().capacity() < 400;
+    let is_kept = built(builder.clone(), [0, 2].as_slice(), b"ab")?;
+    Ok(is_given & is_more & is_back & is_kept)
+}
+
+/// Whether those of a new builder are.
 fn rooms_in_room<O: Offset>(alloc: Global) -> Result<bool, Error> {
-    rooms(&mut MutableBinaryValuesArray::<O>::with_capacity(alloc, 40)?)
+    let is_given = has_room(
+        &MutableBinaryValuesArray::<O>::with_capacity(alloc, 40)?,
+        40,
+        0,
+    );
+    Ok(is_given & rooms(&mut MutableBinaryValuesArray::<O>::with_capacities(alloc, 40, 400)?)?)
 }
 
 #[test]
@@ -83,7 +94,7 @@ fn room_is_made_and_given_back(rt: HostRuntime) -> Result<(), Fail> {
 /// Whether builders of items have these.
 fn from_items<O: Offset>(alloc: Global) -> Result<bool, Error> {
     let items = [b"ab".as_slice(), b"".as_slice()];
-    let first = MutableBinaryValuesArray::<O>::from_iter(alloc, items.into_iter());
+    let first = MutableBinaryValuesArray::<O>::from_iter(alloc, items.iter().copied());
     let is_first = built(first, [0, 2, 2].as_slice(), b"ab")?;
     let second = MutableBinaryValuesArray::<O>::try_from_iter(alloc, items.into_iter());
     Ok(is_first & built(second, [0, 2, 2].as_slice(), b"ab")?)
@@ -97,7 +108,7 @@ fn builders_of_items(rt: HostRuntime) -> Result<(), Fail> {
 
 /// Whether a builder grows by many items.
 fn extends<O: Offset>(builder: &mut MutableBinaryValuesArray<O>) -> Result<bool, Error> {
-    builder.extend([b"a".as_slice(), b"bc".as_slice()].into_iter())?;
+    builder.extend([b"a".as_slice(), b"bc".as_slice()].iter().copied())?;
     builder.try_extend([b"".as_slice(), b"d".as_slice()].into_iter())?;
     Ok(holds(builder, [0, 1, 3, 3, 4].as_slice(), b"abcd"))
 }
@@ -151,7 +162,8 @@ fn takes<O: Offset>(builder: &mut MutableBinaryArray<O>) -> Result<bool, Error> 
 fn freezes_and_takes<O: Offset>(alloc: Global) -> Result<bool, Error> {
     let array = two::<O>(alloc)?.freeze();
     let is_frozen = made(array, [0, 1, 3].as_slice(), b"\x01\x02\x03", "none")?;
-    Ok(is_frozen & takes(&mut MutableBinaryArray::<O>::from_values_builder(two(alloc)?))?)
+    let mut builder: MutableBinaryArray<O> = two(alloc)?.into();
+    Ok(is_frozen & takes(&mut builder)?)
 }
 
 #[test]

@@ -9,7 +9,8 @@ use arrow_types::error::Error;
 
 #[tactic(auto, using(crate::proofs::RowLemmas::row_steps))]
 impl<V: MutableValues> GrowingColumn<V> {
-    /// Appends the slots that an iterator gives. What it says of their number is not trusted.
+    /// Appends the slots that an iterator gives. What it says of their number is not trusted: room for so many is
+    /// asked for first, and where that is refused nothing is told.
     ///
     /// # Errors
     /// `Overflow` at the first slot with which there would be more than the values' type can count, or
@@ -32,7 +33,8 @@ impl<V: MutableValues> GrowingColumn<V> {
         Ok(())
     }
 
-    /// Appends valid slots of the values that an iterator gives. What it says of their number is not trusted.
+    /// Appends valid slots of the values that an iterator gives. What it says of their number is not trusted: room
+    /// for so many is asked for first, and where that is refused nothing is told.
     ///
     /// # Errors
     /// `Overflow` at the first value with which there would be more than the values' type can count, or

@@ -51,7 +51,7 @@ impl<V: MutableValues> GrowingColumn<V> {
     /// Gives back the room that is not used.
     ///
     /// # Errors
-    /// `OutOfMemory` where smaller memory is refused.
+    /// Never: where smaller memory is refused, the room stays.
     pub fn shrink_to_fit(&mut self) -> Result<(), Error>
         ensures kept { self.new ≡ self.old }
         ensures err { IfErr result (λ e. e ≡ Error.OutOfMemory) }

@@ -41,7 +41,8 @@ impl<V: MutableValues> GrowingColumn<V> {
         self.values.push_default()
     }
 
-    /// Appends valid slots of the values that an iterator gives, where no mask is held. What it says of their number is not trusted.
+    /// Appends valid slots of the values that an iterator gives, where no mask is held. What it says of their
+    /// number is not trusted: room for so many is asked for first, and where that is refused nothing is told.
     ///
     /// # Errors
     /// `Overflow` at the first value with which there would be more than the values' type can count, or

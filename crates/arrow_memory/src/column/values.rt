@@ -1,5 +1,5 @@
 //! The stored values that columns are made of.
-ghost use Rattle.std.specs.Prelude.{slice_set, replicate, ◌<◌, IfOk, ◌≡◌, ℕ, ◌+◌, ◌-◌, ◌≤◌, List, Bool, false, [], ◌∷◌, ◌++◌, length, take, drop, OnOk, IfErr};
+ghost use Rattle.std.specs.Prelude.{refl, slice_set, replicate, ◌<◌, IfOk, ◌≡◌, ℕ, ◌+◌, ◌-◌, ◌≤◌, List, Bool, false, [], ◌∷◌, ◌++◌, length, take, drop, OnOk, IfErr};
 ghost use Rattle.arrow_memory.specs.Column.{refused_growth};
 
 use crate::bitmap::{Bitmap, MutableBitmap};
@@ -43,6 +43,10 @@ pub trait Values: Drop {
         ensures stored { IfOk result (λ copy. stored copy ≡ stored self.now) }
         ensures around { IfOk result (λ copy. around copy ≡ around self.now) }
         ensures err { IfErr result (λ e. e ≡ Error.OutOfMemory) };
+
+    /// What a piece of a piece has around it is what one piece has.
+    ghost cut_twice: { (before : Self.Around) (values : List Self.Stored) (a n b m : ℕ) → b + m ≤ n
+        → cut_around (cut_around before values a n) (take n (drop a values)) b m ≡ cut_around before values (a + b) m };
 }
 
 impl<T: Drop> Values for Buffer<T> {
@@ -70,6 +74,8 @@ impl<T: Drop> Values for Buffer<T> {
     fn share(&self) -> Result<Self, Error> {
         self.clone()
     }
+
+    ghost cut_twice = { λ before values a n b m within. refl };
 }
 
 impl Values for Bitmap {
@@ -97,6 +103,8 @@ impl Values for Bitmap {
     fn share(&self) -> Result<Self, Error> {
         self.clone()
     }
+
+    ghost cut_twice = { λ before values a n b m within. refl };
 }
 
 /// The stored values of a builder's slots, those of null slots too.
@@ -169,7 +177,7 @@ pub trait MutableValues: Drop {
     /// Gives back the room that is not used.
     ///
     /// # Errors
-    /// `OutOfMemory` where smaller memory is refused.
+    /// `OutOfMemory` where that asks for memory which is refused. What keeps vectors never does: the room then stays.
     fn drop_room(&mut self) -> Result<(), Error>
         ensures stored { stored self.new ≡ stored self.old }
         ensures around { around self.new ≡ around self.old }

@@ -267,7 +267,7 @@ impl<O: Offset> Offsets<O> {
     /// Gives back room that no offset needs, where the allocator takes it back.
     ///
     /// # Errors
-    /// `OutOfMemory` where the smaller room is refused; the allocator of today never does.
+    /// Never: where smaller memory is refused, the room stays.
     pub fn shrink_to_fit(&mut self) -> Result<(), Error>
         ensures kept { self.new ≡ self.old }
         ensures err { IfErr result (λ e. e ≡ Error.OutOfMemory) }

@@ -1,7 +1,7 @@
 // Bit maps of given bytes, clones, and what comes of them. Bytes were packed by hand.
 use crate::bitmap::{cut, gives, pushed};
-use crate::refusals::told;
 use arrow_memory::bitmap::{Bitmap, MutableBitmap};
+use arrow_testing::told;
 use arrow_types::error::Error;
 use either::Right;
 use std::alloc::Global;

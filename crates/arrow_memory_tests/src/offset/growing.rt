@@ -1,5 +1,5 @@
-use crate::offset::tiny::Tiny;
 use arrow_memory::offset::Offsets;
+use arrow_testing::Tiny;
 use arrow_types::error::Error;
 use arrow_types::offset::Offset;
 use std::alloc::Global;

@@ -15,7 +15,7 @@ fn arrays_are_made(rt: HostRuntime) -> Result<(), Fail> {
         "101",
     ))?;
     told(made(
-        Utf8Array::from_iter(alloc, three().into_iter()),
+        Utf8Array::from_iter(alloc, three().iter().copied()),
         offsets,
         "hithere",
         "101",
@@ -27,7 +27,7 @@ fn arrays_are_made(rt: HostRuntime) -> Result<(), Fail> {
         "none",
     ))?;
     told(made(
-        Utf8Array::from_iter_values(alloc, items.into_iter()),
+        Utf8Array::from_iter_values(alloc, items.iter().copied()),
         offsets,
         "hithere",
         "none",

@@ -14,7 +14,7 @@ fn builders_are_made(rt: HostRuntime) -> Result<(), Fail> {
         "101",
     ))?;
     told(built(
-        MutableUtf8Array::from_iter(alloc, three().into_iter()),
+        MutableUtf8Array::from_iter(alloc, three().iter().copied()),
         offsets,
         "hithere",
         "101",
@@ -66,11 +66,11 @@ fn builders_are_read(rt: HostRuntime) -> Result<(), Fail> {
 
 /// Appends slots in each way.
 fn grow(builder: &mut MutableUtf8Array<i32>) -> Result<(), Error> {
-    builder.extend_values(["a"].into_iter())?;
+    builder.extend_values(["a"].iter().copied())?;
     builder.push(Some("é"))?;
     builder.try_push(None)?;
     builder.push_null()?;
-    builder.extend([Some("b"), None].into_iter())?;
+    builder.extend([Some("b"), None].iter().copied())?;
     builder.try_extend([Some("cd")].into_iter())?;
     builder.reserve(9, 99)?;
     builder.shrink_to_fit()
@@ -124,7 +124,7 @@ fn again(answer: Result<MutableUtf8Array<i32>, Error>) -> Result<MutableUtf8Arra
 /// The builder without nulls of such items, as one with nulls.
 fn masked(alloc: Global) -> Result<MutableUtf8Array<i32>, Error> {
     let items = MutableUtf8ValuesArray::from_iter(alloc, ["hi", "", "there"].into_iter())?;
-    Ok(MutableUtf8Array::from_values_builder(items))
+    Ok(items.into())
 }
 
 /// Marks of which the first is cleared.

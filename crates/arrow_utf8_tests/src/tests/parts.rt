@@ -74,7 +74,19 @@ fn array_of(
     Utf8Array::try_new_counted(type_of(name), offsets, values, validity, cost)
 }
 
-/// Whether an array of such parts is answered so, by one test at most for each slot.
+/// Whether the counts are that all bytes were tested once at most, and each inner one of so many offsets looked at.
+pub(super) fn is_cheap(cost: &TextCost, offsets: usize) -> bool {
+    cost.ascii_tests() <= 1
+        && cost.whole_tests() <= 1
+        && cost.bytes_looked() <= offsets.saturating_sub(2) as u64
+}
+
+/// The counts of tests for ASCII, tests for UTF-8 and looks.
+fn counts(cost: &TextCost) -> [u64; 3] {
+    [cost.ascii_tests(), cost.whole_tests(), cost.bytes_looked()]
+}
+
+/// Whether an array of such parts is answered so, its bytes tested once at most.
 fn is_array(
     alloc: Global,
     name: &str,
@@ -85,7 +97,7 @@ fn is_array(
 ) -> Result<bool, Error> {
     let mut cost = TextCost::new();
     let told = text_of(array_of(alloc, name, numbers, bytes, count, &mut cost))?;
-    Ok(told == text && cost.whole_tests() < numbers.len() as u64)
+    Ok(told == text && is_cheap(&cost, numbers.len()))
 }
 
 #[test]
@@ -152,7 +164,21 @@ fn each_slot_is_text_by_itself(rt: HostRuntime) -> Result<(), Fail> {
     Ok(())
 }
 
-/// Whether a builder of such parts is answered so, by one test at most for each slot.
+/// The refusal of a builder of such parts.
+fn builder_fault(
+    alloc: Global,
+    name: &str,
+    numbers: &[i32],
+    bytes: &[u8],
+    count: Option<usize>,
+    cost: &mut TextCost,
+) -> Result<&'static str, Error> {
+    let (offsets, values) = (offsets(alloc, numbers)?, bytes.to_vec(alloc)?);
+    let validity = nulls(alloc, count)?;
+    text_of(MutableUtf8Array::try_new_counted(type_of(name), offsets, values, validity, cost))
+}
+
+/// Whether a builder of such parts is answered so, its bytes tested once at most.
 fn is_builder(
     alloc: Global,
     name: &str,
@@ -162,19 +188,23 @@ fn is_builder(
     text: &str,
 ) -> Result<bool, Error> {
     let mut cost = TextCost::new();
-    let (offsets, values) = (offsets(alloc, numbers)?, bytes.to_vec(alloc)?);
-    let validity = nulls(alloc, count)?;
-    let answer = MutableUtf8Array::try_new_counted(
-        type_of(name),
-        offsets,
-        values,
-        validity,
-        &mut cost,
-    );
-    Ok(text_of(answer)? == text && cost.whole_tests() < numbers.len() as u64)
+    let told = builder_fault(alloc, name, numbers, bytes, count, &mut cost)?;
+    Ok(told == text && is_cheap(&cost, numbers.len()))
 }
 
-/// Whether a builder without nulls of such parts is answered so, by one test at most for each item.
+/// The refusal of a builder without nulls of such parts.
+fn values_fault(
+    alloc: Global,
+    name: &str,
+    numbers: &[i32],
+    bytes: &[u8],
+    cost: &mut TextCost,
+) -> Result<&'static str, Error> {
+    let (offsets, values) = (offsets(alloc, numbers)?, bytes.to_vec(alloc)?);
+    text_of(MutableUtf8ValuesArray::try_new_counted(type_of(name), offsets, values, cost))
+}
+
+/// Whether a builder without nulls of such parts is answered so, its bytes tested once at most.
 fn is_values(
     alloc: Global,
     name: &str,
@@ -183,9 +213,8 @@ fn is_values(
     text: &str,
 ) -> Result<bool, Error> {
     let mut cost = TextCost::new();
-    let (offsets, values) = (offsets(alloc, numbers)?, bytes.to_vec(alloc)?);
-    let answer = MutableUtf8ValuesArray::try_new_counted(type_of(name), offsets, values, &mut cost);
-    Ok(text_of(answer)? == text && cost.whole_tests() < numbers.len() as u64)
+    let told = values_fault(alloc, name, numbers, bytes, &mut cost)?;
+    Ok(told == text && is_cheap(&cost, numbers.len()))
 }
 
 #[test]
@@ -207,4 +236,37 @@ fn builders_are_tested(rt: HostRuntime) -> Result<(), Fail> {
     told(is_builder(rt.alloc(), "Utf8", numbers, bytes, Some(5), BUILDER_MASK))?;
     told(is_builder(rt.alloc(), "Utf8", numbers, bytes, Some(1), ""))?;
     told(is_values(rt.alloc(), "Utf8", numbers, bytes, ""))
+}
+
+/// Whether the test of such parts costs so much, of an array and of either builder.
+fn is_counted(
+    alloc: Global,
+    numbers: &[i32],
+    bytes: &[u8],
+    [array, builders]: [[u64; 3]; 2],
+) -> Result<bool, Error> {
+    let mut costs = [TextCost::new(); 3];
+    let _told = text_of(array_of(alloc, "Utf8", numbers, bytes, None, &mut costs[0]))?;
+    let _told = builder_fault(alloc, "Utf8", numbers, bytes, None, &mut costs[1])?;
+    let _told = values_fault(alloc, "Utf8", numbers, bytes, &mut costs[2])?;
+    Ok(counts(&costs[0]) == array && counts(&costs[1]) == builders && counts(&costs[2]) == builders)
+}
+
+#[test]
+fn tests_of_texts_are_counted(rt: HostRuntime) -> Result<(), Fail> {
+    for (numbers, bytes, costs) in [
+        (
+            [0, 2, 4].as_slice(),
+            "éè".as_bytes(),
+            [[1, 1, 1], [1, 1, 1]],
+        ),
+        (&[0, 1, 2, 3], b"abc", [[1, 0, 0], [1, 0, 0]]),
+        (&[0, 4, 4], "😀".as_bytes(), [[1, 1, 0], [1, 1, 0]]),
+        (&[1, 2], "é".as_bytes(), [[1, 1, 0], [1, 1, 0]]),
+        (&[1, 1], "é".as_bytes(), [[1, 0, 0], [0, 0, 0]]),
+        (&[5], b"", [[0, 0, 0], [0, 0, 0]]),
+    ] {
+        told(is_counted(rt.alloc(), numbers, bytes, costs))?;
+    }
+    Ok(())
 }

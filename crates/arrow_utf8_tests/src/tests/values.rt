@@ -55,7 +55,7 @@ fn grow(builder: &mut MutableUtf8ValuesArray<i32>) -> Result<(), Error> {
     builder.push("é")?;
     builder.try_push("a")?;
     builder.push_null()?;
-    builder.extend(["b", ""].into_iter())?;
+    builder.extend(["b", ""].iter().copied())?;
     builder.try_extend(["cd"].into_iter())?;
     builder.reserve(9, 99)?;
     builder.shrink_to_fit()

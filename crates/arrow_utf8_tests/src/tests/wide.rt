@@ -4,7 +4,7 @@ mod values;
 
 ghost use Rattle.std.specs.Prelude.{◌≡◌, length};
 
-use super::parts::{BUILDER_MASK, BUILDER_TYPE, NO_TEXT, NOT_AT_END, TYPE, type_of};
+use super::parts::{BUILDER_MASK, BUILDER_TYPE, NO_TEXT, NOT_AT_END, TYPE, is_cheap, type_of};
 use super::*;
 use arrow_check::cost::TextCost;
 use either::{Left, Right};
@@ -156,7 +156,7 @@ fn a_clone_is_thawed(rt: HostRuntime) -> Result<(), Fail> {
     told(thaws(Utf8Array::from(rt.alloc(), three().as_slice())))
 }
 
-/// Whether an array of such parts is told so, by one test at most for each slot.
+/// Whether an array of such parts is told so, its bytes tested once at most.
 fn fault(
     alloc: Global,
     name: &str,
@@ -168,7 +168,7 @@ fn fault(
     let values = Buffer::from_vec(bytes.to_vec(alloc)?)?;
     let mut cost = TextCost::new();
     match Utf8Array::try_new_counted(type_of(name), offsets, values, None, &mut cost) {
-        Ok(_) => Ok(text == "" && cost.whole_tests() < numbers.len() as u64),
+        Ok(_) => Ok(text == "" && is_cheap(&cost, numbers.len())),
         Err(Error::OutOfSpec(told)) => Ok(told == text),
         Err(error) => Err(error),
     }

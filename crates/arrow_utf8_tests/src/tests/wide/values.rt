@@ -48,7 +48,7 @@ fn grow(builder: &mut MutableUtf8ValuesArray<i64>) -> Result<(), Error> {
     builder.push("é")?;
     builder.try_push("a")?;
     builder.push_null()?;
-    builder.extend(["b", ""].into_iter())?;
+    builder.extend(["b", ""].iter().copied())?;
     builder.try_extend(["cd"].into_iter())?;
     builder.reserve(9, 99)?;
     builder.shrink_to_fit()
@@ -70,8 +70,9 @@ fn grown(alloc: Global) -> Result<MutableUtf8ValuesArray<i64>, Error> {
 /// The builder of the same parts, which are tested again, as one with nulls.
 fn again(answer: Result<MutableUtf8ValuesArray<i64>, Error>) -> Result<Utf8Array<i64>, Error> {
     let (data_type, offsets, values) = answer?.into_inner();
-    let builder = MutableUtf8ValuesArray::try_new(data_type, offsets, values)?;
-    MutableUtf8Array::from_values_builder(builder).freeze()
+    let items = MutableUtf8ValuesArray::try_new(data_type, offsets, values)?;
+    let builder: MutableUtf8Array<i64> = items.into();
+    builder.freeze()
 }
 
 /// The array of a builder.
@@ -91,8 +92,8 @@ fn fault(alloc: Global, name: &str, end: i64, bytes: &[u8], text: &str) -> Resul
     let offsets = Offsets::try_from_vec([0, end].to_vec(alloc)?)?;
     let (values, mut cost) = (bytes.to_vec(alloc)?, TextCost::new());
     match MutableUtf8ValuesArray::try_new_counted(type_of(name), offsets, values, &mut cost) {
-        Ok(_) => Ok(text == "" && cost.whole_tests() <= 1),
-        Err(Error::OutOfSpec(told)) => Ok(told == text && cost.whole_tests() <= 1),
+        Ok(_) => Ok(text == "" && is_cheap(&cost, 2)),
+        Err(Error::OutOfSpec(told)) => Ok(told == text && is_cheap(&cost, 2)),
         Err(error) => Err(error),
     }
 }

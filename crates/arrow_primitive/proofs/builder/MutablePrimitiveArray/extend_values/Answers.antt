@@ -1,5 +1,3 @@
-use Rattle.std.proofs.Common.{ap, ◌∙◌}
-use Rattle.arrow_memory.specs.Column.{append_slots, refused_growth}
 use Rattle.arrow_primitive.proofs.SlotLemmas.{if-err, on-ok}
 use Rattle.arrow_primitive.proofs.builder.MutablePrimitiveArray.extend_values.Goals as goal
 

@@ -1,0 +1,256 @@
+//! Bytes as they are lent and taken: what arrays and builders of bytes have of their own.
+ghost use Rattle.std.specs.Prelude.{◌≡◌, ◌<◌, [], false, length, slice_get, Some, OnOk, IfErr, option_map};
+ghost use Rattle.std.specs.Option.{option_copied};
+ghost use Rattle.arrow_memory.specs.Column.{append_slot, refused_growth, slot_overflows, slots_of, stored_values};
+ghost use Rattle.arrow_check.specs.Items.{IsWithin, rest_of};
+ghost use Rattle.arrow_bytes.specs.Pieces.{overflows_by};
+ghost use Rattle.arrow_bytes.specs.Column.{item_overflows};
+
+use crate::{ByteArray, MutableByteArray, MutableByteValuesArray};
+use arrow_bytes::{Binary, ByteItems, ByteValues, MutableByteValues};
+use arrow_check::accessor::ArrayAccessor;
+use arrow_check::values_iter::ArrayValuesIter;
+use arrow_memory::bitmap::BitmapIter;
+use arrow_memory::zip_validity::ZipValidity;
+use arrow_types::error::Error;
+use arrow_types::offset::Offset;
+
+impl<'a, O: Offset> ArrayAccessor<'a> for ByteArray<Binary, O> {
+    ghost use Rattle.std.specs.Prelude.{◌≡◌, ◌<◌, List, ℕ, Some, length, slice_get};
+    ghost use Rattle.arrow_memory.specs.Column.{stored_values};
+
+    type Item = &'a [u8];
+
+    ghost Seen = { List ℕ };
+
+    ghost seen = { λ item. item.now };
+
+    ghost items = { stored_values };
+
+    #[inline(always)]
+    fn value(&'a self, index: usize) -> &'a [u8]
+        requires { index < length (stored_values self.now) }
+        ensures { slice_get (stored_values self.now) index ≡ Some result.now }
+    {
+        self.column.values().value(index)
+    }
+
+    #[inline(always)]
+    fn len(&self) -> usize
+        ensures { result ≡ length (stored_values self.now) }
+    {
+        self.column.values().len()
+    }
+}
+
+impl<'a, O: Offset> ArrayAccessor<'a> for MutableByteValuesArray<Binary, O> {
+    ghost use Rattle.std.specs.Prelude.{◌≡◌, ◌<◌, List, ℕ, Some, length, slice_get};
+    ghost use Rattle.arrow_memory.specs.Column.{stored_values};
+
+    type Item = &'a [u8];
+
+    ghost Seen = { List ℕ };
+
+    ghost seen = { λ item. item.now };
+
+    ghost items = { stored_values };
+
+    #[inline(always)]
+    fn value(&'a self, index: usize) -> &'a [u8]
+        requires { index < length (stored_values self.now) }
+        ensures { slice_get (stored_values self.now) index ≡ Some result.now }
+    {
+        self.column.values().value(index)
+    }
+
+    #[inline(always)]
+    fn len(&self) -> usize
+        ensures { result ≡ length (stored_values self.now) }
+    {
+        self.column.values().len()
+    }
+}
+
+impl<O: Offset> ByteArray<Binary, O> {
+    /// The bytes that are stored at a place, also where the slot is null.
+    #[inline(always)]
+    pub fn value(&self, i: usize) -> &[u8]
+        requires { i < length self.now.rows }
+        ensures { slice_get (stored_values self.now) i ≡ Some result.now }
+    {
+        self.column.values().value(i)
+    }
+
+    /// The slot at a place: its bytes, or `None` where it is null.
+    #[inline(always)]
+    pub fn get(&self, i: usize) -> Option<&[u8]>
+        requires { i < length self.now.rows }
+        ensures { slice_get (slots_of self.now) i ≡ Some (option_copied result) }
+    {
+        if self.column.is_null(i) {
+            return None;
+        }
+        Some(self.value(i))
+    }
+
+    /// The slots in order.
+    #[inline(always)]
+    pub fn iter(&self) -> ZipValidity<ByteItems<'_, ByteValues<Binary, O>>, BitmapIter<'_>>
+        ensures { result ≡ slots_of self.now }
+    {
+        ZipValidity::new(self.column.values().iter(), self.column.marks())
+    }
+
+    /// What the slots store, in order, null slots too.
+    #[inline(always)]
+    pub fn values_iter(&self) -> ArrayValuesIter<'_, ByteArray<Binary, O>>
+        ensures within { IsWithin stored_values result }
+        ensures all { rest_of stored_values result ≡ stored_values self.now }
+    {
+        ArrayValuesIter::new(self)
+    }
+}
+
+impl<O: Offset> MutableByteArray<Binary, O> {
+    /// The bytes that are stored at a place, also where the slot is null.
+    #[inline(always)]
+    pub fn value(&self, i: usize) -> &[u8]
+        requires { i < length self.now.rows }
+        ensures { slice_get (stored_values self.now) i ≡ Some result.now }
+    {
+        self.column.values().value(i)
+    }
+
+    /// Appends a slot. A null stores no byte, and a mask is held from then on.
+    ///
+    /// # Errors
+    /// `Overflow` where the bytes would end past the greatest offset, which is tested first, or `OutOfMemory` where a
+    /// growth is refused; the builder is then as before.
+    #[inline(always)]
+    pub fn push(&mut self, value: Option<&[u8]>) -> Result<(), Error>
+        ensures ok { OnOk result ((slot_overflows (item_overflows (λ item. item.now) O.most) self.old value.entry ≡ false) × (self.new ≡ append_slot [] self.old (option_map (λ item. item.now) value.entry))) }
+        ensures err { IfErr result (λ e. (e ≡ refused_growth (slot_overflows (item_overflows (λ item. item.now) O.most) self.old value.entry)) × (self.new ≡ self.old)) }
+    {
+        self.column.push(value)
+    }
+
+    /// Appends a slot, as `push` does.
+    ///
+    /// # Errors
+    /// As of `push`; the builder is then as before.
+    #[inline(always)]
+    pub fn try_push(&mut self, value: Option<&[u8]>) -> Result<(), Error>
+        ensures ok { OnOk result ((slot_overflows (item_overflows (λ item. item.now) O.most) self.old value.entry ≡ false) × (self.new ≡ append_slot [] self.old (option_map (λ item. item.now) value.entry))) }
+        ensures err { IfErr result (λ e. (e ≡ refused_growth (slot_overflows (item_overflows (λ item. item.now) O.most) self.old value.entry)) × (self.new ≡ self.old)) }
+    {
+        self.push(value)
+    }
+
+    /// The slots in order.
+    #[inline(always)]
+    pub fn iter(&self) -> ZipValidity<ByteItems<'_, MutableByteValues<Binary, O>>, BitmapIter<'_>>
+        ensures { result ≡ slots_of self.now }
+    {
+        ZipValidity::new(self.column.values().iter(), self.column.marks())
+    }
+
+    /// What the slots store, in order, null slots too.
+    #[inline(always)]
+    pub fn values_iter(&self) -> ArrayValuesIter<'_, MutableByteValues<Binary, O>>
+        ensures within { IsWithin (λ values. values.items) result }
+        ensures all { rest_of (λ values. values.items) result ≡ stored_values self.now }
+    {
+        ArrayValuesIter::new(self.column.values())
+    }
+}
+
+impl<O: Offset> MutableByteValuesArray<Binary, O> {
+    /// The item at a place.
+    #[inline(always)]
+    pub fn value(&self, i: usize) -> &[u8]
+        requires { i < length self.now.rows }
+        ensures { slice_get (stored_values self.now) i ≡ Some result.now }
+    {
+        self.column.values().value(i)
+    }
+
+    /// Appends an item.
+    ///
+    /// # Errors
+    /// `Overflow` where the bytes would end past the greatest offset, which is tested first, or `OutOfMemory` where a
+    /// growth is refused; the builder is then as before.
+    #[inline(always)]
+    pub fn push(&mut self, value: &[u8]) -> Result<(), Error>
+        ensures ok { OnOk result ((overflows_by O.most self.old.around (stored_values self.old) (length value.now) ≡ false) × (self.new ≡ append_slot [] self.old (Some value.now))) }
+        ensures err { IfErr result (λ e. (e ≡ refused_growth (overflows_by O.most self.old.around (stored_values self.old) (length value.now))) × (self.new ≡ self.old)) }
+    {
+        self.column.push_unmasked(value)
+    }
+
+    /// Appends an item, as `push` does.
+    ///
+    /// # Errors
+    /// As of `push`; the builder is then as before.
+    #[inline(always)]
+    pub fn try_push(&mut self, value: &[u8]) -> Result<(), Error>
+        ensures ok { OnOk result ((overflows_by O.most self.old.around (stored_values self.old) (length value.now) ≡ false) × (self.new ≡ append_slot [] self.old (Some value.now))) }
+        ensures err { IfErr result (λ e. (e ≡ refused_growth (overflows_by O.most self.old.around (stored_values self.old) (length value.now))) × (self.new ≡ self.old)) }
+    {
+        self.push(value)
+    }
+
+    /// The items in order.
+    #[inline(always)]
+    pub fn iter(&self) -> ArrayValuesIter<'_, MutableByteValuesArray<Binary, O>>
+        ensures within { IsWithin stored_values result }
+        ensures all { rest_of stored_values result ≡ stored_values self.now }
+    {
+        ArrayValuesIter::new(self)
+    }
+}
+
+impl<'a, O: Offset> IntoIterator for &'a ByteArray<Binary, O> {
+    ghost use Rattle.arrow_memory.specs.Column.{slots_of};
+
+    type Item = Option<&'a [u8]>;
+
+    type IntoIter = ZipValidity<ByteItems<'a, ByteValues<Binary, O>>, BitmapIter<'a>>;
+
+    ghost into_iter_gives = { λ array slots. slots ≡ slots_of array.now };
+
+    #[inline(always)]
+    fn into_iter(self) -> ZipValidity<ByteItems<'a, ByteValues<Binary, O>>, BitmapIter<'a>> {
+        self.iter()
+    }
+}
+
+impl<'a, O: Offset> IntoIterator for &'a MutableByteArray<Binary, O> {
+    ghost use Rattle.arrow_memory.specs.Column.{slots_of};
+
+    type Item = Option<&'a [u8]>;
+
+    type IntoIter = ZipValidity<ByteItems<'a, MutableByteValues<Binary, O>>, BitmapIter<'a>>;
+
+    ghost into_iter_gives = { λ builder slots. slots ≡ slots_of builder.now };
+
+    #[inline(always)]
+    fn into_iter(self) -> ZipValidity<ByteItems<'a, MutableByteValues<Binary, O>>, BitmapIter<'a>> {
+        self.iter()
+    }
+}
+
+impl<'a, O: Offset> IntoIterator for &'a MutableByteValuesArray<Binary, O> {
+    ghost use Rattle.arrow_memory.specs.Column.{stored_values};
+    ghost use Rattle.arrow_check.specs.Items.{IsWithin, rest_of};
+
+    type Item = &'a [u8];
+
+    type IntoIter = ArrayValuesIter<'a, MutableByteValuesArray<Binary, O>>;
+
+    ghost into_iter_gives = { λ builder items. IsWithin stored_values items × (rest_of stored_values items ≡ stored_values builder.now) };
+
+    #[inline(always)]
+    fn into_iter(self) -> ArrayValuesIter<'a, MutableByteValuesArray<Binary, O>> {
+        self.iter()
+    }
+}

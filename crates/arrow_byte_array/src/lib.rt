@@ -1,0 +1,19 @@
+//! Arrays of items of bytes and their builders, over a kind of item: bytes, or text (Arrow columnar format, "Variable-size
+//! Binary Layout").
+#![tactic(auto)]
+
+mod array;
+mod binary;
+mod builder;
+mod change;
+mod equality;
+mod extend;
+mod from_natural;
+pub mod laws;
+mod parts;
+mod utf8;
+mod values_builder;
+
+pub use array::ByteArray;
+pub use builder::MutableByteArray;
+pub use values_builder::MutableByteValuesArray;

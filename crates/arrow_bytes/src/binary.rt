@@ -1,0 +1,243 @@
+//! Bytes: any bytes are an item.
+ghost use Rattle.std.specs.Prelude.{◌≡◌};
+ghost use Rattle.arrow_check.specs.Items.{IsWithin, rest_of};
+
+use crate::{ByteItem, ByteItems, ByteKind, ByteValues, ItemError, MutableByteValues};
+use arrow_check::accessor::{ArrayAccessor, Bytes};
+use arrow_check::cost::TextCost;
+use arrow_check::values_iter::ArrayValuesIter;
+use arrow_memory::list_iter::ListIter;
+use arrow_types::data_type::DataType;
+use arrow_types::error::Error;
+use arrow_types::offset::Offset;
+use arrow_types::physical_type::PhysicalType;
+use std::alloc::Global;
+
+/// Bytes. Any list of bytes is an item.
+#[derive(Copy, Clone)]
+pub struct Binary;
+
+/// The text of the refusal of an array's type.
+const WRONG_TYPE: &str =
+    "BinaryArray can only be initialized with DataType::Binary or DataType::LargeBinary";
+
+/// The text of the refusal of a builder's type.
+const WRONG_BUILDER_TYPE: &str =
+    "MutableBinaryValuesArray can only be initialized with DataType::Binary or DataType::LargeBinary";
+
+impl ByteKind for Binary {
+    ghost use Rattle.std.specs.Prelude.{false};
+    ghost use Rattle.arrow_bytes.specs.Kinds.{binary_layout, binary_type, wrong_binary_builder_type, wrong_binary_type};
+
+    type Owned = Vec<u8>;
+
+    ghost is_text = { false };
+
+    ghost owned = { λ item. item.items };
+
+    ghost layout = { binary_layout };
+
+    ghost default_type = { binary_type };
+
+    ghost wrong_type = { wrong_binary_type };
+
+    ghost wrong_builder_type = { wrong_binary_builder_type };
+
+    fn layout(is_large: bool) -> PhysicalType {
+        if is_large {
+            PhysicalType::LargeBinary
+        } else {
+            PhysicalType::Binary
+        }
+    }
+
+    fn default_type(is_large: bool) -> DataType {
+        if is_large {
+            DataType::LargeBinary
+        } else {
+            DataType::Binary
+        }
+    }
+
+    fn wrong_type() -> Error {
+        Error::OutOfSpec(WRONG_TYPE)
+    }
+
+    fn wrong_builder_type() -> Error {
+        Error::OutOfSpec(WRONG_BUILDER_TYPE)
+    }
+
+    #[inline(always)]
+    fn check_items<O: Offset>(
+        _offsets: &[O],
+        _bytes: &[u8],
+        _cost: &mut TextCost,
+    ) -> Result<(), Error> {
+        Ok(())
+    }
+
+    #[inline(always)]
+    fn copy_item(alloc: Global, bytes: &[u8]) -> Result<Vec<u8>, Error> {
+        Ok(Vec::from_slice(alloc, bytes)?)
+    }
+}
+
+impl<'a> ByteItem<Binary> for &'a [u8] {
+    ghost bytes = { λ item. item.now };
+
+    #[inline(always)]
+    fn bytes(&self) -> &[u8] {
+        self
+    }
+}
+
+impl<'a> ItemError for &'a [u8] {
+    type Error = Error;
+
+    ghost error = { λ e. e };
+
+    #[inline(always)]
+    fn from_error(refused: Error) -> Error
+        ensures { result ≡ refused }
+    {
+        refused
+    }
+}
+
+impl<'a, O: Offset> ArrayAccessor<'a> for ByteValues<Binary, O> {
+    ghost use Rattle.std.specs.Prelude.{◌≡◌, ◌<◌, List, ℕ, Some, length, slice_get};
+
+    type Item = &'a [u8];
+
+    ghost Seen = { List ℕ };
+
+    ghost seen = { λ item. item.now };
+
+    ghost items = { λ values. values.items };
+
+    #[inline(always)]
+    fn value(&'a self, index: usize) -> &'a [u8]
+        requires { index < length self.now.items }
+        ensures { slice_get self.now.items index ≡ Some result.now }
+    {
+        self.value(index)
+    }
+
+    #[inline(always)]
+    fn len(&self) -> usize
+        ensures { result ≡ length self.now.items }
+    {
+        self.len()
+    }
+}
+
+impl<'a, O: Offset> ByteValues<Binary, O> {
+    /// The items in order.
+    #[inline(always)]
+    pub fn iter(&'a self) -> ByteItems<'a, ByteValues<Binary, O>>
+        ensures ready { IsWithin (λ values. values.items) result.items }
+        ensures all { rest_of (λ values. values.items) result.items ≡ self.now.items }
+    {
+        ByteItems {
+            items: ArrayValuesIter::new(self),
+        }
+    }
+}
+
+impl<'a, O: Offset> ListIter for ByteItems<'a, ByteValues<Binary, O>> {
+    ghost use Rattle.arrow_check.specs.Items.{IsWithin, rest_of};
+
+    type Item = &'a [u8];
+
+    type Seen = Bytes;
+
+    ghost seen = { λ item. item.now };
+
+    ghost rest = { λ left. rest_of (λ values. values.items) left.items };
+
+    ghost can_take = { λ left. IsWithin (λ values. values.items) left.items };
+
+    #[inline(always)]
+    fn take_first(&mut self) -> Option<&'a [u8]> {
+        self.items.next()
+    }
+
+    #[inline(always)]
+    fn take_last(&mut self) -> Option<&'a [u8]> {
+        self.items.next_back()
+    }
+
+    #[inline(always)]
+    fn count_left(&self) -> usize {
+        self.items.len()
+    }
+}
+
+impl<'a, O: Offset> ArrayAccessor<'a> for MutableByteValues<Binary, O> {
+    ghost use Rattle.std.specs.Prelude.{◌≡◌, ◌<◌, List, ℕ, Some, length, slice_get};
+
+    type Item = &'a [u8];
+
+    ghost Seen = { List ℕ };
+
+    ghost seen = { λ item. item.now };
+
+    ghost items = { λ values. values.items };
+
+    #[inline(always)]
+    fn value(&'a self, index: usize) -> &'a [u8]
+        requires { index < length self.now.items }
+        ensures { slice_get self.now.items index ≡ Some result.now }
+    {
+        self.value(index)
+    }
+
+    #[inline(always)]
+    fn len(&self) -> usize
+        ensures { result ≡ length self.now.items }
+    {
+        self.len()
+    }
+}
+
+impl<'a, O: Offset> MutableByteValues<Binary, O> {
+    /// The items in order.
+    #[inline(always)]
+    pub fn iter(&'a self) -> ByteItems<'a, MutableByteValues<Binary, O>>
+        ensures ready { IsWithin (λ values. values.items) result.items }
+        ensures all { rest_of (λ values. values.items) result.items ≡ self.now.items }
+    {
+        ByteItems {
+            items: ArrayValuesIter::new(self),
+        }
+    }
+}
+
+impl<'a, O: Offset> ListIter for ByteItems<'a, MutableByteValues<Binary, O>> {
+    ghost use Rattle.arrow_check.specs.Items.{IsWithin, rest_of};
+
+    type Item = &'a [u8];
+
+    type Seen = Bytes;
+
+    ghost seen = { λ item. item.now };
+
+    ghost rest = { λ left. rest_of (λ values. values.items) left.items };
+
+    ghost can_take = { λ left. IsWithin (λ values. values.items) left.items };
+
+    #[inline(always)]
+    fn take_first(&mut self) -> Option<&'a [u8]> {
+        self.items.next()
+    }
+
+    #[inline(always)]
+    fn take_last(&mut self) -> Option<&'a [u8]> {
+        self.items.next_back()
+    }
+
+    #[inline(always)]
+    fn count_left(&self) -> usize {
+        self.items.len()
+    }
+}

@@ -1,0 +1,282 @@
+//! Text: an item is UTF-8 by itself.
+ghost use Rattle.std.specs.Prelude.{◌≡◌, ◌<◌, Some, length, slice_get};
+ghost use Rattle.arrow_check.specs.Items.{IsWithin, rest_of};
+ghost use Rattle.arrow_check.specs.Utf8.{IsWellFormed};
+
+use crate::{ByteItem, ByteItems, ByteKind, ByteValues, ItemError, MutableByteValues};
+use arrow_check::accessor::{ArrayAccessor, Bytes};
+use arrow_check::cost::{TextBytes, TextCost};
+use arrow_check::laws::well_formed_is_utf8;
+use arrow_check::text::check_utf8;
+use arrow_check::values_iter::ArrayValuesIter;
+use arrow_memory::list_iter::ListIter;
+use arrow_types::data_type::DataType;
+use arrow_types::error::Error;
+use arrow_types::offset::Offset;
+use arrow_types::physical_type::PhysicalType;
+use std::alloc::Global;
+
+/// Text. A list of bytes is an item where it is UTF-8.
+#[derive(Copy, Clone)]
+pub struct Utf8;
+
+/// The text of the refusal of an array's type.
+const WRONG_TYPE: &str =
+    "Utf8Array can only be initialized with DataType::Utf8 or DataType::LargeUtf8";
+
+/// The text of the refusal of a builder's type.
+const WRONG_BUILDER_TYPE: &str =
+    "MutableUtf8ValuesArray can only be initialized with DataType::Utf8 or DataType::LargeUtf8";
+
+impl ByteKind for Utf8 {
+    ghost use Rattle.std.specs.Prelude.{true, string_bytes};
+    ghost use Rattle.arrow_bytes.specs.Kinds.{text_layout, text_type, wrong_text_builder_type, wrong_text_type};
+
+    type Owned = String;
+
+    ghost is_text = { true };
+
+    ghost owned = { string_bytes };
+
+    ghost layout = { text_layout };
+
+    ghost default_type = { text_type };
+
+    ghost wrong_type = { wrong_text_type };
+
+    ghost wrong_builder_type = { wrong_text_builder_type };
+
+    fn layout(is_large: bool) -> PhysicalType {
+        if is_large {
+            PhysicalType::LargeUtf8
+        } else {
+            PhysicalType::Utf8
+        }
+    }
+
+    fn default_type(is_large: bool) -> DataType {
+        if is_large {
+            DataType::LargeUtf8
+        } else {
+            DataType::Utf8
+        }
+    }
+
+    fn wrong_type() -> Error {
+        Error::OutOfSpec(WRONG_TYPE)
+    }
+
+    fn wrong_builder_type() -> Error {
+        Error::OutOfSpec(WRONG_BUILDER_TYPE)
+    }
+
+    fn check_items<O: Offset>(
+        offsets: &[O],
+        bytes: &[u8],
+        cost: &mut TextCost,
+    ) -> Result<(), Error> {
+        let mut text = TextBytes::new(bytes, *cost);
+        let tested = check_utf8(offsets, &mut text);
+        *cost = text.cost();
+        tested
+    }
+
+    fn copy_item(alloc: Global, bytes: &[u8]) -> Result<String, Error> {
+        Ok(String::from_str(alloc, text_of(bytes))?)
+    }
+}
+
+impl<'a> ByteItem<Utf8> for &'a str {
+    ghost bytes = { λ item. item.now };
+
+    #[inline(always)]
+    fn bytes(&self) -> &[u8] {
+        // Text for std is text by Unicode's table, too.
+        well_formed_is_utf8();
+        self.as_bytes()
+    }
+}
+
+impl<'a> ItemError for &'a str {
+    type Error = Error;
+
+    ghost error = { λ e. e };
+
+    #[inline(always)]
+    fn from_error(refused: Error) -> Error
+        ensures { result ≡ refused }
+    {
+        refused
+    }
+}
+
+/// These bytes as text, which they are.
+#[inline(always)]
+fn text_of(bytes: &[u8]) -> &str
+    requires { IsWellFormed bytes.now }
+    ensures { result.now ≡ bytes.now }
+{
+    // Text by Unicode's table is text for std, too. So no byte is looked at: the unchecked call asks for that proof.
+    well_formed_is_utf8();
+    unsafe { std::str::from_utf8_unchecked(bytes) }
+}
+
+impl<O: Offset> ByteValues<Utf8, O> {
+    /// The text at a place.
+    #[inline(always)]
+    pub fn text(&self, i: usize) -> &str
+        requires { i < length self.now.items }
+        ensures { slice_get self.now.items i ≡ Some result.now }
+    {
+        text_of(self.value(i))
+    }
+}
+
+impl<O: Offset> MutableByteValues<Utf8, O> {
+    /// The text at a place.
+    #[inline(always)]
+    pub fn text(&self, i: usize) -> &str
+        requires { i < length self.now.items }
+        ensures { slice_get self.now.items i ≡ Some result.now }
+    {
+        text_of(self.value(i))
+    }
+}
+
+impl<'a, O: Offset> ArrayAccessor<'a> for ByteValues<Utf8, O> {
+    ghost use Rattle.std.specs.Prelude.{◌≡◌, ◌<◌, List, ℕ, Some, length, slice_get};
+
+    type Item = &'a str;
+
+    ghost Seen = { List ℕ };
+
+    ghost seen = { λ item. item.now };
+
+    ghost items = { λ values. values.items };
+
+    #[inline(always)]
+    fn value(&'a self, index: usize) -> &'a str
+        requires { index < length self.now.items }
+        ensures { slice_get self.now.items index ≡ Some result.now }
+    {
+        self.text(index)
+    }
+
+    #[inline(always)]
+    fn len(&self) -> usize
+        ensures { result ≡ length self.now.items }
+    {
+        self.len()
+    }
+}
+
+impl<'a, O: Offset> ByteValues<Utf8, O> {
+    /// The items in order.
+    #[inline(always)]
+    pub fn iter(&'a self) -> ByteItems<'a, ByteValues<Utf8, O>>
+        ensures ready { IsWithin (λ values. values.items) result.items }
+        ensures all { rest_of (λ values. values.items) result.items ≡ self.now.items }
+    {
+        ByteItems {
+            items: ArrayValuesIter::new(self),
+        }
+    }
+}
+
+impl<'a, O: Offset> ListIter for ByteItems<'a, ByteValues<Utf8, O>> {
+    ghost use Rattle.arrow_check.specs.Items.{IsWithin, rest_of};
+
+    type Item = &'a str;
+
+    type Seen = Bytes;
+
+    ghost seen = { λ item. item.now };
+
+    ghost rest = { λ left. rest_of (λ values. values.items) left.items };
+
+    ghost can_take = { λ left. IsWithin (λ values. values.items) left.items };
+
+    #[inline(always)]
+    fn take_first(&mut self) -> Option<&'a str> {
+        self.items.next()
+    }
+
+    #[inline(always)]
+    fn take_last(&mut self) -> Option<&'a str> {
+        self.items.next_back()
+    }
+
+    #[inline(always)]
+    fn count_left(&self) -> usize {
+        self.items.len()
+    }
+}
+
+impl<'a, O: Offset> ArrayAccessor<'a> for MutableByteValues<Utf8, O> {
+    ghost use Rattle.std.specs.Prelude.{◌≡◌, ◌<◌, List, ℕ, Some, length, slice_get};
+
+    type Item = &'a str;
+
+    ghost Seen = { List ℕ };
+
+    ghost seen = { λ item. item.now };
+
+    ghost items = { λ values. values.items };
+
+    #[inline(always)]
+    fn value(&'a self, index: usize) -> &'a str
+        requires { index < length self.now.items }
+        ensures { slice_get self.now.items index ≡ Some result.now }
+    {
+        self.text(index)
+    }
+
+    #[inline(always)]
+    fn len(&self) -> usize
+        ensures { result ≡ length self.now.items }
+    {
+        self.len()
+    }
+}
+
+impl<'a, O: Offset> MutableByteValues<Utf8, O> {
+    /// The items in order.
+    #[inline(always)]
+    pub fn iter(&'a self) -> ByteItems<'a, MutableByteValues<Utf8, O>>
+        ensures ready { IsWithin (λ values. values.items) result.items }
+        ensures all { rest_of (λ values. values.items) result.items ≡ self.now.items }
+    {
+        ByteItems {
+            items: ArrayValuesIter::new(self),
+        }
+    }
+}
+
+impl<'a, O: Offset> ListIter for ByteItems<'a, MutableByteValues<Utf8, O>> {
+    ghost use Rattle.arrow_check.specs.Items.{IsWithin, rest_of};
+
+    type Item = &'a str;
+
+    type Seen = Bytes;
+
+    ghost seen = { λ item. item.now };
+
+    ghost rest = { λ left. rest_of (λ values. values.items) left.items };
+
+    ghost can_take = { λ left. IsWithin (λ values. values.items) left.items };
+
+    #[inline(always)]
+    fn take_first(&mut self) -> Option<&'a str> {
+        self.items.next()
+    }
+
+    #[inline(always)]
+    fn take_last(&mut self) -> Option<&'a str> {
+        self.items.next_back()
+    }
+
+    #[inline(always)]
+    fn count_left(&self) -> usize {
+        self.items.len()
+    }
+}

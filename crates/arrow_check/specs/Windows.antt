@@ -1,0 +1,55 @@
+-- Which windows of bytes a text check accepts: the bytes from the first offset up to the last, and where the offsets
+-- between these stand.
+use Rattle.std.specs.Prelude.{◌≡◌, ℕ, ◌+◌, ◌-◌, ◌<◌, ◌≤◌, ◌⊎◌, List, length, slice_index, take, drop, count_by, nat_lt}
+use Rattle.std.specs.Int.{IsInRange}
+use Rattle.std.specs.Str.{IsAscii}
+use Rattle.arrow_memory.specs.Offsets.{first_of, last_of}
+use Rattle.arrow_check.specs.Pieces.{bytes_between}
+use Rattle.arrow_check.specs.Reading.{Reading, LooksAtMost, after_ascii, after_looks, after_whole_test}
+
+-- a byte that goes on with a character, and begins none (Unicode Standard, Table 3-7)
+abbrev pub IsContinuation : ℕ → Type 0
+IsContinuation = IsInRange 0x80 0xBF
+
+-- the bytes from the first offset up to the last
+abbrev pub window_of : List ℕ → List ℕ → List ℕ
+window_of offsets bytes = bytes_between (first_of offsets) (last_of offsets) bytes
+
+-- an offset cuts no character of a window with this end: it is the end, or a character may begin at its byte
+abbrev pub CutsBetween : ℕ → List ℕ → ℕ → Type 0
+CutsBetween end bytes offset = (offset ≡ end) ⊎ (¬ IsContinuation (slice_index bytes offset))
+
+-- the inner offsets, which are all but the first and the last, cut no character
+abbrev pub InnerCutBetween : List ℕ → List ℕ → Type 0
+InnerCutBetween offsets bytes = (i : ℕ) → 0 < i → i + 1 < length offsets → CutsBetween (last_of offsets) bytes (slice_index offsets i)
+
+-- the offsets lie within the bytes, a judge accepts their window, and the inner ones cut no character of it
+pub record PassesWhole (Accepts : List ℕ → Type 0) (offsets bytes : List ℕ) : Type 0 where
+  pub within : last_of offsets ≤ length bytes
+  pub window : Accepts (window_of offsets bytes)
+  pub inner : InnerCutBetween offsets bytes
+
+-- the inner offsets: all but the first and the last
+abbrev pub inner_of : List ℕ → List ℕ
+inner_of offsets = take (length offsets - 2) (drop 1 offsets)
+
+-- how many inner offsets lie before the window's end
+abbrev pub inner_before_end : List ℕ → ℕ
+inner_before_end offsets = count_by (λ offset. nat_lt offset (last_of offsets)) (inner_of offsets)
+
+-- what a check of offsets reads: nothing where the last of them is past the bytes; of a window that is ASCII nothing but
+-- that it is, by one test; any other window by one test more, and of the inner offsets' bytes each once at most. Where
+-- the offsets pass, each inner offset before the window's end was looked at
+pub record ReadsOnce (Passes : Type 0) (offsets : List ℕ) (old new : Reading) : Type 0 where
+  pub past : length old.bytes < last_of offsets → new ≡ old
+  pub ascii : last_of offsets ≤ length old.bytes → IsAscii (window_of offsets old.bytes) → new ≡ after_ascii old
+  pub other : last_of offsets ≤ length old.bytes → ¬ IsAscii (window_of offsets old.bytes) → LooksAtMost (length offsets - 2) (after_whole_test (after_ascii old)) new
+  pub passed : Passes → ¬ IsAscii (window_of offsets old.bytes) → new ≡ after_looks (inner_before_end offsets) (after_whole_test (after_ascii old))
+
+-- an inner offset before a place stands at a continuation byte
+pub record CutsOne (offsets bytes : List ℕ) (place : ℕ) : Type 0 where
+  pub at : ℕ
+  pub some : 0 < at
+  pub more : at + 1 < length offsets
+  pub before : slice_index offsets at < place
+  pub goes_on : IsContinuation (slice_index bytes (slice_index offsets at))

@@ -1,0 +1,33 @@
+//! The acts by which bytes are read, and their counts.
+use arrow_check::cost::{TextBytes, TextCost};
+
+/// The counts of a cost.
+fn counts(cost: TextCost) -> [u64; 3] {
+    [cost.ascii_tests(), cost.whole_tests(), cost.bytes_looked()]
+}
+
+#[test]
+fn each_act_is_counted_once(rt: HostRuntime) {
+    let bytes = [0x61, 0xC3, 0xA9, 0x7F];
+    let mut text = TextBytes::new(bytes.as_slice(), TextCost::new());
+    let acts = [
+        text.ascii(0, 1),
+        !text.ascii(0, 4),
+        text.ascii(3, 1),
+        text.whole_test(0, 3),
+        !text.whole_test(0, 2),
+        text.look(1) == 0xC3,
+    ];
+    assert!(rt; acts == [true; 6]);
+    assert!(rt; text.len() == 4 && counts(text.cost()) == [3, 2, 1]);
+}
+
+#[test]
+fn counts_go_on_from_those_before(rt: HostRuntime) {
+    let bytes = [0x61];
+    let mut text = TextBytes::new(bytes.as_slice(), TextCost::new());
+    let first = text.whole_test(0, 1);
+    let mut again = TextBytes::new(bytes.as_slice(), text.cost());
+    let second = again.whole_test(0, 0);
+    assert!(rt; first && second && counts(again.cost()) == [0, 2, 0]);
+}

@@ -1,0 +1,69 @@
+-- What a session reads, runs and writes.
+use Rattle.std.specs.Prelude.{◌≡◌, ℕ, ◌⊎◌, List, [], ◌++◌, ℤ, pos, replicate, codes, decimal, Option, Some, None, Result, Ok, Err, String, string_bytes, ⊤}
+use Rattle.std.specs.declared.alloc.Global.{Global}
+use Rattle.std.specs.Io.{StartsWith}
+use Rattle.arrow_types.specs.Types.{default_logical_type}
+use Rattle.arrow_types.specs.declared.primitive_type.PrimitiveType.TheVariants.{Int64}
+use Rattle.arrow_session.specs.declared.outcome.Outcome.{Outcome}
+use Rattle.arrow_session.specs.declared.outcome.Outcome.TheVariants as outcome
+use Rattle.arrow_session.specs.declared.lines.parse.InputError.{InputError}
+use Rattle.arrow_session.specs.declared.lines.parse.InputError.TheVariants as error
+use Rattle.arrow_session.specs.Command.{Request}
+use Rattle.arrow_session.specs.Reply.{Answer}
+use Rattle.arrow_session.specs.Entry.{State}
+use Rattle.arrow_session.specs.Run.{IsRun}
+use Rattle.arrow_session.specs.Lines.{requests, bad_line, commands_of}
+use Rattle.arrow_session.specs.Text.{text_of}
+
+-- the input is a list of commands, and the text is that of the replies of a run of all of them from 16 empty entries
+abbrev pub IsAnswer : List ℕ → List ℕ → Type 0
+IsAnswer input text =
+    (commands : List (Request ℤ)) × (replies : List (Answer ℤ)) × (final : State ℤ)
+    × (commands_of input ≡ requests commands)
+    × IsRun (pos 0) (default_logical_type Int64) (replicate 16 None) commands replies final
+    × (text ≡ text_of replies)
+
+-- the text is the answer to the input, and the number is that of its first bad line; memory may always be wanting
+abbrev pub Answers : List ℕ → Result (String Global) InputError → Type 0
+Answers input (Ok text) = IsAnswer input (string_bytes text)
+Answers input (Err (error.BadLine n)) = commands_of input ≡ bad_line n
+Answers input (Err error.Memory) = ⊤
+
+-- Of a session: the input, what is left of it, what the writer held, and what it holds.
+module _ (input : List ℕ) (left : Option (List ℕ)) (old : List ℕ) (new : Option (List ℕ)) where
+  -- the input was read to its end
+  abbrev pub IsRead : Type 0
+  IsRead = left ≡ Some []
+
+  -- nothing was written
+  abbrev pub IsSilent : Type 0
+  IsSilent = new ≡ Some old
+
+  -- the answer to the whole input was written
+  abbrev pub IsAnswered : Type 0
+  IsAnswered = IsRead × (text : List ℕ) × IsAnswer input text × (new ≡ Some (old ++ text))
+
+  -- a beginning of the answer to the whole input was written
+  abbrev pub IsBegun : Type 0
+  IsBegun = IsRead × (text front : List ℕ) × IsAnswer input text × StartsWith text front × (new ≡ Some (old ++ front))
+
+  -- what each outcome says
+  abbrev pub Ends : Outcome → Type 0
+  Ends outcome.Done = IsAnswered
+  Ends (outcome.BadLine n) = IsRead × (commands_of input ≡ bad_line n) × IsSilent
+  Ends outcome.Device = IsSilent ⊎ IsBegun
+  Ends outcome.Memory = IsSilent ⊎ IsBegun
+
+-- the exit status of the program
+abbrev pub status_of : Outcome → ℕ
+status_of outcome.Done = 0
+status_of (outcome.BadLine n) = 2
+status_of outcome.Device = 1
+status_of outcome.Memory = 1
+
+-- what the program says of an outcome
+abbrev pub outcome_text : Outcome → List ℕ
+outcome_text outcome.Done = []
+outcome_text (outcome.BadLine n) = codes "line " ++ decimal n ++ codes ": not a command"
+outcome_text outcome.Device = codes "device fault"
+outcome_text outcome.Memory = codes "out of memory"

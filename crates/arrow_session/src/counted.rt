@@ -1,0 +1,88 @@
+//! Readers and writers that count their faults.
+ghost use Rattle.std.specs.Prelude.{◌≡◌, ◌≤◌, is_err};
+ghost use Rattle.std.specs.Io.{ReadsAtMost, WritesAtMost};
+ghost use Rattle.std.specs.Io.KnownBytes.{Keeps, ReadConsumes, WriteAppends};
+ghost use Rattle.arrow_session.specs.Counted.{fault_count, inside, count_after, is_write_fault};
+
+use std::io;
+use std::io::{Read, Write};
+
+/// A reader or a writer that counts its faults: reads, writes and flushes that failed, and writes of
+/// a piece that took nothing of it.
+#[derive(Drop)]
+pub struct Counted<R> {
+    inner: R,
+    faults: u64,
+}
+
+impl<R> Counted<R> {
+    /// A reader or a writer with no faults so far. Needs no memory.
+    pub fn new(inner: R) -> Self
+        ensures count { fault_count result ≡ 0 }
+        ensures inside { inside result ≡ inner }
+    {
+        Counted { inner, faults: 0 }
+    }
+
+    /// How many faults there were, or `u64::MAX` where there were more.
+    pub fn count(&self) -> u64
+        ensures { result ≡ fault_count self.now }
+    {
+        self.faults
+    }
+
+    /// Counts a fault, where there was one.
+    fn note(&mut self, is_fault: bool)
+        ensures count { fault_count self.new ≡ count_after is_fault (fault_count self.old) }
+        ensures never_less { fault_count self.old ≤ fault_count self.new }
+        ensures inside { inside self.new ≡ inside self.old }
+    {
+        if is_fault {
+            self.faults = self.faults.saturating_add(1);
+        }
+    }
+}
+
+impl<R: Read> Read for Counted<R> {
+    ghost remaining = { λ counted. R.remaining (inside counted) };
+
+    fn read(&mut self, buf: &mut [u8]) -> io::Result<usize>
+        ensures bound { ReadsAtMost result buf.new }
+        ensures bytes { ReadConsumes (R.remaining (inside self.old)) (R.remaining (inside self.new)) result buf.new }
+        ensures count { fault_count self.new ≡ count_after (is_err result) (fault_count self.old) }
+        ensures never_less { fault_count self.old ≤ fault_count self.new }
+    {
+        let result = self.inner.read(buf);
+        self.note(result.is_err());
+        result
+    }
+}
+
+impl<W: Write> Write for Counted<W> {
+    ghost contents = { λ counted. W.contents (inside counted) };
+
+    fn write(&mut self, buf: &[u8]) -> io::Result<usize>
+        ensures bound { WritesAtMost result buf.now }
+        ensures bytes { WriteAppends (W.contents (inside self.old)) (W.contents (inside self.new)) result buf.now }
+        ensures count { fault_count self.new ≡ count_after (is_write_fault result buf.now) (fault_count self.old) }
+        ensures never_less { fault_count self.old ≤ fault_count self.new }
+    {
+        let result = self.inner.write(buf);
+        let is_fault = match &result {
+            Ok(taken) => *taken == 0 && !buf.is_empty(),
+            Err(_) => true,
+        };
+        self.note(is_fault);
+        result
+    }
+
+    fn flush(&mut self) -> io::Result<()>
+        ensures bytes { Keeps (W.contents (inside self.old)) (W.contents (inside self.new)) }
+        ensures count { fault_count self.new ≡ count_after (is_err result) (fault_count self.old) }
+        ensures never_less { fault_count self.old ≤ fault_count self.new }
+    {
+        let result = self.inner.flush();
+        self.note(result.is_err());
+        result
+    }
+}

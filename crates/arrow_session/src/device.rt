@@ -1,0 +1,127 @@
+//! Reading to the end, and writing all.
+ghost use Rattle.std.specs.Prelude.{◌≡◌, ◌-◌, ◌^◌, ◌<◌, ◌≤◌, IfOk, OnErr, IsErrOf, length, vec_len, OnOk, IsFalse, take};
+ghost use Rattle.std.specs.Io.KnownBytes.{Appends, Keeps};
+ghost use Rattle.arrow_session.specs.Counted.{inside, fault_count, Rose};
+ghost use Rattle.arrow_session.specs.Device.{Takes, IsWhole, PutsFront};
+
+use crate::counted::Counted;
+use std::alloc::{AllocError, Global};
+use std::io::{ErrorKind, Read, Write};
+
+/// The number of bytes that are read at a time.
+const PIECE: usize = 65536;
+
+/// Why reading or writing stopped.
+#[derive(Drop)]
+pub(crate) enum Fault {
+    /// The device failed.
+    Device,
+    /// Memory was refused.
+    Memory,
+}
+
+impl From<AllocError> for Fault {
+    ghost use Rattle.arrow_session.specs.declared.device.Fault.TheVariants.{Memory};
+
+    ghost from_gives = { λ _ e. e ≡ Memory };
+
+    fn from(_refused: AllocError) -> Fault {
+        Fault::Memory
+    }
+}
+
+/// Appends what one read gives, and says whether the input is at its end. A read that was interrupted
+/// gives nothing.
+fn read_piece<R: Read>(
+    input: &mut Counted<R>,
+    piece: &mut [u8],
+    bytes: &mut Vec<u8>,
+) -> Result<bool, Fault>
+    requires { 0 < length piece.old }
+    ensures taken { IfOk result (λ is_end. Takes (R.remaining (inside input.old)) (R.remaining (inside input.new)) bytes.old.items bytes.new.items is_end) }
+    ensures more { IfOk result (λ is_end. IsFalse is_end → fault_count input.old < 2 ^ 64 - 1 → fault_count input.new ≡ fault_count input.old → vec_len bytes.old < vec_len bytes.new) }
+    ensures never_less { fault_count input.old ≤ fault_count input.new }
+    ensures device { IsErrOf result Fault.Device → Rose (fault_count input.old) (fault_count input.new) }
+{
+    match input.read(piece) {
+        Ok(0) => Ok(true),
+        Ok(count) => {
+            bytes.extend_from_slice(&piece[..count])?;
+            Ok(false)
+        }
+        Err(error) if error.kind() == ErrorKind::Interrupted => Ok(false),
+        Err(_) => Err(Fault::Device),
+    }
+}
+
+/// Room for a piece of this many bytes.
+fn room(alloc: Global, len: usize) -> Result<Vec<u8>, AllocError>
+    ensures { IfOk result (λ piece. vec_len piece ≡ len) }
+{
+    vec![in alloc; 0; len]
+}
+
+/// All that an input has left.
+pub(crate) fn read_all<R: Read>(alloc: Global, input: &mut Counted<R>) -> Result<Vec<u8>, Fault>
+    ensures whole { IfOk result (λ bytes. IsWhole (R.remaining (inside input.old)) (R.remaining (inside input.new)) bytes.items) }
+    ensures device { IsErrOf result Fault.Device → Rose (fault_count input.old) (fault_count input.new) }
+{
+    let mut piece = room(alloc, PIECE)?;
+    let mut bytes = Vec::new(alloc);
+    for _ in 0..u64::MAX {
+        if read_piece(input, &mut piece, &mut bytes)? {
+            return Ok(bytes);
+        }
+    }
+    Err(Fault::Device)
+}
+
+/// How many bytes of a text, which are its first, one write took. A write that was interrupted took
+/// none.
+fn write_piece<W: Write>(output: &mut Counted<W>, text: &[u8]) -> Result<usize, Fault>
+    requires { 0 < length text.now }
+    ensures within { IfOk result (λ count. count ≤ length text.now) }
+    ensures taken { IfOk result (λ count. Appends (W.contents (inside output.old)) (W.contents (inside output.new)) (take count text.now)) }
+    ensures more { IfOk result (λ count. fault_count output.old < 2 ^ 64 - 1 → fault_count output.new ≡ fault_count output.old → 0 < count) }
+    ensures never_less { fault_count output.old ≤ fault_count output.new }
+    ensures kept { OnErr result (Keeps (W.contents (inside output.old)) (W.contents (inside output.new))) }
+    ensures device { OnErr result (Rose (fault_count output.old) (fault_count output.new)) }
+{
+    match output.write(text) {
+        Ok(0) => Err(Fault::Device),
+        Ok(count) => Ok(count),
+        Err(error) if error.kind() == ErrorKind::Interrupted => Ok(0),
+        Err(_) => Err(Fault::Device),
+    }
+}
+
+/// Writes a text. Where that fails a beginning of it was written.
+fn write_all<W: Write>(output: &mut Counted<W>, text: &[u8]) -> Result<(), Fault>
+    ensures whole { OnOk result (Appends (W.contents (inside output.old)) (W.contents (inside output.new)) text.now) }
+    ensures front { PutsFront (W.contents (inside output.old)) (W.contents (inside output.new)) text.now }
+    ensures never_less { fault_count output.old ≤ fault_count output.new }
+    ensures device { OnErr result (Rose (fault_count output.old) (fault_count output.new)) }
+{
+    let mut rest = text;
+    for _ in 0..u64::MAX {
+        if rest.is_empty() {
+            return Ok(());
+        }
+        let count = write_piece(output, rest)?;
+        rest = &rest[count..];
+    }
+    Err(Fault::Device)
+}
+
+/// Writes a text and flushes it. Where that fails a beginning of it was written.
+pub(crate) fn send<W: Write>(output: &mut Counted<W>, text: &[u8]) -> Result<(), Fault>
+    ensures whole { OnOk result (Appends (W.contents (inside output.old)) (W.contents (inside output.new)) text.now) }
+    ensures front { PutsFront (W.contents (inside output.old)) (W.contents (inside output.new)) text.now }
+    ensures device { OnErr result (Rose (fault_count output.old) (fault_count output.new)) }
+{
+    write_all(output, text)?;
+    match output.flush() {
+        Ok(()) => Ok(()),
+        Err(_) => Err(Fault::Device),
+    }
+}

@@ -1,0 +1,9 @@
+//! Sessions of commands on a table of arrays and builders, from lines to lines.
+#![tactic(auto)]
+
+pub mod counted;
+pub mod device;
+pub mod lines;
+pub mod outcome;
+pub mod session;
+pub mod table;

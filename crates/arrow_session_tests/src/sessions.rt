@@ -1,0 +1,62 @@
+//! Whole sessions over known bytes, with ample memory.
+use arrow_session::counted::Counted;
+use arrow_session::outcome::Outcome;
+use arrow_session::session::session;
+use std::alloc::{AllocError, Global};
+use std::test::Fail;
+
+/// A builder that is filled, popped, frozen, sliced and looked at.
+pub(crate) const FIRST_RUN: &str =
+    "new 0 mprim\npush 0 v1\npush 0 _\npush 0 v2\npop 0\npush 0 v3\nfreeze 0\nlist 0\nslice 0 1 2\nlist 0\nlen 0\npop 0\n";
+
+/// What it is answered.
+pub(crate) const FIRST_REPLIES: &str =
+    "ok\nok\nok\nok\nv2\nok\nok\n[v1 _ v3]\nok\n[_ v3]\n2\nnot met\n";
+
+/// Every command where its condition holds and where it fails, the ends of numbers, spaces and leading zeros.
+const EACH_COMMAND: &str =
+    "new 1 prim\nlist 1\nlen 1\nget 1 0\npop 1\npush 1 _\nfreeze 1\nnew 16 prim\nlist 3\nlen 3\npop 3\nfreeze 3\nnew 2 mprim\nnew 2 prim\npop 2\npush 2 v-7\n\n#push 2 v8\n  push   002  v-0   \npush 2 v9223372036854775807\npush 2 v-9223372036854775808\npush 2 _\nget 2 0\nslice 2 0 0\nlist 2\nlen 2\nfreeze 2\nget 2 3\nget 2 4\nget 2 5\nslice 2 1 5\nslice 2 1 18446744073709551615\nslice 2 18446744073709551615 2\nslice 2 1 1\nlist 2\nlen 18446744073709551615";
+
+/// What they are answered.
+const EACH_REPLY: &str =
+    "ok\n[]\n0\nnot met\nnot met\nnot met\nnot met\nnot met\nnot met\nnot met\nnot met\nnot met\nok\nnot met\n_\nok\nok\nok\nok\nok\nnot met\nnot met\n[v-7 v0 v9223372036854775807 v-9223372036854775808 _]\n5\nok\nv-9223372036854775808\n_\nnot met\nnot met\nnot met\nnot met\nok\n[v0]\nnot met\n";
+
+/// Whether a session over an input ends with this status and writes this.
+fn is_ended(alloc: Global, input: &str, status: u8, output: &str) -> bool {
+    let mut written = Vec::new(alloc);
+    let mut writer = Counted::new(&mut written);
+    let outcome = session(alloc, &mut Counted::new(input.as_bytes()), &mut writer);
+    drop(writer);
+    outcome.status() == status && written.as_slice() == output.as_bytes()
+}
+
+#[test]
+fn status_and_output(rt: HostRuntime) {
+    for (input, status, output) in [
+        (FIRST_RUN, 0, FIRST_REPLIES),
+        (EACH_COMMAND, 0, EACH_REPLY),
+        ("new 0 mprim\npush 0 1\n", 2, ""),
+        ("", 0, ""),
+        ("# nothing is asked\n\n   ", 0, ""),
+    ] {
+        assert!(rt; is_ended(rt.alloc(), input, status, output));
+    }
+}
+
+/// Whether an outcome has this status and says this.
+fn is_said(alloc: Global, outcome: Outcome, status: u8, words: &str) -> Result<bool, AllocError> {
+    Ok(outcome.status() == status && outcome.to_string(alloc)?.as_str() == words)
+}
+
+#[test]
+fn status_and_words(rt: HostRuntime) -> Result<(), Fail> {
+    for (outcome, status, words) in [
+        (Outcome::Done, 0, ""),
+        (Outcome::BadLine(2), 2, "line 2: not a command"),
+        (Outcome::Device, 1, "device fault"),
+        (Outcome::Memory, 1, "out of memory"),
+    ] {
+        assert!(rt; is_said(rt.alloc(), outcome, status, words)?);
+    }
+    Ok(())
+}

@@ -1,0 +1,110 @@
+//! What each type is in numbers, as ghost members say it that contracts name. Each law is the contract of a function that
+//! does nothing.
+ghost use Rattle.std.specs.Prelude.{◌≡◌, ℕ, ℤ, pos, true, false};
+ghost use Rattle.arrow_types.specs.declared.primitive_type.PrimitiveType.TheVariants.{Int8, Int16, Int32, Int64, Int128, Int256, UInt8, UInt16, UInt32, UInt64, DaysMs, MonthDayNano};
+
+use crate::index_key::IndexKey;
+use crate::native_type::{NativeType, days_ms, i256, months_days_ns};
+use crate::offset::Offset;
+
+/// A null of `i8` stores zero.
+pub fn native_i8()
+    ensures primitive { ⟦<i8 as NativeType>⟧.PRIMITIVE ≡ Int8 }
+    ensures zero { ⟦<i8 as NativeType>⟧.zero ≡ pos 0 }
+{}
+
+/// A null of `i16` stores zero.
+pub fn native_i16()
+    ensures primitive { ⟦<i16 as NativeType>⟧.PRIMITIVE ≡ Int16 }
+    ensures zero { ⟦<i16 as NativeType>⟧.zero ≡ pos 0 }
+{}
+
+/// A null of `i32` stores zero.
+pub fn native_i32()
+    ensures primitive { ⟦<i32 as NativeType>⟧.PRIMITIVE ≡ Int32 }
+    ensures zero { ⟦<i32 as NativeType>⟧.zero ≡ pos 0 }
+{}
+
+/// A null of `i64` stores zero.
+pub fn native_i64()
+    ensures primitive { ⟦<i64 as NativeType>⟧.PRIMITIVE ≡ Int64 }
+    ensures zero { ⟦<i64 as NativeType>⟧.zero ≡ pos 0 }
+{}
+
+/// A null of `i128` stores zero.
+pub fn native_i128()
+    ensures primitive { ⟦<i128 as NativeType>⟧.PRIMITIVE ≡ Int128 }
+    ensures zero { ⟦<i128 as NativeType>⟧.zero ≡ pos 0 }
+{}
+
+/// A null of `u8` stores zero.
+pub fn native_u8()
+    ensures primitive { ⟦<u8 as NativeType>⟧.PRIMITIVE ≡ UInt8 }
+    ensures zero { ⟦<u8 as NativeType>⟧.zero ≡ 0 }
+{}
+
+/// A null of `u16` stores zero.
+pub fn native_u16()
+    ensures primitive { ⟦<u16 as NativeType>⟧.PRIMITIVE ≡ UInt16 }
+    ensures zero { ⟦<u16 as NativeType>⟧.zero ≡ 0 }
+{}
+
+/// A null of `u32` stores zero.
+pub fn native_u32()
+    ensures primitive { ⟦<u32 as NativeType>⟧.PRIMITIVE ≡ UInt32 }
+    ensures zero { ⟦<u32 as NativeType>⟧.zero ≡ 0 }
+{}
+
+/// A null of `u64` stores zero.
+pub fn native_u64()
+    ensures primitive { ⟦<u64 as NativeType>⟧.PRIMITIVE ≡ UInt64 }
+    ensures zero { ⟦<u64 as NativeType>⟧.zero ≡ 0 }
+{}
+
+/// A null of `i256` stores zero in every part.
+pub fn native_i256()
+    ensures primitive { ⟦<i256 as NativeType>⟧.PRIMITIVE ≡ Int256 }
+    ensures high { ⟦<i256 as NativeType>⟧.zero.0 ≡ pos 0 }
+    ensures low { ⟦<i256 as NativeType>⟧.zero.1 ≡ 0 }
+{}
+
+/// A null of `days_ms` stores zero in every part.
+pub fn native_days_ms()
+    ensures primitive { ⟦<days_ms as NativeType>⟧.PRIMITIVE ≡ DaysMs }
+    ensures days { ⟦<days_ms as NativeType>⟧.zero.0 ≡ pos 0 }
+    ensures milliseconds { ⟦<days_ms as NativeType>⟧.zero.1 ≡ pos 0 }
+{}
+
+/// A null of `months_days_ns` stores zero in every part.
+pub fn native_months_days_ns()
+    ensures primitive { ⟦<months_days_ns as NativeType>⟧.PRIMITIVE ≡ MonthDayNano }
+    ensures months { ⟦<months_days_ns as NativeType>⟧.zero.0 ≡ pos 0 }
+    ensures days { ⟦<months_days_ns as NativeType>⟧.zero.1 ≡ pos 0 }
+    ensures nanoseconds { ⟦<months_days_ns as NativeType>⟧.zero.2 ≡ pos 0 }
+{}
+
+/// The offsets of the small layouts are those of `i32` up to its greatest.
+pub fn offset_i32()
+    ensures number { (x : ℤ) → ⟦<i32 as Offset>⟧.number x ≡ x }
+    ensures most { ⟦<i32 as Offset>⟧.most ≡ 2147483647 }
+    ensures large { ⟦<i32 as Offset>⟧.IS_LARGE ≡ false }
+{}
+
+/// The offsets of the large layouts are those of `i64` up to its greatest.
+pub fn offset_i64()
+    ensures number { (x : ℤ) → ⟦<i64 as Offset>⟧.number x ≡ x }
+    ensures most { ⟦<i64 as Offset>⟧.most ≡ 9223372036854775807 }
+    ensures large { ⟦<i64 as Offset>⟧.IS_LARGE ≡ true }
+{}
+
+/// A key is the number that it is.
+pub fn keys()
+    ensures i8 { (x : ℤ) → ⟦<i8 as IndexKey>⟧.number x ≡ x }
+    ensures i16 { (x : ℤ) → ⟦<i16 as IndexKey>⟧.number x ≡ x }
+    ensures i32 { (x : ℤ) → ⟦<i32 as IndexKey>⟧.number x ≡ x }
+    ensures i64 { (x : ℤ) → ⟦<i64 as IndexKey>⟧.number x ≡ x }
+    ensures u8 { (x : ℕ) → ⟦<u8 as IndexKey>⟧.number x ≡ pos x }
+    ensures u16 { (x : ℕ) → ⟦<u16 as IndexKey>⟧.number x ≡ pos x }
+    ensures u32 { (x : ℕ) → ⟦<u32 as IndexKey>⟧.number x ≡ pos x }
+    ensures u64 { (x : ℕ) → ⟦<u64 as IndexKey>⟧.number x ≡ pos x }
+{}

@@ -1,3 +1,0 @@
-mod GrowthLemmas
-mod PartLemmas
-mod TextLemmas

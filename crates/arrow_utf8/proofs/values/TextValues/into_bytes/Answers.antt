@@ -1,4 +1,0 @@
-use Rattle.arrow_utf8.proofs.values.TextValues.into_bytes.Goals as goal
-
-pub returns-clause-texts : goal.returns-clause-texts
-returns-clause-texts g c = rw (← c.self.view_is) c.self.invariant
