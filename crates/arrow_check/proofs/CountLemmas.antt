@@ -39,10 +39,6 @@ looks-read (suc n) r =
     let one : ReadsAtMost 0 0 1 (after_looks n r) (after_look (after_looks n r)) = record { bytes = refl; ascii = stays _; whole = stays _; looked = rises-one _ } in
     reads-within 0 0 (n + 1) 0 0 (suc n) r (after_looks (suc n) r) (omega arith) (omega arith) (omega arith) (reads-then 0 0 n 0 0 1 r (after_looks n r) _ (looks-read n r) one)
 
--- nothing was read
-pub reads-none : (most : ℕ) (r : Reading) → ReadsAtMost 1 1 most r r
-reads-none most r = reads-within 0 0 0 1 1 most r r (omega arith) (omega arith) (omega arith) (record { bytes = refl; ascii = stays _; whole = stays _; looked = stays _ })
-
 -- one test whether bytes are ASCII was made
 pub reads-ascii : (most : ℕ) (r : Reading) → ReadsAtMost 1 1 most r (after_ascii r)
 reads-ascii most r = reads-within 1 0 0 1 1 most r (after_ascii r) (omega arith) (omega arith) (omega arith) (record { bytes = refl; ascii = rises-one _; whole = stays _; looked = stays _ })

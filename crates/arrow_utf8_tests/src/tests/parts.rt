@@ -245,11 +245,13 @@ fn is_counted(
     bytes: &[u8],
     [array, builders]: [[u64; 3]; 2],
 ) -> Result<bool, Error> {
-    let mut costs = [TextCost::new(); 3];
-    let _told = text_of(array_of(alloc, "Utf8", numbers, bytes, None, &mut costs[0]))?;
-    let _told = builder_fault(alloc, "Utf8", numbers, bytes, None, &mut costs[1])?;
-    let _told = values_fault(alloc, "Utf8", numbers, bytes, &mut costs[2])?;
-    Ok(counts(&costs[0]) == array && counts(&costs[1]) == builders && counts(&costs[2]) == builders)
+    let mut cost = TextCost::new();
+    let _told = text_of(array_of(alloc, "Utf8", numbers, bytes, None, &mut cost))?;
+    let mut built = TextCost::new();
+    let _told = builder_fault(alloc, "Utf8", numbers, bytes, None, &mut built)?;
+    let mut held = TextCost::new();
+    let _told = values_fault(alloc, "Utf8", numbers, bytes, &mut held)?;
+    Ok(counts(&cost) == array && counts(&built) == builders && counts(&held) == builders)
 }
 
 #[test]
