@@ -213,3 +213,17 @@ fn any_bytes_are_an_item(rt: HostRuntime) -> Result<(), Fail> {
     told(takes_any::<i32>(rt.alloc()))?;
     told(takes_any::<i64>(rt.alloc()))
 }
+
+/// Whether no slot over some bytes is taken, and all bytes stay.
+fn takes_none<O: Offset>(alloc: Global) -> Result<bool, Error> {
+    let values = Buffer::from_vec(b"xy".to_vec(alloc)?)?;
+    let offsets = OffsetsBuffer::<O>::new(alloc)?;
+    let array = BinaryArray::new(BinaryArray::<O>::default_data_type(), offsets, values, None);
+    Ok(shows(&array, [0].as_slice(), b"xy", "none"))
+}
+
+#[test]
+fn bytes_without_slots_are_taken(rt: HostRuntime) -> Result<(), Fail> {
+    told(takes_none::<i32>(rt.alloc()))?;
+    told(takes_none::<i64>(rt.alloc()))
+}

@@ -334,46 +334,47 @@ fn builders_grow_by_one_another(rt: HostRuntime) -> Result<(), Fail> {
     Ok(())
 }
 
-/// Whether a new builder takes another's slots twice, and only their bytes.
+/// Whether a new builder takes another's slots twice, and only their bytes, under these marks.
 fn takes_twice<K: Known, O: Offset>(
     builder: &mut MutableByteArray<K, O>,
     other: &MutableByteArray<K, O>,
+    once: &str,
+    twice: &str,
 ) -> Result<bool, Error> {
     builder.try_extend_from_self(other)?;
-    let is_taken = builds(builder, [0, 2, 2].as_slice(), "é".as_bytes(), "10");
+    let is_taken = builds(builder, [0, 2, 2].as_slice(), "é".as_bytes(), once);
     builder.try_extend_from_self(other)?;
-    Ok(is_taken && builds(builder, [0, 2, 2, 4, 4].as_slice(), "éé".as_bytes(), "1010"))
+    Ok(is_taken && builds(builder, [0, 2, 2, 4, 4].as_slice(), "éé".as_bytes(), twice))
 }
 
-/// Two slots behind a byte, the second of which is null.
-fn behind<K: Known, O: Offset>(alloc: Global) -> Result<MutableByteArray<K, O>, Error> {
-    let (data_type, offsets) = (K::data_type(O::IS_LARGE), [1, 3, 3].as_slice());
-    builder_of(alloc, data_type, offsets, b"\xFF\xC3\xA9", "10")
-}
-
-/// Whether a builder takes those of another that lies behind a byte.
-fn joins_behind<K: Known, O: Offset>(
+/// Two slots behind a byte, under these marks.
+fn behind<K: Known, O: Offset>(
     alloc: Global,
-    builder: &mut MutableByteArray<K, O>,
-) -> Result<bool, Error> {
-    match behind::<K, O>(alloc) {
-        Ok(other) => takes_twice(builder, &other),
-        Err(refused) => Err(refused),
-    }
+    marks: &str,
+) -> Result<MutableByteArray<K, O>, Error> {
+    let (data_type, offsets) = (K::data_type(O::IS_LARGE), [1, 3, 3].as_slice());
+    builder_of(alloc, data_type, offsets, b"\xFF\xC3\xA9", marks)
 }
 
-/// Whether a new builder does.
-fn joins_empty<K: Known, O: Offset>(alloc: Global) -> Result<bool, Error> {
-    match MutableByteArray::<K, O>::new(alloc) {
-        Ok(mut builder) => joins_behind(alloc, &mut builder),
-        Err(refused) => Err(refused),
+/// Whether a new builder takes those that lie behind a byte.
+fn joins_empty<K: Known, O: Offset>(alloc: Global, once: &str, twice: &str) -> Result<bool, Error> {
+    match (
+        MutableByteArray::<K, O>::new(alloc),
+        behind::<K, O>(alloc, once),
+    ) {
+        (Ok(mut builder), Ok(other)) => takes_twice(&mut builder, &other, once, twice),
+        (Err(refused), _) => Err(refused),
+        (_, Err(refused)) => Err(refused),
     }
 }
 
 #[test]
 fn bytes_before_the_other_are_left_out(rt: HostRuntime) -> Result<(), Fail> {
-    told(joins_empty::<Binary, i32>(rt.alloc()))?;
-    told(joins_empty::<Binary, i64>(rt.alloc()))?;
-    told(joins_empty::<Utf8, i32>(rt.alloc()))?;
-    told(joins_empty::<Utf8, i64>(rt.alloc()))
+    for (once, twice) in [("none", "none"), ("10", "1010")] {
+        told(joins_empty::<Binary, i32>(rt.alloc(), once, twice))?;
+        told(joins_empty::<Binary, i64>(rt.alloc(), once, twice))?;
+        told(joins_empty::<Utf8, i32>(rt.alloc(), once, twice))?;
+        told(joins_empty::<Utf8, i64>(rt.alloc(), once, twice))?;
+    }
+    Ok(())
 }

@@ -243,33 +243,3 @@ fn parts_that_fit_are_taken(rt: HostRuntime) -> Result<(), Fail> {
     told(arrays_unmasked::<Utf8, i32>(rt.alloc()))?;
     told(arrays_unmasked::<Utf8, i64>(rt.alloc()))
 }
-
-/// An array without slots over some bytes.
-fn over<K: ByteKind, O: Offset>(offsets: OffsetsBuffer<O>, values: Buffer<u8>) -> ByteArray<K, O> {
-    ByteArray::new(
-        ByteArray::<K, O>::default_data_type(),
-        offsets,
-        values,
-        None,
-    )
-}
-
-/// Whether no slot over some bytes is taken, and all bytes stay.
-fn takes_none<K: Known, O: Offset>(alloc: Global) -> Result<bool, Error> {
-    let values = buffer_of(alloc, b"\xFFy")?;
-    let offsets = OffsetsBuffer::<O>::new(alloc)?;
-    made(
-        Ok(over::<K, O>(offsets, values)),
-        [0].as_slice(),
-        b"\xFFy",
-        "none",
-    )
-}
-
-#[test]
-fn bytes_without_slots_are_taken(rt: HostRuntime) -> Result<(), Fail> {
-    told(takes_none::<Binary, i32>(rt.alloc()))?;
-    told(takes_none::<Binary, i64>(rt.alloc()))?;
-    told(takes_none::<Utf8, i32>(rt.alloc()))?;
-    told(takes_none::<Utf8, i64>(rt.alloc()))
-}

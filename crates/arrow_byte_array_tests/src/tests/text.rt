@@ -449,3 +449,16 @@ fn tests_of_texts_are_counted(rt: HostRuntime) -> Result<(), Fail> {
     }
     Ok(())
 }
+
+/// Whether the types of text that are written out are taken.
+fn takes_types(alloc: Global) -> Result<bool, Error> {
+    let nulls = Utf8Array::<i32>::new_null(alloc, DataType::Utf8, 2);
+    let are_nulls = made(nulls, [0, 0, 0].as_slice(), &[], "00")?;
+    let empty = Utf8Array::<i64>::new_empty(alloc, DataType::LargeUtf8);
+    Ok(are_nulls & made(empty, [0].as_slice(), &[], "none")?)
+}
+
+#[test]
+fn types_of_text_are_taken(rt: HostRuntime) -> Result<(), Fail> {
+    told(takes_types(rt.alloc()))
+}
