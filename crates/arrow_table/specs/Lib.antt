@@ -1,0 +1,10 @@
+pub mod Kind
+pub mod Item
+pub mod Request
+pub mod Answer
+pub mod Entry
+pub mod Row
+pub mod Parts
+pub mod Change
+pub mod Step
+pub mod Run

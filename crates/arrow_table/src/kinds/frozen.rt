@@ -1,0 +1,112 @@
+//! What every kind of frozen array tells and does.
+ghost use Rattle.std.specs.Prelude.{◌≡◌, ◌<◌, ◌≤◌, ◌-◌, Bool, Option, Some, IfSome, count_by, length, not, slice_get};
+ghost use Rattle.arrow_memory.specs.Column.{marks_of, with_mask};
+ghost use Rattle.arrow_table.specs.Change.{cut_value, with_column};
+
+use crate::kinds::shown::Shown;
+use arrow_binary::BinaryArray;
+use arrow_boolean::BooleanArray;
+use arrow_memory::bitmap::Bitmap;
+use arrow_primitive::PrimitiveArray;
+use arrow_types::native_type::NativeType;
+use arrow_types::offset::Offset;
+use arrow_utf8::Utf8Array;
+
+/// A frozen array.
+pub(crate) trait Frozen<T: NativeType>: Shown<T> {
+    /// Whether the slot at a place is null.
+    fn is_null_at(&self, i: usize) -> bool
+        requires { i < length (Self.value self.now).column.rows }
+        ensures { slice_get (marks_of (Self.value self.now).column) i ≡ Some (not result) };
+
+    /// The number of nulls.
+    fn nulls(&self) -> usize
+        ensures { result ≡ count_by not (marks_of (Self.value self.now).column) };
+
+    /// Keeps only the slots from a place on, so many of them.
+    fn cut(&mut self, offset: usize, len: usize)
+        requires from { offset ≤ length (Self.value self.old).column.rows }
+        requires room { len ≤ length (Self.value self.old).column.rows - offset }
+        ensures { Self.value self.new ≡ cut_value (Self.value self.old) offset len };
+
+    /// Replaces the mask, which has a mark for each slot.
+    fn put_mask(&mut self, mask: Option<Bitmap>)
+        requires { IfSome mask (λ marks. length marks ≡ length (Self.value self.old).column.rows) }
+        ensures { Self.value self.new ≡ with_column (Self.value self.old) (with_mask (Self.value self.old).column mask) };
+}
+
+#[tactic(auto, using(crate::proofs::Seen::seen_reads, crate::proofs::Seen::seen_places, crate::proofs::Seen::seen_cuts, crate::proofs::Seen::seen_masks))]
+impl<T: NativeType> Frozen<T> for PrimitiveArray<T> {
+    fn is_null_at(&self, i: usize) -> bool {
+        self.is_null(i)
+    }
+
+    fn nulls(&self) -> usize {
+        self.null_count()
+    }
+
+    fn cut(&mut self, offset: usize, len: usize) {
+        self.slice(offset, len);
+    }
+
+    fn put_mask(&mut self, mask: Option<Bitmap>) {
+        self.set_validity(mask);
+    }
+}
+
+#[tactic(auto, using(crate::proofs::Seen::seen_reads, crate::proofs::Seen::seen_places, crate::proofs::Seen::seen_cuts, crate::proofs::Seen::seen_masks))]
+impl<T: NativeType> Frozen<T> for BooleanArray {
+    fn is_null_at(&self, i: usize) -> bool {
+        self.is_null(i)
+    }
+
+    fn nulls(&self) -> usize {
+        self.null_count()
+    }
+
+    fn cut(&mut self, offset: usize, len: usize) {
+        self.slice(offset, len);
+    }
+
+    fn put_mask(&mut self, mask: Option<Bitmap>) {
+        self.set_validity(mask);
+    }
+}
+
+#[tactic(auto, using(crate::proofs::Seen::seen_reads, crate::proofs::Seen::seen_places, crate::proofs::Seen::seen_cuts, crate::proofs::Seen::seen_masks))]
+impl<T: NativeType, O: Offset> Frozen<T> for BinaryArray<O> {
+    fn is_null_at(&self, i: usize) -> bool {
+        self.is_null(i)
+    }
+
+    fn nulls(&self) -> usize {
+        self.null_count()
+    }
+
+    fn cut(&mut self, offset: usize, len: usize) {
+        self.slice(offset, len);
+    }
+
+    fn put_mask(&mut self, mask: Option<Bitmap>) {
+        self.set_validity(mask);
+    }
+}
+
+#[tactic(auto, using(crate::proofs::Seen::seen_reads, crate::proofs::Seen::seen_places, crate::proofs::Seen::seen_cuts, crate::proofs::Seen::seen_masks))]
+impl<T: NativeType, O: Offset> Frozen<T> for Utf8Array<O> {
+    fn is_null_at(&self, i: usize) -> bool {
+        self.is_null(i)
+    }
+
+    fn nulls(&self) -> usize {
+        self.null_count()
+    }
+
+    fn cut(&mut self, offset: usize, len: usize) {
+        self.slice(offset, len);
+    }
+
+    fn put_mask(&mut self, mask: Option<Bitmap>) {
+        self.set_validity(mask);
+    }
+}

@@ -1,0 +1,98 @@
+//! What every kind of array and builder shows of a slot.
+ghost use Rattle.std.specs.Prelude.{◌≡◌, ◌<◌, IfErr, IfOk, IsTrue, Some, length, slice_get};
+ghost use Rattle.arrow_memory.specs.Column.{stored_values};
+ghost use Rattle.arrow_table.specs.Item.{stored_item};
+ghost use Rattle.arrow_table.specs.Kind.{is_pieces};
+
+use crate::Item;
+use crate::kinds::kept::Kept;
+use crate::rows::items::{bytes_copied, text_copied};
+use arrow_binary::{BinaryArray, MutableBinaryArray, MutableBinaryValuesArray};
+use arrow_boolean::{BooleanArray, MutableBooleanArray};
+use arrow_primitive::{MutablePrimitiveArray, PrimitiveArray};
+use arrow_types::native_type::NativeType;
+use arrow_types::offset::Offset;
+use arrow_utf8::{MutableUtf8Array, MutableUtf8ValuesArray, Utf8Array};
+use std::alloc::{AllocError, Global};
+
+/// An array or a builder whose slots are shown as items.
+pub(crate) trait Shown<T: NativeType>: Kept<T> {
+    /// What the slot at a place stores, null slots too; bytes and texts are copied.
+    ///
+    /// # Errors
+    /// Where memory is refused.
+    fn stored_at(&self, alloc: Global, i: usize) -> Result<Item<T>, AllocError>
+        requires { i < length (Self.value self.now).column.rows }
+        ensures ok { IfOk result (λ item. slice_get (stored_values (Self.value self.now).column) i ≡ Some (stored_item item)) }
+        ensures err { IfErr result (λ _. IsTrue (is_pieces (Self.value self.now).shape)) };
+}
+
+#[tactic(auto, using(crate::proofs::Seen::seen_reads, crate::proofs::Seen::seen_places))]
+impl<T: NativeType> Shown<T> for PrimitiveArray<T> {
+    fn stored_at(&self, _alloc: Global, i: usize) -> Result<Item<T>, AllocError> {
+        Ok(Item::Value(self.value(i)))
+    }
+}
+
+#[tactic(auto, using(crate::proofs::Seen::seen_reads, crate::proofs::Seen::seen_places))]
+impl<T: NativeType> Shown<T> for BooleanArray {
+    fn stored_at(&self, _alloc: Global, i: usize) -> Result<Item<T>, AllocError> {
+        Ok(Item::Bit(self.value(i)))
+    }
+}
+
+#[tactic(auto, using(crate::proofs::Seen::seen_reads, crate::proofs::Seen::seen_places))]
+impl<T: NativeType, O: Offset> Shown<T> for BinaryArray<O> {
+    fn stored_at(&self, alloc: Global, i: usize) -> Result<Item<T>, AllocError> {
+        bytes_copied(alloc, self.value(i))
+    }
+}
+
+#[tactic(auto, using(crate::proofs::Seen::seen_reads, crate::proofs::Seen::seen_places))]
+impl<T: NativeType, O: Offset> Shown<T> for Utf8Array<O> {
+    fn stored_at(&self, alloc: Global, i: usize) -> Result<Item<T>, AllocError> {
+        text_copied(alloc, self.value(i))
+    }
+}
+
+#[tactic(auto, using(crate::proofs::Seen::seen_counts, crate::proofs::Seen::seen_places))]
+impl<T: NativeType> Shown<T> for MutablePrimitiveArray<T> {
+    fn stored_at(&self, _alloc: Global, i: usize) -> Result<Item<T>, AllocError> {
+        Ok(Item::Value(self.values()[i]))
+    }
+}
+
+#[tactic(auto, using(crate::proofs::Seen::seen_counts, crate::proofs::Seen::seen_places))]
+impl<T: NativeType> Shown<T> for MutableBooleanArray {
+    fn stored_at(&self, _alloc: Global, i: usize) -> Result<Item<T>, AllocError> {
+        Ok(Item::Bit(self.values().get(i)))
+    }
+}
+
+#[tactic(auto, using(crate::proofs::Seen::seen_reads, crate::proofs::Seen::seen_places))]
+impl<T: NativeType, O: Offset> Shown<T> for MutableBinaryArray<O> {
+    fn stored_at(&self, alloc: Global, i: usize) -> Result<Item<T>, AllocError> {
+        bytes_copied(alloc, self.value(i))
+    }
+}
+
+#[tactic(auto, using(crate::proofs::Seen::seen_reads, crate::proofs::Seen::seen_places))]
+impl<T: NativeType, O: Offset> Shown<T> for MutableUtf8Array<O> {
+    fn stored_at(&self, alloc: Global, i: usize) -> Result<Item<T>, AllocError> {
+        text_copied(alloc, self.value(i))
+    }
+}
+
+#[tactic(auto, using(crate::proofs::Seen::seen_reads, crate::proofs::Seen::seen_places))]
+impl<T: NativeType, O: Offset> Shown<T> for MutableBinaryValuesArray<O> {
+    fn stored_at(&self, alloc: Global, i: usize) -> Result<Item<T>, AllocError> {
+        bytes_copied(alloc, self.value(i))
+    }
+}
+
+#[tactic(auto, using(crate::proofs::Seen::seen_reads, crate::proofs::Seen::seen_places))]
+impl<T: NativeType, O: Offset> Shown<T> for MutableUtf8ValuesArray<O> {
+    fn stored_at(&self, alloc: Global, i: usize) -> Result<Item<T>, AllocError> {
+        text_copied(alloc, self.value(i))
+    }
+}

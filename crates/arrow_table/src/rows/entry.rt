@@ -1,0 +1,129 @@
+//! How a command finds in an entry the kind that it is for: one function for each group of kinds, whatever the command.
+ghost use Rattle.std.specs.Prelude.{Option, Some, option_map};
+ghost use Rattle.arrow_table.specs.Answer.{told};
+ghost use Rattle.arrow_table.specs.Entry.{Value, types, value_of};
+ghost use Rattle.arrow_table.specs.Request.{Ask};
+ghost use Rattle.arrow_table.specs.Row.{Row};
+ghost use Rattle.arrow_table.specs.Step.{Does};
+
+use crate::kinds::frozen::Frozen;
+use crate::kinds::growing::Growing;
+use crate::kinds::shown::Shown;
+use crate::{Entry, Reply};
+use arrow_types::native_type::NativeType;
+use arrow_types::offset::Offset;
+use std::alloc::Global;
+
+/// A row: what a command does to an entry.
+pub(crate) trait EntryRow<T: NativeType, O: Offset> {
+    /// Which answer may come of what was there, and what is then there.
+    ghost means: { Self → Option (Value T) → Row T };
+
+    /// Does it. What is answered is allocated by `alloc`.
+    fn run(self, alloc: Global, entry: &mut Option<Entry<T, O>>) -> Reply<T>
+        ensures { means self (option_map value_of entry.old) (told result) (option_map value_of entry.new) };
+}
+
+/// A command that reads an entry of any kind.
+pub(crate) trait Reads<T: NativeType, O: Offset> {
+    /// What is asked.
+    ghost asked: { Self → Ask T };
+
+    /// Reads an array or a builder.
+    fn read<K: Shown<T>>(&self, alloc: Global, kept: &K) -> Reply<T>
+        ensures { Does (types T.zero T.PRIMITIVE O.most O.IS_LARGE) (K.value kept.now) (asked self.now) (told result) (Some (K.value kept.now)) };
+}
+
+/// The row of a command that reads an entry of any kind.
+#[derive(Drop)]
+pub(crate) struct OfAny<R>(pub(crate) R);
+
+impl<T: NativeType, O: Offset, R: Reads<T, O> + Drop> EntryRow<T, O> for OfAny<R> {
+    ghost use Rattle.arrow_table.specs.Entry.{types};
+    ghost use Rattle.arrow_table.specs.Kind.{any_kind};
+    ghost use Rattle.arrow_table.specs.Step.{Does_to};
+
+    ghost means = { λ command. Does_to (types T.zero T.PRIMITIVE O.most O.IS_LARGE) any_kind (R.asked command.0) };
+
+    fn run(self, alloc: Global, entry: &mut Option<Entry<T, O>>) -> Reply<T> {
+        match entry {
+            Some(Entry::Primitive(kept)) => self.0.read(alloc, kept),
+            Some(Entry::Boolean(kept)) => self.0.read(alloc, kept),
+            Some(Entry::Binary(kept)) => self.0.read(alloc, kept),
+            Some(Entry::Utf8(kept)) => self.0.read(alloc, kept),
+            Some(Entry::MutablePrimitive(kept)) => self.0.read(alloc, kept),
+            Some(Entry::MutableBoolean(kept)) => self.0.read(alloc, kept),
+            Some(Entry::MutableBinary(kept)) => self.0.read(alloc, kept),
+            Some(Entry::MutableUtf8(kept)) => self.0.read(alloc, kept),
+            Some(Entry::BinaryValues(kept)) => self.0.read(alloc, kept),
+            Some(Entry::Utf8Values(kept)) => self.0.read(alloc, kept),
+            None => Reply::NotMet,
+        }
+    }
+}
+
+/// A command on an array.
+pub(crate) trait ChangesFrozen<T: NativeType, O: Offset> {
+    /// What is asked.
+    ghost asked: { Self → Ask T };
+
+    /// Does it to an array.
+    fn change<K: Frozen<T>>(&self, alloc: Global, kept: &mut K) -> Reply<T>
+        ensures { Does (types T.zero T.PRIMITIVE O.most O.IS_LARGE) (K.value kept.old) (asked self.now) (told result) (Some (K.value kept.new)) };
+}
+
+/// The row of a command on an array.
+#[derive(Drop)]
+pub(crate) struct OfFrozen<R>(pub(crate) R);
+
+impl<T: NativeType, O: Offset, R: ChangesFrozen<T, O> + Drop> EntryRow<T, O> for OfFrozen<R> {
+    ghost use Rattle.arrow_table.specs.Entry.{types};
+    ghost use Rattle.arrow_table.specs.Kind.{is_frozen};
+    ghost use Rattle.arrow_table.specs.Step.{Does_to};
+
+    ghost means = { λ command. Does_to (types T.zero T.PRIMITIVE O.most O.IS_LARGE) is_frozen (R.asked command.0) };
+
+    fn run(self, alloc: Global, entry: &mut Option<Entry<T, O>>) -> Reply<T> {
+        match entry {
+            Some(Entry::Primitive(kept)) => self.0.change(alloc, kept),
+            Some(Entry::Boolean(kept)) => self.0.change(alloc, kept),
+            Some(Entry::Binary(kept)) => self.0.change(alloc, kept),
+            Some(Entry::Utf8(kept)) => self.0.change(alloc, kept),
+            _ => Reply::NotMet,
+        }
+    }
+}
+
+/// A command on a builder.
+pub(crate) trait ChangesBuilder<T: NativeType, O: Offset> {
+    /// What is asked.
+    ghost asked: { Self → Ask T };
+
+    /// Does it to a builder.
+    fn change<K: Growing<T, O>>(&self, alloc: Global, kept: &mut K) -> Reply<T>
+        ensures { Does (types T.zero T.PRIMITIVE O.most O.IS_LARGE) (K.value kept.old) (asked self.now) (told result) (Some (K.value kept.new)) };
+}
+
+/// The row of a command on a builder.
+#[derive(Drop)]
+pub(crate) struct OfBuilder<R>(pub(crate) R);
+
+impl<T: NativeType, O: Offset, R: ChangesBuilder<T, O> + Drop> EntryRow<T, O> for OfBuilder<R> {
+    ghost use Rattle.arrow_table.specs.Entry.{types};
+    ghost use Rattle.arrow_table.specs.Kind.{is_builder};
+    ghost use Rattle.arrow_table.specs.Step.{Does_to};
+
+    ghost means = { λ command. Does_to (types T.zero T.PRIMITIVE O.most O.IS_LARGE) is_builder (R.asked command.0) };
+
+    fn run(self, alloc: Global, entry: &mut Option<Entry<T, O>>) -> Reply<T> {
+        match entry {
+            Some(Entry::MutablePrimitive(kept)) => self.0.change(alloc, kept),
+            Some(Entry::MutableBoolean(kept)) => self.0.change(alloc, kept),
+            Some(Entry::MutableBinary(kept)) => self.0.change(alloc, kept),
+            Some(Entry::MutableUtf8(kept)) => self.0.change(alloc, kept),
+            Some(Entry::BinaryValues(kept)) => self.0.change(alloc, kept),
+            Some(Entry::Utf8Values(kept)) => self.0.change(alloc, kept),
+            _ => Reply::NotMet,
+        }
+    }
+}
