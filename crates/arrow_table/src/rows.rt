@@ -4,5 +4,6 @@ pub(crate) mod entry;
 pub(crate) mod frozen;
 pub(crate) mod items;
 pub(crate) mod read;
+pub(crate) mod step;
 pub(crate) mod table;
 pub(crate) mod two;
