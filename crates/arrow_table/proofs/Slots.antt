@@ -1,9 +1,11 @@
 -- What single slots show, and what becomes of lists of them.
-use Rattle.std.proofs.Common.{◌≡◌, ◌<◌, ℕ, zero, suc, Bool, true, false, List, [], ◌∷◌, length, map, slice_get, slice_index_or, Option, Some, None, IsTrue, if◌then◌else◌, refl, sym, ap, ◌∙◌, arith}
+use Rattle.std.proofs.Common.{◌≡◌, ◌<◌, ℕ, ℤ, pos, unsigned_abs, option_map, zero, suc, ◌+◌, ◌≤◌, ◌≤ℤ◌, Bool, true, false, List, [], ◌∷◌, ◌++◌, length, map, take, slice_get, slice_index_or, Option, Some, None, IsTrue, if◌then◌else◌, refl, sym, ap, ◌∙◌, arith}
 use Rattle.std.specs.List.{list_all}
-use Rattle.std.proofs.lemmas.List.{length-map}
-use Rattle.std.proofs.lemmas.Option.{slice_get_read}
+use Rattle.std.proofs.lemmas.List.{length-map, map-append}
+use Rattle.std.proofs.lemmas.Option.{slice_get_read, slice_get-map}
 use Rattle.arrow_memory.specs.Column.{ColumnWith, Row, slot, IsColumn, all_valid, mask_of, marks_of, slots_of, stored_values}
+use Rattle.arrow_memory.specs.Offsets.{KeepsOffsets, numbers_of}
+use Rattle.arrow_memory.proofs.OffsetLemmas.{value-at, not-negative, length-numbers}
 use Rattle.arrow_bytes.specs.Pieces.{Around}
 use Rattle.arrow_table.specs.Item.{Stored}
 use Rattle.arrow_table.specs.Entry.{seen}
@@ -66,6 +68,37 @@ module _ {A S T : Type 0} (around : A → Around) (stored : S → Stored T) wher
   pub seen-read : (c : ColumnWith A S) (xs : List S) (i : ℕ) (x : S) → xs ≡ stored_values c → i < length (seen around stored c).rows → x ≡ slice_index_or xs i x → slice_get (stored_values (seen around stored c)) i ≡ Some (stored x)
   seen-read c xs i x is within reads =
       get-stored around stored c i x (ap (λ ys. slice_get ys i) (sym is) ∙ slice_get_read xs (length xs) i x refl (omega (arith, within, ap length is, length-stored around stored c)) reads)
+
+-- a list that has grown up to a place, by the item there
+more-at : {Y : Type 0} (ys : List Y) (i : ℕ) (y : Y) → slice_get ys i ≡ Some y → take i ys ++ y ∷ [] ≡ take (i + 1) ys
+more-at [] i y is = grind arith
+more-at (z ∷ ys) zero y is = grind arith
+more-at (z ∷ ys) (suc i) y is = rw (let e : suc i + 1 ≡ suc (i + 1) = omega arith in e) (ap (λ zs. z ∷ zs) (more-at ys i y is))
+
+pub grown-by : {X Y : Type 0} (f : X → Y) (xs : List X) (ys : List Y) (i : ℕ) (x : X) → map f xs ≡ take i ys → slice_get ys i ≡ Some (f x) → map f (xs ++ x ∷ []) ≡ take (i + 1) ys
+grown-by f xs ys i x before is = map-append f xs (x ∷ []) ∙ ap (λ zs. zs ++ f x ∷ []) before ∙ more-at ys i (f x) is
+
+pub whole : {X : Type 0} (xs : List X) (i : ℕ) → length xs ≤ i → take i xs ≡ xs
+whole [] zero past = refl
+whole [] (suc i) past = refl
+whole (x ∷ xs) zero past = absurd (omega arith)
+whole (x ∷ xs) (suc i) past = ap (λ ys. x ∷ ys) (whole xs i (omega arith))
+
+pub length-slots : {A S : Type 0} (c : ColumnWith A S) → length (slots_of c) ≡ length c.rows
+length-slots c = length-map c.rows _
+
+-- the same of the numbers of offsets
+pub number-step : {O : Type 0} (number : O → ℤ) (xs : List O) (ns : List ℕ) (x : O) (i n : ℕ) → i < length xs → x ≡ slice_index_or xs i x → number x ≡ pos n → ns ≡ take i (numbers_of number xs) → ns ++ n ∷ [] ≡ take (i + 1) (numbers_of number xs)
+number-step number xs ns x i n within reads is before =
+    ap (λ ms. ms ++ n ∷ []) before ∙ more-at (numbers_of number xs) i n (
+    slice_get-map unsigned_abs (map number xs) i ∙ ap (option_map unsigned_abs) (slice_get-map number xs i ∙ ap (option_map number) (slice_get_read xs (length xs) i x refl within reads)) ∙ ap (λ z. Some (unsigned_abs z)) is)
+
+pub number-sign : {O : Type 0} (number : O → ℤ) (most : ℕ) (xs : List O) (x : O) (i : ℕ) → KeepsOffsets number most xs → i < length xs → x ≡ slice_index_or xs i x → pos 0 ≤ℤ number x
+number-sign number most xs x i keeps within reads = not-negative (number x) _ (value-at number xs x i keeps.whole within reads)
+
+pub ruleset number_lists = (number-sign, length-numbers, number-step, whole)
+
+pub ruleset slot_lists = (grown-by, whole, length-slots)
 
 pub ruleset slot_reads = (null-slot, valid-slot)
 
