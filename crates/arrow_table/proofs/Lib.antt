@@ -1,2 +1,3 @@
+pub mod Makes
 pub mod Seen
 pub mod Steps
