@@ -1,3 +1,4 @@
+pub mod Makes
 pub mod Seen
 pub mod Slots
 pub mod Steps
