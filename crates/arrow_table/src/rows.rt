@@ -3,5 +3,6 @@ pub(crate) mod builder;
 pub(crate) mod entry;
 pub(crate) mod frozen;
 pub(crate) mod items;
+pub(crate) mod parts;
 pub(crate) mod read;
 pub(crate) mod table;
