@@ -1,4 +1,5 @@
 pub mod Makes
+pub mod Passes
 pub mod Seen
 pub mod Slots
 pub mod Steps

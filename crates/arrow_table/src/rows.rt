@@ -5,6 +5,7 @@ pub(crate) mod entry;
 pub(crate) mod frozen;
 pub(crate) mod items;
 pub(crate) mod make;
+pub(crate) mod parts;
 pub(crate) mod read;
 pub(crate) mod step;
 pub(crate) mod slots;
