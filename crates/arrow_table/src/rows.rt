@@ -11,3 +11,4 @@ pub(crate) mod step;
 pub(crate) mod slots;
 pub(crate) mod table;
 pub(crate) mod two;
+pub(crate) mod whole;
