@@ -5,3 +5,4 @@ pub(crate) mod frozen;
 pub(crate) mod items;
 pub(crate) mod read;
 pub(crate) mod table;
+pub(crate) mod values;
