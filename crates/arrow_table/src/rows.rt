@@ -1,5 +1,6 @@
 //! What each command does to the entry that it names.
 pub(crate) mod builder;
+pub(crate) mod constant;
 pub(crate) mod entry;
 pub(crate) mod frozen;
 pub(crate) mod items;
