@@ -4,3 +4,4 @@ pub mod Seen
 pub mod Slots
 pub mod Steps
 pub mod RunLemmas
+pub mod Values

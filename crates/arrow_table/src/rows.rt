@@ -1,6 +1,7 @@
 //! What each command does to the entry that it names.
 pub(crate) mod builder;
 pub(crate) mod bytes;
+pub(crate) mod constant;
 pub(crate) mod entry;
 pub(crate) mod frozen;
 pub(crate) mod items;
@@ -12,3 +13,4 @@ pub(crate) mod slots;
 pub(crate) mod table;
 pub(crate) mod two;
 pub(crate) mod whole;
+pub(crate) mod values;
