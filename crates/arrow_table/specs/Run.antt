@@ -1,5 +1,5 @@
 -- What a list of commands does: one step after the other; and what its tests of text cost in all.
-use Rattle.std.specs.Prelude.{◌≡◌, ℤ, ℕ, ◌+◌, ◌-◌, Bool, List, [], ◌∷◌, ◌++◌, length, map, if◌then◌else◌}
+use Rattle.std.specs.Prelude.{◌≡◌, ℤ, ℕ, ◌+◌, ◌-◌, Bool, true, false, List, [], ◌∷◌, ◌++◌, length, map, if◌then◌else◌}
 use Rattle.arrow_check.specs.Reading.{Cost, RisesAtMost}
 use Rattle.arrow_table.specs.declared.command.Command.{Command}
 use Rattle.arrow_table.specs.declared.reply.Reply.{Reply}
@@ -22,6 +22,11 @@ module _ {T : Type 0} (c : Types T) where
   abbrev pub AppendsRun : {O : Type 0} → (O → ℤ) → Held T → List (Command T O) → List (Reply T) → List (Reply T) → Held T → Type 0
   AppendsRun number table commands before after new =
       (replies : List (Reply T)) × (after ≡ before ++ replies) × IsRun table (map (asked number) commands) (map told replies) new
+
+-- only raw parts are tested
+abbrev pub is_parts : {T : Type 0} → Request T → Bool
+is_parts (make e s (parts t raw mask)) = true
+is_parts _ = false
 
 -- how many texts a command may test, and how many offsets stand between their slots
 abbrev pub texts_of : {T : Type 0} → Request T → ℕ

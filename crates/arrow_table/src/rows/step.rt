@@ -1,17 +1,86 @@
 //! One command.
 ghost use Rattle.std.specs.Prelude.{◌≡◌, ◌∷◌, [], false, map, MatchOption, option_map};
+ghost use Rattle.arrow_types.specs.Types.{logical_type};
 ghost use Rattle.arrow_table.specs.Answer.{told};
 ghost use Rattle.arrow_table.specs.Entry.{table_of, types, value_of};
 ghost use Rattle.arrow_table.specs.Kind.{shape};
-ghost use Rattle.arrow_table.specs.Request.{asked};
-ghost use Rattle.arrow_table.specs.Run.{CostsAtMost};
-ghost use Rattle.arrow_table.specs.Step.{IsStep};
+ghost use Rattle.arrow_table.specs.Request.{asked, given_by, make, packed_bits, parts};
+ghost use Rattle.arrow_table.specs.Run.{CostsAtMost, is_parts};
+ghost use Rattle.arrow_table.specs.Step.{Changes, IsStep};
 
-use crate::{Command, Entry, Reply};
+use crate::rows::builder::{Pop, Push, PushNull, Reserve, Shrink};
+use crate::rows::bytes::{Bytes, OfPieces, Offsets};
+use crate::rows::constant::ExtendConstant;
+use crate::rows::entry::{OfAny, OfBuilder, OfFrozen};
+use crate::rows::frozen::{Get, IsNull, NullCount, Slice};
+use crate::rows::make::New;
+use crate::rows::read::{Held, Len, TypeOf};
+use crate::rows::slots::{Slots, Value};
+use crate::rows::table::at;
+use crate::rows::two::{CloneFrom, ExtendFrom, at_with, equal, indexes_checked};
+use crate::rows::values::{Set, SetValues, Write};
+use crate::rows::whole::{Empty, Freeze, Nullable, Thaw, To};
+use crate::{Command, Entry, Parts, Reply};
 use arrow_check::cost::TextCost;
 use arrow_types::native_type::NativeType;
 use arrow_types::offset::Offset;
 use std::alloc::Global;
+
+/// Does a command that is not about raw parts. What is answered is allocated by `alloc`.
+pub(crate) fn change<T: NativeType, O: Offset>(
+    alloc: Global,
+    entries: &mut Vec<Option<Entry<T, O>>>,
+    command: &Command<T, O>,
+) -> Reply<T>
+    requires { is_parts (asked O.number command.now) ≡ false }
+    ensures { Changes (types T.zero T.PRIMITIVE O.most O.IS_LARGE) (map (option_map value_of) entries.old.items) (asked O.number command.now) (told result) (map (option_map value_of) entries.new.items) }
+{
+    match command {
+        Command::New(e, kind) => at(alloc, entries, *e, New(*kind)),
+        Command::Len(e) => at(alloc, entries, *e, OfAny(Len)),
+        Command::Value(e, i) => at(alloc, entries, *e, Value(*i)),
+        Command::Get(e, i) => at(alloc, entries, *e, OfFrozen(Get(*i))),
+        Command::IsNull(e, i) => at(alloc, entries, *e, OfFrozen(IsNull(*i))),
+        Command::NullCount(e) => at(alloc, entries, *e, OfFrozen(NullCount)),
+        Command::Slots(e) => at(alloc, entries, *e, OfAny(Slots)),
+        Command::TypeOf(e) => at(alloc, entries, *e, OfAny(TypeOf)),
+        Command::Held(e) => at(alloc, entries, *e, OfAny(Held)),
+        Command::Bytes(e) => at(alloc, entries, *e, OfPieces(Bytes)),
+        Command::Offsets(e) => at(alloc, entries, *e, OfPieces(Offsets)),
+        Command::Slice(e, offset, len) => at(alloc, entries, *e, OfFrozen(Slice(*offset, *len))),
+        Command::Clone(e, f) => at_with(entries, *f, *e, CloneFrom),
+        Command::Drop(e) => at(alloc, entries, *e, Empty),
+        Command::SetValues(e, items) => at(alloc, entries, *e, SetValues(items)),
+        Command::Set(e, i, slot) => at(alloc, entries, *e, Set(*i, slot)),
+        Command::Write(e, i, item) => at(alloc, entries, *e, Write(*i, item)),
+        Command::Push(e, slot) => at(alloc, entries, *e, OfBuilder(Push(slot))),
+        Command::PushNull(e) => at(alloc, entries, *e, OfBuilder(PushNull)),
+        Command::Pop(e) => at(alloc, entries, *e, OfBuilder(Pop)),
+        Command::ExtendConstant(e, n, slot) => at(alloc, entries, *e, ExtendConstant(*n, slot)),
+        Command::ExtendFromSelf(e, f) => at_with(entries, *e, *f, ExtendFrom),
+        Command::Reserve(e, slots, bytes) => {
+            at(alloc, entries, *e, OfBuilder(Reserve(*slots, *bytes)))
+        }
+        Command::Shrink(e) => at(alloc, entries, *e, OfBuilder(Shrink)),
+        Command::Freeze(e) => at(alloc, entries, *e, Freeze),
+        Command::Thaw(e) => at(alloc, entries, *e, Thaw),
+        Command::Nullable(e) => at(alloc, entries, *e, Nullable),
+        Command::To(e, data_type) => at(alloc, entries, *e, To(data_type)),
+        Command::Equal(e, f) => equal(entries, *e, *f),
+        Command::CheckIndexes(keys, length) => indexes_checked(keys, *length),
+        _ => unreachable!(),
+    }
+}
+
+/// The entry and the parts of a command about raw parts.
+fn parts_of<T: NativeType, O: Offset>(command: &Command<T, O>) -> Option<(usize, &Parts<T, O>)>
+    ensures { MatchOption result (is_parts (asked O.number command.now) ≡ false) (λ p. asked O.number command.now ≡ make p.0 (shape p.1.now.kind) (parts (logical_type p.1.now.data_type) (given_by O.number p.1.now.raw) (option_map packed_bits p.1.now.mask))) }
+{
+    match command {
+        Command::Parts(e, parts) => Some((*e, parts)),
+        _ => None,
+    }
+}
 
 /// Does one command. What is answered is allocated by `alloc`.
 pub(crate) fn step<T: NativeType, O: Offset>(
@@ -23,6 +92,11 @@ pub(crate) fn step<T: NativeType, O: Offset>(
     ensures step { IsStep (types T.zero T.PRIMITIVE O.most O.IS_LARGE) (table_of entries.old.items cost.old) (asked O.number command.now) (told result) (table_of entries.new.items cost.new) }
     ensures costs { CostsAtMost (asked O.number command.now ∷ []) cost.old cost.new }
 {
-    let _ = (alloc, entries.len(), cost.whole_tests(), command);
-    unreachable!()
+    match parts_of(command) {
+        Some((e, parts)) => {
+            let _ = (e, parts, cost);
+            unreachable!()
+        }
+        None => change(alloc, entries, command),
+    }
 }
