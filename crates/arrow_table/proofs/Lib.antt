@@ -1,3 +1,4 @@
 pub mod Seen
 pub mod Slots
 pub mod Steps
+pub mod Turns
