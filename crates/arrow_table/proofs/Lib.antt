@@ -5,3 +5,4 @@ pub mod Slots
 pub mod Steps
 pub mod RunLemmas
 pub mod Values
+pub mod Turns

@@ -4,3 +4,4 @@ pub(crate) mod growing;
 pub(crate) mod kept;
 pub(crate) mod pieces;
 pub(crate) mod shown;
+pub(crate) mod turned;

@@ -1,12 +1,14 @@
 //! What every kind of array and builder shows of a slot.
-ghost use Rattle.std.specs.Prelude.{◌≡◌, ◌<◌, IfErr, IfOk, IsTrue, Some, length, not, slice_get};
+ghost use Rattle.std.specs.Prelude.{◌≡◌, ◌<◌, IfErr, IfOk, IsTrue, Some, length, map, not, slice_get};
 ghost use Rattle.arrow_memory.specs.Column.{marks_of, slots_of, stored_values};
+ghost use Rattle.arrow_table.specs.Change.{turns_of};
 ghost use Rattle.arrow_table.specs.Item.{stored_item, stored_slot};
 ghost use Rattle.arrow_table.specs.Kind.{is_pieces};
 
-use crate::Item;
 use crate::kinds::kept::Kept;
+use crate::kinds::turned::all_turns;
 use crate::rows::items::{bytes_copied, text_copied};
+use crate::{Item, Turn};
 use arrow_binary::{BinaryArray, MutableBinaryArray, MutableBinaryValuesArray};
 use arrow_boolean::{BooleanArray, MutableBooleanArray};
 use arrow_primitive::{MutablePrimitiveArray, PrimitiveArray};
@@ -30,6 +32,13 @@ pub(crate) trait Shown<T: NativeType>: Kept<T> {
     fn is_null_at(&self, i: usize) -> bool
         requires { i < length (Self.value self.now).column.rows }
         ensures { slice_get (marks_of (Self.value self.now).column) i ≡ Some (not result) };
+
+    /// What the turns of one fresh iterator over what the slots store give, in order; bytes and texts are copied.
+    ///
+    /// # Errors
+    /// Where memory is refused.
+    fn turns_given(&self, alloc: Global, turns: &[Turn]) -> Result<Vec<Option<Item<T>>>, AllocError>
+        ensures { IfOk result (λ slots. map stored_slot slots.items ≡ turns_of turns.now (stored_values (Self.value self.now).column)) };
 }
 
 /// What the slot at a place shows; bytes and texts are copied.
@@ -64,6 +73,14 @@ impl<T: NativeType> Shown<T> for PrimitiveArray<T> {
     fn is_null_at(&self, i: usize) -> bool {
         self.is_null(i)
     }
+
+    fn turns_given(
+        &self,
+        alloc: Global,
+        turns: &[Turn],
+    ) -> Result<Vec<Option<Item<T>>>, AllocError> {
+        all_turns(alloc, self.values_iter(), turns)
+    }
 }
 
 #[tactic(auto, using(crate::proofs::Seen::seen_reads, crate::proofs::Seen::seen_places))]
@@ -74,6 +91,14 @@ impl<T: NativeType> Shown<T> for BooleanArray {
 
     fn is_null_at(&self, i: usize) -> bool {
         self.is_null(i)
+    }
+
+    fn turns_given(
+        &self,
+        alloc: Global,
+        turns: &[Turn],
+    ) -> Result<Vec<Option<Item<T>>>, AllocError> {
+        all_turns(alloc, self.values_iter(), turns)
     }
 }
 
@@ -86,6 +111,14 @@ impl<T: NativeType, O: Offset> Shown<T> for BinaryArray<O> {
     fn is_null_at(&self, i: usize) -> bool {
         self.is_null(i)
     }
+
+    fn turns_given(
+        &self,
+        alloc: Global,
+        turns: &[Turn],
+    ) -> Result<Vec<Option<Item<T>>>, AllocError> {
+        all_turns(alloc, self.values_iter(), turns)
+    }
 }
 
 #[tactic(auto, using(crate::proofs::Seen::seen_reads, crate::proofs::Seen::seen_places))]
@@ -97,9 +130,17 @@ impl<T: NativeType, O: Offset> Shown<T> for Utf8Array<O> {
     fn is_null_at(&self, i: usize) -> bool {
         self.is_null(i)
     }
+
+    fn turns_given(
+        &self,
+        alloc: Global,
+        turns: &[Turn],
+    ) -> Result<Vec<Option<Item<T>>>, AllocError> {
+        all_turns(alloc, self.values_iter(), turns)
+    }
 }
 
-#[tactic(auto, using(crate::proofs::Seen::seen_counts, crate::proofs::Seen::seen_places, crate::proofs::Slots::slot_marks))]
+#[tactic(auto, using(crate::proofs::Seen::seen_counts, crate::proofs::Seen::seen_reads, crate::proofs::Seen::seen_places, crate::proofs::Slots::slot_marks))]
 impl<T: NativeType> Shown<T> for MutablePrimitiveArray<T> {
     fn stored_at(&self, _alloc: Global, i: usize) -> Result<Item<T>, AllocError> {
         Ok(Item::Value(self.values()[i]))
@@ -111,9 +152,17 @@ impl<T: NativeType> Shown<T> for MutablePrimitiveArray<T> {
             Some(marks) => !marks.get(i),
         }
     }
+
+    fn turns_given(
+        &self,
+        alloc: Global,
+        turns: &[Turn],
+    ) -> Result<Vec<Option<Item<T>>>, AllocError> {
+        all_turns(alloc, self.values_iter(), turns)
+    }
 }
 
-#[tactic(auto, using(crate::proofs::Seen::seen_counts, crate::proofs::Seen::seen_places, crate::proofs::Slots::slot_marks))]
+#[tactic(auto, using(crate::proofs::Seen::seen_counts, crate::proofs::Seen::seen_reads, crate::proofs::Seen::seen_places, crate::proofs::Slots::slot_marks))]
 impl<T: NativeType> Shown<T> for MutableBooleanArray {
     fn stored_at(&self, _alloc: Global, i: usize) -> Result<Item<T>, AllocError> {
         Ok(Item::Bit(self.values().get(i)))
@@ -124,6 +173,14 @@ impl<T: NativeType> Shown<T> for MutableBooleanArray {
             None => false,
             Some(marks) => !marks.get(i),
         }
+    }
+
+    fn turns_given(
+        &self,
+        alloc: Global,
+        turns: &[Turn],
+    ) -> Result<Vec<Option<Item<T>>>, AllocError> {
+        all_turns(alloc, self.values_iter(), turns)
     }
 }
 
@@ -139,6 +196,14 @@ impl<T: NativeType, O: Offset> Shown<T> for MutableBinaryArray<O> {
             Some(marks) => !marks.get(i),
         }
     }
+
+    fn turns_given(
+        &self,
+        alloc: Global,
+        turns: &[Turn],
+    ) -> Result<Vec<Option<Item<T>>>, AllocError> {
+        all_turns(alloc, self.values_iter(), turns)
+    }
 }
 
 #[tactic(auto, using(crate::proofs::Seen::seen_reads, crate::proofs::Seen::seen_places, crate::proofs::Slots::slot_marks))]
@@ -153,6 +218,14 @@ impl<T: NativeType, O: Offset> Shown<T> for MutableUtf8Array<O> {
             Some(marks) => !marks.get(i),
         }
     }
+
+    fn turns_given(
+        &self,
+        alloc: Global,
+        turns: &[Turn],
+    ) -> Result<Vec<Option<Item<T>>>, AllocError> {
+        all_turns(alloc, self.values_iter(), turns)
+    }
 }
 
 #[tactic(auto, using(crate::proofs::Seen::seen_reads, crate::proofs::Seen::seen_places, crate::proofs::Slots::slot_marks))]
@@ -166,6 +239,14 @@ impl<T: NativeType, O: Offset> Shown<T> for MutableBinaryValuesArray<O> {
         self.data_type();
         false
     }
+
+    fn turns_given(
+        &self,
+        alloc: Global,
+        turns: &[Turn],
+    ) -> Result<Vec<Option<Item<T>>>, AllocError> {
+        all_turns(alloc, self.iter(), turns)
+    }
 }
 
 #[tactic(auto, using(crate::proofs::Seen::seen_reads, crate::proofs::Seen::seen_places, crate::proofs::Slots::slot_marks))]
@@ -178,5 +259,13 @@ impl<T: NativeType, O: Offset> Shown<T> for MutableUtf8ValuesArray<O> {
         // The builder tells with its type that no slot is null.
         self.data_type();
         false
+    }
+
+    fn turns_given(
+        &self,
+        alloc: Global,
+        turns: &[Turn],
+    ) -> Result<Vec<Option<Item<T>>>, AllocError> {
+        all_turns(alloc, self.iter(), turns)
     }
 }

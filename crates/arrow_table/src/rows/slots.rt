@@ -9,7 +9,7 @@ ghost use Rattle.arrow_table.specs.Step.{Does};
 
 use crate::kinds::shown::{Shown, slot_at};
 use crate::rows::entry::{EntryRow, Reads};
-use crate::{Entry, Item, Reply};
+use crate::{Entry, Item, Reply, Turn};
 use arrow_binary::{BinaryArray, MutableBinaryValuesArray};
 use arrow_boolean::BooleanArray;
 use arrow_primitive::PrimitiveArray;
@@ -94,6 +94,23 @@ impl<T: NativeType, O: Offset> Reads<T, O> for Slots {
 
     fn read<K: Shown<T>>(&self, alloc: Global, kept: &K) -> Reply<T> {
         match all_slots(alloc, kept) {
+            Ok(slots) => Reply::Slots(slots),
+            Err(_) => Reply::Refused(Error::OutOfMemory),
+        }
+    }
+}
+
+/// What the turns of one fresh iterator over what the slots store give.
+#[derive(Drop)]
+pub(crate) struct Turns<'a>(pub(crate) &'a [Turn]);
+
+impl<'a, T: NativeType, O: Offset> Reads<T, O> for Turns<'a> {
+    ghost use Rattle.arrow_table.specs.Request.{turns};
+
+    ghost asked = { λ command. turns command.0.now };
+
+    fn read<K: Shown<T>>(&self, alloc: Global, kept: &K) -> Reply<T> {
+        match kept.turns_given(alloc, self.0) {
             Ok(slots) => Reply::Slots(slots),
             Err(_) => Reply::Refused(Error::OutOfMemory),
         }
