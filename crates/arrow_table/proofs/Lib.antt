@@ -1,3 +1,4 @@
+pub mod Grown
 pub mod Makes
 pub mod Seen
 pub mod Steps

@@ -1,6 +1,7 @@
 //! What each command does to the entry that it names.
 pub(crate) mod builder;
 pub(crate) mod entry;
+pub(crate) mod extended;
 pub(crate) mod frozen;
 pub(crate) mod items;
 pub(crate) mod make;
