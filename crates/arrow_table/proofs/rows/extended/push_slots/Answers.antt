@@ -8,11 +8,13 @@ use Rattle.arrow_table.proofs.rows.extended.push_slots.Goals as goal
 
 pub loop-slot-preserved : goal.loop-slot-preserved
 loop-slot-preserved g c =
-    let split : c.loop-slot.rest.now ≡ c.in-Some.slot.now ∷ c.in-Some.others.now = search rules in
-    (search rules, search rules,
-    rest-taken (types g.T.NativeType.zero g.T.NativeType.PRIMITIVE g.O.Offset.most g.O.Offset.IS_LARGE) (g.K.Kept.value c.args.kept.now) (map stored_slot c.args.slots.now)
-    (g.K.Kept.value c.loop-slot.kept) (g.K.Kept.value c.push_slot.new.self) (map stored_slot c.loop-slot.rest.now) (map stored_slot c.in-Some.others.now) (stored_slot c.in-Some.slot.now)
-    (ap (map stored_slot) split) c.in-Ok.ensures.ok c.loop-slot.invariant.2)
+    let split : c.loop-slot.rest.now ≡ c.in-Some.slot.now ∷ c.in-Some.others.now = search rules in (
+      search rules,
+      search rules,
+      rest-taken (types g.T.NativeType.zero g.T.NativeType.PRIMITIVE g.O.Offset.most g.O.Offset.IS_LARGE) (g.K.Kept.value c.args.kept.now) (map stored_slot c.args.slots.now)
+          (g.K.Kept.value c.loop-slot.kept) (g.K.Kept.value c.push_slot.new.self) (map stored_slot c.loop-slot.rest.now) (map stored_slot c.in-Some.others.now) (stored_slot c.in-Some.slot.now)
+          (ap (map stored_slot) split) c.in-Ok.ensures.ok c.loop-slot.invariant.2,
+    )
 
 pub returns-clause-ok : goal.returns-clause-ok
 returns-clause-ok g c =

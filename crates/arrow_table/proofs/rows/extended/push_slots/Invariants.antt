@@ -11,8 +11,8 @@ invariant-loop-slot g l =
     ((g.K.Kept.value l.kept).shape ≡ (g.K.Kept.value l.fn.kept).shape)
     × IsTrue (list_all (slot_fits (g.K.Kept.value l.kept).shape.sort) (map stored_slot l.rest))
     × ((reply : Answer g.row.T.Denot) (new : Option (Value g.row.T.Denot))
-      → Extends (types g.T.NativeType.zero g.T.NativeType.PRIMITIVE g.O.Offset.most g.O.Offset.IS_LARGE) (g.K.Kept.value l.kept) (map stored_slot l.rest) reply new
-      → Extends (types g.T.NativeType.zero g.T.NativeType.PRIMITIVE g.O.Offset.most g.O.Offset.IS_LARGE) (g.K.Kept.value l.fn.kept) (map stored_slot l.fn.slots) reply new)
+    → Extends (types g.T.NativeType.zero g.T.NativeType.PRIMITIVE g.O.Offset.most g.O.Offset.IS_LARGE) (g.K.Kept.value l.kept) (map stored_slot l.rest) reply new
+    → Extends (types g.T.NativeType.zero g.T.NativeType.PRIMITIVE g.O.Offset.most g.O.Offset.IS_LARGE) (g.K.Kept.value l.fn.kept) (map stored_slot l.fn.slots) reply new)
 
 abbrev pub decreases-loop-slot : goal.decreases-loop-slot
 decreases-loop-slot g l = length l.rest
