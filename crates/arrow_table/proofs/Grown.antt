@@ -2,7 +2,7 @@
 use Rattle.std.proofs.Common.{◌≡◌, ◌≤◌, ◌+◌, ℕ, zero, suc, Bool, true, false, not, ◌&&◌, nat_eq, List, [], ◌∷◌, length, map, take, Option, Some, None, if◌then◌else◌, refl, sym, ap, ◌∙◌, arith}
 use Rattle.std.proofs.Math.Dec.{eqb-suc-suc, eqb-zero-suc}
 use Rattle.std.proofs.lemmas.List.{nil_from_length}
-use Rattle.std.specs.Prelude.{MatchBool}
+use Rattle.std.specs.Prelude.{IsTrue, MatchBool}
 use Rattle.std.specs.List.{list_all}
 use Rattle.arrow_types.specs.Types.{overflow, out_of_memory, refusal}
 use Rattle.arrow_memory.specs.Column.{refused_growth}
@@ -10,7 +10,9 @@ use Rattle.arrow_table.specs.Answer.{Answer, done, refused, is_memory}
 use Rattle.arrow_table.specs.Entry.{Value, Types}
 use Rattle.arrow_table.specs.Item.{Stored}
 use Rattle.arrow_table.specs.Change.{grown, fitting, slot_over}
-use Rattle.arrow_table.specs.Step.{Extends, all_fit}
+use Rattle.arrow_table.specs.Kind.{is_nullable}
+use Rattle.arrow_table.specs.Request.{Ask}
+use Rattle.arrow_table.specs.Step.{Does, Does_to, Extends, all_fit}
 
 -- either case goes over
 both : (b : Bool) {A A₂ B B₂ : Type 0} → (A → A₂) → (B → B₂) → MatchBool b A B → MatchBool b A₂ B₂
@@ -62,3 +64,7 @@ module _ {T : Type 0} (c : Types T) where
     pub rest-refused : (v w : Value T) (rest others : List (Option (Stored T))) (x : Option (Stored T)) → rest ≡ x ∷ others
         → w ≡ v → DoesRest v rest → Extends c first whole (refused (refusal (refused_growth (slot_over c v x)))) (Some w)
     rest-refused v w rest others x split same h = rw (same) (h (refused (refusal (refused_growth (slot_over c v x)))) (Some v) (rw (split) (refused-so v x others (slot_over c v x) refl)))
+
+  -- a row of builders with nulls
+  pub nullable-row : (asked : Ask T) (old : Option (Value T)) (v : Value T) (reply : Answer T) (new : Option (Value T)) → old ≡ Some v → IsTrue (is_nullable v.shape) → Does c v asked reply new → Does_to c is_nullable asked old reply new
+  nullable-row asked old v reply new is nullable h = rw (is, nullable) h
