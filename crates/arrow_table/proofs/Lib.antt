@@ -1,3 +1,4 @@
+pub mod Grown
 pub mod Makes
 pub mod Passes
 pub mod Seen

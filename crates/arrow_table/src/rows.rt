@@ -3,6 +3,7 @@ pub(crate) mod builder;
 pub(crate) mod bytes;
 pub(crate) mod constant;
 pub(crate) mod entry;
+pub(crate) mod extended;
 pub(crate) mod frozen;
 pub(crate) mod items;
 pub(crate) mod make;

@@ -3,12 +3,12 @@ ghost use Rattle.std.specs.Prelude.{◌≡◌, if◌then◌else◌, ◌∷◌, �
 ghost use Rattle.arrow_memory.specs.Column.{joined, last_slot, refused_growth, without_last};
 ghost use Rattle.arrow_table.specs.Change.{grown, join_over, null_in, slot_over, with_column};
 ghost use Rattle.arrow_table.specs.Entry.{types};
-ghost use Rattle.arrow_table.specs.Item.{slot_fits, stored_slot};
-ghost use Rattle.arrow_table.specs.Kind.{is_nullable, is_pieces};
+ghost use Rattle.arrow_table.specs.Item.{fits, slot_fits, stored_item, stored_slot};
+ghost use Rattle.arrow_table.specs.Kind.{is_nullable, is_pieces, shape};
 
-use crate::Item;
 use crate::kinds::shown::Shown;
 use crate::rows::items::{bit_item, value_item};
+use crate::{Item, Kind};
 use arrow_binary::{MutableBinaryArray, MutableBinaryValuesArray};
 use arrow_boolean::MutableBooleanArray;
 use arrow_primitive::MutablePrimitiveArray;
@@ -31,6 +31,19 @@ pub(crate) trait Growing<T: NativeType, O: Offset>: Shown<T> {
         requires { IsTrue (slot_fits (Self.value self.old).shape.sort (stored_slot slot.now) && (is_nullable (Self.value self.old).shape || not (is_none (stored_slot slot.now)))) }
         ensures ok { OnOk result ((slot_over (types T.zero T.PRIMITIVE O.most O.IS_LARGE) (Self.value self.old) (stored_slot slot.now) ≡ false) × (Self.value self.new ≡ grown (types T.zero T.PRIMITIVE O.most O.IS_LARGE) (Self.value self.old) (stored_slot slot.now ∷ []))) }
         ensures err { IfErr result (λ e. (e ≡ refused_growth (slot_over (types T.zero T.PRIMITIVE O.most O.IS_LARGE) (Self.value self.old) (stored_slot slot.now))) × (Self.value self.new ≡ Self.value self.old)) };
+
+    /// The kind of builder that this is.
+    fn kind(&self) -> Kind
+        ensures { shape result ≡ (Self.value self.now).shape };
+
+    /// Appends an item of the builder's sort.
+    ///
+    /// # Errors
+    /// `Overflow` where offsets can't tell its end, or else `OutOfMemory`; the builder is then as before.
+    fn push_item(&mut self, item: &Item<T>) -> Result<(), Error>
+        requires { IsTrue (fits (Self.value self.old).shape.sort (stored_item item.now)) }
+        ensures ok { OnOk result ((slot_over (types T.zero T.PRIMITIVE O.most O.IS_LARGE) (Self.value self.old) (Some (stored_item item.now)) ≡ false) × (Self.value self.new ≡ grown (types T.zero T.PRIMITIVE O.most O.IS_LARGE) (Self.value self.old) (Some (stored_item item.now) ∷ []))) }
+        ensures err { IfErr result (λ e. (e ≡ refused_growth (slot_over (types T.zero T.PRIMITIVE O.most O.IS_LARGE) (Self.value self.old) (Some (stored_item item.now)))) × (Self.value self.new ≡ Self.value self.old)) };
 
     /// Removes the last slot and answers it; bytes and texts are copied.
     ///
@@ -94,6 +107,20 @@ impl<T: NativeType, O: Offset> Growing<T, O> for MutablePrimitiveArray<T> {
         }
     }
 
+    fn kind(&self) -> Kind {
+        Kind::MutablePrimitive
+    }
+
+    fn push_item(&mut self, item: &Item<T>) -> Result<(), Error> {
+        match item {
+            Item::Value(x) => match self.push(Some(*x)) {
+                Ok(()) => Ok(()),
+                Err(refused) => Err(refused),
+            },
+            _ => unreachable!(),
+        }
+    }
+
     fn pop_slot(&mut self) -> Result<Option<Item<T>>, Error> {
         Ok(value_item(self.pop()))
     }
@@ -141,6 +168,20 @@ impl<T: NativeType, O: Offset> Growing<T, O> for MutableBooleanArray {
         }
     }
 
+    fn kind(&self) -> Kind {
+        Kind::MutableBoolean
+    }
+
+    fn push_item(&mut self, item: &Item<T>) -> Result<(), Error> {
+        match item {
+            Item::Bit(x) => match self.push(Some(*x)) {
+                Ok(()) => Ok(()),
+                Err(refused) => Err(refused),
+            },
+            _ => unreachable!(),
+        }
+    }
+
     fn pop_slot(&mut self) -> Result<Option<Item<T>>, Error> {
         Ok(bit_item(self.pop()))
     }
@@ -181,6 +222,20 @@ impl<T: NativeType, O: Offset> Growing<T, O> for MutableBinaryArray<O> {
                 Err(refused) => Err(refused),
             },
             Some(Item::Bytes(x)) => match self.push(Some(x.as_slice())) {
+                Ok(()) => Ok(()),
+                Err(refused) => Err(refused),
+            },
+            _ => unreachable!(),
+        }
+    }
+
+    fn kind(&self) -> Kind {
+        Kind::MutableBinary
+    }
+
+    fn push_item(&mut self, item: &Item<T>) -> Result<(), Error> {
+        match item {
+            Item::Bytes(x) => match self.push(Some(x.as_slice())) {
                 Ok(()) => Ok(()),
                 Err(refused) => Err(refused),
             },
@@ -239,6 +294,20 @@ impl<T: NativeType, O: Offset> Growing<T, O> for MutableUtf8Array<O> {
         }
     }
 
+    fn kind(&self) -> Kind {
+        Kind::MutableUtf8
+    }
+
+    fn push_item(&mut self, item: &Item<T>) -> Result<(), Error> {
+        match item {
+            Item::Text(x) => match self.push(Some(x.as_str())) {
+                Ok(()) => Ok(()),
+                Err(refused) => Err(refused),
+            },
+            _ => unreachable!(),
+        }
+    }
+
     fn pop_slot(&mut self) -> Result<Option<Item<T>>, Error> {
         match self.pop() {
             Ok(Some(x)) => Ok(Some(Item::Text(x))),
@@ -286,6 +355,20 @@ impl<T: NativeType, O: Offset> Growing<T, O> for MutableBinaryValuesArray<O> {
         }
     }
 
+    fn kind(&self) -> Kind {
+        Kind::BinaryValues
+    }
+
+    fn push_item(&mut self, item: &Item<T>) -> Result<(), Error> {
+        match item {
+            Item::Bytes(x) => match self.push(x.as_slice()) {
+                Ok(()) => Ok(()),
+                Err(refused) => Err(refused),
+            },
+            _ => unreachable!(),
+        }
+    }
+
     fn pop_slot(&mut self) -> Result<Option<Item<T>>, Error> {
         match self.pop() {
             Ok(Some(x)) => Ok(Some(Item::Bytes(x))),
@@ -326,6 +409,20 @@ impl<T: NativeType, O: Offset> Growing<T, O> for MutableUtf8ValuesArray<O> {
     fn push_slot(&mut self, slot: &Option<Item<T>>) -> Result<(), Error> {
         match slot {
             Some(Item::Text(x)) => match self.push(x.as_str()) {
+                Ok(()) => Ok(()),
+                Err(refused) => Err(refused),
+            },
+            _ => unreachable!(),
+        }
+    }
+
+    fn kind(&self) -> Kind {
+        Kind::Utf8Values
+    }
+
+    fn push_item(&mut self, item: &Item<T>) -> Result<(), Error> {
+        match item {
+            Item::Text(x) => match self.push(x.as_str()) {
                 Ok(()) => Ok(()),
                 Err(refused) => Err(refused),
             },

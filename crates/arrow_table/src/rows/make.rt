@@ -1,8 +1,11 @@
 //! Commands that make a value in an empty entry.
-ghost use Rattle.std.specs.Prelude.{◌≡◌, IfErr, IfOk};
+ghost use Rattle.std.specs.Prelude.{◌≡◌, false, replicate, IfErr, IfOk, IsTrue, Some};
+ghost use Rattle.arrow_bytes.specs.Pieces.{nothing_around};
+ghost use Rattle.arrow_memory.specs.Column.{column_with};
 ghost use Rattle.arrow_table.specs.Change.{empty_value};
-ghost use Rattle.arrow_table.specs.Entry.{types, value_of};
-ghost use Rattle.arrow_table.specs.Kind.{shape};
+ghost use Rattle.arrow_table.specs.Entry.{default_item, layout, types, value_of};
+ghost use Rattle.arrow_table.specs.Kind.{is_frozen, shape};
+ghost use Rattle.arrow_types.specs.Types.{IsRightType, logical_type};
 
 use crate::rows::entry::EntryRow;
 use crate::{Entry, Kind, Reply};
@@ -13,6 +16,7 @@ use arrow_types::data_type::DataType;
 use arrow_types::error::Error;
 use arrow_types::native_type::NativeType;
 use arrow_types::offset::Offset;
+use arrow_types::physical_type::PhysicalType;
 use arrow_utf8::{MutableUtf8Array, MutableUtf8ValuesArray, Utf8Array};
 use std::alloc::Global;
 
@@ -40,6 +44,106 @@ impl<T: NativeType, O: Offset> EntryRow<T, O> for New {
             Err(_) => Reply::Refused(Error::OutOfMemory),
         }
     }
+}
+
+/// Puts an array of so many nulls into an empty entry.
+#[derive(Drop)]
+pub(crate) struct NewNull<'a> {
+    /// The kind, which has to be an array's.
+    pub(crate) kind: Kind,
+    /// The type, which has to be right for the kind.
+    pub(crate) data_type: &'a DataType,
+    /// The number of nulls.
+    pub(crate) length: usize,
+}
+
+impl<'a, T: NativeType, O: Offset> EntryRow<T, O> for NewNull<'a> {
+    ghost use Rattle.arrow_table.specs.Entry.{types};
+    ghost use Rattle.arrow_table.specs.Kind.{shape};
+    ghost use Rattle.arrow_table.specs.Request.{nulls};
+    ghost use Rattle.arrow_table.specs.Step.{Makes_in};
+    ghost use Rattle.arrow_types.specs.Types.{logical_type};
+
+    ghost means = { λ command. Makes_in (types T.zero T.PRIMITIVE O.most O.IS_LARGE) (shape command.kind) (nulls (logical_type command.data_type.now) command.length) };
+
+    fn run(self, alloc: Global, entry: &mut Option<Entry<T, O>>) -> Reply<T> {
+        if entry.is_some() || !is_array(self.kind) {
+            return Reply::NotMet;
+        }
+        if !self.data_type.is_right_for(layout_of::<T, O>(self.kind)) {
+            return Reply::NotMet;
+        }
+        match null_entry(alloc, self.kind, self.data_type, self.length) {
+            Ok(made) => {
+                *entry = Some(made);
+                Reply::Done
+            }
+            Err(_) => Reply::Refused(Error::OutOfMemory),
+        }
+    }
+}
+
+/// Whether a kind is an array's.
+fn is_array(kind: Kind) -> bool
+    ensures { result ≡ is_frozen (shape kind) }
+{
+    matches!(
+        kind,
+        Kind::Primitive | Kind::Boolean | Kind::Binary | Kind::Utf8
+    )
+}
+
+/// How the values of a kind lie in memory.
+fn layout_of<T: NativeType, O: Offset>(kind: Kind) -> PhysicalType
+    ensures { result ≡ layout (types T.zero T.PRIMITIVE O.most O.IS_LARGE) (shape kind).sort }
+{
+    match kind {
+        Kind::Primitive | Kind::MutablePrimitive => PhysicalType::Primitive(T::PRIMITIVE),
+        Kind::Boolean | Kind::MutableBoolean => PhysicalType::Boolean,
+        Kind::Binary | Kind::MutableBinary | Kind::BinaryValues => {
+            if O::IS_LARGE {
+                PhysicalType::LargeBinary
+            } else {
+                PhysicalType::Binary
+            }
+        }
+        Kind::Utf8 | Kind::MutableUtf8 | Kind::Utf8Values => {
+            if O::IS_LARGE {
+                PhysicalType::LargeUtf8
+            } else {
+                PhysicalType::Utf8
+            }
+        }
+    }
+}
+
+/// An array of so many nulls.
+///
+/// # Errors
+/// `OutOfMemory` where memory is refused.
+#[tactic(auto, using(crate::proofs::Makes::makes_nulls))]
+fn null_entry<T: NativeType, O: Offset>(
+    alloc: Global,
+    kind: Kind,
+    data_type: &DataType,
+    length: usize,
+) -> Result<Entry<T, O>, Error>
+    requires array { IsTrue (is_frozen (shape kind)) }
+    requires right { IsRightType (layout (types T.zero T.PRIMITIVE O.most O.IS_LARGE) (shape kind).sort) (logical_type data_type.now) }
+    ensures ok { IfOk result (λ made. value_of made ≡ record { shape = shape kind; column = column_with (logical_type data_type.now) nothing_around (replicate length (default_item (types T.zero T.PRIMITIVE O.most O.IS_LARGE) (shape kind).sort)) (Some (replicate length false)) }) }
+    ensures err { IfErr result (λ e. e ≡ Error.OutOfMemory) }
+{
+    let data_type = match data_type.clone() {
+        Ok(copy) => copy,
+        Err(_) => return Err(Error::OutOfMemory),
+    };
+    Ok(match kind {
+        Kind::Primitive => Entry::Primitive(PrimitiveArray::new_null(alloc, data_type, length)?),
+        Kind::Boolean => Entry::Boolean(BooleanArray::new_null(alloc, data_type, length)?),
+        Kind::Binary => Entry::Binary(BinaryArray::new_null(alloc, data_type, length)?),
+        Kind::Utf8 => Entry::Utf8(Utf8Array::new_null(alloc, data_type, length)?),
+        _ => unreachable!(),
+    })
 }
 
 /// An array or a builder of a kind with no slot and no mask.
