@@ -8,6 +8,7 @@ pub(crate) mod frozen;
 pub(crate) mod items;
 pub(crate) mod make;
 pub(crate) mod parts;
+pub(crate) mod mask;
 pub(crate) mod read;
 pub(crate) mod slots;
 pub(crate) mod step;
