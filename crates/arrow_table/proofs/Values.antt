@@ -1,5 +1,5 @@
 -- Seeing stored values through what is done to lists of them, and lists that are changed in place.
-use Rattle.std.proofs.Common.{◌≡◌, ◌∙◌, ℕ, zero, suc, ◌+◌, ◌-◌, ◌/◌, ◌<◌, ◌≤◌, Bool, false, List, [], ◌∷◌, ◌++◌, length, map, take, set, reverse, replicate, get_or, slice_get, Some, refl, sym, ap, subst, inl, inr, arith, get_or-set_same, get_or-set_other, length-set}
+use Rattle.std.proofs.Common.{◌≡◌, ◌∙◌, ℕ, zero, suc, ◌+◌, ◌-◌, ◌/◌, ◌<◌, ◌≤◌, Bool, false, List, [], ◌∷◌, ◌++◌, length, map, set, reverse, replicate, get_or, slice_get, Some, refl, sym, ap, subst, inl, inr, arith, get_or-set_same, get_or-set_other, length-set}
 use Rattle.std.proofs.lemmas.Bool.{cases_lt}
 use Rattle.std.proofs.lemmas.List.{ext_get_or, get_or-reverse, length-map, length-reverse, map-append, reverse-append}
 use Rattle.std.proofs.lemmas.Option.{get_or_from_slice_get}

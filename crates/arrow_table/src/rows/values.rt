@@ -23,7 +23,7 @@ use arrow_types::offset::Offset;
 use std::alloc::Global;
 
 /// A slot of native values, where it is one.
-pub(crate) fn native_slot<T: NativeType>(slot: &Option<Item<T>>) -> Option<Option<T>>
+fn native_slot<T: NativeType>(slot: &Option<Item<T>>) -> Option<Option<T>>
     ensures fits { slot_fits native (stored_slot slot.now) ≡ is_some result }
     ensures value { IfSome result (λ x. stored_slot slot.now ≡ option_map value x) }
 {
@@ -235,7 +235,7 @@ fn natives<T: NativeType>(alloc: Global, items: &[Item<T>]) -> Result<Vec<T>, Er
     ensures ok { IfOk result (λ values. map value values.items ≡ map stored_item items.now) }
     ensures err { IfErr result (λ e. e ≡ Error.OutOfMemory) }
 {
-    let mut values = Vec::new(alloc);
+    let mut values = Vec::with_capacity(alloc, items.len())?;
     let mut rest = items;
     while let Some((item, others)) = rest.split_first() {
         match item {
@@ -256,7 +256,7 @@ fn bits<T>(alloc: Global, items: &[Item<T>]) -> Result<MutableBitmap, Error>
     ensures ok { IfOk result (λ bits. map bit bits ≡ map stored_item items.now) }
     ensures err { IfErr result (λ e. e ≡ Error.OutOfMemory) }
 {
-    let mut bits = MutableBitmap::new(alloc);
+    let mut bits = MutableBitmap::with_capacity(alloc, items.len())?;
     let mut rest = items;
     while let Some((item, others)) = rest.split_first() {
         match item {
