@@ -1,4 +1,3 @@
-use Rattle.std.proofs.Common.{◌≡◌, length}
 use Rattle.arrow_table.proofs.Values.{TurnedSoFar}
 use Rattle.arrow_table.proofs.rows.values.turned_marks.Given as goal
 
