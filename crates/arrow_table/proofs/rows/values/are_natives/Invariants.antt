@@ -1,4 +1,4 @@
-use Rattle.std.proofs.Common.{◌≡◌, ℕ, length, map}
+use Rattle.std.proofs.Common.{◌≡◌, length, map}
 use Rattle.std.specs.List.{list_all}
 use Rattle.arrow_table.specs.Item.{fits, stored_item}
 use Rattle.arrow_table.specs.Kind.{native}

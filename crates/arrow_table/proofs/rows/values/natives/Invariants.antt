@@ -1,4 +1,4 @@
-use Rattle.std.proofs.Common.{◌≡◌, ◌++◌, ℕ, IsTrue, length, map}
+use Rattle.std.proofs.Common.{◌≡◌, ◌++◌, IsTrue, length, map}
 use Rattle.std.specs.List.{list_all}
 use Rattle.arrow_table.specs.Item.{value, fits, stored_item}
 use Rattle.arrow_table.specs.Kind.{native}
