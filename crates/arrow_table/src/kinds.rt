@@ -2,7 +2,7 @@
 pub(crate) mod frozen;
 pub(crate) mod growing;
 pub(crate) mod kept;
-pub(crate) mod pieces;
 pub(crate) mod masked;
+pub(crate) mod pieces;
 pub(crate) mod shown;
 pub(crate) mod turned;

@@ -12,13 +12,15 @@ use crate::rows::builder::{Pop, Push, PushNull, Reserve, Shrink};
 use crate::rows::bytes::{Bytes, OfPieces, Offsets};
 use crate::rows::constant::ExtendConstant;
 use crate::rows::entry::{OfAny, OfBuilder, OfFrozen};
+use crate::rows::extended::{Extend, ExtendValues};
 use crate::rows::frozen::{Get, IsNull, NullCount, Slice};
-use crate::rows::make::New;
+use crate::rows::make::{New, NewNull};
+use crate::rows::mask::{ApplyMask, SetMask};
 use crate::rows::read::{Held, Len, TypeOf};
-use crate::rows::slots::{Slots, Value};
+use crate::rows::slots::{Slots, Turns, Value};
 use crate::rows::table::at;
 use crate::rows::two::{CloneFrom, ExtendFrom, at_with, equal, indexes_checked};
-use crate::rows::values::{Set, SetValues, Write};
+use crate::rows::values::{ApplyValues, Set, SetValues, Write};
 use crate::rows::whole::{Empty, Freeze, Nullable, Thaw, To};
 use crate::{Command, Entry, Parts, Reply};
 use arrow_check::cost::TextCost;
@@ -37,12 +39,23 @@ pub(crate) fn change<T: NativeType, O: Offset>(
 {
     match command {
         Command::New(e, kind) => at(alloc, entries, *e, New(*kind)),
+        Command::NewNull(e, kind, data_type, length) => at(
+            alloc,
+            entries,
+            *e,
+            NewNull {
+                kind: *kind,
+                data_type,
+                length: *length,
+            },
+        ),
         Command::Len(e) => at(alloc, entries, *e, OfAny(Len)),
         Command::Value(e, i) => at(alloc, entries, *e, Value(*i)),
         Command::Get(e, i) => at(alloc, entries, *e, OfFrozen(Get(*i))),
         Command::IsNull(e, i) => at(alloc, entries, *e, OfFrozen(IsNull(*i))),
         Command::NullCount(e) => at(alloc, entries, *e, OfFrozen(NullCount)),
         Command::Slots(e) => at(alloc, entries, *e, OfAny(Slots)),
+        Command::Turns(e, turns) => at(alloc, entries, *e, OfAny(Turns(turns))),
         Command::TypeOf(e) => at(alloc, entries, *e, OfAny(TypeOf)),
         Command::Held(e) => at(alloc, entries, *e, OfAny(Held)),
         Command::Bytes(e) => at(alloc, entries, *e, OfPieces(Bytes)),
@@ -50,12 +63,17 @@ pub(crate) fn change<T: NativeType, O: Offset>(
         Command::Slice(e, offset, len) => at(alloc, entries, *e, OfFrozen(Slice(*offset, *len))),
         Command::Clone(e, f) => at_with(entries, *f, *e, CloneFrom),
         Command::Drop(e) => at(alloc, entries, *e, Empty),
+        Command::SetMask(e, mask) => at(alloc, entries, *e, SetMask(mask)),
+        Command::ApplyMask(e, change) => at(alloc, entries, *e, ApplyMask(change)),
         Command::SetValues(e, items) => at(alloc, entries, *e, SetValues(items)),
+        Command::ApplyValues(e, change) => at(alloc, entries, *e, ApplyValues(change)),
         Command::Set(e, i, slot) => at(alloc, entries, *e, Set(*i, slot)),
         Command::Write(e, i, item) => at(alloc, entries, *e, Write(*i, item)),
         Command::Push(e, slot) => at(alloc, entries, *e, OfBuilder(Push(slot))),
         Command::PushNull(e) => at(alloc, entries, *e, OfBuilder(PushNull)),
         Command::Pop(e) => at(alloc, entries, *e, OfBuilder(Pop)),
+        Command::Extend(e, slots) => at(alloc, entries, *e, Extend(slots)),
+        Command::ExtendValues(e, items) => at(alloc, entries, *e, OfBuilder(ExtendValues(items))),
         Command::ExtendConstant(e, n, slot) => at(alloc, entries, *e, ExtendConstant(*n, slot)),
         Command::ExtendFromSelf(e, f) => at_with(entries, *e, *f, ExtendFrom),
         Command::Reserve(e, slots, bytes) => {
