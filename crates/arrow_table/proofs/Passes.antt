@@ -1,5 +1,5 @@
 -- How a row of tests follows from what a call says of each test, and what the test of texts costs.
-use Rattle.std.proofs.Common.{◌≡◌, ◌≢◌, ◌<◌, ◌≤◌, ◌∙◌, ◌==◌, ℕ, ℤ, Bool, true, false, not, ◌&&◌, ◌||◌, is_none, List, [], ◌∷◌, length, map, option_map, unsigned_abs, IfSome, MatchOption, arith, Option, Some, None, Result, Ok, Err, refl, sym, ap, subst, IsErrAnd, IsOkAnd}
+use Rattle.std.proofs.Common.{◌≡◌, ◌≢◌, ◌<◌, ◌≤◌, ◌∙◌, ◌==◌, ℕ, ℤ, Bool, true, false, not, ◌||◌, is_none, List, [], ◌∷◌, length, map, option_map, unsigned_abs, IfSome, MatchOption, arith, Option, Some, None, Result, Ok, Err, refl, sym, ap, subst, IsErrAnd, IsOkAnd}
 use Rattle.std.proofs.lemmas.Bool.{eqb-true, eq-eqb, false≢true}
 use Rattle.std.proofs.lemmas.List.{length-map}
 use Rattle.arrow_types.specs.Types.{LogicalType, IsRightType, Refusal, refusal, out_of_spec, out_of_memory}
@@ -12,19 +12,19 @@ use Rattle.arrow_memory.specs.Marks.{bits_past_bytes}
 use Rattle.arrow_memory.specs.Offsets.{first_fault, last_of}
 use Rattle.arrow_check.specs.Bounds.{past_values, not_at_end}
 use Rattle.arrow_check.specs.Pieces.{items_of}
-use Rattle.arrow_check.specs.Reading.{Cost, RisesAtMost}
+use Rattle.arrow_check.specs.Reading.{Cost}
 use Rattle.arrow_check.specs.Texts.{not_text}
 use Rattle.arrow_bytes.specs.Column.{ByteColumn, byte_column}
 use Rattle.arrow_bytes.specs.Kinds.{AreItems, BuilderCosts, Costs, CutItems, TestsOnce}
-use Rattle.arrow_bytes.specs.Pieces.{Around, around_of, nothing_around}
+use Rattle.arrow_bytes.specs.Pieces.{around_of, nothing_around}
 use Rattle.arrow_primitive.specs.Fits as primitive
 use Rattle.arrow_table.specs.Answer.{Answer, refused, is_memory, is_not_met}
-use Rattle.arrow_table.specs.Entry.{Value, Types, layout, native_value, boolean_value, piece_value, seen}
-use Rattle.arrow_table.specs.Item.{Stored, value, bit, piece}
-use Rattle.arrow_table.specs.Kind.{Group, Sort, native, boolean, pieces, Shape, shaped, frozen, with_nulls, values_alone, is_frozen, is_pieces, is_text, is_values_alone}
+use Rattle.arrow_table.specs.Entry.{Value, Types, native_value, boolean_value, piece_value}
+use Rattle.arrow_table.specs.Item.{value, bit, piece}
+use Rattle.arrow_table.specs.Kind.{Group, native, boolean, pieces, Shape, shaped, frozen, is_frozen, is_pieces, is_text, is_values_alone}
 use Rattle.arrow_table.specs.Request.{Packed, Request, make, packed, parts, cut_pieces}
 use Rattle.arrow_table.specs.Request as given
-use Rattle.arrow_table.specs.Parts.{BitsFit, PartsCost, PartsRow, PiecesRow, bits_tested, marks_in, offsets_tested, wrong_type}
+use Rattle.arrow_table.specs.Parts.{BitsFit, PartsCost, PartsRow, bits_tested, marks_in, offsets_tested, wrong_type}
 use Rattle.arrow_table.specs.Row.{Row, leaves, memory, passes}
 use Rattle.arrow_table.specs.Run.{CostsAtMost}
 use Rattle.arrow_table.specs.Outcome.{IsKindOf, MadeBy, Untaken, UnlessMemory, reply_of}
