@@ -1,16 +1,19 @@
 -- What a call that makes an array or a builder, or is refused, means for the entry that it is to stand in.
-use Rattle.std.specs.Prelude.{◌≡◌, ⊤, Bool, Option, Some, None, Result, Ok, Err}
-use Rattle.arrow_types.specs.Types.{Refusal, refusal}
+use Rattle.std.specs.Prelude.{◌≡◌, ⊤, ℤ, Bool, List, Option, Some, None, Result, Ok, Err, IfSome, MatchOption}
+use Rattle.arrow_types.specs.Types.{Refusal, refusal, out_of_spec}
 use Rattle.arrow_types.specs.declared.error.Error.{Error}
 use Rattle.arrow_types.specs.declared.error.Error.TheVariants as error
 use Rattle.arrow_types.specs.declared.physical_type.PhysicalType.{PhysicalType}
+use Rattle.arrow_memory.specs.Marks.{bits_past_bytes}
+use Rattle.arrow_memory.specs.Offsets.{first_fault}
 use Rattle.arrow_table.specs.declared.entry.Entry.{Entry}
 use Rattle.arrow_table.specs.declared.reply.Reply.{Reply}
 use Rattle.arrow_table.specs.Kind.{Sort}
 use Rattle.arrow_table.specs.Answer.{Answer, done, refused, told}
 use Rattle.arrow_table.specs.Entry.{Value, Types, layout, value_of}
 use Rattle.arrow_table.specs.Row.{Row}
-use Rattle.arrow_table.specs.Parts.{wrong_type}
+use Rattle.arrow_table.specs.Parts.{BitsFit, wrong_type}
+use Rattle.arrow_table.specs.Request.{Packed}
 
 -- the answer
 abbrev pub reply_of : {T A : Type 0} → Result A Error → Answer T
@@ -47,3 +50,7 @@ UnlessMemory error.OutOfMemory P = ⊤
 -- how the values of a kind lie in memory, and how it refuses another type, are what the table knows of its sort
 abbrev pub IsKindOf : {T : Type 0} → Types T → Sort → Bool → PhysicalType → Refusal → Type 0
 IsKindOf c sort is_frozen physical wrong = (physical ≡ layout c sort) × (wrong ≡ wrong_type sort is_frozen)
+
+-- why vectors are not taken, unless for memory: offsets are at fault, or else a mask's bits are past its bytes
+abbrev pub Untaken : Option Packed → List ℤ → Error → Type 0
+Untaken mask numbers e = UnlessMemory e (MatchOption (first_fault numbers) ((IfSome mask BitsFit → ⊥) × (refusal e ≡ bits_past_bytes)) (λ fault. refusal e ≡ out_of_spec fault))

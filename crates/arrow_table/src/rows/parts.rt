@@ -1,17 +1,23 @@
 //! Arrays and builders of raw parts.
-ghost use Rattle.std.specs.Prelude.{◌≡◌, None, IfOk, IfErr, IfSome, MatchOption, map, option_map};
+ghost use Rattle.std.specs.Prelude.{◌≡◌, ◌∷◌, [], false, true, None, IfOk, IfErr, IfSome, MatchOption, map, option_map};
 ghost use Rattle.arrow_types.specs.Types.{logical_type, out_of_spec, refusal};
 ghost use Rattle.arrow_memory.specs.Marks.{bits_past_bytes};
 ghost use Rattle.arrow_memory.specs.Offsets.{first_fault, numbers_of};
-ghost use Rattle.arrow_table.specs.Entry.{boolean_value, native_value, types};
-ghost use Rattle.arrow_table.specs.Kind.{boolean, frozen, native, shaped, with_nulls};
-ghost use Rattle.arrow_table.specs.Outcome.{MadeBy, UnlessMemory};
-ghost use Rattle.arrow_table.specs.Parts.{BitsFit, PartsRow, marks_in};
-ghost use Rattle.arrow_table.specs.Request.{packed, packed_bits};
-ghost use Rattle.arrow_table.specs.Request as given;
+ghost use Rattle.arrow_table.specs.Answer.{told};
+ghost use Rattle.arrow_table.specs.Entry.{boolean_value, native_value, piece_value, types, value_of};
+ghost use Rattle.arrow_table.specs.Kind.{boolean, frozen, native, pieces, shape, shaped, values_alone, with_nulls};
+ghost use Rattle.arrow_table.specs.Outcome.{EntryBy, IsKindOf, MadeBy, UnlessMemory, Untaken, answer_of, reply_of};
+ghost use Rattle.arrow_table.specs.Parts.{BitsFit, PartsCost, PartsRow, marks_in};
+ghost use Rattle.arrow_table.specs.Request.{cut_pieces, given_by, make, packed, packed_bits};
+ghost use Rattle.arrow_table.specs.Request as ask;
+ghost use Rattle.arrow_table.specs.Run.{CostsAtMost};
+ghost use Rattle.arrow_table.specs.Step.{Makes, Makes_in, StepCosts};
 
-use crate::Bits;
+use crate::{Bits, Entry, Kind, Parts, Raw, Reply};
 use arrow_boolean::{BooleanArray, MutableBooleanArray};
+use arrow_byte_array::{ByteArray, MutableByteArray, MutableByteValuesArray};
+use arrow_bytes::{Binary, ByteKind, Utf8};
+use arrow_check::cost::TextCost;
 use arrow_memory::bitmap::{Bitmap, MutableBitmap};
 use arrow_memory::buffer::Buffer;
 use arrow_memory::offset::{Offsets, OffsetsBuffer};
@@ -124,6 +130,99 @@ fn growing_head_taken(
     }
 }
 
+/// A copy of offsets, where they are legal.
+///
+/// # Errors
+/// `OutOfSpec` where they are at fault, or `OutOfMemory`.
+fn offsets_taken<O: Offset>(offsets: &Vec<O>) -> Result<Offsets<O>, Error>
+    ensures ok { IfOk result (λ taken. (first_fault (map O.number offsets.now.items) ≡ None) × (taken ≡ numbers_of O.number offsets.now.items)) }
+    ensures err { IfErr result (λ e. UnlessMemory e (MatchOption (first_fault (map O.number offsets.now.items)) ⊥ (λ fault. refusal e ≡ out_of_spec fault))) }
+{
+    let Ok(copy) = vector_taken(offsets) else {
+        return Err(Error::OutOfMemory);
+    };
+    Offsets::try_from_vec(copy)
+}
+
+/// A copy of offsets that can be shared, where they are legal.
+///
+/// # Errors
+/// `OutOfSpec` where they are at fault, or `OutOfMemory`.
+fn shared_offsets_taken<O: Offset>(offsets: &Vec<O>) -> Result<OffsetsBuffer<O>, Error>
+    ensures ok { IfOk result (λ taken. (first_fault (map O.number offsets.now.items) ≡ None) × (taken ≡ numbers_of O.number offsets.now.items)) }
+    ensures err { IfErr result (λ e. UnlessMemory e (MatchOption (first_fault (map O.number offsets.now.items)) ⊥ (λ fault. refusal e ≡ out_of_spec fault))) }
+{
+    match offsets_taken(offsets) {
+        Ok(taken) => match taken.freeze() {
+            Ok(shared) => Ok(shared),
+            Err(_) => Err(Error::OutOfMemory),
+        },
+        Err(refused) => Err(refused),
+    }
+}
+
+/// Copies of an array's parts that are cut out of bytes.
+///
+/// # Errors
+/// `OutOfSpec` where offsets are at fault, or else where the mask's bits don't lie within their bytes; or `OutOfMemory`.
+fn pieces_taken<O: Offset>(
+    data_type: &DataType,
+    offsets: &Vec<O>,
+    bytes: &Vec<u8>,
+    mask: &Option<Bits>,
+) -> Result<(DataType, OffsetsBuffer<O>, Buffer<u8>, Option<Bitmap>), Error>
+    ensures data_type { IfOk result (λ taken. logical_type taken.0 ≡ logical_type data_type.now) }
+    ensures fit { IfOk result (λ taken. IfSome (option_map packed_bits mask.now) BitsFit) }
+    ensures mask { IfOk result (λ taken. taken.3 ≡ option_map marks_in (option_map packed_bits mask.now)) }
+    ensures legal { IfOk result (λ taken. first_fault (map O.number offsets.now.items) ≡ None) }
+    ensures offsets { IfOk result (λ taken. taken.1 ≡ numbers_of O.number offsets.now.items) }
+    ensures bytes { IfOk result (λ taken. taken.2 ≡ bytes.now.items) }
+    ensures err { IfErr result (λ e. Untaken (option_map packed_bits mask.now) (map O.number offsets.now.items) e) }
+{
+    let Ok(bytes) = buffer_taken(bytes) else {
+        return Err(Error::OutOfMemory);
+    };
+    let offsets = match shared_offsets_taken(offsets) {
+        Ok(offsets) => offsets,
+        Err(refused) => return Err(refused),
+    };
+    match head_taken(data_type, mask) {
+        Ok((data_type, mask)) => Ok((data_type, offsets, bytes, mask)),
+        Err(refused) => Err(refused),
+    }
+}
+
+/// Copies of a builder's parts that are cut out of bytes.
+///
+/// # Errors
+/// `OutOfSpec` where offsets are at fault, or else where the mask's bits don't lie within their bytes; or `OutOfMemory`.
+fn growing_pieces_taken<O: Offset>(
+    data_type: &DataType,
+    offsets: &Vec<O>,
+    bytes: &Vec<u8>,
+    mask: &Option<Bits>,
+) -> Result<(DataType, Offsets<O>, Vec<u8>, Option<MutableBitmap>), Error>
+    ensures data_type { IfOk result (λ taken. logical_type taken.0 ≡ logical_type data_type.now) }
+    ensures fit { IfOk result (λ taken. IfSome (option_map packed_bits mask.now) BitsFit) }
+    ensures mask { IfOk result (λ taken. taken.3 ≡ option_map marks_in (option_map packed_bits mask.now)) }
+    ensures legal { IfOk result (λ taken. first_fault (map O.number offsets.now.items) ≡ None) }
+    ensures offsets { IfOk result (λ taken. taken.1 ≡ numbers_of O.number offsets.now.items) }
+    ensures bytes { IfOk result (λ taken. taken.2.items ≡ bytes.now.items) }
+    ensures err { IfErr result (λ e. Untaken (option_map packed_bits mask.now) (map O.number offsets.now.items) e) }
+{
+    let Ok(bytes) = vector_taken(bytes) else {
+        return Err(Error::OutOfMemory);
+    };
+    let offsets = match offsets_taken(offsets) {
+        Ok(offsets) => offsets,
+        Err(refused) => return Err(refused),
+    };
+    match growing_head_taken(data_type, mask) {
+        Ok((data_type, mask)) => Ok((data_type, offsets, bytes, mask)),
+        Err(refused) => Err(refused),
+    }
+}
+
 /// The array of native values of raw parts, which are copied.
 ///
 /// # Errors
@@ -133,7 +232,7 @@ fn primitive_of<T: NativeType, O: Offset>(
     values: &Vec<T>,
     mask: &Option<Bits>,
 ) -> Result<PrimitiveArray<T>, Error>
-    ensures { MadeBy (native_value frozen) result (PartsRow (types T.zero T.PRIMITIVE O.most O.IS_LARGE) (shaped frozen native) (logical_type data_type.now) (option_map packed_bits mask.now) (given.values values.now.items)) }
+    ensures { MadeBy (native_value frozen) result (PartsRow (types T.zero T.PRIMITIVE O.most O.IS_LARGE) (shaped frozen native) (logical_type data_type.now) (option_map packed_bits mask.now) (ask.values values.now.items)) }
 {
     let Ok(values) = buffer_taken(values) else {
         return Err(Error::OutOfMemory);
@@ -153,7 +252,7 @@ fn growing_primitive_of<T: NativeType, O: Offset>(
     values: &Vec<T>,
     mask: &Option<Bits>,
 ) -> Result<MutablePrimitiveArray<T>, Error>
-    ensures { MadeBy (native_value with_nulls) result (PartsRow (types T.zero T.PRIMITIVE O.most O.IS_LARGE) (shaped with_nulls native) (logical_type data_type.now) (option_map packed_bits mask.now) (given.values values.now.items)) }
+    ensures { MadeBy (native_value with_nulls) result (PartsRow (types T.zero T.PRIMITIVE O.most O.IS_LARGE) (shaped with_nulls native) (logical_type data_type.now) (option_map packed_bits mask.now) (ask.values values.now.items)) }
 {
     let Ok(values) = vector_taken(values) else {
         return Err(Error::OutOfMemory);
@@ -203,5 +302,230 @@ fn growing_boolean_of<T: NativeType, O: Offset>(
     match growing_head_taken(data_type, mask) {
         Ok((data_type, mask)) => MutableBooleanArray::try_new(data_type, values, mask),
         Err(refused) => Err(refused),
+    }
+}
+
+/// The array of bytes or of text of raw parts, which are copied. What the test of text costs is added to the counts.
+///
+/// # Errors
+/// What its row says, or `OutOfMemory`; the counts are then as before.
+fn byte_array_of<T: NativeType, K: ByteKind, O: Offset>(
+    data_type: &DataType,
+    offsets: &Vec<O>,
+    bytes: &Vec<u8>,
+    mask: &Option<Bits>,
+    cost: &mut TextCost,
+) -> Result<ByteArray<K, O>, Error>
+    requires { IsKindOf (types T.zero T.PRIMITIVE O.most O.IS_LARGE) (pieces K.is_text) true (K.layout O.IS_LARGE) K.wrong_type }
+    ensures row { MadeBy (piece_value {T = T} frozen K.is_text) result (PartsRow (types T.zero T.PRIMITIVE O.most O.IS_LARGE) (shaped frozen (pieces K.is_text)) (logical_type data_type.now) (option_map packed_bits mask.now) (cut_pieces (map O.number offsets.now.items) bytes.now.items)) }
+    ensures exact { PartsCost {T = T} (shaped frozen (pieces K.is_text)) (option_map packed_bits mask.now) (map O.number offsets.now.items) bytes.now.items (reply_of result) cost.old cost.new }
+    ensures most { CostsAtMost {T = T} (make 0 (shaped frozen (pieces K.is_text)) (ask.parts (logical_type data_type.now) (cut_pieces (map O.number offsets.now.items) bytes.now.items) (option_map packed_bits mask.now)) ∷ []) cost.old cost.new }
+{
+    match pieces_taken(data_type, offsets, bytes, mask) {
+        Ok((data_type, offsets, bytes, mask)) => {
+            ByteArray::try_new_counted(data_type, offsets, bytes, mask, cost)
+        }
+        Err(refused) => Err(refused),
+    }
+}
+
+/// The builder of bytes or of text of raw parts, which are copied. What the test of text costs is added to the counts.
+///
+/// # Errors
+/// What its row says, or `OutOfMemory`; the counts are then as before.
+fn growing_byte_array_of<T: NativeType, K: ByteKind, O: Offset>(
+    data_type: &DataType,
+    offsets: &Vec<O>,
+    bytes: &Vec<u8>,
+    mask: &Option<Bits>,
+    cost: &mut TextCost,
+) -> Result<MutableByteArray<K, O>, Error>
+    requires { IsKindOf (types T.zero T.PRIMITIVE O.most O.IS_LARGE) (pieces K.is_text) false (K.layout O.IS_LARGE) K.wrong_builder_type }
+    ensures row { MadeBy (piece_value {T = T} with_nulls K.is_text) result (PartsRow (types T.zero T.PRIMITIVE O.most O.IS_LARGE) (shaped with_nulls (pieces K.is_text)) (logical_type data_type.now) (option_map packed_bits mask.now) (cut_pieces (map O.number offsets.now.items) bytes.now.items)) }
+    ensures exact { PartsCost {T = T} (shaped with_nulls (pieces K.is_text)) (option_map packed_bits mask.now) (map O.number offsets.now.items) bytes.now.items (reply_of result) cost.old cost.new }
+    ensures most { CostsAtMost {T = T} (make 0 (shaped with_nulls (pieces K.is_text)) (ask.parts (logical_type data_type.now) (cut_pieces (map O.number offsets.now.items) bytes.now.items) (option_map packed_bits mask.now)) ∷ []) cost.old cost.new }
+{
+    match growing_pieces_taken(data_type, offsets, bytes, mask) {
+        Ok((data_type, offsets, bytes, mask)) => {
+            MutableByteArray::try_new_counted(data_type, offsets, bytes, mask, cost)
+        }
+        Err(refused) => Err(refused),
+    }
+}
+
+/// The builder without nulls of bytes or of text of raw parts, which are copied. What the test of text costs is added to the counts.
+///
+/// # Errors
+/// What its row says, or `OutOfMemory`; the counts are then as before.
+fn byte_values_of<T: NativeType, K: ByteKind, O: Offset>(
+    data_type: &DataType,
+    offsets: &Vec<O>,
+    bytes: &Vec<u8>,
+    cost: &mut TextCost,
+) -> Result<MutableByteValuesArray<K, O>, Error>
+    requires { IsKindOf (types T.zero T.PRIMITIVE O.most O.IS_LARGE) (pieces K.is_text) false (K.layout O.IS_LARGE) K.wrong_builder_type }
+    ensures row { MadeBy (piece_value {T = T} values_alone K.is_text) result (PartsRow (types T.zero T.PRIMITIVE O.most O.IS_LARGE) (shaped values_alone (pieces K.is_text)) (logical_type data_type.now) None (cut_pieces (map O.number offsets.now.items) bytes.now.items)) }
+    ensures exact { PartsCost {T = T} (shaped values_alone (pieces K.is_text)) None (map O.number offsets.now.items) bytes.now.items (reply_of result) cost.old cost.new }
+    ensures most { CostsAtMost {T = T} (make 0 (shaped values_alone (pieces K.is_text)) (ask.parts (logical_type data_type.now) (cut_pieces (map O.number offsets.now.items) bytes.now.items) None) ∷ []) cost.old cost.new }
+{
+    match growing_pieces_taken(data_type, offsets, bytes, &None) {
+        Ok((data_type, offsets, bytes, _mask)) => {
+            MutableByteValuesArray::try_new_counted(data_type, offsets, bytes, cost)
+        }
+        Err(refused) => Err(refused),
+    }
+}
+
+/// What the native values of raw parts make; of a kind of another sort the condition is not met.
+///
+/// # Errors
+/// What its row answers else.
+fn values_made<T: NativeType, O: Offset>(
+    kind: Kind,
+    data_type: &DataType,
+    values: &Vec<T>,
+    mask: &Option<Bits>,
+) -> Result<Entry<T, O>, Reply<T>>
+    ensures { EntryBy result (PartsRow (types T.zero T.PRIMITIVE O.most O.IS_LARGE) (shape kind) (logical_type data_type.now) (option_map packed_bits mask.now) (ask.values values.now.items)) }
+{
+    match kind {
+        Kind::Primitive => match primitive_of::<T, O>(data_type, values, mask) {
+            Ok(made) => Ok(Entry::Primitive(made)),
+            Err(refused) => Err(Reply::Refused(refused)),
+        },
+        Kind::MutablePrimitive => match growing_primitive_of::<T, O>(data_type, values, mask) {
+            Ok(made) => Ok(Entry::MutablePrimitive(made)),
+            Err(refused) => Err(Reply::Refused(refused)),
+        },
+        _ => Err(Reply::NotMet),
+    }
+}
+
+/// What the truth values of raw parts make; of a kind of another sort the condition is not met.
+///
+/// # Errors
+/// What its row answers else.
+fn bits_made<T: NativeType, O: Offset>(
+    kind: Kind,
+    data_type: &DataType,
+    values: &Bits,
+    mask: &Option<Bits>,
+) -> Result<Entry<T, O>, Reply<T>>
+    ensures { EntryBy result (PartsRow (types T.zero T.PRIMITIVE O.most O.IS_LARGE) (shape kind) (logical_type data_type.now) (option_map packed_bits mask.now) (packed (packed_bits values.now))) }
+{
+    match kind {
+        Kind::Boolean => match boolean_of::<T, O>(data_type, values, mask) {
+            Ok(made) => Ok(Entry::Boolean(made)),
+            Err(refused) => Err(Reply::Refused(refused)),
+        },
+        Kind::MutableBoolean => match growing_boolean_of::<T, O>(data_type, values, mask) {
+            Ok(made) => Ok(Entry::MutableBoolean(made)),
+            Err(refused) => Err(Reply::Refused(refused)),
+        },
+        _ => Err(Reply::NotMet),
+    }
+}
+
+/// What the bytes of raw parts make; of a kind of another sort the condition is not met, nor of a mask for a builder without
+/// nulls.
+///
+/// # Errors
+/// What its row answers else.
+fn pieces_made<T: NativeType, O: Offset>(
+    kind: Kind,
+    data_type: &DataType,
+    offsets: &Vec<O>,
+    bytes: &Vec<u8>,
+    mask: &Option<Bits>,
+    cost: &mut TextCost,
+) -> Result<Entry<T, O>, Reply<T>>
+    ensures row { EntryBy result (PartsRow (types T.zero T.PRIMITIVE O.most O.IS_LARGE) (shape kind) (logical_type data_type.now) (option_map packed_bits mask.now) (cut_pieces (map O.number offsets.now.items) bytes.now.items)) }
+    ensures exact { PartsCost {T = T} (shape kind) (option_map packed_bits mask.now) (map O.number offsets.now.items) bytes.now.items (answer_of result) cost.old cost.new }
+    ensures most { CostsAtMost {T = T} (make 0 (shape kind) (ask.parts (logical_type data_type.now) (cut_pieces (map O.number offsets.now.items) bytes.now.items) (option_map packed_bits mask.now)) ∷ []) cost.old cost.new }
+{
+    match kind {
+        Kind::Binary => match byte_array_of::<T, Binary, O>(data_type, offsets, bytes, mask, cost) {
+            Ok(made) => Ok(Entry::Binary(made)),
+            Err(refused) => Err(Reply::Refused(refused)),
+        },
+        Kind::Utf8 => match byte_array_of::<T, Utf8, O>(data_type, offsets, bytes, mask, cost) {
+            Ok(made) => Ok(Entry::Utf8(made)),
+            Err(refused) => Err(Reply::Refused(refused)),
+        },
+        Kind::MutableBinary => match growing_byte_array_of::<T, Binary, O>(
+            data_type, offsets, bytes, mask, cost,
+        ) {
+            Ok(made) => Ok(Entry::MutableBinary(made)),
+            Err(refused) => Err(Reply::Refused(refused)),
+        },
+        Kind::MutableUtf8 => match growing_byte_array_of::<T, Utf8, O>(
+            data_type, offsets, bytes, mask, cost,
+        ) {
+            Ok(made) => Ok(Entry::MutableUtf8(made)),
+            Err(refused) => Err(Reply::Refused(refused)),
+        },
+        Kind::BinaryValues => match mask {
+            Some(_) => Err(Reply::NotMet),
+            None => match byte_values_of::<T, Binary, O>(data_type, offsets, bytes, cost) {
+                Ok(made) => Ok(Entry::BinaryValues(made)),
+                Err(refused) => Err(Reply::Refused(refused)),
+            },
+        },
+        Kind::Utf8Values => match mask {
+            Some(_) => Err(Reply::NotMet),
+            None => match byte_values_of::<T, Utf8, O>(data_type, offsets, bytes, cost) {
+                Ok(made) => Ok(Entry::Utf8Values(made)),
+                Err(refused) => Err(Reply::Refused(refused)),
+            },
+        },
+        _ => Err(Reply::NotMet),
+    }
+}
+
+/// What raw parts make.
+///
+/// # Errors
+/// What their row answers else.
+fn parts_made<T: NativeType, O: Offset>(
+    given: &Parts<T, O>,
+    cost: &mut TextCost,
+) -> Result<Entry<T, O>, Reply<T>>
+    ensures row { EntryBy result (Makes (types T.zero T.PRIMITIVE O.most O.IS_LARGE) (shape given.now.kind) (ask.parts (logical_type given.now.data_type) (given_by O.number given.now.raw) (option_map packed_bits given.now.mask))) }
+    ensures exact { StepCosts (make 0 (shape given.now.kind) (ask.parts (logical_type given.now.data_type) (given_by O.number given.now.raw) (option_map packed_bits given.now.mask))) (answer_of result) cost.old cost.new }
+    ensures most { CostsAtMost (make 0 (shape given.now.kind) (ask.parts (logical_type given.now.data_type) (given_by O.number given.now.raw) (option_map packed_bits given.now.mask)) ∷ []) cost.old cost.new }
+{
+    match &given.raw {
+        Raw::Values(values) => values_made(given.kind, &given.data_type, values, &given.mask),
+        Raw::Bits(bits) => bits_made(given.kind, &given.data_type, bits, &given.mask),
+        Raw::Pieces(offsets, bytes) => pieces_made(
+            given.kind,
+            &given.data_type,
+            offsets,
+            bytes,
+            &given.mask,
+            cost,
+        ),
+    }
+}
+
+/// Puts what raw parts make into an empty entry. What the test of text costs is added to the counts.
+pub(crate) fn parts<T: NativeType, O: Offset>(
+    entry: &mut Option<Entry<T, O>>,
+    given: &Parts<T, O>,
+    cost: &mut TextCost,
+) -> Reply<T>
+    ensures row { Makes_in (types T.zero T.PRIMITIVE O.most O.IS_LARGE) (shape given.now.kind) (ask.parts (logical_type given.now.data_type) (given_by O.number given.now.raw) (option_map packed_bits given.now.mask)) (option_map value_of entry.old) (told result) (option_map value_of entry.new) }
+    ensures exact { StepCosts (make 0 (shape given.now.kind) (ask.parts (logical_type given.now.data_type) (given_by O.number given.now.raw) (option_map packed_bits given.now.mask))) (told result) cost.old cost.new }
+    ensures most { CostsAtMost (make 0 (shape given.now.kind) (ask.parts (logical_type given.now.data_type) (given_by O.number given.now.raw) (option_map packed_bits given.now.mask)) ∷ []) cost.old cost.new }
+{
+    if entry.is_some() {
+        return Reply::NotMet;
+    }
+    match parts_made(given, cost) {
+        Ok(made) => {
+            *entry = Some(made);
+            Reply::Done
+        }
+        Err(reply) => reply,
     }
 }
