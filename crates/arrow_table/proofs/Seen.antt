@@ -285,17 +285,42 @@ value_back : {T : Type 0} → Stored T → Option T
 value_back (value x) = Some x
 value_back _ = None
 
+bit_back : {T : Type 0} → Stored T → Option Bool
+bit_back (bit b) = Some b
+bit_back _ = None
+
+bytes_back : {T : Type 0} → Stored T → Option (List ℕ)
+bytes_back x = Some (bytes_in x)
+
 value-again : {T : Type 0} (x : T) → value_back (value x) ≡ Some x
 unfolding value_back
 value-again x = refl
 
-pub same-values : {T : Type 0} (c d : Column T) → (slots_of c ≡ slots_of d) ↔ (slots_of (seen (λ _. nothing_around) value c) ≡ slots_of (seen (λ _. nothing_around) value d))
-same-values c d = (
-  λ e. slots-seen (λ _. nothing_around) value c ∙ ap (map (option_map value)) e ∙ sym (slots-seen (λ _. nothing_around) value d),
-  λ e. sym (slots-back value value_back value-again (slots_of c)) ∙ ap (map (option_and_then value_back)) (sym (slots-seen (λ _. nothing_around) value c) ∙ e ∙ slots-seen (λ _. nothing_around) value d) ∙ slots-back value value_back value-again (slots_of d),
-)
+bit-again : (T : Type 0) (x : Bool) → bit_back {T = T} (bit x) ≡ Some x
+unfolding bit_back
+bit-again T x = refl
 
-pub ruleset seen_slots = (same-values)
+bytes-again : (T : Type 0) (is_text : Bool) (x : List ℕ) → bytes_back {T = T} (piece is_text x) ≡ Some x
+unfolding bytes_back
+bytes-again T is_text x = refl
+
+module _ {A S T : Type 0} (around : A → Around) (stored : S → Stored T) (back : Stored T → Option S) (again : (x : S) → back (stored x) ≡ Some x) where
+  same-slots : (c d : ColumnWith A S) → (slots_of c ≡ slots_of d) ↔ (slots_of (seen around stored c) ≡ slots_of (seen around stored d))
+  same-slots c d = (
+    λ e. slots-seen around stored c ∙ ap (map (option_map stored)) e ∙ sym (slots-seen around stored d),
+    λ e. sym (slots-back stored back again (slots_of c)) ∙ ap (map (option_and_then back)) (sym (slots-seen around stored c) ∙ e ∙ slots-seen around stored d) ∙ slots-back stored back again (slots_of d),
+  )
+
+pub same-values : {T : Type 0} (c d : Column T) → (slots_of c ≡ slots_of d) ↔ (slots_of (seen {T = T} (λ _. nothing_around) value c) ≡ slots_of (seen {T = T} (λ _. nothing_around) value d))
+same-values {T} c d = same-slots {T = T} (λ _. nothing_around) value value_back value-again c d
+
+pub same-bits : (T : Type 0) (c d : Column Bool) → (slots_of c ≡ slots_of d) ↔ (slots_of (seen {T = T} (λ _. nothing_around) bit c) ≡ slots_of (seen {T = T} (λ _. nothing_around) bit d))
+same-bits T c d = same-slots {T = T} (λ _. nothing_around) bit bit_back (bit-again T) c d
+
+pub same-pieces : (T : Type 0) (is_text : Bool) (c d : ByteColumn) → (slots_of c ≡ slots_of d) ↔ (slots_of (seen {T = T} (λ around. around) (piece is_text) c) ≡ slots_of (seen {T = T} (λ around. around) (piece is_text) d))
+same-pieces T is_text c d = same-slots {T = T} (λ around. around) (piece is_text) bytes_back (bytes-again T is_text) c d
+
+pub ruleset seen_slots = (same-values, same-bits, same-pieces)
 
 pub ruleset seen_reads = (length-seen, type-seen, held-seen, around-seen, stored-seen, marks-seen, slots-seen, valid-seen, last-seen)
 

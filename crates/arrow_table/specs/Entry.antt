@@ -1,5 +1,5 @@
 -- The entries of a table: values that know nothing of how they are kept, nor of one another.
-use Rattle.std.specs.Prelude.{ℕ, Bool, true, false, List, [], map, Option}
+use Rattle.std.specs.Prelude.{ℕ, Bool, true, false, List, [], map, Option, option_map}
 use Rattle.arrow_types.specs.Types.{LogicalType, default_logical_type}
 use Rattle.arrow_types.specs.declared.primitive_type.PrimitiveType.{PrimitiveType}
 use Rattle.arrow_types.specs.declared.physical_type.PhysicalType.{PhysicalType}
@@ -92,3 +92,7 @@ value_of (entry.MutableBinary column) = piece_value with_nulls false column
 value_of (entry.MutableUtf8 column) = piece_value with_nulls true column
 value_of (entry.BinaryValues column) = piece_value values_alone false column
 value_of (entry.Utf8Values column) = piece_value values_alone true column
+
+-- the table of entries as they are kept, and of counts
+abbrev pub table_of : {T O : Type 0} → List (Option (Entry T O)) → Cost → Held T
+table_of entries cost = record { entries = map (option_map value_of) entries; cost = cost }

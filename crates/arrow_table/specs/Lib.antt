@@ -8,3 +8,4 @@ pub mod Parts
 pub mod Change
 pub mod Step
 pub mod Run
+pub mod Outcome

@@ -1,6 +1,6 @@
 -- What each command does to the entry that it names, and what it answers. What is freely chosen stands behind `may`,
 -- and behind `memory` that want of memory may be the answer.
-use Rattle.std.specs.Prelude.{◌≡◌, ◌↔◌, ℕ, ◌-◌, ◌≤◌, Bool, true, false, not, ◌&&◌, ◌||◌, nat_le, nat_lt, nat_eq, List, [], ◌∷◌, length, map, take, replicate, count_by, find, is_none, Option, Some, None, option_and_then, MatchOption, MatchBool, IsTrue, slice_get, slice_set, if◌then◌else◌}
+use Rattle.std.specs.Prelude.{◌≡◌, ◌↔◌, ℕ, ◌-◌, ◌==◌, ◌≤◌, Bool, true, false, not, ◌&&◌, ◌||◌, nat_le, nat_lt, nat_eq, List, [], ◌∷◌, length, map, take, replicate, count_by, find, is_none, Option, Some, None, option_and_then, MatchOption, MatchBool, IsTrue, slice_get, slice_set, if◌then◌else◌}
 use Rattle.std.specs.List.{list_all}
 use Rattle.std.specs.Option.{option_map_or}
 use Rattle.arrow_types.specs.Types.{IsRightType, overflow}
@@ -183,6 +183,10 @@ is_for _ = any_kind
 abbrev pub entry_at : {T : Type 0} → State T → ℕ → Option (Value T)
 entry_at state e = option_and_then (λ entry. entry) (slice_get state e)
 
+-- what stands in another entry; nothing where it is the same one
+abbrev pub other_at : {T : Type 0} → State T → ℕ → ℕ → Option (Value T)
+other_at state e f = if e == f then None else entry_at state f
+
 -- a row of one entry of the table: every other entry stays; past the table it is `not_met`
 abbrev pub AtEntry : {T : Type 0} → State T → ℕ → (Option (Value T) → Row T) → Answer T → State T → Type 0
 AtEntry state e row reply new =
@@ -210,8 +214,8 @@ module _ {T : Type 0} (c : Types T) where
   abbrev pub Changes : State T → Request T → Answer T → State T → Type 0
   Changes state (make e s source) = AtEntry state e (Makes_in s source)
   Changes state (at e asked) = AtEntry state e (Does_to (is_for asked) asked)
-  Changes state (clone_from e f) = AtEntry state e (Clones (entry_at state f))
-  Changes state (extend_from e f) = AtEntry state e (Joins_to (if nat_eq e f then None else entry_at state f))
+  Changes state (clone_from e f) = AtEntry state e (Clones (other_at state e f))
+  Changes state (extend_from e f) = AtEntry state e (Joins_to (other_at state e f))
   Changes state (equal e f) = AtEntry state e (Compares_to (entry_at state f))
   Changes state (check_indexes keys n) = λ reply new.
       (reply ≡ option_map_or (λ key. refused (key_refusal key)) (find (λ key. not (is_place n key)) keys) done) × (new ≡ state)

@@ -3,4 +3,5 @@ pub(crate) mod frozen;
 pub(crate) mod growing;
 pub(crate) mod kept;
 pub(crate) mod masked;
+pub(crate) mod pieces;
 pub(crate) mod shown;

@@ -1,5 +1,5 @@
 //! What every kind of frozen array tells and does.
-ghost use Rattle.std.specs.Prelude.{◌≡◌, ◌<◌, ◌≤◌, ◌-◌, Bool, Option, Some, IfSome, count_by, length, not, slice_get};
+ghost use Rattle.std.specs.Prelude.{◌≡◌, ◌≤◌, ◌-◌, IfSome, count_by, length, not};
 ghost use Rattle.arrow_memory.specs.Column.{marks_of, with_mask};
 ghost use Rattle.arrow_table.specs.Change.{cut_value, with_column};
 
@@ -14,11 +14,6 @@ use arrow_utf8::Utf8Array;
 
 /// A frozen array.
 pub(crate) trait Frozen<T: NativeType>: Shown<T> {
-    /// Whether the slot at a place is null.
-    fn is_null_at(&self, i: usize) -> bool
-        requires { i < length (Self.value self.now).column.rows }
-        ensures { slice_get (marks_of (Self.value self.now).column) i ≡ Some (not result) };
-
     /// The number of nulls.
     fn nulls(&self) -> usize
         ensures { result ≡ count_by not (marks_of (Self.value self.now).column) };
@@ -37,10 +32,6 @@ pub(crate) trait Frozen<T: NativeType>: Shown<T> {
 
 #[tactic(auto, using(crate::proofs::Seen::seen_reads, crate::proofs::Seen::seen_places, crate::proofs::Seen::seen_cuts, crate::proofs::Seen::seen_masks))]
 impl<T: NativeType> Frozen<T> for PrimitiveArray<T> {
-    fn is_null_at(&self, i: usize) -> bool {
-        self.is_null(i)
-    }
-
     fn nulls(&self) -> usize {
         self.null_count()
     }
@@ -56,10 +47,6 @@ impl<T: NativeType> Frozen<T> for PrimitiveArray<T> {
 
 #[tactic(auto, using(crate::proofs::Seen::seen_reads, crate::proofs::Seen::seen_places, crate::proofs::Seen::seen_cuts, crate::proofs::Seen::seen_masks))]
 impl<T: NativeType> Frozen<T> for BooleanArray {
-    fn is_null_at(&self, i: usize) -> bool {
-        self.is_null(i)
-    }
-
     fn nulls(&self) -> usize {
         self.null_count()
     }
@@ -75,10 +62,6 @@ impl<T: NativeType> Frozen<T> for BooleanArray {
 
 #[tactic(auto, using(crate::proofs::Seen::seen_reads, crate::proofs::Seen::seen_places, crate::proofs::Seen::seen_cuts, crate::proofs::Seen::seen_masks))]
 impl<T: NativeType, O: Offset> Frozen<T> for BinaryArray<O> {
-    fn is_null_at(&self, i: usize) -> bool {
-        self.is_null(i)
-    }
-
     fn nulls(&self) -> usize {
         self.null_count()
     }
@@ -94,10 +77,6 @@ impl<T: NativeType, O: Offset> Frozen<T> for BinaryArray<O> {
 
 #[tactic(auto, using(crate::proofs::Seen::seen_reads, crate::proofs::Seen::seen_places, crate::proofs::Seen::seen_cuts, crate::proofs::Seen::seen_masks))]
 impl<T: NativeType, O: Offset> Frozen<T> for Utf8Array<O> {
-    fn is_null_at(&self, i: usize) -> bool {
-        self.is_null(i)
-    }
-
     fn nulls(&self) -> usize {
         self.null_count()
     }

@@ -1,7 +1,7 @@
 //! What every kind of array and builder shows of a slot.
-ghost use Rattle.std.specs.Prelude.{◌≡◌, ◌<◌, IfErr, IfOk, IsTrue, Some, length, slice_get};
-ghost use Rattle.arrow_memory.specs.Column.{stored_values};
-ghost use Rattle.arrow_table.specs.Item.{stored_item};
+ghost use Rattle.std.specs.Prelude.{◌≡◌, ◌<◌, IfErr, IfOk, IsTrue, Some, length, not, slice_get};
+ghost use Rattle.arrow_memory.specs.Column.{marks_of, slots_of, stored_values};
+ghost use Rattle.arrow_table.specs.Item.{stored_item, stored_slot};
 ghost use Rattle.arrow_table.specs.Kind.{is_pieces};
 
 use crate::Item;
@@ -25,12 +25,44 @@ pub(crate) trait Shown<T: NativeType>: Kept<T> {
         requires { i < length (Self.value self.now).column.rows }
         ensures ok { IfOk result (λ item. slice_get (stored_values (Self.value self.now).column) i ≡ Some (stored_item item)) }
         ensures err { IfErr result (λ _. IsTrue (is_pieces (Self.value self.now).shape)) };
+
+    /// Whether the slot at a place is null.
+    fn is_null_at(&self, i: usize) -> bool
+        requires { i < length (Self.value self.now).column.rows }
+        ensures { slice_get (marks_of (Self.value self.now).column) i ≡ Some (not result) };
+}
+
+/// What the slot at a place shows; bytes and texts are copied.
+///
+/// # Errors
+/// Where memory is refused.
+#[tactic(auto, using(crate::proofs::Slots::slot_reads))]
+pub(crate) fn slot_at<T: NativeType, K: Shown<T>>(
+    alloc: Global,
+    kept: &K,
+    i: usize,
+) -> Result<Option<Item<T>>, AllocError>
+    requires { i < length (K.value kept.now).column.rows }
+    ensures ok { IfOk result (λ slot. slice_get (slots_of (K.value kept.now).column) i ≡ Some (stored_slot slot)) }
+    ensures err { IfErr result (λ _. IsTrue (is_pieces (K.value kept.now).shape)) }
+{
+    if kept.is_null_at(i) {
+        return Ok(None);
+    }
+    match kept.stored_at(alloc, i) {
+        Ok(item) => Ok(Some(item)),
+        Err(refused) => Err(refused),
+    }
 }
 
 #[tactic(auto, using(crate::proofs::Seen::seen_reads, crate::proofs::Seen::seen_places))]
 impl<T: NativeType> Shown<T> for PrimitiveArray<T> {
     fn stored_at(&self, _alloc: Global, i: usize) -> Result<Item<T>, AllocError> {
         Ok(Item::Value(self.value(i)))
+    }
+
+    fn is_null_at(&self, i: usize) -> bool {
+        self.is_null(i)
     }
 }
 
@@ -39,12 +71,20 @@ impl<T: NativeType> Shown<T> for BooleanArray {
     fn stored_at(&self, _alloc: Global, i: usize) -> Result<Item<T>, AllocError> {
         Ok(Item::Bit(self.value(i)))
     }
+
+    fn is_null_at(&self, i: usize) -> bool {
+        self.is_null(i)
+    }
 }
 
 #[tactic(auto, using(crate::proofs::Seen::seen_reads, crate::proofs::Seen::seen_places))]
 impl<T: NativeType, O: Offset> Shown<T> for BinaryArray<O> {
     fn stored_at(&self, alloc: Global, i: usize) -> Result<Item<T>, AllocError> {
         bytes_copied(alloc, self.value(i))
+    }
+
+    fn is_null_at(&self, i: usize) -> bool {
+        self.is_null(i)
     }
 }
 
@@ -53,46 +93,90 @@ impl<T: NativeType, O: Offset> Shown<T> for Utf8Array<O> {
     fn stored_at(&self, alloc: Global, i: usize) -> Result<Item<T>, AllocError> {
         text_copied(alloc, self.value(i))
     }
+
+    fn is_null_at(&self, i: usize) -> bool {
+        self.is_null(i)
+    }
 }
 
-#[tactic(auto, using(crate::proofs::Seen::seen_counts, crate::proofs::Seen::seen_places))]
+#[tactic(auto, using(crate::proofs::Seen::seen_counts, crate::proofs::Seen::seen_places, crate::proofs::Slots::slot_marks))]
 impl<T: NativeType> Shown<T> for MutablePrimitiveArray<T> {
     fn stored_at(&self, _alloc: Global, i: usize) -> Result<Item<T>, AllocError> {
         Ok(Item::Value(self.values()[i]))
     }
+
+    fn is_null_at(&self, i: usize) -> bool {
+        match self.validity() {
+            None => false,
+            Some(marks) => !marks.get(i),
+        }
+    }
 }
 
-#[tactic(auto, using(crate::proofs::Seen::seen_counts, crate::proofs::Seen::seen_places))]
+#[tactic(auto, using(crate::proofs::Seen::seen_counts, crate::proofs::Seen::seen_places, crate::proofs::Slots::slot_marks))]
 impl<T: NativeType> Shown<T> for MutableBooleanArray {
     fn stored_at(&self, _alloc: Global, i: usize) -> Result<Item<T>, AllocError> {
         Ok(Item::Bit(self.values().get(i)))
     }
+
+    fn is_null_at(&self, i: usize) -> bool {
+        match self.validity() {
+            None => false,
+            Some(marks) => !marks.get(i),
+        }
+    }
 }
 
-#[tactic(auto, using(crate::proofs::Seen::seen_reads, crate::proofs::Seen::seen_places))]
+#[tactic(auto, using(crate::proofs::Seen::seen_reads, crate::proofs::Seen::seen_places, crate::proofs::Slots::slot_marks))]
 impl<T: NativeType, O: Offset> Shown<T> for MutableBinaryArray<O> {
     fn stored_at(&self, alloc: Global, i: usize) -> Result<Item<T>, AllocError> {
         bytes_copied(alloc, self.value(i))
     }
+
+    fn is_null_at(&self, i: usize) -> bool {
+        match self.validity() {
+            None => false,
+            Some(marks) => !marks.get(i),
+        }
+    }
 }
 
-#[tactic(auto, using(crate::proofs::Seen::seen_reads, crate::proofs::Seen::seen_places))]
+#[tactic(auto, using(crate::proofs::Seen::seen_reads, crate::proofs::Seen::seen_places, crate::proofs::Slots::slot_marks))]
 impl<T: NativeType, O: Offset> Shown<T> for MutableUtf8Array<O> {
     fn stored_at(&self, alloc: Global, i: usize) -> Result<Item<T>, AllocError> {
         text_copied(alloc, self.value(i))
     }
+
+    fn is_null_at(&self, i: usize) -> bool {
+        match self.validity() {
+            None => false,
+            Some(marks) => !marks.get(i),
+        }
+    }
 }
 
-#[tactic(auto, using(crate::proofs::Seen::seen_reads, crate::proofs::Seen::seen_places))]
+#[tactic(auto, using(crate::proofs::Seen::seen_reads, crate::proofs::Seen::seen_places, crate::proofs::Slots::slot_marks))]
 impl<T: NativeType, O: Offset> Shown<T> for MutableBinaryValuesArray<O> {
     fn stored_at(&self, alloc: Global, i: usize) -> Result<Item<T>, AllocError> {
         bytes_copied(alloc, self.value(i))
     }
+
+    fn is_null_at(&self, _i: usize) -> bool {
+        // The builder tells with its type that no slot is null.
+        self.data_type();
+        false
+    }
 }
 
-#[tactic(auto, using(crate::proofs::Seen::seen_reads, crate::proofs::Seen::seen_places))]
+#[tactic(auto, using(crate::proofs::Seen::seen_reads, crate::proofs::Seen::seen_places, crate::proofs::Slots::slot_marks))]
 impl<T: NativeType, O: Offset> Shown<T> for MutableUtf8ValuesArray<O> {
     fn stored_at(&self, alloc: Global, i: usize) -> Result<Item<T>, AllocError> {
         text_copied(alloc, self.value(i))
+    }
+
+    fn is_null_at(&self, _i: usize) -> bool {
+        // The builder tells with its type that no slot is null.
+        self.data_type();
+        false
     }
 }

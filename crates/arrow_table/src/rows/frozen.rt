@@ -1,6 +1,7 @@
 //! Commands on arrays.
 use crate::Reply;
 use crate::kinds::frozen::Frozen;
+use crate::kinds::shown::slot_at;
 use crate::rows::entry::ChangesFrozen;
 use arrow_types::error::Error;
 use arrow_types::native_type::NativeType;
@@ -20,11 +21,8 @@ impl<T: NativeType, O: Offset> ChangesFrozen<T, O> for Get {
         if self.0 >= kept.count() {
             return Reply::NotMet;
         }
-        if kept.is_null_at(self.0) {
-            return Reply::Slot(None);
-        }
-        match kept.stored_at(alloc, self.0) {
-            Ok(item) => Reply::Slot(Some(item)),
+        match slot_at(alloc, kept, self.0) {
+            Ok(slot) => Reply::Slot(slot),
             Err(_) => Reply::Refused(Error::OutOfMemory),
         }
     }

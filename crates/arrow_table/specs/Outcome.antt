@@ -1,0 +1,49 @@
+-- What a call that makes an array or a builder, or is refused, means for the entry that it is to stand in.
+use Rattle.std.specs.Prelude.{◌≡◌, ⊤, Bool, Option, Some, None, Result, Ok, Err}
+use Rattle.arrow_types.specs.Types.{Refusal, refusal}
+use Rattle.arrow_types.specs.declared.error.Error.{Error}
+use Rattle.arrow_types.specs.declared.error.Error.TheVariants as error
+use Rattle.arrow_types.specs.declared.physical_type.PhysicalType.{PhysicalType}
+use Rattle.arrow_table.specs.declared.entry.Entry.{Entry}
+use Rattle.arrow_table.specs.declared.reply.Reply.{Reply}
+use Rattle.arrow_table.specs.Kind.{Sort}
+use Rattle.arrow_table.specs.Answer.{Answer, done, refused, told}
+use Rattle.arrow_table.specs.Entry.{Value, Types, layout, value_of}
+use Rattle.arrow_table.specs.Row.{Row}
+use Rattle.arrow_table.specs.Parts.{wrong_type}
+
+-- the answer
+abbrev pub reply_of : {T A : Type 0} → Result A Error → Answer T
+reply_of (Ok a) = done
+reply_of (Err e) = refused (refusal e)
+
+-- what stands in the entry
+abbrev pub kept_of : {T A : Type 0} → (A → Value T) → Result A Error → Option (Value T)
+kept_of value (Ok a) = Some (value a)
+kept_of value (Err e) = None
+
+-- the row holds of what was made
+abbrev pub MadeBy : {T A : Type 0} → (A → Value T) → Result A Error → Row T → Type 0
+MadeBy value result row = row (reply_of result) (kept_of value result)
+
+-- the same where another answer than a refusal may come, and of any kind of entry
+abbrev pub answer_of : {T O : Type 0} → Result (Entry T O) (Reply T) → Answer T
+answer_of (Ok entry) = done
+answer_of (Err reply) = told reply
+
+abbrev pub entry_of : {T O : Type 0} → Result (Entry T O) (Reply T) → Option (Value T)
+entry_of (Ok entry) = Some (value_of entry)
+entry_of (Err reply) = None
+
+abbrev pub EntryBy : {T O : Type 0} → Result (Entry T O) (Reply T) → Row T → Type 0
+EntryBy result row = row (answer_of result) (entry_of result)
+
+-- why a call was refused, unless for memory
+abbrev pub UnlessMemory : Error → Type 0 → Type 0
+UnlessMemory (error.OutOfSpec text) P = P
+UnlessMemory error.Overflow P = P
+UnlessMemory error.OutOfMemory P = ⊤
+
+-- how the values of a kind lie in memory, and how it refuses another type, are what the table knows of its sort
+abbrev pub IsKindOf : {T : Type 0} → Types T → Sort → Bool → PhysicalType → Refusal → Type 0
+IsKindOf c sort is_frozen physical wrong = (physical ≡ layout c sort) × (wrong ≡ wrong_type sort is_frozen)

@@ -1,0 +1,106 @@
+//! A table, and the run of a list of commands on it.
+ghost use Rattle.std.specs.Prelude.{◌≡◌, ◌<◌, ◌≤◌, false, length, map, replicate, take, vec_capacity, vec_len, IfErr, IfOk, MatchOption, None, option_map};
+ghost use Rattle.arrow_check.specs.Reading.{no_cost};
+ghost use Rattle.arrow_table.specs.Answer.{told};
+ghost use Rattle.arrow_table.specs.Entry.{table_of, types};
+ghost use Rattle.arrow_table.specs.Kind.{shape};
+ghost use Rattle.arrow_table.specs.Request.{asked};
+ghost use Rattle.arrow_table.specs.Run.{AppendsRun, CostsAtMost};
+ghost use Rattle.arrow_table.specs.Step.{IsStep, entry_at};
+
+use crate::rows::step::step;
+use crate::{Command, Entry, Kind, Reply};
+use arrow_check::cost::TextCost;
+use arrow_types::error::Error;
+use arrow_types::native_type::NativeType;
+use arrow_types::offset::Offset;
+use std::alloc::Global;
+use std::marker::Model;
+
+/// A table of entries, each of which is empty or holds an array or a builder; and counts of what its tests of text cost.
+#[derive(Drop)]
+pub struct Table<T: NativeType, O: Offset> {
+    entries: Vec<Option<Entry<T, O>>>,
+    cost: TextCost,
+}
+
+// Contracts see the values of the entries, in order, and the counts.
+impl<T: NativeType, O: Offset> Model for Table<T, O> {
+    ghost use Rattle.arrow_table.specs.Entry.{Held, table_of};
+
+    ghost Value = { Held T };
+
+    ghost view = { λ table. table_of table.entries.items table.cost };
+}
+
+#[tactic(auto, using(crate::proofs::Steps::none_yet))]
+impl<T: NativeType, O: Offset> Table<T, O> {
+    /// A table of n empty entries.
+    ///
+    /// # Errors
+    /// `OutOfMemory` where memory is refused.
+    pub fn new(alloc: Global, n: usize) -> Result<Self, Error>
+        ensures ok { IfOk result (λ table. table ≡ record { entries = replicate n None; cost = no_cost }) }
+        ensures err { IfErr result (λ e. e ≡ Error.OutOfMemory) }
+    {
+        let mut entries = Vec::with_capacity(alloc, n)?;
+        for _ in 0..n {
+            entries.push(None)?;
+        }
+        Ok(Table {
+            entries,
+            cost: TextCost::new(),
+        })
+    }
+
+    /// The number of entries.
+    pub fn len(&self) -> usize
+        ensures { result ≡ length self.now.entries }
+    {
+        self.entries.len()
+    }
+
+    /// The kind of an entry; `None` where it is empty or past the table.
+    pub fn kind(&self, i: usize) -> Option<Kind>
+        ensures { option_map shape result ≡ option_map (λ v. v.shape) (entry_at self.now.entries i) }
+    {
+        match self.entries.get(i)? {
+            Some(entry) => Some(entry.kind()),
+            None => None,
+        }
+    }
+
+    /// What the table's tests of text cost so far.
+    pub fn text_cost(&self) -> &TextCost
+        ensures { result.now ≡ self.now.cost }
+    {
+        &self.cost
+    }
+}
+
+/// Runs commands in order and appends a reply for each. Answers how many were done: all, or as many as there was room for
+/// replies. It stops early only where the list of replies is full and its growth was refused, and never gives up room that
+/// the list has.
+pub fn run<T: NativeType, O: Offset>(
+    table: &mut Table<T, O>,
+    commands: &[Command<T, O>],
+    replies: &mut Vec<Reply<T>>,
+) -> usize
+    ensures count { result ≤ length commands.now }
+    ensures run { AppendsRun (types T.zero T.PRIMITIVE O.most O.IS_LARGE) O.number table.old (take result commands.now) replies.old.items replies.new.items table.new }
+    ensures costs { CostsAtMost (map (asked O.number) (take result commands.now)) table.old.cost table.new.cost }
+    ensures full { result < length commands.now → vec_len replies.new ≡ vec_capacity replies.new }
+    ensures room { vec_capacity replies.old ≤ vec_capacity replies.new }
+{
+    let alloc = *replies.allocator();
+    let mut done = 0;
+    for command in commands {
+        let Ok(()) = replies.reserve(1) else {
+            return done;
+        };
+        let reply = step(alloc, &mut table.entries, &mut table.cost, command);
+        replies.push_reserved(reply);
+        done += 1;
+    }
+    done
+}
