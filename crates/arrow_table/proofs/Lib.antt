@@ -1,7 +1,7 @@
 pub mod Grown
+pub mod Masks
 pub mod Makes
 pub mod Passes
-pub mod Masks
 pub mod Seen
 pub mod Slots
 pub mod Steps

@@ -1,12 +1,11 @@
 //! What every kind of frozen array tells and does.
-ghost use Rattle.std.specs.Prelude.{◌≡◌, ◌≤◌, ◌-◌, IfSome, count_by, length, not};
-ghost use Rattle.arrow_memory.specs.Column.{marks_of, with_mask};
-ghost use Rattle.arrow_table.specs.Change.{cut_value, with_column};
+ghost use Rattle.std.specs.Prelude.{◌≡◌, ◌≤◌, ◌-◌, count_by, length, not};
+ghost use Rattle.arrow_memory.specs.Column.{marks_of};
+ghost use Rattle.arrow_table.specs.Change.{cut_value};
 
 use crate::kinds::shown::Shown;
 use arrow_binary::BinaryArray;
 use arrow_boolean::BooleanArray;
-use arrow_memory::bitmap::Bitmap;
 use arrow_primitive::PrimitiveArray;
 use arrow_types::native_type::NativeType;
 use arrow_types::offset::Offset;
@@ -23,14 +22,9 @@ pub(crate) trait Frozen<T: NativeType>: Shown<T> {
         requires from { offset ≤ length (Self.value self.old).column.rows }
         requires room { len ≤ length (Self.value self.old).column.rows - offset }
         ensures { Self.value self.new ≡ cut_value (Self.value self.old) offset len };
-
-    /// Replaces the mask, which has a mark for each slot.
-    fn put_mask(&mut self, mask: Option<Bitmap>)
-        requires { IfSome mask (λ marks. length marks ≡ length (Self.value self.old).column.rows) }
-        ensures { Self.value self.new ≡ with_column (Self.value self.old) (with_mask (Self.value self.old).column mask) };
 }
 
-#[tactic(auto, using(crate::proofs::Seen::seen_reads, crate::proofs::Seen::seen_places, crate::proofs::Seen::seen_cuts, crate::proofs::Seen::seen_masks))]
+#[tactic(auto, using(crate::proofs::Seen::seen_reads, crate::proofs::Seen::seen_cuts))]
 impl<T: NativeType> Frozen<T> for PrimitiveArray<T> {
     fn nulls(&self) -> usize {
         self.null_count()
@@ -39,13 +33,9 @@ impl<T: NativeType> Frozen<T> for PrimitiveArray<T> {
     fn cut(&mut self, offset: usize, len: usize) {
         self.slice(offset, len);
     }
-
-    fn put_mask(&mut self, mask: Option<Bitmap>) {
-        self.set_validity(mask);
-    }
 }
 
-#[tactic(auto, using(crate::proofs::Seen::seen_reads, crate::proofs::Seen::seen_places, crate::proofs::Seen::seen_cuts, crate::proofs::Seen::seen_masks))]
+#[tactic(auto, using(crate::proofs::Seen::seen_reads, crate::proofs::Seen::seen_cuts))]
 impl<T: NativeType> Frozen<T> for BooleanArray {
     fn nulls(&self) -> usize {
         self.null_count()
@@ -54,13 +44,9 @@ impl<T: NativeType> Frozen<T> for BooleanArray {
     fn cut(&mut self, offset: usize, len: usize) {
         self.slice(offset, len);
     }
-
-    fn put_mask(&mut self, mask: Option<Bitmap>) {
-        self.set_validity(mask);
-    }
 }
 
-#[tactic(auto, using(crate::proofs::Seen::seen_reads, crate::proofs::Seen::seen_places, crate::proofs::Seen::seen_cuts, crate::proofs::Seen::seen_masks))]
+#[tactic(auto, using(crate::proofs::Seen::seen_reads, crate::proofs::Seen::seen_cuts))]
 impl<T: NativeType, O: Offset> Frozen<T> for BinaryArray<O> {
     fn nulls(&self) -> usize {
         self.null_count()
@@ -69,13 +55,9 @@ impl<T: NativeType, O: Offset> Frozen<T> for BinaryArray<O> {
     fn cut(&mut self, offset: usize, len: usize) {
         self.slice(offset, len);
     }
-
-    fn put_mask(&mut self, mask: Option<Bitmap>) {
-        self.set_validity(mask);
-    }
 }
 
-#[tactic(auto, using(crate::proofs::Seen::seen_reads, crate::proofs::Seen::seen_places, crate::proofs::Seen::seen_cuts, crate::proofs::Seen::seen_masks))]
+#[tactic(auto, using(crate::proofs::Seen::seen_reads, crate::proofs::Seen::seen_cuts))]
 impl<T: NativeType, O: Offset> Frozen<T> for Utf8Array<O> {
     fn nulls(&self) -> usize {
         self.null_count()
@@ -83,9 +65,5 @@ impl<T: NativeType, O: Offset> Frozen<T> for Utf8Array<O> {
 
     fn cut(&mut self, offset: usize, len: usize) {
         self.slice(offset, len);
-    }
-
-    fn put_mask(&mut self, mask: Option<Bitmap>) {
-        self.set_validity(mask);
     }
 }

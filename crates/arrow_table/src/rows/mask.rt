@@ -1,5 +1,5 @@
 //! Commands on masks.
-ghost use Rattle.std.specs.Prelude.{◌≡◌, Bool, IfErr, IfOk, Option, Some, option_map, replicate, reverse};
+ghost use Rattle.std.specs.Prelude.{◌≡◌, IfErr, IfOk, Some, option_map, replicate, reverse};
 ghost use Rattle.arrow_table.specs.Answer.{told};
 ghost use Rattle.arrow_table.specs.Entry.{types};
 ghost use Rattle.arrow_table.specs.Item.{bit, change_of, fill, turn};
