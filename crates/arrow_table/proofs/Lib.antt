@@ -8,3 +8,4 @@ pub mod Steps
 pub mod RunLemmas
 pub mod Values
 pub mod Turns
+pub mod Costs

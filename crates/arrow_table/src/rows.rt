@@ -4,6 +4,7 @@ pub(crate) mod bytes;
 pub(crate) mod constant;
 pub(crate) mod entry;
 pub(crate) mod extended;
+pub(crate) mod filled;
 pub(crate) mod frozen;
 pub(crate) mod items;
 pub(crate) mod make;

@@ -13,9 +13,11 @@ use crate::rows::bytes::{Bytes, OfPieces, Offsets};
 use crate::rows::constant::ExtendConstant;
 use crate::rows::entry::{OfAny, OfBuilder, OfFrozen};
 use crate::rows::extended::{Extend, ExtendValues};
+use crate::rows::filled::{FromItems, FromSlots};
 use crate::rows::frozen::{Get, IsNull, NullCount, Slice};
 use crate::rows::make::{New, NewNull};
 use crate::rows::mask::{ApplyMask, SetMask};
+use crate::rows::parts::parts;
 use crate::rows::read::{Held, Len, TypeOf};
 use crate::rows::slots::{Slots, Turns, Value};
 use crate::rows::table::at;
@@ -49,6 +51,8 @@ pub(crate) fn change<T: NativeType, O: Offset>(
                 length: *length,
             },
         ),
+        Command::FromSlots(e, kind, slots) => at(alloc, entries, *e, FromSlots(*kind, slots)),
+        Command::FromItems(e, kind, items) => at(alloc, entries, *e, FromItems(*kind, items)),
         Command::Len(e) => at(alloc, entries, *e, OfAny(Len)),
         Command::Value(e, i) => at(alloc, entries, *e, Value(*i)),
         Command::Get(e, i) => at(alloc, entries, *e, OfFrozen(Get(*i))),
@@ -86,7 +90,8 @@ pub(crate) fn change<T: NativeType, O: Offset>(
         Command::To(e, data_type) => at(alloc, entries, *e, To(data_type)),
         Command::Equal(e, f) => equal(entries, *e, *f),
         Command::CheckIndexes(keys, length) => indexes_checked(keys, *length),
-        _ => unreachable!(),
+        // It is about raw parts, which the condition excludes.
+        Command::Parts(_, _) => unreachable!(),
     }
 }
 
@@ -100,6 +105,23 @@ fn parts_of<T: NativeType, O: Offset>(command: &Command<T, O>) -> Option<(usize,
     }
 }
 
+/// Puts what raw parts make into the entry of this number; past the table it is not met.
+fn parts_at<T: NativeType, O: Offset>(
+    entries: &mut Vec<Option<Entry<T, O>>>,
+    e: usize,
+    given: &Parts<T, O>,
+    cost: &mut TextCost,
+) -> Reply<T>
+    ensures step { IsStep (types T.zero T.PRIMITIVE O.most O.IS_LARGE) (table_of entries.old.items cost.old) (make e (shape given.now.kind) (parts (logical_type given.now.data_type) (given_by O.number given.now.raw) (option_map packed_bits given.now.mask))) (told result) (table_of entries.new.items cost.new) }
+    ensures costs { CostsAtMost (make e (shape given.now.kind) (parts (logical_type given.now.data_type) (given_by O.number given.now.raw) (option_map packed_bits given.now.mask)) ∷ []) cost.old cost.new }
+{
+    if e >= entries.len() {
+        return Reply::NotMet;
+    }
+    let entry = &mut entries[e];
+    parts(entry, given, cost)
+}
+
 /// Does one command. What is answered is allocated by `alloc`.
 pub(crate) fn step<T: NativeType, O: Offset>(
     alloc: Global,
@@ -111,10 +133,7 @@ pub(crate) fn step<T: NativeType, O: Offset>(
     ensures costs { CostsAtMost (asked O.number command.now ∷ []) cost.old cost.new }
 {
     match parts_of(command) {
-        Some((e, parts)) => {
-            let _ = (e, parts, cost);
-            unreachable!()
-        }
+        Some((e, given)) => parts_at(entries, e, given, cost),
         None => change(alloc, entries, command),
     }
 }

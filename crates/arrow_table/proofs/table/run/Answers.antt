@@ -9,7 +9,7 @@ loop-command-init g c =
     let t = types g.T.NativeType.zero g.T.NativeType.PRIMITIVE g.O.Offset.most g.O.Offset.IS_LARGE in (
       refl,
       rw c.table.view_is (appends-none t g.O.Offset.number c.args.table.now c.args.commands.now c.args.replies.now.items),
-      rw (← c.table.view_is) (costs-none _ c.args.table.now.cost),
+      rw (← c.table.view_is) (costs-none _ c.table.inside.cost),
       omega arith,
     )
 
