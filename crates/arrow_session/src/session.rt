@@ -1,35 +1,83 @@
-//! A session: every line is read, then every command is run, and then every reply is written.
-ghost use Rattle.std.specs.Prelude.{◌≡◌, IfSome, ◌⊎◌};
+//! A session: every line is read and run, and then every reply is written.
+ghost use Rattle.std.specs.Prelude.{◌≡◌, ◌∷◌, [], IfSome, OnOk, ◌⊎◌, string_bytes};
+ghost use Rattle.arrow_session.specs.Answered.{program_asked, AddsAnswers};
 ghost use Rattle.arrow_session.specs.Counted.{inside, fault_count, Rose};
 ghost use Rattle.arrow_session.specs.Session.{Answers, Ends};
 
 use crate::counted::Counted;
 use crate::device::{Fault, read_all, send};
-use crate::lines::parse::{InputError, read_commands};
-use crate::lines::print::text_of;
+use crate::lines::parse::{command_in, is_passed_over};
+use crate::lines::print::push_replies;
+use crate::lines::words::cut;
 use crate::outcome::Outcome;
-use crate::table::{Table, run};
-use std::alloc::Global;
+use arrow_table::{Command, Reply, Table, run};
+use std::alloc::{AllocError, Global};
 use std::io::{Read, Write};
 
 /// The number of entries of a session's table.
 const ENTRIES: usize = 16;
 
-/// The replies to an input, run on a table of empty entries.
+/// Why an input is not answered.
+#[derive(Drop)]
+enum InputError {
+    /// The line of this number, counted from 1, is no command.
+    BadLine(usize),
+    /// Memory was refused.
+    Memory,
+}
+
+impl From<AllocError> for InputError {
+    ghost use Rattle.arrow_session.specs.declared.session.InputError.TheVariants.{Memory};
+
+    ghost from_gives = { λ _ e. e ≡ Memory };
+
+    fn from(_refused: AllocError) -> InputError {
+        InputError::Memory
+    }
+}
+
+/// Runs a command, and appends its reply to a text. The list of replies is only lent, to be used again.
+fn answer_command(
+    table: &mut Table<i64, i32>,
+    command: Command<i64, i32>,
+    replies: &mut Vec<Reply<i64>>,
+    text: &mut String,
+) -> Result<(), AllocError>
+    ensures { OnOk result (AddsAnswers (program_asked command ∷ []) table.old table.new (string_bytes text.old) (string_bytes text.new)) }
+{
+    replies.clear();
+    if run(table, &[command], replies) < 1 {
+        return Err(AllocError);
+    }
+    push_replies(text, replies)
+}
+
+/// The replies to an input, run on a table of empty entries. Each line is run as soon as it is read, so that no list of
+/// commands or replies is kept; where a later line is no command the replies so far are let go.
 fn answer(alloc: Global, input: &[u8]) -> Result<String, InputError>
     ensures { Answers input.now result }
 {
-    let commands = read_commands(alloc, input)?;
     let mut table = Table::new(alloc, ENTRIES).map_err(|_| InputError::Memory)?;
     let mut replies = Vec::new(alloc);
-    if run(&mut table, &commands, &mut replies) < commands.len() {
-        return Err(InputError::Memory);
+    let mut text = String::new(alloc);
+    let mut number = 1;
+    let mut rest = Some(input);
+    while let Some(lines) = rest {
+        let (line, after) = cut(b'\n', lines);
+        if !is_passed_over(line) {
+            let Some(command) = command_in(alloc, line)? else {
+                return Err(InputError::BadLine(number));
+            };
+            answer_command(&mut table, command, &mut replies, &mut text)?;
+        }
+        number += 1;
+        rest = after;
     }
-    Ok(text_of(alloc, &replies)?)
+    Ok(text)
 }
 
 /// Reads every line of the input, runs every command on a table of 16 empty entries, and writes a
-/// reply for each. Where a line is no command nothing is run.
+/// reply for each. Where a line is no command nothing is written.
 pub fn session<R: Read, W: Write>(
     alloc: Global,
     input: &mut Counted<R>,
