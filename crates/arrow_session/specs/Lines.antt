@@ -1,5 +1,5 @@
 -- What each line of the program's input asks.
-use Rattle.std.specs.Prelude.{ℕ, ◌+◌, Bool, not, ◌&&◌, codes, if◌then◌else◌, List, [], ◌∷◌, ◌++◌, ℤ, pos, false, Option, Some, None, option_map, option_and_then, is_some, filter_map, position}
+use Rattle.std.specs.Prelude.{◌≡◌, ℕ, ◌+◌, Bool, not, ◌&&◌, codes, if◌then◌else◌, List, [], ◌∷◌, ◌++◌, ℤ, pos, false, Option, Some, None, option_map, option_and_then, is_some, filter_map, position}
 use Rattle.arrow_types.specs.declared.primitive_type.PrimitiveType.TheVariants.{Int64}
 use Rattle.arrow_table.specs.Entry.{Types, types, default_type}
 use Rattle.arrow_table.specs.Kind.{Shape, Sort, shape}
@@ -124,3 +124,7 @@ reading_at (Some place) asked = bad_line (place + 1)
 -- the requests of the input in order, or the number of its first bad line
 unfoldable pub commands_of : List ℕ → Reading
 commands_of input = reading_at (position is_bad (lines_of input)) (filter_map asked_in (lines_of input))
+
+-- each line of the input is passed over or a command
+abbrev pub IsGood : List ℕ → Type 0
+IsGood input = (commands : List (Request ℤ)) × (commands_of input ≡ requests commands)

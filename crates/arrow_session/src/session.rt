@@ -1,7 +1,8 @@
-//! A session: every line is read and run, and then every reply is written.
-ghost use Rattle.std.specs.Prelude.{◌≡◌, ◌∷◌, [], IfSome, OnOk, ◌⊎◌, string_bytes};
+//! A session: every line is read, then every command is run, and then every reply is written.
+ghost use Rattle.std.specs.Prelude.{◌≡◌, ◌∷◌, [], IfOk, IfSome, MatchOption, OnOk, ◌⊎◌, string_bytes};
 ghost use Rattle.arrow_session.specs.Answered.{program_asked, AddsAnswers};
 ghost use Rattle.arrow_session.specs.Counted.{inside, fault_count, Rose};
+ghost use Rattle.arrow_session.specs.Lines.{IsGood, bad_line, commands_of};
 ghost use Rattle.arrow_session.specs.Session.{Answers, Ends};
 
 use crate::counted::Counted;
@@ -52,9 +53,29 @@ fn answer_command(
     push_replies(text, replies)
 }
 
-/// The replies to an input, run on a table of empty entries. Each line is run as soon as it is read, so that no list of
-/// commands or replies is kept; where a later line is no command the replies so far are let go.
-fn answer(alloc: Global, input: &[u8]) -> Result<String, InputError>
+/// The number of the first line of an input that is no command, counted from 1; `None` where each is one. The commands are
+/// let go.
+fn first_bad_line(alloc: Global, input: &[u8]) -> Result<Option<usize>, AllocError>
+    ensures { IfOk result (λ found. MatchOption found (IsGood input.now) (λ number. commands_of input.now ≡ bad_line number)) }
+{
+    let mut number = 1;
+    let mut rest = Some(input);
+    while let Some(lines) = rest {
+        let (line, after) = cut(b'\n', lines);
+        if !is_passed_over(line) {
+            if command_in(alloc, line)?.is_none() {
+                return Ok(Some(number));
+            }
+        }
+        number += 1;
+        rest = after;
+    }
+    Ok(None)
+}
+
+/// The replies to an input, run on a table of empty entries. Each line is read once more and run at once, so that no list
+/// of commands or replies is kept.
+fn run_lines(alloc: Global, input: &[u8]) -> Result<String, InputError>
     ensures { Answers input.now result }
 {
     let mut table = Table::new(alloc, ENTRIES).map_err(|_| InputError::Memory)?;
@@ -76,8 +97,18 @@ fn answer(alloc: Global, input: &[u8]) -> Result<String, InputError>
     Ok(text)
 }
 
+/// The replies to an input, of which nothing is run where a line is no command.
+fn answer(alloc: Global, input: &[u8]) -> Result<String, InputError>
+    ensures { Answers input.now result }
+{
+    match first_bad_line(alloc, input)? {
+        Some(number) => Err(InputError::BadLine(number)),
+        None => run_lines(alloc, input),
+    }
+}
+
 /// Reads every line of the input, runs every command on a table of 16 empty entries, and writes a
-/// reply for each. Where a line is no command nothing is written.
+/// reply for each. Where a line is no command nothing is run.
 pub fn session<R: Read, W: Write>(
     alloc: Global,
     input: &mut Counted<R>,
