@@ -1,10 +1,12 @@
 -- Lemmas on reading one line after the other.
-use Rattle.std.proofs.Common.{◌≡◌, ℕ, ◌+◌, List, [], ◌++◌, refl, Option, Some, None, ℤ}
-use Rattle.std.specs.Prelude.{position, filter_map}
+use Rattle.std.proofs.Common.{◌≡◌, ℕ, ◌+◌, Bool, true, false, cond, nat_lt, List, [], ◌∷◌, ◌++◌, length, refl, sym, ap, ◌∙◌, append_assoc, append-nil, arith, Option, Some, None, ℤ}
+use Rattle.std.proofs.lemmas.Bool.{ltb-true, ltb-false, lt-ltb, le-ltb}
+use Rattle.std.specs.Prelude.{position, filter_map, option_map}
+use Rattle.std.specs.List.{position_or_len}
 use denote.Ref.{Bor}
-use Rattle.arrow_session.specs.Command.{Request}
-use Rattle.arrow_session.specs.Lines.{Reading, requests, bad_line, reading_at, commands_of, is_bad, asked_in}
-use Rattle.arrow_session.specs.Words.{lines_of}
+use Rattle.arrow_table.specs.Request.{Request}
+use Rattle.arrow_session.specs.Lines.{Reading, requests, bad_line, reading_at, commands_of, is_bad, asked_in, request_in}
+use Rattle.arrow_session.specs.Words.{lines_of, is_passed_over}
 
 -- the lines of what follows, where there is any
 abbrev pub lines_after : Option (Bor (List ℕ)) → List (List ℕ)
@@ -17,13 +19,69 @@ reading_with n before None asked = requests (before ++ asked)
 reading_with n before (Some place) asked = bad_line (place + n)
 
 -- what an input is, of which these lines from this number on are left, behind these requests
-abbrev pub reading_from : ℕ → List (Request ℤ) → List (List ℕ) → Reading
-reading_from n before lines = reading_with n before (position is_bad lines) (filter_map asked_in lines)
+unfoldable pub reading_from : ℕ → List (Request ℤ) → List (List ℕ) → Reading
+reading_from n before rest = reading_with n before (position is_bad rest) (filter_map asked_in rest)
 
 from_first : (found : Option ℕ) (asked : List (Request ℤ)) → reading_at found asked ≡ reading_with 1 [] found asked
 from_first None asked = refl
 from_first (Some place) asked = refl
 
 pub commands_of_is : (input : List ℕ) → commands_of input ≡ reading_from 1 [] (lines_of input)
-unfolding commands_of
+unfolding commands_of reading_from
 commands_of_is input = from_first (position is_bad (lines_of input)) (filter_map asked_in (lines_of input))
+
+-- the place of the first that passes, behind one that does not, and at one that does
+module _ {X : Type 0} (p : X → Bool) where
+  later_of : (n len : ℕ) (b : Bool) → nat_lt n len ≡ b → cond (nat_lt (1 + n) (len + 1)) (Some (1 + n)) None ≡ option_map (λ k. 1 + k) (cond (nat_lt n len) (Some n) None)
+  later_of n len true t = rw (t, lt-ltb (1 + n) (len + 1) (omega (arith, ltb-true n len t))) refl
+  later_of n len false t = rw (t, le-ltb (1 + n) (len + 1) (omega (arith, ltb-false n len t))) refl
+
+  place_later : (x : X) (xs : List X) → p x ≡ false → position p (x ∷ xs) ≡ option_map (λ k. 1 + k) (position p xs)
+  place_later x xs e = rw e (later_of (position_or_len p xs) (length xs) _ refl)
+
+  place_here : (x : X) (xs : List X) → p x ≡ true → position p (x ∷ xs) ≡ Some 0
+  place_here x xs e = rw (e, lt-ltb 0 (length xs + 1) (omega arith)) refl
+
+next_number : (n : ℕ) (before asked : List (Request ℤ)) (found : Option ℕ) → reading_with n before (option_map (λ k. 1 + k) found) asked ≡ reading_with (n + 1) before found asked
+next_number n before asked None = refl
+next_number n before asked (Some k) = let e : 1 + k + n ≡ k + (n + 1) = omega arith in ap bad_line e
+
+next_request : (n : ℕ) (before asked : List (Request ℤ)) (c : Request ℤ) (found : Option ℕ) → reading_with n before found (c ∷ asked) ≡ reading_with n (before ++ c ∷ []) found asked
+next_request n before asked c None = ap requests (sym (append_assoc before (c ∷ []) asked))
+next_request n before asked c (Some k) = refl
+
+-- one line more is read: it is passed over, or a command, or bad
+module _ (n : ℕ) (before : List (Request ℤ)) (line : List ℕ) (rest : List (List ℕ)) where
+  over_is_good : is_passed_over line ≡ true → is_bad line ≡ false
+  over_is_good e = rw e refl
+
+  over_asks_nothing : is_passed_over line ≡ true → asked_in line ≡ None
+  over_asks_nothing e = rw e refl
+
+  command_is_good : (c : Request ℤ) → is_passed_over line ≡ false → request_in line ≡ Some c → is_bad line ≡ false
+  command_is_good c e asks = rw (e, asks) refl
+
+  command_asks : (c : Request ℤ) → is_passed_over line ≡ false → request_in line ≡ Some c → asked_in line ≡ Some c
+  command_asks c e asks = rw e asks
+
+  other_is_bad : is_passed_over line ≡ false → request_in line ≡ None → is_bad line ≡ true
+  other_is_bad e asks = rw (e, asks) refl
+
+  pub passes_over : is_passed_over line ≡ true → reading_from n before (line ∷ rest) ≡ reading_from (n + 1) before rest
+  unfolding reading_from
+  passes_over e =
+      rw (place_later is_bad line rest (over_is_good e), over_asks_nothing e) (next_number n before (filter_map asked_in rest) (position is_bad rest))
+
+  pub reads_one : (c : Request ℤ) → is_passed_over line ≡ false → request_in line ≡ Some c → reading_from n before (line ∷ rest) ≡ reading_from (n + 1) (before ++ c ∷ []) rest
+  unfolding reading_from
+  reads_one c e asks =
+      rw (place_later is_bad line rest (command_is_good c e asks), command_asks c e asks)
+      (next_number n before (c ∷ filter_map asked_in rest) (position is_bad rest) ∙ next_request (n + 1) before (filter_map asked_in rest) c (position is_bad rest))
+
+  pub finds_bad : is_passed_over line ≡ false → request_in line ≡ None → reading_from n before (line ∷ rest) ≡ bad_line n
+  unfolding reading_from
+  finds_bad e asks = let same : 0 + n ≡ n = omega arith in rw (place_here is_bad line rest (other_is_bad e asks)) (ap bad_line same)
+
+pub reads_all : (n : ℕ) (before : List (Request ℤ)) → reading_from n before [] ≡ requests before
+unfolding reading_from
+reads_all n before = ap requests (append-nil before)
