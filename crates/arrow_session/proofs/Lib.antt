@@ -5,3 +5,4 @@ pub mod Packing
 pub mod Pieces
 pub mod Reading
 pub mod Runs
+pub mod Texts

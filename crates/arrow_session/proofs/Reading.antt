@@ -1,7 +1,7 @@
 -- Lemmas on reading one line after the other.
-use Rattle.std.proofs.Common.{◌≡◌, ℕ, ◌+◌, Bool, true, false, cond, nat_lt, List, [], ◌∷◌, ◌++◌, length, refl, sym, ap, ◌∙◌, append_assoc, append-nil, arith, Option, Some, None, ℤ}
+use Rattle.std.proofs.Common.{◌≡◌, ℕ, suc, ◌+◌, Bool, true, false, cond, nat_lt, List, [], ◌∷◌, ◌++◌, length, refl, sym, ap, ◌∙◌, append_assoc, append-nil, arith, Option, Some, None, ℤ}
 use Rattle.std.proofs.lemmas.Bool.{ltb-true, ltb-false, lt-ltb, le-ltb}
-use Rattle.std.specs.Prelude.{position, filter_map, option_map}
+use Rattle.std.specs.Prelude.{position, filter_map, option_map, MatchOption}
 use Rattle.std.specs.List.{position_or_len}
 use denote.Ref.{Bor}
 use Rattle.arrow_table.specs.Request.{Request}
@@ -32,15 +32,18 @@ commands_of_is input = from_first (position is_bad (lines_of input)) (filter_map
 
 -- the place of the first that passes, behind one that does not, and at one that does
 module _ {X : Type 0} (p : X → Bool) where
-  later_of : (n len : ℕ) (b : Bool) → nat_lt n len ≡ b → cond (nat_lt (1 + n) (len + 1)) (Some (1 + n)) None ≡ option_map (λ k. 1 + k) (cond (nat_lt n len) (Some n) None)
-  later_of n len true t = rw (t, lt-ltb (1 + n) (len + 1) (omega (arith, ltb-true n len t))) refl
-  later_of n len false t = rw (t, le-ltb (1 + n) (len + 1) (omega (arith, ltb-false n len t))) refl
+  later_of : (n len : ℕ) (b : Bool) → nat_lt n len ≡ b → cond (nat_lt (1 + n) (suc len)) (Some (1 + n)) None ≡ option_map (λ k. 1 + k) (cond (nat_lt n len) (Some n) None)
+  later_of n len true t = rw (t, lt-ltb (1 + n) (suc len) (omega (arith, ltb-true n len t))) refl
+  later_of n len false t = rw (t, le-ltb (1 + n) (suc len) (omega (arith, ltb-false n len t))) refl
 
   place_later : (x : X) (xs : List X) → p x ≡ false → position p (x ∷ xs) ≡ option_map (λ k. 1 + k) (position p xs)
   place_later x xs e = rw e (later_of (position_or_len p xs) (length xs) _ refl)
 
   place_here : (x : X) (xs : List X) → p x ≡ true → position p (x ∷ xs) ≡ Some 0
-  place_here x xs e = rw (e, lt-ltb 0 (length xs + 1) (omega arith)) refl
+  place_here x xs e = rw e (first_of_some (length xs))
+    where
+      first_of_some : (len : ℕ) → cond (nat_lt 0 (suc len)) (Some 0) None ≡ Some 0
+      first_of_some len = rw (lt-ltb 0 (suc len) (omega arith)) refl
 
 next_number : (n : ℕ) (before asked : List (Request ℤ)) (found : Option ℕ) → reading_with n before (option_map (λ k. 1 + k) found) asked ≡ reading_with (n + 1) before found asked
 next_number n before asked None = refl
@@ -85,3 +88,8 @@ module _ (n : ℕ) (before : List (Request ℤ)) (line : List ℕ) (rest : List 
 pub reads_all : (n : ℕ) (before : List (Request ℤ)) → reading_from n before [] ≡ requests before
 unfolding reading_from
 reads_all n before = ap requests (append-nil before)
+
+-- the first line of a text, and those behind it
+pub lines_cut : (text line : List ℕ) (after : Option (Bor (List ℕ))) → MatchOption after (lines_of text ≡ line ∷ []) (λ rest. lines_of text ≡ line ∷ lines_of rest.now) → lines_of text ≡ line ∷ lines_after after
+lines_cut text line None e = e
+lines_cut text line (Some rest) e = e

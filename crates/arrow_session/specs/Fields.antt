@@ -1,7 +1,8 @@
 -- What the words behind a command's name say.
-use Rattle.std.specs.Prelude.{ℕ, ◌+◌, ◌*◌, bytes_eq, codes, ◌==◌, Bool, true, false, if◌then◌else◌, List, [], ◌∷◌, length, map, take, drop, ℤ, Option, Some, None, option_map, option_and_then, result_ok}
+use Rattle.std.specs.Prelude.{ℕ, ◌+◌, ◌*◌, bytes_eq, codes, ◌==◌, Bool, true, false, if◌then◌else◌, List, [], ◌∷◌, length, map, take, drop, ℤ, Option, Some, None, option_map, option_and_then}
 use Rattle.std.specs.Int.{div_ceil}
 use Rattle.std.specs.List.{range_with_len}
+use Rattle.std.specs.Result.{result_ok}
 use Rattle.std.specs.Str.{is_utf8}
 use Rattle.hex.specs.Hex.{decode_of}
 use Rattle.arrow_types.specs.Types.{LogicalType, Base, plain}

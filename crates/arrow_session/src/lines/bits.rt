@@ -68,6 +68,7 @@ impl Word for Option<Vec<bool>> {
 }
 
 /// Up to eight truth values as a byte, the first in its least bit.
+#[tactic(auto, using(crate::proofs::Packing::byte_below_128))]
 fn byte_of(bits: &[bool]) -> u8
     requires { length bits.now ≤ 8 }
     ensures { result ≡ byte_of bits.now }
@@ -79,6 +80,7 @@ fn byte_of(bits: &[bool]) -> u8
 }
 
 /// Truth values as packed bytes.
+#[tactic(auto, unfolding(crate::specs::Fields::packed_bytes))]
 fn packed_bytes(alloc: Global, bits: &[bool]) -> Result<Vec<u8>, AllocError>
     ensures { IfOk result (λ bytes. bytes.items ≡ packed_bytes bits.now) }
 {

@@ -31,10 +31,16 @@ fn default_type(kind: Kind) -> DataType
     ensures { logical_type result ≡ default_type program_types (shape kind).sort }
 {
     match kind {
-        Kind::Primitive | Kind::MutablePrimitive => DataType::Int64,
-        Kind::Boolean | Kind::MutableBoolean => DataType::Boolean,
-        Kind::Binary | Kind::MutableBinary | Kind::BinaryValues => DataType::Binary,
-        Kind::Utf8 | Kind::MutableUtf8 | Kind::Utf8Values => DataType::Utf8,
+        Kind::Primitive => DataType::Int64,
+        Kind::Boolean => DataType::Boolean,
+        Kind::Binary => DataType::Binary,
+        Kind::Utf8 => DataType::Utf8,
+        Kind::MutablePrimitive => DataType::Int64,
+        Kind::MutableBoolean => DataType::Boolean,
+        Kind::MutableBinary => DataType::Binary,
+        Kind::MutableUtf8 => DataType::Utf8,
+        Kind::BinaryValues => DataType::Binary,
+        Kind::Utf8Values => DataType::Utf8,
     }
 }
 
@@ -115,14 +121,16 @@ fn parts_by_kind(alloc: Global, entry: usize, kind: Kind, words: &[u8]) -> Asked
     ensures { ReadAs result (parts_of entry (shape kind) (shape kind).sort (words_of words.now)) }
 {
     match kind {
-        Kind::Primitive | Kind::MutablePrimitive => native_parts(alloc, entry, kind, words),
-        Kind::Boolean | Kind::MutableBoolean => boolean_parts(alloc, entry, kind, words),
-        Kind::Binary
-        | Kind::Utf8
-        | Kind::MutableBinary
-        | Kind::MutableUtf8
-        | Kind::BinaryValues
-        | Kind::Utf8Values => pieces_parts(alloc, entry, kind, words),
+        Kind::Primitive => native_parts(alloc, entry, kind, words),
+        Kind::Boolean => boolean_parts(alloc, entry, kind, words),
+        Kind::Binary => pieces_parts(alloc, entry, kind, words),
+        Kind::Utf8 => pieces_parts(alloc, entry, kind, words),
+        Kind::MutablePrimitive => native_parts(alloc, entry, kind, words),
+        Kind::MutableBoolean => boolean_parts(alloc, entry, kind, words),
+        Kind::MutableBinary => pieces_parts(alloc, entry, kind, words),
+        Kind::MutableUtf8 => pieces_parts(alloc, entry, kind, words),
+        Kind::BinaryValues => pieces_parts(alloc, entry, kind, words),
+        Kind::Utf8Values => pieces_parts(alloc, entry, kind, words),
     }
 }
 
