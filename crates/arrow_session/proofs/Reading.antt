@@ -2,11 +2,12 @@
 use Rattle.std.proofs.Common.{◌≡◌, ℕ, suc, ◌+◌, Bool, true, false, cond, nat_lt, List, [], ◌∷◌, ◌++◌, length, refl, sym, ap, ◌∙◌, append_assoc, append-nil, arith, Option, Some, None, ℤ}
 use Rattle.std.proofs.lemmas.Bool.{ltb-true, ltb-false, lt-ltb, le-ltb}
 use Rattle.std.specs.Prelude.{position, filter_map, option_map, MatchOption}
-use Rattle.std.specs.List.{position_or_len}
+use Rattle.std.specs.List.{position_or_len, cons_option}
+use Rattle.std.specs.Option.{option_to_list}
 use denote.Ref.{Bor}
 use Rattle.arrow_table.specs.Request.{Request}
-use Rattle.arrow_session.specs.Lines.{Reading, requests, bad_line, reading_at, commands_of, is_bad, asked_in, request_in}
-use Rattle.arrow_session.specs.Words.{lines_of, is_passed_over}
+use Rattle.arrow_session.specs.Lines.{Reading, requests, bad_line, reading_at, commands_of, is_bad, asked_in}
+use Rattle.arrow_session.specs.Words.{lines_of}
 
 -- the lines of what follows, where there is any
 abbrev pub lines_after : Option (Bor (List ℕ)) → List (List ℕ)
@@ -42,48 +43,29 @@ module _ {X : Type 0} (p : X → Bool) where
   place_here : (x : X) (xs : List X) → p x ≡ true → position p (x ∷ xs) ≡ Some 0
   place_here x xs e = rw e (first_of_some (length xs))
     where
-      first_of_some : (len : ℕ) → cond (nat_lt 0 (suc len)) (Some 0) None ≡ Some 0
+      first_of_some : (len : ℕ) → cond {A = Option ℕ} (nat_lt 0 (suc len)) (Some 0) None ≡ Some 0
       first_of_some len = rw (lt-ltb 0 (suc len) (omega arith)) refl
 
 next_number : (n : ℕ) (before asked : List (Request ℤ)) (found : Option ℕ) → reading_with n before (option_map (λ k. 1 + k) found) asked ≡ reading_with (n + 1) before found asked
 next_number n before asked None = refl
 next_number n before asked (Some k) = let e : 1 + k + n ≡ k + (n + 1) = omega arith in ap bad_line e
 
-next_request : (n : ℕ) (before asked : List (Request ℤ)) (c : Request ℤ) (found : Option ℕ) → reading_with n before found (c ∷ asked) ≡ reading_with n (before ++ c ∷ []) found asked
-next_request n before asked c None = ap requests (sym (append_assoc before (c ∷ []) asked))
-next_request n before asked c (Some k) = refl
+next_request : (n : ℕ) (before asked : List (Request ℤ)) (c : Option (Request ℤ)) (found : Option ℕ) → reading_with n before found (cons_option c asked) ≡ reading_with n (before ++ option_to_list c) found asked
+next_request n before asked None found = ap (λ requests. reading_with n requests found asked) (sym (append-nil before))
+next_request n before asked (Some c) None = ap requests (sym (append_assoc before (c ∷ []) asked))
+next_request n before asked (Some c) (Some k) = refl
 
--- one line more is read: it is passed over, or a command, or bad
+-- one line more is read: it is good, and may ask something, or it is bad
 module _ (n : ℕ) (before : List (Request ℤ)) (line : List ℕ) (rest : List (List ℕ)) where
-  over_is_good : is_passed_over line ≡ true → is_bad line ≡ false
-  over_is_good e = rw e refl
-
-  over_asks_nothing : is_passed_over line ≡ true → asked_in line ≡ None
-  over_asks_nothing e = rw e refl
-
-  command_is_good : (c : Request ℤ) → is_passed_over line ≡ false → request_in line ≡ Some c → is_bad line ≡ false
-  command_is_good c e asks = rw (e, asks) refl
-
-  command_asks : (c : Request ℤ) → is_passed_over line ≡ false → request_in line ≡ Some c → asked_in line ≡ Some c
-  command_asks c e asks = rw e asks
-
-  other_is_bad : is_passed_over line ≡ false → request_in line ≡ None → is_bad line ≡ true
-  other_is_bad e asks = rw (e, asks) refl
-
-  pub passes_over : is_passed_over line ≡ true → reading_from n before (line ∷ rest) ≡ reading_from (n + 1) before rest
+  pub reads_good : is_bad line ≡ false → reading_from n before (line ∷ rest) ≡ reading_from (n + 1) (before ++ option_to_list (asked_in line)) rest
   unfolding reading_from
-  passes_over e =
-      rw (place_later is_bad line rest (over_is_good e), over_asks_nothing e) (next_number n before (filter_map asked_in rest) (position is_bad rest))
+  reads_good e =
+      rw (place_later is_bad line rest e)
+      (next_number n before (filter_map asked_in (line ∷ rest)) (position is_bad rest) ∙ next_request (n + 1) before (filter_map asked_in rest) (asked_in line) (position is_bad rest))
 
-  pub reads_one : (c : Request ℤ) → is_passed_over line ≡ false → request_in line ≡ Some c → reading_from n before (line ∷ rest) ≡ reading_from (n + 1) (before ++ c ∷ []) rest
+  pub reads_bad : is_bad line ≡ true → reading_from n before (line ∷ rest) ≡ bad_line n
   unfolding reading_from
-  reads_one c e asks =
-      rw (place_later is_bad line rest (command_is_good c e asks), command_asks c e asks)
-      (next_number n before (c ∷ filter_map asked_in rest) (position is_bad rest) ∙ next_request (n + 1) before (filter_map asked_in rest) c (position is_bad rest))
-
-  pub finds_bad : is_passed_over line ≡ false → request_in line ≡ None → reading_from n before (line ∷ rest) ≡ bad_line n
-  unfolding reading_from
-  finds_bad e asks = let same : 0 + n ≡ n = omega arith in rw (place_here is_bad line rest (other_is_bad e asks)) (ap bad_line same)
+  reads_bad e = let same : 0 + n ≡ n = omega arith in rw (place_here is_bad line rest e) (ap bad_line same)
 
 pub reads_all : (n : ℕ) (before : List (Request ℤ)) → reading_from n before [] ≡ requests before
 unfolding reading_from

@@ -1,16 +1,17 @@
 -- Lemmas on runs, and on the answers that a text has.
 use Rattle.std.proofs.Common.{◌≡◌, ℕ, ◌+◌, List, [], ◌∷◌, ◌++◌, refl, sym, ap, subst, ◌∙◌, append_assoc, Bool, true, false, Option, Some, None, ℤ}
+use Rattle.std.specs.Option.{option_to_list}
 use Rattle.std.proofs.lemmas.Grind.{flat_map-append}
 use Rattle.arrow_table.specs.Answer.{Answer}
 use Rattle.arrow_table.specs.Entry.{Held, Types}
 use Rattle.arrow_table.specs.Request.{Request}
 use Rattle.arrow_table.specs.Run.{IsRun}
 use Rattle.arrow_session.specs.Answered.{at_first, AddsAnswers}
-use Rattle.arrow_session.specs.Lines.{requests, bad_line, commands_of, program_types, request_in, IsGood}
+use Rattle.arrow_session.specs.Lines.{requests, bad_line, commands_of, program_types, asked_in, is_bad, IsGood}
 use Rattle.arrow_session.specs.Session.{IsAnswer}
 use Rattle.arrow_session.specs.Text.{text_of}
-use Rattle.arrow_session.specs.Words.{lines_of, is_passed_over}
-use Rattle.arrow_session.proofs.Reading.{reading_from, commands_of_is, passes_over, reads_one, finds_bad, reads_all}
+use Rattle.arrow_session.specs.Words.{lines_of}
+use Rattle.arrow_session.proofs.Reading.{reading_from, commands_of_is, reads_good, reads_bad, reads_all}
 
 module _ {T : Type 0} (c : Types T) where
   -- a run, and then another
@@ -48,34 +49,26 @@ module _ (input : List ℕ) where
   run_to_end n table text h = (h.0, h.1, table, h.2 ∙ reads_all n h.0, h.3, h.4)
 
   module _ (n : ℕ) (line : List ℕ) (rest : List (List ℕ)) where
-    pub read_over : is_passed_over line ≡ true → IsReadTo input n (line ∷ rest) → IsReadTo input (n + 1) rest
+    pub read_good : is_bad line ≡ false → IsReadTo input n (line ∷ rest) → IsReadTo input (n + 1) rest
     unfolding IsReadTo
-    read_over e h = (h.0, h.1 ∙ passes_over n h.0 line rest e)
+    read_good e h = (h.0 ++ option_to_list (asked_in line), h.1 ∙ reads_good n h.0 line rest e)
 
-    pub read_more : (x : Request ℤ) → is_passed_over line ≡ false → request_in line ≡ Some x → IsReadTo input n (line ∷ rest) → IsReadTo input (n + 1) rest
+    pub read_bad : is_bad line ≡ true → IsReadTo input n (line ∷ rest) → commands_of input ≡ bad_line n
     unfolding IsReadTo
-    read_more x e asks h = (h.0 ++ x ∷ [], h.1 ∙ reads_one n h.0 line rest x e asks)
-
-    pub read_bad : is_passed_over line ≡ false → request_in line ≡ None → IsReadTo input n (line ∷ rest) → commands_of input ≡ bad_line n
-    unfolding IsReadTo
-    read_bad e asks h = h.1 ∙ finds_bad n h.0 line rest e asks
+    read_bad e h = h.1 ∙ reads_bad n h.0 line rest e
 
     module _ (table : Held ℤ) (text : List ℕ) where
-      pub run_over : is_passed_over line ≡ true → IsRunTo input n (line ∷ rest) table text → IsRunTo input (n + 1) rest table text
+      pub run_good : (later : Held ℤ) (grown : List ℕ) → is_bad line ≡ false → AddsAnswers (option_to_list (asked_in line)) table later text grown
+          → IsRunTo input n (line ∷ rest) table text → IsRunTo input (n + 1) rest later grown
       unfolding IsRunTo
-      run_over e h = (h.0, h.1, h.2 ∙ passes_over n h.0 line rest e, h.3, h.4)
-
-      pub run_bad : is_passed_over line ≡ false → request_in line ≡ None → IsRunTo input n (line ∷ rest) table text → commands_of input ≡ bad_line n
-      unfolding IsRunTo
-      run_bad e asks h = h.2 ∙ finds_bad n h.0 line rest e asks
-
-      pub run_more : (x : Request ℤ) (later : Held ℤ) (grown : List ℕ) → is_passed_over line ≡ false → request_in line ≡ Some x → IsRunTo input n (line ∷ rest) table text
-          → AddsAnswers (x ∷ []) table later text grown → IsRunTo input (n + 1) rest later grown
-      unfolding IsRunTo
-      run_more x later grown e asks h adds = (
-        h.0 ++ x ∷ [],
+      run_good later grown e adds h = (
+        h.0 ++ option_to_list (asked_in line),
         h.1 ++ adds.0,
-        h.2 ∙ reads_one n h.0 line rest x e asks,
-        runs_joined program_types at_first table later h.0 (x ∷ []) h.1 adds.0 h.3 adds.1,
+        h.2 ∙ reads_good n h.0 line rest e,
+        runs_joined program_types at_first table later h.0 (option_to_list (asked_in line)) h.1 adds.0 h.3 adds.1,
         adds.2 ∙ ap (λ before. before ++ text_of adds.0) h.4 ∙ sym (flat_map-append _ h.1 adds.0),
       )
+
+      pub run_bad : is_bad line ≡ true → IsRunTo input n (line ∷ rest) table text → commands_of input ≡ bad_line n
+      unfolding IsRunTo
+      run_bad e h = h.2 ∙ reads_bad n h.0 line rest e

@@ -1,13 +1,13 @@
 //! A session: every line is read, then every command is run, and then every reply is written.
 ghost use Rattle.std.specs.Prelude.{◌≡◌, ◌∷◌, [], IfOk, IfSome, MatchOption, OnOk, ◌⊎◌, string_bytes};
-ghost use Rattle.arrow_session.specs.Answered.{program_asked, AddsAnswers};
+ghost use Rattle.arrow_session.specs.Answered.{program_asked, AddsAnswers, AnswersLine};
 ghost use Rattle.arrow_session.specs.Counted.{inside, fault_count, Rose};
 ghost use Rattle.arrow_session.specs.Lines.{IsGood, bad_line, commands_of};
 ghost use Rattle.arrow_session.specs.Session.{Answers, Ends};
 
 use crate::counted::Counted;
 use crate::device::{Fault, read_all, send};
-use crate::lines::parse::{command_in, is_passed_over};
+use crate::lines::parse::{command_in, is_good, is_passed_over};
 use crate::lines::print::push_replies;
 use crate::lines::words::cut;
 use crate::outcome::Outcome;
@@ -53,6 +53,26 @@ fn answer_command(
     push_replies(text, replies)
 }
 
+/// Runs the command that a line is, unless it is passed over, and appends its reply to a text. Answers whether it is either.
+fn answer_line(
+    alloc: Global,
+    table: &mut Table<i64, i32>,
+    line: &[u8],
+    replies: &mut Vec<Reply<i64>>,
+    text: &mut String,
+) -> Result<bool, AllocError>
+    ensures { IfOk result (AnswersLine line.now table.old table.new (string_bytes text.old) (string_bytes text.new)) }
+{
+    if is_passed_over(line) {
+        return Ok(true);
+    }
+    let Some(command) = command_in(alloc, line)? else {
+        return Ok(false);
+    };
+    answer_command(table, command, replies, text)?;
+    Ok(true)
+}
+
 /// The number of the first line of an input that is no command, counted from 1; `None` where each is one. The commands are
 /// let go.
 fn first_bad_line(alloc: Global, input: &[u8]) -> Result<Option<usize>, AllocError>
@@ -62,10 +82,8 @@ fn first_bad_line(alloc: Global, input: &[u8]) -> Result<Option<usize>, AllocErr
     let mut rest = Some(input);
     while let Some(lines) = rest {
         let (line, after) = cut(b'\n', lines);
-        if !is_passed_over(line) {
-            if command_in(alloc, line)?.is_none() {
-                return Ok(Some(number));
-            }
+        if !is_good(alloc, line)? {
+            return Ok(Some(number));
         }
         number += 1;
         rest = after;
@@ -85,11 +103,8 @@ fn run_lines(alloc: Global, input: &[u8]) -> Result<String, InputError>
     let mut rest = Some(input);
     while let Some(lines) = rest {
         let (line, after) = cut(b'\n', lines);
-        if !is_passed_over(line) {
-            let Some(command) = command_in(alloc, line)? else {
-                return Err(InputError::BadLine(number));
-            };
-            answer_command(&mut table, command, &mut replies, &mut text)?;
+        if !answer_line(alloc, &mut table, line, &mut replies, &mut text)? {
+            return Err(InputError::BadLine(number));
         }
         number += 1;
         rest = after;

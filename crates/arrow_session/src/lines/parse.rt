@@ -1,12 +1,12 @@
 //! The command that a line of the program's input is.
-ghost use Rattle.std.specs.Prelude.{◌≡◌, ◌==◌};
+ghost use Rattle.std.specs.Prelude.{◌≡◌, ◌==◌, IfOk, not};
 ghost use Rattle.std.specs.List.{list_all};
 ghost use Rattle.arrow_session.specs.Answered.{ReadAs};
-ghost use Rattle.arrow_session.specs.Lines.{request_in};
+ghost use Rattle.arrow_session.specs.Lines.{is_bad, request_in};
 ghost use Rattle.arrow_session.specs.Words.{is_comment, is_passed_over, is_printable, space};
 
 use crate::lines::commands::{Asked, command_of};
-use std::alloc::Global;
+use std::alloc::{AllocError, Global};
 
 fn is_comment(line: &[u8]) -> bool
     ensures { result ≡ is_comment line.now }
@@ -46,4 +46,14 @@ pub(crate) fn command_in(alloc: Global, line: &[u8]) -> Asked
     } else {
         Ok(None)
     }
+}
+
+/// Whether a line is passed over or a command.
+pub(crate) fn is_good(alloc: Global, line: &[u8]) -> Result<bool, AllocError>
+    ensures { IfOk result (λ good. is_bad line.now ≡ not good) }
+{
+    if is_passed_over(line) {
+        return Ok(true);
+    }
+    Ok(command_in(alloc, line)?.is_some())
 }

@@ -1,7 +1,7 @@
 //! The lines that make a value in an empty entry.
 #![tactic(auto, unfolding(crate::specs::Lines::making, crate::specs::Lines::request_among))]
 
-ghost use Rattle.std.specs.Prelude.{◌≡◌, ◌++◌, codes};
+ghost use Rattle.std.specs.Prelude.{◌≡◌, ◌++◌, codes, false};
 ghost use Rattle.arrow_types.specs.Types.{logical_type};
 ghost use Rattle.arrow_table.specs.Entry.{default_type};
 ghost use Rattle.arrow_table.specs.Kind.{Sort, native, boolean, pieces, shape};
@@ -99,7 +99,7 @@ fn boolean_parts(alloc: Global, entry: usize, kind: Kind, words: &[u8]) -> Asked
 
 /// `TYPE MASK xHEX OFF*`
 fn pieces_parts(alloc: Global, entry: usize, kind: Kind, words: &[u8]) -> Asked
-    ensures { (is_text : _) → ReadAs result (parts_of entry (shape kind) (pieces is_text) (words_of words.now)) }
+    ensures { ReadAs result (parts_of entry (shape kind) (pieces false) (words_of words.now)) }
 {
     match <(DataType, (Option<Bits>, (Vec<u8>, Vec<i32>)))>::of_words(alloc, words)? {
         Some((data_type, (mask, (bytes, starts)))) => {
