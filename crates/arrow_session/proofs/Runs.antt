@@ -1,5 +1,5 @@
 -- Lemmas on runs, and on the answers that a text has.
-use Rattle.std.proofs.Common.{◌≡◌, ℕ, ◌+◌, List, [], ◌∷◌, ◌++◌, refl, sym, ap, subst, ◌∙◌, append_assoc, Bool, true, false, Option, Some, None, ℤ}
+use Rattle.std.proofs.Common.{◌≡◌, ℕ, ◌+◌, List, [], ◌∷◌, ◌++◌, sym, ap, subst, ◌∙◌, true, false, ℤ}
 use Rattle.std.specs.Option.{option_to_list}
 use Rattle.std.proofs.lemmas.Grind.{flat_map-append}
 use Rattle.arrow_table.specs.Answer.{Answer}
@@ -7,7 +7,7 @@ use Rattle.arrow_table.specs.Entry.{Held, Types}
 use Rattle.arrow_table.specs.Request.{Request}
 use Rattle.arrow_table.specs.Run.{IsRun}
 use Rattle.arrow_session.specs.Answered.{at_first, AddsAnswers}
-use Rattle.arrow_session.specs.Lines.{requests, bad_line, commands_of, program_types, asked_in, is_bad, IsGood}
+use Rattle.arrow_session.specs.Lines.{bad_line, commands_of, program_types, asked_in, is_bad, IsGood}
 use Rattle.arrow_session.specs.Session.{IsAnswer}
 use Rattle.arrow_session.specs.Text.{text_of}
 use Rattle.arrow_session.specs.Words.{lines_of}

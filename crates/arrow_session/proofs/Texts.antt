@@ -1,5 +1,5 @@
 -- Lemmas on bytes that are text.
-use Rattle.std.proofs.Common.{◌≡◌, ◌↔◌, ◌∙◌, ℕ, Bool, true, false, List, refl, sym, ap, arith, Option, Some, None, Result, Ok, Err, Vec, String, string_bytes}
+use Rattle.std.proofs.Common.{◌≡◌, ◌↔◌, ℕ, Bool, true, false, List, refl, sym, ap, arith, Some, Result, Ok, Err, Vec, String, string_bytes}
 use Rattle.std.specs.Prelude.{IsTrue, IsOk, IfOk, option_map}
 use Rattle.std.specs.Result.{result_ok}
 use Rattle.std.specs.Str.{is_utf8, IsUtf8}

@@ -15,7 +15,7 @@ use Rattle.arrow_table.specs.Item.{Stored, value, bit, piece, Change, fill}
 use Rattle.arrow_table.specs.Item as item
 use Rattle.arrow_table.specs.Kind.{Sort, native, boolean, pieces}
 use Rattle.arrow_table.specs.Request.{Packed, Given, values, packed, cut_pieces}
-use Rattle.arrow_session.specs.Readers.{Reader, beside, first, zero, only, each, ◌▸◌, reads}
+use Rattle.arrow_session.specs.Readers.{Reader, beside, zero, only, each, ◌▸◌, reads}
 use Rattle.arrow_session.specs.Words.{number_of, integer_of, offset_of}
 
 -- the kinds of array and builder

@@ -1,5 +1,5 @@
 -- What each line of the program's input asks.
-use Rattle.std.specs.Prelude.{◌≡◌, ℕ, ◌+◌, Bool, not, ◌&&◌, codes, if◌then◌else◌, List, [], ◌∷◌, ◌++◌, ℤ, pos, false, Option, Some, None, option_map, option_and_then, is_some, filter_map, position}
+use Rattle.std.specs.Prelude.{◌≡◌, ℕ, ◌+◌, Bool, not, ◌&&◌, codes, if◌then◌else◌, List, [], ◌∷◌, ◌++◌, ℤ, pos, false, Option, Some, None, option_and_then, is_some, filter_map, position}
 use Rattle.arrow_types.specs.declared.primitive_type.PrimitiveType.TheVariants.{Int64}
 use Rattle.arrow_table.specs.Entry.{Types, types, default_type}
 use Rattle.arrow_table.specs.Kind.{Shape, Sort, shape}

@@ -1,6 +1,6 @@
 //! How the words behind a command's name are read: each by what it has to say, and none is left over.
 ghost use Rattle.std.specs.Prelude.{◌≡◌, IfOk, ℕ, List, Option, map, option_map};
-ghost use Rattle.arrow_session.specs.Readers.{Reader, first, zero, only, each, ◌▸◌};
+ghost use Rattle.arrow_session.specs.Readers.{first, zero, only, each, ◌▸◌};
 ghost use Rattle.arrow_session.specs.Words.{words_of};
 
 use crate::lines::words::next_word;

@@ -1,4 +1,4 @@
-use Rattle.std.proofs.Common.{◌≡◌, ◌+◌, ◌≤◌, length}
+use Rattle.std.proofs.Common.{◌+◌, ◌≤◌, length}
 use Rattle.arrow_session.proofs.Pieces.{length_after}
 use Rattle.arrow_session.proofs.Reading.{lines_after}
 use Rattle.arrow_session.proofs.Runs.{IsReadTo}

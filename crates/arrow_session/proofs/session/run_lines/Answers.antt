@@ -36,7 +36,7 @@ loop-rest-preserved c =
     let good : is_bad line ≡ false = grind (arith, c.in_ok-answer_line.ensures.0, met) in
     record {
       run = run_good input n line (lines_after after) table text c.answer_line.new.table (string_bytes c.answer_line.new.text) good (c.in_ok-answer_line.ensures.1 met)
-      (subst (λ rest. IsRunTo input n rest table text) here c.loop-rest.invariant.run);
+          (subst (λ rest. IsRunTo input n rest table text) here c.loop-rest.invariant.run);
       room = omega (arith, c.loop-rest.invariant.room, after_shorter after (length c.in-Some.lines.now) c.cut.ensures.shorter, ap length_after c.in-Some.is);
     }
 

@@ -4,7 +4,7 @@
 ghost use Rattle.std.specs.Prelude.{◌≡◌, ◌++◌, codes, false};
 ghost use Rattle.arrow_types.specs.Types.{logical_type};
 ghost use Rattle.arrow_table.specs.Entry.{default_type};
-ghost use Rattle.arrow_table.specs.Kind.{Sort, native, boolean, pieces, shape};
+ghost use Rattle.arrow_table.specs.Kind.{native, boolean, pieces, shape};
 ghost use Rattle.arrow_session.specs.Answered.{ReadAs};
 ghost use Rattle.arrow_session.specs.Lines.{making, telling, changing, growing, turning, request_among, parts_of, program_types};
 ghost use Rattle.arrow_session.specs.Words.{words_of};

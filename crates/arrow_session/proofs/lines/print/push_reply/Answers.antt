@@ -1,7 +1,6 @@
-use Rattle.std.proofs.Common.{◌++◌, ◌∙◌, ap, string_bytes}
-use Rattle.std.proofs.lemmas.Result.{on_ok_weaker}
+use Rattle.std.proofs.Common.{string_bytes}
 use Rattle.arrow_table.specs.Item.{stored_slot}
-use Rattle.arrow_session.specs.Text.{slot_text, bracketed}
+use Rattle.arrow_session.specs.Text.{slot_text}
 use Rattle.arrow_session.proofs.Joined.{map_twice}
 use Rattle.arrow_session.proofs.lines.print.push_reply.Goals as goal
 
