@@ -1,9 +1,8 @@
 //! Sessions, and runs of a table.
 use arrow_session::counted::Counted;
-use arrow_session::lines::parse::read_commands;
 use arrow_session::outcome::Outcome;
 use arrow_session::session::session;
-use arrow_session::table::{Command, Reply, Table, run};
+use arrow_table::{Command, Item, Kind, Reply, Table, run};
 use arrow_types::error::Error;
 use std::alloc::Global;
 use std::test::Fail;
@@ -46,7 +45,7 @@ fn session_of_a_bad_line(rt: HostRuntime) -> Result<(), Fail> {
 }
 
 /// Whether a reply may come, where any growth may be refused; follows the length of the entry.
-fn may_come(length: &mut Option<usize>, command: &Command<i64>, reply: &Reply<i64>) -> bool {
+fn may_come(length: &mut Option<usize>, command: &Command<i64, i32>, reply: &Reply<i64>) -> bool {
     match (command, *length, reply) {
         (Command::New(..), None, Reply::Done) => *length = Some(0),
         (Command::Push(..), Some(n), Reply::Done) => *length = Some(n.saturating_add(1)),
@@ -62,7 +61,7 @@ fn may_come(length: &mut Option<usize>, command: &Command<i64>, reply: &Reply<i6
 }
 
 /// Whether these replies may come, one after the other.
-fn all_may_come(commands: &[Command<i64>], replies: &[Reply<i64>]) -> bool {
+fn all_may_come(commands: &[Command<i64, i32>], replies: &[Reply<i64>]) -> bool {
     let mut length = None;
     for (command, reply) in commands.iter().zip(replies) {
         if !may_come(&mut length, command, reply) {
@@ -72,12 +71,13 @@ fn all_may_come(commands: &[Command<i64>], replies: &[Reply<i64>]) -> bool {
     true
 }
 
-/// A builder that is filled and frozen.
-const COMMANDS: &str = "new 0 mprim\npush 0 v1\nlen 0\npush 0 _\nlen 0\nfreeze 0\nlen 0";
-
 /// Whether the replies say what was done, whichever growth was refused, where a second run does the rest; and whether
 /// a growth was.
-fn ends(table: &mut Table<i64>, commands: &[Command<i64>], alloc: Global) -> (bool, bool) {
+fn ends(
+    table: &mut Table<i64, i32>,
+    commands: &[Command<i64, i32>],
+    alloc: Global,
+) -> (bool, bool) {
     let mut replies = Vec::new(alloc);
     let done = run(table, commands, &mut replies);
     let rest = run(table, &commands[done..], &mut replies);
@@ -86,10 +86,18 @@ fn ends(table: &mut Table<i64>, commands: &[Command<i64>], alloc: Global) -> (bo
     (is_all && all_may_come(commands, &replies), is_refused)
 }
 
-/// The same of these commands on a table of one entry; nothing where memory is refused for one of them.
+/// The same of a builder that is filled and frozen, in a table of one entry; nothing where memory is refused for that.
 fn ends_of_commands(alloc: Global) -> Option<(bool, bool)> {
-    let commands = read_commands(alloc, COMMANDS.as_bytes()).ok()?;
-    let mut table = Table::<i64>::new(alloc, 1).ok()?;
+    let commands = [
+        Command::New(0, Kind::MutablePrimitive),
+        Command::Push(0, Some(Item::Value(1))),
+        Command::Len(0),
+        Command::Push(0, None),
+        Command::Len(0),
+        Command::Freeze(0),
+        Command::Len(0),
+    ];
+    let mut table = Table::<i64, i32>::new(alloc, 1).ok()?;
     Some(ends(&mut table, &commands, alloc))
 }
 

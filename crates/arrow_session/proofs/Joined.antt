@@ -1,12 +1,13 @@
--- Lemmas on slots that are joined by spaces.
-use Rattle.std.proofs.Common.{◌≡◌, List, [], ◌∷◌, ◌++◌, map, flat_map, sym, ap, append-nil, Option, ℤ}
+-- Lemmas on parts that are joined by spaces.
+use Rattle.std.proofs.Common.{◌≡◌, ℕ, List, [], ◌∷◌, ◌++◌, map, flat_map, refl, sym, ap, append-nil}
 use Rattle.std.specs.List.{join_with_byte}
-use Rattle.arrow_session.specs.declared.table.item.Item.{Item}
-use Rattle.arrow_session.specs.Item.{stored_slot}
-use Rattle.arrow_session.specs.Text.{slot_text}
 
 -- the first, and then a space before each other one
-pub joined : (slot : Option (Item ℤ)) (slots : List (Option (Item ℤ)))
-    → join_with_byte 32 (map slot_text (map stored_slot (slot ∷ slots))) ≡ slot_text (stored_slot slot) ++ flat_map (λ s. 32 ∷ slot_text (stored_slot s)) slots
-joined slot [] = sym (append-nil (slot_text (stored_slot slot)))
-joined slot (other ∷ slots) = ap (λ rest. slot_text (stored_slot slot) ++ 32 ∷ rest) (joined other slots)
+pub joined : {A : Type 0} (shown : A → List ℕ) (x : A) (xs : List A) → join_with_byte 32 (map shown (x ∷ xs)) ≡ shown x ++ flat_map (λ y. 32 ∷ shown y) xs
+joined shown x [] = sym (append-nil (shown x))
+joined shown x (y ∷ ys) = ap (λ rest. shown x ++ 32 ∷ rest) (joined shown y ys)
+
+-- the same of what parts are
+pub map_twice : {A B C : Type 0} (f : B → C) (g : A → B) (xs : List A) → map (λ x. f (g x)) xs ≡ map f (map g xs)
+map_twice f g [] = refl
+map_twice f g (x ∷ xs) = ap (λ rest. f (g x) ∷ rest) (map_twice f g xs)

@@ -1,5 +1,8 @@
+pub mod Each
 pub mod Joined
 pub mod Numbers
+pub mod Packing
 pub mod Pieces
 pub mod Reading
-pub mod RunLemmas
+pub mod Runs
+pub mod Texts

@@ -1,6 +1,6 @@
 -- Lemmas on the pieces and the words of a text.
 use Rattle.std.proofs.Common.{◌≡◌, ℕ, ◌+◌, ◌-◌, ◌<◌, ◌≤◌, suc, Bool, true, false, not, cond, nat_lt, List, [], ◌∷◌, length, take, drop, refl, sym, ap, ◌∙◌, arith, Option, Some, None, length-drop}
-use Rattle.std.specs.Prelude.{position, MatchOption, unwrap_or}
+use Rattle.std.specs.Prelude.{position, IfSome, MatchOption, unwrap_or}
 use Rattle.std.specs.List.{slice_split, onto_first, position_or_len}
 use Rattle.std.proofs.lemmas.List.{take_all}
 use Rattle.std.proofs.lemmas.List.Splits.{slice_split_first}
@@ -50,6 +50,11 @@ words_after (Some text) = words_of text.now
 abbrev pub length_after : Option (Bor (List ℕ)) → ℕ
 length_after None = 0
 length_after (Some text) = length text.now + 1
+
+-- what follows is shorter by what stands before it
+pub after_shorter : (after : Option (Bor (List ℕ))) (n : ℕ) → IfSome after (λ text. length text.now < n) → length_after after ≤ n
+after_shorter None n h = omega arith
+after_shorter (Some text) n h = omega arith
 
 pub words_none : words_of [] ≡ []
 unfolding words_of pieces

@@ -1,13 +1,8 @@
-pub mod Item
-pub mod Command
-pub mod Reply
-pub mod Entry
-pub mod Step
-pub mod Run
 pub mod Words
+pub mod Readers
 pub mod Fields
 pub mod Lines
-pub mod Parse
+pub mod Answered
 pub mod Text
 pub mod Counted
 pub mod Session

@@ -1,26 +1,25 @@
 -- What a session reads, runs and writes.
-use Rattle.std.specs.Prelude.{◌≡◌, ℕ, ◌⊎◌, List, [], ◌++◌, ℤ, pos, replicate, codes, decimal, Option, Some, None, Result, Ok, Err, String, string_bytes, ⊤}
+use Rattle.std.specs.Prelude.{◌≡◌, ℕ, ◌⊎◌, List, [], ◌++◌, ℤ, codes, decimal, Option, Some, Result, Ok, Err, String, string_bytes, ⊤}
 use Rattle.std.specs.declared.alloc.Global.{Global}
 use Rattle.std.specs.Io.{StartsWith}
-use Rattle.arrow_types.specs.Types.{default_logical_type}
-use Rattle.arrow_types.specs.declared.primitive_type.PrimitiveType.TheVariants.{Int64}
 use Rattle.arrow_session.specs.declared.outcome.Outcome.{Outcome}
 use Rattle.arrow_session.specs.declared.outcome.Outcome.TheVariants as outcome
-use Rattle.arrow_session.specs.declared.lines.parse.InputError.{InputError}
-use Rattle.arrow_session.specs.declared.lines.parse.InputError.TheVariants as error
-use Rattle.arrow_session.specs.Command.{Request}
-use Rattle.arrow_session.specs.Reply.{Answer}
-use Rattle.arrow_session.specs.Entry.{State}
-use Rattle.arrow_session.specs.Run.{IsRun}
-use Rattle.arrow_session.specs.Lines.{requests, bad_line, commands_of}
+use Rattle.arrow_session.specs.declared.session.InputError.{InputError}
+use Rattle.arrow_session.specs.declared.session.InputError.TheVariants as error
+use Rattle.arrow_table.specs.Answer.{Answer}
+use Rattle.arrow_table.specs.Entry.{Held}
+use Rattle.arrow_table.specs.Request.{Request}
+use Rattle.arrow_table.specs.Run.{IsRun}
+use Rattle.arrow_session.specs.Answered.{at_first}
+use Rattle.arrow_session.specs.Lines.{requests, bad_line, commands_of, program_types}
 use Rattle.arrow_session.specs.Text.{text_of}
 
 -- the input is a list of commands, and the text is that of the replies of a run of all of them from 16 empty entries
 abbrev pub IsAnswer : List ℕ → List ℕ → Type 0
 IsAnswer input text =
-    (commands : List (Request ℤ)) × (replies : List (Answer ℤ)) × (final : State ℤ)
+    (commands : List (Request ℤ)) × (replies : List (Answer ℤ)) × (final : Held ℤ)
     × (commands_of input ≡ requests commands)
-    × IsRun (pos 0) (default_logical_type Int64) (replicate 16 None) commands replies final
+    × IsRun program_types at_first commands replies final
     × (text ≡ text_of replies)
 
 -- the text is the answer to the input, and the number is that of its first bad line; memory may always be wanting

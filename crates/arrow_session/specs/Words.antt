@@ -56,16 +56,23 @@ number_of word =
 abbrev pub with_digit : ℕ → ℕ → Option ℕ
 with_digit n b = if is_digit b && nat_lt (n * 10 + digit_value b) (2 ^ 64) then Some (n * 10 + digit_value b) else None
 
--- a number as one of 64 bits with a sign, where it is one
-abbrev pub positive : ℕ → Option ℤ
-positive n = if nat_lt n (2 ^ 63) then Some (pos n) else None
+-- a number with a sign, of which half as many are below zero as can be written in all: the number itself, where it is one
+abbrev pub positive : ℕ → ℕ → Option ℤ
+positive half n = if nat_lt n half then Some (pos n) else None
 
 -- the same of what is below zero by it
-abbrev pub negative : ℕ → Option ℤ
-negative n = if nat_le n (2 ^ 63) then Some (neg_ℤ (pos n)) else None
+abbrev pub negative : ℕ → ℕ → Option ℤ
+negative half n = if nat_le n half then Some (neg_ℤ (pos n)) else None
 
 -- the number with a sign that digits write, after a `-` where it is below zero
+abbrev pub signed_of : ℕ → List ℕ → Option ℤ
+signed_of half [] = None
+signed_of half (b ∷ bs) =
+    if b == minus then option_and_then (negative half) (number_of bs) else option_and_then (positive half) (number_of (b ∷ bs))
+
+-- such a number of 64 bits, and one of 32 bits
 abbrev pub integer_of : List ℕ → Option ℤ
-integer_of [] = None
-integer_of (b ∷ bs) =
-    if b == minus then option_and_then negative (number_of bs) else option_and_then positive (number_of (b ∷ bs))
+integer_of = signed_of (2 ^ 63)
+
+abbrev pub offset_of : List ℕ → Option ℤ
+offset_of = signed_of (2 ^ 31)

@@ -3,7 +3,6 @@
 
 pub mod counted;
 pub mod device;
-pub mod lines;
+mod lines;
 pub mod outcome;
 pub mod session;
-pub mod table;

@@ -8,5 +8,3 @@ mod devices;
 mod lines;
 #[cfg(test)]
 mod sessions;
-#[cfg(test)]
-mod table;

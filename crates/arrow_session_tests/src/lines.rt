@@ -1,18 +1,29 @@
 //! Which lines are no commands.
-use arrow_session::lines::parse::{InputError, read_commands};
+use arrow_session::counted::Counted;
+use arrow_session::outcome::Outcome;
+use arrow_session::session::session;
 use std::alloc::Global;
+
+/// How a session over an input ends, and whether it writes nothing.
+fn end_of(alloc: Global, input: &[u8]) -> (Outcome, bool) {
+    let mut written = Vec::new(alloc);
+    let mut writer = Counted::new(&mut written);
+    let outcome = session(alloc, &mut Counted::new(input), &mut writer);
+    drop(writer);
+    (outcome, written.is_empty())
+}
 
 /// Whether the first line of an input that is no command has this number; 0 where each is one.
 fn is_bad_from(alloc: Global, input: &[u8], number: usize) -> bool {
-    match read_commands(alloc, input) {
-        Ok(_) => number == 0,
-        Err(InputError::BadLine(first)) => first == number,
-        Err(InputError::Memory) => false,
+    match end_of(alloc, input) {
+        (Outcome::Done, _) => number == 0,
+        (Outcome::BadLine(first), is_silent) => first == number && is_silent,
+        _ => false,
     }
 }
 
 /// Lines that are no commands: numbers past their range, no numbers, missing and further words, words that are not
-/// quite a command's, and bytes that no word has.
+/// quite a command's, digits that are none or too few, bytes that are no text, and bytes that no word has.
 const NO_COMMANDS: &str = "len 18446744073709551616
 len 99999999999999999999999999
 slice 0 0 18446744073709551616
@@ -36,6 +47,105 @@ push 0 v1 v2
 slice 0 1
 slice 0 1 2 3
 freeze 0 #
+null 0 prim
+null 0 prim 1 1
+null 0 text 1
+parts 0 prim Int64
+parts 0 prim Int64 2 v1
+parts 0 prim Int64 1 v1
+parts 0 prim Int64 2 1
+parts 0 prim Int128 - 1
+parts 0 prim Int64 - 9223372036854775808
+parts 0 bool Boolean -
+parts 0 bool Boolean - 012
+parts 0 bool Boolean - -
+parts 0 bool Boolean - .1
+parts 0 bool Boolean - 1 1
+parts 0 bin Binary -
+parts 0 bin Binary - 61 0 1
+parts 0 bin Binary - x6 0 1
+parts 0 bin Binary - x61 0 x1
+parts 0 bin Binary - x61 0 2147483648
+parts 0 bin Binary - x61 -2147483649 1
+parts 0 bin Binary 1- x61 0 1
+parts 0 bin Binary -1 x61 0 1
+slots 0
+slots 0 prim 1
+slots 0 prim v1 __
+items 0
+items 0 prim _
+items 0 utf8 t80
+items 0 utf8 tC3
+items 0 utf8 tEDA080
+items 0 utf8 tF4908080
+items 0 utf8 t6
+items 0 utf8 T61
+items 0 bin x0g
+items 0 bin x0G
+items 0 bin x:0
+items 0 bin X00
+items 0 bin x0
+items 0 bool b
+items 0 bool b2
+items 0 bool b01
+items 0 bool B1
+items 0 bool 1
+value 0
+get 0 0 0
+isnull 0 v0
+turns
+turns 0 s
+turns 0 s-1
+turns 0 s18446744073709551616
+turns 0 fb
+turns 0 F
+nulls
+list 0 0
+type
+held 0 0
+bytes
+offsets 0 0
+clone 0
+drop
+mask 0
+mask 0 --
+mask 0 - -
+mask 0 ..
+mask 0 _
+applymask 0
+applymask 0 fill
+applymask 0 fill _
+applymask 0 fill b1 b1
+applymask 0 reverse b1
+applymask 0 turn
+applymask 0 b1
+values
+values 0 _
+applyvalues 0 Reverse
+set 0 1
+set 0 1 1
+write 0 0 _
+pushnull 0 0
+pop
+extend 0 v1 1
+extendvalues 0 _
+constant 0 1
+constant 0 -1 v1
+self 0
+reserve 0 1
+shrink 0 0
+thaw
+nullable 0 0
+to 0
+to 0 Int128
+to 0 other
+to 0 int64
+to 0 Int64 Int64
+equal 0
+indexes
+indexes -1
+indexes 3 v1
+indexes 3 9223372036854775808
 Len 0
 lens 0
 le 0

@@ -1,6 +1,6 @@
 //! The numbers that words stand for.
-ghost use Rattle.std.specs.Prelude.{◌≡◌};
-ghost use Rattle.arrow_session.specs.Words.{number_of, with_digit, positive, negative, integer_of};
+ghost use Rattle.std.specs.Prelude.{◌≡◌, ◌^◌};
+ghost use Rattle.arrow_session.specs.Words.{number_of, with_digit, positive, negative, integer_of, offset_of};
 
 /// A number with one more digit at its end, or nothing for a byte that is no digit and past the
 /// greatest `usize`.
@@ -30,13 +30,13 @@ pub(crate) fn number_of(word: &[u8]) -> Option<usize>
 }
 
 fn positive(number: usize) -> Option<i64>
-    ensures { result ≡ positive number }
+    ensures { result ≡ positive (2 ^ 63) number }
 {
     i64::try_from(number).ok()
 }
 
 fn negative(number: usize) -> Option<i64>
-    ensures { result ≡ negative number }
+    ensures { result ≡ negative (2 ^ 63) number }
 {
     // The least `i64` has no opposite.
     if number == 1 << 63 {
@@ -54,5 +54,33 @@ pub(crate) fn integer_of(word: &[u8]) -> Option<i64>
         negative(number_of(digits)?)
     } else {
         positive(number_of(word)?)
+    }
+}
+
+fn positive_offset(number: usize) -> Option<i32>
+    ensures { result ≡ positive (2 ^ 31) number }
+{
+    i32::try_from(number).ok()
+}
+
+fn negative_offset(number: usize) -> Option<i32>
+    ensures { result ≡ negative (2 ^ 31) number }
+{
+    // The least `i32` has no opposite.
+    if number == 1 << 31 {
+        return Some(i32::MIN);
+    }
+    Some(-i32::try_from(number).ok()?)
+}
+
+/// The `i32` that digits write, after a `-` where it is below zero.
+pub(crate) fn offset_of(word: &[u8]) -> Option<i32>
+    ensures { result ≡ offset_of word.now }
+{
+    let (first, digits) = word.split_first()?;
+    if *first == b'-' {
+        negative_offset(number_of(digits)?)
+    } else {
+        positive_offset(number_of(word)?)
     }
 }

@@ -1,20 +1,42 @@
 //! The text of replies.
-ghost use Rattle.std.specs.Prelude.{◌≡◌, ◌∷◌, ◌++◌, [], map, flat_map, OnOk, IfOk, string_bytes};
+ghost use Rattle.std.specs.Prelude.{◌≡◌, ◌∷◌, ◌++◌, ℕ, List, decimal, map, flat_map, OnOk, string_bytes};
 ghost use Rattle.std.specs.List.{join_with_byte};
-ghost use Rattle.arrow_session.specs.Item.{stored_item, stored_slot};
-ghost use Rattle.arrow_session.specs.Reply.{told};
+ghost use Rattle.hex.specs.Hex.{encode_lower};
+ghost use Rattle.arrow_types.specs.Types.{logical_type};
+ghost use Rattle.arrow_table.specs.Answer.{told};
+ghost use Rattle.arrow_table.specs.Item.{stored_item, stored_slot};
 ghost use Rattle.arrow_session.specs.Words.{space};
-ghost use Rattle.arrow_session.specs.Text.{item_text, slot_text, bracketed, answer_text, text_of};
+ghost use Rattle.arrow_session.specs.Text.{item_text, slot_text, type_text, bracketed, answer_text, text_of};
 
-use crate::table::{Item, Reply};
-use std::alloc::{AllocError, Global};
+use arrow_table::{Item, Reply};
+use arrow_types::data_type::DataType;
+use std::alloc::AllocError;
 use std::fmt::Write;
+
+/// The digits of bytes.
+fn push_hex(text: &mut String, bytes: &[u8]) -> Result<(), AllocError>
+    ensures { OnOk result (string_bytes text.new ≡ string_bytes text.old ++ encode_lower bytes.now) }
+{
+    let digits = hex::encode(*text.allocator(), bytes)?;
+    text.push_str(&digits)
+}
+
+fn push_bytes(text: &mut String, letter: &str, bytes: &[u8]) -> Result<(), AllocError>
+    ensures { OnOk result (string_bytes text.new ≡ string_bytes text.old ++ (letter.now ++ encode_lower bytes.now)) }
+{
+    text.push_str(letter)?;
+    push_hex(text, bytes)
+}
 
 fn push_item(text: &mut String, item: &Item<i64>) -> Result<(), AllocError>
     ensures { OnOk result (string_bytes text.new ≡ string_bytes text.old ++ item_text (stored_item item.now)) }
 {
     match item {
         Item::Value(number) => write!(text, "v{number}"),
+        Item::Bit(false) => text.push_str("b0"),
+        Item::Bit(true) => text.push_str("b1"),
+        Item::Bytes(bytes) => push_bytes(text, "x", bytes),
+        Item::Text(word) => push_bytes(text, "t", word.as_bytes()),
     }
 }
 
@@ -27,34 +49,84 @@ fn push_slot(text: &mut String, slot: &Option<Item<i64>>) -> Result<(), AllocErr
     }
 }
 
-/// Slots with a space before each.
-fn push_others(text: &mut String, slots: &[Option<Item<i64>>]) -> Result<(), AllocError>
-    ensures { OnOk result (string_bytes text.new ≡ string_bytes text.old ++ flat_map (λ slot. space ∷ slot_text (stored_slot slot)) slots.now) }
+/// What a list in brackets may be of.
+trait Part {
+    /// Its text.
+    ghost shown: { Self → List ℕ };
+
+    /// Appends its text.
+    fn push_to(&self, text: &mut String) -> Result<(), AllocError>
+        ensures { OnOk result (string_bytes text.new ≡ string_bytes text.old ++ shown self.now) };
+}
+
+impl Part for Option<Item<i64>> {
+    ghost shown = { λ slot. slot_text (stored_slot slot) };
+
+    fn push_to(&self, text: &mut String) -> Result<(), AllocError> {
+        push_slot(text, self)
+    }
+}
+
+impl Part for usize {
+    ghost shown = { decimal };
+
+    fn push_to(&self, text: &mut String) -> Result<(), AllocError> {
+        write!(text, "{self}")
+    }
+}
+
+/// Parts with a space before each.
+fn push_others<P: Part>(text: &mut String, parts: &[P]) -> Result<(), AllocError>
+    ensures { OnOk result (string_bytes text.new ≡ string_bytes text.old ++ flat_map (λ x. space ∷ P.shown x) parts.now) }
 {
-    for slot in slots {
+    for each in parts {
         text.push_str(" ")?;
-        push_slot(text, slot)?;
+        each.push_to(text)?;
     }
     Ok(())
 }
 
-/// Slots with a space between each two.
-fn push_joined(text: &mut String, slots: &[Option<Item<i64>>]) -> Result<(), AllocError>
-    ensures { OnOk result (string_bytes text.new ≡ string_bytes text.old ++ join_with_byte space (map slot_text (map stored_slot slots.now))) }
+/// Parts with a space between each two.
+fn push_joined<P: Part>(text: &mut String, parts: &[P]) -> Result<(), AllocError>
+    ensures { OnOk result (string_bytes text.new ≡ string_bytes text.old ++ join_with_byte space (map P.shown parts.now)) }
 {
-    let Some((first, others)) = slots.split_first() else {
+    let Some((first, others)) = parts.split_first() else {
         return Ok(());
     };
-    push_slot(text, first)?;
+    first.push_to(text)?;
     push_others(text, others)
 }
 
-fn push_slots(text: &mut String, slots: &[Option<Item<i64>>]) -> Result<(), AllocError>
-    ensures { OnOk result (string_bytes text.new ≡ string_bytes text.old ++ bracketed (map slot_text (map stored_slot slots.now))) }
+fn push_list<P: Part>(text: &mut String, parts: &[P]) -> Result<(), AllocError>
+    ensures { OnOk result (string_bytes text.new ≡ string_bytes text.old ++ bracketed (map P.shown parts.now)) }
 {
     text.push_str("[")?;
-    push_joined(text, slots)?;
+    push_joined(text, parts)?;
     text.push_str("]")
+}
+
+/// The word of a type, or `other` where it has none.
+fn type_word(data_type: &DataType) -> &'static str
+    ensures { result.now ≡ type_text (logical_type data_type.now) }
+{
+    match data_type {
+        DataType::Boolean => "Boolean",
+        DataType::Int8 => "Int8",
+        DataType::Int16 => "Int16",
+        DataType::Int32 => "Int32",
+        DataType::Int64 => "Int64",
+        DataType::UInt8 => "UInt8",
+        DataType::UInt16 => "UInt16",
+        DataType::UInt32 => "UInt32",
+        DataType::UInt64 => "UInt64",
+        DataType::Date32 => "Date32",
+        DataType::Date64 => "Date64",
+        DataType::Binary => "Binary",
+        DataType::LargeBinary => "LargeBinary",
+        DataType::Utf8 => "Utf8",
+        DataType::LargeUtf8 => "LargeUtf8",
+        _ => "other",
+    }
 }
 
 fn push_reply(text: &mut String, reply: &Reply<i64>) -> Result<(), AllocError>
@@ -63,21 +135,27 @@ fn push_reply(text: &mut String, reply: &Reply<i64>) -> Result<(), AllocError>
     match reply {
         Reply::Done => text.push_str("ok"),
         Reply::NotMet => text.push_str("not met"),
+        Reply::NotGiven => text.push_str("not given"),
         Reply::Number(number) => write!(text, "{number}"),
+        Reply::Flag(false) => text.push_str("false"),
+        Reply::Flag(true) => text.push_str("true"),
         Reply::Slot(slot) => push_slot(text, slot),
-        Reply::Slots(slots) => push_slots(text, slots),
+        Reply::Slots(slots) => push_list(text, slots),
+        Reply::Numbers(numbers) => push_list(text, numbers),
+        Reply::Typed(data_type) => text.push_str(type_word(data_type)),
+        Reply::Left => text.push_str("left"),
+        Reply::Right => text.push_str("right"),
         Reply::Refused(error) => write!(text, "refused: {error}"),
     }
 }
 
-/// The lines of replies, in order.
-pub fn text_of(alloc: Global, replies: &[Reply<i64>]) -> Result<String, AllocError>
-    ensures { IfOk result (λ text. string_bytes text ≡ text_of (map told replies.now)) }
+/// Appends the lines of replies, in order.
+pub(crate) fn push_replies(text: &mut String, replies: &[Reply<i64>]) -> Result<(), AllocError>
+    ensures { OnOk result (string_bytes text.new ≡ string_bytes text.old ++ text_of (map told replies.now)) }
 {
-    let mut text = String::new(alloc);
     for reply in replies {
-        push_reply(&mut text, reply)?;
+        push_reply(text, reply)?;
         text.push_str("\n")?;
     }
-    Ok(text)
+    Ok(())
 }
