@@ -11,9 +11,9 @@ pub(crate) fn asked_rows(alloc: Global, filter: &BooleanArray) -> Result<Vec<boo
     ensures ok { IfOk result (λ marks. marks.items ≡ asked filter.now) }
     ensures err { IfErr result (λ e. e ≡ Error.OutOfMemory) }
 {
-    let marks = filter
-        .iter()
-        .map(|slot| slot.unwrap_or(false))
-        .collect(alloc)?;
+    let mut marks = Vec::with_capacity(alloc, filter.len())?;
+    for i in 0..filter.len() {
+        marks.push(filter.get(i).unwrap_or(false))?;
+    }
     Ok(marks)
 }

@@ -89,8 +89,9 @@ pub(crate) fn keep_items<O: Offset>(
         if *is_asked {
             let item = item_at(offsets, bytes, i);
             // Some items of an array never end past what its offsets can tell, so it is memory that is refused.
-            if kept.try_push_item(&mut kept_bytes, item).is_err() {
-                return Err(Error::OutOfMemory);
+            match kept.try_push_item(&mut kept_bytes, item) {
+                Ok(()) => {}
+                Err(_) => return Err(Error::OutOfMemory),
             }
         }
     }

@@ -124,8 +124,9 @@ pub(crate) fn pick_items<O: Offset, K: IndexKey>(
     for key in keys {
         let item = item_at(offsets, bytes, place_of(key, offsets.len_proxy()));
         // All items together end at what an offset can tell, so it is memory that is refused.
-        if picked.try_push_item(&mut picked_bytes, item).is_err() {
-            return Err(Error::OutOfMemory);
+        match picked.try_push_item(&mut picked_bytes, item) {
+            Ok(()) => {}
+            Err(_) => return Err(Error::OutOfMemory),
         }
     }
     Ok((picked, picked_bytes))

@@ -37,8 +37,9 @@ pub fn take_primitive<T: NativeType, K: IndexKey>(
     ensures ok { IfOk result (λ made. made ≡ taken tt K.number array.now keys.now) }
     ensures err { IfErr result (λ e. first_astray K.number array.now keys.now ≡ None → e ≡ Error.OutOfMemory) }
 {
-    check_indexes(keys, array.len())?;
-    let values = pick_values(alloc, array.values().as_slice(), keys)?;
+    let stored = array.values().as_slice();
+    check_indexes(keys, stored.len())?;
+    let values = pick_values(alloc, stored, keys)?;
     let mask = pick_mask(alloc, array.validity(), keys)?;
     let data_type = array.data_type().clone()?;
     Ok(PrimitiveArray::new(data_type, Buffer::from_vec(values)?, mask))

@@ -1,0 +1,4 @@
+use Rattle.arrow_kernels.proofs.pick.pick_values.Goals as goal
+
+pub loop-key-preserved : goal.loop-key-preserved
+loop-key-preserved g c = ?
