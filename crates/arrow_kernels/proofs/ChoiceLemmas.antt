@@ -1,16 +1,18 @@
 -- Lemmas about some of a list: those with a set mark, and those at the places that keys tell.
 use Rattle.std.proofs.Common.{◌≡◌, ℕ, zero, suc, ◌+◌, ◌<◌, ◌≤◌, ℤ, Bool, true, false, ◌&&◌, cond, IsTrue, if◌then◌else◌, List, [], ◌∷◌, ◌++◌, length, map, take, get_or, slice_get, Option, Some, None, option_and_then, option_map, refl, zero-add, sym, subst, ap, ap₂, ◌∙◌, arith, append_assoc}
-use Rattle.std.specs.Prelude.{⊤, not, IfSome, count_by, unwrap_or}
+use Rattle.std.specs.Prelude.{⊤, not, All, IfErr, IfSome, IsSomeAnd, MatchOption, Result, Ok, Err, count_by, find, unwrap_or}
 use Rattle.std.specs.List.{cons_option, filter_map, list_all, zip}
 use Rattle.std.proofs.Math.Seq.{take-length}
 use Rattle.std.proofs.lemmas.List.{take_more, length-map}
-use Rattle.std.proofs.lemmas.List.Elements.{filter_map-append}
-use Rattle.std.proofs.lemmas.Option.{get_or_from_slice_get, slice_get-map, slice_get_within}
+use Rattle.std.proofs.lemmas.List.Elements.{All-weaker, filter_map-append}
+use Rattle.std.proofs.lemmas.List.Sums.{sum_by-cons}
+use Rattle.std.proofs.lemmas.Option.{MatchOption-at_none, get_or_from_slice_get, slice_get-map, slice_get_within}
 use Rattle.arrow_types.specs.Types.{LogicalType}
 use Rattle.arrow_types.specs.IndexKey.{index_of}
 use Rattle.arrow_memory.specs.Column.{Column, ColumnWith, FitsMask, IsColumn, Row, column_with, mask_of, mask_with_nulls, slot, slots_of, stored_values}
 use Rattle.arrow_memory.proofs.ColumnLemmas.{column_again}
-use Rattle.arrow_kernels.specs.Kernels.{asked, at_key, at_keys, column_of_rows, where_set}
+use Rattle.arrow_check.specs.Indexes.{is_place}
+use Rattle.arrow_kernels.specs.Kernels.{asked, at_key, at_keys, column_of_rows, filtered, first_astray, taken, where_set}
 
 -- ---- one more
 
@@ -206,3 +208,63 @@ fits-taken {A} {S} column number keys =
     let P : List S → Option (List Bool) → Type 0 = λ values mask. FitsMask values (mask_with_nulls mask) in
     subst (λ values. P values (option_map (at_keys number keys) (mask_of column))) (sym (keys-map (λ row. row.0) number keys column.rows))
     (subst (P (map (λ row. row.0) (at_keys number keys column.rows))) (sym (mask-keys number keys column.held column.rows)) (needed-fits column.held (at_keys number keys column.rows)))
+
+-- ---- what a kernel makes
+
+pub fits-filtered : {A S : Type 0} (column : ColumnWith A S) (filter : Column Bool) (values : List S) (mask : Option (List Bool))
+    → values ≡ where_set (asked filter) (stored_values column) → mask ≡ mask_with_nulls (option_map (where_set (asked filter)) (mask_of column)) → FitsMask values mask
+fits-filtered {A} {S} column filter values mask e m =
+    let P : List S → Option (List Bool) → Type 0 = λ vs o. FitsMask vs o in
+    subst (λ vs. P vs mask) (sym e) (subst (P (where_set (asked filter) (stored_values column))) (sym m) (fits-kept column (asked filter)))
+
+pub makes-filtered : {A S : Type 0} (nothing : A) (column : ColumnWith A S) (filter : Column Bool) (t : LogicalType) (values : List S) (mask : Option (List Bool)) → IsColumn column
+    → t ≡ column.data_type → values ≡ where_set (asked filter) (stored_values column) → mask ≡ mask_with_nulls (option_map (where_set (asked filter)) (mask_of column))
+    → column_with t nothing values mask ≡ filtered nothing column filter
+makes-filtered nothing column filter t values mask is_column same e m =
+    ap (λ u. column_with u nothing values mask) same
+    ∙ ap₂ (column_with column.data_type nothing) e m
+    ∙ column-kept nothing column (asked filter) is_column
+
+pub fits-picked : {A S K : Type 0} (column : ColumnWith A S) (number : K → ℤ) (keys : List K) (values : List S) (mask : Option (List Bool))
+    → values ≡ at_keys number keys (stored_values column) → mask ≡ mask_with_nulls (option_map (at_keys number keys) (mask_of column)) → FitsMask values mask
+fits-picked {A} {S} column number keys values mask e m =
+    let P : List S → Option (List Bool) → Type 0 = λ vs o. FitsMask vs o in
+    subst (λ vs. P vs mask) (sym e) (subst (P (at_keys number keys (stored_values column))) (sym m) (fits-taken column number keys))
+
+pub makes-taken : {A S K : Type 0} (nothing : A) (column : ColumnWith A S) (number : K → ℤ) (keys : List K) (t : LogicalType) (values : List S) (mask : Option (List Bool)) → IsColumn column
+    → t ≡ column.data_type → values ≡ at_keys number keys (stored_values column) → mask ≡ mask_with_nulls (option_map (at_keys number keys) (mask_of column))
+    → column_with t nothing values mask ≡ taken nothing number column keys
+makes-taken nothing column number keys t values mask is_column same e m =
+    ap (λ u. column_with u nothing values mask) same
+    ∙ ap₂ (column_with column.data_type nothing) e m
+    ∙ column-taken nothing column number keys is_column
+
+-- ---- keys
+
+-- where a key is refused, not every key tells a place
+pub not-astray : {A S K X E : Type 0} (column : ColumnWith A S) (number : K → ℤ) (keys : List K) (n : ℕ) (P : K → Type 0) (Q : E → Type 0) (r : Result X E) → n ≡ length column.rows
+    → MatchOption (find (λ key. not (is_place n (number key))) keys) ⊥ P → IfErr r (λ e. first_astray number column keys ≡ None → Q e)
+not-astray column number keys n P Q (Ok x) same refused = tt
+not-astray column number keys n P Q (Err e) same refused = λ none. absurd (MatchOption-at_none ⊥ P (ap (λ k. find (λ key. not (is_place k (number key))) keys) same ∙ none) refused)
+
+weaker : (o : Option ℕ) (m n k : ℕ) → m + k ≤ n → IsSomeAnd o (λ index. index < m) → IsSomeAnd o (λ index. index + k < n)
+weaker None m n k le h = h
+weaker (Some i) m n k le h = omega (arith, le, h)
+
+-- the places of keys, so many further
+pub keys-below : {K : Type 0} (number : K → ℤ) (keys : List K) (m n k : ℕ) → m + k ≤ n → All (λ key. IsSomeAnd (index_of (number key)) (λ index. index < m)) keys
+    → All (λ key. IsSomeAnd (index_of (number key)) (λ index. index + k < n)) keys
+keys-below number keys m n k le all =
+    All-weaker (λ key. IsSomeAnd (index_of (number key)) (λ index. index < m)) (λ key. IsSomeAnd (index_of (number key)) (λ index. index + k < n)) (λ key h. weaker (index_of (number key)) m n k le h) keys all
+
+marks-below : {A S K : Type 0} (column : ColumnWith A S) (number : K → ℤ) (keys : List K) (held : Bool) → All (λ key. IsSomeAnd (index_of (number key)) (λ index. index < length column.rows)) keys
+    → IfSome (if held then Some (map (λ row. row.1) column.rows) else None) (λ marks. All (λ key. IsSomeAnd (index_of (number key)) (λ index. index < length marks)) keys)
+marks-below column number keys true all = subst (λ n. All (λ key. IsSomeAnd (index_of (number key)) (λ index. index < n)) keys) (sym (length-map column.rows (λ row. row.1))) all
+marks-below column number keys false all = tt
+
+-- keys that tell places of rows tell places of marks
+pub mask-below : {A S K : Type 0} (column : ColumnWith A S) (number : K → ℤ) (keys : List K) (mask : Option (List Bool)) → mask ≡ mask_of column
+    → All (λ key. IsSomeAnd (index_of (number key)) (λ index. index < length column.rows)) keys
+    → IfSome mask (λ marks. All (λ key. IsSomeAnd (index_of (number key)) (λ index. index < length marks)) keys)
+mask-below column number keys mask same all =
+    subst (λ o. IfSome o (λ marks. All (λ key. IsSomeAnd (index_of (number key)) (λ index. index < length marks)) keys)) (sym same) (marks-below column number keys column.held all)

@@ -3,13 +3,15 @@ use Rattle.std.proofs.Common.{◌≡◌, ℕ, zero, suc, ◌+◌, ◌-◌, ◌<�
 use Rattle.std.specs.Prelude.{⊤, All, IfSome}
 use Rattle.std.specs.List.{concat, cons_option}
 use Rattle.std.proofs.Math.Seq.{drop-length}
-use Rattle.std.proofs.lemmas.List.{append-nil, drop_at, take-append-drop, take_at}
+use Rattle.std.proofs.lemmas.List.{append-nil, drop_at, length-map, take-append-drop, take_at}
 use Rattle.std.proofs.lemmas.List.Elements.{All-nil, All-cons, All-head, All-tail, filter_map-append}
 use Rattle.std.proofs.lemmas.List.Folds.{concat-append}
 use Rattle.arrow_types.specs.IndexKey.{index_of}
+use Rattle.arrow_memory.specs.Column.{stored_values}
 use Rattle.arrow_memory.specs.Offsets.{last_of}
 use Rattle.arrow_check.specs.Pieces.{bytes_between, bytes_of, ends_after, items_after, items_of, offsets_of}
 use Rattle.arrow_check.specs.Utf8.{IsWellFormed}
+use Rattle.arrow_bytes.specs.Column.{ByteColumn, bytes_held, offsets_held}
 use Rattle.arrow_bytes.specs.Kinds.{AreItems, CutItems}
 use Rattle.arrow_bytes.specs.Pieces.{Around, around_of, nothing_around}
 use Rattle.arrow_kernels.specs.Kernels.{at_key, at_keys, where_set}
@@ -111,6 +113,19 @@ items-held = after-again
 pub ends-held : (lead : List ℕ) (items : List (List ℕ)) (tail : List ℕ) → last_of (offsets_of (length lead) items) ≤ length (bytes_of lead items tail)
 ends-held lead items tail = omega (arith, last-offset (length lead) items, length-append lead (concat items ++ tail), length-append (concat items) tail)
 
+-- the same of an array's column
+pub count-held : (column : ByteColumn) (os : List ℕ) (n : ℕ) → os ≡ offsets_held column → n ≡ length column.rows → n + 1 ≡ length os
+count-held column os n same long =
+    let offsets = ap length same ∙ length-offsets (length column.around.lead) (stored_values column) in
+    let values = length-map column.rows (λ row. row.0) in
+    omega (arith, offsets, values, long)
+
+pub within-held : (column : ByteColumn) (os bytes : List ℕ) → os ≡ offsets_held column → bytes ≡ bytes_held column → last_of os ≤ length bytes
+within-held column os bytes e f = omega (arith, ap last_of e, ap length f, ends-held column.around.lead (stored_values column) column.around.tail)
+
+pub items-of-held : (column : ByteColumn) (os bytes : List ℕ) → os ≡ offsets_held column → bytes ≡ bytes_held column → items_of os bytes ≡ stored_values column
+items-of-held column os bytes e f = ap₂ items_of e f ∙ items-held column.around.lead (stored_values column) column.around.tail
+
 -- items that have offsets and bytes alone
 pub items-alone : (items : List (List ℕ)) → items_of (offsets_of 0 items) (concat items) ≡ items
 items-alone items = ap (items_of (offsets_of 0 items)) (sym (append-nil (concat items))) ∙ after-again [] items []
@@ -122,8 +137,18 @@ around-alone items =
     ∙ drop-length (concat items)
     )
 
-pub cut-alone : (text : Bool) (items : List (List ℕ)) → AreItems text items → CutItems text (offsets_of 0 items) (concat items)
-cut-alone text items all = (omega (arith, last-offset 0 items), subst (AreItems text) (sym (items-alone items)) all)
+pub cut-of-alone : (text : Bool) (items : List (List ℕ)) → AreItems text items → CutItems text (offsets_of 0 items) (concat items)
+cut-of-alone text items all = (omega (arith, last-offset 0 items), subst (AreItems text) (sym (items-alone items)) all)
+
+-- the same of offsets and bytes that are those of items
+pub cut-alone : (text : Bool) (items : List (List ℕ)) (os bytes : List ℕ) → os ≡ offsets_of 0 items → bytes ≡ concat items → AreItems text items → CutItems text os bytes
+cut-alone text items os bytes e f all = subst (λ xs. CutItems text xs bytes) (sym e) (subst (CutItems text (offsets_of 0 items)) (sym f) (cut-of-alone text items all))
+
+pub items-are : (items : List (List ℕ)) (os bytes : List ℕ) → os ≡ offsets_of 0 items → bytes ≡ concat items → items_of os bytes ≡ items
+items-are items os bytes e f = ap₂ items_of e f ∙ items-alone items
+
+pub around-is : (items : List (List ℕ)) (os bytes : List ℕ) → os ≡ offsets_of 0 items → bytes ≡ concat items → around_of os bytes ≡ nothing_around
+around-is items os bytes e f = ap₂ around_of e f ∙ around-alone items
 
 -- ---- some items of a kind
 

@@ -5,7 +5,7 @@ ghost use Rattle.arrow_bytes.specs.Pieces.{nothing_around};
 ghost use Rattle.arrow_kernels.specs.Kernels.{filtered};
 
 use crate::asked::asked_rows;
-use crate::keep::{keep_items, keep_marks, keep_mask, keep_values};
+use crate::keep::{keep_marks, keep_mask, keep_values, kept_pieces};
 use arrow_binary::BinaryArray;
 use arrow_boolean::BooleanArray;
 use arrow_byte_array::ByteArray;
@@ -70,11 +70,10 @@ fn filter_items<K: ByteKind, O: Offset>(
     ensures err { IfErr result (λ e. e ≡ Error.OutOfMemory) }
 {
     let asked = asked_rows(alloc, filter)?;
-    let (offsets, bytes) = keep_items(alloc, array.offsets(), array.values().as_slice(), &asked)?;
+    let (offsets, bytes) = kept_pieces(alloc, array, &asked)?;
     let mask = keep_mask(alloc, array.validity(), &asked)?;
     let data_type = array.data_type().clone()?;
-    let offsets = offsets.freeze()?;
-    Ok(ByteArray::new(data_type, offsets, Buffer::from_vec(bytes)?, mask))
+    Ok(ByteArray::new(data_type, offsets, bytes, mask))
 }
 
 /// The slots of bytes for which a filter of as many slots asks.

@@ -2,14 +2,19 @@
 ghost use Rattle.std.specs.Prelude.{◌≡◌, ◌+◌, ◌≤◌, length, option_map, IfOk, IfErr, IfSome};
 ghost use Rattle.std.specs.List.{concat};
 ghost use Rattle.std.specs.Option.{option_copied};
-ghost use Rattle.arrow_memory.specs.Column.{mask_with_nulls};
+ghost use Rattle.arrow_memory.specs.Column.{mask_with_nulls, stored_values};
 ghost use Rattle.arrow_memory.specs.Offsets.{last_of};
 ghost use Rattle.arrow_check.specs.Pieces.{items_of, offsets_of};
+ghost use Rattle.arrow_bytes.specs.Kinds.{CutItems};
+ghost use Rattle.arrow_bytes.specs.Pieces.{around_of, nothing_around};
 ghost use Rattle.arrow_kernels.specs.Kernels.{where_set};
 
 use crate::mask::needed_mask;
 use crate::pieces::item_at;
+use arrow_byte_array::ByteArray;
+use arrow_bytes::ByteKind;
 use arrow_memory::bitmap::{Bitmap, MutableBitmap};
+use arrow_memory::buffer::Buffer;
 use arrow_memory::offset::{Offsets, OffsetsBuffer};
 use arrow_types::error::Error;
 use arrow_types::native_type::NativeType;
@@ -96,4 +101,21 @@ pub(crate) fn keep_items<O: Offset>(
         }
     }
     Ok((kept, kept_bytes))
+}
+
+/// The items of an array that are asked for, as offsets and bytes of their own.
+pub(crate) fn kept_pieces<K: ByteKind, O: Offset>(
+    alloc: Global,
+    array: &ByteArray<K, O>,
+    asked: &[bool],
+) -> Result<(OffsetsBuffer<O>, Buffer<u8>), Error>
+    requires { length asked.now ≡ length array.now.rows }
+    ensures cut { IfOk result (λ kept. CutItems K.is_text kept.0 kept.1) }
+    ensures around { IfOk result (λ kept. around_of kept.0 kept.1 ≡ nothing_around) }
+    ensures items { IfOk result (λ kept. items_of kept.0 kept.1 ≡ where_set asked.now (stored_values array.now)) }
+    ensures err { IfErr result (λ e. e ≡ Error.OutOfMemory) }
+{
+    let (offsets, bytes) = keep_items(alloc, array.offsets(), array.values().as_slice(), asked)?;
+    let offsets = offsets.freeze()?;
+    Ok((offsets, Buffer::from_vec(bytes)?))
 }

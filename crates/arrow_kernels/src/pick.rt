@@ -1,16 +1,21 @@
 //! What keys take of stored values, of marks and of items: for each key what stands at its place.
-ghost use Rattle.std.specs.Prelude.{◌≡◌, ◌+◌, ◌<◌, ◌≤◌, length, option_map, All, Some, IfOk, IfErr, IfSome, IsSomeAnd, nat_lt};
+ghost use Rattle.std.specs.Prelude.{◌≡◌, ◌+◌, ◌<◌, ◌≤◌, false, length, option_map, All, Some, IfOk, IfErr, IfSome, IsSomeAnd, OnOk, nat_lt};
 ghost use Rattle.std.specs.List.{concat};
 ghost use Rattle.std.specs.Option.{option_copied};
 ghost use Rattle.arrow_types.specs.IndexKey.{index_of};
-ghost use Rattle.arrow_memory.specs.Column.{mask_with_nulls, refused_growth};
+ghost use Rattle.arrow_memory.specs.Column.{mask_with_nulls, refused_growth, stored_values};
 ghost use Rattle.arrow_memory.specs.Offsets.{last_of};
 ghost use Rattle.arrow_check.specs.Pieces.{items_of, offsets_of};
-ghost use Rattle.arrow_kernels.specs.Kernels.{at_keys};
+ghost use Rattle.arrow_bytes.specs.Kinds.{CutItems};
+ghost use Rattle.arrow_bytes.specs.Pieces.{around_of, nothing_around};
+ghost use Rattle.arrow_kernels.specs.Kernels.{at_keys, taking_overflows};
 
 use crate::mask::needed_mask;
 use crate::pieces::item_at;
+use arrow_byte_array::ByteArray;
+use arrow_bytes::ByteKind;
 use arrow_memory::bitmap::{Bitmap, MutableBitmap};
+use arrow_memory::buffer::Buffer;
 use arrow_memory::offset::{Offsets, OffsetsBuffer};
 use arrow_types::error::Error;
 use arrow_types::index_key::IndexKey;
@@ -115,7 +120,7 @@ pub(crate) fn pick_items<O: Offset, K: IndexKey>(
     requires within { last_of offsets.now ≤ length bytes.now }
     ensures offsets { IfOk result (λ picked. picked.0 ≡ offsets_of 0 (at_keys K.number keys.now (items_of offsets.now bytes.now))) }
     ensures bytes { IfOk result (λ picked. picked.1.items ≡ concat (at_keys K.number keys.now (items_of offsets.now bytes.now))) }
-    ensures fit { IfOk result (λ picked. length (concat (at_keys K.number keys.now (items_of offsets.now bytes.now))) ≤ O.most) }
+    ensures fit { OnOk result (nat_lt O.most (length (concat (at_keys K.number keys.now (items_of offsets.now bytes.now)))) ≡ false) }
     ensures err { IfErr result (λ e. e ≡ refused_growth (nat_lt O.most (length (concat (at_keys K.number keys.now (items_of offsets.now bytes.now)))))) }
 {
     let total = picked_length(offsets, bytes, keys)?;
@@ -130,4 +135,22 @@ pub(crate) fn pick_items<O: Offset, K: IndexKey>(
         }
     }
     Ok((picked, picked_bytes))
+}
+
+/// The items of an array at the places of keys, each of which tells one, as offsets and bytes of their own.
+pub(crate) fn picked_pieces<K: ByteKind, O: Offset, I: IndexKey>(
+    alloc: Global,
+    array: &ByteArray<K, O>,
+    keys: &[I],
+) -> Result<(OffsetsBuffer<O>, Buffer<u8>), Error>
+    requires { All (λ key. IsSomeAnd (index_of (I.number key)) (λ index. index < length array.now.rows)) keys.now }
+    ensures cut { IfOk result (λ picked. CutItems K.is_text picked.0 picked.1) }
+    ensures around { IfOk result (λ picked. around_of picked.0 picked.1 ≡ nothing_around) }
+    ensures items { IfOk result (λ picked. items_of picked.0 picked.1 ≡ at_keys I.number keys.now (stored_values array.now)) }
+    ensures fit { OnOk result (taking_overflows O.most I.number array.now keys.now ≡ false) }
+    ensures err { IfErr result (λ e. e ≡ refused_growth (taking_overflows O.most I.number array.now keys.now)) }
+{
+    let (offsets, bytes) = pick_items(alloc, array.offsets(), array.values().as_slice(), keys)?;
+    let offsets = offsets.freeze()?;
+    Ok((offsets, Buffer::from_vec(bytes)?))
 }

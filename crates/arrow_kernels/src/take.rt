@@ -1,14 +1,15 @@
 //! The rows at the places that keys tell, in the order of the keys. Types and stored values stay; the new array has nothing
 //! around its slots, and holds a mask exactly where one of them is null. All keys are looked at, and the lengths of all
 //! items, before memory is asked for.
-ghost use Rattle.std.specs.Prelude.{◌≡◌, ⊤, false, None, IfOk, IfErr, IsErrAnd, MatchOption};
+ghost use Rattle.std.specs.Prelude.{◌≡◌, ◌<◌, ⊤, false, length, All, None, IfOk, IfErr, IsErrAnd, IsSomeAnd, MatchOption};
+ghost use Rattle.arrow_types.specs.IndexKey.{index_of};
 ghost use Rattle.arrow_types.specs.Types.{refusal};
 ghost use Rattle.arrow_memory.specs.Column.{refused_growth};
 ghost use Rattle.arrow_check.specs.Indexes.{key_refusal};
 ghost use Rattle.arrow_bytes.specs.Pieces.{nothing_around};
 ghost use Rattle.arrow_kernels.specs.Kernels.{first_astray, taken, taking_overflows};
 
-use crate::pick::{pick_items, pick_marks, pick_mask, pick_values};
+use crate::pick::{pick_marks, pick_mask, pick_values, picked_pieces};
 use arrow_binary::BinaryArray;
 use arrow_boolean::BooleanArray;
 use arrow_byte_array::ByteArray;
@@ -66,8 +67,24 @@ pub fn take_boolean<K: IndexKey>(
     Ok(BooleanArray::new(data_type, values.freeze()?, mask))
 }
 
-/// The slots of items of a kind at the keys' places. Nothing is tested but the keys: some of the items of a kind are items of
-/// the kind.
+/// The slots of items of a kind at the places of keys, each of which tells one. Nothing is tested: some of the items of a
+/// kind are items of the kind.
+fn taken_items<K: ByteKind, O: Offset, I: IndexKey>(
+    alloc: Global,
+    array: &ByteArray<K, O>,
+    keys: &[I],
+) -> Result<ByteArray<K, O>, Error>
+    requires { All (λ key. IsSomeAnd (index_of (I.number key)) (λ index. index < length array.now.rows)) keys.now }
+    ensures ok { IfOk result (λ made. (taking_overflows O.most I.number array.now keys.now ≡ false) × (made ≡ taken nothing_around I.number array.now keys.now)) }
+    ensures err { IfErr result (λ e. e ≡ refused_growth (taking_overflows O.most I.number array.now keys.now)) }
+{
+    let (offsets, bytes) = picked_pieces(alloc, array, keys)?;
+    let mask = pick_mask(alloc, array.validity(), keys)?;
+    let data_type = array.data_type().clone()?;
+    Ok(ByteArray::new(data_type, offsets, bytes, mask))
+}
+
+/// The slots of items of a kind at the keys' places.
 fn take_items<K: ByteKind, O: Offset, I: IndexKey>(
     alloc: Global,
     array: &ByteArray<K, O>,
@@ -78,11 +95,7 @@ fn take_items<K: ByteKind, O: Offset, I: IndexKey>(
     ensures err { IfErr result (λ e. first_astray I.number array.now keys.now ≡ None → e ≡ refused_growth (taking_overflows O.most I.number array.now keys.now)) }
 {
     check_indexes(keys, array.len())?;
-    let (offsets, bytes) = pick_items(alloc, array.offsets(), array.values().as_slice(), keys)?;
-    let mask = pick_mask(alloc, array.validity(), keys)?;
-    let data_type = array.data_type().clone()?;
-    let offsets = offsets.freeze()?;
-    Ok(ByteArray::new(data_type, offsets, Buffer::from_vec(bytes)?, mask))
+    taken_items(alloc, array, keys)
 }
 
 /// The slots of bytes at the keys' places.
