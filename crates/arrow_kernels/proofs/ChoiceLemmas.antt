@@ -46,6 +46,15 @@ where-clear {X} marks xs i e = let next : i + 1 ≡ suc i = omega arith in ap (�
     more (true ∷ marks) (y ∷ xs) (suc i) e = ap (λ rest. y ∷ rest) (more marks xs i e)
     more (false ∷ marks) (y ∷ xs) (suc i) e = more marks xs i e
 
+-- the same of a list that grows by what is asked for
+pub where-grown : {X : Type 0} (marks : List Bool) (xs : List X) (i : ℕ) (x : X) (old new : List X) → slice_get marks i ≡ Some true → slice_get xs i ≡ Some x
+    → old ≡ where_set (take i marks) (take i xs) → new ≡ old ++ x ∷ [] → new ≡ where_set (take (i + 1) marks) (take (i + 1) xs)
+where-grown marks xs i x old new e f was pushed = pushed ∙ ap (λ ys. ys ++ x ∷ []) was ∙ sym (where-set marks xs i x e f)
+
+pub where-stays : {X : Type 0} (marks : List Bool) (xs : List X) (i : ℕ) (old new : List X) → slice_get marks i ≡ Some false
+    → old ≡ where_set (take i marks) (take i xs) → new ≡ old → new ≡ where_set (take (i + 1) marks) (take (i + 1) xs)
+where-stays marks xs i old new e was same = same ∙ was ∙ sym (where-clear marks xs i e)
+
 -- as many marks as values, all of them
 pub where-all : {X : Type 0} (marks : List Bool) (xs : List X) (n : ℕ) → n ≡ length marks → n ≡ length xs → where_set (take n marks) (take n xs) ≡ where_set marks xs
 where-all marks xs n long wide = ap₂ where_set (ap (λ k. take k marks) long ∙ take-length marks) (ap (λ k. take k xs) wide ∙ take-length xs)
@@ -71,6 +80,11 @@ asked-more filter i shown e =
 
 pub length-asked : (filter : Column Bool) → length (asked filter) ≡ length filter.rows
 length-asked filter = length-map (slots_of filter) (λ s. unwrap_or s false) ∙ length-map filter.rows slot
+
+-- the same of a list that grows by what stands at the key's place
+pub keys-grown : {K X : Type 0} (number : K → ℤ) (keys : List K) (xs : List X) (i : ℕ) (key : K) (x : X) (old new : List X) → i < length keys → key ≡ get_or keys i key → at_key xs (number key) ≡ Some x
+    → old ≡ at_keys number (take i keys) xs → new ≡ old ++ x ∷ [] → new ≡ at_keys number (take (i + 1) keys) xs
+keys-grown number keys xs i key x old new low read found was pushed = pushed ∙ ap (λ ys. ys ++ x ∷ []) was ∙ sym (keys-more number keys xs i key x low read found)
 
 -- ---- parts of rows
 

@@ -1,12 +1,15 @@
 -- Lemmas about items, and the offsets and bytes that they have alone.
 use Rattle.std.proofs.Common.{◌≡◌, ℕ, zero, suc, ◌+◌, ◌-◌, ◌<◌, ◌≤◌, ℤ, Bool, true, false, List, [], ◌∷◌, ◌++◌, length, take, drop, get_or, slice_get, Option, Some, None, option_and_then, refl, sym, subst, ap, ap₂, ◌∙◌, arith, append_assoc, length-append}
-use Rattle.std.specs.Prelude.{⊤, All, IfSome}
+use Rattle.std.specs.Prelude.{⊤, All, IfErr, IfOk, IfSome, OnOk, Result, Ok, Err, nat_lt}
 use Rattle.std.specs.List.{concat, cons_option}
 use Rattle.std.proofs.Math.Seq.{drop-length}
+use Rattle.std.proofs.lemmas.Bool.{le-ltb, lt-ltb}
 use Rattle.std.proofs.lemmas.List.{append-nil, drop_at, length-map, take-append-drop, take_at}
 use Rattle.std.proofs.lemmas.List.Elements.{All-nil, All-cons, All-head, All-tail, filter_map-append}
 use Rattle.std.proofs.lemmas.List.Folds.{concat-append}
 use Rattle.arrow_types.specs.IndexKey.{index_of}
+use Rattle.arrow_types.specs.declared.error.Error.{Error}
+use Rattle.arrow_types.specs.declared.error.Error.TheVariants as error
 use Rattle.arrow_memory.specs.Column.{stored_values}
 use Rattle.arrow_memory.specs.Offsets.{last_of}
 use Rattle.arrow_check.specs.Pieces.{bytes_between, bytes_of, ends_after, items_after, items_of, offsets_of}
@@ -67,9 +70,9 @@ keys-length number n keys items =
     let front = at_keys number (take n keys) items in
     let back = at_keys number (drop n keys) items in
     let whole : at_keys number keys items ≡ front ++ back =
-      ap (λ ks. at_keys number ks items) (sym (take-append-drop n keys)) ∙ filter_map-append (λ key. at_key items (number key)) (take n keys) (drop n keys) in
+    ap (λ ks. at_keys number ks items) (sym (take-append-drop n keys)) ∙ filter_map-append (λ key. at_key items (number key)) (take n keys) (drop n keys) in
     let long : length (concat (at_keys number keys items)) ≡ length (concat front) + length (concat back) =
-      ap (λ xs. length (concat xs)) whole ∙ ap length (concat-append front back) ∙ length-append (concat front) (concat back) in
+    ap (λ xs. length (concat xs)) whole ∙ ap length (concat-append front back) ∙ length-append (concat front) (concat back) in
     omega (arith, long)
 
 -- ---- items of offsets
@@ -183,3 +186,13 @@ texts-keys number (key ∷ keys) items all = texts-cons (at_key items (number ke
 pub kinds-keys : {K : Type 0} (text : Bool) (number : K → ℤ) (keys : List K) (items : List (List ℕ)) → AreItems text items → AreItems text (at_keys number keys items)
 kinds-keys true number keys items all = texts-keys number keys items all
 kinds-keys false number keys items all = tt
+
+-- ---- how many bytes items have
+
+pub some-fit : {E : Type 0} (r : Result ℕ E) (most n m : ℕ) → n ≡ m → IfOk r (λ total. (total ≤ most) × (total ≡ n)) → OnOk r (nat_lt most m ≡ false)
+some-fit (Ok total) most n m same fits = le-ltb most m (omega (arith, same, fits.0, fits.1))
+some-fit (Err e) most n m same fits = tt
+
+pub some-overflow : (r : Result ℕ Error) (most n m : ℕ) → n ≡ m → IfErr r (λ e. (e ≡ error.Overflow) × (most < n)) → IfErr r (λ e. (e ≡ error.Overflow) × (nat_lt most m ≡ true))
+some-overflow (Ok total) most n m same over = tt
+some-overflow (Err e) most n m same over = (over.0, lt-ltb most m (omega (arith, same, over.1)))

@@ -1,9 +1,9 @@
 //! What keys take of stored values, of marks and of items: for each key what stands at its place.
-ghost use Rattle.std.specs.Prelude.{◌≡◌, ◌+◌, ◌<◌, ◌≤◌, false, length, option_map, All, Some, IfOk, IfErr, IfSome, IsSomeAnd, OnOk, nat_lt};
+ghost use Rattle.std.specs.Prelude.{◌≡◌, ◌+◌, ◌<◌, ◌≤◌, false, true, length, option_map, All, Some, IfOk, IfErr, IfSome, IsSomeAnd, OnOk};
 ghost use Rattle.std.specs.List.{concat};
 ghost use Rattle.std.specs.Option.{option_copied};
 ghost use Rattle.arrow_types.specs.IndexKey.{index_of};
-ghost use Rattle.arrow_memory.specs.Column.{mask_with_nulls, refused_growth, stored_values};
+ghost use Rattle.arrow_memory.specs.Column.{mask_with_nulls, stored_values};
 ghost use Rattle.arrow_memory.specs.Offsets.{last_of};
 ghost use Rattle.arrow_check.specs.Pieces.{items_of, offsets_of};
 ghost use Rattle.arrow_bytes.specs.Kinds.{CutItems};
@@ -109,26 +109,41 @@ fn picked_length<O: Offset, K: IndexKey>(
     Ok(total)
 }
 
-/// The items at the keys' places, as offsets and bytes of their own.
-pub(crate) fn pick_items<O: Offset, K: IndexKey>(
+/// How many bytes the items of an array have together at the places of keys, each of which tells one.
+///
+/// # Errors
+/// `Overflow` where they have more than an offset can tell.
+pub(crate) fn items_length<K: ByteKind, O: Offset, I: IndexKey>(
+    array: &ByteArray<K, O>,
+    keys: &[I],
+) -> Result<usize, Error>
+    requires { All (λ key. IsSomeAnd (index_of (I.number key)) (λ index. index < length array.now.rows)) keys.now }
+    ensures ok { OnOk result (taking_overflows O.most I.number array.now keys.now ≡ false) }
+    ensures err { IfErr result (λ e. (e ≡ Error.Overflow) × (taking_overflows O.most I.number array.now keys.now ≡ true)) }
+{
+    picked_length(array.offsets(), array.values().as_slice(), keys)
+}
+
+/// The items at the keys' places, as offsets and bytes of their own. Together they end at what an offset can tell; so many
+/// bytes are made room for.
+fn pick_items<O: Offset, K: IndexKey>(
     alloc: Global,
     offsets: &OffsetsBuffer<O>,
     bytes: &[u8],
     keys: &[K],
+    room: usize,
 ) -> Result<(Offsets<O>, Vec<u8>), Error>
     requires keys { All (λ key. IsSomeAnd (index_of (K.number key)) (λ index. index + 1 < length offsets.now)) keys.now }
     requires within { last_of offsets.now ≤ length bytes.now }
     ensures offsets { IfOk result (λ picked. picked.0 ≡ offsets_of 0 (at_keys K.number keys.now (items_of offsets.now bytes.now))) }
     ensures bytes { IfOk result (λ picked. picked.1.items ≡ concat (at_keys K.number keys.now (items_of offsets.now bytes.now))) }
-    ensures fit { OnOk result (nat_lt O.most (length (concat (at_keys K.number keys.now (items_of offsets.now bytes.now)))) ≡ false) }
-    ensures err { IfErr result (λ e. e ≡ refused_growth (nat_lt O.most (length (concat (at_keys K.number keys.now (items_of offsets.now bytes.now)))))) }
+    ensures err { IfErr result (λ e. e ≡ Error.OutOfMemory) }
 {
-    let total = picked_length(offsets, bytes, keys)?;
     let mut picked = Offsets::with_capacity(alloc, keys.len())?;
-    let mut picked_bytes = Vec::with_capacity(alloc, total)?;
+    let mut picked_bytes = Vec::with_capacity(alloc, room)?;
     for key in keys {
         let item = item_at(offsets, bytes, place_of(key, offsets.len_proxy()));
-        // All items together end at what an offset can tell, so it is memory that is refused.
+        // No item ends past what an offset can tell, so it is memory that is refused.
         match picked.try_push_item(&mut picked_bytes, item) {
             Ok(()) => {}
             Err(_) => return Err(Error::OutOfMemory),
@@ -137,20 +152,22 @@ pub(crate) fn pick_items<O: Offset, K: IndexKey>(
     Ok((picked, picked_bytes))
 }
 
-/// The items of an array at the places of keys, each of which tells one, as offsets and bytes of their own.
+/// The items of an array at the places of keys, each of which tells one, as offsets and bytes of their own. Together they end
+/// at what an offset can tell; so many bytes are made room for.
 pub(crate) fn picked_pieces<K: ByteKind, O: Offset, I: IndexKey>(
     alloc: Global,
     array: &ByteArray<K, O>,
     keys: &[I],
+    room: usize,
 ) -> Result<(OffsetsBuffer<O>, Buffer<u8>), Error>
     requires { All (λ key. IsSomeAnd (index_of (I.number key)) (λ index. index < length array.now.rows)) keys.now }
     ensures cut { IfOk result (λ picked. CutItems K.is_text picked.0 picked.1) }
     ensures around { IfOk result (λ picked. around_of picked.0 picked.1 ≡ nothing_around) }
     ensures items { IfOk result (λ picked. items_of picked.0 picked.1 ≡ at_keys I.number keys.now (stored_values array.now)) }
-    ensures fit { OnOk result (taking_overflows O.most I.number array.now keys.now ≡ false) }
-    ensures err { IfErr result (λ e. e ≡ refused_growth (taking_overflows O.most I.number array.now keys.now)) }
+    ensures err { IfErr result (λ e. e ≡ Error.OutOfMemory) }
 {
-    let (offsets, bytes) = pick_items(alloc, array.offsets(), array.values().as_slice(), keys)?;
+    let bytes = array.values().as_slice();
+    let (offsets, bytes) = pick_items(alloc, array.offsets(), bytes, keys, room)?;
     let offsets = offsets.freeze()?;
     Ok((offsets, Buffer::from_vec(bytes)?))
 }

@@ -9,7 +9,7 @@ ghost use Rattle.arrow_check.specs.Indexes.{key_refusal};
 ghost use Rattle.arrow_bytes.specs.Pieces.{nothing_around};
 ghost use Rattle.arrow_kernels.specs.Kernels.{first_astray, taken, taking_overflows};
 
-use crate::pick::{pick_marks, pick_mask, pick_values, picked_pieces};
+use crate::pick::{items_length, pick_marks, pick_mask, pick_values, picked_pieces};
 use arrow_binary::BinaryArray;
 use arrow_boolean::BooleanArray;
 use arrow_byte_array::ByteArray;
@@ -68,17 +68,18 @@ pub fn take_boolean<K: IndexKey>(
 }
 
 /// The slots of items of a kind at the places of keys, each of which tells one. Nothing is tested: some of the items of a
-/// kind are items of the kind.
+/// kind are items of the kind. So many bytes are made room for.
 fn taken_items<K: ByteKind, O: Offset, I: IndexKey>(
     alloc: Global,
     array: &ByteArray<K, O>,
     keys: &[I],
+    room: usize,
 ) -> Result<ByteArray<K, O>, Error>
     requires { All (λ key. IsSomeAnd (index_of (I.number key)) (λ index. index < length array.now.rows)) keys.now }
-    ensures ok { IfOk result (λ made. (taking_overflows O.most I.number array.now keys.now ≡ false) × (made ≡ taken nothing_around I.number array.now keys.now)) }
-    ensures err { IfErr result (λ e. e ≡ refused_growth (taking_overflows O.most I.number array.now keys.now)) }
+    ensures ok { IfOk result (λ made. made ≡ taken nothing_around I.number array.now keys.now) }
+    ensures err { IfErr result (λ e. e ≡ Error.OutOfMemory) }
 {
-    let (offsets, bytes) = picked_pieces(alloc, array, keys)?;
+    let (offsets, bytes) = picked_pieces(alloc, array, keys, room)?;
     let mask = pick_mask(alloc, array.validity(), keys)?;
     let data_type = array.data_type().clone()?;
     Ok(ByteArray::new(data_type, offsets, bytes, mask))
@@ -95,7 +96,8 @@ fn take_items<K: ByteKind, O: Offset, I: IndexKey>(
     ensures err { IfErr result (λ e. first_astray I.number array.now keys.now ≡ None → e ≡ refused_growth (taking_overflows O.most I.number array.now keys.now)) }
 {
     check_indexes(keys, array.len())?;
-    taken_items(alloc, array, keys)
+    let room = items_length(array, keys)?;
+    taken_items(alloc, array, keys, room)
 }
 
 /// The slots of bytes at the keys' places.

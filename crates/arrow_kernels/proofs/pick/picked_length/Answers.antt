@@ -17,7 +17,7 @@ returns-then-item-most-clause-err g c =
     let more = keys-more number keys items i c.key-item.result item c.loop-key-test.true c.key-item.is found in
     let so_far = at_keys number (take i keys) items in
     let grown : length (concat (at_keys number (take (i + 1) keys) items)) ≡ length (concat so_far) + length item =
-      ap (λ xs. length (concat xs)) more ∙ ap length (bytes-push so_far item) ∙ length-append (concat so_far) item in
+    ap (λ xs. length (concat xs)) more ∙ ap length (bytes-push so_far item) ∙ length-append (concat so_far) item in
     let same : c.to_usize-most.result ≡ g.O.Offset.most = cc in
     (refl, omega (arith, grown, same, keys-length number (i + 1) keys items, c.if-item-most.true, c.loop-key.invariant.0, c.loop-key.invariant.1))
 
@@ -32,5 +32,5 @@ loop-key-preserved g c =
     let more = keys-more number keys items i c.key-item.result item c.loop-key-test.true c.key-item.is found in
     let so_far = at_keys number (take i keys) items in
     let grown : length (concat (at_keys number (take (i + 1) keys) items)) ≡ length (concat so_far) + length item =
-      ap (λ xs. length (concat xs)) more ∙ ap length (bytes-push so_far item) ∙ length-append (concat so_far) item in
+    ap (λ xs. length (concat xs)) more ∙ ap length (bytes-push so_far item) ∙ length-append (concat so_far) item in
     (omega (arith, grown, c.loop-key.invariant.0), omega (arith, c.if-item-most.false, c.loop-key.invariant.1))
