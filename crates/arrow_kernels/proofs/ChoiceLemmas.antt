@@ -3,6 +3,7 @@ use Rattle.std.proofs.Common.{◌≡◌, ℕ, zero, suc, ◌+◌, ◌<◌, ◌�
 use Rattle.std.specs.Prelude.{⊤, not, All, IfErr, IfSome, IsSomeAnd, MatchOption, Result, Ok, Err, count_by, find, unwrap_or}
 use Rattle.std.specs.List.{cons_option, filter_map, list_all, zip}
 use Rattle.std.proofs.Math.Seq.{take-length}
+use Rattle.std.proofs.lemmas.Bool.{false≢true}
 use Rattle.std.proofs.lemmas.List.{take_more, length-map}
 use Rattle.std.proofs.lemmas.List.Elements.{All-weaker, filter_map-append}
 use Rattle.std.proofs.lemmas.List.Sums.{sum_by-cons}
@@ -257,9 +258,9 @@ makes-taken nothing column number keys t values mask is_column same e m =
 
 -- where a key is refused, not every key tells a place
 pub not-astray : {A S K X E : Type 0} (column : ColumnWith A S) (number : K → ℤ) (keys : List K) (n : ℕ) (P : K → Type 0) (Q : E → Type 0) (r : Result X E) → n ≡ length column.rows
-    → MatchOption (find (λ key. not (is_place n (number key))) keys) ⊥ P → IfErr r (λ e. first_astray number column keys ≡ None → Q e)
+    → MatchOption (find (λ key. not (is_place n (number key))) keys) (false ≡ true) P → IfErr r (λ e. first_astray number column keys ≡ None → Q e)
 not-astray column number keys n P Q (Ok x) same refused = tt
-not-astray column number keys n P Q (Err e) same refused = λ none. absurd (MatchOption-at_none ⊥ P (ap (λ k. find (λ key. not (is_place k (number key))) keys) same ∙ none) refused)
+not-astray column number keys n P Q (Err e) same refused = λ none. absurd (false≢true (MatchOption-at_none (false ≡ true) P (ap (λ k. find (λ key. not (is_place k (number key))) keys) same ∙ none) refused))
 
 weaker : (o : Option ℕ) (m n k : ℕ) → m + k ≤ n → IsSomeAnd o (λ index. index < m) → IsSomeAnd o (λ index. index + k < n)
 weaker None m n k le h = h

@@ -1,4 +1,5 @@
 use Rattle.std.proofs.Common.{ap, ap₂, ◌∙◌, option_map}
+use Rattle.arrow_types.specs.Types.{logical_type}
 use Rattle.arrow_check.specs.Pieces.{items_of}
 use Rattle.arrow_bytes.specs.Pieces.{nothing_around}
 use Rattle.arrow_memory.specs.Column.{column_with, mask_with_nulls, stored_values}
@@ -15,7 +16,7 @@ new-requires-clause-mask g c =
 pub returns-clause-ok : goal.returns-clause-ok
 returns-clause-ok g c =
     c.new.ensures
-    ∙ ap (λ around. column_with _ around (items_of c.in_ok-offsets.offsets c.in_ok-offsets.bytes) c.in_ok-mask.mask) c.in_ok-offsets.ensures.around
+    ∙ ap (λ around. column_with (logical_type c.in_ok-data_type.data_type) around (items_of c.in_ok-offsets.offsets c.in_ok-offsets.bytes) c.in_ok-mask.mask) c.in_ok-offsets.ensures.around
     ∙ makes-filtered nothing_around c.args.array.now c.args.filter.now _ _ _ c.validity.ensures.is_column
     (c.in_ok-data_type.ensures.cases ∙ c.data_type.ensures.value)
     (c.in_ok-offsets.ensures.items ∙ ap (λ marks. where_set marks (stored_values c.args.array.now)) (c.deref.ensures.value ∙ c.in_ok-asked.ensures.ok))
