@@ -1,6 +1,6 @@
 -- Lemmas about items, and the offsets and bytes that they have alone.
 use Rattle.std.proofs.Common.{◌≡◌, ℕ, zero, suc, ◌+◌, ◌-◌, ◌<◌, ◌≤◌, ℤ, Bool, true, false, List, [], ◌∷◌, ◌++◌, length, take, drop, get_or, slice_get, Option, Some, None, option_and_then, refl, sym, subst, ap, ap₂, ◌∙◌, arith, append_assoc, length-append}
-use Rattle.std.specs.Prelude.{⊤, All, IfErr, IfOk, IfSome, OnOk, Result, Ok, Err, nat_lt}
+use Rattle.std.specs.Prelude.{All, IfErr, IfOk, IfSome, OnOk, Result, Ok, Err, nat_lt}
 use Rattle.std.specs.List.{concat, cons_option}
 use Rattle.std.proofs.Math.Seq.{drop-length}
 use Rattle.std.proofs.lemmas.Bool.{le-ltb, lt-ltb}

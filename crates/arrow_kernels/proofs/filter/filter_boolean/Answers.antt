@@ -1,6 +1,6 @@
-use Rattle.std.proofs.Common.{ap₂, sym, ◌∙◌, option_map}
+use Rattle.std.proofs.Common.{ap₂, ◌∙◌, option_map}
 use Rattle.arrow_memory.specs.Column.{mask_with_nulls}
-use Rattle.arrow_kernels.specs.Kernels.{asked, where_set}
+use Rattle.arrow_kernels.specs.Kernels.{where_set}
 use Rattle.arrow_kernels.proofs.ChoiceLemmas.{fits-filtered, makes-filtered}
 use Rattle.arrow_kernels.proofs.filter.filter_boolean.Goals as goal
 

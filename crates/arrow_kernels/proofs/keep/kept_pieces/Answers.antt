@@ -1,7 +1,6 @@
-use Rattle.std.proofs.Common.{ap, sym, subst, ◌∙◌, arith, length}
+use Rattle.std.proofs.Common.{ap, sym, subst, ◌∙◌, length}
 use Rattle.arrow_bytes.specs.Kinds.{AreItems}
 use Rattle.arrow_check.specs.Pieces.{items_of}
-use Rattle.arrow_memory.specs.Column.{stored_values}
 use Rattle.arrow_kernels.specs.Kernels.{where_set}
 use Rattle.arrow_kernels.proofs.ItemLemmas.{around-is, count-held, cut-alone, items-are, items-of-held, kinds-where, within-held}
 use Rattle.arrow_kernels.proofs.keep.kept_pieces.Goals as goal

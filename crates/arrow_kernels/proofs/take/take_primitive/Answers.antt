@@ -1,4 +1,4 @@
-use Rattle.std.proofs.Common.{◌≡◌, length, ap, sym, ◌∙◌, option_map}
+use Rattle.std.proofs.Common.{◌≡◌, length, ap, ◌∙◌, option_map}
 use Rattle.std.proofs.lemmas.List.{length-map}
 use Rattle.arrow_types.specs.Types.{refusal}
 use Rattle.arrow_check.specs.Indexes.{key_refusal}
