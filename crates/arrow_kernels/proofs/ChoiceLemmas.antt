@@ -1,0 +1,285 @@
+-- Lemmas about some of a list: those with a set mark, and those at the places that keys tell.
+use Rattle.std.proofs.Common.{◌≡◌, ℕ, zero, suc, ◌+◌, ◌<◌, ◌≤◌, ℤ, Bool, true, false, ◌&&◌, cond, IsTrue, if◌then◌else◌, List, [], ◌∷◌, ◌++◌, length, map, take, get_or, slice_get, Option, Some, None, option_and_then, option_map, refl, zero-add, sym, subst, ap, ap₂, ◌∙◌, arith}
+use Rattle.std.specs.Prelude.{not, All, IfErr, IfSome, IsSomeAnd, MatchOption, Result, Ok, Err, count_by, find, unwrap_or}
+use Rattle.std.specs.List.{cons_option, list_all}
+use Rattle.std.proofs.Math.Seq.{take-length}
+use Rattle.std.proofs.lemmas.Bool.{false≢true}
+use Rattle.std.proofs.lemmas.List.{take_more, length-map}
+use Rattle.std.proofs.lemmas.List.Elements.{All-weaker, filter_map-append}
+use Rattle.std.proofs.lemmas.List.Sums.{sum_by-cons}
+use Rattle.std.proofs.lemmas.Option.{MatchOption-at_none, get_or_from_slice_get, slice_get-map, slice_get_within}
+use Rattle.arrow_types.specs.Types.{LogicalType}
+use Rattle.arrow_types.specs.IndexKey.{index_of}
+use Rattle.arrow_memory.specs.Column.{Column, ColumnWith, FitsMask, IsColumn, Row, column_with, mask_of, mask_with_nulls, slot, slots_of, stored_values}
+use Rattle.arrow_memory.proofs.ColumnLemmas.{column_again}
+use Rattle.arrow_check.specs.Indexes.{is_place}
+use Rattle.arrow_kernels.specs.Kernels.{asked, at_key, at_keys, column_of_rows, filtered, first_astray, taken, where_set}
+
+-- ---- one more
+
+-- one more value with a set mark
+pub where-set : {X : Type 0} (marks : List Bool) (xs : List X) (i : ℕ) (x : X) → slice_get marks i ≡ Some true → slice_get xs i ≡ Some x
+    → where_set (take (i + 1) marks) (take (i + 1) xs) ≡ where_set (take i marks) (take i xs) ++ x ∷ []
+where-set {X} marks xs i x e f = let next : i + 1 ≡ suc i = omega arith in ap (λ k. where_set (take k marks) (take k xs)) next ∙ more marks xs i e f
+  where
+    more : (marks : List Bool) (xs : List X) (i : ℕ) → slice_get marks i ≡ Some true → slice_get xs i ≡ Some x → where_set (take (suc i) marks) (take (suc i) xs) ≡ where_set (take i marks) (take i xs) ++ x ∷ []
+    more [] xs i e f = cc
+    more (m ∷ marks) [] i e f = cc
+    more (m ∷ marks) (y ∷ xs) zero e f =
+        let set : m ≡ true = cc in
+        let here : y ≡ x = cc in
+        ap₂ (λ b z. cons_option (if b then Some z else None) []) set here
+    more (true ∷ marks) (y ∷ xs) (suc i) e f = ap (λ rest. y ∷ rest) (more marks xs i e f)
+    more (false ∷ marks) (y ∷ xs) (suc i) e f = more marks xs i e f
+
+-- one more with a clear mark
+pub where-clear : {X : Type 0} (marks : List Bool) (xs : List X) (i : ℕ) → slice_get marks i ≡ Some false
+    → where_set (take (i + 1) marks) (take (i + 1) xs) ≡ where_set (take i marks) (take i xs)
+where-clear {X} marks xs i e = let next : i + 1 ≡ suc i = omega arith in ap (λ k. where_set (take k marks) (take k xs)) next ∙ more marks xs i e
+  where
+    more : (marks : List Bool) (xs : List X) (i : ℕ) → slice_get marks i ≡ Some false → where_set (take (suc i) marks) (take (suc i) xs) ≡ where_set (take i marks) (take i xs)
+    more [] xs i e = cc
+    more (m ∷ marks) [] zero e = refl
+    more (m ∷ marks) [] (suc i) e = refl
+    more (m ∷ marks) (y ∷ xs) zero e =
+        let clear : m ≡ false = cc in
+        ap (λ b. cons_option (if b then Some y else None) []) clear
+    more (true ∷ marks) (y ∷ xs) (suc i) e = ap (λ rest. y ∷ rest) (more marks xs i e)
+    more (false ∷ marks) (y ∷ xs) (suc i) e = more marks xs i e
+
+-- the same of a list that grows by what is asked for
+pub where-grown : {X : Type 0} (marks : List Bool) (xs : List X) (i : ℕ) (x : X) (old new : List X) → slice_get marks i ≡ Some true → slice_get xs i ≡ Some x
+    → old ≡ where_set (take i marks) (take i xs) → new ≡ old ++ x ∷ [] → new ≡ where_set (take (i + 1) marks) (take (i + 1) xs)
+where-grown marks xs i x old new e f was pushed = pushed ∙ ap (λ ys. ys ++ x ∷ []) was ∙ sym (where-set marks xs i x e f)
+
+pub where-stays : {X : Type 0} (marks : List Bool) (xs : List X) (i : ℕ) (old new : List X) → slice_get marks i ≡ Some false
+    → old ≡ where_set (take i marks) (take i xs) → new ≡ old → new ≡ where_set (take (i + 1) marks) (take (i + 1) xs)
+where-stays marks xs i old new e was same = same ∙ was ∙ sym (where-clear marks xs i e)
+
+-- as many marks as values, all of them
+pub where-all : {X : Type 0} (marks : List Bool) (xs : List X) (n : ℕ) → n ≡ length marks → n ≡ length xs → where_set (take n marks) (take n xs) ≡ where_set marks xs
+where-all marks xs n long wide = ap₂ where_set (ap (λ k. take k marks) long ∙ take-length marks) (ap (λ k. take k xs) wide ∙ take-length xs)
+
+-- what stands at the place that a key tells
+pub key-place : {X : Type 0} (xs : List X) (key : ℤ) (place : ℕ) (x : X) → index_of key ≡ Some place → slice_get xs place ≡ Some x → at_key xs key ≡ Some x
+key-place xs key place x e f = ap (option_and_then (slice_get xs)) e ∙ f
+
+-- one more key
+pub keys-more : {K X : Type 0} (number : K → ℤ) (keys : List K) (xs : List X) (i : ℕ) (key : K) (x : X) → i < length keys → key ≡ get_or keys i key → at_key xs (number key) ≡ Some x
+    → at_keys number (take (i + 1) keys) xs ≡ at_keys number (take i keys) xs ++ x ∷ []
+keys-more number keys xs i key x low read found =
+    ap (λ ks. at_keys number ks xs) (take_more keys i key low ∙ ap (λ k. take i keys ++ k ∷ []) (sym read))
+    ∙ filter_map-append (λ k. at_key xs (number k)) (take i keys) (key ∷ [])
+    ∙ ap (λ o. at_keys number (take i keys) xs ++ cons_option o []) found
+
+-- one more row of a filter
+pub asked-more : (filter : Column Bool) (i : ℕ) (shown : Option Bool) → slice_get (slots_of filter) i ≡ Some shown → take (i + 1) (asked filter) ≡ take i (asked filter) ++ unwrap_or shown false ∷ []
+asked-more filter i shown e =
+    let found : slice_get (asked filter) i ≡ Some (unwrap_or shown false) = slice_get-map (λ s. unwrap_or s false) (slots_of filter) i ∙ ap (option_map (λ s. unwrap_or s false)) e in
+    let low : i < length (asked filter) = slice_get_within (asked filter) i (unwrap_or shown false) found in
+    take_more (asked filter) i false low ∙ ap (λ b. take i (asked filter) ++ b ∷ []) (get_or_from_slice_get (asked filter) i (unwrap_or shown false) false found)
+
+pub length-asked : (filter : Column Bool) → length (asked filter) ≡ length filter.rows
+length-asked filter = length-map (slots_of filter) (λ s. unwrap_or s false) ∙ length-map filter.rows slot
+
+-- the same of a list that grows by what stands at the key's place
+pub keys-grown : {K X : Type 0} (number : K → ℤ) (keys : List K) (xs : List X) (i : ℕ) (key : K) (x : X) (old new : List X) → i < length keys → key ≡ get_or keys i key → at_key xs (number key) ≡ Some x
+    → old ≡ at_keys number (take i keys) xs → new ≡ old ++ x ∷ [] → new ≡ at_keys number (take (i + 1) keys) xs
+keys-grown number keys xs i key x old new low read found was pushed = pushed ∙ ap (λ ys. ys ++ x ∷ []) was ∙ sym (keys-more number keys xs i key x low read found)
+
+-- ---- parts of rows
+
+pub where-map : {X Y : Type 0} (f : X → Y) (marks : List Bool) (xs : List X) → where_set marks (map f xs) ≡ map f (where_set marks xs)
+where-map f marks [] = refl
+where-map f [] (x ∷ xs) = refl
+where-map f (true ∷ marks) (x ∷ xs) = ap (λ rest. f x ∷ rest) (where-map f marks xs)
+where-map f (false ∷ marks) (x ∷ xs) = where-map f marks xs
+
+option-map : {X Y : Type 0} (f : X → Y) (xs : List X) (place : Option ℕ) → option_and_then (slice_get (map f xs)) place ≡ option_map f (option_and_then (slice_get xs) place)
+option-map f xs None = refl
+option-map f xs (Some place) = slice_get-map f xs place
+
+cons-map : {X Y : Type 0} (f : X → Y) (o : Option X) (xs : List X) → cons_option (option_map f o) (map f xs) ≡ map f (cons_option o xs)
+cons-map f None xs = refl
+cons-map f (Some x) xs = refl
+
+pub keys-map : {K X Y : Type 0} (f : X → Y) (number : K → ℤ) (keys : List K) (xs : List X) → at_keys number keys (map f xs) ≡ map f (at_keys number keys xs)
+keys-map f number [] xs = refl
+keys-map f number (key ∷ keys) xs =
+    ap₂ cons_option (option-map f xs (index_of (number key))) (keys-map f number keys xs)
+    ∙ cons-map f (at_key xs (number key)) (at_keys number keys xs)
+
+-- ---- rows that are all valid
+
+and-parts : (a b : Bool) → IsTrue (a && b) → IsTrue a × IsTrue b
+and-parts true b h = (refl, h)
+and-parts false b h = cc
+
+and-both : (a b : Bool) → IsTrue a → IsTrue b → IsTrue (a && b)
+and-both true b h k = k
+and-both false b h k = cc
+
+pub where-valid : {X : Type 0} (test : X → Bool) (marks : List Bool) (xs : List X) → IsTrue (list_all test xs) → IsTrue (list_all test (where_set marks xs))
+where-valid test marks [] h = refl
+where-valid test [] (x ∷ xs) h = refl
+where-valid test (true ∷ marks) (x ∷ xs) h =
+    let parts = and-parts (test x) (list_all test xs) h in
+    and-both (test x) _ parts.0 (where-valid test marks xs parts.1)
+where-valid test (false ∷ marks) (x ∷ xs) h = where-valid test marks xs (and-parts (test x) (list_all test xs) h).1
+
+abbrev Passes : {X : Type 0} → (X → Bool) → Option X → Type 0
+Passes test o = IfSome o (λ x. IsTrue (test x))
+
+at-valid : {X : Type 0} (test : X → Bool) (xs : List X) (i : ℕ) → IsTrue (list_all test xs) → Passes test (slice_get xs i)
+at-valid test [] i h = tt
+at-valid test (x ∷ xs) zero h = (and-parts (test x) (list_all test xs) h).0
+at-valid test (x ∷ xs) (suc i) h = at-valid test xs i (and-parts (test x) (list_all test xs) h).1
+
+place-valid : {X : Type 0} (test : X → Bool) (xs : List X) (place : Option ℕ) → IsTrue (list_all test xs) → Passes test (option_and_then (slice_get xs) place)
+place-valid test xs None h = tt
+place-valid test xs (Some i) h = at-valid test xs i h
+
+cons-valid : {X : Type 0} (test : X → Bool) (o : Option X) (xs : List X) → Passes test o → IsTrue (list_all test xs) → IsTrue (list_all test (cons_option o xs))
+cons-valid test None xs p h = h
+cons-valid test (Some x) xs p h = and-both (test x) (list_all test xs) p h
+
+pub keys-valid : {K X : Type 0} (test : X → Bool) (number : K → ℤ) (keys : List K) (xs : List X) → IsTrue (list_all test xs) → IsTrue (list_all test (at_keys number keys xs))
+keys-valid test number [] xs h = refl
+keys-valid test number (key ∷ keys) xs h =
+    cons-valid test (at_key xs (number key)) (at_keys number keys xs) (place-valid test xs (index_of (number key)) h) (keys-valid test number keys xs h)
+
+-- no clear mark, and all marks set
+pub all-by-count : (marks : List Bool) → (count_by not marks ≡ 0 → list_all (λ mark. mark) marks ≡ true) × ((count_by not marks ≡ 0 → ⊥) → list_all (λ mark. mark) marks ≡ false)
+all-by-count [] = (λ _. refl, λ h. absurd (h refl))
+all-by-count (true ∷ marks) =
+    let same : count_by not (true ∷ marks) ≡ count_by not marks = sum_by-cons (λ m. cond (not m) 1 0) true marks ∙ zero-add (count_by not marks) in
+    (λ e. (all-by-count marks).0 (sym same ∙ e), λ h. (all-by-count marks).1 (λ e. h (same ∙ e)))
+all-by-count (false ∷ marks) =
+    let same : count_by not (false ∷ marks) ≡ 1 + count_by not marks = sum_by-cons (λ m. cond (not m) 1 0) false marks in
+    (λ e. absurd (omega arith), λ h. refl)
+
+-- ---- columns of rows
+
+marks-all : {S : Type 0} (rows : List (Row S)) → list_all (λ mark. mark) (map (λ row. row.1) rows) ≡ list_all (λ row. row.1) rows
+marks-all [] = refl
+marks-all (row ∷ rows) = ap (λ b. row.1 && b) (marks-all rows)
+
+marked : {A S : Type 0} (t : LogicalType) (nothing : A) (rows : List (Row S)) (b : Bool) → list_all (λ (row : Row S). row.1) rows ≡ b
+    → column_with t nothing (map (λ row. row.0) rows) (if b then None else Some (map (λ row. row.1) rows)) ≡ record { data_type = t; around = nothing; rows = rows; held = not b }
+marked t nothing rows true e = column_again t nothing false rows (λ _. e)
+marked t nothing rows false e = column_again t nothing true rows (λ f. cc)
+
+-- stored values and the mask that they need make a column of their rows
+needed : {A S : Type 0} (t : LogicalType) (nothing : A) (held : Bool) (rows : List (Row S)) → (held ≡ false → IsTrue (list_all (λ row. row.1) rows))
+    → column_with t nothing (map (λ row. row.0) rows) (mask_with_nulls (if held then Some (map (λ row. row.1) rows) else None))
+    ≡ record { data_type = t; around = nothing; rows = rows; held = not (list_all (λ row. row.1) rows) }
+needed t nothing false rows h =
+    column_again t nothing false rows h
+    ∙ ap (λ b. record { data_type = t; around = nothing; rows = rows; held = not b }) (sym (h refl))
+needed t nothing true rows h =
+    ap (λ b. column_with t nothing (map (λ row. row.0) rows) (if b then None else Some (map (λ row. row.1) rows))) (marks-all rows)
+    ∙ marked t nothing rows (list_all (λ row. row.1) rows) refl
+
+needed-fits : {S : Type 0} (held : Bool) (rows : List (Row S)) → FitsMask (map (λ row. row.0) rows) (mask_with_nulls (if held then Some (map (λ row. row.1) rows) else None))
+needed-fits false rows = tt
+needed-fits {S} true rows = by_test (list_all (λ mark. mark) (map (λ (row : Row S). row.1) rows))
+  where
+    by_test : (b : Bool) → FitsMask (map (λ row. row.0) rows) (if b then None else Some (map (λ (row : Row S). row.1) rows))
+    by_test true = tt
+    by_test false = length-map rows (λ row. row.1) ∙ sym (length-map rows (λ row. row.0))
+
+mask-where : {S : Type 0} (marks : List Bool) (held : Bool) (rows : List (Row S)) → option_map (where_set marks) (if held then Some (map (λ row. row.1) rows) else None)
+    ≡ (if held then Some (map (λ row. row.1) (where_set marks rows)) else None)
+mask-where marks true rows = ap Some (where-map (λ row. row.1) marks rows)
+mask-where marks false rows = refl
+
+mask-keys : {K S : Type 0} (number : K → ℤ) (keys : List K) (held : Bool) (rows : List (Row S)) → option_map (at_keys number keys) (if held then Some (map (λ row. row.1) rows) else None)
+    ≡ (if held then Some (map (λ row. row.1) (at_keys number keys rows)) else None)
+mask-keys number keys true rows = ap Some (keys-map (λ row. row.1) number keys rows)
+mask-keys number keys false rows = refl
+
+-- what a filter leaves of stored values and of a mask makes the column of what it leaves of rows
+pub column-kept : {A S : Type 0} (nothing : A) (column : ColumnWith A S) (marks : List Bool) → IsColumn column
+    → column_with column.data_type nothing (where_set marks (stored_values column)) (mask_with_nulls (option_map (where_set marks) (mask_of column))) ≡ column_of_rows nothing column (where_set marks column.rows)
+column-kept nothing column marks is_column =
+    ap₂ (λ values mask. column_with column.data_type nothing values (mask_with_nulls mask)) (where-map (λ row. row.0) marks column.rows) (mask-where marks column.held column.rows)
+    ∙ needed column.data_type nothing column.held (where_set marks column.rows) (λ bare. where-valid (λ row. row.1) marks column.rows (is_column bare))
+
+pub fits-kept : {A S : Type 0} (column : ColumnWith A S) (marks : List Bool) → FitsMask (where_set marks (stored_values column)) (mask_with_nulls (option_map (where_set marks) (mask_of column)))
+fits-kept {A} {S} column marks =
+    let P : List S → Option (List Bool) → Type 0 = λ values mask. FitsMask values (mask_with_nulls mask) in
+    subst (λ values. P values (option_map (where_set marks) (mask_of column))) (sym (where-map (λ row. row.0) marks column.rows))
+    (subst (P (map (λ row. row.0) (where_set marks column.rows))) (sym (mask-where marks column.held column.rows)) (needed-fits column.held (where_set marks column.rows)))
+
+-- and so does what keys take
+pub column-taken : {A S K : Type 0} (nothing : A) (column : ColumnWith A S) (number : K → ℤ) (keys : List K) → IsColumn column
+    → column_with column.data_type nothing (at_keys number keys (stored_values column)) (mask_with_nulls (option_map (at_keys number keys) (mask_of column))) ≡ column_of_rows nothing column (at_keys number keys column.rows)
+column-taken nothing column number keys is_column =
+    ap₂ (λ values mask. column_with column.data_type nothing values (mask_with_nulls mask)) (keys-map (λ row. row.0) number keys column.rows) (mask-keys number keys column.held column.rows)
+    ∙ needed column.data_type nothing column.held (at_keys number keys column.rows) (λ bare. keys-valid (λ row. row.1) number keys column.rows (is_column bare))
+
+pub fits-taken : {A S K : Type 0} (column : ColumnWith A S) (number : K → ℤ) (keys : List K) → FitsMask (at_keys number keys (stored_values column)) (mask_with_nulls (option_map (at_keys number keys) (mask_of column)))
+fits-taken {A} {S} column number keys =
+    let P : List S → Option (List Bool) → Type 0 = λ values mask. FitsMask values (mask_with_nulls mask) in
+    subst (λ values. P values (option_map (at_keys number keys) (mask_of column))) (sym (keys-map (λ row. row.0) number keys column.rows))
+    (subst (P (map (λ row. row.0) (at_keys number keys column.rows))) (sym (mask-keys number keys column.held column.rows)) (needed-fits column.held (at_keys number keys column.rows)))
+
+-- ---- what a kernel makes
+
+pub fits-filtered : {A S : Type 0} (column : ColumnWith A S) (filter : Column Bool) (values : List S) (mask : Option (List Bool))
+    → values ≡ where_set (asked filter) (stored_values column) → mask ≡ mask_with_nulls (option_map (where_set (asked filter)) (mask_of column)) → FitsMask values mask
+fits-filtered {A} {S} column filter values mask e m =
+    let P : List S → Option (List Bool) → Type 0 = λ vs o. FitsMask vs o in
+    subst (λ vs. P vs mask) (sym e) (subst (P (where_set (asked filter) (stored_values column))) (sym m) (fits-kept column (asked filter)))
+
+pub makes-filtered : {A S : Type 0} (nothing : A) (column : ColumnWith A S) (filter : Column Bool) (t : LogicalType) (values : List S) (mask : Option (List Bool)) → IsColumn column
+    → t ≡ column.data_type → values ≡ where_set (asked filter) (stored_values column) → mask ≡ mask_with_nulls (option_map (where_set (asked filter)) (mask_of column))
+    → column_with t nothing values mask ≡ filtered nothing column filter
+makes-filtered nothing column filter t values mask is_column same e m =
+    ap (λ u. column_with u nothing values mask) same
+    ∙ ap₂ (column_with column.data_type nothing) e m
+    ∙ column-kept nothing column (asked filter) is_column
+
+pub fits-picked : {A S K : Type 0} (column : ColumnWith A S) (number : K → ℤ) (keys : List K) (values : List S) (mask : Option (List Bool))
+    → values ≡ at_keys number keys (stored_values column) → mask ≡ mask_with_nulls (option_map (at_keys number keys) (mask_of column)) → FitsMask values mask
+fits-picked {A} {S} column number keys values mask e m =
+    let P : List S → Option (List Bool) → Type 0 = λ vs o. FitsMask vs o in
+    subst (λ vs. P vs mask) (sym e) (subst (P (at_keys number keys (stored_values column))) (sym m) (fits-taken column number keys))
+
+pub makes-taken : {A S K : Type 0} (nothing : A) (column : ColumnWith A S) (number : K → ℤ) (keys : List K) (t : LogicalType) (values : List S) (mask : Option (List Bool)) → IsColumn column
+    → t ≡ column.data_type → values ≡ at_keys number keys (stored_values column) → mask ≡ mask_with_nulls (option_map (at_keys number keys) (mask_of column))
+    → column_with t nothing values mask ≡ taken nothing number column keys
+makes-taken nothing column number keys t values mask is_column same e m =
+    ap (λ u. column_with u nothing values mask) same
+    ∙ ap₂ (column_with column.data_type nothing) e m
+    ∙ column-taken nothing column number keys is_column
+
+-- ---- keys
+
+-- where a key is refused, not every key tells a place
+pub not-astray : {A S K X E : Type 0} (column : ColumnWith A S) (number : K → ℤ) (keys : List K) (n : ℕ) (P : K → Type 0) (Q : E → Type 0) (r : Result X E) → n ≡ length column.rows
+    → MatchOption (find (λ key. not (is_place n (number key))) keys) (false ≡ true) P → IfErr r (λ e. first_astray number column keys ≡ None → Q e)
+not-astray column number keys n P Q (Ok x) same refused = tt
+not-astray column number keys n P Q (Err e) same refused = λ none. absurd (false≢true (MatchOption-at_none (false ≡ true) P (ap (λ k. find (λ key. not (is_place k (number key))) keys) same ∙ none) refused))
+
+weaker : (o : Option ℕ) (m n k : ℕ) → m + k ≤ n → IsSomeAnd o (λ index. index < m) → IsSomeAnd o (λ index. index + k < n)
+weaker None m n k le h = h
+weaker (Some i) m n k le h = omega (arith, le, h)
+
+-- the places of keys, so many further
+pub keys-below : {K : Type 0} (number : K → ℤ) (keys : List K) (m n k : ℕ) → m + k ≤ n → All (λ key. IsSomeAnd (index_of (number key)) (λ index. index < m)) keys
+    → All (λ key. IsSomeAnd (index_of (number key)) (λ index. index + k < n)) keys
+keys-below number keys m n k le all =
+    All-weaker (λ key. IsSomeAnd (index_of (number key)) (λ index. index < m)) (λ key. IsSomeAnd (index_of (number key)) (λ index. index + k < n)) (λ key h. weaker (index_of (number key)) m n k le h) keys all
+
+marks-below : {A S K : Type 0} (column : ColumnWith A S) (number : K → ℤ) (keys : List K) (held : Bool) → All (λ key. IsSomeAnd (index_of (number key)) (λ index. index < length column.rows)) keys
+    → IfSome (if held then Some (map (λ row. row.1) column.rows) else None) (λ marks. All (λ key. IsSomeAnd (index_of (number key)) (λ index. index < length marks)) keys)
+marks-below column number keys true all = subst (λ n. All (λ key. IsSomeAnd (index_of (number key)) (λ index. index < n)) keys) (sym (length-map column.rows (λ row. row.1))) all
+marks-below column number keys false all = tt
+
+-- keys that tell places of rows tell places of marks
+pub mask-below : {A S K : Type 0} (column : ColumnWith A S) (number : K → ℤ) (keys : List K) (mask : Option (List Bool)) → mask ≡ mask_of column
+    → All (λ key. IsSomeAnd (index_of (number key)) (λ index. index < length column.rows)) keys
+    → IfSome mask (λ marks. All (λ key. IsSomeAnd (index_of (number key)) (λ index. index < length marks)) keys)
+mask-below column number keys mask same all =
+    subst (λ o. IfSome o (λ marks. All (λ key. IsSomeAnd (index_of (number key)) (λ index. index < length marks)) keys)) (sym same) (marks-below column number keys column.held all)

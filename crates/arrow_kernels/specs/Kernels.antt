@@ -1,0 +1,45 @@
+-- What kernels make of columns: a column of some of the rows of another, those for which a filter asks, or those at the
+-- places that keys tell.
+use Rattle.std.specs.Prelude.{ℕ, ℤ, Bool, false, not, nat_lt, List, length, map, find, Option, slice_get, option_and_then, unwrap_or}
+use Rattle.std.specs.List.{concat, filter_map, zip}
+use Rattle.arrow_types.specs.IndexKey.{index_of}
+use Rattle.arrow_memory.specs.Column.{Column, ColumnWith, Row, slot, slots_of, stored_values, without_needless_mask}
+use Rattle.arrow_check.specs.Indexes.{is_place}
+use Rattle.arrow_bytes.specs.Column.{ByteColumn}
+
+-- a column of these rows alone, under the type of another: nothing lies around them, and a mask is held exactly where a
+-- slot is null
+abbrev pub column_of_rows : {A S : Type 0} → A → ColumnWith A S → List (Row S) → ColumnWith A S
+column_of_rows nothing column rows = without_needless_mask (record column { around = nothing; rows = rows })
+
+-- those of a list that have a set mark, in order
+abbrev pub where_set : {X : Type 0} → List Bool → List X → List X
+where_set marks xs = filter_map slot (zip xs marks)
+
+-- for which rows a filter asks: those at which its slot is valid and true
+abbrev pub asked : Column Bool → List Bool
+asked filter = map (λ shown. unwrap_or shown false) (slots_of filter)
+
+-- what a filter leaves of a column
+abbrev pub filtered : {A S : Type 0} → A → ColumnWith A S → Column Bool → ColumnWith A S
+filtered nothing column filter = column_of_rows nothing column (where_set (asked filter) column.rows)
+
+-- what stands at the place that a number tells, where it tells one
+abbrev pub at_key : {X : Type 0} → List X → ℤ → Option X
+at_key xs key = option_and_then (slice_get xs) (index_of key)
+
+-- what stands at the places that keys tell, in the order of the keys; number is the number of a key
+abbrev pub at_keys : {K X : Type 0} → (K → ℤ) → List K → List X → List X
+at_keys number keys xs = filter_map (λ key. at_key xs (number key)) keys
+
+-- what keys take of a column: for each key the row at its place
+abbrev pub taken : {A S K : Type 0} → A → (K → ℤ) → ColumnWith A S → List K → ColumnWith A S
+taken nothing number column keys = column_of_rows nothing column (at_keys number keys column.rows)
+
+-- the first key, if there is one, that tells no place of a column's rows
+abbrev pub first_astray : {A S K : Type 0} → (K → ℤ) → ColumnWith A S → List K → Option K
+first_astray number column keys = find (λ key. not (is_place (length column.rows) (number key))) keys
+
+-- whether the items that keys take would end past the greatest number of an offset
+abbrev pub taking_overflows : {K : Type 0} → ℕ → (K → ℤ) → ByteColumn → List K → Bool
+taking_overflows most number column keys = nat_lt most (length (concat (at_keys number keys (stored_values column))))

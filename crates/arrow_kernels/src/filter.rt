@@ -1,0 +1,109 @@
+//! The rows for which a filter asks: those at which its slot is valid and true, in order. Types and stored values stay; the
+//! new array has nothing around its slots, and holds a mask exactly where one of them is null.
+ghost use Rattle.std.specs.Prelude.{◌≡◌, length, IfOk, IfErr};
+ghost use Rattle.arrow_bytes.specs.Pieces.{nothing_around};
+ghost use Rattle.arrow_kernels.specs.Kernels.{filtered};
+
+use crate::asked::asked_rows;
+use crate::keep::{keep_marks, keep_mask, keep_values, kept_pieces};
+use arrow_binary::BinaryArray;
+use arrow_boolean::BooleanArray;
+use arrow_byte_array::ByteArray;
+use arrow_bytes::ByteKind;
+use arrow_memory::buffer::Buffer;
+use arrow_primitive::PrimitiveArray;
+use arrow_types::error::Error;
+use arrow_types::native_type::NativeType;
+use arrow_types::offset::Offset;
+use arrow_utf8::Utf8Array;
+use std::alloc::Global;
+
+/// The slots of native values for which a filter of as many slots asks.
+///
+/// # Errors
+/// `OutOfMemory` where memory is refused.
+pub fn filter_primitive<T: NativeType>(
+    alloc: Global,
+    array: &PrimitiveArray<T>,
+    filter: &BooleanArray,
+) -> Result<PrimitiveArray<T>, Error>
+    requires { length filter.now.rows ≡ length array.now.rows }
+    ensures ok { IfOk result (λ kept. kept ≡ filtered tt array.now filter.now) }
+    ensures err { IfErr result (λ e. e ≡ Error.OutOfMemory) }
+{
+    let asked = asked_rows(alloc, filter)?;
+    let values = keep_values(alloc, array.values().as_slice(), &asked)?;
+    let mask = keep_mask(alloc, array.validity(), &asked)?;
+    let data_type = array.data_type().clone()?;
+    Ok(PrimitiveArray::new(data_type, Buffer::from_vec(values)?, mask))
+}
+
+/// The slots of truth values for which a filter of as many slots asks.
+///
+/// # Errors
+/// `OutOfMemory` where memory is refused.
+pub fn filter_boolean(
+    alloc: Global,
+    array: &BooleanArray,
+    filter: &BooleanArray,
+) -> Result<BooleanArray, Error>
+    requires { length filter.now.rows ≡ length array.now.rows }
+    ensures ok { IfOk result (λ kept. kept ≡ filtered tt array.now filter.now) }
+    ensures err { IfErr result (λ e. e ≡ Error.OutOfMemory) }
+{
+    let asked = asked_rows(alloc, filter)?;
+    let values = keep_marks(alloc, array.values(), &asked)?;
+    let mask = keep_mask(alloc, array.validity(), &asked)?;
+    let data_type = array.data_type().clone()?;
+    Ok(BooleanArray::new(data_type, values.freeze()?, mask))
+}
+
+/// The slots of items of a kind for which a filter of as many slots asks. Nothing is tested: some of the items of a kind
+/// are items of the kind.
+fn filter_items<K: ByteKind, O: Offset>(
+    alloc: Global,
+    array: &ByteArray<K, O>,
+    filter: &BooleanArray,
+) -> Result<ByteArray<K, O>, Error>
+    requires { length filter.now.rows ≡ length array.now.rows }
+    ensures ok { IfOk result (λ kept. kept ≡ filtered nothing_around array.now filter.now) }
+    ensures err { IfErr result (λ e. e ≡ Error.OutOfMemory) }
+{
+    let asked = asked_rows(alloc, filter)?;
+    let (offsets, bytes) = kept_pieces(alloc, array, &asked)?;
+    let mask = keep_mask(alloc, array.validity(), &asked)?;
+    let data_type = array.data_type().clone()?;
+    Ok(ByteArray::new(data_type, offsets, bytes, mask))
+}
+
+/// The slots of bytes for which a filter of as many slots asks.
+///
+/// # Errors
+/// `OutOfMemory` where memory is refused.
+pub fn filter_binary<O: Offset>(
+    alloc: Global,
+    array: &BinaryArray<O>,
+    filter: &BooleanArray,
+) -> Result<BinaryArray<O>, Error>
+    requires { length filter.now.rows ≡ length array.now.rows }
+    ensures ok { IfOk result (λ kept. kept ≡ filtered nothing_around array.now filter.now) }
+    ensures err { IfErr result (λ e. e ≡ Error.OutOfMemory) }
+{
+    filter_items(alloc, array, filter)
+}
+
+/// The slots of text for which a filter of as many slots asks. No text is tested.
+///
+/// # Errors
+/// `OutOfMemory` where memory is refused.
+pub fn filter_utf8<O: Offset>(
+    alloc: Global,
+    array: &Utf8Array<O>,
+    filter: &BooleanArray,
+) -> Result<Utf8Array<O>, Error>
+    requires { length filter.now.rows ≡ length array.now.rows }
+    ensures ok { IfOk result (λ kept. kept ≡ filtered nothing_around array.now filter.now) }
+    ensures err { IfErr result (λ e. e ≡ Error.OutOfMemory) }
+{
+    filter_items(alloc, array, filter)
+}

@@ -1,0 +1,121 @@
+//! What a filter leaves of stored values, of marks and of items: those with a set mark.
+ghost use Rattle.std.specs.Prelude.{◌≡◌, ◌+◌, ◌≤◌, length, option_map, IfOk, IfErr, IfSome};
+ghost use Rattle.std.specs.List.{concat};
+ghost use Rattle.std.specs.Option.{option_copied};
+ghost use Rattle.arrow_memory.specs.Column.{mask_with_nulls, stored_values};
+ghost use Rattle.arrow_memory.specs.Offsets.{last_of};
+ghost use Rattle.arrow_check.specs.Pieces.{items_of, offsets_of};
+ghost use Rattle.arrow_bytes.specs.Kinds.{CutItems};
+ghost use Rattle.arrow_bytes.specs.Pieces.{around_of, nothing_around};
+ghost use Rattle.arrow_kernels.specs.Kernels.{where_set};
+
+use crate::mask::needed_mask;
+use crate::pieces::item_at;
+use arrow_byte_array::ByteArray;
+use arrow_bytes::ByteKind;
+use arrow_memory::bitmap::{Bitmap, MutableBitmap};
+use arrow_memory::buffer::Buffer;
+use arrow_memory::offset::{Offsets, OffsetsBuffer};
+use arrow_types::error::Error;
+use arrow_types::native_type::NativeType;
+use arrow_types::offset::Offset;
+use std::alloc::Global;
+
+/// The values that are asked for.
+pub(crate) fn keep_values<T: NativeType>(
+    alloc: Global,
+    values: &[T],
+    asked: &[bool],
+) -> Result<Vec<T>, Error>
+    requires { length asked.now ≡ length values.now }
+    ensures ok { IfOk result (λ kept. kept.items ≡ where_set asked.now values.now) }
+    ensures err { IfErr result (λ e. e ≡ Error.OutOfMemory) }
+{
+    let mut kept = Vec::new(alloc);
+    for (i, is_asked) in asked.iter().enumerate() {
+        if *is_asked {
+            kept.push(values[i])?;
+        }
+    }
+    Ok(kept)
+}
+
+/// The marks that are asked for.
+pub(crate) fn keep_marks(
+    alloc: Global,
+    marks: &Bitmap,
+    asked: &[bool],
+) -> Result<MutableBitmap, Error>
+    requires { length asked.now ≡ length marks.now }
+    ensures ok { IfOk result (λ kept. kept ≡ where_set asked.now marks.now) }
+    ensures err { IfErr result (λ e. e ≡ Error.OutOfMemory) }
+{
+    let mut kept = MutableBitmap::new(alloc);
+    for (i, is_asked) in asked.iter().enumerate() {
+        if *is_asked {
+            kept.push(marks.get_bit(i))?;
+        }
+    }
+    Ok(kept)
+}
+
+/// The mask of the rows that are asked for, which is held only where one of them is null.
+pub(crate) fn keep_mask(
+    alloc: Global,
+    validity: Option<&Bitmap>,
+    asked: &[bool],
+) -> Result<Option<Bitmap>, Error>
+    requires { IfSome (option_copied validity) (λ marks. length asked.now ≡ length marks) }
+    ensures ok { IfOk result (λ mask. mask ≡ mask_with_nulls (option_map (where_set asked.now) (option_copied validity.entry))) }
+    ensures err { IfErr result (λ e. e ≡ Error.OutOfMemory) }
+{
+    match validity {
+        None => Ok(None),
+        Some(marks) => needed_mask(keep_marks(alloc, marks, asked)?),
+    }
+}
+
+/// The items that are asked for, as offsets and bytes of their own.
+pub(crate) fn keep_items<O: Offset>(
+    alloc: Global,
+    offsets: &OffsetsBuffer<O>,
+    bytes: &[u8],
+    asked: &[bool],
+) -> Result<(Offsets<O>, Vec<u8>), Error>
+    requires count { length asked.now + 1 ≡ length offsets.now }
+    requires within { last_of offsets.now ≤ length bytes.now }
+    ensures offsets { IfOk result (λ kept. kept.0 ≡ offsets_of 0 (where_set asked.now (items_of offsets.now bytes.now))) }
+    ensures bytes { IfOk result (λ kept. kept.1.items ≡ concat (where_set asked.now (items_of offsets.now bytes.now))) }
+    ensures err { IfErr result (λ e. e ≡ Error.OutOfMemory) }
+{
+    let mut kept = Offsets::new(alloc)?;
+    let mut kept_bytes = Vec::new(alloc);
+    for (i, is_asked) in asked.iter().enumerate() {
+        if *is_asked {
+            let item = item_at(offsets, bytes, i);
+            // Some items of an array never end past what its offsets can tell, so it is memory that is refused.
+            match kept.try_push_item(&mut kept_bytes, item) {
+                Ok(()) => {}
+                Err(_) => return Err(Error::OutOfMemory),
+            }
+        }
+    }
+    Ok((kept, kept_bytes))
+}
+
+/// The items of an array that are asked for, as offsets and bytes of their own.
+pub(crate) fn kept_pieces<K: ByteKind, O: Offset>(
+    alloc: Global,
+    array: &ByteArray<K, O>,
+    asked: &[bool],
+) -> Result<(OffsetsBuffer<O>, Buffer<u8>), Error>
+    requires { length asked.now ≡ length array.now.rows }
+    ensures cut { IfOk result (λ kept. CutItems K.is_text kept.0 kept.1) }
+    ensures around { IfOk result (λ kept. around_of kept.0 kept.1 ≡ nothing_around) }
+    ensures items { IfOk result (λ kept. items_of kept.0 kept.1 ≡ where_set asked.now (stored_values array.now)) }
+    ensures err { IfErr result (λ e. e ≡ Error.OutOfMemory) }
+{
+    let (offsets, bytes) = keep_items(alloc, array.offsets(), array.values().as_slice(), asked)?;
+    let offsets = offsets.freeze()?;
+    Ok((offsets, Buffer::from_vec(bytes)?))
+}

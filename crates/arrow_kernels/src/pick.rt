@@ -1,0 +1,173 @@
+//! What keys take of stored values, of marks and of items: for each key what stands at its place.
+ghost use Rattle.std.specs.Prelude.{◌≡◌, ◌+◌, ◌<◌, ◌≤◌, false, true, length, option_map, All, Some, IfOk, IfErr, IfSome, IsSomeAnd, OnOk};
+ghost use Rattle.std.specs.List.{concat};
+ghost use Rattle.std.specs.Option.{option_copied};
+ghost use Rattle.arrow_types.specs.IndexKey.{index_of};
+ghost use Rattle.arrow_memory.specs.Column.{mask_with_nulls, stored_values};
+ghost use Rattle.arrow_memory.specs.Offsets.{last_of};
+ghost use Rattle.arrow_check.specs.Pieces.{items_of, offsets_of};
+ghost use Rattle.arrow_bytes.specs.Kinds.{CutItems};
+ghost use Rattle.arrow_bytes.specs.Pieces.{around_of, nothing_around};
+ghost use Rattle.arrow_kernels.specs.Kernels.{at_keys, taking_overflows};
+
+use crate::mask::needed_mask;
+use crate::pieces::item_at;
+use arrow_byte_array::ByteArray;
+use arrow_bytes::ByteKind;
+use arrow_memory::bitmap::{Bitmap, MutableBitmap};
+use arrow_memory::buffer::Buffer;
+use arrow_memory::offset::{Offsets, OffsetsBuffer};
+use arrow_types::error::Error;
+use arrow_types::index_key::IndexKey;
+use arrow_types::native_type::NativeType;
+use arrow_types::offset::Offset;
+use std::alloc::Global;
+
+/// The place that a key tells.
+#[inline(always)]
+fn place_of<K: IndexKey>(key: &K, len: usize) -> usize
+    requires { IsSomeAnd (index_of (K.number key.now)) (λ index. index < len) }
+    ensures place { index_of (K.number key.now) ≡ Some result }
+    ensures within { result < len }
+{
+    match key.to_index() {
+        Some(index) => index,
+        None => unreachable!(),
+    }
+}
+
+/// The values at the keys' places.
+pub(crate) fn pick_values<T: NativeType, K: IndexKey>(
+    alloc: Global,
+    values: &[T],
+    keys: &[K],
+) -> Result<Vec<T>, Error>
+    requires { All (λ key. IsSomeAnd (index_of (K.number key)) (λ index. index < length values.now)) keys.now }
+    ensures ok { IfOk result (λ picked. picked.items ≡ at_keys K.number keys.now values.now) }
+    ensures err { IfErr result (λ e. e ≡ Error.OutOfMemory) }
+{
+    let mut picked = Vec::with_capacity(alloc, keys.len())?;
+    for key in keys {
+        picked.push(values[place_of(key, values.len())])?;
+    }
+    Ok(picked)
+}
+
+/// The marks at the keys' places.
+pub(crate) fn pick_marks<K: IndexKey>(
+    alloc: Global,
+    marks: &Bitmap,
+    keys: &[K],
+) -> Result<MutableBitmap, Error>
+    requires { All (λ key. IsSomeAnd (index_of (K.number key)) (λ index. index < length marks.now)) keys.now }
+    ensures ok { IfOk result (λ picked. picked ≡ at_keys K.number keys.now marks.now) }
+    ensures err { IfErr result (λ e. e ≡ Error.OutOfMemory) }
+{
+    let mut picked = MutableBitmap::with_capacity(alloc, keys.len())?;
+    for key in keys {
+        picked.push(marks.get_bit(place_of(key, marks.len())))?;
+    }
+    Ok(picked)
+}
+
+/// The mask of the rows at the keys' places, which is held only where one of them is null.
+pub(crate) fn pick_mask<K: IndexKey>(
+    alloc: Global,
+    validity: Option<&Bitmap>,
+    keys: &[K],
+) -> Result<Option<Bitmap>, Error>
+    requires { IfSome (option_copied validity) (λ marks. All (λ key. IsSomeAnd (index_of (K.number key)) (λ index. index < length marks)) keys.now) }
+    ensures ok { IfOk result (λ mask. mask ≡ mask_with_nulls (option_map (at_keys K.number keys.now) (option_copied validity.entry))) }
+    ensures err { IfErr result (λ e. e ≡ Error.OutOfMemory) }
+{
+    match validity {
+        None => Ok(None),
+        Some(marks) => needed_mask(pick_marks(alloc, marks, keys)?),
+    }
+}
+
+/// How many bytes the items at the keys' places have together.
+fn picked_length<O: Offset, K: IndexKey>(
+    offsets: &OffsetsBuffer<O>,
+    bytes: &[u8],
+    keys: &[K],
+) -> Result<usize, Error>
+    requires keys { All (λ key. IsSomeAnd (index_of (K.number key)) (λ index. index + 1 < length offsets.now)) keys.now }
+    requires within { last_of offsets.now ≤ length bytes.now }
+    ensures ok { IfOk result (λ total. (total ≤ O.most) × (total ≡ length (concat (at_keys K.number keys.now (items_of offsets.now bytes.now))))) }
+    ensures err { IfErr result (λ e. (e ≡ Error.Overflow) × (O.most < length (concat (at_keys K.number keys.now (items_of offsets.now bytes.now))))) }
+{
+    let most = O::max().to_usize();
+    let mut total = 0;
+    for key in keys {
+        let item = item_at(offsets, bytes, place_of(key, offsets.len_proxy()));
+        if item.len() > most - total {
+            return Err(Error::Overflow);
+        }
+        total += item.len();
+    }
+    Ok(total)
+}
+
+/// How many bytes the items of an array have together at the places of keys, each of which tells one.
+///
+/// # Errors
+/// `Overflow` where they have more than an offset can tell.
+pub(crate) fn items_length<K: ByteKind, O: Offset, I: IndexKey>(
+    array: &ByteArray<K, O>,
+    keys: &[I],
+) -> Result<usize, Error>
+    requires { All (λ key. IsSomeAnd (index_of (I.number key)) (λ index. index < length array.now.rows)) keys.now }
+    ensures ok { OnOk result (taking_overflows O.most I.number array.now keys.now ≡ false) }
+    ensures err { IfErr result (λ e. (e ≡ Error.Overflow) × (taking_overflows O.most I.number array.now keys.now ≡ true)) }
+{
+    picked_length(array.offsets(), array.values().as_slice(), keys)
+}
+
+/// The items at the keys' places, as offsets and bytes of their own. Together they end at what an offset can tell; so many
+/// bytes are made room for.
+fn pick_items<O: Offset, K: IndexKey>(
+    alloc: Global,
+    offsets: &OffsetsBuffer<O>,
+    bytes: &[u8],
+    keys: &[K],
+    room: usize,
+) -> Result<(Offsets<O>, Vec<u8>), Error>
+    requires keys { All (λ key. IsSomeAnd (index_of (K.number key)) (λ index. index + 1 < length offsets.now)) keys.now }
+    requires within { last_of offsets.now ≤ length bytes.now }
+    ensures offsets { IfOk result (λ picked. picked.0 ≡ offsets_of 0 (at_keys K.number keys.now (items_of offsets.now bytes.now))) }
+    ensures bytes { IfOk result (λ picked. picked.1.items ≡ concat (at_keys K.number keys.now (items_of offsets.now bytes.now))) }
+    ensures err { IfErr result (λ e. e ≡ Error.OutOfMemory) }
+{
+    let mut picked = Offsets::with_capacity(alloc, keys.len())?;
+    let mut picked_bytes = Vec::with_capacity(alloc, room)?;
+    for key in keys {
+        let item = item_at(offsets, bytes, place_of(key, offsets.len_proxy()));
+        // No item ends past what an offset can tell, so it is memory that is refused.
+        match picked.try_push_item(&mut picked_bytes, item) {
+            Ok(()) => {}
+            Err(_) => return Err(Error::OutOfMemory),
+        }
+    }
+    Ok((picked, picked_bytes))
+}
+
+/// The items of an array at the places of keys, each of which tells one, as offsets and bytes of their own. Together they end
+/// at what an offset can tell; so many bytes are made room for.
+pub(crate) fn picked_pieces<K: ByteKind, O: Offset, I: IndexKey>(
+    alloc: Global,
+    array: &ByteArray<K, O>,
+    keys: &[I],
+    room: usize,
+) -> Result<(OffsetsBuffer<O>, Buffer<u8>), Error>
+    requires { All (λ key. IsSomeAnd (index_of (I.number key)) (λ index. index < length array.now.rows)) keys.now }
+    ensures cut { IfOk result (λ picked. CutItems K.is_text picked.0 picked.1) }
+    ensures around { IfOk result (λ picked. around_of picked.0 picked.1 ≡ nothing_around) }
+    ensures items { IfOk result (λ picked. items_of picked.0 picked.1 ≡ at_keys I.number keys.now (stored_values array.now)) }
+    ensures err { IfErr result (λ e. e ≡ Error.OutOfMemory) }
+{
+    let bytes = array.values().as_slice();
+    let (offsets, bytes) = pick_items(alloc, array.offsets(), bytes, keys, room)?;
+    let offsets = offsets.freeze()?;
+    Ok((offsets, Buffer::from_vec(bytes)?))
+}

@@ -1,0 +1,135 @@
+//! The rows at the places that keys tell, in the order of the keys. Types and stored values stay; the new array has nothing
+//! around its slots, and holds a mask exactly where one of them is null. All keys are looked at, and the lengths of all
+//! items, before memory is asked for.
+ghost use Rattle.std.specs.Prelude.{◌≡◌, ◌<◌, ⊤, false, length, All, None, IfOk, IfErr, IsErrAnd, IsSomeAnd, MatchOption};
+ghost use Rattle.arrow_types.specs.IndexKey.{index_of};
+ghost use Rattle.arrow_types.specs.Types.{refusal};
+ghost use Rattle.arrow_memory.specs.Column.{refused_growth};
+ghost use Rattle.arrow_check.specs.Indexes.{key_refusal};
+ghost use Rattle.arrow_bytes.specs.Pieces.{nothing_around};
+ghost use Rattle.arrow_kernels.specs.Kernels.{first_astray, taken, taking_overflows};
+
+use crate::pick::{items_length, pick_marks, pick_mask, pick_values, picked_pieces};
+use arrow_binary::BinaryArray;
+use arrow_boolean::BooleanArray;
+use arrow_byte_array::ByteArray;
+use arrow_bytes::ByteKind;
+use arrow_check::indexes::check_indexes;
+use arrow_memory::buffer::Buffer;
+use arrow_primitive::PrimitiveArray;
+use arrow_types::error::Error;
+use arrow_types::index_key::IndexKey;
+use arrow_types::native_type::NativeType;
+use arrow_types::offset::Offset;
+use arrow_utf8::Utf8Array;
+use std::alloc::Global;
+
+/// The slots of native values at the keys' places.
+///
+/// # Errors
+/// `OutOfSpec` with the fault of the first key that tells no place: it is negative or doesn't fit in a `usize`, or else it is
+/// not below the number of slots. `OutOfMemory` where memory is refused.
+pub fn take_primitive<T: NativeType, K: IndexKey>(
+    alloc: Global,
+    array: &PrimitiveArray<T>,
+    keys: &[K],
+) -> Result<PrimitiveArray<T>, Error>
+    ensures astray { MatchOption (first_astray K.number array.now keys.now) ⊤ (λ key. IsErrAnd result (λ e. refusal e ≡ key_refusal (K.number key))) }
+    ensures ok { IfOk result (λ made. made ≡ taken tt K.number array.now keys.now) }
+    ensures err { IfErr result (λ e. first_astray K.number array.now keys.now ≡ None → e ≡ Error.OutOfMemory) }
+{
+    let stored = array.values().as_slice();
+    check_indexes(keys, stored.len())?;
+    let values = pick_values(alloc, stored, keys)?;
+    let mask = pick_mask(alloc, array.validity(), keys)?;
+    let data_type = array.data_type().clone()?;
+    Ok(PrimitiveArray::new(data_type, Buffer::from_vec(values)?, mask))
+}
+
+/// The slots of truth values at the keys' places.
+///
+/// # Errors
+/// `OutOfSpec` with the fault of the first key that tells no place: it is negative or doesn't fit in a `usize`, or else it is
+/// not below the number of slots. `OutOfMemory` where memory is refused.
+pub fn take_boolean<K: IndexKey>(
+    alloc: Global,
+    array: &BooleanArray,
+    keys: &[K],
+) -> Result<BooleanArray, Error>
+    ensures astray { MatchOption (first_astray K.number array.now keys.now) ⊤ (λ key. IsErrAnd result (λ e. refusal e ≡ key_refusal (K.number key))) }
+    ensures ok { IfOk result (λ made. made ≡ taken tt K.number array.now keys.now) }
+    ensures err { IfErr result (λ e. first_astray K.number array.now keys.now ≡ None → e ≡ Error.OutOfMemory) }
+{
+    check_indexes(keys, array.len())?;
+    let values = pick_marks(alloc, array.values(), keys)?;
+    let mask = pick_mask(alloc, array.validity(), keys)?;
+    let data_type = array.data_type().clone()?;
+    Ok(BooleanArray::new(data_type, values.freeze()?, mask))
+}
+
+/// The slots of items of a kind at the places of keys, each of which tells one. Nothing is tested: some of the items of a
+/// kind are items of the kind. So many bytes are made room for.
+fn taken_items<K: ByteKind, O: Offset, I: IndexKey>(
+    alloc: Global,
+    array: &ByteArray<K, O>,
+    keys: &[I],
+    room: usize,
+) -> Result<ByteArray<K, O>, Error>
+    requires { All (λ key. IsSomeAnd (index_of (I.number key)) (λ index. index < length array.now.rows)) keys.now }
+    ensures ok { IfOk result (λ made. made ≡ taken nothing_around I.number array.now keys.now) }
+    ensures err { IfErr result (λ e. e ≡ Error.OutOfMemory) }
+{
+    let (offsets, bytes) = picked_pieces(alloc, array, keys, room)?;
+    let mask = pick_mask(alloc, array.validity(), keys)?;
+    let data_type = array.data_type().clone()?;
+    Ok(ByteArray::new(data_type, offsets, bytes, mask))
+}
+
+/// The slots of items of a kind at the keys' places.
+fn take_items<K: ByteKind, O: Offset, I: IndexKey>(
+    alloc: Global,
+    array: &ByteArray<K, O>,
+    keys: &[I],
+) -> Result<ByteArray<K, O>, Error>
+    ensures astray { MatchOption (first_astray I.number array.now keys.now) ⊤ (λ key. IsErrAnd result (λ e. refusal e ≡ key_refusal (I.number key))) }
+    ensures ok { IfOk result (λ made. (taking_overflows O.most I.number array.now keys.now ≡ false) × (made ≡ taken nothing_around I.number array.now keys.now)) }
+    ensures err { IfErr result (λ e. first_astray I.number array.now keys.now ≡ None → e ≡ refused_growth (taking_overflows O.most I.number array.now keys.now)) }
+{
+    check_indexes(keys, array.len())?;
+    let room = items_length(array, keys)?;
+    taken_items(alloc, array, keys, room)
+}
+
+/// The slots of bytes at the keys' places.
+///
+/// # Errors
+/// `OutOfSpec` with the fault of the first key that tells no place: it is negative or doesn't fit in a `usize`, or else it is
+/// not below the number of slots. Or else `Overflow` where the items together have more bytes than an offset can tell.
+/// `OutOfMemory` where memory is refused.
+pub fn take_binary<O: Offset, K: IndexKey>(
+    alloc: Global,
+    array: &BinaryArray<O>,
+    keys: &[K],
+) -> Result<BinaryArray<O>, Error>
+    ensures astray { MatchOption (first_astray K.number array.now keys.now) ⊤ (λ key. IsErrAnd result (λ e. refusal e ≡ key_refusal (K.number key))) }
+    ensures ok { IfOk result (λ made. (taking_overflows O.most K.number array.now keys.now ≡ false) × (made ≡ taken nothing_around K.number array.now keys.now)) }
+    ensures err { IfErr result (λ e. first_astray K.number array.now keys.now ≡ None → e ≡ refused_growth (taking_overflows O.most K.number array.now keys.now)) }
+{
+    take_items(alloc, array, keys)
+}
+
+/// The slots of text at the keys' places. No text is tested.
+///
+/// # Errors
+/// As of [`take_binary`].
+pub fn take_utf8<O: Offset, K: IndexKey>(
+    alloc: Global,
+    array: &Utf8Array<O>,
+    keys: &[K],
+) -> Result<Utf8Array<O>, Error>
+    ensures astray { MatchOption (first_astray K.number array.now keys.now) ⊤ (λ key. IsErrAnd result (λ e. refusal e ≡ key_refusal (K.number key))) }
+    ensures ok { IfOk result (λ made. (taking_overflows O.most K.number array.now keys.now ≡ false) × (made ≡ taken nothing_around K.number array.now keys.now)) }
+    ensures err { IfErr result (λ e. first_astray K.number array.now keys.now ≡ None → e ≡ refused_growth (taking_overflows O.most K.number array.now keys.now)) }
+{
+    take_items(alloc, array, keys)
+}
