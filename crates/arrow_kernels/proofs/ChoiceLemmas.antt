@@ -11,7 +11,7 @@ use Rattle.std.proofs.lemmas.Option.{MatchOption-at_none, get_or_from_slice_get,
 use Rattle.arrow_types.specs.Types.{LogicalType}
 use Rattle.arrow_types.specs.IndexKey.{index_of}
 use Rattle.arrow_memory.specs.Column.{Column, ColumnWith, FitsMask, IsColumn, Row, column_with, mask_of, mask_with_nulls, slot, slots_of, stored_values}
-use Rattle.arrow_memory.proofs.ColumnLemmas.{column_again}
+use Rattle.arrow_memory.proofs.ColumnLemmas.{column_again, slots_valid, valid_by_held}
 use Rattle.arrow_check.specs.Indexes.{is_place}
 use Rattle.arrow_kernels.specs.Kernels.{asked, at_key, at_keys, column_of_rows, filtered, first_astray, taken, where_set}
 
@@ -157,6 +157,47 @@ all-by-count (true ∷ marks) =
 all-by-count (false ∷ marks) =
     let same : count_by not (false ∷ marks) ≡ 1 + count_by not marks = sum_by-cons (λ m. cond (not m) 1 0) false marks in
     (λ e. absurd (omega arith), λ h. refl)
+
+count-le : (marks : List Bool) → count_by not marks ≤ length marks
+count-le [] = omega arith
+count-le (true ∷ marks) =
+    let same : count_by not (true ∷ marks) ≡ 0 + count_by not marks = sum_by-cons (λ m. cond (not m) 1 0) true marks in
+    omega (arith, same, count-le marks)
+count-le (false ∷ marks) =
+    let same : count_by not (false ∷ marks) ≡ 1 + count_by not marks = sum_by-cons (λ m. cond (not m) 1 0) false marks in
+    omega (arith, same, count-le marks)
+
+each-set : {X : Type 0} (marks : List Bool) (xs : List X) → list_all (λ mark. mark) marks ≡ true → length marks ≡ length xs → where_set marks xs ≡ xs
+each-set [] [] all long = refl
+each-set [] (x ∷ xs) all long = cc
+each-set (m ∷ marks) [] all long = cc
+each-set (true ∷ marks) (x ∷ xs) all long = ap (λ rest. x ∷ rest) (each-set marks xs all (let e : length marks ≡ length xs = omega (arith, long) in e))
+each-set (false ∷ marks) (x ∷ xs) all long = cc
+
+-- as many values as marks, none of which is clear
+pub where-full : {X : Type 0} (marks : List Bool) (xs : List X) → count_by not marks ≡ 0 → length marks ≡ length xs → where_set marks xs ≡ xs
+where-full marks xs none long = each-set marks xs ((all-by-count marks).0 none) long
+
+-- each mark is clear
+pub where-none : {X : Type 0} (marks : List Bool) (xs : List X) → count_by not marks ≡ length marks → where_set marks xs ≡ []
+where-none marks [] all = refl
+where-none [] (x ∷ xs) all = refl
+where-none (true ∷ marks) (x ∷ xs) all =
+    let same : count_by not (true ∷ marks) ≡ 0 + count_by not marks = sum_by-cons (λ m. cond (not m) 1 0) true marks in
+    absurd (omega (arith, same, all, count-le marks))
+where-none (false ∷ marks) (x ∷ xs) all =
+    let same : count_by not (false ∷ marks) ≡ 1 + count_by not marks = sum_by-cons (λ m. cond (not m) 1 0) false marks in
+    where-none marks xs (omega (arith, same, all))
+
+shown-values : (values : List Bool) → map (λ shown. unwrap_or shown false) (map Some values) ≡ values
+shown-values [] = refl
+shown-values (x ∷ values) = ap (λ rest. x ∷ rest) (shown-values values)
+
+-- a filter without a mask asks by its values
+pub bare-asked : (filter : Column Bool) → IsColumn filter → mask_of filter ≡ None → asked filter ≡ stored_values filter
+bare-asked filter is_column bare =
+    ap (map (λ shown. unwrap_or shown false)) (slots_valid filter.rows (valid_by_held filter.held filter.rows is_column bare))
+    ∙ shown-values (stored_values filter)
 
 -- ---- columns of rows
 

@@ -55,7 +55,7 @@ pub fn filter_boolean(
     let values = keep_marks(alloc, array.values(), &asked)?;
     let mask = keep_mask(alloc, array.validity(), &asked)?;
     let data_type = array.data_type().clone()?;
-    Ok(BooleanArray::new(data_type, values.freeze()?, mask))
+    Ok(BooleanArray::new(data_type, values, mask))
 }
 
 /// The slots of items of a kind for which a filter of as many slots asks. Nothing is tested: some of the items of a kind

@@ -21,49 +21,81 @@ use arrow_types::native_type::NativeType;
 use arrow_types::offset::Offset;
 use std::alloc::Global;
 
-/// The values that are asked for.
-pub(crate) fn keep_values<T: NativeType>(
+/// The values that are asked for, one by one.
+fn keep_each_value<T: NativeType>(
     alloc: Global,
     values: &[T],
-    asked: &[bool],
+    asked: &Bitmap,
 ) -> Result<Vec<T>, Error>
     requires { length asked.now ≡ length values.now }
     ensures ok { IfOk result (λ kept. kept.items ≡ where_set asked.now values.now) }
     ensures err { IfErr result (λ e. e ≡ Error.OutOfMemory) }
 {
-    let mut kept = Vec::new(alloc);
-    for (i, is_asked) in asked.iter().enumerate() {
-        if *is_asked {
+    let mut kept = Vec::with_capacity(alloc, asked.len() - asked.unset_bits())?;
+    for i in 0..asked.len() {
+        if asked.get_bit(i) {
             kept.push(values[i])?;
         }
     }
     Ok(kept)
 }
 
-/// The marks that are asked for.
-pub(crate) fn keep_marks(
+/// The values that are asked for.
+pub(crate) fn keep_values<T: NativeType>(
     alloc: Global,
-    marks: &Bitmap,
-    asked: &[bool],
-) -> Result<MutableBitmap, Error>
+    values: &[T],
+    asked: &Bitmap,
+) -> Result<Vec<T>, Error>
+    requires { length asked.now ≡ length values.now }
+    ensures ok { IfOk result (λ kept. kept.items ≡ where_set asked.now values.now) }
+    ensures err { IfErr result (λ e. e ≡ Error.OutOfMemory) }
+{
+    if asked.unset_bits() == 0 {
+        let mut all = Vec::new(alloc);
+        all.extend_from_slice(values)?;
+        return Ok(all);
+    }
+    if asked.unset_bits() == asked.len() {
+        return Ok(Vec::new(alloc));
+    }
+    keep_each_value(alloc, values, asked)
+}
+
+/// The marks that are asked for, one by one.
+fn keep_each_mark(alloc: Global, marks: &Bitmap, asked: &Bitmap) -> Result<Bitmap, Error>
     requires { length asked.now ≡ length marks.now }
     ensures ok { IfOk result (λ kept. kept ≡ where_set asked.now marks.now) }
     ensures err { IfErr result (λ e. e ≡ Error.OutOfMemory) }
 {
-    let mut kept = MutableBitmap::new(alloc);
-    for (i, is_asked) in asked.iter().enumerate() {
-        if *is_asked {
+    let mut kept = MutableBitmap::with_capacity(alloc, asked.len() - asked.unset_bits())?;
+    for i in 0..asked.len() {
+        if asked.get_bit(i) {
             kept.push(marks.get_bit(i))?;
         }
     }
-    Ok(kept)
+    kept.freeze()
+}
+
+/// The marks that are asked for.
+pub(crate) fn keep_marks(alloc: Global, marks: &Bitmap, asked: &Bitmap) -> Result<Bitmap, Error>
+    requires { length asked.now ≡ length marks.now }
+    ensures ok { IfOk result (λ kept. kept ≡ where_set asked.now marks.now) }
+    ensures err { IfErr result (λ e. e ≡ Error.OutOfMemory) }
+{
+    if asked.unset_bits() == 0 {
+        return marks.clone();
+    }
+    if asked.unset_bits() == asked.len() {
+        return Bitmap::new(alloc);
+    }
+    keep_each_mark(alloc, marks, asked)
 }
 
 /// The mask of the rows that are asked for, which is held only where one of them is null.
 pub(crate) fn keep_mask(
     alloc: Global,
     validity: Option<&Bitmap>,
-    asked: &[bool],
+    asked: &Bitmap,
 ) -> Result<Option<Bitmap>, Error>
     requires { IfSome (option_copied validity) (λ marks. length asked.now ≡ length marks) }
     ensures ok { IfOk result (λ mask. mask ≡ mask_with_nulls (option_map (where_set asked.now) (option_copied validity.entry))) }
@@ -71,7 +103,7 @@ pub(crate) fn keep_mask(
 {
     match validity {
         None => Ok(None),
-        Some(marks) => needed_mask(keep_marks(alloc, marks, asked)?),
+        Some(marks) => Ok(needed_mask(keep_marks(alloc, marks, asked)?)),
     }
 }
 
@@ -80,7 +112,7 @@ pub(crate) fn keep_items<O: Offset>(
     alloc: Global,
     offsets: &OffsetsBuffer<O>,
     bytes: &[u8],
-    asked: &[bool],
+    asked: &Bitmap,
 ) -> Result<(Offsets<O>, Vec<u8>), Error>
     requires count { length asked.now + 1 ≡ length offsets.now }
     requires within { last_of offsets.now ≤ length bytes.now }
@@ -88,10 +120,10 @@ pub(crate) fn keep_items<O: Offset>(
     ensures bytes { IfOk result (λ kept. kept.1.items ≡ concat (where_set asked.now (items_of offsets.now bytes.now))) }
     ensures err { IfErr result (λ e. e ≡ Error.OutOfMemory) }
 {
-    let mut kept = Offsets::new(alloc)?;
+    let mut kept = Offsets::with_capacity(alloc, asked.len() - asked.unset_bits())?;
     let mut kept_bytes = Vec::new(alloc);
-    for (i, is_asked) in asked.iter().enumerate() {
-        if *is_asked {
+    for i in 0..asked.len() {
+        if asked.get_bit(i) {
             let item = item_at(offsets, bytes, i);
             // Some items of an array never end past what its offsets can tell, so it is memory that is refused.
             match kept.try_push_item(&mut kept_bytes, item) {
@@ -107,7 +139,7 @@ pub(crate) fn keep_items<O: Offset>(
 pub(crate) fn kept_pieces<K: ByteKind, O: Offset>(
     alloc: Global,
     array: &ByteArray<K, O>,
-    asked: &[bool],
+    asked: &Bitmap,
 ) -> Result<(OffsetsBuffer<O>, Buffer<u8>), Error>
     requires { length asked.now ≡ length array.now.rows }
     ensures cut { IfOk result (λ kept. CutItems K.is_text kept.0 kept.1) }
