@@ -1,5 +1,5 @@
 //! For which rows a filter asks.
-ghost use Rattle.std.specs.Prelude.{◌≡◌, IfOk, IfErr};
+ghost use Rattle.std.specs.Prelude.{◌≡◌, ℕ, ◌<◌, ◌≤◌, true, false, length, slice_get, Some, IfOk, IfErr};
 ghost use Rattle.arrow_kernels.specs.Kernels.{asked};
 
 use arrow_boolean::BooleanArray;
@@ -29,4 +29,21 @@ pub(crate) fn asked_rows(alloc: Global, filter: &BooleanArray) -> Result<Bitmap,
         None => filter.values().clone(),
         Some(_) => asked_slots(alloc, filter),
     }
+}
+
+/// The next row that is asked for, from a place on; where there is none, the number of rows.
+#[inline(always)]
+pub(crate) fn next_asked(asked: &Bitmap, from: usize) -> usize
+    requires { from ≤ length asked.now }
+    ensures low { from ≤ result }
+    ensures high { result ≤ length asked.now }
+    ensures clear { (k : ℕ) → from ≤ k → k < result → slice_get asked.now k ≡ Some false }
+    ensures set { result < length asked.now → slice_get asked.now result ≡ Some true }
+{
+    for i in from..asked.len() {
+        if asked.get_bit(i) {
+            return i;
+        }
+    }
+    asked.len()
 }

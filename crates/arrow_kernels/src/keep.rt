@@ -9,6 +9,7 @@ ghost use Rattle.arrow_bytes.specs.Kinds.{CutItems};
 ghost use Rattle.arrow_bytes.specs.Pieces.{around_of, nothing_around};
 ghost use Rattle.arrow_kernels.specs.Kernels.{where_set};
 
+use crate::asked::next_asked;
 use crate::mask::needed_mask;
 use crate::pieces::item_at;
 use arrow_byte_array::ByteArray;
@@ -32,10 +33,10 @@ fn keep_each_value<T: NativeType>(
     ensures err { IfErr result (λ e. e ≡ Error.OutOfMemory) }
 {
     let mut kept = Vec::with_capacity(alloc, asked.len() - asked.unset_bits())?;
-    for i in 0..asked.len() {
-        if asked.get_bit(i) {
-            kept.push(values[i])?;
-        }
+    let mut i = next_asked(asked, 0);
+    while i < asked.len() {
+        kept.push(values[i])?;
+        i = next_asked(asked, i + 1);
     }
     Ok(kept)
 }
@@ -68,10 +69,10 @@ fn keep_each_mark(alloc: Global, marks: &Bitmap, asked: &Bitmap) -> Result<Bitma
     ensures err { IfErr result (λ e. e ≡ Error.OutOfMemory) }
 {
     let mut kept = MutableBitmap::with_capacity(alloc, asked.len() - asked.unset_bits())?;
-    for i in 0..asked.len() {
-        if asked.get_bit(i) {
-            kept.push(marks.get_bit(i))?;
-        }
+    let mut i = next_asked(asked, 0);
+    while i < asked.len() {
+        kept.push(marks.get_bit(i))?;
+        i = next_asked(asked, i + 1);
     }
     kept.freeze()
 }
@@ -122,15 +123,15 @@ pub(crate) fn keep_items<O: Offset>(
 {
     let mut kept = Offsets::with_capacity(alloc, asked.len() - asked.unset_bits())?;
     let mut kept_bytes = Vec::new(alloc);
-    for i in 0..asked.len() {
-        if asked.get_bit(i) {
-            let item = item_at(offsets, bytes, i);
-            // Some items of an array never end past what its offsets can tell, so it is memory that is refused.
-            match kept.try_push_item(&mut kept_bytes, item) {
-                Ok(()) => {}
-                Err(_) => return Err(Error::OutOfMemory),
-            }
+    let mut i = next_asked(asked, 0);
+    while i < asked.len() {
+        let item = item_at(offsets, bytes, i);
+        // Some items of an array never end past what its offsets can tell, so it is memory that is refused.
+        match kept.try_push_item(&mut kept_bytes, item) {
+            Ok(()) => {}
+            Err(_) => return Err(Error::OutOfMemory),
         }
+        i = next_asked(asked, i + 1);
     }
     Ok((kept, kept_bytes))
 }
