@@ -9,7 +9,7 @@ ghost use Rattle.arrow_bytes.specs.Kinds.{CutItems};
 ghost use Rattle.arrow_bytes.specs.Pieces.{around_of, nothing_around};
 ghost use Rattle.arrow_kernels.specs.Kernels.{where_set};
 
-use crate::asked::next_asked;
+use crate::asked::Asked;
 use crate::mask::needed_mask;
 use crate::pieces::item_at;
 use arrow_byte_array::ByteArray;
@@ -26,17 +26,17 @@ use std::alloc::Global;
 fn keep_each_value<T: NativeType>(
     alloc: Global,
     values: &[T],
-    asked: &Bitmap,
+    asked: &Asked,
 ) -> Result<Vec<T>, Error>
     requires { length asked.now ≡ length values.now }
     ensures ok { IfOk result (λ kept. kept.items ≡ where_set asked.now values.now) }
     ensures err { IfErr result (λ e. e ≡ Error.OutOfMemory) }
 {
     let mut kept = Vec::with_capacity(alloc, asked.len() - asked.unset_bits())?;
-    let mut i = next_asked(asked, 0);
+    let mut i = asked.next(0);
     while i < asked.len() {
         kept.push(values[i])?;
-        i = next_asked(asked, i + 1);
+        i = asked.next(i + 1);
     }
     Ok(kept)
 }
@@ -45,7 +45,7 @@ fn keep_each_value<T: NativeType>(
 pub(crate) fn keep_values<T: NativeType>(
     alloc: Global,
     values: &[T],
-    asked: &Bitmap,
+    asked: &Asked,
 ) -> Result<Vec<T>, Error>
     requires { length asked.now ≡ length values.now }
     ensures ok { IfOk result (λ kept. kept.items ≡ where_set asked.now values.now) }
@@ -63,22 +63,22 @@ pub(crate) fn keep_values<T: NativeType>(
 }
 
 /// The marks that are asked for, one by one.
-fn keep_each_mark(alloc: Global, marks: &Bitmap, asked: &Bitmap) -> Result<Bitmap, Error>
+fn keep_each_mark(alloc: Global, marks: &Bitmap, asked: &Asked) -> Result<Bitmap, Error>
     requires { length asked.now ≡ length marks.now }
     ensures ok { IfOk result (λ kept. kept ≡ where_set asked.now marks.now) }
     ensures err { IfErr result (λ e. e ≡ Error.OutOfMemory) }
 {
     let mut kept = MutableBitmap::with_capacity(alloc, asked.len() - asked.unset_bits())?;
-    let mut i = next_asked(asked, 0);
+    let mut i = asked.next(0);
     while i < asked.len() {
         kept.push(marks.get_bit(i))?;
-        i = next_asked(asked, i + 1);
+        i = asked.next(i + 1);
     }
     kept.freeze()
 }
 
 /// The marks that are asked for.
-pub(crate) fn keep_marks(alloc: Global, marks: &Bitmap, asked: &Bitmap) -> Result<Bitmap, Error>
+pub(crate) fn keep_marks(alloc: Global, marks: &Bitmap, asked: &Asked) -> Result<Bitmap, Error>
     requires { length asked.now ≡ length marks.now }
     ensures ok { IfOk result (λ kept. kept ≡ where_set asked.now marks.now) }
     ensures err { IfErr result (λ e. e ≡ Error.OutOfMemory) }
@@ -96,7 +96,7 @@ pub(crate) fn keep_marks(alloc: Global, marks: &Bitmap, asked: &Bitmap) -> Resul
 pub(crate) fn keep_mask(
     alloc: Global,
     validity: Option<&Bitmap>,
-    asked: &Bitmap,
+    asked: &Asked,
 ) -> Result<Option<Bitmap>, Error>
     requires { IfSome (option_copied validity) (λ marks. length asked.now ≡ length marks) }
     ensures ok { IfOk result (λ mask. mask ≡ mask_with_nulls (option_map (where_set asked.now) (option_copied validity.entry))) }
@@ -113,7 +113,7 @@ pub(crate) fn keep_items<O: Offset>(
     alloc: Global,
     offsets: &OffsetsBuffer<O>,
     bytes: &[u8],
-    asked: &Bitmap,
+    asked: &Asked,
 ) -> Result<(Offsets<O>, Vec<u8>), Error>
     requires count { length asked.now + 1 ≡ length offsets.now }
     requires within { last_of offsets.now ≤ length bytes.now }
@@ -123,7 +123,7 @@ pub(crate) fn keep_items<O: Offset>(
 {
     let mut kept = Offsets::with_capacity(alloc, asked.len() - asked.unset_bits())?;
     let mut kept_bytes = Vec::new(alloc);
-    let mut i = next_asked(asked, 0);
+    let mut i = asked.next(0);
     while i < asked.len() {
         let item = item_at(offsets, bytes, i);
         // Some items of an array never end past what its offsets can tell, so it is memory that is refused.
@@ -131,7 +131,7 @@ pub(crate) fn keep_items<O: Offset>(
             Ok(()) => {}
             Err(_) => return Err(Error::OutOfMemory),
         }
-        i = next_asked(asked, i + 1);
+        i = asked.next(i + 1);
     }
     Ok((kept, kept_bytes))
 }
@@ -140,7 +140,7 @@ pub(crate) fn keep_items<O: Offset>(
 pub(crate) fn kept_pieces<K: ByteKind, O: Offset>(
     alloc: Global,
     array: &ByteArray<K, O>,
-    asked: &Bitmap,
+    asked: &Asked,
 ) -> Result<(OffsetsBuffer<O>, Buffer<u8>), Error>
     requires { length asked.now ≡ length array.now.rows }
     ensures cut { IfOk result (λ kept. CutItems K.is_text kept.0 kept.1) }

@@ -6,7 +6,7 @@ abbrev pub invariant-loop-i : goal.invariant-loop-i
 invariant-loop-i l = record {
   within : l.i ≤ length l.asked;
   marked : l.i < length l.asked → slice_get l.asked l.i ≡ Some true;
-  so_far : l.kept ≡ where_set (take l.i l.asked) (take l.i l.marks)
+  so_far : l.kept ≡ where_set (take l.i l.asked) (take l.i l.marks);
 }
 
 abbrev pub decreases-loop-i : goal.decreases-loop-i

@@ -8,9 +8,9 @@ use Rattle.arrow_kernels.proofs.keep.keep_items.Goals as goal
 
 pub loop-i-init : goal.loop-i-init
 loop-i-init g c =
-    let first = c.next_asked-i.ensures in
+    let first = c.next-i.ensures in
     let items = items_of c.args.offsets.now c.args.bytes.now in
-    let none = where-starts c.args.asked.now items c.next_asked-i.result first.clear in
+    let none = where-starts c.args.asked.now items c.next-i.result first.clear in
     record {
       within = first.high;
       marked = first.set;
@@ -24,10 +24,10 @@ loop-i-preserved g c =
     let items = items_of c.args.offsets.now c.args.bytes.now in
     let i = c.loop-i.i in
     let item = c.item_at-item.result.now in
-    let next = c.next_asked-i-in-loop-i.ensures in
+    let next = c.next-i-in-loop-i.ensures in
     let low : c.loop-i.i < length asked = omega (arith, c.loop-i-test.true, c.len-in-loop-i.ensures) in
     let so_far = where_set (take i asked) (take i items) in
-    let more = sym (where-next asked items i c.next_asked-i-in-loop-i.result item (c.loop-i.invariant.marked low) c.item_at-item.ensures next.low next.clear) in
+    let more = sym (where-next asked items i c.next-i-in-loop-i.result item (c.loop-i.invariant.marked low) c.item_at-item.ensures next.low next.clear) in
     let pushed = c.in-Ok.ensures.ok in
     record {
       within = next.high;

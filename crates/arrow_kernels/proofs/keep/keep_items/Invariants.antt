@@ -9,7 +9,7 @@ invariant-loop-i g l = record {
   within : l.i ≤ length l.asked;
   marked : l.i < length l.asked → slice_get l.asked l.i ≡ Some true;
   ends : l.kept ≡ offsets_of 0 (where_set (take l.i l.asked) (take l.i (items_of l.offsets l.bytes)));
-  joined : l.kept_bytes.items ≡ concat (where_set (take l.i l.asked) (take l.i (items_of l.offsets l.bytes)))
+  joined : l.kept_bytes.items ≡ concat (where_set (take l.i l.asked) (take l.i (items_of l.offsets l.bytes)));
 }
 
 abbrev pub decreases-loop-i : goal.decreases-loop-i
