@@ -1,5 +1,5 @@
 -- Lemmas about some of a list: those with a set mark, and those at the places that keys tell.
-use Rattle.std.proofs.Common.{◌≡◌, ℕ, zero, suc, ◌+◌, ◌<◌, ◌≤◌, ℤ, Bool, true, false, ◌&&◌, cond, IsTrue, if◌then◌else◌, List, [], ◌∷◌, ◌++◌, length, map, take, get_or, slice_get, Option, Some, None, option_and_then, option_map, refl, zero-add, sym, subst, ap, ap₂, ◌∙◌, arith}
+use Rattle.std.proofs.Common.{◌≡◌, ℕ, zero, suc, ◌+◌, ◌-◌, ◌<◌, ◌≤◌, ℤ, Bool, true, false, ◌&&◌, cond, IsTrue, if◌then◌else◌, List, [], ◌∷◌, ◌++◌, length, map, take, get_or, slice_get, Option, Some, None, option_and_then, option_map, refl, zero-add, sym, subst, ap, ap₂, ◌∙◌, arith}
 use Rattle.std.specs.Prelude.{not, All, IfErr, IfSome, IsSomeAnd, MatchOption, Result, Ok, Err, count_by, find, unwrap_or}
 use Rattle.std.specs.List.{cons_option, list_all}
 use Rattle.std.proofs.Math.Seq.{take-length}
@@ -11,7 +11,7 @@ use Rattle.std.proofs.lemmas.Option.{MatchOption-at_none, get_or_from_slice_get,
 use Rattle.arrow_types.specs.Types.{LogicalType}
 use Rattle.arrow_types.specs.IndexKey.{index_of}
 use Rattle.arrow_memory.specs.Column.{Column, ColumnWith, FitsMask, IsColumn, Row, column_with, mask_of, mask_with_nulls, slot, slots_of, stored_values}
-use Rattle.arrow_memory.proofs.ColumnLemmas.{column_again}
+use Rattle.arrow_memory.proofs.ColumnLemmas.{column_again, slots_valid, valid_by_held}
 use Rattle.arrow_check.specs.Indexes.{is_place}
 use Rattle.arrow_kernels.specs.Kernels.{asked, at_key, at_keys, column_of_rows, filtered, first_astray, taken, where_set}
 
@@ -47,14 +47,37 @@ where-clear {X} marks xs i e = let next : i + 1 ≡ suc i = omega arith in ap (�
     more (true ∷ marks) (y ∷ xs) (suc i) e = ap (λ rest. y ∷ rest) (more marks xs i e)
     more (false ∷ marks) (y ∷ xs) (suc i) e = more marks xs i e
 
--- the same of a list that grows by what is asked for
-pub where-grown : {X : Type 0} (marks : List Bool) (xs : List X) (i : ℕ) (x : X) (old new : List X) → slice_get marks i ≡ Some true → slice_get xs i ≡ Some x
-    → old ≡ where_set (take i marks) (take i xs) → new ≡ old ++ x ∷ [] → new ≡ where_set (take (i + 1) marks) (take (i + 1) xs)
-where-grown marks xs i x old new e f was pushed = pushed ∙ ap (λ ys. ys ++ x ∷ []) was ∙ sym (where-set marks xs i x e f)
+-- clear marks leave nothing
+pub where-gap : {X : Type 0} (marks : List Bool) (xs : List X) (i d : ℕ) → ((k : ℕ) → i ≤ k → k < i + d → slice_get marks k ≡ Some false)
+    → where_set (take (i + d) marks) (take (i + d) xs) ≡ where_set (take i marks) (take i xs)
+where-gap marks xs i zero clear = let e : i + zero ≡ i = omega arith in ap (λ k. where_set (take k marks) (take k xs)) e
+where-gap marks xs i (suc d) clear =
+    let e : i + suc d ≡ (i + d) + 1 = omega arith in
+    ap (λ k. where_set (take k marks) (take k xs)) e
+    ∙ where-clear marks xs (i + d) (clear (i + d) (omega arith) (omega arith))
+    ∙ where-gap marks xs i d (λ k low high. clear k low (omega arith))
 
-pub where-stays : {X : Type 0} (marks : List Bool) (xs : List X) (i : ℕ) (old new : List X) → slice_get marks i ≡ Some false
-    → old ≡ where_set (take i marks) (take i xs) → new ≡ old → new ≡ where_set (take (i + 1) marks) (take (i + 1) xs)
-where-stays marks xs i old new e was same = same ∙ was ∙ sym (where-clear marks xs i e)
+-- up to the first set mark nothing is left
+pub where-starts : {X : Type 0} (marks : List Bool) (xs : List X) (j : ℕ) → ((k : ℕ) → 0 ≤ k → k < j → slice_get marks k ≡ Some false) → [] ≡ where_set (take j marks) (take j xs)
+where-starts marks xs j clear =
+    let e : 0 + j ≡ j = omega arith in
+    sym (ap (λ k. where_set (take k marks) (take k xs)) (sym e) ∙ where-gap marks xs 0 j (λ k low high. clear k low (omega arith)))
+
+-- the rows up to the next that is asked for
+pub where-next : {X : Type 0} (marks : List Bool) (xs : List X) (i j : ℕ) (x : X) → slice_get marks i ≡ Some true → slice_get xs i ≡ Some x
+    → i + 1 ≤ j → ((k : ℕ) → i + 1 ≤ k → k < j → slice_get marks k ≡ Some false)
+    → where_set (take j marks) (take j xs) ≡ where_set (take i marks) (take i xs) ++ x ∷ []
+where-next marks xs i j x e f up clear =
+    let there : j ≡ (i + 1) + (j - (i + 1)) = omega arith in
+    ap (λ k. where_set (take k marks) (take k xs)) there
+    ∙ where-gap marks xs (i + 1) (j - (i + 1)) (λ k low high. clear k low (omega arith))
+    ∙ where-set marks xs i x e f
+
+-- the same of a list that grows by what is asked for
+pub where-grown : {X : Type 0} (marks : List Bool) (xs : List X) (i j : ℕ) (x : X) (old new : List X) → slice_get marks i ≡ Some true → slice_get xs i ≡ Some x
+    → i + 1 ≤ j → ((k : ℕ) → i + 1 ≤ k → k < j → slice_get marks k ≡ Some false)
+    → old ≡ where_set (take i marks) (take i xs) → new ≡ old ++ x ∷ [] → new ≡ where_set (take j marks) (take j xs)
+where-grown marks xs i j x old new e f up clear was pushed = pushed ∙ ap (λ ys. ys ++ x ∷ []) was ∙ sym (where-next marks xs i j x e f up clear)
 
 -- as many marks as values, all of them
 pub where-all : {X : Type 0} (marks : List Bool) (xs : List X) (n : ℕ) → n ≡ length marks → n ≡ length xs → where_set (take n marks) (take n xs) ≡ where_set marks xs
@@ -157,6 +180,47 @@ all-by-count (true ∷ marks) =
 all-by-count (false ∷ marks) =
     let same : count_by not (false ∷ marks) ≡ 1 + count_by not marks = sum_by-cons (λ m. cond (not m) 1 0) false marks in
     (λ e. absurd (omega arith), λ h. refl)
+
+count-le : (marks : List Bool) → count_by not marks ≤ length marks
+count-le [] = omega arith
+count-le (true ∷ marks) =
+    let same : count_by not (true ∷ marks) ≡ 0 + count_by not marks = sum_by-cons (λ m. cond (not m) 1 0) true marks in
+    omega (arith, same, count-le marks)
+count-le (false ∷ marks) =
+    let same : count_by not (false ∷ marks) ≡ 1 + count_by not marks = sum_by-cons (λ m. cond (not m) 1 0) false marks in
+    omega (arith, same, count-le marks)
+
+each-set : {X : Type 0} (marks : List Bool) (xs : List X) → list_all (λ mark. mark) marks ≡ true → length marks ≡ length xs → where_set marks xs ≡ xs
+each-set [] [] all long = refl
+each-set [] (x ∷ xs) all long = cc
+each-set (m ∷ marks) [] all long = cc
+each-set (true ∷ marks) (x ∷ xs) all long = ap (λ rest. x ∷ rest) (each-set marks xs all (let e : length marks ≡ length xs = omega (arith, long) in e))
+each-set (false ∷ marks) (x ∷ xs) all long = cc
+
+-- as many values as marks, none of which is clear
+pub where-full : {X : Type 0} (marks : List Bool) (xs : List X) → count_by not marks ≡ 0 → length marks ≡ length xs → where_set marks xs ≡ xs
+where-full marks xs none long = each-set marks xs ((all-by-count marks).0 none) long
+
+-- each mark is clear
+pub where-none : {X : Type 0} (marks : List Bool) (xs : List X) → count_by not marks ≡ length marks → where_set marks xs ≡ []
+where-none marks [] all = refl
+where-none [] (x ∷ xs) all = refl
+where-none (true ∷ marks) (x ∷ xs) all =
+    let same : count_by not (true ∷ marks) ≡ 0 + count_by not marks = sum_by-cons (λ m. cond (not m) 1 0) true marks in
+    absurd (omega (arith, same, all, count-le marks))
+where-none (false ∷ marks) (x ∷ xs) all =
+    let same : count_by not (false ∷ marks) ≡ 1 + count_by not marks = sum_by-cons (λ m. cond (not m) 1 0) false marks in
+    where-none marks xs (omega (arith, same, all))
+
+shown-values : (values : List Bool) → map (λ shown. unwrap_or shown false) (map Some values) ≡ values
+shown-values [] = refl
+shown-values (x ∷ values) = ap (λ rest. x ∷ rest) (shown-values values)
+
+-- a filter without a mask asks by its values
+pub bare-asked : (filter : Column Bool) → IsColumn filter → mask_of filter ≡ None → asked filter ≡ stored_values filter
+bare-asked filter is_column bare =
+    ap (map (λ shown. unwrap_or shown false)) (slots_valid filter.rows (valid_by_held filter.held filter.rows is_column bare))
+    ∙ shown-values (stored_values filter)
 
 -- ---- columns of rows
 

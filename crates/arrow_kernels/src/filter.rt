@@ -4,7 +4,7 @@ ghost use Rattle.std.specs.Prelude.{◌≡◌, length, IfOk, IfErr};
 ghost use Rattle.arrow_bytes.specs.Pieces.{nothing_around};
 ghost use Rattle.arrow_kernels.specs.Kernels.{filtered};
 
-use crate::asked::asked_rows;
+use crate::asked::Asked;
 use crate::keep::{keep_marks, keep_mask, keep_values, kept_pieces};
 use arrow_binary::BinaryArray;
 use arrow_boolean::BooleanArray;
@@ -31,7 +31,7 @@ pub fn filter_primitive<T: NativeType>(
     ensures ok { IfOk result (λ kept. kept ≡ filtered tt array.now filter.now) }
     ensures err { IfErr result (λ e. e ≡ Error.OutOfMemory) }
 {
-    let asked = asked_rows(alloc, filter)?;
+    let asked = Asked::of(alloc, filter)?;
     let values = keep_values(alloc, array.values().as_slice(), &asked)?;
     let mask = keep_mask(alloc, array.validity(), &asked)?;
     let data_type = array.data_type().clone()?;
@@ -51,11 +51,11 @@ pub fn filter_boolean(
     ensures ok { IfOk result (λ kept. kept ≡ filtered tt array.now filter.now) }
     ensures err { IfErr result (λ e. e ≡ Error.OutOfMemory) }
 {
-    let asked = asked_rows(alloc, filter)?;
+    let asked = Asked::of(alloc, filter)?;
     let values = keep_marks(alloc, array.values(), &asked)?;
     let mask = keep_mask(alloc, array.validity(), &asked)?;
     let data_type = array.data_type().clone()?;
-    Ok(BooleanArray::new(data_type, values.freeze()?, mask))
+    Ok(BooleanArray::new(data_type, values, mask))
 }
 
 /// The slots of items of a kind for which a filter of as many slots asks. Nothing is tested: some of the items of a kind
@@ -69,7 +69,7 @@ fn filter_items<K: ByteKind, O: Offset>(
     ensures ok { IfOk result (λ kept. kept ≡ filtered nothing_around array.now filter.now) }
     ensures err { IfErr result (λ e. e ≡ Error.OutOfMemory) }
 {
-    let asked = asked_rows(alloc, filter)?;
+    let asked = Asked::of(alloc, filter)?;
     let (offsets, bytes) = kept_pieces(alloc, array, &asked)?;
     let mask = keep_mask(alloc, array.validity(), &asked)?;
     let data_type = array.data_type().clone()?;

@@ -9,6 +9,7 @@ ghost use Rattle.arrow_bytes.specs.Kinds.{CutItems};
 ghost use Rattle.arrow_bytes.specs.Pieces.{around_of, nothing_around};
 ghost use Rattle.arrow_kernels.specs.Kernels.{where_set};
 
+use crate::asked::Asked;
 use crate::mask::needed_mask;
 use crate::pieces::item_at;
 use arrow_byte_array::ByteArray;
@@ -21,49 +22,81 @@ use arrow_types::native_type::NativeType;
 use arrow_types::offset::Offset;
 use std::alloc::Global;
 
-/// The values that are asked for.
-pub(crate) fn keep_values<T: NativeType>(
+/// The values that are asked for, one by one.
+fn keep_each_value<T: NativeType>(
     alloc: Global,
     values: &[T],
-    asked: &[bool],
+    asked: &Asked,
 ) -> Result<Vec<T>, Error>
     requires { length asked.now ≡ length values.now }
     ensures ok { IfOk result (λ kept. kept.items ≡ where_set asked.now values.now) }
     ensures err { IfErr result (λ e. e ≡ Error.OutOfMemory) }
 {
-    let mut kept = Vec::new(alloc);
-    for (i, is_asked) in asked.iter().enumerate() {
-        if *is_asked {
-            kept.push(values[i])?;
-        }
+    let mut kept = Vec::with_capacity(alloc, asked.len() - asked.unset_bits())?;
+    let mut i = asked.next(0);
+    while i < asked.len() {
+        kept.push(values[i])?;
+        i = asked.next(i + 1);
     }
     Ok(kept)
 }
 
-/// The marks that are asked for.
-pub(crate) fn keep_marks(
+/// The values that are asked for.
+pub(crate) fn keep_values<T: NativeType>(
     alloc: Global,
-    marks: &Bitmap,
-    asked: &[bool],
-) -> Result<MutableBitmap, Error>
+    values: &[T],
+    asked: &Asked,
+) -> Result<Vec<T>, Error>
+    requires { length asked.now ≡ length values.now }
+    ensures ok { IfOk result (λ kept. kept.items ≡ where_set asked.now values.now) }
+    ensures err { IfErr result (λ e. e ≡ Error.OutOfMemory) }
+{
+    if asked.unset_bits() == 0 {
+        let mut all = Vec::new(alloc);
+        all.extend_from_slice(values)?;
+        return Ok(all);
+    }
+    if asked.unset_bits() == asked.len() {
+        return Ok(Vec::new(alloc));
+    }
+    keep_each_value(alloc, values, asked)
+}
+
+/// The marks that are asked for, one by one.
+fn keep_each_mark(alloc: Global, marks: &Bitmap, asked: &Asked) -> Result<Bitmap, Error>
     requires { length asked.now ≡ length marks.now }
     ensures ok { IfOk result (λ kept. kept ≡ where_set asked.now marks.now) }
     ensures err { IfErr result (λ e. e ≡ Error.OutOfMemory) }
 {
-    let mut kept = MutableBitmap::new(alloc);
-    for (i, is_asked) in asked.iter().enumerate() {
-        if *is_asked {
-            kept.push(marks.get_bit(i))?;
-        }
+    let mut kept = MutableBitmap::with_capacity(alloc, asked.len() - asked.unset_bits())?;
+    let mut i = asked.next(0);
+    while i < asked.len() {
+        kept.push(marks.get_bit(i))?;
+        i = asked.next(i + 1);
     }
-    Ok(kept)
+    kept.freeze()
+}
+
+/// The marks that are asked for.
+pub(crate) fn keep_marks(alloc: Global, marks: &Bitmap, asked: &Asked) -> Result<Bitmap, Error>
+    requires { length asked.now ≡ length marks.now }
+    ensures ok { IfOk result (λ kept. kept ≡ where_set asked.now marks.now) }
+    ensures err { IfErr result (λ e. e ≡ Error.OutOfMemory) }
+{
+    if asked.unset_bits() == 0 {
+        return marks.clone();
+    }
+    if asked.unset_bits() == asked.len() {
+        return Bitmap::new(alloc);
+    }
+    keep_each_mark(alloc, marks, asked)
 }
 
 /// The mask of the rows that are asked for, which is held only where one of them is null.
 pub(crate) fn keep_mask(
     alloc: Global,
     validity: Option<&Bitmap>,
-    asked: &[bool],
+    asked: &Asked,
 ) -> Result<Option<Bitmap>, Error>
     requires { IfSome (option_copied validity) (λ marks. length asked.now ≡ length marks) }
     ensures ok { IfOk result (λ mask. mask ≡ mask_with_nulls (option_map (where_set asked.now) (option_copied validity.entry))) }
@@ -71,7 +104,7 @@ pub(crate) fn keep_mask(
 {
     match validity {
         None => Ok(None),
-        Some(marks) => needed_mask(keep_marks(alloc, marks, asked)?),
+        Some(marks) => Ok(needed_mask(keep_marks(alloc, marks, asked)?)),
     }
 }
 
@@ -80,7 +113,7 @@ pub(crate) fn keep_items<O: Offset>(
     alloc: Global,
     offsets: &OffsetsBuffer<O>,
     bytes: &[u8],
-    asked: &[bool],
+    asked: &Asked,
 ) -> Result<(Offsets<O>, Vec<u8>), Error>
     requires count { length asked.now + 1 ≡ length offsets.now }
     requires within { last_of offsets.now ≤ length bytes.now }
@@ -88,17 +121,17 @@ pub(crate) fn keep_items<O: Offset>(
     ensures bytes { IfOk result (λ kept. kept.1.items ≡ concat (where_set asked.now (items_of offsets.now bytes.now))) }
     ensures err { IfErr result (λ e. e ≡ Error.OutOfMemory) }
 {
-    let mut kept = Offsets::new(alloc)?;
+    let mut kept = Offsets::with_capacity(alloc, asked.len() - asked.unset_bits())?;
     let mut kept_bytes = Vec::new(alloc);
-    for (i, is_asked) in asked.iter().enumerate() {
-        if *is_asked {
-            let item = item_at(offsets, bytes, i);
-            // Some items of an array never end past what its offsets can tell, so it is memory that is refused.
-            match kept.try_push_item(&mut kept_bytes, item) {
-                Ok(()) => {}
-                Err(_) => return Err(Error::OutOfMemory),
-            }
+    let mut i = asked.next(0);
+    while i < asked.len() {
+        let item = item_at(offsets, bytes, i);
+        // Some items of an array never end past what its offsets can tell, so it is memory that is refused.
+        match kept.try_push_item(&mut kept_bytes, item) {
+            Ok(()) => {}
+            Err(_) => return Err(Error::OutOfMemory),
         }
+        i = asked.next(i + 1);
     }
     Ok((kept, kept_bytes))
 }
@@ -107,7 +140,7 @@ pub(crate) fn keep_items<O: Offset>(
 pub(crate) fn kept_pieces<K: ByteKind, O: Offset>(
     alloc: Global,
     array: &ByteArray<K, O>,
-    asked: &[bool],
+    asked: &Asked,
 ) -> Result<(OffsetsBuffer<O>, Buffer<u8>), Error>
     requires { length asked.now ≡ length array.now.rows }
     ensures cut { IfOk result (λ kept. CutItems K.is_text kept.0 kept.1) }

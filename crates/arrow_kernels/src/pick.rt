@@ -58,7 +58,7 @@ pub(crate) fn pick_marks<K: IndexKey>(
     alloc: Global,
     marks: &Bitmap,
     keys: &[K],
-) -> Result<MutableBitmap, Error>
+) -> Result<Bitmap, Error>
     requires { All (λ key. IsSomeAnd (index_of (K.number key)) (λ index. index < length marks.now)) keys.now }
     ensures ok { IfOk result (λ picked. picked ≡ at_keys K.number keys.now marks.now) }
     ensures err { IfErr result (λ e. e ≡ Error.OutOfMemory) }
@@ -67,7 +67,7 @@ pub(crate) fn pick_marks<K: IndexKey>(
     for key in keys {
         picked.push(marks.get_bit(place_of(key, marks.len())))?;
     }
-    Ok(picked)
+    picked.freeze()
 }
 
 /// The mask of the rows at the keys' places, which is held only where one of them is null.
@@ -82,7 +82,7 @@ pub(crate) fn pick_mask<K: IndexKey>(
 {
     match validity {
         None => Ok(None),
-        Some(marks) => needed_mask(pick_marks(alloc, marks, keys)?),
+        Some(marks) => Ok(needed_mask(pick_marks(alloc, marks, keys)?)),
     }
 }
 

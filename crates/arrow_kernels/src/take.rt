@@ -64,7 +64,7 @@ pub fn take_boolean<K: IndexKey>(
     let values = pick_marks(alloc, array.values(), keys)?;
     let mask = pick_mask(alloc, array.validity(), keys)?;
     let data_type = array.data_type().clone()?;
-    Ok(BooleanArray::new(data_type, values.freeze()?, mask))
+    Ok(BooleanArray::new(data_type, values, mask))
 }
 
 /// The slots of items of a kind at the places of keys, each of which tells one. Nothing is tested: some of the items of a

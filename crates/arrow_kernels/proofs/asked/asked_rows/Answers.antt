@@ -1,9 +1,8 @@
-use Rattle.std.proofs.Common.{[], ◌∷◌, ◌++◌, ap₂, sym, ◌∙◌}
-use Rattle.arrow_kernels.proofs.ChoiceLemmas.{asked-more}
+use Rattle.std.proofs.Common.{sym, ◌∙◌}
+use Rattle.std.proofs.lemmas.Result.{MatchResult-weaker}
+use Rattle.arrow_kernels.proofs.ChoiceLemmas.{bare-asked}
 use Rattle.arrow_kernels.proofs.asked.asked_rows.Goals as goal
 
-pub loop-i-preserved : goal.loop-i-preserved
-loop-i-preserved c =
-    c.in_ok-push.ensures.items
-    ∙ ap₂ (λ marks mark. marks ++ mark ∷ []) c.loop-i.invariant c.unwrap_or.ensures
-    ∙ sym (asked-more c.args.filter.now c.loop-i.i c.get.result c.get.ensures)
+pub returns-in-None-clause-ok : goal.returns-in-None-clause-ok
+returns-in-None-clause-ok c =
+    MatchResult-weaker c.clone.result c.clone.ensures.ok (λ marks e. e ∙ c.values.ensures ∙ sym (bare-asked c.args.filter.now c.in-None.ensures.is_column (sym c.in-None.ensures.mask))) (λ _ t. t)

@@ -1,48 +1,53 @@
-use Rattle.std.proofs.Common.{◌≡◌, Some, true, false, ap, sym, ◌∙◌, arith, length, slice_get, take}
+use Rattle.std.proofs.Common.{◌≡◌, ◌<◌, ap, arith, length, sym, take, ◌∙◌}
 use Rattle.std.specs.List.{concat}
-use Rattle.std.proofs.lemmas.Option.{slice_get-get_or}
 use Rattle.arrow_check.specs.Pieces.{items_of, offsets_of}
 use Rattle.arrow_kernels.specs.Kernels.{where_set}
-use Rattle.arrow_kernels.proofs.ChoiceLemmas.{where-all, where-clear, where-set}
+use Rattle.arrow_kernels.proofs.ChoiceLemmas.{where-all, where-next, where-starts}
 use Rattle.arrow_kernels.proofs.ItemLemmas.{bytes-more, length-items, offsets-more}
 use Rattle.arrow_kernels.proofs.keep.keep_items.Goals as goal
-use Rattle.arrow_kernels.proofs.keep.keep_items.Goals.{then-is_asked+in-Ok, else-is_asked}
+
+pub loop-i-init : goal.loop-i-init
+loop-i-init g c =
+    let first = c.next-i.ensures in
+    let items = items_of c.args.offsets.now c.args.bytes.now in
+    let none = where-starts c.args.asked.now items c.next-i.result first.clear in
+    record {
+      within = first.high;
+      marked = first.set;
+      ends = c.in_ok-kept.ensures.ok ∙ ap (offsets_of 0) none;
+      joined = c.new-kept_bytes.ensures.items ∙ ap concat none;
+    }
 
 pub loop-i-preserved : goal.loop-i-preserved
 loop-i-preserved g c =
     let asked = c.args.asked.now in
     let items = items_of c.args.offsets.now c.args.bytes.now in
     let i = c.loop-i.i in
+    let item = c.item_at-item.result.now in
+    let next = c.next-i-in-loop-i.ensures in
+    let low : c.loop-i.i < length asked = omega (arith, c.loop-i-test.true, c.len-in-loop-i.ensures) in
     let so_far = where_set (take i asked) (take i items) in
-    elim c.if-is_asked.branch [
-      | then-is_asked+in-Ok w ↦
-          let item = w.item_at-item.result.now in
-          let marked : slice_get asked i ≡ Some true = slice_get-get_or asked i _ c.loop-i-test.true ∙ ap Some w.if-is_asked.true in
-          let more = sym (where-set asked items i item marked w.item_at-item.ensures) in
-          let pushed = w.in-Ok.ensures.ok in (
-            w.kept-is ∙ offsets-more c.loop-i.kept _ so_far item c.loop-i.invariant.0 pushed.1 ∙ ap (offsets_of 0) more,
-            rw w.kept_bytes-is (bytes-more c.loop-i.kept_bytes.items _ so_far item c.loop-i.invariant.1 pushed.2 ∙ ap concat more),
-          )
-      | else-is_asked w ↦
-          let marked : slice_get asked i ≡ Some false = slice_get-get_or asked i _ c.loop-i-test.true ∙ ap Some w.if-is_asked.false in
-          let same = sym (where-clear asked items i marked) in (
-            w.kept-is ∙ c.loop-i.invariant.0 ∙ ap (offsets_of 0) same,
-            rw w.kept_bytes-is (c.loop-i.invariant.1 ∙ ap concat same),
-          )
-    ]
+    let more = sym (where-next asked items i c.next-i-in-loop-i.result item (c.loop-i.invariant.marked low) c.item_at-item.ensures next.low next.clear) in
+    let pushed = c.in-Ok.ensures.ok in
+    record {
+      within = next.high;
+      marked = next.set;
+      ends = offsets-more c.loop-i.kept _ so_far item c.loop-i.invariant.ends pushed.1 ∙ ap (offsets_of 0) more;
+      joined = bytes-more c.loop-i.kept_bytes.items _ so_far item c.loop-i.invariant.joined pushed.2 ∙ ap concat more;
+    }
 
 pub returns-clause-offsets : goal.returns-clause-offsets
 returns-clause-offsets g c =
     let asked = c.args.asked.now in
     let items = items_of c.args.offsets.now c.args.bytes.now in
-    let all : c.loop-i.i ≡ length asked = omega (arith, c.loop-i-test.false, c.loop-i.auto.i-end) in
+    let all : c.loop-i.i ≡ length asked = omega (arith, c.loop-i-test.false, c.len-in-loop-i.ensures, c.loop-i.invariant.within) in
     let wide : c.loop-i.i ≡ length items = omega (arith, all, c.requires.count, length-items c.args.offsets.now c.args.bytes.now (omega (arith, c.requires.count))) in
-    c.loop-i.invariant.0 ∙ ap (offsets_of 0) (where-all asked items c.loop-i.i all wide)
+    c.loop-i.invariant.ends ∙ ap (offsets_of 0) (where-all asked items c.loop-i.i all wide)
 
 pub returns-clause-bytes : goal.returns-clause-bytes
 returns-clause-bytes g c =
     let asked = c.args.asked.now in
     let items = items_of c.args.offsets.now c.args.bytes.now in
-    let all : c.loop-i.i ≡ length asked = omega (arith, c.loop-i-test.false, c.loop-i.auto.i-end) in
+    let all : c.loop-i.i ≡ length asked = omega (arith, c.loop-i-test.false, c.len-in-loop-i.ensures, c.loop-i.invariant.within) in
     let wide : c.loop-i.i ≡ length items = omega (arith, all, c.requires.count, length-items c.args.offsets.now c.args.bytes.now (omega (arith, c.requires.count))) in
-    c.loop-i.invariant.1 ∙ ap concat (where-all asked items c.loop-i.i all wide)
+    c.loop-i.invariant.joined ∙ ap concat (where-all asked items c.loop-i.i all wide)

@@ -1,21 +1,13 @@
-use Rattle.std.proofs.Common.{◌≡◌, refl, Some, true, false, ap, ◌∙◌, slice_get}
-use Rattle.std.proofs.lemmas.Option.{slice_get_read, slice_get-get_or}
-use Rattle.arrow_kernels.proofs.ChoiceLemmas.{where-grown, where-stays}
+use Rattle.std.proofs.Common.{◌++◌, ap, sym, ◌∙◌}
+use Rattle.arrow_kernels.proofs.ChoiceLemmas.{where-full, where-none}
 use Rattle.arrow_kernels.proofs.keep.keep_values.Goals as goal
-use Rattle.arrow_kernels.proofs.keep.keep_values.Goals.{then-is_asked+in_ok-push, else-is_asked}
 
-pub loop-i-preserved : goal.loop-i-preserved
-loop-i-preserved g c =
-    let asked = c.args.asked.now in
-    let values = c.args.values.now in
-    let i = c.loop-i.i in
-    elim c.if-is_asked.branch [
-      | then-is_asked+in_ok-push w ↦
-          let x = w.index-values-i.result in
-          let marked : slice_get asked i ≡ Some true = slice_get-get_or asked i _ c.loop-i-test.true ∙ ap Some w.if-is_asked.true in
-          let read : slice_get values i ≡ Some x = slice_get_read values _ i x c.requires c.loop-i-test.true w.index-values-i.is in
-          rw w.kept-is (where-grown asked values i x _ _ marked read c.loop-i.invariant w.in_ok-push.ensures.items)
-      | else-is_asked w ↦
-          let marked : slice_get asked i ≡ Some false = slice_get-get_or asked i _ c.loop-i-test.true ∙ ap Some w.if-is_asked.false in
-          rw w.kept-is (where-stays asked values i _ _ marked c.loop-i.invariant refl)
-    ]
+pub returns-then-unset_bits-eq0-clause-ok : goal.returns-then-unset_bits-eq0-clause-ok
+returns-then-unset_bits-eq0-clause-ok g c =
+    c.in_ok-extend_from_slice.ensures.items
+    ∙ ap (λ xs. xs ++ c.args.values.now) c.new-all.ensures.items
+    ∙ sym (where-full c.args.asked.now c.args.values.now (sym c.unset_bits.ensures ∙ c.if-unset_bits-eq0.true) c.requires)
+
+pub returns-then-unset_bits-len-clause-ok : goal.returns-then-unset_bits-len-clause-ok
+returns-then-unset_bits-len-clause-ok g c =
+    c.new.ensures.items ∙ sym (where-none c.args.asked.now c.args.values.now (sym c.unset_bits-2.ensures ∙ c.if-unset_bits-len.true ∙ c.len.ensures))

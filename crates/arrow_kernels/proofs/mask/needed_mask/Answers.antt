@@ -2,12 +2,12 @@ use Rattle.std.proofs.Common.{Some, None, if◌then◌else◌, ap, sym, ◌∙�
 use Rattle.arrow_kernels.proofs.ChoiceLemmas.{all-by-count}
 use Rattle.arrow_kernels.proofs.mask.needed_mask.Goals as goal
 
-pub returns-then-unset_bits-eq0-clause-ok : goal.returns-then-unset_bits-eq0-clause-ok
-returns-then-unset_bits-eq0-clause-ok c =
+pub returns-then-unset_bits-eq0 : goal.returns-then-unset_bits-eq0
+returns-then-unset_bits-eq0 c =
     let whole = (all-by-count c.args.marks).0 (sym c.unset_bits.ensures ∙ c.if-unset_bits-eq0.true) in
     sym (ap (λ b. if b then None else Some c.args.marks) whole)
 
-pub returns-clause-ok : goal.returns-clause-ok
-returns-clause-ok c =
+pub returns-else-unset_bits-eq0 : goal.returns-else-unset_bits-eq0
+returns-else-unset_bits-eq0 c =
     let clear = (all-by-count c.args.marks).1 (λ e. c.if-unset_bits-eq0.false (c.unset_bits.ensures ∙ e)) in
-    ap Some c.in_ok-freeze.ensures.ok ∙ sym (ap (λ b. if b then None else Some c.args.marks) clear)
+    sym (ap (λ b. if b then None else Some c.args.marks) clear)

@@ -15,7 +15,7 @@ returns-in_err-check_indexes-clause-err g c =
 pub new-requires-clause-mask : goal.new-requires-clause-mask
 new-requires-clause-mask g c =
     fits-picked c.args.array.now g.K.IndexKey.number c.args.keys.now _ _
-    (c.in_ok-freeze.ensures.ok ∙ c.in_ok-values.ensures.ok ∙ ap (at_keys g.K.IndexKey.number c.args.keys.now) c.values.ensures)
+    (c.in_ok-values.ensures.ok ∙ ap (at_keys g.K.IndexKey.number c.args.keys.now) c.values.ensures)
     (c.in_ok-mask.ensures.ok ∙ ap (λ o. mask_with_nulls (option_map (at_keys g.K.IndexKey.number c.args.keys.now) o)) c.validity.ensures.mask)
 
 pub returns-clause-ok : goal.returns-clause-ok
@@ -23,5 +23,5 @@ returns-clause-ok g c =
     c.new.ensures
     ∙ makes-taken tt c.args.array.now g.K.IndexKey.number c.args.keys.now _ _ _ c.validity.ensures.is_column
     (c.in_ok-data_type.ensures.cases ∙ c.data_type.ensures.value)
-    (c.in_ok-freeze.ensures.ok ∙ c.in_ok-values.ensures.ok ∙ ap (at_keys g.K.IndexKey.number c.args.keys.now) c.values.ensures)
+    (c.in_ok-values.ensures.ok ∙ ap (at_keys g.K.IndexKey.number c.args.keys.now) c.values.ensures)
     (c.in_ok-mask.ensures.ok ∙ ap (λ o. mask_with_nulls (option_map (at_keys g.K.IndexKey.number c.args.keys.now) o)) c.validity.ensures.mask)

@@ -1,6 +1,0 @@
-use Rattle.std.proofs.Common.{◌≡◌, take}
-use Rattle.arrow_kernels.specs.Kernels.{where_set}
-use Rattle.arrow_kernels.proofs.keep.keep_marks.Given as goal
-
-abbrev pub invariant-loop-i : goal.invariant-loop-i
-invariant-loop-i l = l.kept ≡ where_set (take l.i l.asked) (take l.i l.marks)
