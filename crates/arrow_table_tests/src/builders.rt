@@ -13,6 +13,8 @@ new 5 vutf8 -> ok
 type 0 -> native
 type 1 -> boolean
 type 2 -> bytes
+type 3 -> text
+type 4 -> bytes
 type 5 -> text
 push 0 v-3 -> ok
 push 1 b1 -> ok
@@ -89,6 +91,7 @@ new 5 vutf8 -> ok
 reserve 0 9 9 -> ok
 reserve 1 9 0 -> ok
 reserve 2 3 6 -> ok
+reserve 3 2 4 -> ok
 reserve 4 3 6 -> ok
 reserve 5 0 1 -> ok
 extendvalues 0 v1 v2 -> ok

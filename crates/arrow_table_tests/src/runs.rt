@@ -1,7 +1,6 @@
 //! Worked examples, and runs as such.
 use crate::script::{both_answer, wrong_on};
-use arrow_table::{Command, Item, Kind, Reply, Table, run};
-use std::alloc::Global;
+use arrow_table::{Kind, Table};
 use std::test::Fail;
 
 /// A clone is thawed only once no one else has its parts, and no one sees what is then done to it; an array that shares
@@ -166,38 +165,6 @@ len 0 -> not met
 #[test]
 fn cut_text(rt: HostRuntime) -> Result<(), Fail> {
     both_answer(rt.alloc(), CUT_TEXT)
-}
-
-/// Whether two runs append their replies to those that are there, and a run of no commands none.
-fn is_appended(alloc: Global, table: &mut Table<i64, i32>) -> bool {
-    let first = [
-        Command::New(0, Kind::MutablePrimitive),
-        Command::Push(0, Some(Item::Value(4))),
-    ];
-    let second = [Command::Len(0), Command::Len(1), Command::Pop(0)];
-    let mut replies = Vec::new(alloc);
-    let done = run(table, &first, &mut replies);
-    let more = run(table, &second, &mut replies);
-    let none = run(table, &[], &mut replies);
-    let is_told = matches!(
-        replies.as_slice(),
-        [
-            Reply::Done,
-            Reply::Done,
-            Reply::Number(1),
-            Reply::NotMet,
-            Reply::Slot(Some(Item::Value(4))),
-        ]
-    );
-    done == 2 && more == 3 && none == 0 && is_told
-}
-
-#[test]
-fn replies_are_appended(rt: HostRuntime) -> Result<(), Fail> {
-    let mut table = Table::<i64, i32>::new(rt.alloc(), 2)?;
-    let is_right = is_appended(rt.alloc(), &mut table);
-    assert!(rt; is_right);
-    Ok(())
 }
 
 /// One entry of each kind.

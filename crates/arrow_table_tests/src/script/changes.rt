@@ -1,8 +1,8 @@
 //! The commands about which more is said than the entry.
 use crate::script::lists::{items, keys, mask, named, slots, turns};
 use crate::script::samples::{Sample, Width};
-use crate::script::words::{UNREADABLE, item_in, number, slot_in, type_in, word};
-use arrow_table::Command;
+use crate::script::words::{UNREADABLE, item_in, number, number_in, slot_in, type_in, word};
+use arrow_table::{Command, Item};
 use arrow_types::error::Error;
 use std::alloc::Global;
 use std::str::SplitWhitespace;
@@ -47,12 +47,29 @@ fn at_place<T: Sample, O: Width>(
     mut words: SplitWhitespace<'_>,
 ) -> Result<Command<T, O>, Error> {
     let place = number(&mut words)?;
+    let said = word(&mut words)?;
     match name {
-        "set" => Ok(Command::Set(entry, place, slot_in(alloc, word(&mut words)?)?)),
-        "write" => Ok(Command::Write(entry, place, item_in(alloc, word(&mut words)?)?)),
-        "constant" => Ok(Command::ExtendConstant(entry, place, slot_in(alloc, word(&mut words)?)?)),
-        "slice" => Ok(Command::Slice(entry, place, number(&mut words)?)),
-        _ => Ok(Command::Reserve(entry, place, number(&mut words)?)),
+        "slice" => Ok(Command::Slice(entry, place, number_in(said)?)),
+        "reserve" => Ok(Command::Reserve(entry, place, number_in(said)?)),
+        "write" => Ok(Command::Write(entry, place, item_in(alloc, said)?)),
+        _ => with_slot(name, entry, place, slot_in(alloc, said)),
+    }
+}
+
+/// A command about an entry, a number and a slot.
+fn with_slot<T: Sample, O: Width>(
+    name: &str,
+    entry: usize,
+    place: usize,
+    slot: Result<Option<Item<T>>, Error>,
+) -> Result<Command<T, O>, Error> {
+    match slot {
+        Ok(slot) => Ok(if name == "set" {
+            Command::Set(entry, place, slot)
+        } else {
+            Command::ExtendConstant(entry, place, slot)
+        }),
+        Err(unreadable) => Err(unreadable),
     }
 }
 

@@ -3,101 +3,101 @@ use crate::script::samples::{Sample, Width};
 use crate::script::words::{bytes_type, text_type};
 use arrow_table::{Item, Reply};
 use arrow_types::data_type::DataType;
-use arrow_types::error::Error;
-use std::alloc::Global;
+use std::alloc::{AllocError, Global};
 use std::fmt::Write;
 
 /// Appends the digits of bytes.
-fn push_bytes(text: &mut String, bytes: &[u8]) -> Result<(), Error> {
+fn push_bytes(text: &mut String, bytes: &[u8]) -> Result<(), AllocError> {
     let digits = hex::encode(*text.allocator(), bytes)?;
-    text.push_str("x")?;
-    text.push_str(&digits)?;
-    Ok(())
+    write!(text, "x{digits}")
 }
 
 /// Appends an item.
-fn push_item<T: Sample>(text: &mut String, item: &Item<T>) -> Result<(), Error> {
+fn push_item<T: Sample>(text: &mut String, item: &Item<T>) -> Result<(), AllocError> {
     match item {
-        Item::Value(value) => {
-            let number = value.number();
-            Ok(write!(text, "v{number}")?)
-        }
-        Item::Bit(false) => Ok(text.push_str("b0")?),
-        Item::Bit(true) => Ok(text.push_str("b1")?),
+        Item::Value(value) => write!(text, "v{}", value.number()),
+        Item::Bit(false) => text.push_str("b0"),
+        Item::Bit(true) => text.push_str("b1"),
         Item::Bytes(bytes) => push_bytes(text, bytes),
-        Item::Text(word) => Ok(write!(text, "t{word}")?),
+        Item::Text(word) => write!(text, "t{word}"),
     }
 }
 
 /// Appends a slot.
-fn push_slot<T: Sample>(text: &mut String, slot: &Option<Item<T>>) -> Result<(), Error> {
+fn push_slot<T: Sample>(text: &mut String, slot: &Option<Item<T>>) -> Result<(), AllocError> {
     match slot {
         Some(item) => push_item(text, item),
-        None => Ok(text.push_str("_")?),
+        None => text.push_str("_"),
     }
 }
 
 /// Appends slots in brackets, with a space between each two.
-fn push_slots<T: Sample>(text: &mut String, slots: &[Option<Item<T>>]) -> Result<(), Error> {
+fn push_slots<T: Sample>(text: &mut String, slots: &[Option<Item<T>>]) -> Result<(), AllocError> {
     let mut before = "[";
     for slot in slots {
         text.push_str(before)?;
         push_slot(text, slot)?;
         before = " ";
     }
-    Ok(text.push_str(if slots.is_empty() { "[]" } else { "]" })?)
+    text.push_str(if slots.is_empty() { "[]" } else { "]" })
 }
 
 /// Appends numbers in brackets, with a space between each two.
-fn push_numbers(text: &mut String, numbers: &[usize]) -> Result<(), Error> {
+fn push_numbers(text: &mut String, numbers: &[usize]) -> Result<(), AllocError> {
     let mut before = "[";
     for number in numbers {
         write!(text, "{before}{number}")?;
         before = " ";
     }
-    Ok(text.push_str(if numbers.is_empty() { "[]" } else { "]" })?)
+    text.push_str(if numbers.is_empty() { "[]" } else { "]" })
 }
 
 /// The word of a type.
-fn type_word<T: Sample, O: Width>(
-    alloc: Global,
-    data_type: &DataType,
-) -> Result<&'static str, Error> {
-    if *data_type == DataType::Boolean {
-        return Ok("boolean");
+fn type_word<T: Sample, O: Width>(data_type: &DataType) -> &'static str {
+    match data_type {
+        DataType::Boolean => "boolean",
+        DataType::Binary | DataType::LargeBinary => {
+            if *data_type == bytes_type::<O>() {
+                "bytes"
+            } else {
+                "bytes of another width"
+            }
+        }
+        DataType::Utf8 | DataType::LargeUtf8 => {
+            if *data_type == text_type::<O>() {
+                "text"
+            } else {
+                "text of another width"
+            }
+        }
+        _ => T::type_word(data_type),
     }
-    if *data_type == bytes_type::<O>() {
-        return Ok("bytes");
-    }
-    if *data_type == text_type::<O>() {
-        return Ok("text");
-    }
-    if *data_type == T::PRIMITIVE.default_data_type() {
-        return Ok("native");
-    }
-    let is_other = *data_type == T::other_type(alloc)?;
-    Ok(if is_other { "other" } else { "an unknown type" })
+}
+
+/// Appends a reply that is one word.
+fn push_plain<T: Sample>(text: &mut String, reply: &Reply<T>) -> Result<(), AllocError> {
+    text.push_str(match reply {
+        Reply::Done => "ok",
+        Reply::NotMet => "not met",
+        Reply::NotGiven => "not given",
+        Reply::Flag(false) => "false",
+        Reply::Flag(true) => "true",
+        Reply::Left => "left",
+        Reply::Right => "right",
+        _ => "an unknown reply",
+    })
 }
 
 /// Appends a reply.
-fn push_reply<T: Sample, O: Width>(text: &mut String, reply: &Reply<T>) -> Result<(), Error> {
+fn push_reply<T: Sample, O: Width>(text: &mut String, reply: &Reply<T>) -> Result<(), AllocError> {
     match reply {
-        Reply::Done => Ok(text.push_str("ok")?),
-        Reply::NotMet => Ok(text.push_str("not met")?),
-        Reply::NotGiven => Ok(text.push_str("not given")?),
-        Reply::Number(number) => Ok(write!(text, "{number}")?),
-        Reply::Flag(false) => Ok(text.push_str("false")?),
-        Reply::Flag(true) => Ok(text.push_str("true")?),
+        Reply::Number(number) => write!(text, "{number}"),
         Reply::Slot(slot) => push_slot(text, slot),
         Reply::Slots(slots) => push_slots(text, slots),
         Reply::Numbers(numbers) => push_numbers(text, numbers),
-        Reply::Typed(data_type) => {
-            let word = type_word::<T, O>(*text.allocator(), data_type)?;
-            Ok(text.push_str(word)?)
-        }
-        Reply::Left => Ok(text.push_str("left")?),
-        Reply::Right => Ok(text.push_str("right")?),
-        Reply::Refused(error) => Ok(write!(text, "refused: {error}")?),
+        Reply::Typed(data_type) => text.push_str(type_word::<T, O>(data_type)),
+        Reply::Refused(error) => write!(text, "refused: {error}"),
+        _ => push_plain(text, reply),
     }
 }
 
@@ -106,7 +106,7 @@ pub(crate) fn is_answer<T: Sample, O: Width>(
     alloc: Global,
     reply: Option<&Reply<T>>,
     wanted: &str,
-) -> Result<bool, Error> {
+) -> Result<bool, AllocError> {
     let Some(reply) = reply else {
         return Ok(false);
     };

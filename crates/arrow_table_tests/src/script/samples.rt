@@ -17,6 +17,9 @@ pub(crate) trait Sample: NativeType {
 
     /// Another type than the default that is right for such values.
     fn other_type(alloc: Global) -> Result<DataType, Error>;
+
+    /// The word of a type that is right for such values: `native` for the default, `other` for the other one.
+    fn type_word(data_type: &DataType) -> &'static str;
 }
 
 impl Sample for i64 {
@@ -30,6 +33,14 @@ impl Sample for i64 {
 
     fn other_type(_alloc: Global) -> Result<DataType, Error> {
         Ok(DataType::Date64)
+    }
+
+    fn type_word(data_type: &DataType) -> &'static str {
+        match data_type {
+            DataType::Int64 => "native",
+            DataType::Date64 => "other",
+            _ => "an unknown type",
+        }
     }
 }
 
@@ -54,6 +65,20 @@ impl Sample for days_ms {
         let name = String::from_str(alloc, "shifts")?;
         let inner = Box::new(alloc, DataType::Interval(IntervalUnit::DayTime))?;
         Ok(DataType::Extension(name, inner, None))
+    }
+
+    fn type_word(data_type: &DataType) -> &'static str {
+        match data_type {
+            DataType::Interval(IntervalUnit::DayTime) => "native",
+            DataType::Extension(name, _, None) => {
+                if name.as_str() == "shifts" {
+                    "other"
+                } else {
+                    "an unknown extension"
+                }
+            }
+            _ => "an unknown type",
+        }
     }
 }
 
