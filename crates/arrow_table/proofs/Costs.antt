@@ -1,5 +1,5 @@
 -- What commands cost that test no text, and that the number of an entry makes no difference.
-use Rattle.std.proofs.Common.{◌≡◌, ℕ, ◌+◌, Bool, true, false, List, [], ◌∷◌, refl, arith}
+use Rattle.std.proofs.Common.{◌≡◌, ℕ, true, false, List, [], ◌∷◌, refl, arith}
 use Rattle.arrow_check.specs.Reading.{Cost, RisesAtMost}
 use Rattle.arrow_table.specs.Answer.{Answer, not_met}
 use Rattle.arrow_table.specs.Kind.{Shape}

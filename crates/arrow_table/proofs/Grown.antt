@@ -1,9 +1,7 @@
 -- Slots that are appended one after the other: where the first is taken, the others are appended to what it makes.
-use Rattle.std.proofs.Common.{◌≡◌, ◌≤◌, ◌+◌, ℕ, zero, suc, Bool, true, false, not, ◌&&◌, nat_eq, List, [], ◌∷◌, length, map, take, Option, Some, None, if◌then◌else◌, refl, sym, ap, ◌∙◌, arith}
+use Rattle.std.proofs.Common.{◌≡◌, suc, Bool, true, false, List, [], ◌∷◌, length, Option, Some, refl, arith}
 use Rattle.std.proofs.Math.Dec.{eqb-suc-suc, eqb-zero-suc}
-use Rattle.std.proofs.lemmas.List.{nil_from_length}
 use Rattle.std.specs.Prelude.{IsTrue, MatchBool}
-use Rattle.std.specs.List.{list_all}
 use Rattle.arrow_types.specs.Types.{overflow, out_of_memory, refusal}
 use Rattle.arrow_memory.specs.Column.{refused_growth}
 use Rattle.arrow_table.specs.Answer.{Answer, done, refused, is_memory}
@@ -12,7 +10,7 @@ use Rattle.arrow_table.specs.Item.{Stored}
 use Rattle.arrow_table.specs.Change.{grown, fitting, slot_over}
 use Rattle.arrow_table.specs.Kind.{is_nullable}
 use Rattle.arrow_table.specs.Request.{Ask}
-use Rattle.arrow_table.specs.Step.{Does, Does_to, Extends, all_fit}
+use Rattle.arrow_table.specs.Step.{Does, Does_to, Extends}
 
 -- either case goes over
 both : (b : Bool) {A A₂ B B₂ : Type 0} → (A → A₂) → (B → B₂) → MatchBool b A B → MatchBool b A₂ B₂

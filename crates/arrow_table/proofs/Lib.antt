@@ -1,3 +1,4 @@
+pub mod Filled
 pub mod Grown
 pub mod Masks
 pub mod Makes

@@ -1,5 +1,5 @@
 -- What is made: seeing it over what slots store, whatever their sort.
-use Rattle.std.proofs.Common.{◌≡◌, ℕ, zero, suc, Bool, true, false, List, [], ◌∷◌, map, replicate, Option, Some, None, refl, ap}
+use Rattle.std.proofs.Common.{◌≡◌, ℕ, zero, suc, true, false, [], ◌∷◌, map, replicate, Some, None, refl, ap}
 use Rattle.std.specs.List.{zip}
 use Rattle.arrow_types.specs.Types.{LogicalType}
 use Rattle.arrow_memory.specs.Column.{ColumnWith, Row, empty_column, column_of_parts, column_with}
@@ -11,6 +11,10 @@ module _ {S T : Type 0} (stored : S → Stored T) where
   pub empty-plain : (t : LogicalType) → seen (λ _. nothing_around) stored (empty_column t) ≡ column_with t nothing_around [] None
   unfolding seen
   empty-plain t = refl
+
+  pub empty-masked : (t : LogicalType) → seen (λ _. nothing_around) stored (column_of_parts t [] (Some [])) ≡ column_with t nothing_around [] (Some [])
+  unfolding seen
+  empty-masked t = refl
 
   pub empty-around : (t : LogicalType) → seen (λ around. around) stored (column_with t nothing_around [] None) ≡ column_with t nothing_around [] None
   unfolding seen
@@ -31,4 +35,4 @@ module _ {S T : Type 0} (stored : S → Stored T) where
 
 pub ruleset makes_nulls = (nulls-plain, nulls-around)
 
-pub ruleset makes_empty = (empty-plain, empty-around)
+pub ruleset makes_empty = (empty-plain, empty-masked, empty-around)

@@ -1,5 +1,5 @@
 -- Seeing a column over what slots store, whatever their sort, commutes with whatever is done to columns.
-use Rattle.std.proofs.Common.{◌≡◌, ◌↔◌, ℕ, zero, suc, ◌+◌, ◌-◌, ◌≤◌, Bool, true, false, not, ◌&&◌, ◌||◌, List, [], ◌∷◌, ◌++◌, length, map, take, drop, replicate, reverse, count_by, slice_get, slice_set, Option, Some, None, option_map, option_and_then, is_some, if◌then◌else◌, refl, sym, ap, ap₂, ◌∙◌, fold, arith}
+use Rattle.std.proofs.Common.{◌≡◌, ◌↔◌, ℕ, zero, suc, ◌+◌, ◌-◌, ◌≤◌, Bool, true, false, not, ◌&&◌, ◌||◌, List, [], ◌∷◌, ◌++◌, length, map, take, drop, replicate, slice_get, slice_set, Option, Some, None, option_map, option_and_then, is_some, if◌then◌else◌, refl, sym, ap, ap₂, ◌∙◌, arith}
 use Rattle.std.specs.List.{zip, list_all, concat}
 use Rattle.std.proofs.lemmas.List.{length-map, map-append}
 use Rattle.arrow_types.specs.Types.{LogicalType}

@@ -7,17 +7,13 @@ use Rattle.arrow_table.specs.Item.{Stored, stored_slot}
 
 -- what a table answers
 pub data Answer (T : Type 0) : Type 0 where
-  done : Answer T
-  not_met : Answer T
-  not_given : Answer T
+  done not_met not_given left right : Answer T
   number : ℕ → Answer T
   flag : Bool → Answer T
   slot : Option (Stored T) → Answer T
   slots : List (Option (Stored T)) → Answer T
   numbers : List ℕ → Answer T
   typed : LogicalType → Answer T
-  left : Answer T
-  right : Answer T
   refused : Refusal → Answer T
 
 -- what a reply answers

@@ -1,12 +1,12 @@
 -- How the values of entries change.
-use Rattle.std.specs.Prelude.{ℕ, ◌+◌, ◌-◌, suc, Bool, List, [], ◌∷◌, length, map, take, drop, Option, None, slice_get, if◌then◌else◌}
+use Rattle.std.specs.Prelude.{ℕ, ◌+◌, ◌-◌, suc, Bool, List, [], ◌∷◌, length, map, take, drop, Option, Some, None, slice_get, if◌then◌else◌}
 use Rattle.std.specs.List.{concat}
 use Rattle.arrow_memory.specs.Column.{ColumnWith, column_with, cut_with, append_slots, slot_overflows, stored_values, without_needless_mask}
 use Rattle.arrow_bytes.specs.Pieces.{Around, nothing_around, around_cut, overflows_by}
 use Rattle.arrow_bytes.specs.Column.{item_overflows}
 use Rattle.arrow_table.specs.declared.item.Turn.{Turn}
 use Rattle.arrow_table.specs.declared.item.Turn.TheVariants as turn
-use Rattle.arrow_table.specs.Kind.{Shape, shaped, frozen, with_nulls, is_boolean}
+use Rattle.arrow_table.specs.Kind.{Shape, shaped, frozen, with_nulls, is_boolean, is_native}
 use Rattle.arrow_table.specs.Item.{Stored, bytes_in}
 use Rattle.arrow_table.specs.Entry.{Value, Types, default_type, default_item}
 
@@ -44,6 +44,10 @@ module _ {T : Type 0} where
     -- a value of this kind with no slot and no mask
     abbrev pub empty_value : Shape → Value T
     empty_value s = record { shape = s; column = column_with (default_type c s.sort) nothing_around [] None }
+
+    -- the same, to which slots are to be appended: one of native values holds a mask from the first
+    abbrev pub slots_start : Shape → Value T
+    slots_start s = with_column (empty_value s) (column_with (default_type c s.sort) nothing_around [] (if is_native s then Some [] else None))
 
     -- what a null stores there
     abbrev pub null_in : Value T → Stored T

@@ -5,14 +5,11 @@ use Rattle.arrow_table.specs.declared.kind.Kind.TheVariants as kind
 
 -- a frozen array, a builder with nulls, or a builder of values alone
 pub data Group : Type 0 where
-  frozen : Group
-  with_nulls : Group
-  values_alone : Group
+  frozen with_nulls values_alone : Group
 
 -- what the slots store: native values, truth values, or bytes, which have to be text or may be any
 pub data Sort : Type 0 where
-  native : Sort
-  boolean : Sort
+  native boolean : Sort
   pieces : (is_text : Bool) → Sort
 
 -- a kind is both

@@ -1,5 +1,5 @@
 -- What a call that makes an array or a builder, or is refused, means for the entry that it is to stand in.
-use Rattle.std.specs.Prelude.{◌≡◌, ⊤, ℤ, Bool, List, Option, Some, None, Result, Ok, Err, IfSome, MatchOption}
+use Rattle.std.specs.Prelude.{◌≡◌, ⊤, ℤ, Bool, List, Option, Some, None, Result, Ok, Err, IfSome, MatchOption, MatchBool}
 use Rattle.arrow_types.specs.Types.{Refusal, refusal, out_of_spec}
 use Rattle.arrow_types.specs.declared.error.Error.{Error}
 use Rattle.arrow_types.specs.declared.error.Error.TheVariants as error
@@ -8,12 +8,13 @@ use Rattle.arrow_memory.specs.Marks.{bits_past_bytes}
 use Rattle.arrow_memory.specs.Offsets.{first_fault}
 use Rattle.arrow_table.specs.declared.entry.Entry.{Entry}
 use Rattle.arrow_table.specs.declared.reply.Reply.{Reply}
-use Rattle.arrow_table.specs.Kind.{Sort}
+use Rattle.arrow_table.specs.Kind.{Group, frozen, with_nulls, values_alone, Sort, is_builder}
 use Rattle.arrow_table.specs.Answer.{Answer, done, refused, told}
 use Rattle.arrow_table.specs.Entry.{Value, Types, layout, value_of}
 use Rattle.arrow_table.specs.Row.{Row}
 use Rattle.arrow_table.specs.Parts.{BitsFit, wrong_type}
-use Rattle.arrow_table.specs.Request.{Packed}
+use Rattle.arrow_table.specs.Request.{Packed, freeze}
+use Rattle.arrow_table.specs.Step.{Does_to}
 
 -- the answer
 abbrev pub reply_of : {T A : Type 0} → Result A Error → Answer T
@@ -54,3 +55,15 @@ IsKindOf c sort is_frozen physical wrong = (physical ≡ layout c sort) × (wron
 -- why vectors are not taken, unless for memory: offsets are at fault, or else a mask's bits are past its bytes
 abbrev pub Untaken : Option Packed → List ℤ → Error → Type 0
 Untaken mask numbers e = UnlessMemory e (MatchOption (first_fault numbers) ((IfSome mask BitsFit → ⊥) × (refusal e ≡ bits_past_bytes)) (λ fault. refusal e ≡ out_of_spec fault))
+
+-- the group of builder that a kind's values are made in
+abbrev pub builder_group : Group → Group
+builder_group frozen = with_nulls
+builder_group with_nulls = with_nulls
+builder_group values_alone = values_alone
+
+-- what a builder that was appended to, or a refusal, becomes in the end: an array where one is asked for
+abbrev pub Finishes : {T : Type 0} → Types T → Bool → Answer T → Option (Value T) → Answer T → Option (Value T) → Type 0
+Finishes c is_array first made reply kept =
+    (first ≡ done → MatchBool is_array (Does_to c is_builder freeze made reply kept) ((reply ≡ done) × (kept ≡ made)))
+    × ((first ≡ done → ⊥) → (reply ≡ first) × (kept ≡ None))

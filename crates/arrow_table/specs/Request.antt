@@ -5,7 +5,6 @@ use Rattle.arrow_table.specs.declared.item.Turn.{Turn}
 use Rattle.arrow_table.specs.declared.command.Command.{Command}
 use Rattle.arrow_table.specs.declared.command.Command.TheVariants as command
 use Rattle.arrow_table.specs.declared.command.Bits.{Bits}
-use Rattle.arrow_table.specs.declared.command.Parts.{Parts}
 use Rattle.arrow_table.specs.declared.command.Raw.{Raw}
 use Rattle.arrow_table.specs.declared.command.Raw.TheVariants as raw
 use Rattle.arrow_table.specs.Kind.{Shape, shape}
@@ -32,36 +31,18 @@ pub data Source (T : Type 0) : Type 0 where
 
 -- what is asked of what an entry holds
 pub data Ask (T : Type 0) : Type 0 where
-  len : Ask T
-  value : ℕ → Ask T
-  get : ℕ → Ask T
-  is_null : ℕ → Ask T
-  null_count : Ask T
-  all_slots : Ask T
+  len type_of held all_slots null_count bytes offsets empty push_null pop reserve shrink freeze thaw nullable : Ask T
+  value get is_null : ℕ → Ask T
   turns : List Turn → Ask T
-  type_of : Ask T
-  held : Ask T
-  bytes : Ask T
-  offsets : Ask T
   slice : ℕ → ℕ → Ask T
-  empty : Ask T
   set_mask : Option (List Bool) → Ask T
-  apply_mask : Change (Stored T) → Ask T
-  set_values : List (Stored T) → Ask T
-  apply_values : Change (Stored T) → Ask T
+  apply_mask apply_values : Change (Stored T) → Ask T
+  set_values extend_values : List (Stored T) → Ask T
   set : ℕ → Option (Stored T) → Ask T
   write : ℕ → Stored T → Ask T
   push : Option (Stored T) → Ask T
-  push_null : Ask T
-  pop : Ask T
   extend : List (Option (Stored T)) → Ask T
-  extend_values : List (Stored T) → Ask T
   extend_constant : ℕ → Option (Stored T) → Ask T
-  reserve : Ask T
-  shrink : Ask T
-  freeze : Ask T
-  thaw : Ask T
-  nullable : Ask T
   to : LogicalType → Ask T
 
 -- what is asked of a table: that the entry of this number be made; something of what it holds; something of two
@@ -69,9 +50,7 @@ pub data Ask (T : Type 0) : Type 0 where
 pub data Request (T : Type 0) : Type 0 where
   make : ℕ → Shape → Source T → Request T
   at : ℕ → Ask T → Request T
-  clone_from : ℕ → ℕ → Request T
-  extend_from : ℕ → ℕ → Request T
-  equal : ℕ → ℕ → Request T
+  clone_from extend_from equal : ℕ → ℕ → Request T
   check_indexes : List ℤ → ℕ → Request T
 
 abbrev pub packed_bits : Bits → Packed

@@ -1,7 +1,7 @@
 -- What a command may do to one entry, in the words that its rows are written in. A command's condition is tested:
 -- where it fails the answer is `not_met` and nothing changes, and it is `not_met` nowhere else.
-use Rattle.std.specs.Prelude.{◌≡◌, ℕ, Bool, Option, Some, None, MatchOption, MatchBool, option_and_then, if◌then◌else◌}
-use Rattle.arrow_types.specs.Types.{Refusal, refusal}
+use Rattle.std.specs.Prelude.{◌≡◌, Bool, Option, Some, None, MatchOption, MatchBool, option_and_then, if◌then◌else◌}
+use Rattle.arrow_types.specs.Types.{Refusal}
 use Rattle.arrow_table.specs.Kind.{Shape}
 use Rattle.arrow_table.specs.Answer.{Answer, done, not_met, refused, is_memory}
 use Rattle.arrow_table.specs.Entry.{Value}

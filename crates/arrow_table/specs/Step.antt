@@ -15,10 +15,10 @@ use Rattle.arrow_table.specs.Request.{Source, Ask, Request, make, at, clone_from
 use Rattle.arrow_table.specs.Request as ask
 use Rattle.arrow_table.specs.Answer.{Answer, done, not_met, number, flag, numbers, typed, right, refused, is_memory, is_not_given, is_left}
 use Rattle.arrow_table.specs.Answer as answer
-use Rattle.arrow_table.specs.Entry.{Value, State, Held, Types, default_type, default_item, layout}
-use Rattle.arrow_table.specs.Row.{Row, gives, leaves, may, memory, answers, given, where_true, provided, of_kind, unmet}
+use Rattle.arrow_table.specs.Entry.{Value, State, Held, Types, default_item, layout}
+use Rattle.arrow_table.specs.Row.{Row, gives, leaves, may, memory, answers, given, where_true, provided, of_kind}
 use Rattle.arrow_table.specs.Parts.{PartsRow, PartsCost}
-use Rattle.arrow_table.specs.Change.{turns_of, with_column, cut_value, frozen_value, thawed_value, empty_value, null_in, grown, slot_over, join_over, fitting}
+use Rattle.arrow_table.specs.Change.{turns_of, with_column, cut_value, frozen_value, thawed_value, empty_value, slots_start, null_in, grown, slot_over, join_over, fitting}
 
 -- what is more than offsets can tell the end of is refused
 abbrev pub unless_over : {T : Type 0} → Option (Value T) → Bool → Row T → Row T
@@ -37,14 +37,11 @@ module _ {T : Type 0} (c : Types T) where
   abbrev pub Makes : Shape → Source T → Row T
   Makes s ask.nothing = memory None (leaves (empty_value c s))
   Makes s (ask.nulls t n) =
-      where_true None (is_frozen s) (provided None (IsRightType (layout c s.sort) t) (memory None (leaves (record {
-        shape = s;
-        column = column_with t nothing_around (replicate n (default_item c s.sort)) (Some (replicate n false));
-      }))))
+      let column = column_with t nothing_around (replicate n (default_item c s.sort)) (Some (replicate n false)) in
+      where_true None (is_frozen s) (provided None (IsRightType (layout c s.sort) t) (memory None (leaves (with_column (empty_value c s) column))))
   Makes s (ask.parts t raw mask) = PartsRow c s t mask raw
   Makes s (ask.slots slots) =
-      let start = with_column (empty_value c s) (column_with (default_type c s.sort) nothing_around [] (if is_native s then Some [] else None)) in
-      where_true None (not (is_values_alone s) && list_all (slot_fits s.sort) slots) (Filled start slots (λ v. if is_frozen s then frozen_value v else v))
+      where_true None (not (is_values_alone s) && list_all (slot_fits s.sort) slots) (Filled (slots_start c s) slots (λ v. if is_frozen s then frozen_value v else v))
   Makes s (ask.items items) = where_true None (list_all (fits s.sort) items) (Filled (empty_value c s) (map Some items) (λ v. v))
 
   module _ (v : Value T) where
@@ -77,60 +74,38 @@ module _ {T : Type 0} (c : Types T) where
     -- what is done to the value that an entry holds
     abbrev pub Does : Ask T → Row T
     Does ask.len = tells (number (length v.column.rows))
-    Does (ask.value i) = do
-      x ← slice_get (stored_values v.column) i
-      copied (tells (answer.slot (Some x)))
-    Does (ask.get i) = do
-      x ← slice_get (slots_of v.column) i
-      copied (tells (answer.slot x))
-    Does (ask.is_null i) = do
-      mark ← slice_get (marks_of v.column) i
-      tells (flag (not mark))
+    Does (ask.value i) = slice_get (stored_values v.column) i >>= (λ x. copied (tells (answer.slot (Some x))))
+    Does (ask.get i) = slice_get (slots_of v.column) i >>= (λ x. copied (tells (answer.slot x)))
+    Does (ask.is_null i) = slice_get (marks_of v.column) i >>= (λ mark. tells (flag (not mark)))
     Does ask.null_count = tells (number (count_by not (marks_of v.column)))
     Does ask.all_slots = memory (Some v) (tells (answer.slots (slots_of v.column)))
     Does (ask.turns turns) = memory (Some v) (tells (answer.slots (turns_of turns (stored_values v.column))))
     Does ask.type_of = memory (Some v) (tells (typed v.column.data_type))
     Does ask.held = tells (flag v.column.held)
     Does ask.bytes =
-        let around = v.column.around in
-        memory (Some v) (tells (answer.slot (Some (piece false (bytes_of around.lead (map bytes_in (stored_values v.column)) around.tail)))))
+        memory (Some v) (tells (answer.slot (Some (piece false (bytes_of v.column.around.lead (map bytes_in (stored_values v.column)) v.column.around.tail)))))
     Does ask.offsets = memory (Some v) (tells (numbers (offsets_of (length v.column.around.lead) (map bytes_in (stored_values v.column)))))
-    Does (ask.slice a n) = do
-      nat_le a (length v.column.rows) && nat_le n (length v.column.rows - a)
-      leaves (cut_value v a n)
+    Does (ask.slice a n) = (nat_le a (length v.column.rows) && nat_le n (length v.column.rows - a)) >> leaves (cut_value v a n)
     Does ask.empty = gives done None
-    Does (ask.set_mask mask) = do
-      option_map_or (λ marks. nat_eq (length marks) (length v.column.rows)) mask true
-      becomes (with_mask v.column mask)
-    Does (ask.apply_mask change) = do
-      of_marks ← change_of_marks change
-      becomes (if v.column.held then with_mask v.column (Some (changed of_marks (marks_of v.column))) else v.column)
-    Does (ask.set_values items) = do
-      nat_eq (length items) (length v.column.rows) && list_all (fits v.shape.sort) items
-      becomes (with_stored v.column items)
-    Does (ask.apply_values change) = do
-      change_fits v.shape.sort change
-      becomes (with_stored v.column (changed change (stored_values v.column)))
-    Does (ask.set i x) = do
-      nat_lt i (length v.column.rows) && slot_fits v.shape.sort x
-      becomes (with_slot (null_in c v) v.column i x)
-    Does (ask.write i x) = do
-      nat_lt i (length v.column.rows) && fits v.shape.sort x
-      may (λ reply. is_frozen v.shape && is_not_given reply) (Some v) (leaves (with_column v (with_stored v.column (slice_set (stored_values v.column) i x))))
-    Does (ask.push x) = do
-      slot_fits v.shape.sort x && (is_nullable v.shape || not (is_none x))
-      memory (Some v) (unless_over (Some v) (slot_over c v x) (leaves (grown c v (x ∷ []))))
+    Does (ask.set_mask mask) = option_map_or (λ marks. nat_eq (length marks) (length v.column.rows)) mask true >> becomes (with_mask v.column mask)
+    Does (ask.apply_mask change) =
+        change_of_marks change >>= (λ of_marks. becomes (if v.column.held then with_mask v.column (Some (changed of_marks (marks_of v.column))) else v.column))
+    Does (ask.set_values items) = (nat_eq (length items) (length v.column.rows) && list_all (fits v.shape.sort) items) >> becomes (with_stored v.column items)
+    Does (ask.apply_values change) = change_fits v.shape.sort change >> becomes (with_stored v.column (changed change (stored_values v.column)))
+    Does (ask.set i x) = (nat_lt i (length v.column.rows) && slot_fits v.shape.sort x) >> becomes (with_slot (null_in c v) v.column i x)
+    Does (ask.write i x) =
+        (nat_lt i (length v.column.rows) && fits v.shape.sort x) >>
+        may (λ reply. is_frozen v.shape && is_not_given reply) (Some v) (leaves (with_column v (with_stored v.column (slice_set (stored_values v.column) i x))))
+    Does (ask.push x) =
+        (slot_fits v.shape.sort x && (is_nullable v.shape || not (is_none x))) >>
+        memory (Some v) (unless_over (Some v) (slot_over c v x) (leaves (grown c v (x ∷ []))))
     Does ask.push_null = memory (Some v) (leaves (grown c v ((if is_nullable v.shape then None else Some (null_in c v)) ∷ [])))
     Does ask.pop = copied (gives (answer.slot (last_slot v.column)) (Some (with_column v (without_last v.column))))
-    Does (ask.extend slots) = do
-      list_all (slot_fits v.shape.sort) slots
-      Extends slots
-    Does (ask.extend_values items) = do
-      list_all (fits v.shape.sort) items
-      Extends (map Some items)
-    Does (ask.extend_constant n x) = do
-      slot_fits v.shape.sort x
-      becomes (option_map_or (λ given. append_values v.column (replicate n given)) x (append_nulls v.column (replicate n (null_in c v))))
+    Does (ask.extend slots) = list_all (slot_fits v.shape.sort) slots >> Extends slots
+    Does (ask.extend_values items) = list_all (fits v.shape.sort) items >> Extends (map Some items)
+    Does (ask.extend_constant n x) =
+        slot_fits v.shape.sort x >>
+        becomes (option_map_or (λ given. append_values v.column (replicate n given)) x (append_nulls v.column (replicate n (null_in c v))))
     Does ask.reserve = memory (Some v) (leaves v)
     Does ask.shrink = memory (Some v) (leaves v)
     Does ask.freeze = may is_memory None (leaves (frozen_value v))
@@ -140,15 +115,11 @@ module _ {T : Type 0} (c : Types T) where
 
     -- the same with what another entry holds
     abbrev pub Joins : Value T → Row T
-    Joins w = do
-      same_kind v.shape w.shape
-      memory (Some v) (unless_over (Some v) (join_over c v w) (leaves (with_column v (joined v.column w.column))))
+    Joins w = same_kind v.shape w.shape >> memory (Some v) (unless_over (Some v) (join_over c v w) (leaves (with_column v (joined v.column w.column))))
 
     -- whether the slots are the same: types, held masks and values under nulls are not compared
     abbrev pub Compares : Value T → Row T
-    Compares w = do
-      same_kind v.shape w.shape
-      λ reply new. (same : Bool) × (IsTrue same ↔ slots_of v.column ≡ slots_of w.column) × tells (flag same) reply new
+    Compares w = same_kind v.shape w.shape >> (λ reply new. (same : Bool) × (IsTrue same ↔ slots_of v.column ≡ slots_of w.column) × tells (flag same) reply new)
 
 -- the kinds that a command is for
 abbrev pub is_for : {T : Type 0} → Ask T → Shape → Bool

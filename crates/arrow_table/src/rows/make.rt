@@ -84,7 +84,7 @@ impl<'a, T: NativeType, O: Offset> EntryRow<T, O> for NewNull<'a> {
 }
 
 /// Whether a kind is an array's.
-fn is_array(kind: Kind) -> bool
+pub(crate) fn is_array(kind: Kind) -> bool
     ensures { result ≡ is_frozen (shape kind) }
 {
     matches!(
@@ -151,7 +151,10 @@ fn null_entry<T: NativeType, O: Offset>(
 /// # Errors
 /// `OutOfMemory` where memory is refused.
 #[tactic(auto, using(crate::proofs::Makes::makes_empty))]
-fn empty_entry<T: NativeType, O: Offset>(alloc: Global, kind: Kind) -> Result<Entry<T, O>, Error>
+pub(crate) fn empty_entry<T: NativeType, O: Offset>(
+    alloc: Global,
+    kind: Kind,
+) -> Result<Entry<T, O>, Error>
     ensures ok { IfOk result (λ made. value_of made ≡ empty_value (types T.zero T.PRIMITIVE O.most O.IS_LARGE) (shape kind)) }
     ensures err { IfErr result (λ e. e ≡ Error.OutOfMemory) }
 {

@@ -52,7 +52,9 @@ impl<T: NativeType, O: Offset> EntryRow<T, O> for Empty {
 
 /// What becomes of what was in an entry that is to be an array, and the answer.
 #[tactic(auto, using(crate::proofs::Seen::seen_reads, crate::proofs::Seen::seen_freezes))]
-fn frozen<T: NativeType, O: Offset>(taken: Option<Entry<T, O>>) -> (Option<Entry<T, O>>, Reply<T>)
+pub(crate) fn frozen<T: NativeType, O: Offset>(
+    taken: Option<Entry<T, O>>,
+) -> (Option<Entry<T, O>>, Reply<T>)
     ensures { Does_to (types T.zero T.PRIMITIVE O.most O.IS_LARGE) is_builder ask.freeze (option_map value_of taken) (told result.1) (option_map value_of result.0) }
 {
     match taken {

@@ -1,6 +1,5 @@
-use Rattle.std.proofs.Common.{◌+◌, arith, ap, refl, sym, subst}
+use Rattle.std.proofs.Common.{◌+◌, arith, ap, refl}
 use Rattle.arrow_table.specs.Entry.{table_of, types}
-use Rattle.arrow_table.specs.Run.{CostsAtMost}
 use Rattle.arrow_table.proofs.RunLemmas.{appends-more, appends-none, costs-more, costs-none}
 use Rattle.arrow_table.proofs.table.run.Goals as goal
 

@@ -1,9 +1,8 @@
-use Rattle.std.proofs.Common.{rules, ◌≡◌, Some, map, ap, refl, List, [], ◌∷◌}
+use Rattle.std.proofs.Common.{rules, ◌≡◌, Some, map, ap, [], ◌∷◌}
 use Rattle.std.proofs.lemmas.List.{nil_from_length}
-use Rattle.std.specs.List.{list_all}
 use Rattle.arrow_table.specs.Entry.{types}
-use Rattle.arrow_table.specs.Item.{fits, stored_item}
-use Rattle.arrow_table.proofs.Grown.{rest-taken, rest-none, rest-refused}
+use Rattle.arrow_table.specs.Item.{stored_item}
+use Rattle.arrow_table.proofs.Grown.{rest-taken, rest-none}
 use Rattle.arrow_table.proofs.rows.extended.push_items.Goals as goal
 
 pub loop-item-preserved : goal.loop-item-preserved

@@ -1,4 +1,4 @@
-use Rattle.std.proofs.Common.{◌≡◌, ◌<◌, ◌≤◌, [], ◌∷◌, length, map, option_map, slice_set, refl, arith}
+use Rattle.std.proofs.Common.{◌<◌, length, option_map, slice_set, refl, arith}
 use Rattle.arrow_types.specs.Types.{logical_type}
 use Rattle.arrow_table.specs.Answer.{told}
 use Rattle.arrow_table.specs.Entry.{types, value_of}
@@ -6,8 +6,8 @@ use Rattle.arrow_table.specs.Kind.{shape}
 use Rattle.arrow_table.specs.Request.{given_by, make, packed_bits}
 use Rattle.arrow_table.specs.Request as ask
 use Rattle.arrow_table.specs.Step.{Makes_in}
-use Rattle.arrow_table.proofs.Costs.{costs-still, costs-anywhere, most-anywhere, unmet-costs}
-use Rattle.arrow_table.proofs.Steps.{at-row, got, past-row}
+use Rattle.arrow_table.proofs.Costs.{costs-anywhere, most-anywhere}
+use Rattle.arrow_table.proofs.Steps.{at-row, got}
 use Rattle.arrow_table.proofs.rows.step.parts_at.Goals as goal
 
 pub returns-clause-step : goal.returns-clause-step

@@ -1,7 +1,7 @@
-use Rattle.std.proofs.Common.{◌≡◌, ◌<◌, length, map, option_map, slice_set, ap, arith}
+use Rattle.std.proofs.Common.{◌<◌, length, map, option_map, slice_set, ap, arith}
 use Rattle.arrow_table.specs.Answer.{told}
 use Rattle.arrow_table.specs.Entry.{value_of}
-use Rattle.arrow_table.specs.Step.{entry_at, other_at}
+use Rattle.arrow_table.specs.Step.{other_at}
 use Rattle.arrow_table.proofs.Steps.{at-row, got, others-stay, set-twice}
 use Rattle.arrow_table.proofs.rows.two.at_with.Goals as goal
 

@@ -1,4 +1,4 @@
-use Rattle.std.proofs.Common.{◌≡◌, ◌<◌, length, map, option_map, arith}
+use Rattle.std.proofs.Common.{◌<◌, length, map, option_map, arith}
 use Rattle.arrow_table.specs.Answer.{told}
 use Rattle.arrow_table.specs.Entry.{types, value_of}
 use Rattle.arrow_table.specs.Step.{Compares_to, entry_at}

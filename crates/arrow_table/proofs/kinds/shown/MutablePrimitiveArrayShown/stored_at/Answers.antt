@@ -1,4 +1,3 @@
-use Rattle.std.proofs.Common.{arith}
 use Rattle.arrow_bytes.specs.Pieces.{nothing_around}
 use Rattle.arrow_table.specs.Item.{value}
 use Rattle.arrow_table.proofs.Slots.{seen-read}
