@@ -29,6 +29,7 @@ use Rattle.arrow_table.specs.Row.{Row, leaves, memory, passes}
 use Rattle.arrow_table.specs.Run.{CostsAtMost}
 use Rattle.arrow_table.specs.Outcome.{IsKindOf, MadeBy, Untaken, UnlessMemory, reply_of}
 use Rattle.arrow_table.proofs.Seen.{parts-seen}
+use Rattle.arrow_table.proofs.Costs.{costs-still}
 
 module _ {T A : Type 0} (value : A → Value T) where
   refused-row : (result : Result A Error) (why : Refusal) → IsErrAnd result (λ e. refusal e ≡ why) → MadeBy value result (λ reply new. (reply ≡ refused why) × (new ≡ None))
@@ -332,13 +333,6 @@ still true offsets bytes old new costs e = absurd (false≢true (sym e))
 pub still-growing : (text : Bool) (offsets bytes : List ℕ) (old new : Cost) → BuilderCosts text offsets bytes old new → text ≡ false → new ≡ old
 still-growing text offsets bytes old new costs e = either-way (last_of offsets) (length bytes) (λ same. still text offsets bytes old new (costs.read same) e) (λ other. costs.unread other)
 
-pub same-cost : {T : Type 0} (commands : List (Request T)) (cost : Cost) → CostsAtMost commands cost cost
-same-cost commands cost = record {
-  ascii = record { never_falls = omega arith; most = omega arith };
-  whole = record { never_falls = omega arith; most = omega arith };
-  looked = record { never_falls = omega arith; most = omega arith };
-}
-
 pub tested-once : {T : Type 0} (text : Bool) (group : Group) (t : LogicalType) (mask : Option Packed) (numbers : List ℤ) (held offsets bytes : List ℕ) (old new : Cost)
     → offsets ≡ map unsigned_abs numbers → (text ≡ false → new ≡ old) → TestsOnce offsets bytes old new
     → CostsAtMost {T = T} (make 0 (shaped group (pieces text)) (parts t (cut_pieces numbers held) mask) ∷ []) old new
@@ -349,4 +343,4 @@ tested-once true group t mask numbers held offsets bytes old new is-offsets same
       whole = record { never_falls = once.whole.never_falls; most = omega (arith, once.whole.most) };
       looked = record { never_falls = once.looked.never_falls; most = omega (arith, once.looked.most, count) };
     }
-tested-once false group t mask numbers held offsets bytes old new is-offsets same once = rw (same refl) (same-cost (make 0 (shaped group (pieces false)) (parts t (cut_pieces numbers held) mask) ∷ []) old)
+tested-once false group t mask numbers held offsets bytes old new is-offsets same once = rw (same refl) (costs-still (make 0 (shaped group (pieces false)) (parts t (cut_pieces numbers held) mask) ∷ []) old)

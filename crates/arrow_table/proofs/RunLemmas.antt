@@ -24,13 +24,6 @@ costs-push cs c x y z h k = record {
   looked = rises-more (total inner_offsets_of cs) (total inner_offsets_of (c ∷ [])) (total inner_offsets_of (cs ++ c ∷ [])) x.bytes_looked y.bytes_looked z.bytes_looked (total-push inner_offsets_of cs c) h.looked k.looked;
 }
 
-rises-none : (a : ℕ) → RisesAtMost 0 a a
-rises-none a = record { never_falls = omega arith; most = omega arith }
-
--- no command costs nothing
-pub costs-none : (T : Type 0) (x : Cost) → CostsAtMost {T = T} [] x x
-costs-none T x = record { ascii = rises-none x.ascii_tests; whole = rises-none x.whole_tests; looked = rises-none x.bytes_looked }
-
 module _ {T O : Type 0} (c : Types T) (number : O → ℤ) where
   -- a run, and then one step
   run-step : (s m n : Held T) (cs : List (Request T)) (rs : List (Answer T)) (d : Request T) (r : Answer T) → IsRun c s cs rs m → IsStep c m d r n → IsRun c s (cs ++ d ∷ []) (rs ++ r ∷ []) n

@@ -1,23 +1,14 @@
 -- Seeing a column over what slots store, whatever their sort, commutes with whatever is done to columns.
 use Rattle.std.proofs.Common.{◌≡◌, ◌↔◌, ℕ, zero, suc, ◌+◌, ◌-◌, ◌≤◌, Bool, true, false, not, ◌&&◌, ◌||◌, List, [], ◌∷◌, ◌++◌, length, map, take, drop, replicate, slice_get, slice_set, Option, Some, None, option_map, option_and_then, is_some, if◌then◌else◌, refl, sym, ap, ap₂, ◌∙◌, arith}
 use Rattle.std.specs.List.{zip, list_all, concat}
-use Rattle.std.proofs.lemmas.List.{length-map, map-append}
+use Rattle.std.proofs.lemmas.List.{drop-map, length-map, map-append, take-map}
+use Rattle.std.proofs.lemmas.Option.{slice_get-map, slice_get_past}
 use Rattle.arrow_types.specs.Types.{LogicalType}
 use Rattle.arrow_memory.specs.Column.{ColumnWith, Column, cut, Row, slot, rows_of, column_with, stored_values, marks_of, slots_of, all_valid, cut_with, append_slot, append_slots, append_values, append_nulls, last_slot, without_last, without_needless_mask, joined, with_slot, with_mask, with_stored, with_type}
 use Rattle.arrow_bytes.specs.Pieces.{Around, nothing_around, around_cut}
 use Rattle.arrow_table.specs.Item.{Stored, value, bit, piece, bytes_in}
 use Rattle.arrow_bytes.specs.Column.{ByteColumn}
 use Rattle.arrow_table.specs.Entry.{seen}
-
-map-take : {A B : Type 0} (h : A → B) (n : ℕ) (xs : List A) → map h (take n xs) ≡ take n (map h xs)
-map-take h zero xs = refl
-map-take h (suc n) [] = refl
-map-take h (suc n) (x ∷ xs) = ap (λ rest. h x ∷ rest) (map-take h n xs)
-
-map-drop : {A B : Type 0} (h : A → B) (n : ℕ) (xs : List A) → map h (drop n xs) ≡ drop n (map h xs)
-map-drop h zero xs = refl
-map-drop h (suc n) [] = refl
-map-drop h (suc n) (x ∷ xs) = map-drop h n xs
 
 map-replicate : {A B : Type 0} (h : A → B) (n : ℕ) (x : A) → map h (replicate n x) ≡ replicate n (h x)
 map-replicate h zero x = refl
@@ -27,16 +18,6 @@ pub map-slice_set : {A B : Type 0} (h : A → B) (xs : List A) (i : ℕ) (x : A)
 map-slice_set h [] i x = refl
 map-slice_set h (y ∷ xs) zero x = refl
 map-slice_set h (y ∷ xs) (suc i) x = ap (λ rest. h y ∷ rest) (map-slice_set h xs i x)
-
-pub slice_get-of-map : {A B : Type 0} (h : A → B) (xs : List A) (i : ℕ) → slice_get (map h xs) i ≡ option_map h (slice_get xs i)
-slice_get-of-map h [] i = refl
-slice_get-of-map h (x ∷ xs) zero = refl
-slice_get-of-map h (x ∷ xs) (suc i) = slice_get-of-map h xs i
-
-pub slice_get-past : {A : Type 0} (xs : List A) (i : ℕ) → length xs ≤ i → slice_get xs i ≡ None
-slice_get-past [] i past = refl
-slice_get-past (x ∷ xs) zero past = absurd (omega arith)
-slice_get-past (x ∷ xs) (suc i) past = slice_get-past xs i (omega arith)
 
 module _ {A S T : Type 0} (around : A → Around) (stored : S → Stored T) where
   -- a row, and rows
@@ -114,10 +95,10 @@ module _ {A S T : Type 0} (around : A → Around) (stored : S → Stored T) wher
   valid-seen c = rows-valid c.rows
 
   pub get-stored : (c : ColumnWith A S) (i : ℕ) (x : S) → slice_get (stored_values c) i ≡ Some x → slice_get (stored_values (seen around stored c)) i ≡ Some (stored x)
-  get-stored c i x e = ap (λ xs. slice_get xs i) (stored-seen c) ∙ slice_get-of-map stored (stored_values c) i ∙ ap (option_map stored) e
+  get-stored c i x e = ap (λ xs. slice_get xs i) (stored-seen c) ∙ slice_get-map stored (stored_values c) i ∙ ap (option_map stored) e
 
   pub get-slot : (c : ColumnWith A S) (i : ℕ) (x : Option S) → slice_get (slots_of c) i ≡ Some x → slice_get (slots_of (seen around stored c)) i ≡ Some (option_map stored x)
-  get-slot c i x e = ap (λ xs. slice_get xs i) (slots-seen c) ∙ slice_get-of-map (option_map stored) (slots_of c) i ∙ ap (option_map (option_map stored)) e
+  get-slot c i x e = ap (λ xs. slice_get xs i) (slots-seen c) ∙ slice_get-map (option_map stored) (slots_of c) i ∙ ap (option_map (option_map stored)) e
 
   pub get-mark : (c : ColumnWith A S) (i : ℕ) (x : Bool) → slice_get (marks_of c) i ≡ Some x → slice_get (marks_of (seen around stored c)) i ≡ Some x
   get-mark c i x e = ap (λ xs. slice_get xs i) (marks-seen c) ∙ e
@@ -125,15 +106,15 @@ module _ {A S T : Type 0} (around : A → Around) (stored : S → Stored T) wher
   -- past the end there is nothing
   pub past-stored : (c : ColumnWith A S) (i : ℕ) → length c.rows ≤ i → slice_get (stored_values (seen around stored c)) i ≡ None
   unfolding seen
-  past-stored c i past = slice_get-past (stored_values (seen around stored c)) i (omega (arith, length-map (map (λ (r : Row S). (stored r.0, r.1)) c.rows) (λ (r : Row (Stored T)). r.0), length-map {B = Row (Stored T)} c.rows (λ (r : Row S). (stored r.0, r.1))))
+  past-stored c i past = slice_get_past (stored_values (seen around stored c)) i (omega (arith, length-map (map (λ (r : Row S). (stored r.0, r.1)) c.rows) (λ (r : Row (Stored T)). r.0), length-map {B = Row (Stored T)} c.rows (λ (r : Row S). (stored r.0, r.1))))
 
   pub past-slot : (c : ColumnWith A S) (i : ℕ) → length c.rows ≤ i → slice_get (slots_of (seen around stored c)) i ≡ None
   unfolding seen
-  past-slot c i past = slice_get-past (slots_of (seen around stored c)) i (omega (arith, length-map (map (λ (r : Row S). (stored r.0, r.1)) c.rows) slot, length-map {B = Row (Stored T)} c.rows (λ (r : Row S). (stored r.0, r.1))))
+  past-slot c i past = slice_get_past (slots_of (seen around stored c)) i (omega (arith, length-map (map (λ (r : Row S). (stored r.0, r.1)) c.rows) slot, length-map {B = Row (Stored T)} c.rows (λ (r : Row S). (stored r.0, r.1))))
 
   pub past-mark : (c : ColumnWith A S) (i : ℕ) → length c.rows ≤ i → slice_get (marks_of (seen around stored c)) i ≡ None
   unfolding seen
-  past-mark c i past = slice_get-past (marks_of (seen around stored c)) i (omega (arith, length-map (map (λ (r : Row S). (stored r.0, r.1)) c.rows) (λ (r : Row (Stored T)). r.1), length-map {B = Row (Stored T)} c.rows (λ (r : Row S). (stored r.0, r.1))))
+  past-mark c i past = slice_get_past (marks_of (seen around stored c)) i (omega (arith, length-map (map (λ (r : Row S). (stored r.0, r.1)) c.rows) (λ (r : Row (Stored T)). r.1), length-map {B = Row (Stored T)} c.rows (λ (r : Row S). (stored r.0, r.1))))
 
   -- columns from parts, and with other parts
   pub parts-seen : (t : LogicalType) (a : A) (values : List S) (mask : Option (List Bool)) → seen around stored (column_with t a values mask) ≡ column_with t (around a) (map stored values) mask
@@ -169,13 +150,13 @@ module _ {A S T : Type 0} (around : A → Around) (stored : S → Stored T) wher
 
   pub short-seen : (c : ColumnWith A S) → seen around stored (without_last c) ≡ without_last (seen around stored c)
   unfolding seen with-rows
-  short-seen c = ap (λ rows. with-rows c rows c.held) (map-take _ (length c.rows - 1) c.rows ∙ ap (λ n. take (n - 1) (map (λ (r : Row S). (stored r.0, r.1)) c.rows)) (sym (length-map c.rows _)))
+  short-seen c = ap (λ rows. with-rows c rows c.held) (sym (take-map _ (length c.rows - 1) c.rows) ∙ ap (λ n. take (n - 1) (map (λ (r : Row S). (stored r.0, r.1)) c.rows)) (sym (length-map c.rows _)))
 
   pub last-seen : (c : ColumnWith A S) → last_slot (seen around stored c) ≡ option_map stored (last_slot c)
   unfolding seen
   last-seen c =
       ap (λ n. option_and_then slot (slice_get (map (λ (r : Row S). (stored r.0, r.1)) c.rows) (n - 1))) (length-map c.rows _)
-      ∙ ap (option_and_then slot) (slice_get-of-map _ c.rows (length c.rows - 1))
+      ∙ ap (option_and_then slot) (slice_get-map _ c.rows (length c.rows - 1))
       ∙ shown (slice_get c.rows (length c.rows - 1))
     where
       shown : (r : Option (Row S)) → option_and_then slot (option_map (λ (r : Row S). (stored r.0, r.1)) r) ≡ option_map stored (option_and_then slot r)
@@ -210,7 +191,7 @@ module _ {A S T : Type 0} (around : A → Around) (stored : S → Stored T) wher
   cut-seen cut_around cut_stored same c i n =
       ap₂ (λ a rows. let whole : ColumnWith Around (Stored T) = record { data_type = c.data_type; around = a; rows = rows; held = c.held } in whole)
       (same c.around (stored_values c) i n ∙ ap (λ xs. cut_stored (around c.around) xs i n) (sym (rows-stored c.rows)))
-      (map-take _ n (drop i c.rows) ∙ ap (take n) (map-drop _ i c.rows))
+      (sym (take-map _ n (drop i c.rows)) ∙ ap (take n) (sym (drop-map _ i c.rows)))
 
 module _ {A B S T : Type 0} (around : A → Around) (around₂ : B → Around) (stored : S → Stored T) where
   pub joined-seen : (c : ColumnWith A S) (d : ColumnWith B S) → seen around stored (joined c d) ≡ joined (seen around stored c) (seen around₂ stored d)

@@ -2,7 +2,7 @@
 use Rattle.std.proofs.Common.{◌≡◌, ◌+◌, ◌-◌, ◌≤◌, ℕ, zero, suc, List, [], ◌∷◌, ◌++◌, length, map, take, drop, slice_get, Option, Some, None, MatchOption, Bor, refl, sym, ap, ap₂, ◌∙◌, arith}
 use Rattle.std.specs.Iterator.{Yields, SkipsThenYields}
 use Rattle.std.specs.Slice.Iter.{iter_rest, iter_steps}
-use Rattle.std.proofs.lemmas.List.{length-map, map-append, length-append}
+use Rattle.std.proofs.lemmas.List.{drop-map, length-map, map-append, length-append}
 use Rattle.arrow_memory.specs.Items.{SkipsThenFirstBy}
 use Rattle.arrow_table.specs.declared.item.Item.{Item}
 use Rattle.arrow_table.specs.declared.item.Turn.{Turn}
@@ -15,13 +15,8 @@ module _ {S X : Type 0} (f : S → X) where
   pub last-map : (xs ys : List S) (x : S) → xs ≡ ys ++ x ∷ [] → map f xs ≡ map f ys ++ f x ∷ []
   last-map xs ys x is = ap (map f) is ∙ map-append f ys (x ∷ [])
 
-  drop-map : (n : ℕ) (xs : List S) → drop n (map f xs) ≡ map f (drop n xs)
-  drop-map zero xs = refl
-  drop-map (suc n) [] = refl
-  drop-map (suc n) (x ∷ xs) = drop-map n xs
-
   pub skip-map : (n : ℕ) (xs ys : List S) (x : S) → drop n xs ≡ x ∷ ys → drop n (map f xs) ≡ f x ∷ map f ys
-  skip-map n xs ys x is = drop-map n xs ∙ ap (map f) is
+  skip-map n xs ys x is = drop-map f n xs ∙ ap (map f) is
 
   pub short-map : (n : ℕ) (xs : List S) → length xs ≤ n → length (map f xs) ≤ n
   short-map n xs short = omega (arith, short, length-map xs f)

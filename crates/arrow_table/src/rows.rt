@@ -1,4 +1,5 @@
 //! What each command does to the entry that it names.
+pub(crate) mod apply_values;
 pub(crate) mod builder;
 pub(crate) mod bytes;
 pub(crate) mod constant;
@@ -11,9 +12,11 @@ pub(crate) mod make;
 pub(crate) mod mask;
 pub(crate) mod parts;
 pub(crate) mod read;
+pub(crate) mod set;
+pub(crate) mod set_values;
 pub(crate) mod slots;
 pub(crate) mod step;
 pub(crate) mod table;
 pub(crate) mod two;
-pub(crate) mod values;
 pub(crate) mod whole;
+pub(crate) mod write;

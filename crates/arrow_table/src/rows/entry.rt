@@ -1,5 +1,5 @@
 //! How a command finds in an entry the kind that it is for: one function for each group of kinds, whatever the command.
-ghost use Rattle.std.specs.Prelude.{◌≡◌, Option, Some, option_map};
+ghost use Rattle.std.specs.Prelude.{Option, Some, option_map};
 ghost use Rattle.arrow_table.specs.Answer.{told};
 ghost use Rattle.arrow_table.specs.Entry.{Value, types, value_of};
 ghost use Rattle.arrow_table.specs.Request.{Ask};
@@ -13,7 +13,6 @@ use crate::{Entry, Reply};
 use arrow_types::native_type::NativeType;
 use arrow_types::offset::Offset;
 use std::alloc::Global;
-use std::mem::replace;
 
 /// A row: what a command does to an entry.
 pub(crate) trait EntryRow<T: NativeType, O: Offset> {
@@ -127,14 +126,4 @@ impl<T: NativeType, O: Offset, R: ChangesBuilder<T, O> + Drop> EntryRow<T, O> fo
             _ => Reply::NotMet,
         }
     }
-}
-
-/// Puts something in the place of what is in an entry.
-pub(crate) fn put<T: NativeType, O: Offset>(
-    entry: &mut Option<Entry<T, O>>,
-    kept: Option<Entry<T, O>>,
-)
-    ensures { entry.new ≡ kept }
-{
-    drop(replace(entry, kept));
 }

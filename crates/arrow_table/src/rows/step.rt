@@ -8,6 +8,7 @@ ghost use Rattle.arrow_table.specs.Request.{asked, given_by, make, packed_bits, 
 ghost use Rattle.arrow_table.specs.Run.{CostsAtMost, is_parts};
 ghost use Rattle.arrow_table.specs.Step.{Changes, IsStep};
 
+use crate::rows::apply_values::ApplyValues;
 use crate::rows::builder::{Pop, Push, PushNull, Reserve, Shrink};
 use crate::rows::bytes::{Bytes, OfPieces, Offsets};
 use crate::rows::constant::ExtendConstant;
@@ -19,11 +20,13 @@ use crate::rows::make::{New, NewNull};
 use crate::rows::mask::{ApplyMask, SetMask};
 use crate::rows::parts::parts;
 use crate::rows::read::{Held, Len, TypeOf};
+use crate::rows::set::Set;
+use crate::rows::set_values::SetValues;
 use crate::rows::slots::{Slots, Turns, Value};
 use crate::rows::table::at;
 use crate::rows::two::{CloneFrom, ExtendFrom, at_with, equal, indexes_checked};
-use crate::rows::values::{ApplyValues, Set, SetValues, Write};
 use crate::rows::whole::{Empty, Freeze, Nullable, Thaw, To};
+use crate::rows::write::Write;
 use crate::{Command, Entry, Parts, Reply};
 use arrow_check::cost::TextCost;
 use arrow_types::native_type::NativeType;

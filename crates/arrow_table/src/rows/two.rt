@@ -11,7 +11,7 @@ ghost use Rattle.arrow_table.specs.Step.{AtEntry, Compares_to, Joins, entry_at, 
 
 use crate::kinds::growing::Growing;
 use crate::kinds::kept::Kept;
-use crate::rows::entry::put;
+use crate::rows::whole::put;
 use crate::{Entry, Reply};
 use arrow_binary::{MutableBinaryArray, MutableBinaryValuesArray};
 use arrow_boolean::MutableBooleanArray;

@@ -1,6 +1,7 @@
-use Rattle.std.proofs.Common.{◌+◌, arith, ap, refl}
+use Rattle.std.proofs.Common.{◌+◌, [], arith, ap, refl}
 use Rattle.arrow_table.specs.Entry.{table_of, types}
-use Rattle.arrow_table.proofs.RunLemmas.{appends-more, appends-none, costs-more, costs-none}
+use Rattle.arrow_table.proofs.Costs.{costs-still}
+use Rattle.arrow_table.proofs.RunLemmas.{appends-more, appends-none, costs-more}
 use Rattle.arrow_table.proofs.table.run.Goals as goal
 
 pub loop-command-init : goal.loop-command-init
@@ -8,7 +9,7 @@ loop-command-init g c =
     let t = types g.T.NativeType.zero g.T.NativeType.PRIMITIVE g.O.Offset.most g.O.Offset.IS_LARGE in (
       refl,
       rw c.table.view_is (appends-none t g.O.Offset.number c.args.table.now c.args.commands.now c.args.replies.now.items),
-      rw (← c.table.view_is) (costs-none _ c.table.inside.cost),
+      rw (← c.table.view_is) (costs-still [] c.table.inside.cost),
       omega arith,
     )
 

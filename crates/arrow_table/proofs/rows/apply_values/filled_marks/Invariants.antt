@@ -1,5 +1,5 @@
 use Rattle.std.proofs.Common.{◌≡◌, length, replicate, take}
-use Rattle.arrow_table.proofs.rows.values.filled_marks.Given as goal
+use Rattle.arrow_table.proofs.rows.apply_values.filled_marks.Given as goal
 
 -- the places so far have the mark
 abbrev pub invariant-loop-i : goal.invariant-loop-i

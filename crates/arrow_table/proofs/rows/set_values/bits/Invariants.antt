@@ -2,7 +2,7 @@ use Rattle.std.proofs.Common.{◌≡◌, ◌++◌, IsTrue, length, map}
 use Rattle.std.specs.List.{list_all}
 use Rattle.arrow_table.specs.Item.{bit, fits, stored_item}
 use Rattle.arrow_table.specs.Kind.{boolean}
-use Rattle.arrow_table.proofs.rows.values.bits.Given as goal
+use Rattle.arrow_table.proofs.rows.set_values.bits.Given as goal
 
 -- what was taken stands before what is left, which is all of this sort
 abbrev pub invariant-loop-item : goal.invariant-loop-item

@@ -2,7 +2,7 @@ use Rattle.std.proofs.Common.{◌≡◌, ◌++◌, IsTrue, length, map}
 use Rattle.std.specs.List.{list_all}
 use Rattle.arrow_table.specs.Item.{value, fits, stored_item}
 use Rattle.arrow_table.specs.Kind.{native}
-use Rattle.arrow_table.proofs.rows.values.natives.Given as goal
+use Rattle.arrow_table.proofs.rows.set_values.natives.Given as goal
 
 -- what was taken stands before what is left, which is all of this sort
 abbrev pub invariant-loop-item : goal.invariant-loop-item

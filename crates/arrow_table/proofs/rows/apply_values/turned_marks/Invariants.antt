@@ -1,5 +1,5 @@
 use Rattle.arrow_table.proofs.Values.{TurnedSoFar}
-use Rattle.arrow_table.proofs.rows.values.turned_marks.Given as goal
+use Rattle.arrow_table.proofs.rows.apply_values.turned_marks.Given as goal
 
 -- so many are turned round from both ends
 abbrev pub invariant-loop-i : goal.invariant-loop-i

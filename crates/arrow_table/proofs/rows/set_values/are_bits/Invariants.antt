@@ -2,7 +2,7 @@ use Rattle.std.proofs.Common.{◌≡◌, length, map}
 use Rattle.std.specs.List.{list_all}
 use Rattle.arrow_table.specs.Item.{fits, stored_item}
 use Rattle.arrow_table.specs.Kind.{boolean}
-use Rattle.arrow_table.proofs.rows.values.are_bits.Given as goal
+use Rattle.arrow_table.proofs.rows.set_values.are_bits.Given as goal
 
 -- whether all are is whether all that are left are
 abbrev pub invariant-loop-item : goal.invariant-loop-item
