@@ -121,15 +121,15 @@ fn mask_that_no_row_needs_is_dropped(rt: HostRuntime) -> Result<(), Fail> {
 }
 
 /// Long arrays: each number below this one.
-const MANY: i64 = 300;
+const MANY: usize = 300;
 
 /// The numbers below a bound that leave this rest, for each rest whether it is wanted, in order.
 fn many(alloc: Global, rests: &[bool]) -> Result<Vec<i64>, Error> {
     let mut values = Vec::new(alloc);
     for value in 0..MANY {
         for (rest, is_wanted) in rests.iter().enumerate() {
-            if *is_wanted && value as usize % rests.len() == rest {
-                values.push(value)?;
+            if *is_wanted && value % rests.len() == rest {
+                values.push(value as i64)?;
             }
         }
     }
@@ -142,7 +142,7 @@ fn many_asked(alloc: Global, rests: &[bool]) -> Result<BooleanArray, Error> {
     for value in 0..MANY {
         let mut is_asked = false;
         for (rest, is_wanted) in rests.iter().enumerate() {
-            if value as usize % rests.len() == rest {
+            if value % rests.len() == rest {
                 is_asked = *is_wanted;
             }
         }
