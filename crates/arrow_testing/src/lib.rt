@@ -3,9 +3,11 @@
 
 mod tiny;
 
-use arrow_memory::bitmap::BitmapIter;
+use arrow_memory::bitmap::{Bitmap, BitmapIter, MutableBitmap};
+use arrow_memory::offset::{Offsets, OffsetsBuffer};
 use arrow_types::error::Error;
 use arrow_types::offset::Offset;
+use std::alloc::Global;
 use std::test::Fail;
 pub use tiny::Tiny;
 
@@ -63,4 +65,44 @@ pub fn are_offsets<O: Offset>(offsets: &[O], numbers: &[usize]) -> bool {
         }
     }
     offsets.next().is_none()
+}
+
+/// Offsets of these numbers.
+pub fn offsets_of<O: Offset>(alloc: Global, numbers: &[usize]) -> Result<Offsets<O>, Error> {
+    let mut offsets = Vec::new(alloc);
+    for number in numbers {
+        let Some(offset) = O::from_usize(*number) else {
+            return Err(Error::Overflow);
+        };
+        offsets.push(offset)?;
+    }
+    Offsets::try_from_vec(offsets)
+}
+
+/// Frozen offsets of these numbers.
+pub fn frozen_offsets<O: Offset>(
+    alloc: Global,
+    numbers: &[usize],
+) -> Result<OffsetsBuffer<O>, Error> {
+    offsets_of(alloc, numbers)?.freeze()
+}
+
+/// The growing mask that a text writes, where '1' is a set mark; none where the text is `none`.
+pub fn growing_mask(alloc: Global, text: &str) -> Result<Option<MutableBitmap>, Error> {
+    if text == "none" {
+        return Ok(None);
+    }
+    let mut marks = MutableBitmap::new(alloc);
+    for mark in text.as_bytes() {
+        marks.push(*mark == b'1')?;
+    }
+    Ok(Some(marks))
+}
+
+/// The mask that a text writes; none where the text is `none`.
+pub fn frozen_mask(alloc: Global, text: &str) -> Result<Option<Bitmap>, Error> {
+    match growing_mask(alloc, text)? {
+        Some(marks) => Ok(Some(marks.freeze()?)),
+        None => Ok(None),
+    }
 }

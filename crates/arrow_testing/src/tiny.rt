@@ -1,5 +1,5 @@
 //! A narrow offset.
-ghost use Rattle.std.specs.Prelude.{pos, ◌≤ℤ◌};
+ghost use Rattle.std.specs.Prelude.{◌≡◌, pos, ◌<ℤ◌, ◌≤ℤ◌, MatchOption};
 
 use arrow_types::offset::Offset;
 
@@ -8,6 +8,19 @@ use arrow_types::offset::Offset;
 pub struct Tiny {
     kept: i8,
     ghost within: { kept ≤ℤ pos 100 },
+}
+
+impl Tiny {
+    /// The offset of a number, a negative one too; `None` exactly where the number is above 100.
+    pub fn new(value: i8) -> Option<Tiny>
+        ensures { MatchOption result (pos 100 <ℤ value) (λ offset. (value ≤ℤ pos 100) × (offset.kept ≡ value)) }
+    {
+        if value <= 100 {
+            Some(Tiny { kept: value })
+        } else {
+            None
+        }
+    }
 }
 
 impl Offset for Tiny {

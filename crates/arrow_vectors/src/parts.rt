@@ -1,0 +1,405 @@
+//! Raw parts of arrays and builders of bytes and of text: which are refused, and where several faults are there, which one
+//! is told. A part is tested only where no part before it is at fault.
+use crate::Tiny;
+use crate::raw::{array_of, builder_of, builds, cut_off, holds, own_array, shows, values_of};
+use arrow_byte_array::{ByteArray, MutableByteArray, MutableByteValuesArray};
+use arrow_bytes::{Binary, ByteKind, Utf8};
+use arrow_testing::tells;
+use arrow_types::data_type::DataType;
+use arrow_types::error::Error;
+use arrow_types::offset::Offset;
+use either::{Left, Right};
+use std::alloc::Global;
+
+const PAST: &str = "offsets must not exceed the values length";
+
+const NOT_AT_END: &str = "the last offset must equal the values length";
+
+const NO_TEXT: &str = "every text between two offsets must be UTF-8";
+
+const MASK: &str = "validity mask length must match the number of values";
+
+const BUILDER_MASK: &str = "validity's length must be equal to the number of values";
+
+/// Stands for what is told of a type of another physical type.
+const TYPE: &str = "type";
+
+const MADE: &str = "made";
+
+/// What Arrow calls the types of a kind, and what is told of others.
+#[derive(Clone, Copy)]
+struct Words {
+    is_text: bool,
+    array: &'static str,
+    builder: &'static str,
+}
+
+const BYTES: Words = Words {
+    is_text: false,
+    array: "BinaryArray can only be initialized with DataType::Binary or DataType::LargeBinary",
+    builder: "MutableBinaryValuesArray can only be initialized with DataType::Binary or DataType::LargeBinary",
+};
+
+const TEXT: Words = Words {
+    is_text: true,
+    array: "Utf8Array can only be initialized with DataType::Utf8 or DataType::LargeUtf8",
+    builder: "MutableUtf8ValuesArray can only be initialized with DataType::Utf8 or DataType::LargeUtf8",
+};
+
+/// The type of a kind that a word stands for, over large offsets or others: `own`, `width` for that over the other
+/// offsets, or that of the other kind.
+fn named(words: Words, word: &str, is_large: bool) -> DataType {
+    let is_text = words.is_text == (word != "kind");
+    match (is_text, is_large == (word != "width")) {
+        (false, false) => DataType::Binary,
+        (false, true) => DataType::LargeBinary,
+        (true, false) => DataType::Utf8,
+        (true, true) => DataType::LargeUtf8,
+    }
+}
+
+/// A type, offsets, bytes and a mask, and what is told of them.
+type Case = (
+    &'static str,
+    &'static [usize],
+    &'static [u8],
+    &'static str,
+    &'static str,
+);
+
+/// Whether this is told of the parts of an array.
+fn is_array<K: ByteKind, O: Offset>(alloc: Global, words: Words, case: Case) -> bool {
+    let (word, offsets, bytes, mask, answer) = case;
+    let data_type = named(words, word, O::IS_LARGE);
+    let told = tells(array_of::<K, O>(alloc, data_type, offsets, bytes, mask));
+    told == if answer == TYPE { words.array } else { answer }
+}
+
+/// Whether this is told of the parts of a builder.
+fn is_builder<K: ByteKind, O: Offset>(alloc: Global, words: Words, case: Case) -> bool {
+    let (word, offsets, bytes, mask, answer) = case;
+    let data_type = named(words, word, O::IS_LARGE);
+    let told = tells(builder_of::<K, O>(alloc, data_type, offsets, bytes, mask));
+    told == if answer == TYPE {
+        words.builder
+    } else {
+        answer
+    }
+}
+
+/// Whether this is told of the parts of a builder without nulls, which has no mask.
+fn is_values<K: ByteKind, O: Offset>(alloc: Global, words: Words, case: Case) -> bool {
+    let (word, offsets, bytes, _, answer) = case;
+    let data_type = named(words, word, O::IS_LARGE);
+    let told = tells(values_of::<K, O>(alloc, data_type, offsets, bytes));
+    let wanted = match answer {
+        TYPE => words.builder,
+        BUILDER_MASK => MADE,
+        _ => answer,
+    };
+    told == wanted
+}
+
+/// Whether it is over each width of offsets, and over a narrow one.
+fn are_arrays<K: ByteKind>(alloc: Global, words: Words, case: Case) -> bool {
+    is_array::<K, i32>(alloc, words, case)
+        && is_array::<K, i64>(alloc, words, case)
+        && is_array::<K, Tiny>(alloc, words, case)
+}
+
+/// Whether it is of both builders, over each width of offsets, and over a narrow one.
+fn are_builders<K: ByteKind>(alloc: Global, words: Words, case: Case) -> bool {
+    is_builder::<K, i32>(alloc, words, case)
+        && is_builder::<K, i64>(alloc, words, case)
+        && is_builder::<K, Tiny>(alloc, words, case)
+        && is_values::<K, i32>(alloc, words, case)
+        && is_values::<K, i64>(alloc, words, case)
+        && is_values::<K, Tiny>(alloc, words, case)
+}
+
+/// The place of the first case of which something else is told of arrays; the number of cases where none is.
+fn first_array<K: ByteKind>(alloc: Global, words: Words, cases: &[Case]) -> usize {
+    for (place, case) in cases.iter().enumerate() {
+        if !are_arrays::<K>(alloc, words, *case) {
+            return place;
+        }
+    }
+    cases.len()
+}
+
+/// The place of the first case of which something else is told of builders; the number of cases where none is.
+fn first_builder<K: ByteKind>(alloc: Global, words: Words, cases: &[Case]) -> usize {
+    for (place, case) in cases.iter().enumerate() {
+        if !are_builders::<K>(alloc, words, *case) {
+            return place;
+        }
+    }
+    cases.len()
+}
+
+/// What is told of arrays of either kind: the last offset lies past the bytes; or else the mask has another number of
+/// marks than there are slots; or else the type is another.
+const ARRAYS: &[Case] = &[
+    ("own", &[2], b"\x09\x09\x09", "none", MADE),
+    ("own", &[3], b"\x09\x09", "none", PAST),
+    ("own", &[1, 4], b"\x09\x09\x09", "none", PAST),
+    ("own", &[1, 4], b"\x09\x09\x09", "11", PAST),
+    ("kind", &[1, 4], b"\x09\x09\x09", "none", PAST),
+    ("kind", &[1, 4], b"\x09\x09\x09", "11", PAST),
+    ("kind", &[1, 3], b"\x09\x09\x09", "11", MASK),
+    ("width", &[1, 3], b"\x09\x09\x09", "", MASK),
+    ("own", &[1, 3], b"\x09\x09\x09", "11", MASK),
+    ("kind", &[1, 3], b"\x09\x09\x09", "1", TYPE),
+    ("kind", &[1, 3], b"\x09\x09\x09", "none", TYPE),
+    ("width", &[0, 0], b"", "none", TYPE),
+    ("own", &[1, 3], b"\x09\x09\x09", "1", MADE),
+    ("own", &[1, 3], b"\x09\x09\x09", "none", MADE),
+];
+
+#[test]
+fn arrays_are_refused_by_their_first_fault(rt: HostRuntime) {
+    assert_eq!(rt;
+        first_array::<Binary>(rt.alloc(), BYTES, ARRAYS),
+        ARRAYS.len()
+    );
+    assert_eq!(rt; first_array::<Utf8>(rt.alloc(), TEXT, ARRAYS), ARRAYS.len());
+}
+
+/// What is told of builders of either kind: the last offset is not the number of bytes; or else the type is another; or
+/// else the mask has another number of marks than there are slots.
+const BUILDERS: &[Case] = &[
+    ("own", &[0, 2], b"\x09\x09\x09", "none", NOT_AT_END),
+    ("own", &[0, 4], b"\x09\x09\x09", "none", NOT_AT_END),
+    ("kind", &[0, 2], b"\x09\x09\x09", "11", NOT_AT_END),
+    ("kind", &[1, 3], b"\x09\x09\x09\x09", "11", NOT_AT_END),
+    ("width", &[1, 3], b"\x09\x09\x09\x09", "none", NOT_AT_END),
+    ("own", &[1, 3], b"\x09\x09\x09\x09", "11", NOT_AT_END),
+    ("kind", &[0, 3], b"\x09\x09\x09", "11", TYPE),
+    ("width", &[1, 3], b"\x09\x09\x09", "11", TYPE),
+    ("kind", &[1, 3], b"\x09\x09\x09", "none", TYPE),
+    ("own", &[0, 3], b"\x09\x09\x09", "11", BUILDER_MASK),
+    ("own", &[1, 3], b"\x09\x09\x09", "", BUILDER_MASK),
+    ("own", &[1, 3], b"\x09\x09\x09", "1", MADE),
+    ("own", &[3], b"\x09\x09\x09", "none", MADE),
+];
+
+#[test]
+fn builders_are_refused_by_their_first_fault(rt: HostRuntime) {
+    assert_eq!(rt;
+        first_builder::<Binary>(rt.alloc(), BYTES, BUILDERS),
+        BUILDERS.len()
+    );
+    assert_eq!(rt;
+        first_builder::<Utf8>(rt.alloc(), TEXT, BUILDERS),
+        BUILDERS.len()
+    );
+}
+
+/// What is told of arrays of text beside that: behind the bytes' end, and before the mask, that a slot is no text.
+const TEXT_ARRAYS: &[Case] = &[
+    ("own", &[0, 1, 4], b"\xC3\xA9\xC3\xA8", "none", NO_TEXT),
+    ("own", &[1, 2], b"\xC3\xA9", "none", NO_TEXT),
+    ("own", &[0, 2, 4], b"\xF0\x9F\x98\x80", "none", NO_TEXT),
+    ("own", &[5], b"", "none", PAST),
+    ("own", &[0, 3], b"\xC3a", "none", PAST),
+    ("kind", &[0, 3], b"\xC3a", "11111", PAST),
+    ("kind", &[0, 2], b"\xC3a", "11111", NO_TEXT),
+    ("own", &[0, 2], b"\xC3a", "11111", NO_TEXT),
+    ("kind", &[0, 2], b"\xC3a", "none", NO_TEXT),
+    ("width", &[0, 2], b"\xC3a", "0", NO_TEXT),
+    ("kind", &[0, 2], b"ab", "11111", MASK),
+    ("kind", &[0, 2], b"ab", "0", TYPE),
+];
+
+#[test]
+fn arrays_of_text_are_refused_by_their_first_fault(rt: HostRuntime) {
+    assert_eq!(rt;
+        first_array::<Utf8>(rt.alloc(), TEXT, TEXT_ARRAYS),
+        TEXT_ARRAYS.len()
+    );
+}
+
+/// What is told of builders of text beside that: behind the bytes' end, and before the type, that a slot is no text.
+const TEXT_BUILDERS: &[Case] = &[
+    ("own", &[0, 1], b"a\xFF", "none", NOT_AT_END),
+    ("own", &[1, 2, 3], b"\xFFab\xFF", "none", NOT_AT_END),
+    ("own", &[0, 3], b"\xC3a", "none", NOT_AT_END),
+    ("kind", &[0, 1], b"\xC3a", "11111", NOT_AT_END),
+    ("own", &[0, 1, 4], b"\xC3\xA9\xC3\xA8", "none", NO_TEXT),
+    ("kind", &[0, 2], b"\xC3a", "11111", NO_TEXT),
+    ("own", &[0, 2], b"\xC3a", "11111", NO_TEXT),
+    ("width", &[0, 2], b"\xC3a", "none", NO_TEXT),
+    ("kind", &[0, 2], b"ab", "11111", TYPE),
+    ("own", &[0, 2], b"ab", "11111", BUILDER_MASK),
+    ("own", &[1, 3], b"\xFFab", "0", MADE),
+    ("own", &[1, 2, 3], b"\xFFab", "none", MADE),
+];
+
+#[test]
+fn builders_of_text_are_refused_by_their_first_fault(rt: HostRuntime) {
+    assert_eq!(rt;
+        first_builder::<Utf8>(rt.alloc(), TEXT, TEXT_BUILDERS),
+        TEXT_BUILDERS.len()
+    );
+}
+
+/// An extension around a type.
+fn extension(alloc: Global, inner: DataType) -> Result<DataType, Error> {
+    let name = String::from_str(alloc, "photo")?;
+    Ok(DataType::Extension(name, Box::new(alloc, inner)?, None))
+}
+
+/// Whether an array holds the type that it is given.
+fn keeps_type<K: ByteKind, O: Offset>(alloc: Global, given: DataType, photo: &DataType) -> bool {
+    match array_of::<K, O>(alloc, given, [0, 0].as_slice(), &[], "none") {
+        Ok(array) => array.data_type() == photo,
+        Err(_) => false,
+    }
+}
+
+/// Whether a builder does.
+fn builder_keeps_type<K: ByteKind, O: Offset>(
+    alloc: Global,
+    given: DataType,
+    photo: &DataType,
+) -> bool {
+    match builder_of::<K, O>(alloc, given, [0].as_slice(), &[], "none") {
+        Ok(builder) => builder.data_type() == photo,
+        Err(_) => false,
+    }
+}
+
+/// Whether both hold an extension around their own type.
+fn keep_types<K: ByteKind, O: Offset>(alloc: Global) -> Result<bool, Error> {
+    let photo = extension(alloc, K::default_type(O::IS_LARGE))?;
+    let given = extension(alloc, K::default_type(O::IS_LARGE))?;
+    let is_kept = keeps_type::<K, O>(alloc, given, &photo);
+    let given = extension(alloc, K::default_type(O::IS_LARGE))?;
+    Ok(is_kept & builder_keeps_type::<K, O>(alloc, given, &photo))
+}
+
+/// Whether both do over both widths of offsets.
+fn keep_all<K: ByteKind>(alloc: Global) -> bool {
+    let is_narrow = keep_types::<K, i32>(alloc) == Ok(true);
+    is_narrow & (keep_types::<K, i64>(alloc) == Ok(true))
+}
+
+#[test]
+fn extensions_around_the_own_type_are_held(rt: HostRuntime) {
+    assert!(rt; keep_all::<Binary>(rt.alloc()) & keep_all::<Utf8>(rt.alloc()));
+}
+
+/// Bytes that are no text around three items of one, no and two bytes.
+const AROUND: &[u8] = b"\xFF\xFF\x01\x04\x04\xC3";
+
+/// Three items with other bytes around them, the second of which is null.
+fn around<K: ByteKind, O: Offset>(alloc: Global) -> Result<ByteArray<K, O>, Error> {
+    own_array(alloc, [2, 3, 3, 5].as_slice(), AROUND, "101")
+}
+
+/// Whether an array of the parts of another has these offsets over the bytes, and these marks.
+fn is_again<K: ByteKind, O: Offset>(array: ByteArray<K, O>, offsets: &[usize], mask: &str) -> bool {
+    let (data_type, parts, values, validity) = array.into_inner();
+    match ByteArray::<K, O>::try_new(data_type, parts, values, validity) {
+        Ok(array) => shows(&array, offsets, AROUND, mask),
+        Err(_) => false,
+    }
+}
+
+/// Whether one of the parts of three items, or of a slice of them, has.
+fn arrays_again<K: ByteKind, O: Offset>(
+    alloc: Global,
+    place: usize,
+    count: usize,
+    offsets: &[usize],
+    mask: &str,
+) -> bool {
+    match around::<K, O>(alloc) {
+        Ok(array) => is_again(cut_off(array, place, count), offsets, mask),
+        Err(_) => false,
+    }
+}
+
+/// A place, a number of slots, and the offsets and marks of these.
+const SLICES: &[(usize, usize, &[usize], &str)] = &[
+    (0, 3, &[2, 3, 3, 5], "101"),
+    (1, 2, &[3, 3, 5], "01"),
+    (0, 1, &[2, 3], "1"),
+    (3, 0, &[5], ""),
+];
+
+/// The place of the first of them whose parts make something else; their number where none do.
+fn first_slice<K: ByteKind, O: Offset>(
+    alloc: Global,
+    cases: &[(usize, usize, &[usize], &str)],
+) -> usize {
+    for (number, (place, count, offsets, mask)) in cases.iter().enumerate() {
+        if !arrays_again::<K, O>(alloc, *place, *count, *offsets, *mask) {
+            return number;
+        }
+    }
+    cases.len()
+}
+
+#[test]
+fn parts_of_slices_are_accepted_again(rt: HostRuntime) {
+    let bytes = first_slice::<Binary, i32>(rt.alloc(), SLICES);
+    let wide_bytes = first_slice::<Binary, i64>(rt.alloc(), SLICES);
+    let text = first_slice::<Utf8, i32>(rt.alloc(), SLICES);
+    let wide_text = first_slice::<Utf8, i64>(rt.alloc(), SLICES);
+    assert_eq!(rt; [bytes, wide_bytes, text, wide_text], [SLICES.len(); 4]);
+}
+
+/// Whether a builder of the parts of another, from which a slot was popped, has one slot and a null.
+fn is_built_again<K: ByteKind, O: Offset>(builder: MutableByteArray<K, O>) -> bool {
+    let mut builder = builder;
+    let is_popped = builder.pop().is_ok();
+    let (data_type, offsets, values, validity) = builder.into_data();
+    match MutableByteArray::<K, O>::try_new(data_type, offsets, values, validity) {
+        Ok(builder) => is_popped & builds(&builder, [2, 3, 3].as_slice(), b"\xFF\xFF\x01", "10"),
+        Err(_) => false,
+    }
+}
+
+/// Whether one of the parts of three items that were thawed has.
+fn builders_again<K: ByteKind, O: Offset>(alloc: Global) -> bool {
+    match around::<K, O>(alloc) {
+        Ok(array) => match array.into_mut() {
+            Right(builder) => is_built_again(builder),
+            Left(_) => false,
+        },
+        Err(_) => false,
+    }
+}
+
+/// Whether a builder without nulls of the parts of another, from which an item was popped, has one item.
+fn is_held_again<K: ByteKind, O: Offset>(builder: MutableByteValuesArray<K, O>) -> bool {
+    let mut builder = builder;
+    let is_popped = builder.pop().is_ok();
+    let (data_type, offsets, values) = builder.into_inner();
+    match MutableByteValuesArray::<K, O>::try_new(data_type, offsets, values) {
+        Ok(builder) => is_popped & holds(&builder, [2, 3].as_slice(), b"\xFF\xFF\x01"),
+        Err(_) => false,
+    }
+}
+
+/// Whether one of the parts of two items has.
+fn values_again<K: ByteKind, O: Offset>(alloc: Global) -> bool {
+    let data_type = K::default_type(O::IS_LARGE);
+    let bytes = b"\xFF\xFF\x01\x04\x04";
+    match values_of::<K, O>(alloc, data_type, [2, 3, 5].as_slice(), bytes) {
+        Ok(builder) => is_held_again(builder),
+        Err(_) => false,
+    }
+}
+
+/// Whether both are, over both widths of offsets.
+fn popped_again<K: ByteKind>(alloc: Global) -> bool {
+    let are_slots = builders_again::<K, i32>(alloc) & builders_again::<K, i64>(alloc);
+    are_slots & values_again::<K, i32>(alloc) & values_again::<K, i64>(alloc)
+}
+
+#[test]
+fn parts_of_popped_builders_are_accepted_again(rt: HostRuntime) {
+    assert!(rt; popped_again::<Binary>(rt.alloc()) & popped_again::<Utf8>(rt.alloc()));
+}

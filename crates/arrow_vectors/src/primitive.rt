@@ -1,0 +1,421 @@
+//! Numbers: what slots and raw parts become, and what slices, clones, thaws and joins leave.
+use arrow_memory::buffer::Buffer;
+use arrow_primitive::{MutablePrimitiveArray, PrimitiveArray};
+use arrow_testing::{frozen_mask, growing_mask, is_mask, tells};
+use arrow_types::data_type::DataType;
+use arrow_types::error::Error;
+use either::{Left, Right};
+use std::alloc::Global;
+
+/// Whether an array stores these values, under these marks.
+fn shows(array: &PrimitiveArray<i32>, values: &[i32], mask: &str) -> bool {
+    let marks = match array.validity() {
+        Some(marks) => Some(marks.iter()),
+        None => None,
+    };
+    array.values().as_slice() == values && is_mask(marks, mask)
+}
+
+/// Whether a builder stores these values, under these marks.
+fn builds(builder: &MutablePrimitiveArray<i32>, values: &[i32], mask: &str) -> bool {
+    let marks = match builder.validity() {
+        Some(marks) => Some(marks.iter()),
+        None => None,
+    };
+    builder.values().as_slice() == values && is_mask(marks, mask)
+}
+
+/// Whether an array was made that stores these values, under these marks.
+fn made(answer: Result<PrimitiveArray<i32>, Error>, values: &[i32], mask: &str) -> bool {
+    match answer {
+        Ok(array) => shows(&array, values, mask),
+        Err(_) => false,
+    }
+}
+
+/// Whether a builder was made that stores these values, under these marks.
+fn built(answer: Result<MutablePrimitiveArray<i32>, Error>, values: &[i32], mask: &str) -> bool {
+    match answer {
+        Ok(builder) => builds(&builder, values, mask),
+        Err(_) => false,
+    }
+}
+
+const SLOTS: [Option<i32>; 3] = [Some(1), None, Some(10)];
+
+/// Whether the slots of an array of three are read so, and what they store.
+fn reads(array: &PrimitiveArray<i32>) -> bool {
+    if array.len() != 3 || array.null_count() != 1 || *array.data_type() != DataType::Int32 {
+        return false;
+    }
+    let stored = [array.value(0), array.value(1), array.value(2)];
+    let slots = [array.get(0), array.get(1), array.get(2)];
+    let are_null = [array.is_null(0), array.is_null(1), array.is_valid(2)];
+    stored == [1, 0, 10] && slots == SLOTS && are_null == [false, true, true]
+}
+
+/// Whether those of an array of these slots are.
+fn is_read(alloc: Global) -> bool {
+    match PrimitiveArray::from(alloc, SLOTS.as_slice()) {
+        Ok(array) => reads(&array) && shows(&array, [1, 0, 10].as_slice(), "101"),
+        Err(_) => false,
+    }
+}
+
+#[test]
+fn a_null_stores_zero_under_a_clear_mark(rt: HostRuntime) {
+    assert!(rt; is_read(rt.alloc()));
+}
+
+/// The bytes of a builder's mask.
+fn packed(alloc: Global, slots: &[Option<i32>]) -> Option<Vec<u8>> {
+    match MutablePrimitiveArray::from(alloc, slots) {
+        Ok(builder) => {
+            let (_, _, mask) = builder.into_inner();
+            mask.map(|marks| marks.into_vec())
+        }
+        Err(_) => None,
+    }
+}
+
+/// Three slots, and the byte of their marks.
+const PACKED: &[(&[Option<i32>], u8)] = &[
+    (&[Some(1), None, Some(10)], 0b101),
+    (&[None, None, Some(0)], 0b100),
+    (&[Some(1), Some(2), Some(3)], 0b111),
+];
+
+/// The place of the first of them whose byte is another; their number where none is.
+fn first_packed(alloc: Global, cases: &[(&[Option<i32>], u8)]) -> usize {
+    for (place, (slots, byte)) in cases.iter().enumerate() {
+        match packed(alloc, *slots) {
+            Some(bytes) if bytes.as_slice() == [*byte].as_slice() => {}
+            _ => return place,
+        }
+    }
+    cases.len()
+}
+
+#[test]
+fn marks_are_packed_from_the_lowest_bit_on(rt: HostRuntime) {
+    assert_eq!(rt; first_packed(rt.alloc(), PACKED), PACKED.len());
+}
+
+/// Whether an array of so many nulls stores these values, under these marks.
+fn is_null(alloc: Global, length: usize, values: &[i32], mask: &str) -> bool {
+    made(
+        PrimitiveArray::new_null(alloc, DataType::Int32, length),
+        values,
+        mask,
+    )
+}
+
+#[test]
+fn an_array_of_no_null_holds_a_mask_of_nulls(rt: HostRuntime) {
+    let is_none = is_null(rt.alloc(), 0, &[], "");
+    assert!(rt; is_none & is_null(rt.alloc(), 3, [0, 0, 0].as_slice(), "000"));
+}
+
+/// A slot more, and then so many more, to what was thawed.
+fn grow(
+    builder: MutablePrimitiveArray<i32>,
+    slot: Option<i32>,
+    count: usize,
+) -> Result<PrimitiveArray<i32>, Error> {
+    let mut builder = builder;
+    builder.push(slot)?;
+    builder.extend_constant(count, Some(9))?;
+    builder.freeze()
+}
+
+/// The array of a thawed array with so many slots more; another refusal where it is not thawed.
+fn grown(
+    array: PrimitiveArray<i32>,
+    slot: Option<i32>,
+    count: usize,
+) -> Result<PrimitiveArray<i32>, Error> {
+    match array.into_mut() {
+        Right(builder) => grow(builder, slot, count),
+        Left(_) => Err(Error::OutOfSpec("shared")),
+    }
+}
+
+/// The array of a frozen builder of three values.
+fn frozen(alloc: Global) -> Result<PrimitiveArray<i32>, Error> {
+    MutablePrimitiveArray::from_vec([1, 2, 3].to_vec(alloc)?).freeze()
+}
+
+/// Whether a frozen builder is thawed, grows by a slot, is frozen, is thawed again, and grows by 256.
+fn grows_twice(alloc: Global) -> Result<bool, Error> {
+    let once = grown(frozen(alloc)?, Some(5), 0)?;
+    let is_grown = shows(&once, [1, 2, 3, 5].as_slice(), "none");
+    let twice = grown(once, Some(9), 255)?;
+    Ok(is_grown & (twice.len() == 260))
+}
+
+#[test]
+fn a_frozen_builder_is_thawed_and_grows(rt: HostRuntime) {
+    assert!(rt; grows_twice(rt.alloc()) == Ok(true));
+}
+
+/// Whether an array is thawed, and stores these values under these marks then.
+fn is_thawed(array: PrimitiveArray<i32>, values: &[i32], mask: &str) -> bool {
+    match array.into_mut() {
+        Right(builder) => builds(&builder, values, mask),
+        Left(_) => false,
+    }
+}
+
+/// Whether the second of two owners is not thawed while the first lives, both are as before, and it is thawed then.
+fn are_apart(
+    first: PrimitiveArray<i32>,
+    second: PrimitiveArray<i32>,
+    values: &[i32],
+    mask: &str,
+) -> bool {
+    let Left(second) = second.into_mut() else {
+        return false;
+    };
+    let are_as_before = shows(&first, values, mask) && shows(&second, values, mask);
+    drop(first);
+    are_as_before && is_thawed(second, values, mask)
+}
+
+/// Whether an array and its clone are so.
+fn shares(alloc: Global, slots: &[Option<i32>], values: &[i32], mask: &str) -> bool {
+    let Ok(first) = PrimitiveArray::from(alloc, slots) else {
+        return false;
+    };
+    match first.clone() {
+        Ok(second) => are_apart(first, second, values, mask),
+        Err(_) => false,
+    }
+}
+
+#[test]
+fn a_clone_is_not_thawed_while_the_first_lives(rt: HostRuntime) {
+    let (values, null) = ([Some(1), Some(2), Some(3)], [Some(1), None, Some(3)]);
+    let are_values = shares(rt.alloc(), values.as_slice(), [1, 2, 3].as_slice(), "none");
+    let are_slots = shares(rt.alloc(), null.as_slice(), [1, 0, 3].as_slice(), "101");
+    assert!(rt; are_values & are_slots);
+}
+
+/// A builder of these slots, which are pushed one by one.
+fn pushed(alloc: Global, slots: &[Option<i32>]) -> Result<MutablePrimitiveArray<i32>, Error> {
+    let mut builder = MutablePrimitiveArray::new(alloc);
+    for slot in slots {
+        builder.push(*slot)?;
+    }
+    Ok(builder)
+}
+
+/// A builder of the first slots with the others behind them.
+fn joined(
+    alloc: Global,
+    first: &[Option<i32>],
+    second: &[Option<i32>],
+) -> Result<MutablePrimitiveArray<i32>, Error> {
+    let other = pushed(alloc, second)?;
+    let mut builder = pushed(alloc, first)?;
+    builder.try_extend_from_self(&other)?;
+    Ok(builder)
+}
+
+/// Slots, those behind them, and what both store under which marks.
+type Join = (
+    &'static [Option<i32>],
+    &'static [Option<i32>],
+    &'static [i32],
+    &'static str,
+);
+
+const JOINS: &[Join] = &[
+    (&[None], &[Some(1)], &[0, 1], "01"),
+    (&[Some(1)], &[None], &[1, 0], "10"),
+    (&[Some(1)], &[Some(2)], &[1, 2], "none"),
+    (&[None], &[], &[0], "0"),
+    (&[], &[None, Some(7)], &[0, 7], "01"),
+    (&[], &[], &[], "none"),
+];
+
+/// The place of the first of them that store something else; their number where none do.
+fn first_join(alloc: Global, cases: &[Join]) -> usize {
+    for (place, (first, second, values, mask)) in cases.iter().enumerate() {
+        if !built(joined(alloc, *first, *second), *values, *mask) {
+            return place;
+        }
+    }
+    cases.len()
+}
+
+#[test]
+fn slots_behind_others_keep_their_marks(rt: HostRuntime) {
+    assert_eq!(rt; first_join(rt.alloc(), JOINS), JOINS.len());
+}
+
+/// The slots of an array from a place on, so many of them; the array as it is where there are fewer.
+fn cut_off(array: PrimitiveArray<i32>, place: usize, count: usize) -> PrimitiveArray<i32> {
+    if array.len() < place || array.len() - place < count {
+        return array;
+    }
+    array.sliced(place, count)
+}
+
+/// The cut of a cut of five slots.
+fn cut_twice(
+    alloc: Global,
+    slots: &[Option<i32>],
+    first: (usize, usize),
+    second: (usize, usize),
+) -> Result<PrimitiveArray<i32>, Error> {
+    let array = cut_off(PrimitiveArray::from(alloc, slots)?, first.0, first.1);
+    Ok(cut_off(array, second.0, second.1))
+}
+
+const VALUES: &[Option<i32>] = &[Some(5), Some(6), Some(7), Some(8), Some(9)];
+
+const NULLS: &[Option<i32>] = &[None, Some(6), None, Some(8), None];
+
+/// Slots, two cuts, each a place and a number of slots, and what is left of both, under which marks.
+type Cut = (
+    &'static [Option<i32>],
+    (usize, usize),
+    (usize, usize),
+    &'static [i32],
+    &'static str,
+);
+
+const CUTS: &[Cut] = &[
+    (VALUES, (1, 3), (1, 2), &[7, 8], "none"),
+    (VALUES, (1, 3), (0, 3), &[6, 7, 8], "none"),
+    (VALUES, (5, 0), (0, 0), &[], "none"),
+    (VALUES, (0, 5), (4, 1), &[9], "none"),
+    (NULLS, (1, 3), (1, 2), &[0, 8], "01"),
+    (NULLS, (3, 2), (0, 1), &[8], "1"),
+    (NULLS, (5, 0), (0, 0), &[], ""),
+];
+
+/// The place of the first of them that leave something else; their number where none do.
+fn first_cut(alloc: Global, cases: &[Cut]) -> usize {
+    for (place, (slots, first, second, values, mask)) in cases.iter().enumerate() {
+        if !made(cut_twice(alloc, *slots, *first, *second), *values, *mask) {
+            return place;
+        }
+    }
+    cases.len()
+}
+
+#[test]
+fn places_of_a_slice_of_a_slice_are_added(rt: HostRuntime) {
+    assert_eq!(rt; first_cut(rt.alloc(), CUTS), CUTS.len());
+}
+
+const UNFIT: &str = "validity mask length must match the number of values";
+
+const OTHER_TYPE: &str =
+    "PrimitiveArray can only be initialized with a DataType whose physical type is Primitive";
+
+/// A type of numbers that these are, or another.
+fn named(is_own: bool) -> DataType {
+    if is_own {
+        DataType::Date32
+    } else {
+        DataType::Utf8
+    }
+}
+
+/// The array of three values, under their type or another, and a mask.
+fn array_of(alloc: Global, is_own: bool, mask: &str) -> Result<PrimitiveArray<i32>, Error> {
+    let validity = frozen_mask(alloc, mask)?;
+    match Buffer::from_vec([1, 2, 3].to_vec(alloc)?) {
+        Ok(values) => PrimitiveArray::try_new(named(is_own), values, validity),
+        Err(refused) => Err(refused),
+    }
+}
+
+/// The builder of three values, under their type or another, and a mask.
+fn builder_of(
+    alloc: Global,
+    is_own: bool,
+    mask: &str,
+) -> Result<MutablePrimitiveArray<i32>, Error> {
+    let validity = growing_mask(alloc, mask)?;
+    let values = [1, 2, 3].to_vec(alloc)?;
+    MutablePrimitiveArray::try_new(named(is_own), values, validity)
+}
+
+/// A mask, whether the type is their own, and what is told.
+const FAULTS: &[(&str, bool, &str)] = &[
+    ("11", false, UNFIT),
+    ("1111", false, UNFIT),
+    ("11", true, UNFIT),
+    ("111", false, OTHER_TYPE),
+    ("none", false, OTHER_TYPE),
+    ("111", true, "made"),
+    ("000", true, "made"),
+    ("none", true, "made"),
+];
+
+/// The place of the first of them of which something else is told, of an array or of a builder; their number where
+/// none is.
+fn first_fault(alloc: Global, cases: &[(&str, bool, &str)]) -> usize {
+    for (place, (mask, is_own, answer)) in cases.iter().enumerate() {
+        let told = tells(array_of(alloc, *is_own, *mask)) == *answer;
+        if !(told & (tells(builder_of(alloc, *is_own, *mask)) == *answer)) {
+            return place;
+        }
+    }
+    cases.len()
+}
+
+#[test]
+fn the_mask_is_tested_before_the_type(rt: HostRuntime) {
+    assert_eq!(rt; first_fault(rt.alloc(), FAULTS), FAULTS.len());
+}
+
+/// The array of the parts of a cut array.
+fn array_again(alloc: Global, mask: &str) -> Result<PrimitiveArray<i32>, Error> {
+    let array = cut_off(array_of(alloc, true, mask)?, 1, 2);
+    let (data_type, values, validity) = array.into_inner();
+    PrimitiveArray::try_new(data_type, values, validity)
+}
+
+/// The builder of the parts of a thawed array, whose last slot was popped.
+fn builder_again(array: PrimitiveArray<i32>) -> Result<MutablePrimitiveArray<i32>, Error> {
+    match array.into_mut() {
+        Right(mut builder) => {
+            builder.pop();
+            let (data_type, values, validity) = builder.into_inner();
+            MutablePrimitiveArray::try_new(data_type, values, validity)
+        }
+        Left(_) => Err(Error::OutOfSpec("shared")),
+    }
+}
+
+/// The builder of those of an array of three values.
+fn thawed_again(alloc: Global, mask: &str) -> Result<MutablePrimitiveArray<i32>, Error> {
+    builder_again(array_of(alloc, true, mask)?)
+}
+
+/// Marks of three values, and those of the last two and of the first two.
+const AGAIN: &[(&str, &str, &str)] = &[
+    ("none", "none", "none"),
+    ("101", "01", "10"),
+    ("110", "10", "11"),
+];
+
+/// The place of the first of them that are others; their number where none is.
+fn first_again(alloc: Global, cases: &[(&str, &str, &str)]) -> usize {
+    for (place, (mask, last, first)) in cases.iter().enumerate() {
+        let is_cut = made(array_again(alloc, *mask), [2, 3].as_slice(), *last);
+        if !(is_cut & built(thawed_again(alloc, *mask), [1, 2].as_slice(), *first)) {
+            return place;
+        }
+    }
+    cases.len()
+}
+
+#[test]
+fn parts_that_are_taken_out_are_accepted_again(rt: HostRuntime) {
+    assert_eq!(rt; first_again(rt.alloc(), AGAIN), AGAIN.len());
+}

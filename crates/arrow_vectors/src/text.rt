@@ -1,0 +1,144 @@
+//! Text: which slots offsets cut out of bytes, and what a builder that begins with other bytes keeps.
+use crate::Tiny;
+use crate::raw::{builds, own_array, own_builder, shows};
+use arrow_bytes::Utf8;
+use arrow_types::offset::Offset;
+use arrow_utf8::{MutableUtf8Array, Utf8Array};
+use either::{Left, Right};
+use std::alloc::Global;
+
+/// Whether an array stores these texts, in order.
+fn stores<O: Offset>(array: &Utf8Array<O>, texts: &[&str]) -> bool {
+    if array.len() != texts.len() {
+        return false;
+    }
+    for i in 0..texts.len() {
+        if array.value(i) != texts[i] {
+            return false;
+        }
+    }
+    true
+}
+
+/// Whether the items of three slots come in order, an empty one for a null, and then none.
+fn gives<O: Offset>(array: &Utf8Array<O>) -> bool {
+    let mut items = array.values_iter();
+    let all = [items.next(), items.next(), items.next(), items.next()];
+    all == [Some("hi"), Some(""), Some("there"), None]
+}
+
+/// Whether slots are stored as bytes between offsets, under marks.
+fn is_made<O: Offset>(alloc: Global, slots: &[Option<&'static str>]) -> bool {
+    match Utf8Array::<O>::from(alloc, slots) {
+        Ok(array) => { shows(&array, [0, 2, 2, 7].as_slice(), b"hithere", "101") && gives(&array) }
+        Err(_) => false,
+    }
+}
+
+#[test]
+fn a_null_stores_no_byte_under_a_clear_mark(rt: HostRuntime) {
+    let slots = [Some("hi"), None, Some("there")];
+    let narrow = is_made::<i32>(rt.alloc(), slots.as_slice());
+    let wide = is_made::<i64>(rt.alloc(), slots.as_slice());
+    assert!(rt; narrow & wide & is_made::<Tiny>(rt.alloc(), slots.as_slice()));
+}
+
+/// Whether offsets over bytes give these texts.
+fn is_cut<O: Offset>(alloc: Global, offsets: &[usize], bytes: &[u8], texts: &[&str]) -> bool {
+    match own_array::<Utf8, O>(alloc, offsets, bytes, "none") {
+        Ok(array) => stores(&array, texts),
+        Err(_) => false,
+    }
+}
+
+/// Offsets, bytes, and the texts that they give.
+type Cut = (&'static [usize], &'static [u8], &'static [&'static str]);
+
+const CUTS: &[Cut] = &[
+    (&[0, 2, 4], b"\xC3\xA9\xC3\xA8", &["é", "è"]),
+    (&[1, 1], b"\xC3\xA9", &[""]),
+    (&[0, 4, 4], b"\xF0\x9F\x98\x80", &["😀", ""]),
+    (&[2, 2, 2], b"\xF0\x9F\x98\x80", &["", ""]),
+    (&[1, 2, 3], b"\xFFab\xFF", &["a", "b"]),
+    (&[0, 1], b"a\xFF", &["a"]),
+    (&[2], b"\xFF\xFF\xFF", &[]),
+    (&[0], b"", &[]),
+];
+
+/// The place of the first of them that give other texts; their number where none do.
+fn first_cut<O: Offset>(alloc: Global, cases: &[Cut]) -> usize {
+    for (place, (offsets, bytes, texts)) in cases.iter().enumerate() {
+        if !is_cut::<O>(alloc, *offsets, *bytes, *texts) {
+            return place;
+        }
+    }
+    cases.len()
+}
+
+#[test]
+fn each_slot_is_text_by_itself(rt: HostRuntime) {
+    let (narrow, wide) = (
+        first_cut::<i32>(rt.alloc(), CUTS),
+        first_cut::<i64>(rt.alloc(), CUTS),
+    );
+    let tiny = first_cut::<Tiny>(rt.alloc(), CUTS);
+    assert_eq!(rt; [narrow, wide, tiny], [CUTS.len(); 3]);
+}
+
+/// Whether a text that is pushed stands behind a builder's slot.
+fn grows<O: Offset>(builder: &mut MutableUtf8Array<O>) -> bool {
+    let is_cut = builds(builder, [0, 1].as_slice(), b"a", "none");
+    is_cut & builder.push(Some("b")).is_ok() && builds(builder, [0, 1, 2].as_slice(), b"ab", "none")
+}
+
+/// Whether it does behind that of a thawed array, where other bytes were.
+fn thaws_and_grows<O: Offset>(alloc: Global) -> bool {
+    match own_array::<Utf8, O>(alloc, [0, 1].as_slice(), b"a\xFF", "none") {
+        Ok(array) => match array.into_mut() {
+            Right(mut builder) => grows(&mut builder),
+            Left(_) => false,
+        },
+        Err(_) => false,
+    }
+}
+
+#[test]
+fn bytes_behind_a_thawed_array_do_not_come_back(rt: HostRuntime) {
+    let (narrow, wide) = (
+        thaws_and_grows::<i32>(rt.alloc()),
+        thaws_and_grows::<i64>(rt.alloc()),
+    );
+    assert!(rt; narrow & wide & thaws_and_grows::<Tiny>(rt.alloc()));
+}
+
+/// Whether a text stands behind two with another byte before them, and the parts are accepted again.
+fn is_again<O: Offset>(builder: MutableUtf8Array<O>) -> bool {
+    let mut builder = builder;
+    let is_pushed = builder.push(Some("c")).is_ok();
+    let is_built = builds(&builder, [1, 2, 3, 4].as_slice(), b"\xFFabc", "none");
+    let (data_type, offsets, values, validity) = builder.into_data();
+    match MutableUtf8Array::<O>::try_new(data_type, offsets, values, validity) {
+        Ok(builder) => {
+            let is_again = builds(&builder, [1, 2, 3, 4].as_slice(), b"\xFFabc", "none");
+            is_pushed & is_built & is_again
+        }
+        Err(_) => false,
+    }
+}
+
+/// Whether one of such parts does.
+fn pushes_behind<O: Offset>(alloc: Global) -> bool {
+    match own_builder::<Utf8, O>(alloc, [1, 2, 3].as_slice(), b"\xFFab", "none") {
+        Ok(builder) => is_again(builder),
+        Err(_) => false,
+    }
+}
+
+#[test]
+fn a_builder_keeps_the_bytes_before_its_slots(rt: HostRuntime) {
+    let (narrow, wide) = (
+        pushes_behind::<i32>(rt.alloc()),
+        pushes_behind::<i64>(rt.alloc()),
+    );
+    assert!(rt; narrow & wide & pushes_behind::<Tiny>(rt.alloc()));
+}
