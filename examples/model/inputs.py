@@ -190,7 +190,7 @@ class Author:
         return ["x" + self.words.hexadecimal(data), *map(self.words.signed, offsets)], max(0, len(offsets) - 1)
 
     def bend(self, offsets, length):
-        at, case = self.rng.randrange(len(offsets)), self.rng.randrange(9)
+        at, case = self.rng.randrange(len(offsets)), self.rng.randrange(10)
         if case < 3:
             # Anywhere between its neighbours, and so within a character too.
             low = offsets[at - 1] if at else 0
@@ -205,6 +205,9 @@ class Author:
         elif case == 6:
             offsets[:] = [self.rng.choice((0, length, length + 1, 5, -1))]
         elif case == 7:
+            # More than one fault at once.
+            offsets[:] = [self.rng.randint(-1, length + 2) for _ in offsets]
+        elif case == 8:
             offsets[:] = sorted(self.rng.randint(0, length) for _ in offsets)
         else:
             offsets[-1] = self.rng.choice((length, length + 1, 2**31 - 1))
@@ -237,6 +240,26 @@ class Author:
         at = self.at(*model.NULLABLE)
         entry = self.entry(at)
         self.write("equal", self.number(at), self.number(self.at(entry.kind) if entry else self.at()))
+
+    def twins(self):
+        """Two builders of the same slots, whose stored values differ under nulls, and mostly nowhere else."""
+        kind, ends = self.rng.choice(model.NULLABLE), []
+        sort, count = model.SORTS[kind], self.rng.randint(1, 5)
+        marks = self.words.marks(count, 0.6)
+        make = {"v": self.words.integer, "b": lambda: self.rng.choice("01"), "x": self.words.data, "t": self.words.text}[sort]
+        values = [make() for _ in range(count)]
+        for _ in range(2):
+            ends.append(self.empty())
+            values = [it if mark == "1" and self.chance(0.95) else make() for it, mark in zip(values, marks)]
+            if sort in "xt":
+                lead = self.words.data() if self.chance(0.3) else b""
+                offsets = [len(lead) + sum(map(len, values[:it])) for it in range(count + 1)]
+                vectors = ["x" + self.words.hexadecimal(lead + b"".join(values)), *map(self.words.signed, offsets)]
+            else:
+                vectors = [*map(self.words.signed, values)] if sort == "v" else ["".join(values)]
+            mask = "-" if "0" not in marks and self.chance(0.5) else marks
+            self.write("parts", str(ends[-1]), kind, self.rng.choice(model.RIGHT_TYPES[sort]), mask, *vectors)
+        self.write("equal", *map(str, ends))
 
     def indexes(self):
         length = self.rng.choice((0, 1, 3, 9, BIG, 2**63))
@@ -312,6 +335,10 @@ class Author:
     def constant(self):
         at = self.at("mprim")
         count = self.rng.choice(HUGE) if self.chance(0.05) else self.rng.choice(COUNTS[:8])
+        if self.chance(0.15):
+            self.write("constant", self.number(at), "0", "_")
+            self.write("held", self.number(at))
+            return
         self.write("constant", self.number(at), self.number(count), self.words.slot(self.sort(at)))
 
     def join(self):
@@ -348,8 +375,8 @@ class Author:
 
     LINES = {
         new: 4, null: 2, slots: 6, items: 6, parts: 12, tell: 4, tell_frozen: 4, value: 2, tell_bytes: 2, turns: 3,
-        equal: 2, indexes: 1, slice: 6, clone: 5, drop: 5, mask: 5, applymask: 3, applyvalues: 3, values: 3, set: 3,
-        overwrite: 4, push: 5, on_builder: 5, extend: 3, extendvalues: 4, constant: 1, join: 4, reserve: 1, freeze: 5,
+        equal: 2, twins: 1, indexes: 1, slice: 6, clone: 5, drop: 5, mask: 5, applymask: 3, applyvalues: 3, values: 3, set: 3,
+        overwrite: 4, push: 5, on_builder: 5, extend: 3, extendvalues: 4, constant: 2, join: 4, reserve: 1, freeze: 5,
         thaw: 7, nullable: 1, to: 2,
     }  # fmt: skip
 
@@ -407,9 +434,30 @@ def swap(rng, word):
     return word[:at] + bytes([rng.choice(b"0123456789abcdefgxtvbs-_.ABZ")]) + word[at + 1 :]
 
 
+ENDS = "18446744073709551615 18446744073709551616 18446744073709551617 36893488147419103232 9223372036854775807 9223372036854775808 \
+-9223372036854775808 -9223372036854775809 -18446744073709551616 2147483647 2147483648 -2147483648 -2147483649 4294967296 -1 - -- --1 +1".split()
+NO_TEXT = [it.hex() for it in NOT_TEXT] + [it.hex()[:-1] for it in CHARACTERS] + [it.hex()[:-2] + "7f" for it in CHARACTERS[7:]]
+NO_BYTES = "6 666 6g g6 6-1 0x00 61. c3a \u0660".split()
+
+
+def near(rng, word):
+    """A word that is nearly of the same sort."""
+    head, rest = word[:1], word[1:]
+    if word.lstrip(b"-").isdigit():
+        return rng.choice(ENDS).encode()
+    if head in b"vs":
+        return head + rng.choice(ENDS).encode()
+    if head in b"xt":
+        return head + rng.choice((rest, b"")) + rng.choice(NO_TEXT if head == b"t" and rng.random() < 0.6 else NO_BYTES).encode()
+    return word + rng.choice(BAD_WORDS).encode()
+
+
 def bent_words(rng, words):
-    at, case = rng.randrange(len(words)), rng.randrange(9)
-    if case == 0:
+    at, case = rng.randrange(len(words)), rng.randrange(14)
+    if case > 8:
+        at = rng.randrange(1, len(words)) if len(words) > 1 else 0
+        words[at] = near(rng, words[at])
+    elif case == 0:
         del words[at]
     elif case == 1:
         words.insert(rng.randint(0, len(words)), rng.choice(words))
@@ -429,10 +477,10 @@ def bent_words(rng, words):
 
 
 def bent_line(rng, line):
-    case = rng.randrange(8)
+    case = rng.randrange(12)
     if case == 0:
         return rng.choice(BAD_LINES)
-    if case in (1, 2):
+    if case in (1, 2, 3):
         at = rng.choice((0, len(line), rng.randint(0, len(line))))
         return line[:at] + rng.choice(BAD_BYTES) + line[at:]
     words = [word for word in line.split(b" ") if word]
