@@ -446,7 +446,7 @@ def near(rng, word):
     if word.lstrip(b"-").isdigit():
         return rng.choice(ENDS).encode()
     if head in b"vs":
-        return head + rng.choice(ENDS).encode()
+        return head + rng.choice(ENDS[4:9] if head == b"v" and rng.random() < 0.5 else ENDS).encode()
     if head in b"xt":
         return head + rng.choice((rest, b"")) + rng.choice(NO_TEXT if head == b"t" and rng.random() < 0.6 else NO_BYTES).encode()
     return word + rng.choice(BAD_WORDS).encode()
