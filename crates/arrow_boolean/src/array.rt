@@ -2,10 +2,11 @@
 ghost use Rattle.std.specs.Prelude.{◌≡◌, ◌<◌, length, not, count_by, slice_get, Some, IfOk, IfErr};
 ghost use Rattle.std.specs.Option.{option_copied};
 ghost use Rattle.arrow_types.specs.Types.{logical_type, IsRightType};
-ghost use Rattle.arrow_memory.specs.Column.{FitsCut, FitsMask, IsColumn, column_of_parts, cut, empty_column, mask_of, marks_of, slots_of, stored_values};
+ghost use Rattle.arrow_memory.specs.Rows.{FitsMask};
+ghost use Rattle.arrow_column.specs.Column.{FitsCut, IsColumn, column_of_parts, cut, empty_column, mask_of, marks_of, slots_of, stored_values};
 
+use arrow_column::FrozenColumn;
 use arrow_memory::bitmap::Bitmap;
-use arrow_memory::column::FrozenColumn;
 use arrow_types::data_type::DataType;
 use arrow_types::error::Error;
 use arrow_types::physical_type::PhysicalType;
@@ -22,7 +23,7 @@ pub struct BooleanArray {
 impl Model for BooleanArray {
     ghost use Rattle.std.specs.Prelude.{Bool};
     ghost use Rattle.arrow_types.specs.Types.{IsRightType};
-    ghost use Rattle.arrow_memory.specs.Column.{Column};
+    ghost use Rattle.arrow_column.specs.Column.{Column};
     ghost use Rattle.arrow_types.specs.declared.physical_type.PhysicalType.TheVariants.{Boolean};
 
     ghost Value = { Column Bool };

@@ -2,12 +2,12 @@
 ghost use Rattle.std.specs.Prelude.{◌≡◌, ◌<◌, length, false, None, OnOk, IfOk, IfErr};
 ghost use Rattle.std.specs.Option.{option_copied};
 ghost use Rattle.arrow_types.specs.Types.{logical_type, IsRightType};
-ghost use Rattle.arrow_memory.specs.Column.{IsColumn, append_slot, empty_column, last_slot, mask_of, stored_values, with_slot, without_last};
+ghost use Rattle.arrow_column.specs.Column.{IsColumn, append_slot, empty_column, last_slot, mask_of, stored_values, with_slot, without_last};
 ghost use Rattle.arrow_boolean.specs.Fits.{boolean_type};
 
 use crate::BooleanArray;
+use arrow_column::GrowingColumn;
 use arrow_memory::bitmap::MutableBitmap;
-use arrow_memory::column::GrowingColumn;
 use arrow_types::data_type::DataType;
 use arrow_types::error::Error;
 use arrow_types::physical_type::PhysicalType;
@@ -24,7 +24,7 @@ pub struct MutableBooleanArray {
 impl Model for MutableBooleanArray {
     ghost use Rattle.std.specs.Prelude.{Bool};
     ghost use Rattle.arrow_types.specs.Types.{IsRightType};
-    ghost use Rattle.arrow_memory.specs.Column.{Column};
+    ghost use Rattle.arrow_column.specs.Column.{Column};
     ghost use Rattle.arrow_types.specs.declared.physical_type.PhysicalType.TheVariants.{Boolean};
 
     ghost Value = { Column Bool };

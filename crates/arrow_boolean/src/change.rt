@@ -1,7 +1,7 @@
 //! Arrays whose values or masks are replaced, and arrays that are thawed.
 ghost use Rattle.std.specs.Prelude.{◌≡◌, List, Bool, Some, length, IfSome, MatchOption, OnOk, IfOk, IfErr};
 ghost use Rattle.either.specs.Either.{MatchEither};
-ghost use Rattle.arrow_memory.specs.Column.{mask_of, stored_values, with_mask, with_stored};
+ghost use Rattle.arrow_column.specs.Column.{mask_of, stored_values, with_mask, with_stored};
 
 use crate::{BooleanArray, MutableBooleanArray};
 use arrow_memory::bitmap::{Bitmap, MutableBitmap};

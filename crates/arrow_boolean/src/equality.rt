@@ -1,16 +1,16 @@
 //! Equality of builders of truth values, which compares slots alone.
 ghost use Rattle.std.specs.Prelude.{◌≡◌, ◌↔◌, IsTrue};
 ghost use Rattle.std.specs.Bool.{beq};
-ghost use Rattle.arrow_memory.specs.Column.{slots_of};
-ghost use Rattle.arrow_memory.specs.SlotEquality.{same_slots};
+ghost use Rattle.arrow_column.specs.Column.{slots_of};
+ghost use Rattle.arrow_column.specs.SlotEquality.{same_slots};
 
 use crate::MutableBooleanArray;
 
 impl PartialEq for MutableBooleanArray {
     ghost use Rattle.std.specs.Bool.{beq};
     ghost use Rattle.std.specs.Cmp.{booleans_Decides, decided, on_per, partial_equiv_from_equiv};
-    ghost use Rattle.arrow_memory.specs.Column.{slots_of};
-    ghost use Rattle.arrow_memory.specs.SlotEquality.{same_slots, same_slots-Decides};
+    ghost use Rattle.arrow_column.specs.Column.{slots_of};
+    ghost use Rattle.arrow_column.specs.SlotEquality.{same_slots, same_slots-Decides};
 
     ghost eq = { λ first second. same_slots beq (slots_of first) (slots_of second) };
 
@@ -28,8 +28,8 @@ impl PartialEq for MutableBooleanArray {
 impl Eq for MutableBooleanArray {
     ghost use Rattle.std.specs.Bool.{beq};
     ghost use Rattle.std.specs.Cmp.{booleans_Decides, decided, on_equiv};
-    ghost use Rattle.arrow_memory.specs.Column.{slots_of};
-    ghost use Rattle.arrow_memory.specs.SlotEquality.{same_slots, same_slots-Decides};
+    ghost use Rattle.arrow_column.specs.Column.{slots_of};
+    ghost use Rattle.arrow_column.specs.SlotEquality.{same_slots, same_slots-Decides};
 
     ghost laws = { on_equiv slots_of (decided (same_slots beq) (same_slots-Decides beq booleans_Decides)) };
 }

@@ -1,7 +1,7 @@
 //! Builders of truth values that grow by many slots.
 ghost use Rattle.std.specs.Prelude.{◌≡◌, List, Bool, Option, Some, false, map, OnOk, IfErr};
 ghost use Rattle.std.specs.Iterator.{Drains, IsFinite, Yields};
-ghost use Rattle.arrow_memory.specs.Column.{append_slots, joined};
+ghost use Rattle.arrow_column.specs.Column.{append_slots, joined};
 
 use crate::MutableBooleanArray;
 use arrow_types::error::Error;

@@ -2,12 +2,12 @@
 ghost use Rattle.std.specs.Prelude.{◌≡◌, List, Bool, Option, Some, None, false, replicate, IfOk, IfErr};
 ghost use Rattle.std.specs.Iterator.{Drains, IsFinite};
 ghost use Rattle.arrow_types.specs.Types.{logical_type, IsRightType};
-ghost use Rattle.arrow_memory.specs.Column.{append_slots, column_of_parts, empty_column};
+ghost use Rattle.arrow_column.specs.Column.{append_slots, column_of_parts, empty_column};
 ghost use Rattle.arrow_boolean.specs.Fits.{boolean_type};
 
 use crate::{BooleanArray, MutableBooleanArray};
+use arrow_column::GrowingColumn;
 use arrow_memory::bitmap::{Bitmap, MutableBitmap};
-use arrow_memory::column::GrowingColumn;
 use arrow_types::data_type::DataType;
 use arrow_types::error::Error;
 use arrow_types::physical_type::PhysicalType;

@@ -1,6 +1,6 @@
 //! Iterators over arrays and builders of truth values.
 ghost use Rattle.std.specs.Prelude.{◌≡◌};
-ghost use Rattle.arrow_memory.specs.Column.{slots_of, stored_values};
+ghost use Rattle.arrow_column.specs.Column.{slots_of, stored_values};
 
 use crate::{BooleanArray, MutableBooleanArray};
 use arrow_memory::bitmap::{BitmapIntoIter, BitmapIter};

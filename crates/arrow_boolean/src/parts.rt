@@ -1,12 +1,13 @@
 //! Arrays and builders made of parts from outside, which are tested.
 ghost use Rattle.std.specs.Prelude.{◌≡◌, IsOkAnd, IsErrAnd};
 ghost use Rattle.arrow_types.specs.Types.{logical_type, refusal, IsRightType};
-ghost use Rattle.arrow_memory.specs.Column.{FitsMask, column_of_parts, unfit_mask};
+ghost use Rattle.arrow_memory.specs.Rows.{FitsMask};
+ghost use Rattle.arrow_column.specs.Column.{column_of_parts, unfit_mask};
 ghost use Rattle.arrow_boolean.specs.Fits.{wrong_builder_type, wrong_type};
 
 use crate::{BooleanArray, MutableBooleanArray};
+use arrow_column::{GrowingColumn, is_growing_mask_of, is_mask_of};
 use arrow_memory::bitmap::{Bitmap, MutableBitmap};
-use arrow_memory::column::{GrowingColumn, is_growing_mask_of, is_mask_of};
 use arrow_types::data_type::DataType;
 use arrow_types::error::Error;
 use arrow_types::physical_type::PhysicalType;

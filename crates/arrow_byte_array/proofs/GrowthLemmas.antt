@@ -2,7 +2,7 @@
 use Rattle.std.proofs.Common.{◌≡◌, Bool, true, false, refl}
 use Rattle.std.specs.Prelude.{⊤}
 use Rattle.arrow_types.specs.declared.error.Error.{Error}
-use Rattle.arrow_memory.specs.Column.{refused_growth}
+use Rattle.arrow_column.specs.Column.{refused_growth}
 use Rattle.arrow_memory.specs.Offsets.{MatchGrowth}
 
 -- a growth that was refused for what does not fit was so only where something does not

@@ -2,16 +2,17 @@
 ghost use Rattle.std.specs.Prelude.{◌≡◌, ◌<◌, length, not, count_by, slice_get, Some, None, IfOk, IfErr};
 ghost use Rattle.std.specs.Option.{option_copied};
 ghost use Rattle.arrow_types.specs.Types.{logical_type, IsRightType};
-ghost use Rattle.arrow_memory.specs.Column.{FitsCut, FitsMask, IsColumn, cut_with, mask_of, marks_of, slots_of, stored_values};
+ghost use Rattle.arrow_memory.specs.Rows.{FitsMask};
+ghost use Rattle.arrow_column.specs.Column.{FitsCut, IsColumn, cut_with, mask_of, marks_of, slots_of, stored_values};
 ghost use Rattle.arrow_check.specs.Pieces.{items_of};
 ghost use Rattle.arrow_bytes.specs.Pieces.{around_cut};
 ghost use Rattle.arrow_bytes.specs.Column.{byte_column, bytes_held, empty_bytes, offsets_held};
 ghost use Rattle.arrow_bytes.specs.Kinds.{AreItems, CutItems};
 
 use arrow_bytes::{ByteKind, ByteValues};
+use arrow_column::FrozenColumn;
 use arrow_memory::bitmap::Bitmap;
 use arrow_memory::buffer::Buffer;
-use arrow_memory::column::FrozenColumn;
 use arrow_memory::offset::OffsetsBuffer;
 use arrow_types::data_type::DataType;
 use arrow_types::error::Error;

@@ -2,7 +2,8 @@
 ghost use Rattle.std.specs.Prelude.{◌≡◌, ◌≤◌, [], is_some, IsTrue, length, None, OnOk, IfOk, IfErr, option_map};
 ghost use Rattle.std.specs.Option.{option_copied};
 ghost use Rattle.arrow_types.specs.Types.{logical_type, IsRightType};
-ghost use Rattle.arrow_memory.specs.Column.{FitsMask, IsColumn, append_slot, last_slot, mask_of, stored_values, without_last, without_needless_mask};
+ghost use Rattle.arrow_memory.specs.Rows.{FitsMask};
+ghost use Rattle.arrow_column.specs.Column.{IsColumn, append_slot, last_slot, mask_of, stored_values, without_last, without_needless_mask};
 ghost use Rattle.arrow_memory.specs.Offsets.{last_of};
 ghost use Rattle.arrow_check.specs.Pieces.{items_of};
 ghost use Rattle.arrow_bytes.specs.Column.{byte_column, bytes_held, empty_bytes, offsets_held};
@@ -10,8 +11,8 @@ ghost use Rattle.arrow_bytes.specs.Kinds.{AreItems};
 
 use crate::{ByteArray, MutableByteValuesArray};
 use arrow_bytes::{ByteKind, MutableByteValues};
+use arrow_column::{FrozenColumn, GrowingColumn, MutableValues};
 use arrow_memory::bitmap::MutableBitmap;
-use arrow_memory::column::{FrozenColumn, GrowingColumn, MutableValues};
 use arrow_memory::offset::Offsets;
 use arrow_types::data_type::DataType;
 use arrow_types::error::Error;

@@ -1,13 +1,13 @@
 //! Arrays and builders whose masks are replaced, and arrays that are thawed.
 ghost use Rattle.std.specs.Prelude.{◌≡◌, List, Bool, Some, length, IfSome, MatchOption};
 ghost use Rattle.either.specs.Either.{MatchEither};
-ghost use Rattle.arrow_memory.specs.Column.{mask_of, with_mask};
+ghost use Rattle.arrow_column.specs.Column.{mask_of, with_mask};
 ghost use Rattle.arrow_bytes.specs.Column.{column_without_tail};
 
 use crate::{ByteArray, MutableByteArray};
 use arrow_bytes::{ByteKind, into_mut_values};
+use arrow_column::{FrozenColumn, GrowingColumn};
 use arrow_memory::bitmap::{Bitmap, MutableBitmap};
-use arrow_memory::column::{FrozenColumn, GrowingColumn};
 use arrow_types::offset::Offset;
 use either::{Either, Left, Right};
 

@@ -1,7 +1,7 @@
 //! Equality of builders of one kind, which compares slots alone.
 ghost use Rattle.std.specs.Prelude.{◌≡◌, ◌↔◌, IsTrue};
-ghost use Rattle.arrow_memory.specs.Column.{slots_of};
-ghost use Rattle.arrow_memory.specs.SlotEquality.{same_slots};
+ghost use Rattle.arrow_column.specs.Column.{slots_of};
+ghost use Rattle.arrow_column.specs.SlotEquality.{same_slots};
 ghost use Rattle.arrow_bytes.specs.Equality.{same_bytes};
 
 use crate::MutableByteArray;
@@ -10,8 +10,8 @@ use arrow_types::offset::Offset;
 
 impl<K: ByteKind, O: Offset> PartialEq for MutableByteArray<K, O> {
     ghost use Rattle.std.specs.Cmp.{decided, on_per, partial_equiv_from_equiv};
-    ghost use Rattle.arrow_memory.specs.Column.{slots_of};
-    ghost use Rattle.arrow_memory.specs.SlotEquality.{same_slots, same_slots-Decides};
+    ghost use Rattle.arrow_column.specs.Column.{slots_of};
+    ghost use Rattle.arrow_column.specs.SlotEquality.{same_slots, same_slots-Decides};
     ghost use Rattle.arrow_bytes.specs.Equality.{same_bytes, same_bytes-Decides};
 
     ghost eq = { λ first second. same_slots same_bytes (slots_of first) (slots_of second) };
@@ -29,8 +29,8 @@ impl<K: ByteKind, O: Offset> PartialEq for MutableByteArray<K, O> {
 
 impl<K: ByteKind, O: Offset> Eq for MutableByteArray<K, O> {
     ghost use Rattle.std.specs.Cmp.{decided, on_equiv};
-    ghost use Rattle.arrow_memory.specs.Column.{slots_of};
-    ghost use Rattle.arrow_memory.specs.SlotEquality.{same_slots, same_slots-Decides};
+    ghost use Rattle.arrow_column.specs.Column.{slots_of};
+    ghost use Rattle.arrow_column.specs.SlotEquality.{same_slots, same_slots-Decides};
     ghost use Rattle.arrow_bytes.specs.Equality.{same_bytes, same_bytes-Decides};
 
     ghost laws = { on_equiv slots_of (decided (same_slots same_bytes) (same_slots-Decides same_bytes same_bytes-Decides)) };

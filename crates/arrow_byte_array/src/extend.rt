@@ -1,7 +1,7 @@
 //! Builders of one kind that grow by many slots.
 ghost use Rattle.std.specs.Prelude.{◌≡◌, List, Option, Some, [], false, true, map, OnOk, IfErr, option_map};
 ghost use Rattle.std.specs.Iterator.{Drains, IsFinite, YieldsThen};
-ghost use Rattle.arrow_memory.specs.Column.{append_slots, joined, refused_growth, slot_overflows, slots_fit, stored_values};
+ghost use Rattle.arrow_column.specs.Column.{append_slots, joined, refused_growth, slot_overflows, slots_fit, stored_values};
 ghost use Rattle.arrow_bytes.specs.Column.{item_overflows, joins_overflow};
 
 use crate::{MutableByteArray, MutableByteValuesArray};

@@ -3,14 +3,14 @@ ghost use Rattle.std.specs.Prelude.{◌≡◌, ◌++◌, ◌∷◌, List, Option
 ghost use Rattle.std.specs.Iterator.{Drains, IsFinite, YieldsThen};
 ghost use Rattle.arrow_types.specs.Types.{logical_type, IsRightType};
 ghost use Rattle.arrow_memory.specs.Offsets.{MatchGrowth};
-ghost use Rattle.arrow_memory.specs.Column.{append_slots, column_with, slot_overflows, slots_fit, without_needless_mask};
+ghost use Rattle.arrow_column.specs.Column.{append_slots, column_with, slot_overflows, slots_fit, without_needless_mask};
 ghost use Rattle.arrow_bytes.specs.Pieces.{nothing_around};
 ghost use Rattle.arrow_bytes.specs.Column.{empty_bytes, item_overflows};
 
 use crate::{ByteArray, MutableByteArray, MutableByteValuesArray};
 use arrow_bytes::{ByteItem, ByteKind, ByteValues, ItemError};
+use arrow_column::FrozenColumn;
 use arrow_memory::bitmap::Bitmap;
-use arrow_memory::column::FrozenColumn;
 use arrow_types::data_type::DataType;
 use arrow_types::error::Error;
 use arrow_types::offset::Offset;

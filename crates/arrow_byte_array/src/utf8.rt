@@ -1,7 +1,7 @@
 //! Text as it is lent and taken: what arrays and builders of text have of their own.
 ghost use Rattle.std.specs.Prelude.{◌≡◌, ◌<◌, [], false, length, slice_get, Some, OnOk, IfErr, option_map};
 ghost use Rattle.std.specs.Option.{option_copied};
-ghost use Rattle.arrow_memory.specs.Column.{append_slot, refused_growth, slot_overflows, slots_of, stored_values};
+ghost use Rattle.arrow_column.specs.Column.{append_slot, refused_growth, slot_overflows, slots_of, stored_values};
 ghost use Rattle.arrow_check.specs.Items.{IsWithin, rest_of};
 ghost use Rattle.arrow_bytes.specs.Pieces.{overflows_by};
 ghost use Rattle.arrow_bytes.specs.Column.{item_overflows};
@@ -17,7 +17,7 @@ use arrow_types::offset::Offset;
 
 impl<'a, O: Offset> ArrayAccessor<'a> for ByteArray<Utf8, O> {
     ghost use Rattle.std.specs.Prelude.{◌≡◌, ◌<◌, List, ℕ, Some, length, slice_get};
-    ghost use Rattle.arrow_memory.specs.Column.{stored_values};
+    ghost use Rattle.arrow_column.specs.Column.{stored_values};
 
     type Item = &'a str;
 
@@ -45,7 +45,7 @@ impl<'a, O: Offset> ArrayAccessor<'a> for ByteArray<Utf8, O> {
 
 impl<'a, O: Offset> ArrayAccessor<'a> for MutableByteValuesArray<Utf8, O> {
     ghost use Rattle.std.specs.Prelude.{◌≡◌, ◌<◌, List, ℕ, Some, length, slice_get};
-    ghost use Rattle.arrow_memory.specs.Column.{stored_values};
+    ghost use Rattle.arrow_column.specs.Column.{stored_values};
 
     type Item = &'a str;
 
@@ -210,7 +210,7 @@ impl<O: Offset> MutableByteValuesArray<Utf8, O> {
 }
 
 impl<'a, O: Offset> IntoIterator for &'a ByteArray<Utf8, O> {
-    ghost use Rattle.arrow_memory.specs.Column.{slots_of};
+    ghost use Rattle.arrow_column.specs.Column.{slots_of};
 
     type Item = Option<&'a str>;
 
@@ -225,7 +225,7 @@ impl<'a, O: Offset> IntoIterator for &'a ByteArray<Utf8, O> {
 }
 
 impl<'a, O: Offset> IntoIterator for &'a MutableByteArray<Utf8, O> {
-    ghost use Rattle.arrow_memory.specs.Column.{slots_of};
+    ghost use Rattle.arrow_column.specs.Column.{slots_of};
 
     type Item = Option<&'a str>;
 
@@ -240,7 +240,7 @@ impl<'a, O: Offset> IntoIterator for &'a MutableByteArray<Utf8, O> {
 }
 
 impl<'a, O: Offset> IntoIterator for &'a MutableByteValuesArray<Utf8, O> {
-    ghost use Rattle.arrow_memory.specs.Column.{stored_values};
+    ghost use Rattle.arrow_column.specs.Column.{stored_values};
     ghost use Rattle.arrow_check.specs.Items.{IsWithin, rest_of};
 
     type Item = &'a str;

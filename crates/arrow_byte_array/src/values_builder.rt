@@ -1,7 +1,7 @@
 //! The builder of arrays of one kind without nulls.
 ghost use Rattle.std.specs.Prelude.{◌≡◌, ◌≤◌, [], false, is_some, IsTrue, length, None, Some, OnOk, IfOk, IfErr, option_map};
 ghost use Rattle.arrow_types.specs.Types.{logical_type, IsRightType};
-ghost use Rattle.arrow_memory.specs.Column.{all_valid, append_slot, last_slot, stored_values, without_last, without_needless_mask};
+ghost use Rattle.arrow_column.specs.Column.{all_valid, append_slot, last_slot, stored_values, without_last, without_needless_mask};
 ghost use Rattle.arrow_memory.specs.Offsets.{last_of};
 ghost use Rattle.arrow_check.specs.Pieces.{items_of};
 ghost use Rattle.arrow_bytes.specs.Column.{byte_column, bytes_held, empty_bytes, offsets_held};
@@ -10,7 +10,7 @@ ghost use Rattle.arrow_bytes.specs.Kinds.{AreItems};
 use crate::ByteArray;
 use crate::builder::pop_slot;
 use arrow_bytes::{ByteKind, MutableByteValues};
-use arrow_memory::column::{FrozenColumn, GrowingColumn};
+use arrow_column::{FrozenColumn, GrowingColumn};
 use arrow_memory::offset::Offsets;
 use arrow_types::data_type::DataType;
 use arrow_types::error::Error;

@@ -2,7 +2,7 @@
 use Rattle.std.specs.Prelude.{ℕ, Bool, List, [], length, Option, None}
 use Rattle.std.specs.List.{concat}
 use Rattle.arrow_types.specs.Types.{LogicalType}
-use Rattle.arrow_memory.specs.Column.{ColumnWith, column_with, stored_values}
+use Rattle.arrow_column.specs.Column.{ColumnWith, column_with, stored_values}
 use Rattle.arrow_check.specs.Pieces.{bytes_of, items_of, offsets_of}
 use Rattle.arrow_bytes.specs.Pieces.{Around, around_of, nothing_around, overflows_by}
 

@@ -1,6 +1,6 @@
 //! Equality of stored values of bytes, place by place.
 use crate::{ByteKind, MutableByteValues};
-use arrow_memory::column::EqualValues;
+use arrow_column::EqualValues;
 use arrow_types::offset::Offset;
 
 impl<K: ByteKind, O: Offset> EqualValues for MutableByteValues<K, O> {

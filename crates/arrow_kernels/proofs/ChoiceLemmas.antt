@@ -10,8 +10,10 @@ use Rattle.std.proofs.lemmas.List.Sums.{sum_by-cons}
 use Rattle.std.proofs.lemmas.Option.{MatchOption-at_none, get_or_from_slice_get, slice_get-map, slice_get_within}
 use Rattle.arrow_types.specs.Types.{LogicalType}
 use Rattle.arrow_types.specs.IndexKey.{index_of}
-use Rattle.arrow_memory.specs.Column.{Column, ColumnWith, FitsMask, IsColumn, Row, column_with, mask_of, mask_with_nulls, slot, slots_of, stored_values}
-use Rattle.arrow_memory.proofs.ColumnLemmas.{column_again, slots_valid, valid_by_held}
+use Rattle.arrow_memory.specs.Rows.{FitsMask, Row, slot}
+use Rattle.arrow_column.specs.Masks.{mask_with_nulls}
+use Rattle.arrow_column.specs.Column.{Column, ColumnWith, IsColumn, column_with, mask_of, slots_of, stored_values}
+use Rattle.arrow_column.proofs.ColumnLemmas.{column_again, slots_valid, valid_by_held}
 use Rattle.arrow_check.specs.Indexes.{is_place}
 use Rattle.arrow_kernels.specs.Kernels.{asked, at_key, at_keys, column_of_rows, filtered, first_astray, taken, where_set}
 

@@ -10,7 +10,7 @@ use Rattle.std.proofs.lemmas.List.Folds.{concat-append}
 use Rattle.arrow_types.specs.IndexKey.{index_of}
 use Rattle.arrow_types.specs.declared.error.Error.{Error}
 use Rattle.arrow_types.specs.declared.error.Error.TheVariants as error
-use Rattle.arrow_memory.specs.Column.{stored_values}
+use Rattle.arrow_column.specs.Column.{stored_values}
 use Rattle.arrow_memory.specs.Offsets.{last_of}
 use Rattle.arrow_check.specs.Pieces.{bytes_between, bytes_of, ends_after, items_after, items_of, offsets_of}
 use Rattle.arrow_check.specs.Utf8.{IsWellFormed}

@@ -3,7 +3,8 @@
 use Rattle.std.specs.Prelude.{ℕ, ℤ, Bool, false, not, nat_lt, List, length, map, find, Option, slice_get, option_and_then, unwrap_or}
 use Rattle.std.specs.List.{concat, filter_map, zip}
 use Rattle.arrow_types.specs.IndexKey.{index_of}
-use Rattle.arrow_memory.specs.Column.{Column, ColumnWith, Row, slot, slots_of, stored_values, without_needless_mask}
+use Rattle.arrow_memory.specs.Rows.{Row, slot}
+use Rattle.arrow_column.specs.Column.{Column, ColumnWith, slots_of, stored_values, without_needless_mask}
 use Rattle.arrow_check.specs.Indexes.{is_place}
 use Rattle.arrow_bytes.specs.Column.{ByteColumn}
 

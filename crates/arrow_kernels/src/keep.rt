@@ -2,7 +2,8 @@
 ghost use Rattle.std.specs.Prelude.{◌≡◌, ◌+◌, ◌≤◌, length, option_map, IfOk, IfErr, IfSome};
 ghost use Rattle.std.specs.List.{concat};
 ghost use Rattle.std.specs.Option.{option_copied};
-ghost use Rattle.arrow_memory.specs.Column.{mask_with_nulls, stored_values};
+ghost use Rattle.arrow_column.specs.Masks.{mask_with_nulls};
+ghost use Rattle.arrow_column.specs.Column.{stored_values};
 ghost use Rattle.arrow_memory.specs.Offsets.{last_of};
 ghost use Rattle.arrow_check.specs.Pieces.{items_of, offsets_of};
 ghost use Rattle.arrow_bytes.specs.Kinds.{CutItems};

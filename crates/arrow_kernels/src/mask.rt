@@ -1,6 +1,6 @@
 //! The mask of an array that a kernel makes.
 ghost use Rattle.std.specs.Prelude.{◌≡◌, Some};
-ghost use Rattle.arrow_memory.specs.Column.{mask_with_nulls};
+ghost use Rattle.arrow_column.specs.Masks.{mask_with_nulls};
 
 use arrow_memory::bitmap::Bitmap;
 

@@ -4,7 +4,7 @@
 ghost use Rattle.std.specs.Prelude.{◌≡◌, ◌<◌, ⊤, false, length, All, None, IfOk, IfErr, IsErrAnd, IsSomeAnd, MatchOption};
 ghost use Rattle.arrow_types.specs.IndexKey.{index_of};
 ghost use Rattle.arrow_types.specs.Types.{refusal};
-ghost use Rattle.arrow_memory.specs.Column.{refused_growth};
+ghost use Rattle.arrow_column.specs.Column.{refused_growth};
 ghost use Rattle.arrow_check.specs.Indexes.{key_refusal};
 ghost use Rattle.arrow_bytes.specs.Pieces.{nothing_around};
 ghost use Rattle.arrow_kernels.specs.Kernels.{first_astray, taken, taking_overflows};

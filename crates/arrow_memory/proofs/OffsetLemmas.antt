@@ -5,7 +5,7 @@ use Rattle.std.proofs.lemmas.Bool.{true≢false, or_parts, or_from, ltb-false, l
 use Rattle.std.proofs.lemmas.List.{get_or-map, length-map, map-append, get_or_append_left, get_or-append_right, get_or-take, get_or-drop, get_or-replicate, length-replicate, take-map, take_more_set, take_more, take_all, take_at, ext_get_or}
 use Rattle.std.proofs.lemmas.Int.{ints}
 use Rattle.std.specs.List.{drop-map}
-use Rattle.arrow_memory.proofs.ColumnLemmas.{length-piece}
+use Rattle.arrow_memory.proofs.PieceLemmas.{length-piece}
 use Rattle.arrow_memory.specs.Offsets.{first_of, last_of, NeverFalls, IsOffsets, falls_after, first_fault, numbers_of, KeepsOffsets, moved_behind}
 
 -- ---- integers that are handed in

@@ -6,8 +6,6 @@ mod bitmap;
 #[cfg(test)]
 mod buffer;
 #[cfg(test)]
-mod laws;
-#[cfg(test)]
 mod offset;
 #[cfg(test)]
 mod thaw;

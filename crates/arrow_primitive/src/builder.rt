@@ -2,12 +2,13 @@
 ghost use Rattle.std.specs.Prelude.{◌≡◌, ◌<◌, ◌≤◌, length, Some, None, OnOk, IfOk, IfErr, vec_capacity};
 ghost use Rattle.std.specs.Option.{option_copied};
 ghost use Rattle.arrow_types.specs.Types.{logical_type, IsRightType, default_logical_type};
-ghost use Rattle.arrow_memory.specs.Column.{Column, FitsMask, IsColumn, append_slot, column_of_parts, empty_column, without_needless_mask, last_slot, mask_of, stored_values, with_slot, with_type, without_last};
+ghost use Rattle.arrow_memory.specs.Rows.{FitsMask};
+ghost use Rattle.arrow_column.specs.Column.{Column, IsColumn, append_slot, column_of_parts, empty_column, without_needless_mask, last_slot, mask_of, stored_values, with_slot, with_type, without_last};
 
 use crate::PrimitiveArray;
+use arrow_column::GrowingColumn;
 use arrow_memory::bitmap::MutableBitmap;
 use arrow_memory::buffer::Buffer;
-use arrow_memory::column::GrowingColumn;
 use arrow_types::data_type::DataType;
 use arrow_types::error::Error;
 use arrow_types::native_type::NativeType;
@@ -24,7 +25,7 @@ pub struct MutablePrimitiveArray<T: NativeType> {
 // Contracts see the column: the type, a row for each slot, and whether a mask is held.
 impl<T: NativeType> Model for MutablePrimitiveArray<T> {
     ghost use Rattle.arrow_types.specs.Types.{IsRightType};
-    ghost use Rattle.arrow_memory.specs.Column.{Column};
+    ghost use Rattle.arrow_column.specs.Column.{Column};
     ghost use Rattle.arrow_types.specs.declared.physical_type.PhysicalType.TheVariants.{Primitive};
 
     ghost Value = { Column T };

@@ -4,12 +4,12 @@ ghost use Rattle.std.specs.Bool.{OnFalse};
 ghost use Rattle.std.specs.Borrow.{MutBor};
 ghost use Rattle.std.specs.Fn.{FnOnceReturnsAtMut};
 ghost use Rattle.either.specs.Either.{MatchEither};
-ghost use Rattle.arrow_memory.specs.Column.{mask_of, stored_values, with_mask, with_stored};
+ghost use Rattle.arrow_column.specs.Column.{mask_of, stored_values, with_mask, with_stored};
 
 use crate::{MutablePrimitiveArray, PrimitiveArray};
+use arrow_column::LendValues;
 use arrow_memory::bitmap::{Bitmap, MutableBitmap};
 use arrow_memory::buffer::Buffer;
-use arrow_memory::column::LendValues;
 use arrow_types::native_type::NativeType;
 use either::{Either, Left, Right};
 
@@ -108,7 +108,7 @@ impl<T: NativeType> MutablePrimitiveArray<T> {
 
 /// Once its values were written over, a builder has these values under the same marks.
 impl<T: NativeType> LendValues<T> for MutablePrimitiveArray<T> {
-    ghost use Rattle.arrow_memory.specs.Column.{stored_values, with_written};
+    ghost use Rattle.arrow_column.specs.Column.{stored_values, with_written};
 
     ghost lent = { stored_values };
 

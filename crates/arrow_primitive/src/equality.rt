@@ -1,15 +1,15 @@
 //! Equality of builders of native values, which compares slots alone.
 ghost use Rattle.std.specs.Prelude.{◌≡◌, ◌↔◌, IsTrue};
-ghost use Rattle.arrow_memory.specs.Column.{slots_of};
-ghost use Rattle.arrow_memory.specs.SlotEquality.{same_slots};
+ghost use Rattle.arrow_column.specs.Column.{slots_of};
+ghost use Rattle.arrow_column.specs.SlotEquality.{same_slots};
 
 use crate::MutablePrimitiveArray;
 use arrow_types::native_type::NativeType;
 
 impl<T: NativeType> PartialEq for MutablePrimitiveArray<T> {
     ghost use Rattle.std.specs.Cmp.{decided, on_per, partial_equiv_from_equiv};
-    ghost use Rattle.arrow_memory.specs.Column.{slots_of};
-    ghost use Rattle.arrow_memory.specs.SlotEquality.{same_slots, same_slots-Decides};
+    ghost use Rattle.arrow_column.specs.Column.{slots_of};
+    ghost use Rattle.arrow_column.specs.SlotEquality.{same_slots, same_slots-Decides};
 
     ghost eq = { λ first second. same_slots T.eq (slots_of first) (slots_of second) };
 
@@ -26,8 +26,8 @@ impl<T: NativeType> PartialEq for MutablePrimitiveArray<T> {
 
 impl<T: NativeType> Eq for MutablePrimitiveArray<T> {
     ghost use Rattle.std.specs.Cmp.{decided, on_equiv};
-    ghost use Rattle.arrow_memory.specs.Column.{slots_of};
-    ghost use Rattle.arrow_memory.specs.SlotEquality.{same_slots, same_slots-Decides};
+    ghost use Rattle.arrow_column.specs.Column.{slots_of};
+    ghost use Rattle.arrow_column.specs.SlotEquality.{same_slots, same_slots-Decides};
 
     ghost laws = { on_equiv slots_of (decided (same_slots T.eq) (same_slots-Decides T.eq T.same)) };
 }

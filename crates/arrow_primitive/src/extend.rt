@@ -1,10 +1,10 @@
 //! Builders of native values that grow by many slots.
 ghost use Rattle.std.specs.Prelude.{◌≡◌, List, Option, Some, None, map, replicate, IfSome, IfNone, OnOk, IfErr};
 ghost use Rattle.std.specs.Iterator.{Drains, IsFinite, Yields};
-ghost use Rattle.arrow_memory.specs.Column.{append_nulls, append_slots, append_values, joined};
+ghost use Rattle.arrow_column.specs.Column.{append_nulls, append_slots, append_values, joined};
 
 use crate::MutablePrimitiveArray;
-use arrow_memory::column::Repeated;
+use arrow_column::Repeated;
 use arrow_types::error::Error;
 use arrow_types::native_type::NativeType;
 

@@ -1,7 +1,7 @@
 //! Iterators over arrays and builders of native values.
 ghost use Rattle.std.specs.Prelude.{◌≡◌};
 ghost use Rattle.std.specs.Slice.Iter.{iter_rest};
-ghost use Rattle.arrow_memory.specs.Column.{slots_of, stored_values};
+ghost use Rattle.arrow_column.specs.Column.{slots_of, stored_values};
 
 use crate::{MutablePrimitiveArray, PrimitiveArray};
 use arrow_memory::bitmap::{BitmapIntoIter, BitmapIter};

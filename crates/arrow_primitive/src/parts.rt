@@ -1,13 +1,14 @@
 //! Arrays and builders made of parts from outside, which are tested.
 ghost use Rattle.std.specs.Prelude.{◌≡◌, IsOkAnd, IsErrAnd};
 ghost use Rattle.arrow_types.specs.Types.{logical_type, refusal, IsRightType};
-ghost use Rattle.arrow_memory.specs.Column.{FitsMask, column_of_parts, unfit_mask};
+ghost use Rattle.arrow_memory.specs.Rows.{FitsMask};
+ghost use Rattle.arrow_column.specs.Column.{column_of_parts, unfit_mask};
 ghost use Rattle.arrow_primitive.specs.Fits.{wrong_type};
 
 use crate::{MutablePrimitiveArray, PrimitiveArray};
+use arrow_column::{GrowingColumn, is_growing_mask_of, is_mask_of};
 use arrow_memory::bitmap::{Bitmap, MutableBitmap};
 use arrow_memory::buffer::Buffer;
-use arrow_memory::column::{GrowingColumn, is_growing_mask_of, is_mask_of};
 use arrow_types::data_type::DataType;
 use arrow_types::error::Error;
 use arrow_types::native_type::NativeType;

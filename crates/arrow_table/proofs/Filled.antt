@@ -7,7 +7,7 @@ use Rattle.std.proofs.lemmas.List.Folds.{list_all-append}
 use Rattle.std.specs.Prelude.{IsTrue, MatchBool}
 use Rattle.std.specs.List.{list_all}
 use Rattle.arrow_types.specs.Types.{overflow}
-use Rattle.arrow_memory.specs.Column.{ColumnWith, append_slot, append_slots, all_valid, without_needless_mask}
+use Rattle.arrow_column.specs.Column.{ColumnWith, append_slot, append_slots, all_valid, without_needless_mask}
 use Rattle.arrow_bytes.specs.Pieces.{Around}
 use Rattle.arrow_table.specs.Answer.{Answer, done, refused, is_memory}
 use Rattle.arrow_table.specs.Entry.{Value, Types, default_item}

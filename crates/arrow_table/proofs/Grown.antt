@@ -3,7 +3,7 @@ use Rattle.std.proofs.Common.{◌≡◌, suc, Bool, true, false, List, [], ◌�
 use Rattle.std.proofs.Math.Dec.{eqb-suc-suc, eqb-zero-suc}
 use Rattle.std.specs.Prelude.{IsTrue, MatchBool}
 use Rattle.arrow_types.specs.Types.{overflow, out_of_memory, refusal}
-use Rattle.arrow_memory.specs.Column.{refused_growth}
+use Rattle.arrow_column.specs.Column.{refused_growth}
 use Rattle.arrow_table.specs.Answer.{Answer, done, refused, is_memory}
 use Rattle.arrow_table.specs.Entry.{Value, Types}
 use Rattle.arrow_table.specs.Item.{Stored}

@@ -2,7 +2,8 @@
 use Rattle.std.proofs.Common.{◌≡◌, ℕ, zero, suc, true, false, [], ◌∷◌, map, replicate, Some, None, refl, ap}
 use Rattle.std.specs.List.{zip}
 use Rattle.arrow_types.specs.Types.{LogicalType}
-use Rattle.arrow_memory.specs.Column.{ColumnWith, Row, empty_column, column_of_parts, column_with}
+use Rattle.arrow_memory.specs.Rows.{Row}
+use Rattle.arrow_column.specs.Column.{ColumnWith, empty_column, column_of_parts, column_with}
 use Rattle.arrow_bytes.specs.Pieces.{Around, nothing_around}
 use Rattle.arrow_table.specs.Item.{Stored}
 use Rattle.arrow_table.specs.Entry.{seen}

@@ -1,7 +1,7 @@
 -- Held masks that are changed, seen over what slots store.
 use Rattle.std.proofs.Common.{◌≡◌, ◌∙◌, Bool, true, List, length, None, Some, IfSome, MatchOption, if◌then◌else◌, sym, ap}
 use Rattle.std.proofs.lemmas.List.{length-map}
-use Rattle.arrow_memory.specs.Column.{ColumnWith, marks_of, mask_of, with_mask}
+use Rattle.arrow_column.specs.Column.{ColumnWith, marks_of, mask_of, with_mask}
 use Rattle.arrow_bytes.specs.Pieces.{Around}
 use Rattle.arrow_table.specs.Entry.{seen}
 use Rattle.arrow_table.specs.Item.{Stored}

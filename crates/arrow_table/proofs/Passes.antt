@@ -7,7 +7,8 @@ use Rattle.arrow_types.specs.declared.error.Error.{Error}
 use Rattle.arrow_types.specs.declared.error.Error.TheVariants as error
 use Rattle.arrow_types.specs.declared.physical_type.PhysicalType.{PhysicalType}
 use Rattle.arrow_types.specs.declared.physical_type.PhysicalType.TheVariants as physical
-use Rattle.arrow_memory.specs.Column.{Column, FitsMask, column_of_parts, column_with, unfit_mask, unfit_builder_mask}
+use Rattle.arrow_memory.specs.Rows.{FitsMask}
+use Rattle.arrow_column.specs.Column.{Column, column_of_parts, column_with, unfit_mask, unfit_builder_mask}
 use Rattle.arrow_memory.specs.Marks.{bits_past_bytes}
 use Rattle.arrow_memory.specs.Offsets.{first_fault, last_of}
 use Rattle.arrow_check.specs.Bounds.{past_values, not_at_end}

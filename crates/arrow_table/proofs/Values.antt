@@ -3,7 +3,7 @@ use Rattle.std.proofs.Common.{◌≡◌, ◌∙◌, ℕ, zero, suc, ◌+◌, ◌
 use Rattle.std.proofs.lemmas.Bool.{cases_lt}
 use Rattle.std.proofs.lemmas.List.{ext_get_or, get_or-reverse, length-map, length-reverse, map-append, reverse-append}
 use Rattle.std.proofs.lemmas.Option.{get_or_from_slice_get}
-use Rattle.arrow_memory.specs.Column.{ColumnWith, stored_values, with_stored}
+use Rattle.arrow_column.specs.Column.{ColumnWith, stored_values, with_stored}
 use Rattle.arrow_bytes.specs.Pieces.{Around}
 use Rattle.arrow_table.specs.Entry.{seen}
 use Rattle.arrow_table.specs.Item.{Stored}

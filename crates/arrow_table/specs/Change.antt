@@ -1,7 +1,7 @@
 -- How the values of entries change.
 use Rattle.std.specs.Prelude.{ℕ, ◌+◌, ◌-◌, suc, Bool, List, [], ◌∷◌, length, map, take, drop, Option, Some, None, slice_get, if◌then◌else◌}
 use Rattle.std.specs.List.{concat}
-use Rattle.arrow_memory.specs.Column.{ColumnWith, column_with, cut_with, append_slots, slot_overflows, stored_values, without_needless_mask}
+use Rattle.arrow_column.specs.Column.{ColumnWith, column_with, cut_with, append_slots, slot_overflows, stored_values, without_needless_mask}
 use Rattle.arrow_bytes.specs.Pieces.{Around, nothing_around, around_cut, overflows_by}
 use Rattle.arrow_bytes.specs.Column.{item_overflows}
 use Rattle.arrow_table.specs.declared.item.Turn.{Turn}

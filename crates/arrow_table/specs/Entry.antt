@@ -4,7 +4,7 @@ use Rattle.arrow_types.specs.Types.{LogicalType, default_logical_type}
 use Rattle.arrow_types.specs.declared.primitive_type.PrimitiveType.{PrimitiveType}
 use Rattle.arrow_types.specs.declared.physical_type.PhysicalType.{PhysicalType}
 use Rattle.arrow_types.specs.declared.physical_type.PhysicalType.TheVariants as physical
-use Rattle.arrow_memory.specs.Column.{ColumnWith, Column}
+use Rattle.arrow_column.specs.Column.{ColumnWith, Column}
 use Rattle.arrow_check.specs.Reading.{Cost}
 use Rattle.arrow_bytes.specs.Pieces.{Around, nothing_around}
 use Rattle.arrow_bytes.specs.Column.{ByteColumn}

@@ -2,7 +2,8 @@
 -- test of texts among them costs.
 use Rattle.std.specs.Prelude.{◌≡◌, ℕ, ◌*◌, ◌≤◌, ℤ, Bool, true, false, not, ◌&&◌, ◌||◌, List, length, map, Option, Some, None, option_map, IfSome, is_none, if◌then◌else◌, MatchOption, MatchBool, unsigned_abs}
 use Rattle.arrow_types.specs.Types.{LogicalType, Refusal, IsRightType, out_of_spec}
-use Rattle.arrow_memory.specs.Column.{FitsMask, column_with, unfit_mask, unfit_builder_mask}
+use Rattle.arrow_memory.specs.Rows.{FitsMask}
+use Rattle.arrow_column.specs.Column.{column_with, unfit_mask, unfit_builder_mask}
 use Rattle.arrow_memory.specs.Marks.{marks, bits_past_bytes}
 use Rattle.arrow_memory.specs.Offsets.{first_fault, last_of}
 use Rattle.arrow_check.specs.Bounds.{past_values, not_at_end}

@@ -4,7 +4,7 @@ use Rattle.std.specs.Prelude.{◌≡◌, ◌↔◌, ℕ, ◌-◌, ◌==◌, ◌�
 use Rattle.std.specs.List.{list_all}
 use Rattle.std.specs.Option.{option_map_or}
 use Rattle.arrow_types.specs.Types.{IsRightType, overflow}
-use Rattle.arrow_memory.specs.Column.{ColumnWith, column_with, slots_of, stored_values, marks_of, append_nulls, append_values, last_slot, without_last, joined, with_slot, with_mask, with_stored, with_type}
+use Rattle.arrow_column.specs.Column.{ColumnWith, column_with, slots_of, stored_values, marks_of, append_nulls, append_values, last_slot, without_last, joined, with_slot, with_mask, with_stored, with_type}
 use Rattle.arrow_check.specs.Indexes.{is_place, key_refusal}
 use Rattle.arrow_check.specs.Pieces.{bytes_of, offsets_of}
 use Rattle.arrow_check.specs.Reading.{Cost}

@@ -1,7 +1,8 @@
 //! Lists of marks that grow.
-ghost use Rattle.std.specs.Prelude.{◌≡◌, ℕ, ◌<◌, ◌+◌, ◌↔◌, ◌==◌, IsTrue, [], ◌∷◌, ◌++◌, count_by, length, not, replicate, slice_get, slice_set, take, Some, OnOk, IfOk, IfErr, IsOkAnd, IsErrAnd, MatchOption, ◌*◌, ◌≤◌, vec_len};
+ghost use Rattle.std.specs.Prelude.{◌≡◌, ℕ, ◌<◌, ◌+◌, ◌↔◌, ◌==◌, IsTrue, [], ◌∷◌, ◌++◌, count_by, length, not, replicate, slice_get, slice_set, take, Some, IfSome, OnOk, IfOk, IfErr, IsOkAnd, IsErrAnd, MatchOption, ◌*◌, ◌≤◌, vec_len};
 ghost use Rattle.std.specs.Int.{bit_at};
 ghost use Rattle.arrow_memory.specs.Marks.{marks, bits_past_bytes};
+ghost use Rattle.arrow_memory.specs.Rows.{AgreeWhere};
 ghost use Rattle.arrow_types.specs.Types.{refusal};
 
 use crate::bitmap::agree::agree_where;
@@ -196,14 +197,24 @@ impl MutableBitmap {
         self.bytes[i]
     }
 
-    /// Whether both have the same marks.
-    pub(crate) fn has_marks_of(&self, other: &Self) -> bool
+    /// Whether both have the same marks, compared a byte at a time.
+    pub fn has_marks_of(&self, other: &Self) -> bool
         ensures { IsTrue result ↔ self.now ≡ other.now }
     {
         if self.length != other.length {
             return false;
         }
         agree_where(self, other, &None)
+    }
+
+    /// Whether both lists, of as many marks, have the same mark wherever a mask has a set one, or everywhere where there
+    /// is no mask; compared a byte at a time.
+    pub fn agrees_where(&self, other: &Self, mask: &Option<MutableBitmap>) -> bool
+        requires same { length self.now ≡ length other.now }
+        requires fits { IfSome mask.now (λ marks. length marks ≡ length self.now) }
+        ensures { IsTrue result ↔ AgreeWhere mask.now self.now other.now }
+    {
+        agree_where(self, other, mask)
     }
 
     /// Removes the last mark and answers it; `None` where there is none.
@@ -219,7 +230,7 @@ impl MutableBitmap {
     }
 
     /// Keeps only the first `len` marks.
-    pub(crate) fn truncate(&mut self, len: usize)
+    pub fn truncate(&mut self, len: usize)
         requires { len ≤ length self.old }
         ensures { self.new ≡ take len self.old }
     {
@@ -227,7 +238,7 @@ impl MutableBitmap {
     }
 
     /// What the bytes are allocated by.
-    pub(crate) fn allocator(&self) -> Global {
+    pub fn allocator(&self) -> Global {
         *self.bytes.allocator()
     }
 
@@ -293,7 +304,10 @@ impl MutableBitmap {
     }
 
     /// The same marks, of which so many are clear, which no longer change. They are not counted again.
-    pub(crate) fn freeze_counted(self, unset: usize) -> Result<Bitmap, Error>
+    ///
+    /// # Errors
+    /// `OutOfMemory` where a growth is refused; the marks are then lost.
+    pub fn freeze_counted(self, unset: usize) -> Result<Bitmap, Error>
         requires { unset ≡ count_by not self }
         ensures ok { IfOk result (λ bitmap. bitmap ≡ self) }
         ensures err { IfErr result (λ e. e ≡ Error.OutOfMemory) }

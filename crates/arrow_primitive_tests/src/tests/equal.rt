@@ -1,6 +1,6 @@
 use super::*;
+use arrow_column::LendValues;
 use arrow_memory::bitmap::MutableBitmap;
-use arrow_memory::column::LendValues;
 
 /// A builder of a value and a null that stores one.
 fn masked(alloc: Global) -> Result<MutablePrimitiveArray<i64>, Error> {

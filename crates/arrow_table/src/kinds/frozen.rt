@@ -1,6 +1,6 @@
 //! What every kind of frozen array tells and does.
 ghost use Rattle.std.specs.Prelude.{◌≡◌, ◌≤◌, ◌-◌, count_by, length, not};
-ghost use Rattle.arrow_memory.specs.Column.{marks_of};
+ghost use Rattle.arrow_column.specs.Column.{marks_of};
 ghost use Rattle.arrow_table.specs.Change.{cut_value};
 
 use crate::kinds::shown::Shown;

@@ -1,6 +1,6 @@
 //! What every kind of builder does.
 ghost use Rattle.std.specs.Prelude.{◌≡◌, if◌then◌else◌, ◌∷◌, ◌&&◌, ◌||◌, [], false, is_none, not, None, Some, IfErr, IfOk, IsTrue, OnOk};
-ghost use Rattle.arrow_memory.specs.Column.{joined, last_slot, refused_growth, without_last};
+ghost use Rattle.arrow_column.specs.Column.{joined, last_slot, refused_growth, without_last};
 ghost use Rattle.arrow_table.specs.Change.{grown, join_over, null_in, slot_over, with_column};
 ghost use Rattle.arrow_table.specs.Entry.{types};
 ghost use Rattle.arrow_table.specs.Item.{fits, slot_fits, stored_item, stored_slot};

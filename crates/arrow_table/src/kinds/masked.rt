@@ -1,6 +1,6 @@
 //! What arrays and builders do with masks.
 ghost use Rattle.std.specs.Prelude.{◌≡◌, IfErr, IfOk, IfSome, OnOk, Some, length, true};
-ghost use Rattle.arrow_memory.specs.Column.{mask_of, with_mask};
+ghost use Rattle.arrow_column.specs.Column.{mask_of, with_mask};
 ghost use Rattle.arrow_table.specs.Change.{with_column};
 
 use crate::kinds::kept::Kept;

@@ -1,6 +1,6 @@
 //! What every kind of array and builder of bytes or text tells of them.
 ghost use Rattle.std.specs.Prelude.{◌≡◌, IfOk, false, length, map};
-ghost use Rattle.arrow_memory.specs.Column.{stored_values};
+ghost use Rattle.arrow_column.specs.Column.{stored_values};
 ghost use Rattle.arrow_memory.specs.Offsets.{KeepsOffsets, numbers_of};
 ghost use Rattle.arrow_check.specs.Pieces.{bytes_of, offsets_of};
 ghost use Rattle.arrow_table.specs.Item.{bytes_in, piece, stored_item};

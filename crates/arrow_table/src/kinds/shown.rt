@@ -1,6 +1,6 @@
 //! What every kind of array and builder shows of a slot.
 ghost use Rattle.std.specs.Prelude.{◌≡◌, ◌<◌, IfErr, IfOk, IsTrue, Some, length, map, not, slice_get};
-ghost use Rattle.arrow_memory.specs.Column.{marks_of, slots_of, stored_values};
+ghost use Rattle.arrow_column.specs.Column.{marks_of, slots_of, stored_values};
 ghost use Rattle.arrow_table.specs.Change.{turns_of};
 ghost use Rattle.arrow_table.specs.Item.{stored_item, stored_slot};
 ghost use Rattle.arrow_table.specs.Kind.{is_pieces};

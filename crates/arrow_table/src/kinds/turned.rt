@@ -124,7 +124,7 @@ impl<'a, T: NativeType> Turned<T> for BitmapIter<'a> {
 #[tactic(auto, using(crate::proofs::Turns::turn_maps))]
 impl<'a, T: NativeType, O: Offset> Turned<T> for ArrayValuesIter<'a, BinaryArray<O>> {
     ghost use Rattle.std.specs.Prelude.{false, map};
-    ghost use Rattle.arrow_memory.specs.Column.{stored_values};
+    ghost use Rattle.arrow_column.specs.Column.{stored_values};
     ghost use Rattle.arrow_check.specs.Items.{IsWithin, rest_of};
     ghost use Rattle.arrow_table.specs.Item.{piece};
 
@@ -189,7 +189,7 @@ impl<'a, T: NativeType, O: Offset> Turned<T> for ArrayValuesIter<'a, MutableByte
 #[tactic(auto, using(crate::proofs::Turns::turn_maps))]
 impl<'a, T: NativeType, O: Offset> Turned<T> for ArrayValuesIter<'a, MutableBinaryValuesArray<O>> {
     ghost use Rattle.std.specs.Prelude.{false, map};
-    ghost use Rattle.arrow_memory.specs.Column.{stored_values};
+    ghost use Rattle.arrow_column.specs.Column.{stored_values};
     ghost use Rattle.arrow_check.specs.Items.{IsWithin, rest_of};
     ghost use Rattle.arrow_table.specs.Item.{piece};
 
@@ -222,7 +222,7 @@ impl<'a, T: NativeType, O: Offset> Turned<T> for ArrayValuesIter<'a, MutableBina
 #[tactic(auto, using(crate::proofs::Turns::turn_maps))]
 impl<'a, T: NativeType, O: Offset> Turned<T> for ArrayValuesIter<'a, Utf8Array<O>> {
     ghost use Rattle.std.specs.Prelude.{true, map};
-    ghost use Rattle.arrow_memory.specs.Column.{stored_values};
+    ghost use Rattle.arrow_column.specs.Column.{stored_values};
     ghost use Rattle.arrow_check.specs.Items.{IsWithin, rest_of};
     ghost use Rattle.arrow_table.specs.Item.{piece};
 
@@ -287,7 +287,7 @@ impl<'a, T: NativeType, O: Offset> Turned<T> for ArrayValuesIter<'a, MutableByte
 #[tactic(auto, using(crate::proofs::Turns::turn_maps))]
 impl<'a, T: NativeType, O: Offset> Turned<T> for ArrayValuesIter<'a, MutableUtf8ValuesArray<O>> {
     ghost use Rattle.std.specs.Prelude.{true, map};
-    ghost use Rattle.arrow_memory.specs.Column.{stored_values};
+    ghost use Rattle.arrow_column.specs.Column.{stored_values};
     ghost use Rattle.arrow_check.specs.Items.{IsWithin, rest_of};
     ghost use Rattle.arrow_table.specs.Item.{piece};
 

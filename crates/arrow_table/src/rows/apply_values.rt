@@ -1,6 +1,6 @@
 //! A command that changes the stored values where they lie.
 ghost use Rattle.std.specs.Prelude.{◌≡◌, IfErr, OnOk, Some, length, replicate, reverse};
-ghost use Rattle.arrow_memory.specs.Column.{stored_values, with_stored};
+ghost use Rattle.arrow_column.specs.Column.{stored_values, with_stored};
 ghost use Rattle.arrow_table.specs.Answer.{told};
 ghost use Rattle.arrow_table.specs.Entry.{boolean_value, native_value, types};
 ghost use Rattle.arrow_table.specs.Item.{change_of};

@@ -1,7 +1,7 @@
 //! Slots and items that are appended to a builder one after the other.
 ghost use Rattle.std.specs.Prelude.{◌≡◌, Bool, IfErr, IsTrue, OnOk, Some, map};
 ghost use Rattle.std.specs.List.{list_all};
-ghost use Rattle.arrow_memory.specs.Column.{refused_growth};
+ghost use Rattle.arrow_column.specs.Column.{refused_growth};
 ghost use Rattle.arrow_table.specs.Answer.{done, refused, told};
 ghost use Rattle.arrow_table.specs.Entry.{types};
 ghost use Rattle.arrow_table.specs.Item.{fits, slot_fits, stored_item, stored_slot};

@@ -1,7 +1,7 @@
 //! Commands that make a value of slots or of items in an empty entry.
 ghost use Rattle.std.specs.Prelude.{◌≡◌, [], IfErr, IfOk, IsTrue, Option, Some, false, if◌then◌else◌, map, option_map};
 ghost use Rattle.std.specs.List.{list_all};
-ghost use Rattle.arrow_memory.specs.Column.{column_of_parts};
+ghost use Rattle.arrow_column.specs.Column.{column_of_parts};
 ghost use Rattle.arrow_table.specs.Answer.{Answer, done, told};
 ghost use Rattle.arrow_table.specs.Change.{empty_value, frozen_value, slots_start};
 ghost use Rattle.arrow_table.specs.Entry.{Value, types, value_of};

@@ -1,7 +1,7 @@
 //! Commands that make a value in an empty entry.
 ghost use Rattle.std.specs.Prelude.{◌≡◌, false, replicate, IfErr, IfOk, IsTrue, Some};
 ghost use Rattle.arrow_bytes.specs.Pieces.{nothing_around};
-ghost use Rattle.arrow_memory.specs.Column.{column_with};
+ghost use Rattle.arrow_column.specs.Column.{column_with};
 ghost use Rattle.arrow_table.specs.Change.{empty_value};
 ghost use Rattle.arrow_table.specs.Entry.{default_item, layout, types, value_of};
 ghost use Rattle.arrow_table.specs.Kind.{is_frozen, shape};

@@ -1,6 +1,6 @@
 //! Commands that answer what slots show, or store.
 ghost use Rattle.std.specs.Prelude.{◌≡◌, IfOk, Some, map};
-ghost use Rattle.arrow_memory.specs.Column.{slots_of};
+ghost use Rattle.arrow_column.specs.Column.{slots_of};
 ghost use Rattle.arrow_table.specs.Answer.{told};
 ghost use Rattle.arrow_table.specs.Entry.{types};
 ghost use Rattle.arrow_table.specs.Item.{stored_slot};

@@ -2,7 +2,7 @@
 ghost use Rattle.std.specs.Prelude.{◌≡◌, ◌↔◌, Option, Some, IfErr, IfOk, IsTrue, find, map, not, option_map};
 ghost use Rattle.std.specs.Option.{option_map_or};
 ghost use Rattle.arrow_check.specs.Indexes.{is_place, key_refusal};
-ghost use Rattle.arrow_memory.specs.Column.{slots_of};
+ghost use Rattle.arrow_column.specs.Column.{slots_of};
 ghost use Rattle.arrow_table.specs.Answer.{done, refused, told};
 ghost use Rattle.arrow_table.specs.Entry.{Value, boolean_value, native_value, piece_value, types, value_of};
 ghost use Rattle.arrow_table.specs.Kind.{same_kind, with_nulls};

@@ -1,7 +1,7 @@
 //! A command that writes a stored value in place.
 ghost use Rattle.std.specs.Prelude.{◌≡◌, ◌<◌, IsTrue, Some, length, slice_set};
 ghost use Rattle.std.specs.Bool.{OnFalse};
-ghost use Rattle.arrow_memory.specs.Column.{stored_values, with_stored};
+ghost use Rattle.arrow_column.specs.Column.{stored_values, with_stored};
 ghost use Rattle.arrow_table.specs.Answer.{told};
 ghost use Rattle.arrow_table.specs.Entry.{native_value, types};
 ghost use Rattle.arrow_table.specs.Item.{stored_item};
@@ -11,7 +11,7 @@ ghost use Rattle.arrow_table.specs.Step.{Does};
 
 use crate::rows::entry::EntryRow;
 use crate::{Entry, Item, Reply};
-use arrow_memory::column::LendValues;
+use arrow_column::LendValues;
 use arrow_primitive::{MutablePrimitiveArray, PrimitiveArray};
 use arrow_types::native_type::NativeType;
 use arrow_types::offset::Offset;

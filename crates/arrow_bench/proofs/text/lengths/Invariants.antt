@@ -1,5 +1,5 @@
 use Rattle.std.proofs.Common.{◌-◌}
-use Rattle.arrow_memory.specs.Column.{stored_values}
+use Rattle.arrow_column.specs.Column.{stored_values}
 use Rattle.arrow_check.specs.Items.{IsWithin}
 use Rattle.arrow_bench.proofs.text.lengths.Given as goal
 

@@ -1,7 +1,7 @@
 use Rattle.std.proofs.Common.{◌≡◌, ap, ◌∙◌, option_map}
 use Rattle.arrow_types.specs.Types.{refusal}
 use Rattle.arrow_check.specs.Indexes.{key_refusal}
-use Rattle.arrow_memory.specs.Column.{mask_with_nulls}
+use Rattle.arrow_column.specs.Masks.{mask_with_nulls}
 use Rattle.arrow_kernels.specs.Kernels.{at_keys}
 use Rattle.arrow_kernels.proofs.ChoiceLemmas.{fits-picked, makes-taken, not-astray}
 use Rattle.arrow_kernels.proofs.take.take_boolean.Goals as goal

@@ -2,7 +2,7 @@ use Rattle.std.proofs.Common.{◌≡◌, ap, sym, ◌∙◌}
 use Rattle.std.proofs.lemmas.Result.{MatchResult-weaker}
 use Rattle.arrow_types.specs.Types.{refusal}
 use Rattle.arrow_check.specs.Indexes.{key_refusal}
-use Rattle.arrow_memory.specs.Column.{refused_growth}
+use Rattle.arrow_column.specs.Column.{refused_growth}
 use Rattle.arrow_kernels.proofs.ChoiceLemmas.{not-astray}
 use Rattle.arrow_kernels.proofs.take.take_items.Goals as goal
 

@@ -2,7 +2,8 @@ use Rattle.std.proofs.Common.{ap, ◌∙◌, option_map}
 use Rattle.arrow_types.specs.Types.{logical_type}
 use Rattle.arrow_check.specs.Pieces.{items_of}
 use Rattle.arrow_bytes.specs.Pieces.{nothing_around}
-use Rattle.arrow_memory.specs.Column.{column_with, mask_with_nulls}
+use Rattle.arrow_column.specs.Masks.{mask_with_nulls}
+use Rattle.arrow_column.specs.Column.{column_with}
 use Rattle.arrow_kernels.specs.Kernels.{at_keys}
 use Rattle.arrow_kernels.proofs.ChoiceLemmas.{fits-picked, makes-taken}
 use Rattle.arrow_kernels.proofs.take.taken_items.Goals as goal

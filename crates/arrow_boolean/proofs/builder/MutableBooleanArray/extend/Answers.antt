@@ -1,5 +1,5 @@
 use Rattle.std.proofs.Common.{ap, false, ◌∙◌}
-use Rattle.arrow_memory.specs.Column.{append_slots}
+use Rattle.arrow_column.specs.Column.{append_slots}
 use Rattle.arrow_boolean.proofs.SlotLemmas.{on-ok, same-slots}
 use Rattle.arrow_boolean.proofs.builder.MutableBooleanArray.extend.Goals as goal
 

@@ -1,5 +1,5 @@
 use Rattle.std.proofs.Common.{◌∙◌, ap}
-use Rattle.arrow_memory.specs.Column.{without_needless_mask}
+use Rattle.arrow_column.specs.Column.{without_needless_mask}
 use Rattle.arrow_byte_array.proofs.array.ByteArray.from_iter.Goals as goal
 
 pub returns-in-Ok-freeze-clause-ok : goal.returns-in-Ok-freeze-clause-ok

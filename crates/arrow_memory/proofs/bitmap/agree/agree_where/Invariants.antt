@@ -1,5 +1,5 @@
 use Rattle.std.proofs.Common.{◌≡◌, ℕ, ◌*◌, ◌<◌, length, slice_get}
-use Rattle.arrow_memory.specs.SlotEquality.{IsValidAt}
+use Rattle.arrow_memory.specs.Rows.{IsValidAt}
 use Rattle.arrow_memory.proofs.bitmap.agree.agree_where.Given as goal
 
 -- the bytes so far agree

@@ -1,5 +1,5 @@
 use Rattle.std.proofs.Common.{◌+◌, ◌*◌, sym, subst}
-use Rattle.arrow_memory.specs.SlotEquality.{IsValidAt}
+use Rattle.arrow_memory.specs.Rows.{IsValidAt}
 use Rattle.arrow_memory.proofs.AgreeLemmas.{all-bits}
 use Rattle.arrow_memory.proofs.bitmap.agree.mask_byte.Goals as goal
 

@@ -1,5 +1,5 @@
 use Rattle.std.proofs.Common.{ap, ◌∙◌}
-use Rattle.arrow_memory.specs.Column.{append_slots, refused_growth}
+use Rattle.arrow_column.specs.Column.{append_slots, refused_growth}
 use Rattle.arrow_primitive.proofs.SlotLemmas.{if-err, on-ok, never-over, same-slots}
 use Rattle.arrow_primitive.proofs.builder.MutablePrimitiveArray.extend.Goals as goal
 

@@ -1,5 +1,5 @@
 use Rattle.std.proofs.Common.{ap₂, ◌∙◌}
-use Rattle.arrow_memory.specs.Column.{append_slots}
+use Rattle.arrow_column.specs.Column.{append_slots}
 use Rattle.arrow_primitive.proofs.SlotLemmas.{same-slots}
 use Rattle.arrow_primitive.proofs.builder.MutablePrimitiveArray.from.Goals as goal
 

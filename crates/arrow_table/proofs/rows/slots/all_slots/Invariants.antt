@@ -1,5 +1,5 @@
 use Rattle.std.proofs.Common.{◌≡◌, map, take}
-use Rattle.arrow_memory.specs.Column.{slots_of}
+use Rattle.arrow_column.specs.Column.{slots_of}
 use Rattle.arrow_table.specs.Item.{stored_slot}
 use Rattle.arrow_table.proofs.rows.slots.all_slots.Given as goal
 

@@ -1,0 +1,3 @@
+mod AgreeLemmas
+pub mod ColumnLemmas
+mod RowLemmas

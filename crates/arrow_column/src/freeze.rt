@@ -1,0 +1,47 @@
+//! Columns that are frozen with the mask that they hold, also where no slot is null.
+ghost use Rattle.std.specs.Prelude.{◌≡◌, is_some, IfOk, IfErr};
+ghost use Rattle.arrow_types.specs.Types.{logical_type};
+ghost use Rattle.arrow_memory.specs.Rows.{FitsMask, rows_of};
+
+use crate::GrowingColumn;
+use crate::values::MutableValues;
+use arrow_memory::bitmap::{Bitmap, MutableBitmap};
+use arrow_types::data_type::DataType;
+use arrow_types::error::Error;
+
+/// The same mask, which no longer changes; none where there is none.
+#[inline(always)]
+fn freeze_whole(validity: Option<MutableBitmap>) -> Result<Option<Bitmap>, Error>
+    ensures ok { IfOk result (λ mask. mask ≡ validity) }
+    ensures err { IfErr result (λ e. e ≡ Error.OutOfMemory) }
+{
+    match validity {
+        None => Ok(None),
+        Some(marks) => Ok(Some(marks.freeze()?)),
+    }
+}
+
+#[tactic(auto, using(crate::proofs::RowLemmas::row_steps))]
+impl<V: MutableValues> GrowingColumn<V> {
+    /// The data type, the stored values, and the mask of an array of the same slots, which is held where the
+    /// column holds one.
+    ///
+    /// # Errors
+    /// `OutOfMemory` where the mask's memory is refused; the column is then lost.
+    #[inline(always)]
+    pub fn freeze_whole_mask(self) -> Result<(DataType, V, Option<Bitmap>), Error>
+        ensures data_type { IfOk result (λ parts. logical_type parts.0 ≡ self.data_type) }
+        ensures around { IfOk result (λ parts. V.around parts.1 ≡ self.around) }
+        ensures fits { IfOk result (λ parts. FitsMask (V.stored parts.1) parts.2) }
+        ensures rows { IfOk result (λ parts. rows_of (V.stored parts.1) parts.2 ≡ self.rows) }
+        ensures held { IfOk result (λ parts. is_some parts.2 ≡ self.held) }
+        ensures err { IfErr result (λ e. e ≡ Error.OutOfMemory) }
+    {
+        let GrowingColumn {
+            data_type,
+            values,
+            validity,
+        } = self;
+        Ok((data_type, values, freeze_whole(validity)?))
+    }
+}

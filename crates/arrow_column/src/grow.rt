@@ -1,0 +1,83 @@
+//! Columns that grow by many slots at once.
+ghost use Rattle.std.specs.Prelude.{◌≡◌, false, OnOk, IfErr};
+ghost use Rattle.arrow_column.specs.Column.{append_nulls, append_values, joined, refused_growth, stored_values};
+
+use crate::GrowingColumn;
+use crate::mask::{extend_null_marks, extend_valid_marks, join_marks};
+use crate::values::{Grow, MutableValues};
+use arrow_types::error::Error;
+
+#[tactic(auto, using(crate::proofs::RowLemmas::row_steps))]
+impl<V: MutableValues> GrowingColumn<V> {
+    /// Appends valid slots of these values.
+    ///
+    /// # Errors
+    /// `Overflow` where there would be more than the values' type can count, which is tested first, or
+    /// `OutOfMemory` where a growth is refused; the column is then as before.
+    #[inline(always)]
+    pub fn grow_valid<X>(&mut self, values: X) -> Result<(), Error>
+    where
+        V: Grow<X>,
+        ensures ok { OnOk result ((V.overgrows self.old.around (stored_values self.old) values ≡ false) × (self.new ≡ append_values self.old (V.given values))) }
+        ensures err { IfErr result (λ e. (e ≡ refused_growth (V.overgrows self.old.around (stored_values self.old) values)) × (self.new ≡ self.old)) }
+    {
+        let before = self.values.count();
+        let count = self.values.grow(values)?;
+        match extend_valid_marks(&mut self.validity, count) {
+            Ok(()) => Ok(()),
+            Err(refused) => {
+                self.values.keep_first(before);
+                Err(refused)
+            }
+        }
+    }
+
+    /// Appends null slots that store these values. A mask is held from then on.
+    ///
+    /// # Errors
+    /// As of `grow_valid`.
+    pub fn grow_null<X>(&mut self, values: X) -> Result<(), Error>
+    where
+        V: Grow<X>,
+        ensures ok { OnOk result ((V.overgrows self.old.around (stored_values self.old) values ≡ false) × (self.new ≡ append_nulls self.old (V.given values))) }
+        ensures err { IfErr result (λ e. (e ≡ refused_growth (V.overgrows self.old.around (stored_values self.old) values)) × (self.new ≡ self.old)) }
+    {
+        let before = self.values.count();
+        let alloc = self.values.allocated_by();
+        let count = self.values.grow(values)?;
+        match extend_null_marks(alloc, &mut self.validity, before, count) {
+            Ok(()) => Ok(()),
+            Err(refused) => {
+                self.values.keep_first(before);
+                Err(refused)
+            }
+        }
+    }
+
+    /// Appends another column's rows. The type stays; a mask is held where either column held one.
+    ///
+    /// # Errors
+    /// `Overflow` where there would be more than the values' type can count, which is tested first, or
+    /// `OutOfMemory` where a growth is refused; the column is then as before.
+    pub fn try_extend_from_self(&mut self, other: &Self) -> Result<(), Error>
+        ensures ok { OnOk result ((V.overjoins self.old.around (stored_values self.old) (stored_values other.now) ≡ false) × (self.new ≡ joined self.old other.now)) }
+        ensures err { IfErr result (λ e. (e ≡ refused_growth (V.overjoins self.old.around (stored_values self.old) (stored_values other.now))) × (self.new ≡ self.old)) }
+    {
+        let before = self.values.count();
+        let alloc = self.values.allocated_by();
+        self.values.append(&other.values)?;
+        match join_marks(
+            alloc,
+            &mut self.validity,
+            before,
+            &other.validity,
+            other.values.count(),
+        ) {
+            Ok(()) => Ok(()),
+            Err(refused) => {
+                self.values.keep_first(before);
+                Err(refused)
+            }
+        }
+    }
+}

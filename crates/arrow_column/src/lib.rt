@@ -1,0 +1,26 @@
+//! Columns: stored values and a mask, which is held or not. Arrays and builders of every kind are made of them.
+#![tactic(auto)]
+
+mod change;
+mod closures;
+mod equality;
+mod extend;
+mod freeze;
+mod frozen;
+mod grow;
+mod growing;
+pub mod laws;
+mod lend;
+mod mask;
+mod room;
+mod thaw;
+mod unmasked;
+mod values;
+
+pub use equality::EqualValues;
+pub use frozen::FrozenColumn;
+pub use growing::GrowingColumn;
+pub use lend::LendValues;
+pub use mask::{is_growing_mask_of, is_mask_of};
+pub use room::ReserveItems;
+pub use values::{Grow, MutableValues, PushValue, Repeated, SetValue, Values};

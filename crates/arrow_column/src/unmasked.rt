@@ -1,0 +1,69 @@
+//! Columns that hold no mask, and grow without a look at one.
+ghost use Rattle.std.specs.Prelude.{◌≡◌, List, false, true, Some, map, OnOk, IfErr};
+ghost use Rattle.std.specs.Iterator.{Drains, IsFinite, YieldsThen};
+ghost use Rattle.arrow_column.specs.Column.{append_slot, append_slots, refused_growth, slots_fit, stored_values};
+
+use crate::GrowingColumn;
+use crate::values::{MutableValues, PushValue};
+use arrow_types::error::Error;
+
+#[tactic(auto, using(crate::proofs::RowLemmas::row_steps))]
+impl<V: MutableValues> GrowingColumn<V> {
+    /// Appends a valid slot where no mask is held.
+    ///
+    /// # Errors
+    /// As of `push_valid`.
+    #[inline(always)]
+    pub fn push_unmasked<X>(&mut self, value: X) -> Result<(), Error>
+    where
+        V: PushValue<X>,
+        requires { self.old.held ≡ false }
+        ensures data_type { self.new.data_type ≡ self.old.data_type }
+        ensures held { self.new.held ≡ false }
+        ensures ok { OnOk result ((V.overflows self.old.around (stored_values self.old) value ≡ false) × (self.new ≡ append_slot V.default self.old (Some (V.shown value)))) }
+        ensures err { IfErr result (λ e. (e ≡ refused_growth (V.overflows self.old.around (stored_values self.old) value)) × (self.new ≡ self.old)) }
+    {
+        self.values.push_value(value)
+    }
+
+    /// Appends a valid slot that stores the default, where no mask is held.
+    ///
+    /// # Errors
+    /// `OutOfMemory` where the growth is refused; the column is then as before.
+    #[inline(always)]
+    pub fn push_unmasked_default(&mut self) -> Result<(), Error>
+        requires { self.old.held ≡ false }
+        ensures data_type { self.new.data_type ≡ self.old.data_type }
+        ensures held { self.new.held ≡ false }
+        ensures ok { OnOk result (self.new ≡ append_slot V.default self.old (Some V.default)) }
+        ensures err { IfErr result (λ e. (e ≡ Error.OutOfMemory) × (self.new ≡ self.old)) }
+    {
+        self.values.push_default()
+    }
+
+    /// Appends valid slots of the values that an iterator gives, where no mask is held. What it says of their
+    /// number is not trusted: room for so many is asked for first, and where that is refused nothing is told.
+    ///
+    /// # Errors
+    /// `Overflow` at the first value with which there would be more than the values' type can count, or
+    /// `OutOfMemory` where a growth is refused; the values that came before are then appended.
+    pub fn extend_unmasked<X, I: Iterator<Item = X>>(&mut self, values: I) -> Result<(), Error>
+    where
+        V: PushValue<X>,
+        requires bare { self.old.held ≡ false }
+        requires can { I.can_next values }
+        requires ends { IsFinite (I.remaining values) }
+        ensures held { self.new.held ≡ false }
+        ensures data_type { self.new.data_type ≡ self.old.data_type }
+        ensures ok { OnOk result ((items : List X) × Drains I.next_gives values items × (slots_fit V.overflows V.shown V.default self.old (map Some items) ≡ true) × (self.new ≡ append_slots V.default self.old (map (λ x. Some (V.shown x)) items))) }
+        ensures err { IfErr result (λ e. (begun : List X) × (last : X) × (rest : I) × YieldsThen I.next_gives values begun (Some last) rest × (slots_fit V.overflows V.shown V.default self.old (map Some begun) ≡ true) × (self.new ≡ append_slots V.default self.old (map (λ x. Some (V.shown x)) begun)) × (e ≡ refused_growth (V.overflows self.new.around (stored_values self.new) last))) }
+    {
+        let (least, _) = values.size_hint();
+        // Where as much is refused at once, each value asks for its own room.
+        let _ = self.reserve(least);
+        for value in values {
+            self.push_unmasked(value)?;
+        }
+        Ok(())
+    }
+}

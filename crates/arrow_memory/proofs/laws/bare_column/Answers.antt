@@ -1,8 +1,0 @@
-use Rattle.arrow_memory.proofs.ColumnLemmas.{all-bare, needless-bare}
-use Rattle.arrow_memory.proofs.laws.bare_column.Goals as goal
-
-pub returns-clause-needless : goal.returns-clause-needless
-returns-clause-needless g c = λ column is_column bare. needless-bare column is_column bare
-
-pub returns-clause-bare : goal.returns-clause-bare
-returns-clause-bare g c = λ t around values held. all-bare values
