@@ -82,31 +82,6 @@ fn made(
     Ok(is(&array, slots, values, held))
 }
 
-#[test]
-fn slots_are_values_and_marks(rt: HostRuntime) -> Result<(), Fail> {
-    told(made(three(rt.alloc()), "t_f", "100", true))
-}
-
-/// Whether a mask has these marks.
-fn is_marked(array: &BooleanArray, marks: &str) -> bool {
-    match array.validity() {
-        Some(mask) => gives(mask.iter(), marks),
-        None => false,
-    }
-}
-
-/// Whether slots are read one by one.
-fn reads(alloc: Global) -> Result<bool, Error> {
-    let array = three(alloc)?;
-    let is_counted = is_marked(&array, "101") && array.null_count() == 1;
-    Ok(is_counted && array.len() == 3 && array.value(0) && array.get(1).is_none())
-}
-
-#[test]
-fn slots_are_read(rt: HostRuntime) -> Result<(), Fail> {
-    told(reads(rt.alloc()))
-}
-
 /// The array of a null that was overwritten.
 fn overwritten(alloc: Global) -> Result<BooleanArray, Error> {
     let mut builder = MutableBooleanArray::new(alloc);
@@ -255,27 +230,4 @@ fn gives_slots(alloc: Global) -> Result<bool, Error> {
 #[test]
 fn slots_come_by_value(rt: HostRuntime) -> Result<(), Fail> {
     told(gives_slots(rt.alloc()))
-}
-
-/// Whether an array of three values and so many clear marks is refused with this text.
-fn refuses(alloc: Global, marks: usize, text: &str) -> Result<bool, Error> {
-    let values = Bitmap::from_slice(alloc, [true, false, true].as_slice())?;
-    let mask = Bitmap::new_zeroed(alloc, marks)?;
-    match BooleanArray::try_new(DataType::Int32, values, Some(mask)) {
-        Err(Error::OutOfSpec(rule)) => Ok(rule == text),
-        _ => Ok(false),
-    }
-}
-
-#[test]
-fn the_mask_is_tested_before_the_type(rt: HostRuntime) -> Result<(), Fail> {
-    let mask = "validity mask length must match the number of values";
-    told(refuses(rt.alloc(), 2, mask))
-}
-
-#[test]
-fn other_types_are_refused(rt: HostRuntime) -> Result<(), Fail> {
-    let rule =
-        "BooleanArray can only be initialized with a DataType whose physical type is Boolean";
-    told(refuses(rt.alloc(), 3, rule))
 }

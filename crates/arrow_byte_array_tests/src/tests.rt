@@ -1,7 +1,6 @@
 //! What arrays and builders of bytes and of text have in common is asked once, of a kind and of a width of offsets, and
-//! each check is run for both kinds at both widths; over a narrow type of offsets in `tiny`. What a kind has of its own
-//! stands in `bytes` and `text`. Offsets and bytes are written as numbers, items as texts, and masks as texts of '1' and
-//! '0', or as `none` where none is held.
+//! each check is run for both kinds at both widths. What a kind has of its own stands in `bytes` and `text`. Offsets and
+//! bytes are written as numbers, items as texts, and masks as texts of '1' and '0', or as `none` where none is held.
 //!
 //! What makes a value and what looks at it stand in functions of their own: a step that can be refused is dear to prove
 //! beside values to drop. So a function that owns an array or a builder has one `match`, and the others borrow it.
@@ -15,7 +14,6 @@ mod masks;
 mod parts;
 mod text;
 mod thaw;
-mod tiny;
 mod values;
 
 use arrow_byte_array::{ByteArray, MutableByteArray, MutableByteValuesArray};
@@ -23,7 +21,9 @@ use arrow_bytes::{Binary, ByteItem, ByteKind, ItemError, Utf8};
 use arrow_memory::bitmap::{Bitmap, MutableBitmap};
 use arrow_memory::buffer::Buffer;
 use arrow_memory::offset::{Offsets, OffsetsBuffer};
-use arrow_testing::{are_offsets, is_mask, told};
+use arrow_testing::{
+    are_offsets, frozen_mask, frozen_offsets, growing_mask, is_mask, offsets_of, told,
+};
 use arrow_types::data_type::DataType;
 use arrow_types::error::Error;
 use arrow_types::offset::Offset;
@@ -115,46 +115,9 @@ fn is_type<K: Known, O: Offset>(data_type: &DataType) -> bool {
     *data_type == K::data_type(O::IS_LARGE)
 }
 
-/// Offsets of these numbers.
-fn offsets_of<O: Offset>(alloc: Global, numbers: &[usize]) -> Result<Offsets<O>, Error> {
-    let mut offsets = Vec::new(alloc);
-    for number in numbers {
-        let Some(offset) = O::from_usize(*number) else {
-            return Err(Error::Overflow);
-        };
-        offsets.push(offset)?;
-    }
-    Offsets::try_from_vec(offsets)
-}
-
-/// Frozen offsets of these numbers.
-fn frozen_offsets<O: Offset>(alloc: Global, numbers: &[usize]) -> Result<OffsetsBuffer<O>, Error> {
-    offsets_of(alloc, numbers)?.freeze()
-}
-
 /// A buffer of these bytes.
 fn buffer_of(alloc: Global, bytes: &[u8]) -> Result<Buffer<u8>, Error> {
     Ok(Buffer::from_vec(bytes.to_vec(alloc)?)?)
-}
-
-/// The growing mask that a text writes.
-fn growing_mask(alloc: Global, text: &str) -> Result<Option<MutableBitmap>, Error> {
-    if text == "none" {
-        return Ok(None);
-    }
-    let mut marks = MutableBitmap::new(alloc);
-    for mark in text.as_bytes() {
-        marks.push(*mark == b'1')?;
-    }
-    Ok(Some(marks))
-}
-
-/// The mask that a text writes.
-fn mask(alloc: Global, text: &str) -> Result<Option<Bitmap>, Error> {
-    match growing_mask(alloc, text)? {
-        Some(marks) => Ok(Some(marks.freeze()?)),
-        None => Ok(None),
-    }
 }
 
 /// The array of such parts.
@@ -165,7 +128,7 @@ fn array_of<K: ByteKind, O: Offset>(
     bytes: &[u8],
     text: &str,
 ) -> Result<ByteArray<K, O>, Error> {
-    let validity = mask(alloc, text)?;
+    let validity = frozen_mask(alloc, text)?;
     let values = buffer_of(alloc, bytes)?;
     ByteArray::try_new(data_type, frozen_offsets(alloc, numbers)?, values, validity)
 }

@@ -9,23 +9,6 @@ const PAST: Error = Error::OutOfSpec(
 );
 
 #[test]
-fn the_first_failing_key_tells_the_fault(rt: HostRuntime) {
-    let none: [i64; 0] = [];
-    for (keys, len, wanted) in [
-        ([0_i64, -1, 9].as_slice(), 3, Err(NO_INDEX)),
-        (&[0, 9, -1], 3, Err(PAST)),
-        (&[0, 3], 3, Err(PAST)),
-        (&[2, 0, 1, 1], 3, Ok(())),
-        (&none, 0, Ok(())),
-        (&[0], 0, Err(PAST)),
-        (&[i64::MAX], usize::MAX, Ok(())),
-        (&[i64::MIN], usize::MAX, Err(NO_INDEX)),
-    ] {
-        assert_eq!(rt; check_indexes(keys, len), wanted);
-    }
-}
-
-#[test]
 fn keys_of_other_types(rt: HostRuntime) {
     assert_eq!(rt; check_indexes([2_i8, -1].as_slice(), 3), Err(NO_INDEX));
     assert_eq!(rt; check_indexes([255_u8].as_slice(), 255), Err(PAST));

@@ -8,7 +8,6 @@ mod made;
 mod named;
 mod parts;
 mod shared;
-mod shy;
 
 use arrow_primitive::{MutablePrimitiveArray, PrimitiveArray};
 use arrow_testing::{is_mask, told};
@@ -74,27 +73,6 @@ fn nulls_store_zero_and_freeze_with_a_mask(rt: HostRuntime) -> Result<(), Fail> 
     told(pushes(rt.alloc()))
 }
 
-/// Whether each reader of a place answers its slot, of values and of a null that stores one.
-fn reads_each(array: &PrimitiveArray<i64>) -> bool {
-    if array.len() != 3 || *array.data_type() != DataType::Int64 || array.null_count() != 1 {
-        return false;
-    }
-    let values = arrays::reads(array, 0, Some(1), 1) && arrays::reads(array, 2, Some(10), 10);
-    let lent = array.into_iter().next_back() == Some(Some(&10));
-    lent && values && arrays::reads(array, 1, None, 0) && shows(array, [1, 0, 10].as_slice(), "101")
-}
-
-/// Whether they do of a new array.
-fn reads_new(alloc: Global) -> Result<bool, Error> {
-    let array = PrimitiveArray::from(alloc, [Some(1), None, Some(10)].as_slice())?;
-    Ok(reads_each(&array))
-}
-
-#[test]
-fn readers_of_a_place(rt: HostRuntime) -> Result<(), Fail> {
-    told(reads_new(rt.alloc()))
-}
-
 /// Whether slots are popped one by one and there are no more, and a mask stays held.
 fn pops(builder: &mut MutablePrimitiveArray<i64>) -> bool {
     for slot in [None, Some(7), None, None] {
@@ -122,29 +100,6 @@ fn cut(array: &mut PrimitiveArray<i64>, offset: usize, len: usize) -> Option<usi
         return Some(array.null_count());
     }
     None
-}
-
-/// Whether slices of slices add their places.
-fn cuts(array: &mut PrimitiveArray<i64>) -> bool {
-    let nulls = cut(array, 1, 3) == Some(0) && cut(array, 1, 2) == Some(0);
-    nulls && shows(array, [7, 8].as_slice(), "none")
-}
-
-/// Whether an empty slice lies past the last slot.
-fn cuts_past(array: &mut PrimitiveArray<i64>) -> bool {
-    cut(array, 5, 0) == Some(0) && shows(array, &[], "none")
-}
-
-/// Whether both hold of an array and its clone.
-fn cuts_both(alloc: Global) -> Result<bool, Error> {
-    let mut array = PrimitiveArray::from_slice(alloc, [5, 6, 7, 8, 9].as_slice())?;
-    let is_past = cuts_past(&mut array.clone()?);
-    Ok(is_past & cuts(&mut array))
-}
-
-#[test]
-fn slices_of_slices_add_their_places(rt: HostRuntime) -> Result<(), Fail> {
-    told(cuts_both(rt.alloc()))
 }
 
 /// Whether a slice counts its own nulls.

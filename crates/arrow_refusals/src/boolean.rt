@@ -1,24 +1,31 @@
-//! Boolean arrays and their builders.
+//! Boolean arrays and their builders. Stored values and marks are texts of '1' and '0'.
 ghost use Rattle.std.specs.Prelude.{◌≡◌, length};
 
 use arrow_boolean::{BooleanArray, MutableBooleanArray};
-use arrow_memory::bitmap::{BitmapIter, MutableBitmap};
-use arrow_memory::zip_validity::ZipValidity;
-use arrow_testing::{after, tells, told};
+use arrow_memory::bitmap::{Bitmap, MutableBitmap};
+use arrow_testing::{after, is_mask, tells, told};
 use arrow_types::data_type::DataType;
 use arrow_types::error::Error;
 use std::alloc::Global;
 use std::cell::Cell;
 use std::test::Fail;
 
-/// Whether these are the slots, and no more.
-fn are(mut slots: ZipValidity<BitmapIter<'_>, BitmapIter<'_>>, wanted: &[Option<bool>]) -> bool {
-    for slot in wanted {
-        if slots.next() != Some(*slot) {
-            return false;
-        }
-    }
-    slots.next().is_none()
+/// Whether an array stores these values, under these marks.
+fn shows(array: &BooleanArray, values: &str, mask: &str) -> bool {
+    let marks = match array.validity() {
+        Some(marks) => Some(marks.iter()),
+        None => None,
+    };
+    is_mask(Some(array.values_iter()), values) && is_mask(marks, mask)
+}
+
+/// Whether a builder stores these values, under these marks.
+fn builds(builder: &MutableBooleanArray, values: &str, mask: &str) -> bool {
+    let marks = match builder.validity() {
+        Some(marks) => Some(marks.iter()),
+        None => None,
+    };
+    is_mask(Some(builder.values_iter()), values) && is_mask(marks, mask)
 }
 
 /// A builder of a true slot, without a mask.
@@ -26,33 +33,17 @@ fn one(alloc: Global) -> Result<MutableBooleanArray, Error> {
     MutableBooleanArray::from_slice(alloc, [true].as_slice())
 }
 
-/// Whether the builder of a true slot is as it was.
-fn is_one(builder: &MutableBooleanArray) -> bool {
-    are(builder.iter(), [Some(true)].as_slice()) && builder.validity().is_none()
-}
-
-/// Whether a slot that is refused leaves the builder of a true slot, and the next try succeeds.
-fn pushes(builder: &mut MutableBooleanArray, slot: Option<bool>) -> Result<bool, Error> {
-    match builder.push(slot) {
-        Err(refused) => after(refused, is_one(builder) && builder.push(slot).is_ok()),
-        Ok(()) => Ok(are(builder.iter(), [Some(true), slot].as_slice())),
-    }
-}
-
-/// Whether it does of a new one.
-fn pushed(alloc: Global, slot: Option<bool>) -> Result<bool, Error> {
-    pushes(&mut one(alloc)?, slot)
-}
-
-#[test]
-fn push(rt: HostRuntime) -> Result<(), Fail> {
-    told(pushed(rt.alloc(), Some(false)))
-}
-
-/// The first null needs a mask, too.
-#[test]
-fn push_of_a_null(rt: HostRuntime) -> Result<(), Fail> {
-    told(pushed(rt.alloc(), None))
+/// The calls by which a builder grows by all or nothing, or gets room, or loses it.
+#[derive(Clone, Copy)]
+enum Growth {
+    Push,
+    PushOfANull,
+    TryPush,
+    PushNull,
+    TryExtendFromSelf,
+    Set,
+    Reserve,
+    ShrinkToFit,
 }
 
 /// Replaces the first slot by a null, where there is one.
@@ -63,70 +54,173 @@ fn replace(builder: &mut MutableBooleanArray) -> Result<(), Error> {
     builder.set(0, None)
 }
 
-/// Whether a null that is refused in the place of the true slot leaves it.
-fn replaces(builder: &mut MutableBooleanArray) -> Result<bool, Error> {
-    match replace(builder) {
-        Err(refused) => after(refused, is_one(builder)),
-        Ok(()) => Ok(are(builder.iter(), [None].as_slice())),
+/// Calls it, of a builder of a true slot; another has a false slot and a null.
+fn grow(
+    builder: &mut MutableBooleanArray,
+    other: &MutableBooleanArray,
+    call: Growth,
+) -> Result<(), Error> {
+    match call {
+        Growth::Push => builder.push(Some(true)),
+        Growth::PushOfANull => builder.push(None),
+        Growth::TryPush => builder.try_push(None),
+        Growth::PushNull => builder.push_null(),
+        Growth::TryExtendFromSelf => builder.try_extend_from_self(other),
+        Growth::Set => replace(builder),
+        Growth::Reserve => builder.reserve(1000),
+        Growth::ShrinkToFit => builder.shrink_to_fit(),
     }
 }
 
-/// Whether it does of a new builder.
-fn replaced(alloc: Global) -> Result<bool, Error> {
-    replaces(&mut one(alloc)?)
+/// What the builder of a true slot stores after it, and its marks.
+fn wanted<'a>(call: Growth) -> (&'a str, &'a str) {
+    match call {
+        Growth::Push => ("11", "none"),
+        Growth::PushOfANull | Growth::TryPush | Growth::PushNull => ("10", "10"),
+        Growth::TryExtendFromSelf => ("100", "110"),
+        Growth::Set => ("0", "0"),
+        Growth::Reserve | Growth::ShrinkToFit => ("1", "none"),
+    }
+}
+
+/// Whether a builder of a true slot has grown, or, where that is refused, is as before, and grows by the same call.
+fn grows(
+    builder: &mut MutableBooleanArray,
+    other: &MutableBooleanArray,
+    call: Growth,
+) -> Result<bool, Error> {
+    let (values, mask) = wanted(call);
+    match grow(builder, other, call) {
+        Ok(()) => Ok(builds(builder, values, mask)),
+        Err(refused) => {
+            let is_left = builds(builder, "1", "none");
+            let is_grown = grow(builder, other, call).is_ok();
+            after(refused, is_left & is_grown && builds(builder, values, mask))
+        }
+    }
+}
+
+/// Whether a new one has.
+fn grows_new(alloc: Global, other: &MutableBooleanArray, call: Growth) -> Result<bool, Error> {
+    grows(&mut one(alloc)?, other, call)
+}
+
+/// Whether it has beside a builder of a false slot and a null.
+fn grown(alloc: Global, call: Growth) -> Result<bool, Error> {
+    let other = MutableBooleanArray::from(alloc, [Some(false), None].as_slice())?;
+    grows_new(alloc, &other, call)
 }
 
 #[test]
-fn set(rt: HostRuntime) -> Result<(), Fail> {
-    told(replaced(rt.alloc()))
-}
-
-/// Whether at most two slots of three are there, of which the second is null.
-fn is_begun(builder: &MutableBooleanArray) -> bool {
-    match builder.len() {
-        0 => true,
-        1 => are(builder.iter(), [Some(true)].as_slice()),
-        _ => are(builder.iter(), [Some(true), None].as_slice()),
-    }
-}
-
-/// Whether an extension that is refused leaves a beginning.
-fn extends(builder: &mut MutableBooleanArray) -> Result<bool, Error> {
-    match builder.extend([Some(true), None, Some(false)].into_iter()) {
-        Err(refused) => after(refused, is_begun(builder)),
-        Ok(()) => Ok(are(builder.iter(), [Some(true), None, Some(false)].as_slice())),
-    }
+fn push(rt: HostRuntime) -> Result<(), Fail> {
+    told(grown(rt.alloc(), Growth::Push))
 }
 
 #[test]
-fn extend(rt: HostRuntime) -> Result<(), Fail> {
-    told(extends(&mut MutableBooleanArray::new(rt.alloc())))
+fn push_of_a_null(rt: HostRuntime) -> Result<(), Fail> {
+    told(grown(rt.alloc(), Growth::PushOfANull))
 }
 
-/// Whether rows that are refused leave the builder of a true slot.
-fn joins(builder: &mut MutableBooleanArray, other: &MutableBooleanArray) -> Result<bool, Error> {
-    match builder.try_extend_from_self(other) {
-        Err(refused) => after(refused, is_one(builder)),
-        Ok(()) => Ok(are(builder.iter(), [Some(true), Some(false), None].as_slice())),
-    }
+#[test]
+fn try_push(rt: HostRuntime) -> Result<(), Fail> {
+    told(grown(rt.alloc(), Growth::TryPush))
 }
 
-/// Whether they do of a new builder.
-fn joins_new(alloc: Global, other: &MutableBooleanArray) -> Result<bool, Error> {
-    joins(&mut one(alloc)?, other)
-}
-
-/// Whether those of a builder with a null do.
-fn joined(alloc: Global) -> Result<bool, Error> {
-    joins_new(
-        alloc,
-        &MutableBooleanArray::from(alloc, [Some(false), None].as_slice())?,
-    )
+#[test]
+fn push_null(rt: HostRuntime) -> Result<(), Fail> {
+    told(grown(rt.alloc(), Growth::PushNull))
 }
 
 #[test]
 fn try_extend_from_self(rt: HostRuntime) -> Result<(), Fail> {
-    told(joined(rt.alloc()))
+    told(grown(rt.alloc(), Growth::TryExtendFromSelf))
+}
+
+#[test]
+fn set(rt: HostRuntime) -> Result<(), Fail> {
+    told(grown(rt.alloc(), Growth::Set))
+}
+
+#[test]
+fn reserve(rt: HostRuntime) -> Result<(), Fail> {
+    told(grown(rt.alloc(), Growth::Reserve))
+}
+
+#[test]
+fn shrink_to_fit(rt: HostRuntime) -> Result<(), Fail> {
+    told(grown(rt.alloc(), Growth::ShrinkToFit))
+}
+
+/// The calls by which a builder grows by what an iterator gives, as far as there is memory.
+#[derive(Clone, Copy)]
+enum Extension {
+    Extend,
+    TryExtend,
+    ExtendValues,
+}
+
+/// Calls it.
+fn extend_by(builder: &mut MutableBooleanArray, call: Extension) -> Result<(), Error> {
+    let slots = [Some(true), None, Some(true)];
+    match call {
+        Extension::Extend => builder.extend(slots.into_iter()),
+        Extension::TryExtend => builder.try_extend(slots.into_iter()),
+        Extension::ExtendValues => builder.extend_values([true, false, true].into_iter()),
+    }
+}
+
+/// Whether the first slots of an extended builder of a true slot are there, and no others.
+fn is_begun(builder: &MutableBooleanArray, call: Extension) -> bool {
+    let count = builder.len();
+    let mask = match call {
+        Extension::ExtendValues => "none",
+        _ if count <= 2 => "none",
+        _ => "1101".get(..count).unwrap_or("too many"),
+    };
+    1 <= count && builds(builder, "1101".get(..count).unwrap_or("too many"), mask)
+}
+
+/// Whether so many slots are followed by those that came behind.
+fn is_behind(builder: &MutableBooleanArray, count: usize) -> bool {
+    let mut values = builder.values_iter();
+    for _ in 0..count {
+        if values.next().is_none() {
+            return false;
+        }
+    }
+    is_mask(Some(values), "101")
+}
+
+/// Whether a builder of a true slot is extended, or, where that is refused, by a beginning, and then by the same call.
+fn extends(builder: &mut MutableBooleanArray, call: Extension) -> Result<bool, Error> {
+    match extend_by(builder, call) {
+        Ok(()) => Ok(builder.len() == 4 && is_begun(builder, call)),
+        Err(refused) => {
+            let (is_left, count) = (is_begun(builder, call), builder.len());
+            let is_extended = extend_by(builder, call).is_ok();
+            after(refused, is_left & is_extended && is_behind(builder, count))
+        }
+    }
+}
+
+/// Whether a new one is.
+fn extended(alloc: Global, call: Extension) -> Result<bool, Error> {
+    extends(&mut one(alloc)?, call)
+}
+
+#[test]
+fn extend(rt: HostRuntime) -> Result<(), Fail> {
+    told(extended(rt.alloc(), Extension::Extend))
+}
+
+#[test]
+fn try_extend(rt: HostRuntime) -> Result<(), Fail> {
+    told(extended(rt.alloc(), Extension::TryExtend))
+}
+
+#[test]
+fn extend_values(rt: HostRuntime) -> Result<(), Fail> {
+    told(extended(rt.alloc(), Extension::ExtendValues))
 }
 
 /// Clears the first of some marks, and notes that it ran.
@@ -144,14 +238,20 @@ fn cleared(mut marks: MutableBitmap, ran: &Cell<bool>) -> MutableBitmap
 fn changes(array: &mut BooleanArray) -> Result<bool, Error> {
     let ran = Cell::new(false);
     match array.apply_values_mut(|values| cleared(values, &ran)) {
-        Err(refused) => after(refused, !ran.get() && is_left(array)),
-        Ok(()) => Ok(ran.get() && are(array.iter(), [Some(false), None].as_slice())),
+        Err(refused) => {
+            let is_left = !ran.get() && is_left(array);
+            let is_changed = array
+                .apply_values_mut(|values| cleared(values, &ran))
+                .is_ok();
+            after(refused, is_left & is_changed && shows(array, "00", "10"))
+        }
+        Ok(()) => Ok(ran.get() && shows(array, "00", "10")),
     }
 }
 
 /// Whether an array of a true slot and a null is as it was.
 fn is_left(array: &BooleanArray) -> bool {
-    are(array.iter(), [Some(true), None].as_slice())
+    shows(array, "10", "10")
 }
 
 /// Whether those of a clone are.
@@ -175,6 +275,181 @@ fn changed(alloc: Global) -> Result<bool, Error> {
 #[test]
 fn apply_values_mut(rt: HostRuntime) -> Result<(), Fail> {
     told(changed(rt.alloc()))
+}
+
+/// The calls that make an array of truth values.
+#[derive(Clone, Copy)]
+enum Made {
+    FromSlice,
+    From,
+    FromIter,
+    NewEmpty,
+    NewNull,
+    WithValues,
+    Freeze,
+    Clone,
+}
+
+/// A builder of a true slot and a null.
+fn pair(alloc: Global) -> Result<MutableBooleanArray, Error> {
+    MutableBooleanArray::from(alloc, [Some(true), None].as_slice())
+}
+
+/// Whether an array with other values is another, and the first is as it was.
+fn with_values(alloc: Global) -> Result<BooleanArray, Error> {
+    let array = BooleanArray::from(alloc, [Some(false), None].as_slice())?;
+    let values = Bitmap::from_slice(alloc, [true, false].as_slice())?;
+    if array.len() != values.len() {
+        return Ok(array);
+    }
+    array.with_values(values)
+}
+
+/// The array that it makes.
+fn array(alloc: Global, call: Made) -> Result<BooleanArray, Error> {
+    match call {
+        Made::FromSlice => BooleanArray::from_slice(alloc, [true, false].as_slice()),
+        Made::From => BooleanArray::from(alloc, [Some(true), None].as_slice()),
+        Made::FromIter => BooleanArray::from_iter(alloc, [Some(true), None].into_iter()),
+        Made::NewEmpty => BooleanArray::new_empty(alloc, DataType::Boolean),
+        Made::NewNull => BooleanArray::new_null(alloc, DataType::Boolean, 2),
+        Made::WithValues => with_values(alloc),
+        Made::Freeze => pair(alloc)?.freeze(),
+        Made::Clone => BooleanArray::from(alloc, [Some(true), None].as_slice())?.clone(),
+    }
+}
+
+/// What it stores, and its marks.
+fn stored<'a>(call: Made) -> (&'a str, &'a str) {
+    match call {
+        Made::FromSlice => ("10", "none"),
+        Made::NewEmpty => ("", "none"),
+        Made::NewNull => ("00", "00"),
+        _ => ("10", "10"),
+    }
+}
+
+/// Whether it does.
+fn is_made(alloc: Global, call: Made) -> Result<bool, Error> {
+    let (values, mask) = stored(call);
+    match array(alloc, call) {
+        Ok(array) => Ok(shows(&array, values, mask)),
+        Err(refused) => Err(refused),
+    }
+}
+
+/// Whether an array is made, or, where that is refused, by the same call once more.
+fn makes(alloc: Global, call: Made) -> Result<bool, Error> {
+    match is_made(alloc, call) {
+        Ok(is_right) => Ok(is_right),
+        Err(refused) => after(refused, is_made(alloc, call) == Ok(true)),
+    }
+}
+
+#[test]
+fn array_from_slice(rt: HostRuntime) -> Result<(), Fail> {
+    told(makes(rt.alloc(), Made::FromSlice))
+}
+
+#[test]
+fn array_from(rt: HostRuntime) -> Result<(), Fail> {
+    told(makes(rt.alloc(), Made::From))
+}
+
+#[test]
+fn array_from_iter(rt: HostRuntime) -> Result<(), Fail> {
+    told(makes(rt.alloc(), Made::FromIter))
+}
+
+#[test]
+fn array_new_empty(rt: HostRuntime) -> Result<(), Fail> {
+    told(makes(rt.alloc(), Made::NewEmpty))
+}
+
+#[test]
+fn array_new_null(rt: HostRuntime) -> Result<(), Fail> {
+    told(makes(rt.alloc(), Made::NewNull))
+}
+
+#[test]
+fn array_with_values(rt: HostRuntime) -> Result<(), Fail> {
+    told(makes(rt.alloc(), Made::WithValues))
+}
+
+#[test]
+fn freeze(rt: HostRuntime) -> Result<(), Fail> {
+    told(makes(rt.alloc(), Made::Freeze))
+}
+
+#[test]
+fn array_clone(rt: HostRuntime) -> Result<(), Fail> {
+    told(makes(rt.alloc(), Made::Clone))
+}
+
+/// The calls that make a builder of truth values.
+#[derive(Clone, Copy)]
+enum Built {
+    WithCapacity,
+    FromSlice,
+    From,
+    FromIter,
+    Clone,
+}
+
+/// The builder that it makes.
+fn builder(alloc: Global, call: Built) -> Result<MutableBooleanArray, Error> {
+    match call {
+        Built::WithCapacity => MutableBooleanArray::with_capacity(alloc, 100),
+        Built::FromSlice => MutableBooleanArray::from_slice(alloc, [true, false].as_slice()),
+        Built::From => pair(alloc),
+        Built::FromIter => MutableBooleanArray::from_iter(alloc, [Some(true), None].into_iter()),
+        Built::Clone => pair(alloc)?.clone(),
+    }
+}
+
+/// Whether it stores what it should, under its marks.
+fn is_built(alloc: Global, call: Built) -> Result<bool, Error> {
+    match builder(alloc, call) {
+        Ok(builder) => Ok(match call {
+            Built::WithCapacity => builds(&builder, "", "none"),
+            Built::FromSlice => builds(&builder, "10", "none"),
+            _ => builds(&builder, "10", "10"),
+        }),
+        Err(refused) => Err(refused),
+    }
+}
+
+/// Whether a builder is made, or, where that is refused, by the same call once more.
+fn makes_builder(alloc: Global, call: Built) -> Result<bool, Error> {
+    match is_built(alloc, call) {
+        Ok(is_right) => Ok(is_right),
+        Err(refused) => after(refused, is_built(alloc, call) == Ok(true)),
+    }
+}
+
+#[test]
+fn with_capacity(rt: HostRuntime) -> Result<(), Fail> {
+    told(makes_builder(rt.alloc(), Built::WithCapacity))
+}
+
+#[test]
+fn from_slice(rt: HostRuntime) -> Result<(), Fail> {
+    told(makes_builder(rt.alloc(), Built::FromSlice))
+}
+
+#[test]
+fn from(rt: HostRuntime) -> Result<(), Fail> {
+    told(makes_builder(rt.alloc(), Built::From))
+}
+
+#[test]
+fn from_iter(rt: HostRuntime) -> Result<(), Fail> {
+    told(makes_builder(rt.alloc(), Built::FromIter))
+}
+
+#[test]
+fn clone(rt: HostRuntime) -> Result<(), Fail> {
+    told(makes_builder(rt.alloc(), Built::Clone))
 }
 
 /// More slots than any memory holds.

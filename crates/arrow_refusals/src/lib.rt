@@ -4,9 +4,9 @@
 #![tactic(auto)]
 
 #[cfg(test)]
-mod binary;
-#[cfg(test)]
 mod boolean;
+#[cfg(test)]
+mod bytes;
 #[cfg(test)]
 mod memory;
 #[cfg(test)]
@@ -18,6 +18,6 @@ mod primitive;
 #[cfg(test)]
 mod session;
 #[cfg(test)]
-mod types;
+mod table;
 #[cfg(test)]
-mod utf8;
+mod types;

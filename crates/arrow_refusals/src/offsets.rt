@@ -1,6 +1,6 @@
 //! Offsets.
 use arrow_memory::offset::{Offsets, OffsetsBuffer};
-use arrow_testing::told;
+use arrow_testing::{after, told};
 use arrow_types::error::Error;
 use std::alloc::Global;
 use std::test::Fail;
@@ -26,53 +26,188 @@ fn most_offsets(rt: HostRuntime) -> Result<(), Fail> {
     told(most(rt.alloc(), usize::MAX))
 }
 
-/// Whether new offsets end so.
-fn made(alloc: Global) -> Result<bool, Error> {
-    let zeroed = Offsets::<i64>::new_zeroed(alloc, 1)?;
-    let empty = OffsetsBuffer::<i64>::new(alloc)?;
-    Ok(zeroed.len_proxy() == 1 && empty.len_proxy() == 0)
+/// The calls by which offsets grow by all or nothing, or get room, or lose it.
+#[derive(Clone, Copy)]
+enum Growth {
+    TryPushUsize,
+    TryExtendFromSelf,
+    Reserve,
+    ShrinkToFit,
+}
+
+/// Calls it, of offsets 0 and 2; others are 3, 4 and 7.
+fn grow(offsets: &mut Offsets<i32>, other: &Offsets<i32>, call: Growth) -> Result<(), Error> {
+    match call {
+        Growth::TryPushUsize => offsets.try_push_usize(1),
+        Growth::TryExtendFromSelf => offsets.try_extend_from_self(other),
+        Growth::Reserve => offsets.reserve(100),
+        Growth::ShrinkToFit => offsets.shrink_to_fit(),
+    }
+}
+
+/// The offsets after it.
+fn wanted<'a>(call: Growth) -> &'a [i32] {
+    match call {
+        Growth::TryPushUsize => &[0, 2, 3],
+        Growth::TryExtendFromSelf => &[0, 2, 3, 6],
+        Growth::Reserve | Growth::ShrinkToFit => &[0, 2],
+    }
+}
+
+/// Whether offsets have grown, or, where that is refused, are as before, and grow by the same call.
+fn grows(offsets: &mut Offsets<i32>, other: &Offsets<i32>, call: Growth) -> Result<bool, Error> {
+    match grow(offsets, other, call) {
+        Ok(()) => Ok(offsets.as_slice() == wanted(call)),
+        Err(refused) => {
+            let is_left = offsets.as_slice() == [0, 2].as_slice();
+            let is_grown = grow(offsets, other, call).is_ok();
+            after(
+                refused,
+                is_left & is_grown && offsets.as_slice() == wanted(call),
+            )
+        }
+    }
+}
+
+/// Whether new ones have.
+fn grown(alloc: Global, call: Growth) -> Result<bool, Error> {
+    let other = narrow(alloc, [3, 4, 7].as_slice())?;
+    grows(&mut narrow(alloc, [0, 2].as_slice())?, &other, call)
 }
 
 #[test]
-fn makers(rt: HostRuntime) -> Result<(), Fail> {
-    told(made(rt.alloc()))
-}
-
-/// Whether growths that are refused leave the offsets.
-fn grown(alloc: Global) -> Result<bool, Error> {
-    let more = narrow(alloc, [3, 4, 7].as_slice())?;
-    let mut offsets = narrow(alloc, [0, 2].as_slice())?;
-    if let Err(refused) = offsets.try_push_usize(1) {
-        return left(&offsets, [0, 2].as_slice(), refused);
-    }
-    if let Err(refused) = offsets.try_extend_from_self(&more) {
-        return left(&offsets, [0, 2, 3].as_slice(), refused);
-    }
-    Ok(offsets.as_slice() == [0, 2, 3, 4, 7].as_slice())
-}
-
-/// The refusal, where these offsets are left.
-fn left(offsets: &Offsets<i32>, list: &[i32], refused: Error) -> Result<bool, Error> {
-    if offsets.as_slice() == list {
-        return Err(refused);
-    }
-    Ok(false)
+fn try_push_usize(rt: HostRuntime) -> Result<(), Fail> {
+    told(grown(rt.alloc(), Growth::TryPushUsize))
 }
 
 #[test]
-fn growths(rt: HostRuntime) -> Result<(), Fail> {
-    told(grown(rt.alloc()))
-}
-
-/// Whether offsets and their copies, of either kind, have one slot.
-fn copied(alloc: Global) -> Result<bool, Error> {
-    let offsets = narrow(alloc, [0, 2].as_slice())?;
-    let copy = offsets.clone()?.freeze()?;
-    let second = copy.clone()?;
-    Ok(offsets.len_proxy() == 1 && second.len_proxy() == 1)
+fn try_extend_from_self(rt: HostRuntime) -> Result<(), Fail> {
+    told(grown(rt.alloc(), Growth::TryExtendFromSelf))
 }
 
 #[test]
-fn copies(rt: HostRuntime) -> Result<(), Fail> {
-    told(copied(rt.alloc()))
+fn reserve(rt: HostRuntime) -> Result<(), Fail> {
+    told(grown(rt.alloc(), Growth::Reserve))
+}
+
+#[test]
+fn shrink_to_fit(rt: HostRuntime) -> Result<(), Fail> {
+    told(grown(rt.alloc(), Growth::ShrinkToFit))
+}
+
+/// The calls that make offsets.
+#[derive(Clone, Copy)]
+enum Made {
+    New,
+    Default,
+    NewZeroed,
+    WithCapacity,
+    Clone,
+}
+
+/// The offsets that it makes.
+fn offsets(alloc: Global, call: Made) -> Result<Offsets<i32>, Error> {
+    match call {
+        Made::New => Offsets::new(alloc),
+        Made::Default => Offsets::default(alloc),
+        Made::NewZeroed => Offsets::new_zeroed(alloc, 2),
+        Made::WithCapacity => Offsets::with_capacity(alloc, 3),
+        Made::Clone => narrow(alloc, [0, 2].as_slice())?.clone(),
+    }
+}
+
+/// Whether they are these.
+fn are_made(alloc: Global, call: Made) -> Result<bool, Error> {
+    let made = offsets(alloc, call)?;
+    Ok(match call {
+        Made::New | Made::Default => made.as_slice() == [0].as_slice(),
+        Made::NewZeroed => made.as_slice() == [0, 0, 0].as_slice(),
+        Made::WithCapacity => made.as_slice() == [0].as_slice() && 3 <= made.capacity(),
+        Made::Clone => made.as_slice() == [0, 2].as_slice(),
+    })
+}
+
+/// Whether offsets are made, or, where that is refused, by the same call once more.
+fn makes(alloc: Global, call: Made) -> Result<bool, Error> {
+    match are_made(alloc, call) {
+        Ok(is_right) => Ok(is_right),
+        Err(refused) => after(refused, are_made(alloc, call) == Ok(true)),
+    }
+}
+
+#[test]
+fn new(rt: HostRuntime) -> Result<(), Fail> {
+    told(makes(rt.alloc(), Made::New))
+}
+
+#[test]
+fn default(rt: HostRuntime) -> Result<(), Fail> {
+    told(makes(rt.alloc(), Made::Default))
+}
+
+#[test]
+fn new_zeroed(rt: HostRuntime) -> Result<(), Fail> {
+    told(makes(rt.alloc(), Made::NewZeroed))
+}
+
+#[test]
+fn with_capacity(rt: HostRuntime) -> Result<(), Fail> {
+    told(makes(rt.alloc(), Made::WithCapacity))
+}
+
+#[test]
+fn clone(rt: HostRuntime) -> Result<(), Fail> {
+    told(makes(rt.alloc(), Made::Clone))
+}
+
+/// The calls that make frozen offsets.
+#[derive(Clone, Copy)]
+enum Frozen {
+    New,
+    Default,
+    Freeze,
+    Clone,
+}
+
+/// The frozen offsets that it makes.
+fn buffer_of(alloc: Global, call: Frozen) -> Result<OffsetsBuffer<i32>, Error> {
+    match call {
+        Frozen::New => OffsetsBuffer::new(alloc),
+        Frozen::Default => OffsetsBuffer::default(alloc),
+        Frozen::Freeze => narrow(alloc, [0].as_slice())?.freeze(),
+        Frozen::Clone => OffsetsBuffer::new(alloc)?.clone(),
+    }
+}
+
+/// Whether they are one zero.
+fn are_frozen(alloc: Global, call: Frozen) -> Result<bool, Error> {
+    Ok(buffer_of(alloc, call)?.buffer().as_slice() == [0].as_slice())
+}
+
+/// Whether frozen offsets are made, or, where that is refused, by the same call once more.
+fn freezes(alloc: Global, call: Frozen) -> Result<bool, Error> {
+    match are_frozen(alloc, call) {
+        Ok(is_right) => Ok(is_right),
+        Err(refused) => after(refused, are_frozen(alloc, call) == Ok(true)),
+    }
+}
+
+#[test]
+fn new_of_a_buffer(rt: HostRuntime) -> Result<(), Fail> {
+    told(freezes(rt.alloc(), Frozen::New))
+}
+
+#[test]
+fn default_of_a_buffer(rt: HostRuntime) -> Result<(), Fail> {
+    told(freezes(rt.alloc(), Frozen::Default))
+}
+
+#[test]
+fn freeze(rt: HostRuntime) -> Result<(), Fail> {
+    told(freezes(rt.alloc(), Frozen::Freeze))
+}
+
+#[test]
+fn clone_of_a_buffer(rt: HostRuntime) -> Result<(), Fail> {
+    told(freezes(rt.alloc(), Frozen::Clone))
 }

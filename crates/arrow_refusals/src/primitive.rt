@@ -6,7 +6,16 @@ use arrow_types::error::Error;
 use std::alloc::Global;
 use std::test::Fail;
 
-/// Whether a builder has these stored values and marks.
+/// Whether an array stores these values, under these marks.
+fn shows(array: &PrimitiveArray<i64>, values: &[i64], mask: &str) -> bool {
+    let marks = match array.validity() {
+        Some(marks) => Some(marks.iter()),
+        None => None,
+    };
+    array.values().as_slice() == values && is_mask(marks, mask)
+}
+
+/// Whether a builder stores these values, under these marks.
 fn builds(builder: &MutablePrimitiveArray<i64>, values: &[i64], mask: &str) -> bool {
     let marks = match builder.validity() {
         Some(marks) => Some(marks.iter()),
@@ -25,27 +34,20 @@ fn is_seven(builder: &MutablePrimitiveArray<i64>) -> bool {
     builds(builder, [7].as_slice(), "none")
 }
 
-/// Whether a null is appended to a builder of a value.
-fn is_pushed(builder: &mut MutablePrimitiveArray<i64>) -> bool {
-    builder.push(None).is_ok() && builds(builder, [7, 0].as_slice(), "10")
-}
-
-/// Whether a refused null leaves a builder of a value, and the next try appends it.
-fn pushes(builder: &mut MutablePrimitiveArray<i64>) -> Result<bool, Error> {
-    match builder.push(None) {
-        Err(refused) => after(refused, is_seven(builder) && is_pushed(builder)),
-        Ok(()) => Ok(builds(builder, [7, 0].as_slice(), "10")),
-    }
-}
-
-/// The same of a new builder.
-fn pushed(alloc: Global) -> Result<bool, Error> {
-    pushes(&mut seven(alloc)?)
-}
-
-#[test]
-fn push(rt: HostRuntime) -> Result<(), Fail> {
-    told(pushed(rt.alloc()))
+/// The calls by which a builder grows by all or nothing, or gets room, or loses it.
+#[derive(Clone, Copy)]
+enum Growth {
+    Push,
+    PushOfANull,
+    TryPush,
+    PushNull,
+    ExtendConstant,
+    ExtendConstantByNulls,
+    ExtendFromSlice,
+    TryExtendFromSelf,
+    Set,
+    Reserve,
+    ShrinkToFit,
 }
 
 /// Replaces the first slot by a null, where there is one.
@@ -56,98 +58,191 @@ fn replace(builder: &mut MutablePrimitiveArray<i64>) -> Result<(), Error> {
     builder.set(0, None)
 }
 
-/// Whether a slot is replaced by a null.
-fn is_replaced(builder: &mut MutablePrimitiveArray<i64>) -> bool {
-    replace(builder).is_ok() && builds(builder, [0].as_slice(), "0")
-}
-
-/// Whether a refused null leaves a slot, and the next try replaces it.
-fn replaces(builder: &mut MutablePrimitiveArray<i64>) -> Result<bool, Error> {
-    match replace(builder) {
-        Err(refused) => after(refused, is_seven(builder) && is_replaced(builder)),
-        Ok(()) => Ok(builds(builder, [0].as_slice(), "0")),
+/// Calls it, of a builder of a value; another is of a null.
+fn grow(
+    builder: &mut MutablePrimitiveArray<i64>,
+    other: &MutablePrimitiveArray<i64>,
+    call: Growth,
+) -> Result<(), Error> {
+    match call {
+        Growth::Push => builder.push(Some(8)),
+        Growth::PushOfANull => builder.push(None),
+        Growth::TryPush => builder.try_push(None),
+        Growth::PushNull => builder.push_null(),
+        Growth::ExtendConstant => builder.extend_constant(2, Some(8)),
+        Growth::ExtendConstantByNulls => builder.extend_constant(2, None),
+        Growth::ExtendFromSlice => builder.extend_from_slice([8, 9].as_slice()),
+        Growth::TryExtendFromSelf => builder.try_extend_from_self(other),
+        Growth::Set => replace(builder),
+        Growth::Reserve => builder.reserve(100),
+        Growth::ShrinkToFit => builder.shrink_to_fit(),
     }
 }
 
-/// The same of a new builder.
-fn replaced(alloc: Global) -> Result<bool, Error> {
-    replaces(&mut seven(alloc)?)
+/// What the builder of a value stores after it, and its marks.
+fn wanted<'a>(call: Growth) -> (&'a [i64], &'a str) {
+    match call {
+        Growth::Push => (&[7, 8], "none"),
+        Growth::PushOfANull | Growth::TryPush | Growth::PushNull => (&[7, 0], "10"),
+        Growth::ExtendConstant => (&[7, 8, 8], "none"),
+        Growth::ExtendConstantByNulls => (&[7, 0, 0], "100"),
+        Growth::ExtendFromSlice => (&[7, 8, 9], "none"),
+        Growth::TryExtendFromSelf => (&[7, 0], "10"),
+        Growth::Set => (&[0], "0"),
+        Growth::Reserve | Growth::ShrinkToFit => (&[7], "none"),
+    }
+}
+
+/// Whether a builder of a value has grown, or, where that is refused, is as before, and grows by the same call.
+fn grows(
+    builder: &mut MutablePrimitiveArray<i64>,
+    other: &MutablePrimitiveArray<i64>,
+    call: Growth,
+) -> Result<bool, Error> {
+    let (values, mask) = wanted(call);
+    match grow(builder, other, call) {
+        Ok(()) => Ok(builds(builder, values, mask)),
+        Err(refused) => {
+            let is_left = is_seven(builder);
+            let is_grown = grow(builder, other, call).is_ok();
+            after(refused, is_left & is_grown && builds(builder, values, mask))
+        }
+    }
+}
+
+/// Whether a new one has.
+fn grows_new(
+    alloc: Global,
+    other: &MutablePrimitiveArray<i64>,
+    call: Growth,
+) -> Result<bool, Error> {
+    grows(&mut seven(alloc)?, other, call)
+}
+
+/// Whether it has beside a builder of a null.
+fn grown(alloc: Global, call: Growth) -> Result<bool, Error> {
+    let null = MutablePrimitiveArray::from(alloc, [None].as_slice())?;
+    grows_new(alloc, &null, call)
 }
 
 #[test]
-fn set(rt: HostRuntime) -> Result<(), Fail> {
-    told(replaced(rt.alloc()))
-}
-
-/// Whether so many slots of four are there, of which only the second is null.
-fn is_beginning(builder: &MutablePrimitiveArray<i64>) -> bool {
-    match builder.len() {
-        0 => builds(builder, &[], "none"),
-        1 => builds(builder, [1].as_slice(), "none"),
-        2 => builds(builder, [1, 0].as_slice(), "10"),
-        3 => builds(builder, [1, 0, 3].as_slice(), "101"),
-        _ => builds(builder, [1, 0, 3, 4].as_slice(), "1011"),
-    }
-}
-
-/// Whether a refused extension leaves a beginning.
-fn extends(builder: &mut MutablePrimitiveArray<i64>) -> Result<bool, Error> {
-    match builder.extend([Some(1), None, Some(3), Some(4)].into_iter()) {
-        Err(refused) => after(refused, is_beginning(builder)),
-        Ok(()) => Ok(builder.len() == 4 && is_beginning(builder)),
-    }
+fn push(rt: HostRuntime) -> Result<(), Fail> {
+    told(grown(rt.alloc(), Growth::Push))
 }
 
 #[test]
-fn extend(rt: HostRuntime) -> Result<(), Fail> {
-    told(extends(&mut MutablePrimitiveArray::new(rt.alloc())))
+fn push_of_a_null(rt: HostRuntime) -> Result<(), Fail> {
+    told(grown(rt.alloc(), Growth::PushOfANull))
 }
 
-/// Whether a refused growth by nulls leaves a builder of a value.
-fn grows(builder: &mut MutablePrimitiveArray<i64>) -> Result<bool, Error> {
-    match builder.extend_constant(2, None) {
-        Err(refused) => after(refused, is_seven(builder)),
-        Ok(()) => Ok(builds(builder, [7, 0, 0].as_slice(), "100")),
-    }
+#[test]
+fn try_push(rt: HostRuntime) -> Result<(), Fail> {
+    told(grown(rt.alloc(), Growth::TryPush))
 }
 
-/// The same of a new builder.
-fn grown(alloc: Global) -> Result<bool, Error> {
-    grows(&mut seven(alloc)?)
+#[test]
+fn push_null(rt: HostRuntime) -> Result<(), Fail> {
+    told(grown(rt.alloc(), Growth::PushNull))
 }
 
 #[test]
 fn extend_constant(rt: HostRuntime) -> Result<(), Fail> {
-    told(grown(rt.alloc()))
+    told(grown(rt.alloc(), Growth::ExtendConstant))
 }
 
-/// Whether a refused extension by another builder leaves a builder of a value.
-fn joins(
-    builder: &mut MutablePrimitiveArray<i64>,
-    other: &MutablePrimitiveArray<i64>,
-) -> Result<bool, Error> {
-    match builder.try_extend_from_self(other) {
-        Err(refused) => after(refused, is_seven(builder)),
-        Ok(()) => Ok(builds(builder, [7, 0].as_slice(), "10")),
-    }
+#[test]
+fn extend_constant_by_nulls(rt: HostRuntime) -> Result<(), Fail> {
+    told(grown(rt.alloc(), Growth::ExtendConstantByNulls))
 }
 
-/// The same of a new builder.
-fn joins_new(alloc: Global, other: &MutablePrimitiveArray<i64>) -> Result<bool, Error> {
-    joins(&mut seven(alloc)?, other)
-}
-
-/// The same of a builder of a null.
-fn joined(alloc: Global) -> Result<bool, Error> {
-    joins_new(
-        alloc,
-        &MutablePrimitiveArray::from(alloc, [None].as_slice())?,
-    )
+#[test]
+fn extend_from_slice(rt: HostRuntime) -> Result<(), Fail> {
+    told(grown(rt.alloc(), Growth::ExtendFromSlice))
 }
 
 #[test]
 fn try_extend_from_self(rt: HostRuntime) -> Result<(), Fail> {
-    told(joined(rt.alloc()))
+    told(grown(rt.alloc(), Growth::TryExtendFromSelf))
+}
+
+#[test]
+fn set(rt: HostRuntime) -> Result<(), Fail> {
+    told(grown(rt.alloc(), Growth::Set))
+}
+
+#[test]
+fn reserve(rt: HostRuntime) -> Result<(), Fail> {
+    told(grown(rt.alloc(), Growth::Reserve))
+}
+
+#[test]
+fn shrink_to_fit(rt: HostRuntime) -> Result<(), Fail> {
+    told(grown(rt.alloc(), Growth::ShrinkToFit))
+}
+
+/// The calls by which a builder grows by what an iterator gives, as far as there is memory.
+#[derive(Clone, Copy)]
+enum Extension {
+    Extend,
+    TryExtend,
+    ExtendValues,
+}
+
+/// Calls it.
+fn extend_by(builder: &mut MutablePrimitiveArray<i64>, call: Extension) -> Result<(), Error> {
+    let slots = [Some(1), None, Some(3), Some(4), Some(5)];
+    match call {
+        Extension::Extend => builder.extend(slots.into_iter()),
+        Extension::TryExtend => builder.try_extend(slots.into_iter()),
+        Extension::ExtendValues => builder.extend_values([1, 0, 3, 4, 5].into_iter()),
+    }
+}
+
+/// Whether the first slots of an extended builder of a value are there, and no others.
+fn is_begun(builder: &MutablePrimitiveArray<i64>, call: Extension) -> bool {
+    let (values, marks) = ([7, 1, 0, 3, 4, 5], "110111");
+    let count = builder.len();
+    let mask = match call {
+        Extension::ExtendValues => "none",
+        _ if count <= 2 => "none",
+        _ => marks.get(..count).unwrap_or("too many"),
+    };
+    let stored = values.as_slice().get(..count).unwrap_or(&[]);
+    1 <= count && builds(builder, stored, mask)
+}
+
+/// Whether a builder of a value is extended, or, where that is refused, by a beginning, and then by the same call.
+fn extends(builder: &mut MutablePrimitiveArray<i64>, call: Extension) -> Result<bool, Error> {
+    match extend_by(builder, call) {
+        Ok(()) => Ok(builder.len() == 6 && is_begun(builder, call)),
+        Err(refused) => {
+            let (is_left, count) = (is_begun(builder, call), builder.len());
+            let is_extended = extend_by(builder, call).is_ok();
+            let behind = builder.values().as_slice().get(count..);
+            let is_behind = behind == Some([1, 0, 3, 4, 5].as_slice());
+            after(refused, is_left & is_extended & is_behind)
+        }
+    }
+}
+
+/// Whether a new one is.
+fn extended(alloc: Global, call: Extension) -> Result<bool, Error> {
+    extends(&mut seven(alloc)?, call)
+}
+
+#[test]
+fn extend(rt: HostRuntime) -> Result<(), Fail> {
+    told(extended(rt.alloc(), Extension::Extend))
+}
+
+#[test]
+fn try_extend(rt: HostRuntime) -> Result<(), Fail> {
+    told(extended(rt.alloc(), Extension::TryExtend))
+}
+
+#[test]
+fn extend_values(rt: HostRuntime) -> Result<(), Fail> {
+    told(extended(rt.alloc(), Extension::ExtendValues))
 }
 
 /// Whether so many slots more are refused, of a null or of a value.
@@ -159,6 +254,9 @@ fn refuses(builder: &mut MutablePrimitiveArray<i64>, count: usize, slot: Option<
 fn are_too_many(builder: &mut MutablePrimitiveArray<i64>) -> bool {
     for count in [usize::MAX, usize::MAX - 8] {
         if !refuses(builder, count, None) || !refuses(builder, count, Some(1)) {
+            return false;
+        }
+        if builder.reserve(count) != Err(Error::OutOfMemory) {
             return false;
         }
     }
@@ -175,44 +273,220 @@ fn slots_that_no_memory_holds(rt: HostRuntime) -> Result<(), Fail> {
     told(refused(rt.alloc()))
 }
 
-/// Whether the array that was made has so many nulls.
-fn counts(array: Result<PrimitiveArray<i64>, Error>, nulls: usize) -> Result<bool, Error> {
-    Ok(array?.null_count() == nulls)
+/// The calls that make an array.
+#[derive(Clone, Copy)]
+enum Made {
+    FromVec,
+    FromSlice,
+    From,
+    FromIter,
+    FromValues,
+    NewEmpty,
+    NewNull,
+    Default,
+    Freeze,
+    Clone,
 }
 
-/// Whether an array of a value is there.
-fn is_one(alloc: Global) -> Result<bool, Error> {
-    Ok(PrimitiveArray::from_slice(alloc, [7].as_slice())?.len() == 1)
+/// A builder of a value and a null.
+fn pair(alloc: Global) -> Result<MutablePrimitiveArray<i64>, Error> {
+    MutablePrimitiveArray::from(alloc, [Some(7), None].as_slice())
 }
 
-/// Whether arrays are there with their slots.
-fn made(alloc: Global) -> Result<bool, Error> {
-    let is_null = counts(PrimitiveArray::new_null(alloc, DataType::Int64, 3), 3)?;
-    let is_one = is_one(alloc)?;
-    let array = PrimitiveArray::from(alloc, [Some(7), None].as_slice())?;
-    Ok(is_null & is_one & counts(array.clone(), 1)?)
+/// The array that it makes.
+fn array(alloc: Global, call: Made) -> Result<PrimitiveArray<i64>, Error> {
+    match call {
+        Made::FromVec => PrimitiveArray::from_vec([7, 0].to_vec(alloc)?),
+        Made::FromSlice => PrimitiveArray::from_slice(alloc, [7, 0].as_slice()),
+        Made::From => PrimitiveArray::from(alloc, [Some(7), None].as_slice()),
+        Made::FromIter => PrimitiveArray::from_iter(alloc, [Some(7), None].into_iter()),
+        Made::FromValues => PrimitiveArray::from_values(alloc, [7, 0].into_iter()),
+        Made::NewEmpty => PrimitiveArray::new_empty(alloc, DataType::Int64),
+        Made::NewNull => PrimitiveArray::new_null(alloc, DataType::Int64, 2),
+        Made::Default => PrimitiveArray::default(alloc),
+        Made::Freeze => pair(alloc)?.freeze(),
+        Made::Clone => PrimitiveArray::from(alloc, [Some(7), None].as_slice())?.clone(),
+    }
+}
+
+/// What it stores, and its marks.
+fn stored<'a>(call: Made) -> (&'a [i64], &'a str) {
+    match call {
+        Made::FromVec | Made::FromSlice | Made::FromValues => (&[7, 0], "none"),
+        Made::From | Made::FromIter | Made::Freeze | Made::Clone => (&[7, 0], "10"),
+        Made::NewEmpty | Made::Default => (&[], "none"),
+        Made::NewNull => (&[0, 0], "00"),
+    }
+}
+
+/// Whether it does.
+fn is_made(alloc: Global, call: Made) -> Result<bool, Error> {
+    let (values, mask) = stored(call);
+    match array(alloc, call) {
+        Ok(array) => Ok(shows(&array, values, mask)),
+        Err(refused) => Err(refused),
+    }
+}
+
+/// Whether an array is made, or, where that is refused, by the same call once more.
+fn makes(alloc: Global, call: Made) -> Result<bool, Error> {
+    match is_made(alloc, call) {
+        Ok(is_right) => Ok(is_right),
+        Err(refused) => after(refused, is_made(alloc, call) == Ok(true)),
+    }
 }
 
 #[test]
-fn arrays(rt: HostRuntime) -> Result<(), Fail> {
-    told(made(rt.alloc()))
-}
-
-/// Whether copies of builders, and their room, are there.
-fn copies_of(builder: &mut MutablePrimitiveArray<i64>) -> Result<bool, Error> {
-    builder.push(Some(7))?;
-    builder.push(None)?;
-    builder.reserve(100)?;
-    builder.shrink_to_fit()?;
-    Ok(builds(&builder.clone()?, [7, 0].as_slice(), "10"))
-}
-
-/// The same of a new builder with room.
-fn copied(alloc: Global) -> Result<bool, Error> {
-    copies_of(&mut MutablePrimitiveArray::with_capacity(alloc, 9)?)
+fn array_from_vec(rt: HostRuntime) -> Result<(), Fail> {
+    told(makes(rt.alloc(), Made::FromVec))
 }
 
 #[test]
-fn copies(rt: HostRuntime) -> Result<(), Fail> {
-    told(copied(rt.alloc()))
+fn array_from_slice(rt: HostRuntime) -> Result<(), Fail> {
+    told(makes(rt.alloc(), Made::FromSlice))
+}
+
+#[test]
+fn array_from(rt: HostRuntime) -> Result<(), Fail> {
+    told(makes(rt.alloc(), Made::From))
+}
+
+#[test]
+fn array_from_iter(rt: HostRuntime) -> Result<(), Fail> {
+    told(makes(rt.alloc(), Made::FromIter))
+}
+
+#[test]
+fn array_from_values(rt: HostRuntime) -> Result<(), Fail> {
+    told(makes(rt.alloc(), Made::FromValues))
+}
+
+#[test]
+fn array_new_empty(rt: HostRuntime) -> Result<(), Fail> {
+    told(makes(rt.alloc(), Made::NewEmpty))
+}
+
+#[test]
+fn array_new_null(rt: HostRuntime) -> Result<(), Fail> {
+    told(makes(rt.alloc(), Made::NewNull))
+}
+
+#[test]
+fn array_default(rt: HostRuntime) -> Result<(), Fail> {
+    told(makes(rt.alloc(), Made::Default))
+}
+
+#[test]
+fn freeze(rt: HostRuntime) -> Result<(), Fail> {
+    told(makes(rt.alloc(), Made::Freeze))
+}
+
+#[test]
+fn array_clone(rt: HostRuntime) -> Result<(), Fail> {
+    told(makes(rt.alloc(), Made::Clone))
+}
+
+/// The calls that make a builder.
+#[derive(Clone, Copy)]
+enum Built {
+    WithCapacity,
+    WithCapacityFrom,
+    FromSlice,
+    From,
+    FromIter,
+    Clone,
+}
+
+/// The builder that it makes.
+fn builder(alloc: Global, call: Built) -> Result<MutablePrimitiveArray<i64>, Error> {
+    match call {
+        Built::WithCapacity => MutablePrimitiveArray::with_capacity(alloc, 3),
+        Built::WithCapacityFrom => {
+            MutablePrimitiveArray::with_capacity_from(alloc, 3, DataType::Date64)
+        }
+        Built::FromSlice => MutablePrimitiveArray::from_slice(alloc, [7, 0].as_slice()),
+        Built::From => pair(alloc),
+        Built::FromIter => MutablePrimitiveArray::from_iter(alloc, [Some(7), None].into_iter()),
+        Built::Clone => pair(alloc)?.clone(),
+    }
+}
+
+/// Whether it stores what it should, under its marks, with its room.
+fn is_built(alloc: Global, call: Built) -> Result<bool, Error> {
+    match builder(alloc, call) {
+        Ok(builder) => Ok(match call {
+            Built::WithCapacity | Built::WithCapacityFrom => {
+                3 <= builder.capacity() && builds(&builder, &[], "none")
+            }
+            Built::FromSlice => builds(&builder, [7, 0].as_slice(), "none"),
+            _ => builds(&builder, [7, 0].as_slice(), "10"),
+        }),
+        Err(refused) => Err(refused),
+    }
+}
+
+/// Whether a builder is made, or, where that is refused, by the same call once more.
+fn makes_builder(alloc: Global, call: Built) -> Result<bool, Error> {
+    match is_built(alloc, call) {
+        Ok(is_right) => Ok(is_right),
+        Err(refused) => after(refused, is_built(alloc, call) == Ok(true)),
+    }
+}
+
+#[test]
+fn with_capacity(rt: HostRuntime) -> Result<(), Fail> {
+    told(makes_builder(rt.alloc(), Built::WithCapacity))
+}
+
+#[test]
+fn with_capacity_from(rt: HostRuntime) -> Result<(), Fail> {
+    told(makes_builder(rt.alloc(), Built::WithCapacityFrom))
+}
+
+#[test]
+fn from_slice(rt: HostRuntime) -> Result<(), Fail> {
+    told(makes_builder(rt.alloc(), Built::FromSlice))
+}
+
+#[test]
+fn from(rt: HostRuntime) -> Result<(), Fail> {
+    told(makes_builder(rt.alloc(), Built::From))
+}
+
+#[test]
+fn from_iter(rt: HostRuntime) -> Result<(), Fail> {
+    told(makes_builder(rt.alloc(), Built::FromIter))
+}
+
+#[test]
+fn clone(rt: HostRuntime) -> Result<(), Fail> {
+    told(makes_builder(rt.alloc(), Built::Clone))
+}
+
+/// Whether three values are appended, for which no memory is asked.
+fn takes_three(builder: &mut MutablePrimitiveArray<i64>) -> bool {
+    for value in 0_i64..3 {
+        if builder.push(Some(value)).is_err() {
+            return false;
+        }
+    }
+    true
+}
+
+/// Whether they are once room for three was given, twice.
+fn fits(builder: &mut MutablePrimitiveArray<i64>) -> Result<bool, Error> {
+    let is_first = takes_three(builder);
+    builder.reserve(3)?;
+    Ok(is_first & takes_three(builder))
+}
+
+/// Whether they are in a new builder with room.
+fn fits_room(alloc: Global) -> Result<bool, Error> {
+    fits(&mut MutablePrimitiveArray::with_capacity(alloc, 3)?)
+}
+
+/// Whichever allocation is refused, it is none of those pushes that is.
+#[test]
+fn room_that_was_given(rt: HostRuntime) -> Result<(), Fail> {
+    told(fits_room(rt.alloc()))
 }

@@ -31,34 +31,6 @@ fn slots_lie_between_other_bytes(rt: HostRuntime) -> Result<(), Fail> {
     told(reads_around::<Utf8, i64>(rt.alloc()))
 }
 
-/// Whether the last two slots of these are left, over all bytes.
-fn cuts<K: Known, O: Offset>(array: &mut ByteArray<K, O>) -> bool {
-    if array.len() != 3 {
-        return false;
-    }
-    array.slice(1, 2);
-    let slots = [None, Some("\x04\x04")];
-    array.null_count() == 1
-        && shows(array, [3, 3, 5].as_slice(), AROUND.as_slice(), "01")
-        && K::gets(array, slots.as_slice())
-}
-
-/// Whether those of slots between other bytes are.
-fn cuts_around<K: Known, O: Offset>(alloc: Global) -> Result<bool, Error> {
-    match around::<K, O>(alloc) {
-        Ok(mut array) => Ok(cuts(&mut array)),
-        Err(refused) => Err(refused),
-    }
-}
-
-#[test]
-fn slices_keep_all_bytes(rt: HostRuntime) -> Result<(), Fail> {
-    told(cuts_around::<Binary, i32>(rt.alloc()))?;
-    told(cuts_around::<Binary, i64>(rt.alloc()))?;
-    told(cuts_around::<Utf8, i32>(rt.alloc()))?;
-    told(cuts_around::<Utf8, i64>(rt.alloc()))
-}
-
 /// The slots of an array from a place on; all of them where there are fewer.
 pub(super) fn cut_off<K: ByteKind, O: Offset>(
     array: ByteArray<K, O>,

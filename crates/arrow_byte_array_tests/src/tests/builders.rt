@@ -73,35 +73,6 @@ fn freezes<K: Known, O: Offset>(alloc: Global, marks: &str, mask: &str) -> Resul
     }
 }
 
-/// The builder of another's parts.
-fn again<K: ByteKind, O: Offset>(
-    builder: MutableByteArray<K, O>,
-) -> Result<MutableByteArray<K, O>, Error> {
-    let (data_type, offsets, values, validity) = builder.into_data();
-    MutableByteArray::try_new(data_type, offsets, values, validity)
-}
-
-/// Whether the parts of a builder make it again, the byte before its slots too.
-fn builders_again<K: Known, O: Offset>(alloc: Global) -> Result<bool, Error> {
-    match same_slots::<K, O>(alloc, "101") {
-        Ok(builder) => built(
-            again(builder),
-            [1, 3, 4, 9].as_slice(),
-            b"\xFF\xC3\xA9xthere",
-            "101",
-        ),
-        Err(refused) => Err(refused),
-    }
-}
-
-#[test]
-fn parts_of_builders_make_them_again(rt: HostRuntime) -> Result<(), Fail> {
-    told(builders_again::<Binary, i32>(rt.alloc()))?;
-    told(builders_again::<Binary, i64>(rt.alloc()))?;
-    told(builders_again::<Utf8, i32>(rt.alloc()))?;
-    told(builders_again::<Utf8, i64>(rt.alloc()))
-}
-
 /// Whether the array of a builder without a mask holds none.
 fn freezes_items<K: Known, O: Offset>(alloc: Global) -> Result<bool, Error> {
     match MutableByteArray::<K, O>::from_iter_values(alloc, K::items(List::Three).iter().copied()) {

@@ -16,34 +16,7 @@ pub(super) enum List {
     First,
     /// Slots of no and of two bytes; items of no byte and of one.
     Second,
-    /// One of sixty bytes.
-    Sixty,
-    /// One of forty bytes.
-    Forty,
-    /// One of forty-one bytes.
-    Past,
-    /// One of sixty bytes and one of forty.
-    Full,
-    /// One of sixty bytes and one of forty-one.
-    Over,
-    /// One of sixty bytes and two of forty.
-    Long,
 }
-
-const SIXTY_BYTES: &[u8] = &[7; 60];
-
-const FORTY_BYTES: &[u8] = &[7; 40];
-
-const PAST_BYTES: &[u8] = &[7; 41];
-
-/// A text of sixty bytes.
-pub(super) const SIXTY: &str = "€€€€€€€€€€€€€€€€€€€€";
-
-/// A text of forty bytes.
-pub(super) const FORTY: &str = "éééééééééééééééééééé";
-
-/// A text of forty-one bytes.
-pub(super) const PAST_FORTY: &str = "ééééééééééééééééééééa";
 
 /// A kind of items, as Arrow and its errors tell of it, and the calls that take or lend items. Here items are texts, whose
 /// bytes are an item of either kind.
@@ -59,15 +32,6 @@ pub(super) trait Known: ByteKind {
 
     /// The type of arrays over large offsets or others.
     fn data_type(is_large: bool) -> DataType;
-
-    /// A type of the other kind.
-    fn other_type() -> DataType;
-
-    /// What is said of an array's type of another physical type.
-    fn array_refusal() -> &'static str;
-
-    /// What is said of a builder's type of another physical type.
-    fn builder_refusal() -> &'static str;
 
     /// Whether an item that was popped has the bytes of a text.
     fn is(item: &Self::Owned, text: &str) -> bool;
@@ -119,12 +83,6 @@ impl Known for Binary {
             List::Nulls => &[None, None, None],
             List::First => &[Some(b"d"), None],
             List::Second => &[Some(&[]), Some(&[0xC3, 0xA9])],
-            List::Sixty => &[Some(SIXTY_BYTES)],
-            List::Forty => &[Some(FORTY_BYTES)],
-            List::Past => &[Some(PAST_BYTES)],
-            List::Full => &[Some(SIXTY_BYTES), Some(FORTY_BYTES)],
-            List::Over => &[Some(SIXTY_BYTES), Some(PAST_BYTES)],
-            List::Long => &[Some(SIXTY_BYTES), Some(FORTY_BYTES), Some(FORTY_BYTES)],
         }
     }
 
@@ -133,11 +91,6 @@ impl Known for Binary {
             List::Three => &[&[0xC3, 0xA9], &[], b"there"],
             List::First => &[b"a", &[0xC3, 0xA9]],
             List::Second => &[&[], b"d"],
-            List::Sixty => &[SIXTY_BYTES],
-            List::Forty => &[FORTY_BYTES],
-            List::Past => &[PAST_BYTES],
-            List::Full => &[SIXTY_BYTES, FORTY_BYTES],
-            List::Over => &[SIXTY_BYTES, PAST_BYTES],
             _ => &[],
         }
     }
@@ -148,18 +101,6 @@ impl Known for Binary {
         } else {
             DataType::Binary
         }
-    }
-
-    fn other_type() -> DataType {
-        DataType::Utf8
-    }
-
-    fn array_refusal() -> &'static str {
-        "BinaryArray can only be initialized with DataType::Binary or DataType::LargeBinary"
-    }
-
-    fn builder_refusal() -> &'static str {
-        "MutableBinaryValuesArray can only be initialized with DataType::Binary or DataType::LargeBinary"
     }
 
     fn is(item: &Vec<u8>, text: &str) -> bool {
@@ -263,12 +204,6 @@ impl Known for Utf8 {
             List::Nulls => &[None, None, None],
             List::First => &[Some("d"), None],
             List::Second => &[Some(""), Some("é")],
-            List::Sixty => &[Some(SIXTY)],
-            List::Forty => &[Some(FORTY)],
-            List::Past => &[Some(PAST_FORTY)],
-            List::Full => &[Some(SIXTY), Some(FORTY)],
-            List::Over => &[Some(SIXTY), Some(PAST_FORTY)],
-            List::Long => &[Some(SIXTY), Some(FORTY), Some(FORTY)],
         }
     }
 
@@ -277,11 +212,6 @@ impl Known for Utf8 {
             List::Three => &["é", "", "there"],
             List::First => &["a", "é"],
             List::Second => &["", "d"],
-            List::Sixty => &[SIXTY],
-            List::Forty => &[FORTY],
-            List::Past => &[PAST_FORTY],
-            List::Full => &[SIXTY, FORTY],
-            List::Over => &[SIXTY, PAST_FORTY],
             _ => &[],
         }
     }
@@ -292,18 +222,6 @@ impl Known for Utf8 {
         } else {
             DataType::Utf8
         }
-    }
-
-    fn other_type() -> DataType {
-        DataType::Binary
-    }
-
-    fn array_refusal() -> &'static str {
-        "Utf8Array can only be initialized with DataType::Utf8 or DataType::LargeUtf8"
-    }
-
-    fn builder_refusal() -> &'static str {
-        "MutableUtf8ValuesArray can only be initialized with DataType::Utf8 or DataType::LargeUtf8"
     }
 
     fn is(item: &String, text: &str) -> bool {

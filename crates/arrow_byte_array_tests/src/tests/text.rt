@@ -1,9 +1,7 @@
 //! Text: what is lent of it in order, from both ends, and that no item is other than UTF-8.
-use super::parts::{
-    BUILDER_MASK, MASK, NOT_AT_END, PAST, TYPE, is_told, is_told_of_builder, named, text_of,
-};
 use super::*;
 use arrow_check::cost::TextCost;
+use arrow_testing::tells;
 use arrow_utf8::{MutableUtf8Array, MutableUtf8ValuesArray, Utf8Array};
 
 /// Whether the slots of an array come from both ends.
@@ -32,18 +30,10 @@ fn items_of<O: Offset>(array: &Utf8Array<O>) -> bool {
     is_sized && is_ended && is_left && items.next().is_none() && items.next_back().is_none()
 }
 
-/// Whether no item is left after one past the last was asked for.
-fn passes<O: Offset>(array: &Utf8Array<O>) -> bool {
-    let (mut items, mut others) = (array.values_iter(), array.values_iter());
-    let is_first = items.next() == Some("\x01") && others.nth(1) == Some("");
-    let is_passed = items.nth(usize::MAX).is_none() && items.next().is_none();
-    is_first && is_passed && items.next_back().is_none()
-}
-
 /// Whether all of this holds of an array with other bytes around its slots.
 fn slots_around<O: Offset>(alloc: Global) -> Result<bool, Error> {
     match around::<Utf8, O>(alloc) {
-        Ok(array) => Ok(slots(&array) && lends(&array) && items_of(&array) && passes(&array)),
+        Ok(array) => Ok(slots(&array) && lends(&array) && items_of(&array)),
         Err(refused) => Err(refused),
     }
 }
@@ -205,16 +195,13 @@ const CHARACTERS: [(&[u8], &[usize]); 8] = [
 /// The array of such parts, whose test is counted.
 fn counted<O: Offset>(
     alloc: Global,
-    word: &str,
     numbers: &[usize],
     bytes: &[u8],
-    mask_text: &str,
     cost: &mut TextCost,
 ) -> Result<Utf8Array<O>, Error> {
-    let validity = mask(alloc, mask_text)?;
     let values = buffer_of(alloc, bytes)?;
     let offsets = frozen_offsets(alloc, numbers)?;
-    Utf8Array::try_new_counted(named::<Utf8, O>(word), offsets, values, validity, cost)
+    Utf8Array::try_new_counted(Utf8::data_type(O::IS_LARGE), offsets, values, None, cost)
 }
 
 /// Whether the counts are that all bytes were tested once at most, and each inner one of so many offsets looked at.
@@ -229,212 +216,71 @@ fn counts(cost: &TextCost) -> [u64; 3] {
     [cost.ascii_tests(), cost.whole_tests(), cost.bytes_looked()]
 }
 
-/// Whether this is told of an array of such parts, whose bytes are tested once at most.
-fn is_array<O: Offset>(
-    alloc: Global,
-    word: &str,
-    numbers: &[usize],
-    bytes: &[u8],
-    mask: &str,
-    text: &str,
-) -> Result<bool, Error> {
+/// Whether this is told of such parts, whose bytes are tested once at most.
+fn is_told<O: Offset>(alloc: Global, numbers: &[usize], bytes: &[u8], text: &str) -> bool {
     let mut cost = TextCost::new();
-    let told = text_of(counted::<O>(alloc, word, numbers, bytes, mask, &mut cost))?;
-    Ok(is_told::<Utf8>(told, text) && is_cheap(&cost, numbers.len()))
-}
-
-#[test]
-fn arrays_are_tested(rt: HostRuntime) -> Result<(), Fail> {
-    for (word, numbers, bytes, mask, text) in [
-        (
-            "own",
-            [0, 1, 4].as_slice(),
-            "éè".as_bytes(),
-            "none",
-            NO_TEXT,
-        ),
-        ("own", &[1, 2], "é".as_bytes(), "none", NO_TEXT),
-        ("own", &[0, 2, 4], "😀".as_bytes(), "none", NO_TEXT),
-        ("own", &[5], b"", "none", PAST),
-        ("other kind", &[0, 2], b"\xC3a", "00000", NO_TEXT),
-        ("other kind", &[0, 3], b"\xC3a", "00000", PAST),
-        ("other kind", &[0, 2], b"ab", "00000", MASK),
-        ("other kind", &[0, 2], b"ab", "0", TYPE),
-        ("other width", &[0, 2], b"ab", "none", TYPE),
-        ("own", &[0, 2], b"ab", "0", ""),
-    ] {
-        told(is_array::<i32>(rt.alloc(), word, numbers, bytes, mask, text))?;
-        told(is_array::<i64>(rt.alloc(), word, numbers, bytes, mask, text))?;
-    }
-    Ok(())
-}
-
-/// Whether offsets over bytes give these texts.
-fn is_cut<O: Offset>(
-    alloc: Global,
-    numbers: &[usize],
-    bytes: &[u8],
-    texts: &[&str],
-) -> Result<bool, Error> {
-    match array_of::<Utf8, O>(alloc, Utf8::data_type(O::IS_LARGE), numbers, bytes, "none") {
-        Ok(array) => Ok(Utf8::stores(&array, texts)),
-        Err(refused) => Err(refused),
-    }
-}
-
-#[test]
-fn offsets_cut_texts(rt: HostRuntime) -> Result<(), Fail> {
-    for (numbers, bytes, texts) in [
-        ([0, 2, 4].as_slice(), "éè".as_bytes(), ["é", "è"].as_slice()),
-        (&[1, 1], "é".as_bytes(), &[""]),
-        (&[0, 4, 4], "😀".as_bytes(), &["😀", ""]),
-        (&[2, 2, 2], "😀".as_bytes(), &["", ""]),
-        (&[1, 2, 3], b"\xFFab\xFF", &["a", "b"]),
-        (&[0, 1], b"a\xFF", &["a"]),
-        (&[0], b"", &[]),
-    ] {
-        told(is_cut::<i32>(rt.alloc(), numbers, bytes, texts))?;
-        told(is_cut::<i64>(rt.alloc(), numbers, bytes, texts))?;
-    }
-    Ok(())
+    let told = tells(counted::<O>(alloc, numbers, bytes, &mut cost));
+    told == text && is_cheap(&cost, numbers.len())
 }
 
 /// Whether offsets 0, k, n over n bytes are accepted for these k, and no others up to n.
-fn is_cut_at<O: Offset>(alloc: Global, bytes: &[u8], accepted: &[usize]) -> Result<bool, Error> {
+fn is_cut_at<O: Offset>(alloc: Global, bytes: &[u8], accepted: &[usize]) -> bool {
     let mut is_right = true;
     for k in 0..bytes.len() + 1 {
-        let text = if accepted.contains(&k) { "" } else { NO_TEXT };
+        let text = if accepted.contains(&k) {
+            "made"
+        } else {
+            NO_TEXT
+        };
         let numbers = [0, k, bytes.len()];
-        let is_told = is_array::<O>(alloc, "own", numbers.as_slice(), bytes, "none", text)?;
-        is_right = is_right && is_told;
+        is_right = is_right && is_told::<O>(alloc, numbers.as_slice(), bytes, text);
     }
-    Ok(is_right)
+    is_right
 }
 
 #[test]
-fn each_slot_is_text_by_itself(rt: HostRuntime) -> Result<(), Fail> {
+fn each_slot_is_text_by_itself(rt: HostRuntime) {
     for (bytes, accepted) in CHARACTERS {
-        told(is_cut_at::<i32>(rt.alloc(), bytes, accepted))?;
-        told(is_cut_at::<i64>(rt.alloc(), bytes, accepted))?;
+        assert!(rt; is_cut_at::<i32>(rt.alloc(), bytes, accepted));
+        assert!(rt; is_cut_at::<i64>(rt.alloc(), bytes, accepted));
     }
-    Ok(())
 }
 
 /// The builder of such parts, whose test is counted.
 fn counted_builder<O: Offset>(
     alloc: Global,
-    word: &str,
     numbers: &[usize],
     bytes: &[u8],
-    mask: &str,
     cost: &mut TextCost,
 ) -> Result<MutableUtf8Array<O>, Error> {
-    let validity = growing_mask(alloc, mask)?;
     let values = bytes.to_vec(alloc)?;
     let offsets = offsets_of(alloc, numbers)?;
-    MutableUtf8Array::try_new_counted(named::<Utf8, O>(word), offsets, values, validity, cost)
-}
-
-/// Whether this is told of a builder of such parts, whose bytes are tested once at most.
-fn is_builder<O: Offset>(
-    alloc: Global,
-    word: &str,
-    numbers: &[usize],
-    bytes: &[u8],
-    mask: &str,
-    text: &str,
-) -> Result<bool, Error> {
-    let mut cost = TextCost::new();
-    let told = text_of(counted_builder::<O>(alloc, word, numbers, bytes, mask, &mut cost))?;
-    Ok(is_told_of_builder::<Utf8>(told, text) && is_cheap(&cost, numbers.len()))
+    MutableUtf8Array::try_new_counted(Utf8::data_type(O::IS_LARGE), offsets, values, None, cost)
 }
 
 /// The builder without nulls of such parts, whose test is counted.
 fn counted_values<O: Offset>(
     alloc: Global,
-    word: &str,
     numbers: &[usize],
     bytes: &[u8],
     cost: &mut TextCost,
 ) -> Result<MutableUtf8ValuesArray<O>, Error> {
     let values = bytes.to_vec(alloc)?;
     let offsets = offsets_of(alloc, numbers)?;
-    MutableUtf8ValuesArray::try_new_counted(named::<Utf8, O>(word), offsets, values, cost)
-}
-
-/// Whether this is told of a builder without nulls of such parts, whose bytes are tested once at most.
-fn is_values<O: Offset>(
-    alloc: Global,
-    word: &str,
-    numbers: &[usize],
-    bytes: &[u8],
-    text: &str,
-) -> Result<bool, Error> {
-    let mut cost = TextCost::new();
-    let told = text_of(counted_values::<O>(alloc, word, numbers, bytes, &mut cost))?;
-    Ok(is_told_of_builder::<Utf8>(told, text) && is_cheap(&cost, numbers.len()))
-}
-
-#[test]
-fn builders_are_tested(rt: HostRuntime) -> Result<(), Fail> {
-    for (word, numbers, bytes, mask, text) in [
-        (
-            "own",
-            [0, 1].as_slice(),
-            b"a\xFF".as_slice(),
-            "00000",
-            NOT_AT_END,
-        ),
-        ("own", &[1, 2, 3], b"\xFFab\xFF", "00000", NOT_AT_END),
-        ("own", &[0, 3], b"ab", "00000", NOT_AT_END),
-        ("other kind", &[0, 1], b"\xC3a", "00000", NOT_AT_END),
-        ("other kind", &[0, 2], b"\xC3a", "00000", NO_TEXT),
-        ("own", &[0, 1, 4], "éè".as_bytes(), "00000", NO_TEXT),
-        ("other kind", &[0, 2], b"ab", "00000", TYPE),
-        ("other width", &[0, 2], b"ab", "00000", TYPE),
-        ("own", &[1, 3], b"\xFFab", "00000", BUILDER_MASK),
-        ("own", &[1, 3], b"\xFFab", "0", ""),
-    ] {
-        told(is_builder::<i32>(rt.alloc(), word, numbers, bytes, mask, text))?;
-        told(is_builder::<i64>(rt.alloc(), word, numbers, bytes, mask, text))?;
-    }
-    Ok(())
-}
-
-#[test]
-fn builders_without_nulls_are_tested(rt: HostRuntime) -> Result<(), Fail> {
-    for (word, numbers, bytes, text) in [
-        ("own", [0, 1].as_slice(), b"a\xFF".as_slice(), NOT_AT_END),
-        ("own", &[1, 2, 3], b"\xFFab\xFF", NOT_AT_END),
-        ("own", &[0, 3], b"ab", NOT_AT_END),
-        ("other kind", &[0, 1], b"\xC3a", NOT_AT_END),
-        ("other kind", &[0, 2], b"\xC3a", NO_TEXT),
-        ("own", &[0, 1, 4], "éè".as_bytes(), NO_TEXT),
-        ("other kind", &[0, 2], b"ab", TYPE),
-        ("other width", &[0, 2], b"ab", TYPE),
-        ("own", &[1, 3], b"\xFFab", ""),
-    ] {
-        told(is_values::<i32>(rt.alloc(), word, numbers, bytes, text))?;
-        told(is_values::<i64>(rt.alloc(), word, numbers, bytes, text))?;
-    }
-    Ok(())
+    MutableUtf8ValuesArray::try_new_counted(Utf8::data_type(O::IS_LARGE), offsets, values, cost)
 }
 
 /// What the tests of such parts cost, of an array and of either builder.
-fn costs_of<O: Offset>(
-    alloc: Global,
-    numbers: &[usize],
-    bytes: &[u8],
-) -> Result<[[u64; 3]; 3], Error> {
+fn costs_of<O: Offset>(alloc: Global, numbers: &[usize], bytes: &[u8]) -> [[u64; 3]; 3] {
     let (mut array, mut builder, mut values) = (TextCost::new(), TextCost::new(), TextCost::new());
-    let _told = text_of(counted::<O>(alloc, "own", numbers, bytes, "none", &mut array))?;
-    let _told = text_of(counted_builder::<O>(alloc, "own", numbers, bytes, "none", &mut builder))?;
-    let _told = text_of(counted_values::<O>(alloc, "own", numbers, bytes, &mut values))?;
-    Ok([counts(&array), counts(&builder), counts(&values)])
+    let _told = tells(counted::<O>(alloc, numbers, bytes, &mut array));
+    let _told = tells(counted_builder::<O>(alloc, numbers, bytes, &mut builder));
+    let _told = tells(counted_values::<O>(alloc, numbers, bytes, &mut values));
+    [counts(&array), counts(&builder), counts(&values)]
 }
 
 #[test]
-fn tests_of_texts_are_counted(rt: HostRuntime) -> Result<(), Fail> {
+fn tests_of_texts_are_counted(rt: HostRuntime) {
     for (numbers, bytes, array, builders) in [
         ([0, 2, 4].as_slice(), "éè".as_bytes(), [1, 1, 1], [1, 1, 1]),
         (&[0, 1, 2, 3], b"abc", [1, 0, 0], [1, 0, 0]),
@@ -444,10 +290,9 @@ fn tests_of_texts_are_counted(rt: HostRuntime) -> Result<(), Fail> {
         (&[5], b"", [0, 0, 0], [0, 0, 0]),
     ] {
         let wanted = [array, builders, builders];
-        assert!(rt; costs_of::<i32>(rt.alloc(), numbers, bytes)? == wanted);
-        assert!(rt; costs_of::<i64>(rt.alloc(), numbers, bytes)? == wanted);
+        assert!(rt; costs_of::<i32>(rt.alloc(), numbers, bytes) == wanted);
+        assert!(rt; costs_of::<i64>(rt.alloc(), numbers, bytes) == wanted);
     }
-    Ok(())
 }
 
 /// Whether the types of text that are written out are taken.

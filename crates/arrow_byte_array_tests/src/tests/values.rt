@@ -182,30 +182,6 @@ fn builders_grow_by_one_another(rt: HostRuntime) -> Result<(), Fail> {
     told(joins_rest::<Utf8, i64>(rt.alloc()))
 }
 
-/// The builder of another's parts.
-fn again<K: ByteKind, O: Offset>(
-    builder: MutableByteValuesArray<K, O>,
-) -> Result<MutableByteValuesArray<K, O>, Error> {
-    let (data_type, offsets, values) = builder.into_inner();
-    MutableByteValuesArray::try_new(data_type, offsets, values)
-}
-
-/// Whether the parts of a builder make it again.
-fn builders_again<K: Known, O: Offset>(alloc: Global) -> Result<bool, Error> {
-    match behind::<K, O>(alloc) {
-        Ok(builder) => held(again(builder), [1, 2].as_slice(), b"\xFFz"),
-        Err(refused) => Err(refused),
-    }
-}
-
-#[test]
-fn parts_of_builders_make_them_again(rt: HostRuntime) -> Result<(), Fail> {
-    told(builders_again::<Binary, i32>(rt.alloc()))?;
-    told(builders_again::<Binary, i64>(rt.alloc()))?;
-    told(builders_again::<Utf8, i32>(rt.alloc()))?;
-    told(builders_again::<Utf8, i64>(rt.alloc()))
-}
-
 /// Whether items are frozen without a mask.
 fn freezes<K: Known, O: Offset>(alloc: Global) -> Result<bool, Error> {
     match MutableByteValuesArray::<K, O>::from_iter(alloc, K::items(List::Three).iter().copied()) {

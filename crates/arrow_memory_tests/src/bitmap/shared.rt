@@ -7,56 +7,6 @@ use either::Right;
 use std::alloc::Global;
 use std::test::Fail;
 
-/// What is answered where marks don't fit in their bytes.
-const RULE: Error = Error::OutOfSpec("the bits must fit in the bytes");
-
-/// Whether so many marks fit in bytes that don't change.
-fn fits_frozen(alloc: Global, bytes: &[u8], length: usize) -> Result<bool, Error> {
-    match Bitmap::try_new(bytes.to_vec(alloc)?, length) {
-        Ok(bitmap) => Ok(bitmap.len() == length),
-        Err(error) if error == RULE => Ok(false),
-        Err(error) => Err(error),
-    }
-}
-
-#[test]
-fn marks_fit_in_their_bytes(rt: HostRuntime) -> Result<(), Fail> {
-    for (bytes, length, wanted) in [
-        ([0x05].as_slice(), 8, true),
-        ([0x05].as_slice(), 9, false),
-        ([0x05].as_slice(), usize::MAX, false),
-        ([].as_slice(), 0, true),
-        ([].as_slice(), 1, false),
-    ] {
-        let growing = MutableBitmap::try_new(bytes.to_vec(rt.alloc())?, length).is_ok();
-        let frozen = fits_frozen(rt.alloc(), bytes, length)?;
-        assert!(rt; frozen == wanted && growing == wanted, "{length}");
-    }
-    Ok(())
-}
-
-/// Whether a mark that is pushed behind the first ones of given bytes is the last.
-fn pushes(
-    alloc: Global,
-    bytes: &[u8],
-    length: usize,
-    mark: bool,
-    text: &str,
-) -> Result<bool, Error> {
-    let mut marks = MutableBitmap::try_new(bytes.to_vec(alloc)?, length)?;
-    marks.push(mark)?;
-    Ok(gives(marks.iter(), text))
-}
-
-#[test]
-fn pushes_behind_given_marks(rt: HostRuntime) -> Result<(), Fail> {
-    let rest = pushes(rt.alloc(), [0xff].as_slice(), 3, false, "1110")?;
-    // the bytes are longer than the marks
-    let longer = pushes(rt.alloc(), [0xff, 0x00].as_slice(), 8, true, "111111111")?;
-    assert!(rt; rest && longer);
-    Ok(())
-}
-
 /// Whether a mark that is pushed behind a mask that was cut at its end is the last.
 fn pushes_behind_cut(alloc: Global) -> Result<bool, Error> {
     let mut mask = Bitmap::try_new([0xff, 0x01].to_vec(alloc)?, 9)?;

@@ -5,52 +5,6 @@ use arrow_types::offset::Offset;
 use std::alloc::Global;
 use std::test::Fail;
 
-/// Offsets of 32 bits.
-fn narrow(alloc: Global, list: &[i32]) -> Result<Offsets<i32>, Error> {
-    Offsets::try_from_vec(list.to_vec(alloc)?)
-}
-
-/// The text with which offsets are refused; none where they are taken over.
-fn fault_of(alloc: Global, list: &[i32]) -> Result<&'static str, Error> {
-    match narrow(alloc, list) {
-        Ok(_) => Ok(""),
-        Err(Error::OutOfSpec(text)) => Ok(text),
-        Err(error) => Err(error),
-    }
-}
-
-#[test]
-fn the_first_fault_is_told(rt: HostRuntime) -> Result<(), Fail> {
-    let negative = "the first offset must not be negative";
-    let falls = "offsets must never fall";
-    for (list, text) in [
-        ([].as_slice(), "offsets must have at least one element"),
-        ([-1, -2].as_slice(), negative),
-        ([-1, 0].as_slice(), negative),
-        ([0, 2, 1].as_slice(), falls),
-        ([0, -1, 5].as_slice(), falls),
-        ([2, 3, 3, 5].as_slice(), ""),
-        ([5].as_slice(), ""),
-    ] {
-        assert!(rt; fault_of(rt.alloc(), list)? == text, "{text}");
-    }
-    Ok(())
-}
-
-/// Whether a slot of one byte is refused, as one that ends too far, and nothing changes.
-fn is_full(offsets: &mut Offsets<i32>, list: &[i32]) -> bool {
-    matches!(offsets.try_push_usize(1), Err(Error::Overflow)) && offsets.as_slice() == list
-}
-
-#[test]
-fn ends_up_to_the_greatest_number_are_pushed(rt: HostRuntime) -> Result<(), Fail> {
-    let mut offsets = narrow(rt.alloc(), [0, 2147483647].as_slice())?;
-    assert!(rt; is_full(&mut offsets, [0, 2147483647].as_slice()));
-    offsets.try_push_usize(0)?;
-    assert!(rt; is_full(&mut offsets, [0, 2147483647, 2147483647].as_slice()));
-    Ok(())
-}
-
 /// What there is room for at first, once more is asked for, and once what isn't needed is given back.
 fn rooms(alloc: Global) -> Result<(usize, usize, usize), Error> {
     let mut offsets = Offsets::<i32>::with_capacity(alloc, 40)?;

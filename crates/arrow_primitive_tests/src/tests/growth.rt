@@ -20,38 +20,6 @@ fn no_null_holds_a_mask(rt: HostRuntime) -> Result<(), Fail> {
     told(holds(rt.alloc()))
 }
 
-/// Whether two builders have the slots of both.
-fn are_joined(first: &MutablePrimitiveArray<i64>, second: &MutablePrimitiveArray<i64>) -> bool {
-    let null = matches!(first.iter().next(), Some(None));
-    let is_first = builds(first, [0, 1, 0].as_slice(), "010");
-    null && is_first && builds(second, [1, 0].as_slice(), "10")
-}
-
-/// Whether a builder whose slot is null, and then one whose slot isn't, are extended by the other.
-fn joins(
-    null: &mut MutablePrimitiveArray<i64>,
-    value: &mut MutablePrimitiveArray<i64>,
-) -> Result<bool, Error> {
-    null.try_extend_from_self(value)?;
-    null.pop();
-    value.try_extend_from_self(null)?;
-    null.try_extend_from_self(value)?;
-    Ok(are_joined(null, value))
-}
-
-/// The same of new builders.
-fn joined(alloc: Global) -> Result<bool, Error> {
-    joins(
-        &mut built(alloc, [None].as_slice())?,
-        &mut of(alloc, [1].as_slice())?,
-    )
-}
-
-#[test]
-fn builders_are_joined(rt: HostRuntime) -> Result<(), Fail> {
-    told(joined(rt.alloc()))
-}
-
 /// Appends valid slots in each way.
 fn grow_valid(builder: &mut MutablePrimitiveArray<i64>) -> Result<(), Error> {
     builder.extend_values([1].into_iter())?;

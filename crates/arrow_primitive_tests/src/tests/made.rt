@@ -1,66 +1,4 @@
 use super::*;
-use arrow_memory::bitmap::{Bitmap, MutableBitmap};
-use arrow_memory::buffer::Buffer;
-
-const UNFIT_MASK: &str = "validity mask length must match the number of values";
-
-const WRONG_TYPE: &str =
-    "PrimitiveArray can only be initialized with a DataType whose physical type is Primitive";
-
-/// Whether a text is that of a refusal; an empty one where nothing was refused.
-fn tells<T: Drop>(answer: Result<T, Error>, text: &str) -> Result<bool, Error> {
-    match answer {
-        Ok(_) => Ok(text == ""),
-        Err(Error::OutOfSpec(refusal)) => Ok(refusal == text),
-        Err(refused) => Err(refused),
-    }
-}
-
-/// Whether an array of two values, a type and so many marks is refused with this text.
-fn refuses(alloc: Global, data_type: DataType, marks: usize, text: &str) -> Result<bool, Error> {
-    let mask = Bitmap::new_zeroed(alloc, marks)?;
-    let values = Buffer::from_vec([1, 2].to_vec(alloc)?)?;
-    tells(
-        PrimitiveArray::<i64>::try_new(data_type, values, Some(mask)),
-        text,
-    )
-}
-
-#[test]
-fn arrays_that_do_not_fit(rt: HostRuntime) -> Result<(), Fail> {
-    told(refuses(rt.alloc(), DataType::Utf8, 3, UNFIT_MASK))?;
-    told(refuses(rt.alloc(), DataType::Utf8, 2, WRONG_TYPE))?;
-    told(refuses(rt.alloc(), DataType::Int64, 2, ""))
-}
-
-/// So many set marks.
-fn marked(alloc: Global, marks: usize) -> Result<MutableBitmap, Error> {
-    let mut mask = MutableBitmap::new(alloc);
-    mask.extend_constant(marks, true)?;
-    Ok(mask)
-}
-
-/// Whether a builder of two values, a type and so many marks is refused with this text.
-fn refuses_builder(
-    alloc: Global,
-    data_type: DataType,
-    marks: usize,
-    text: &str,
-) -> Result<bool, Error> {
-    let mask = marked(alloc, marks)?;
-    let values = [1, 2].to_vec(alloc)?;
-    tells(
-        MutablePrimitiveArray::<i64>::try_new(data_type, values, Some(mask)),
-        text,
-    )
-}
-
-#[test]
-fn builders_that_do_not_fit(rt: HostRuntime) -> Result<(), Fail> {
-    told(refuses_builder(rt.alloc(), DataType::Int32, 1, UNFIT_MASK))?;
-    told(refuses_builder(rt.alloc(), DataType::Int32, 2, WRONG_TYPE))?;
-    told(refuses_builder(rt.alloc(), DataType::Date64, 2, ""))
-}
 
 /// Whether builders of slots hold a mask without a null, and of values none.
 fn builders(alloc: Global) -> Result<bool, Error> {
@@ -104,14 +42,12 @@ fn arrays_of_values_hold_no_mask(rt: HostRuntime) -> Result<(), Fail> {
     told(values(rt.alloc()))
 }
 
-/// Whether arrays of nulls hold a mask, also of none, and empty ones don't.
+/// Whether arrays of nulls hold a mask, and empty ones don't.
 fn new_ones(alloc: Global) -> Result<bool, Error> {
     let nulls = PrimitiveArray::new_null(alloc, DataType::Int64, 2);
     let is_null = made_array(nulls, [0, 0].as_slice(), "00")?;
-    let none = PrimitiveArray::new_null(alloc, DataType::Int64, 0);
-    let is_none = made_array(none, &[], "")?;
     let empty = PrimitiveArray::new_empty(alloc, DataType::Int64);
-    Ok(is_null & is_none & made_array(empty, &[], "none")?)
+    Ok(is_null & made_array(empty, &[], "none")?)
 }
 
 #[test]
