@@ -23,6 +23,15 @@ pub(crate) trait Growing<T: NativeType, O: Offset>: Shown<T> {
     fn takes(&self, slot: &Option<Item<T>>) -> bool
         ensures { result ≡ slot_fits (Self.value self.now).shape.sort (stored_slot slot.now) && (is_nullable (Self.value self.now).shape || not (is_none (stored_slot slot.now))) };
 
+    /// Appends a slot that it takes.
+    ///
+    /// # Errors
+    /// `Overflow` where offsets can't tell its end, or else `OutOfMemory`; the builder is then as before.
+    fn push_slot(&mut self, slot: &Option<Item<T>>) -> Result<(), Error>
+        requires { IsTrue (slot_fits (Self.value self.old).shape.sort (stored_slot slot.now) && (is_nullable (Self.value self.old).shape || not (is_none (stored_slot slot.now)))) }
+        ensures ok { OnOk result ((slot_over (types T.zero T.PRIMITIVE O.most O.IS_LARGE) (Self.value self.old) (stored_slot slot.now) ≡ false) × (Self.value self.new ≡ grown (types T.zero T.PRIMITIVE O.most O.IS_LARGE) (Self.value self.old) (stored_slot slot.now ∷ []))) }
+        ensures err { IfErr result (λ e. (e ≡ refused_growth (slot_over (types T.zero T.PRIMITIVE O.most O.IS_LARGE) (Self.value self.old) (stored_slot slot.now))) × (Self.value self.new ≡ Self.value self.old)) };
+
     /// The kind of builder that this is.
     fn kind(&self) -> Kind
         ensures { shape result ≡ (Self.value self.now).shape };
@@ -53,27 +62,6 @@ pub(crate) trait Growing<T: NativeType, O: Offset>: Shown<T> {
         ensures ok { OnOk result (Self.value self.new ≡ grown (types T.zero T.PRIMITIVE O.most O.IS_LARGE) (Self.value self.old) ((if is_nullable (Self.value self.old).shape then None else Some (null_in (types T.zero T.PRIMITIVE O.most O.IS_LARGE) (Self.value self.old))) ∷ [])) }
         ensures err { IfErr result (λ e. (e ≡ Error.OutOfMemory) × (Self.value self.new ≡ Self.value self.old)) };
 
-    /// Appends a slot that it takes.
-    ///
-    /// # Errors
-    /// `Overflow` where offsets can't tell its end, or else `OutOfMemory`; the builder is then as before.
-    fn push_slot(&mut self, slot: &Option<Item<T>>) -> Result<(), Error>
-        requires { IsTrue (slot_fits (Self.value self.old).shape.sort (stored_slot slot.now) && (is_nullable (Self.value self.old).shape || not (is_none (stored_slot slot.now)))) }
-        ensures ok { OnOk result ((slot_over (types T.zero T.PRIMITIVE O.most O.IS_LARGE) (Self.value self.old) (stored_slot slot.now) ≡ false) × (Self.value self.new ≡ grown (types T.zero T.PRIMITIVE O.most O.IS_LARGE) (Self.value self.old) (stored_slot slot.now ∷ []))) }
-        ensures err { IfErr result (λ e. (e ≡ refused_growth (slot_over (types T.zero T.PRIMITIVE O.most O.IS_LARGE) (Self.value self.old) (stored_slot slot.now))) × (Self.value self.new ≡ Self.value self.old)) }
-    {
-        match slot {
-            None => match self.push_none() {
-                Ok(()) => Ok(()),
-                Err(refused) => Err(refused),
-            },
-            Some(item) => match self.push_item(item) {
-                Ok(()) => Ok(()),
-                Err(refused) => Err(refused),
-            },
-        }
-    }
-
     /// Appends another's rows.
     ///
     /// # Errors
@@ -103,6 +91,20 @@ pub(crate) trait Growing<T: NativeType, O: Offset>: Shown<T> {
 impl<T: NativeType, O: Offset> Growing<T, O> for MutablePrimitiveArray<T> {
     fn takes(&self, slot: &Option<Item<T>>) -> bool {
         matches!(slot, None | Some(Item::Value(_)))
+    }
+
+    fn push_slot(&mut self, slot: &Option<Item<T>>) -> Result<(), Error> {
+        match slot {
+            None => match self.push(None) {
+                Ok(()) => Ok(()),
+                Err(refused) => Err(refused),
+            },
+            Some(Item::Value(x)) => match self.push(Some(*x)) {
+                Ok(()) => Ok(()),
+                Err(refused) => Err(refused),
+            },
+            _ => unreachable!(),
+        }
     }
 
     fn kind(&self) -> Kind {
@@ -152,6 +154,20 @@ impl<T: NativeType, O: Offset> Growing<T, O> for MutableBooleanArray {
         matches!(slot, None | Some(Item::Bit(_)))
     }
 
+    fn push_slot(&mut self, slot: &Option<Item<T>>) -> Result<(), Error> {
+        match slot {
+            None => match self.push(None) {
+                Ok(()) => Ok(()),
+                Err(refused) => Err(refused),
+            },
+            Some(Item::Bit(x)) => match self.push(Some(*x)) {
+                Ok(()) => Ok(()),
+                Err(refused) => Err(refused),
+            },
+            _ => unreachable!(),
+        }
+    }
+
     fn kind(&self) -> Kind {
         Kind::MutableBoolean
     }
@@ -197,6 +213,20 @@ impl<T: NativeType, O: Offset> Growing<T, O> for MutableBooleanArray {
 impl<T: NativeType, O: Offset> Growing<T, O> for MutableBinaryArray<O> {
     fn takes(&self, slot: &Option<Item<T>>) -> bool {
         matches!(slot, None | Some(Item::Bytes(_)))
+    }
+
+    fn push_slot(&mut self, slot: &Option<Item<T>>) -> Result<(), Error> {
+        match slot {
+            None => match self.push(None) {
+                Ok(()) => Ok(()),
+                Err(refused) => Err(refused),
+            },
+            Some(Item::Bytes(x)) => match self.push(Some(x.as_slice())) {
+                Ok(()) => Ok(()),
+                Err(refused) => Err(refused),
+            },
+            _ => unreachable!(),
+        }
     }
 
     fn kind(&self) -> Kind {
@@ -250,6 +280,20 @@ impl<T: NativeType, O: Offset> Growing<T, O> for MutableUtf8Array<O> {
         matches!(slot, None | Some(Item::Text(_)))
     }
 
+    fn push_slot(&mut self, slot: &Option<Item<T>>) -> Result<(), Error> {
+        match slot {
+            None => match self.push(None) {
+                Ok(()) => Ok(()),
+                Err(refused) => Err(refused),
+            },
+            Some(Item::Text(x)) => match self.push(Some(x.as_str())) {
+                Ok(()) => Ok(()),
+                Err(refused) => Err(refused),
+            },
+            _ => unreachable!(),
+        }
+    }
+
     fn kind(&self) -> Kind {
         Kind::MutableUtf8
     }
@@ -301,6 +345,16 @@ impl<T: NativeType, O: Offset> Growing<T, O> for MutableBinaryValuesArray<O> {
         matches!(slot, Some(Item::Bytes(_)))
     }
 
+    fn push_slot(&mut self, slot: &Option<Item<T>>) -> Result<(), Error> {
+        match slot {
+            Some(Item::Bytes(x)) => match self.push(x.as_slice()) {
+                Ok(()) => Ok(()),
+                Err(refused) => Err(refused),
+            },
+            _ => unreachable!(),
+        }
+    }
+
     fn kind(&self) -> Kind {
         Kind::BinaryValues
     }
@@ -350,6 +404,16 @@ impl<T: NativeType, O: Offset> Growing<T, O> for MutableBinaryValuesArray<O> {
 impl<T: NativeType, O: Offset> Growing<T, O> for MutableUtf8ValuesArray<O> {
     fn takes(&self, slot: &Option<Item<T>>) -> bool {
         matches!(slot, Some(Item::Text(_)))
+    }
+
+    fn push_slot(&mut self, slot: &Option<Item<T>>) -> Result<(), Error> {
+        match slot {
+            Some(Item::Text(x)) => match self.push(x.as_str()) {
+                Ok(()) => Ok(()),
+                Err(refused) => Err(refused),
+            },
+            _ => unreachable!(),
+        }
     }
 
     fn kind(&self) -> Kind {
