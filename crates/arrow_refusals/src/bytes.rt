@@ -266,49 +266,81 @@ fn grown<K: Known, O: Offset>(alloc: Global, call: Growth) -> Result<bool, Error
 
 #[test]
 fn push(rt: HostRuntime) -> Result<(), Fail> {
-    told(grown::<Binary, i32>(rt.alloc(), Growth::Push))?;
+    told(grown::<Binary, i32>(rt.alloc(), Growth::Push))
+}
+
+#[test]
+fn text_push(rt: HostRuntime) -> Result<(), Fail> {
     told(grown::<Utf8, i64>(rt.alloc(), Growth::Push))
 }
 
 #[test]
 fn push_of_a_null(rt: HostRuntime) -> Result<(), Fail> {
-    told(grown::<Binary, i32>(rt.alloc(), Growth::PushOfANull))?;
+    told(grown::<Binary, i32>(rt.alloc(), Growth::PushOfANull))
+}
+
+#[test]
+fn text_push_of_a_null(rt: HostRuntime) -> Result<(), Fail> {
     told(grown::<Utf8, i64>(rt.alloc(), Growth::PushOfANull))
 }
 
 #[test]
 fn try_push(rt: HostRuntime) -> Result<(), Fail> {
-    told(grown::<Binary, i32>(rt.alloc(), Growth::TryPush))?;
+    told(grown::<Binary, i32>(rt.alloc(), Growth::TryPush))
+}
+
+#[test]
+fn text_try_push(rt: HostRuntime) -> Result<(), Fail> {
     told(grown::<Utf8, i64>(rt.alloc(), Growth::TryPush))
 }
 
 #[test]
 fn push_null(rt: HostRuntime) -> Result<(), Fail> {
-    told(grown::<Binary, i32>(rt.alloc(), Growth::PushNull))?;
+    told(grown::<Binary, i32>(rt.alloc(), Growth::PushNull))
+}
+
+#[test]
+fn text_push_null(rt: HostRuntime) -> Result<(), Fail> {
     told(grown::<Utf8, i64>(rt.alloc(), Growth::PushNull))
 }
 
 #[test]
 fn try_extend_from_self(rt: HostRuntime) -> Result<(), Fail> {
-    told(grown::<Binary, i32>(rt.alloc(), Growth::TryExtendFromSelf))?;
+    told(grown::<Binary, i32>(rt.alloc(), Growth::TryExtendFromSelf))
+}
+
+#[test]
+fn text_try_extend_from_self(rt: HostRuntime) -> Result<(), Fail> {
     told(grown::<Utf8, i64>(rt.alloc(), Growth::TryExtendFromSelf))
 }
 
 #[test]
 fn reserve(rt: HostRuntime) -> Result<(), Fail> {
-    told(grown::<Binary, i32>(rt.alloc(), Growth::Reserve))?;
+    told(grown::<Binary, i32>(rt.alloc(), Growth::Reserve))
+}
+
+#[test]
+fn text_reserve(rt: HostRuntime) -> Result<(), Fail> {
     told(grown::<Utf8, i64>(rt.alloc(), Growth::Reserve))
 }
 
 #[test]
 fn shrink_to_fit(rt: HostRuntime) -> Result<(), Fail> {
-    told(grown::<Binary, i32>(rt.alloc(), Growth::ShrinkToFit))?;
+    told(grown::<Binary, i32>(rt.alloc(), Growth::ShrinkToFit))
+}
+
+#[test]
+fn text_shrink_to_fit(rt: HostRuntime) -> Result<(), Fail> {
     told(grown::<Utf8, i64>(rt.alloc(), Growth::ShrinkToFit))
 }
 
 #[test]
 fn pop_of_a_slot(rt: HostRuntime) -> Result<(), Fail> {
-    told(grown::<Binary, i32>(rt.alloc(), Growth::Pop))?;
+    told(grown::<Binary, i32>(rt.alloc(), Growth::Pop))
+}
+
+#[test]
+fn text_pop_of_a_slot(rt: HostRuntime) -> Result<(), Fail> {
     told(grown::<Utf8, i64>(rt.alloc(), Growth::Pop))
 }
 
@@ -372,43 +404,71 @@ fn grown_by_items<K: Known, O: Offset>(alloc: Global, call: Growth) -> Result<bo
 
 #[test]
 fn push_of_an_item(rt: HostRuntime) -> Result<(), Fail> {
-    told(grown_by_items::<Binary, i32>(rt.alloc(), Growth::Push))?;
+    told(grown_by_items::<Binary, i32>(rt.alloc(), Growth::Push))
+}
+
+#[test]
+fn text_push_of_an_item(rt: HostRuntime) -> Result<(), Fail> {
     told(grown_by_items::<Utf8, i64>(rt.alloc(), Growth::Push))
 }
 
 #[test]
 fn try_push_of_an_item(rt: HostRuntime) -> Result<(), Fail> {
-    told(grown_by_items::<Binary, i32>(rt.alloc(), Growth::TryPush))?;
+    told(grown_by_items::<Binary, i32>(rt.alloc(), Growth::TryPush))
+}
+
+#[test]
+fn text_try_push_of_an_item(rt: HostRuntime) -> Result<(), Fail> {
     told(grown_by_items::<Utf8, i64>(rt.alloc(), Growth::TryPush))
 }
 
 #[test]
 fn push_null_of_items(rt: HostRuntime) -> Result<(), Fail> {
-    told(grown_by_items::<Binary, i32>(rt.alloc(), Growth::PushNull))?;
+    told(grown_by_items::<Binary, i32>(rt.alloc(), Growth::PushNull))
+}
+
+#[test]
+fn text_push_null_of_items(rt: HostRuntime) -> Result<(), Fail> {
     told(grown_by_items::<Utf8, i64>(rt.alloc(), Growth::PushNull))
 }
 
 #[test]
 fn try_extend_from_self_of_items(rt: HostRuntime) -> Result<(), Fail> {
-    told(grown_by_items::<Binary, i32>(rt.alloc(), Growth::TryExtendFromSelf))?;
+    told(grown_by_items::<Binary, i32>(rt.alloc(), Growth::TryExtendFromSelf))
+}
+
+#[test]
+fn text_try_extend_from_self_of_items(rt: HostRuntime) -> Result<(), Fail> {
     told(grown_by_items::<Utf8, i64>(rt.alloc(), Growth::TryExtendFromSelf))
 }
 
 #[test]
 fn reserve_of_items(rt: HostRuntime) -> Result<(), Fail> {
-    told(grown_by_items::<Binary, i32>(rt.alloc(), Growth::Reserve))?;
+    told(grown_by_items::<Binary, i32>(rt.alloc(), Growth::Reserve))
+}
+
+#[test]
+fn text_reserve_of_items(rt: HostRuntime) -> Result<(), Fail> {
     told(grown_by_items::<Utf8, i64>(rt.alloc(), Growth::Reserve))
 }
 
 #[test]
 fn shrink_to_fit_of_items(rt: HostRuntime) -> Result<(), Fail> {
-    told(grown_by_items::<Binary, i32>(rt.alloc(), Growth::ShrinkToFit))?;
+    told(grown_by_items::<Binary, i32>(rt.alloc(), Growth::ShrinkToFit))
+}
+
+#[test]
+fn text_shrink_to_fit_of_items(rt: HostRuntime) -> Result<(), Fail> {
     told(grown_by_items::<Utf8, i64>(rt.alloc(), Growth::ShrinkToFit))
 }
 
 #[test]
 fn pop_of_an_item(rt: HostRuntime) -> Result<(), Fail> {
-    told(grown_by_items::<Binary, i32>(rt.alloc(), Growth::Pop))?;
+    told(grown_by_items::<Binary, i32>(rt.alloc(), Growth::Pop))
+}
+
+#[test]
+fn text_pop_of_an_item(rt: HostRuntime) -> Result<(), Fail> {
     told(grown_by_items::<Utf8, i64>(rt.alloc(), Growth::Pop))
 }
 
@@ -480,19 +540,31 @@ fn extended<K: Known, O: Offset>(alloc: Global, call: Extension) -> Result<bool,
 
 #[test]
 fn extend(rt: HostRuntime) -> Result<(), Fail> {
-    told(extended::<Binary, i32>(rt.alloc(), Extension::Extend))?;
+    told(extended::<Binary, i32>(rt.alloc(), Extension::Extend))
+}
+
+#[test]
+fn text_extend(rt: HostRuntime) -> Result<(), Fail> {
     told(extended::<Utf8, i64>(rt.alloc(), Extension::Extend))
 }
 
 #[test]
 fn try_extend(rt: HostRuntime) -> Result<(), Fail> {
-    told(extended::<Binary, i32>(rt.alloc(), Extension::TryExtend))?;
+    told(extended::<Binary, i32>(rt.alloc(), Extension::TryExtend))
+}
+
+#[test]
+fn text_try_extend(rt: HostRuntime) -> Result<(), Fail> {
     told(extended::<Utf8, i64>(rt.alloc(), Extension::TryExtend))
 }
 
 #[test]
 fn extend_values(rt: HostRuntime) -> Result<(), Fail> {
-    told(extended::<Binary, i32>(rt.alloc(), Extension::ExtendValues))?;
+    told(extended::<Binary, i32>(rt.alloc(), Extension::ExtendValues))
+}
+
+#[test]
+fn text_extend_values(rt: HostRuntime) -> Result<(), Fail> {
     told(extended::<Utf8, i64>(rt.alloc(), Extension::ExtendValues))
 }
 
@@ -541,13 +613,21 @@ fn extended_by_items<K: Known, O: Offset>(alloc: Global, call: Extension) -> Res
 
 #[test]
 fn extend_by_items(rt: HostRuntime) -> Result<(), Fail> {
-    told(extended_by_items::<Binary, i32>(rt.alloc(), Extension::Extend))?;
+    told(extended_by_items::<Binary, i32>(rt.alloc(), Extension::Extend))
+}
+
+#[test]
+fn text_extend_by_items(rt: HostRuntime) -> Result<(), Fail> {
     told(extended_by_items::<Utf8, i64>(rt.alloc(), Extension::Extend))
 }
 
 #[test]
 fn try_extend_by_items(rt: HostRuntime) -> Result<(), Fail> {
-    told(extended_by_items::<Binary, i32>(rt.alloc(), Extension::TryExtend))?;
+    told(extended_by_items::<Binary, i32>(rt.alloc(), Extension::TryExtend))
+}
+
+#[test]
+fn text_try_extend_by_items(rt: HostRuntime) -> Result<(), Fail> {
     told(extended_by_items::<Utf8, i64>(rt.alloc(), Extension::TryExtend))
 }
 
@@ -644,61 +724,101 @@ fn makes<K: Known, O: Offset>(alloc: Global, call: Made) -> Result<bool, Error> 
 
 #[test]
 fn array_from_slice(rt: HostRuntime) -> Result<(), Fail> {
-    told(makes::<Binary, i32>(rt.alloc(), Made::FromSlice))?;
+    told(makes::<Binary, i32>(rt.alloc(), Made::FromSlice))
+}
+
+#[test]
+fn text_array_from_slice(rt: HostRuntime) -> Result<(), Fail> {
     told(makes::<Utf8, i64>(rt.alloc(), Made::FromSlice))
 }
 
 #[test]
 fn array_from(rt: HostRuntime) -> Result<(), Fail> {
-    told(makes::<Binary, i32>(rt.alloc(), Made::From))?;
+    told(makes::<Binary, i32>(rt.alloc(), Made::From))
+}
+
+#[test]
+fn text_array_from(rt: HostRuntime) -> Result<(), Fail> {
     told(makes::<Utf8, i64>(rt.alloc(), Made::From))
 }
 
 #[test]
 fn array_from_iter(rt: HostRuntime) -> Result<(), Fail> {
-    told(makes::<Binary, i32>(rt.alloc(), Made::FromIter))?;
+    told(makes::<Binary, i32>(rt.alloc(), Made::FromIter))
+}
+
+#[test]
+fn text_array_from_iter(rt: HostRuntime) -> Result<(), Fail> {
     told(makes::<Utf8, i64>(rt.alloc(), Made::FromIter))
 }
 
 #[test]
 fn array_from_iter_values(rt: HostRuntime) -> Result<(), Fail> {
-    told(makes::<Binary, i32>(rt.alloc(), Made::FromIterValues))?;
+    told(makes::<Binary, i32>(rt.alloc(), Made::FromIterValues))
+}
+
+#[test]
+fn text_array_from_iter_values(rt: HostRuntime) -> Result<(), Fail> {
     told(makes::<Utf8, i64>(rt.alloc(), Made::FromIterValues))
 }
 
 #[test]
 fn array_new_empty(rt: HostRuntime) -> Result<(), Fail> {
-    told(makes::<Binary, i32>(rt.alloc(), Made::NewEmpty))?;
+    told(makes::<Binary, i32>(rt.alloc(), Made::NewEmpty))
+}
+
+#[test]
+fn text_array_new_empty(rt: HostRuntime) -> Result<(), Fail> {
     told(makes::<Utf8, i64>(rt.alloc(), Made::NewEmpty))
 }
 
 #[test]
 fn array_new_null(rt: HostRuntime) -> Result<(), Fail> {
-    told(makes::<Binary, i32>(rt.alloc(), Made::NewNull))?;
+    told(makes::<Binary, i32>(rt.alloc(), Made::NewNull))
+}
+
+#[test]
+fn text_array_new_null(rt: HostRuntime) -> Result<(), Fail> {
     told(makes::<Utf8, i64>(rt.alloc(), Made::NewNull))
 }
 
 #[test]
 fn array_default(rt: HostRuntime) -> Result<(), Fail> {
-    told(makes::<Binary, i32>(rt.alloc(), Made::Default))?;
+    told(makes::<Binary, i32>(rt.alloc(), Made::Default))
+}
+
+#[test]
+fn text_array_default(rt: HostRuntime) -> Result<(), Fail> {
     told(makes::<Utf8, i64>(rt.alloc(), Made::Default))
 }
 
 #[test]
 fn freeze(rt: HostRuntime) -> Result<(), Fail> {
-    told(makes::<Binary, i32>(rt.alloc(), Made::Freeze))?;
+    told(makes::<Binary, i32>(rt.alloc(), Made::Freeze))
+}
+
+#[test]
+fn text_freeze(rt: HostRuntime) -> Result<(), Fail> {
     told(makes::<Utf8, i64>(rt.alloc(), Made::Freeze))
 }
 
 #[test]
 fn freeze_of_items(rt: HostRuntime) -> Result<(), Fail> {
-    told(makes::<Binary, i32>(rt.alloc(), Made::FreezeOfItems))?;
+    told(makes::<Binary, i32>(rt.alloc(), Made::FreezeOfItems))
+}
+
+#[test]
+fn text_freeze_of_items(rt: HostRuntime) -> Result<(), Fail> {
     told(makes::<Utf8, i64>(rt.alloc(), Made::FreezeOfItems))
 }
 
 #[test]
 fn array_clone(rt: HostRuntime) -> Result<(), Fail> {
-    told(makes::<Binary, i32>(rt.alloc(), Made::Clone))?;
+    told(makes::<Binary, i32>(rt.alloc(), Made::Clone))
+}
+
+#[test]
+fn text_array_clone(rt: HostRuntime) -> Result<(), Fail> {
     told(makes::<Utf8, i64>(rt.alloc(), Made::Clone))
 }
 
@@ -769,49 +889,81 @@ fn makes_builder<K: Known, O: Offset>(alloc: Global, call: Built) -> Result<bool
 
 #[test]
 fn new(rt: HostRuntime) -> Result<(), Fail> {
-    told(makes_builder::<Binary, i32>(rt.alloc(), Built::New))?;
+    told(makes_builder::<Binary, i32>(rt.alloc(), Built::New))
+}
+
+#[test]
+fn text_new(rt: HostRuntime) -> Result<(), Fail> {
     told(makes_builder::<Utf8, i64>(rt.alloc(), Built::New))
 }
 
 #[test]
 fn default(rt: HostRuntime) -> Result<(), Fail> {
-    told(makes_builder::<Binary, i32>(rt.alloc(), Built::Default))?;
+    told(makes_builder::<Binary, i32>(rt.alloc(), Built::Default))
+}
+
+#[test]
+fn text_default(rt: HostRuntime) -> Result<(), Fail> {
     told(makes_builder::<Utf8, i64>(rt.alloc(), Built::Default))
 }
 
 #[test]
 fn with_capacity(rt: HostRuntime) -> Result<(), Fail> {
-    told(makes_builder::<Binary, i32>(rt.alloc(), Built::WithCapacity))?;
+    told(makes_builder::<Binary, i32>(rt.alloc(), Built::WithCapacity))
+}
+
+#[test]
+fn text_with_capacity(rt: HostRuntime) -> Result<(), Fail> {
     told(makes_builder::<Utf8, i64>(rt.alloc(), Built::WithCapacity))
 }
 
 #[test]
 fn with_capacities(rt: HostRuntime) -> Result<(), Fail> {
-    told(makes_builder::<Binary, i32>(rt.alloc(), Built::WithCapacities))?;
+    told(makes_builder::<Binary, i32>(rt.alloc(), Built::WithCapacities))
+}
+
+#[test]
+fn text_with_capacities(rt: HostRuntime) -> Result<(), Fail> {
     told(makes_builder::<Utf8, i64>(rt.alloc(), Built::WithCapacities))
 }
 
 #[test]
 fn from(rt: HostRuntime) -> Result<(), Fail> {
-    told(makes_builder::<Binary, i32>(rt.alloc(), Built::From))?;
+    told(makes_builder::<Binary, i32>(rt.alloc(), Built::From))
+}
+
+#[test]
+fn text_from(rt: HostRuntime) -> Result<(), Fail> {
     told(makes_builder::<Utf8, i64>(rt.alloc(), Built::From))
 }
 
 #[test]
 fn from_iter(rt: HostRuntime) -> Result<(), Fail> {
-    told(makes_builder::<Binary, i32>(rt.alloc(), Built::FromIter))?;
+    told(makes_builder::<Binary, i32>(rt.alloc(), Built::FromIter))
+}
+
+#[test]
+fn text_from_iter(rt: HostRuntime) -> Result<(), Fail> {
     told(makes_builder::<Utf8, i64>(rt.alloc(), Built::FromIter))
 }
 
 #[test]
 fn from_iter_values(rt: HostRuntime) -> Result<(), Fail> {
-    told(makes_builder::<Binary, i32>(rt.alloc(), Built::FromIterValues))?;
+    told(makes_builder::<Binary, i32>(rt.alloc(), Built::FromIterValues))
+}
+
+#[test]
+fn text_from_iter_values(rt: HostRuntime) -> Result<(), Fail> {
     told(makes_builder::<Utf8, i64>(rt.alloc(), Built::FromIterValues))
 }
 
 #[test]
 fn clone(rt: HostRuntime) -> Result<(), Fail> {
-    told(makes_builder::<Binary, i32>(rt.alloc(), Built::Clone))?;
+    told(makes_builder::<Binary, i32>(rt.alloc(), Built::Clone))
+}
+
+#[test]
+fn text_clone(rt: HostRuntime) -> Result<(), Fail> {
     told(makes_builder::<Utf8, i64>(rt.alloc(), Built::Clone))
 }
 
@@ -870,43 +1022,71 @@ fn makes_values<K: Known, O: Offset>(alloc: Global, call: Built) -> Result<bool,
 
 #[test]
 fn new_of_items(rt: HostRuntime) -> Result<(), Fail> {
-    told(makes_values::<Binary, i32>(rt.alloc(), Built::New))?;
+    told(makes_values::<Binary, i32>(rt.alloc(), Built::New))
+}
+
+#[test]
+fn text_new_of_items(rt: HostRuntime) -> Result<(), Fail> {
     told(makes_values::<Utf8, i64>(rt.alloc(), Built::New))
 }
 
 #[test]
 fn default_of_items(rt: HostRuntime) -> Result<(), Fail> {
-    told(makes_values::<Binary, i32>(rt.alloc(), Built::Default))?;
+    told(makes_values::<Binary, i32>(rt.alloc(), Built::Default))
+}
+
+#[test]
+fn text_default_of_items(rt: HostRuntime) -> Result<(), Fail> {
     told(makes_values::<Utf8, i64>(rt.alloc(), Built::Default))
 }
 
 #[test]
 fn with_capacity_for_items(rt: HostRuntime) -> Result<(), Fail> {
-    told(makes_values::<Binary, i32>(rt.alloc(), Built::WithCapacity))?;
+    told(makes_values::<Binary, i32>(rt.alloc(), Built::WithCapacity))
+}
+
+#[test]
+fn text_with_capacity_for_items(rt: HostRuntime) -> Result<(), Fail> {
     told(makes_values::<Utf8, i64>(rt.alloc(), Built::WithCapacity))
 }
 
 #[test]
 fn with_capacities_for_items(rt: HostRuntime) -> Result<(), Fail> {
-    told(makes_values::<Binary, i32>(rt.alloc(), Built::WithCapacities))?;
+    told(makes_values::<Binary, i32>(rt.alloc(), Built::WithCapacities))
+}
+
+#[test]
+fn text_with_capacities_for_items(rt: HostRuntime) -> Result<(), Fail> {
     told(makes_values::<Utf8, i64>(rt.alloc(), Built::WithCapacities))
 }
 
 #[test]
 fn from_iter_of_items(rt: HostRuntime) -> Result<(), Fail> {
-    told(makes_values::<Binary, i32>(rt.alloc(), Built::FromIter))?;
+    told(makes_values::<Binary, i32>(rt.alloc(), Built::FromIter))
+}
+
+#[test]
+fn text_from_iter_of_items(rt: HostRuntime) -> Result<(), Fail> {
     told(makes_values::<Utf8, i64>(rt.alloc(), Built::FromIter))
 }
 
 #[test]
 fn try_from_iter_of_items(rt: HostRuntime) -> Result<(), Fail> {
-    told(makes_values::<Binary, i32>(rt.alloc(), Built::FromIterValues))?;
+    told(makes_values::<Binary, i32>(rt.alloc(), Built::FromIterValues))
+}
+
+#[test]
+fn text_try_from_iter_of_items(rt: HostRuntime) -> Result<(), Fail> {
     told(makes_values::<Utf8, i64>(rt.alloc(), Built::FromIterValues))
 }
 
 #[test]
 fn clone_of_items(rt: HostRuntime) -> Result<(), Fail> {
-    told(makes_values::<Binary, i32>(rt.alloc(), Built::Clone))?;
+    told(makes_values::<Binary, i32>(rt.alloc(), Built::Clone))
+}
+
+#[test]
+fn text_clone_of_items(rt: HostRuntime) -> Result<(), Fail> {
     told(makes_values::<Utf8, i64>(rt.alloc(), Built::Clone))
 }
 
@@ -939,7 +1119,11 @@ fn fits_room<K: Known, O: Offset>(alloc: Global, call: Built) -> Result<bool, Er
 /// Whichever allocation is refused, it is none of those pushes that is.
 #[test]
 fn room_that_was_given(rt: HostRuntime) -> Result<(), Fail> {
-    told(fits_room::<Binary, i32>(rt.alloc(), Built::New))?;
+    told(fits_room::<Binary, i32>(rt.alloc(), Built::New))
+}
+
+#[test]
+fn text_room_that_was_given(rt: HostRuntime) -> Result<(), Fail> {
     told(fits_room::<Utf8, i64>(rt.alloc(), Built::WithCapacities))
 }
 
