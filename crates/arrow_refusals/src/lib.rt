@@ -18,6 +18,4 @@ mod primitive;
 #[cfg(test)]
 mod session;
 #[cfg(test)]
-mod table;
-#[cfg(test)]
 mod types;
