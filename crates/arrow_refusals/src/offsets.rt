@@ -1,6 +1,6 @@
 //! Offsets.
 use arrow_memory::offset::{Offsets, OffsetsBuffer};
-use arrow_testing::{after, told};
+use arrow_testing::{after, are_offsets, told};
 use arrow_types::error::Error;
 use std::alloc::Global;
 use std::test::Fail;
@@ -46,7 +46,7 @@ fn grow(offsets: &mut Offsets<i32>, other: &Offsets<i32>, call: Growth) -> Resul
 }
 
 /// The offsets after it.
-fn wanted<'a>(call: Growth) -> &'a [i32] {
+fn wanted<'a>(call: Growth) -> &'a [usize] {
     match call {
         Growth::TryPushUsize => &[0, 2, 3],
         Growth::TryExtendFromSelf => &[0, 2, 3, 6],
@@ -57,13 +57,13 @@ fn wanted<'a>(call: Growth) -> &'a [i32] {
 /// Whether offsets have grown, or, where that is refused, are as before, and grow by the same call.
 fn grows(offsets: &mut Offsets<i32>, other: &Offsets<i32>, call: Growth) -> Result<bool, Error> {
     match grow(offsets, other, call) {
-        Ok(()) => Ok(offsets.as_slice() == wanted(call)),
+        Ok(()) => Ok(are_offsets(offsets.as_slice(), wanted(call))),
         Err(refused) => {
             let is_left = offsets.as_slice() == [0, 2].as_slice();
             let is_grown = grow(offsets, other, call).is_ok();
             after(
                 refused,
-                is_left & is_grown && offsets.as_slice() == wanted(call),
+                is_left & is_grown && are_offsets(offsets.as_slice(), wanted(call)),
             )
         }
     }
