@@ -102,18 +102,29 @@ const SLOTS: [Option<i64>; 3] = [Some(1), None, Some(3)];
 /// What is told where a new builder takes an iterator, and whether all of it came.
 type Taken = (&'static str, bool);
 
-/// Whether a new builder takes numbers.
-fn extends_values(alloc: Global, lie: Lie) -> Taken {
-    let (numbers, mut builder) = (NUMBERS, MutablePrimitiveArray::new(alloc));
-    let told = tells(builder.extend_values(lying(numbers.as_slice(), lie)));
-    (told, builder.values().as_slice() == numbers.as_slice())
+/// The calls by which a builder takes one, the last of which takes values and not slots.
+#[derive(Clone, Copy)]
+enum Extension {
+    Extend,
+    TryExtend,
+    ExtendValues,
 }
 
-/// Whether it takes slots.
-fn extends(alloc: Global, lie: Lie) -> Taken {
-    let (slots, mut builder) = (SLOTS, MutablePrimitiveArray::new(alloc));
-    let told = tells(builder.extend(lying(slots.as_slice(), lie)));
-    (told, builder.values().as_slice() == NUMBERS.as_slice())
+const EXTENSIONS: &[Extension] = &[
+    Extension::Extend,
+    Extension::TryExtend,
+    Extension::ExtendValues,
+];
+
+/// Whether a new builder takes numbers by a call.
+fn extends(alloc: Global, lie: Lie, call: Extension) -> Taken {
+    let (slots, numbers, mut builder) = (SLOTS, NUMBERS, MutablePrimitiveArray::new(alloc));
+    let told = tells(match call {
+        Extension::Extend => builder.extend(lying(slots.as_slice(), lie)),
+        Extension::TryExtend => builder.try_extend(lying(slots.as_slice(), lie)),
+        Extension::ExtendValues => builder.extend_values(lying(numbers.as_slice(), lie)),
+    });
+    (told, builder.values().as_slice() == numbers.as_slice())
 }
 
 /// Whether a builder is made of them.
@@ -145,14 +156,23 @@ fn makes_of_values(alloc: Global, lie: Lie) -> Taken {
     is_array(PrimitiveArray::from_values(alloc, lying(numbers.as_slice(), lie)))
 }
 
-/// Whether all of these take the three numbers of each iterator.
+/// Whether a builder takes the three numbers of an iterator by each call.
+fn extend_numbers(alloc: Global, lie: Lie, calls: &[Extension]) -> bool {
+    for call in calls {
+        if !is_taken(extends(alloc, lie, *call), lie) {
+            return false;
+        }
+    }
+    true
+}
+
+/// Whether that and all of these take the three numbers of each iterator.
 fn take_numbers(alloc: Global, lies: &[Lie]) -> bool {
     for lie in lies {
-        let grown = is_taken(extends(alloc, *lie), *lie)
-            & is_taken(extends_values(alloc, *lie), *lie);
         let made = is_taken(makes(alloc, *lie), *lie)
             & is_taken(makes_of_values(alloc, *lie), *lie);
-        if !(grown & made & is_taken(builds(alloc, *lie), *lie)) {
+        let built = made & is_taken(builds(alloc, *lie), *lie);
+        if !(built & extend_numbers(alloc, *lie, EXTENSIONS)) {
             return false;
         }
     }
@@ -168,18 +188,25 @@ const MARKS: [bool; 3] = [true, false, true];
 
 const MARK_SLOTS: [Option<bool>; 3] = [Some(true), None, Some(true)];
 
-/// Whether a new builder takes truth values.
-fn extends_marks(alloc: Global, lie: Lie) -> Taken {
-    let (marks, mut builder) = (MARKS, MutableBooleanArray::new(alloc));
-    let told = tells(builder.extend_values(lying(marks.as_slice(), lie)));
+/// Whether a new builder takes truth values by a call.
+fn extends_marks(alloc: Global, lie: Lie, call: Extension) -> Taken {
+    let (slots, marks, mut builder) = (MARK_SLOTS, MARKS, MutableBooleanArray::new(alloc));
+    let told = tells(match call {
+        Extension::Extend => builder.extend(lying(slots.as_slice(), lie)),
+        Extension::TryExtend => builder.try_extend(lying(slots.as_slice(), lie)),
+        Extension::ExtendValues => builder.extend_values(lying(marks.as_slice(), lie)),
+    });
     (told, is_mask(Some(builder.values_iter()), "101"))
 }
 
-/// Whether it takes slots.
-fn extends_mark_slots(alloc: Global, lie: Lie) -> Taken {
-    let (slots, mut builder) = (MARK_SLOTS, MutableBooleanArray::new(alloc));
-    let told = tells(builder.extend(lying(slots.as_slice(), lie)));
-    (told, is_mask(Some(builder.values_iter()), "101"))
+/// Whether it takes the three truth values of an iterator by each call.
+fn extend_marks(alloc: Global, lie: Lie, calls: &[Extension]) -> bool {
+    for call in calls {
+        if !is_taken(extends_marks(alloc, lie, *call), lie) {
+            return false;
+        }
+    }
+    true
 }
 
 /// Whether a builder is made of them.
@@ -203,11 +230,9 @@ fn makes_marks(alloc: Global, lie: Lie) -> Taken {
 /// Whether all of these take the three truth values of each iterator.
 fn take_marks(alloc: Global, lies: &[Lie]) -> bool {
     for lie in lies {
-        let grown = is_taken(extends_marks(alloc, *lie), *lie)
-            & is_taken(extends_mark_slots(alloc, *lie), *lie);
         let made = is_taken(builds_marks(alloc, *lie), *lie)
             & is_taken(makes_marks(alloc, *lie), *lie);
-        if !(grown & made) {
+        if !(made & extend_marks(alloc, *lie, EXTENSIONS)) {
             return false;
         }
     }
@@ -238,14 +263,19 @@ fn extends_items<K: ByteKind, X: ByteItem<K> + ItemError<Error = Error>>(
     }
 }
 
-/// Whether it takes slots.
+/// Whether it takes slots, by `extend` or by `try_extend`.
 fn extends_slots<K: ByteKind, X: ByteItem<K> + ItemError<Error = Error>>(
     alloc: Global,
     slots: Liar<'_, Option<X>>,
+    tries: bool,
 ) -> Taken {
     match MutableByteArray::<K, i32>::new(alloc) {
         Ok(mut builder) => {
-            let told = tells(builder.extend(slots));
+            let told = tells(if tries {
+                builder.try_extend(slots)
+            } else {
+                builder.extend(slots)
+            });
             (told, are_all(builder.offsets().as_slice()))
         }
         Err(_) => ("no memory", false),
@@ -276,14 +306,19 @@ fn is_values<K: ByteKind>(answer: Result<MutableByteValuesArray<K, i32>, Error>)
     }
 }
 
-/// Whether a new builder without nulls takes items.
+/// Whether a new builder without nulls takes items, by `extend` or by `try_extend`.
 fn extends_new_values<K: ByteKind, X: ByteItem<K> + ItemError<Error = Error>>(
     alloc: Global,
     items: Liar<'_, X>,
+    tries: bool,
 ) -> Taken {
     match MutableByteValuesArray::<K, i32>::new(alloc) {
         Ok(mut builder) => {
-            let told = tells(builder.extend(items));
+            let told = tells(if tries {
+                builder.try_extend(items)
+            } else {
+                builder.extend(items)
+            });
             (told, are_all(builder.offsets().as_slice()))
         }
         Err(_) => ("no memory", false),
@@ -300,7 +335,9 @@ fn take_slots<K: ByteKind, X: ByteItem<K> + ItemError<Error = Error>>(
     let is_builder = is_taken(is_builder(builder), lie);
     let array = ByteArray::<K, i32>::from_iter(alloc, lying(slots, lie));
     let is_array = is_taken(is_bytes(array), lie);
-    is_builder & is_array & is_taken(extends_slots::<K, X>(alloc, lying(slots, lie)), lie)
+    let extended = extends_slots::<K, X>(alloc, lying(slots, lie), false);
+    let tried = extends_slots::<K, X>(alloc, lying(slots, lie), true);
+    is_builder & is_array & is_taken(extended, lie) & is_taken(tried, lie)
 }
 
 /// Whether values are.
@@ -326,7 +363,9 @@ fn take_values<K: ByteKind, X: ByteItem<K> + ItemError<Error = Error>>(
     let is_first = is_taken(is_values(first), lie);
     let second = MutableByteValuesArray::<K, i32>::try_from_iter(alloc, lying(items, lie));
     let is_second = is_taken(is_values(second), lie);
-    is_first & is_second & is_taken(extends_new_values::<K, X>(alloc, lying(items, lie)), lie)
+    let extended = extends_new_values::<K, X>(alloc, lying(items, lie), false);
+    let tried = extends_new_values::<K, X>(alloc, lying(items, lie), true);
+    is_first & is_second & is_taken(extended, lie) & is_taken(tried, lie)
 }
 
 /// Whether all of these take the three items of each iterator.
