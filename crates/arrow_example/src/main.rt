@@ -1,0 +1,112 @@
+//! Arrays of text, from the first push to a filter: each function may be copied by itself. What is printed stands in
+//! `stdout`, beside `src`.
+#![tactic(auto)]
+
+use arrow_boolean::BooleanArray;
+use arrow_kernels::{filter_utf8, take_utf8};
+use arrow_memory::buffer::Buffer;
+use arrow_memory::offset::Offsets;
+use arrow_types::data_type::DataType;
+use arrow_types::error::Error;
+use arrow_utf8::{MutableUtf8Array, Utf8Array};
+use either::{Left, Right};
+use std::alloc::Global;
+use std::io;
+
+/// An array is made by a builder, to which slots are pushed, and which is then frozen. A push can be refused: where memory
+/// is, and where the offsets, of `i32` here, can't count so many bytes.
+fn build(alloc: Global) -> Result<Utf8Array<i32>, Error> {
+    let mut names = MutableUtf8Array::new(alloc)?;
+    names.push(Some("Ada"))?;
+    names.push(None)?;
+    names.push(Some("Édouard"))?;
+    names.freeze()
+}
+
+/// A slot is read at its place, which has to be below the length: where that isn't known the proof fails, and not the
+/// program.
+fn read(rt: &impl Print, title: &str, names: &Utf8Array<i32>) -> io::Result<()> {
+    println!(rt; "{title}:")?;
+    for place in 0..names.len() {
+        match names.get(place) {
+            Some(name) => println!(rt; "  {place} is '{name}'")?,
+            None => println!(rt; "  {place} is null")?,
+        }
+    }
+    Ok(())
+}
+
+/// An iterator gives what the slots store, which is a text for a null slot too, and here an empty one.
+fn read_stored(rt: &impl Print, names: &Utf8Array<i32>) -> io::Result<()> {
+    println!(rt; "stored:")?;
+    for text in names.values_iter() {
+        println!(rt; "  '{text}'")?;
+    }
+    Ok(())
+}
+
+/// An array is thawed, with no copy, where no one else has its memory, and else given back as it was.
+fn append(names: Utf8Array<i32>, name: &str) -> Result<Utf8Array<i32>, Error> {
+    match names.into_mut() {
+        Right(mut builder) => {
+            builder.push(Some(name))?;
+            builder.freeze()
+        }
+        Left(shared) => Ok(shared),
+    }
+}
+
+/// A clone has the same memory as the original, and keeps it when it is sliced. What is done to one is never seen in
+/// the other.
+fn share(rt: &impl Print, names: &Utf8Array<i32>) -> anyhow::Result<()> {
+    let mut copy = names.clone()?;
+    copy.set_validity(None);
+    if 2 <= copy.len() {
+        copy.slice(0, 2);
+    }
+    read(rt, "copy, sliced and without nulls", &copy)?;
+    read(rt, "original", names)?;
+    Ok(())
+}
+
+/// Text from elsewhere comes as parts, which are refused where a slot is not UTF-8 by itself. These bytes are, and the
+/// offsets cut them within their one character.
+fn accept(alloc: Global) -> Result<Utf8Array<i32>, Error> {
+    let bytes = Buffer::from_vec("é".as_bytes().to_vec(alloc)?)?;
+    let mut offsets = Offsets::new(alloc)?;
+    offsets.try_push_usize(1)?;
+    offsets.try_push_usize(1)?;
+    Utf8Array::try_new(DataType::Utf8, offsets.freeze()?, bytes, None)
+}
+
+/// A filter has as many slots as the array, and the slots stay at which it is true. That it has as many is tested here,
+/// since this function takes any.
+fn keep(
+    alloc: Global,
+    names: &Utf8Array<i32>,
+    filter: &BooleanArray,
+) -> Result<Utf8Array<i32>, Error> {
+    if filter.len() != names.len() {
+        return Err(Error::OutOfSpec("a filter must have as many slots as the array"));
+    }
+    filter_utf8(alloc, names, filter)
+}
+
+/// Filters by truth values, of which a null asks for no slot, and takes by keys, in their order.
+fn choose(rt: &impl Print, alloc: Global, names: &Utf8Array<i32>) -> anyhow::Result<()> {
+    let filter = BooleanArray::from(alloc, &[Some(true), Some(true), None, Some(true)])?;
+    read(rt, "kept", &keep(alloc, names, &filter)?)?;
+    read(rt, "taken", &take_utf8(alloc, names, &[3, 0])?)?;
+    Ok(())
+}
+
+fn main(rt: HostRuntime) -> anyhow::Result<()> {
+    let alloc = rt.alloc();
+    let names = append(build(alloc)?, "Bo")?;
+    read_stored(&rt, &names)?;
+    share(&rt, &names)?;
+    if let Err(error) = accept(alloc) {
+        println!(rt; "refused: {error}")?;
+    }
+    choose(&rt, alloc, &names)
+}
