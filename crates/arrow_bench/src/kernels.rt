@@ -76,12 +76,7 @@ pub extern "C" fn rattle_flat_filter_prim(
     told(filter_values(alloc, values, valid, marks, rounds))
 }
 
-fn filter_texts(
-    alloc: Global,
-    array: &Utf8Array<i32>,
-    bits: &[u8],
-    rounds: usize,
-) -> Option<u64> {
+fn filter_texts(alloc: Global, array: &Utf8Array<i32>, bits: &[u8], rounds: usize) -> Option<u64> {
     let filter = filter(alloc, bits)?;
     if filter.len() != array.len() {
         return None;
@@ -137,12 +132,7 @@ pub extern "C" fn rattle_flat_take_prim(
     told(take_values(alloc, values, valid, keys, rounds))
 }
 
-fn take_texts(
-    alloc: Global,
-    array: &Utf8Array<i32>,
-    keys: &[i64],
-    rounds: usize,
-) -> Option<u64> {
+fn take_texts(alloc: Global, array: &Utf8Array<i32>, keys: &[i64], rounds: usize) -> Option<u64> {
     let mut sum = 0u64;
     for round in 0..rounds {
         let taken = take_utf8(alloc, array, keys).ok()?;

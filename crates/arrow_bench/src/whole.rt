@@ -8,7 +8,11 @@ use either::{Left, Right};
 use std::alloc::Global;
 
 /// A builder of values and marks, one byte each, as parts; a null stores its value too.
-pub(crate) fn of_parts(alloc: Global, values: &[i64], valid: &[u8]) -> Option<MutablePrimitiveArray<i64>> {
+pub(crate) fn of_parts(
+    alloc: Global,
+    values: &[i64],
+    valid: &[u8],
+) -> Option<MutablePrimitiveArray<i64>> {
     let mut all = Vec::new(alloc);
     all.extend_from_slice(values).ok()?;
     if valid.is_empty() {

@@ -129,6 +129,13 @@ below-lowest : (n i : ℕ) → n < 2 ^ 64 → i < trailing_zeros w64 n → bit_a
 below-lowest zero i fits low = bit_at-zero i
 below-lowest (suc n) i fits low = (bit_at-trailing_zeros w64 (suc n) (omega arith) fits).2 i low
 
+-- where no bit is set there is no lowest one
+pub no-more : (left : ℕ) → left ≡ 0 → trailing_zeros w64 left ≡ 64
+no-more left e = ap (trailing_zeros w64) e ∙ trailing_of_zero 64
+
+pub lowest-within : (left : ℕ) → left < 2 ^ 64 → 0 < left → trailing_zeros w64 left < 64
+lowest-within left fits some = (bit_at-trailing_zeros w64 left some fits).0
+
 -- a word that is left of another by clearing its lowest set bit
 pub less-left : (n : ℕ) → 0 < n → bit_and n (n - 1) < n
 less-left n some = omega (arith, and_le_r n (n - 1))
@@ -157,9 +164,6 @@ module _ (rows : List Bool) (start left : ℕ) (fits : left < 2 ^ 64) where
     next-fits : bit_and left (left - 1) < 2 ^ 64
     next-fits = omega (arith, fits, less-left left some)
 
-    t-within : trailing_zeros w64 left < 64
-    t-within = (bit_at-trailing_zeros w64 left some fits).0
-
     -- the lowest set bit is a set mark
     pub lowest-set : slice_get rows (start + trailing_zeros w64 left) ≡ Some true
     lowest-set =
@@ -186,7 +190,7 @@ module _ (rows : List Bool) (start left : ℕ) (fits : left < 2 ^ 64) where
     -- the lowest set bit of the next word stands behind it
     pub later : trailing_zeros w64 left < trailing_zeros w64 (bit_and left (left - 1))
     later = elim (cases_eq (bit_and left (left - 1)) 0) [
-      | inl e ↦ subst (λ n. trailing_zeros w64 left < trailing_zeros w64 n) (sym e) t-within
+      | inl e ↦ subst (λ n. trailing_zeros w64 left < n) (sym (no-more (bit_and left (left - 1)) e)) (lowest-within left fits some)
       | inr ne ↦ elim (cases_lt (trailing_zeros w64 left) (trailing_zeros w64 (bit_and left (left - 1)))) [
         | inl low ↦ low
         | inr up ↦
@@ -216,10 +220,6 @@ module _ (rows : List Bool) (start left : ℕ) (fits : left < 2 ^ 64) where
         → new ≡ where_set (take (start + trailing_zeros w64 (bit_and left (left - 1))) rows) (take (start + trailing_zeros w64 (bit_and left (left - 1))) xs)
     word-grown xs old new x read was pushed =
         where-grown rows xs (start + trailing_zeros w64 left) (start + trailing_zeros w64 (bit_and left (left - 1))) x old new lowest-set read (omega (arith, later)) gap-next was pushed
-
--- the last word left
-pub no-more : (left : ℕ) → left ≡ 0 → trailing_zeros w64 left ≡ 64
-no-more left e = ap (trailing_zeros w64) e ∙ trailing_of_zero 64
 
 -- where all bits are set, all 64 rows are asked for
 pub full-word : (rows : List Bool) (start word i : ℕ) → word ≡ 18446744073709551615 → ((k : ℕ) → k < 64 → slice_get rows (start + k) ≡ Some (bit_at word k == 1)) → start ≤ i → i < start + 64 → slice_get rows i ≡ Some true

@@ -1,5 +1,5 @@
 //! What a filter leaves of stored values, of marks and of items: those with a set mark.
-ghost use Rattle.std.specs.Prelude.{◌≡◌, ◌+◌, ◌*◌, ◌≤◌, count_by, length, not, option_map, take, IfOk, IfErr, IfSome, OnOk};
+ghost use Rattle.std.specs.Prelude.{◌≡◌, ◌+◌, ◌*◌, ◌^◌, ◌<◌, ◌≤◌, count_by, length, not, option_map, take, IfOk, IfErr, IfSome, OnOk};
 ghost use Rattle.std.specs.List.{concat};
 ghost use Rattle.std.specs.Option.{option_copied};
 ghost use Rattle.std.specs.Vec.{vec_capacity};
@@ -30,6 +30,7 @@ use std::alloc::Global;
 fn keep_word<T: NativeType>(kept: &mut Vec<T>, values: &[T], asked: &Asked, at: usize)
     requires same { length asked.now ≡ length values.now }
     requires within { 64 * at + 64 ≤ length asked.now }
+    requires fits { length asked.now < 2 ^ 64 }
     requires so_far { kept.old.items ≡ where_set (take (64 * at) asked.now) (take (64 * at) values.now) }
     requires room { length asked.now ≤ vec_capacity kept.old + count_by not asked.now }
     ensures so_far { kept.new.items ≡ where_set (take (64 * at + 64) asked.now) (take (64 * at + 64) values.now) }
@@ -114,6 +115,7 @@ fn keep_word_marks(
 ) -> Result<(), Error>
     requires same { length asked.now ≡ length marks.now }
     requires within { 64 * at + 64 ≤ length asked.now }
+    requires fits { length asked.now < 2 ^ 64 }
     requires so_far { kept.old ≡ where_set (take (64 * at) asked.now) (take (64 * at) marks.now) }
     ensures ok { OnOk result (kept.new ≡ where_set (take (64 * at + 64) asked.now) (take (64 * at + 64) marks.now)) }
     ensures err { IfErr result (λ e. e ≡ Error.OutOfMemory) }
@@ -207,6 +209,7 @@ fn keep_word_items<O: Offset>(
     requires count { length asked.now + 1 ≡ length offsets.now }
     requires held { last_of offsets.now ≤ length bytes.now }
     requires within { 64 * at + 64 ≤ length asked.now }
+    requires fits { length asked.now < 2 ^ 64 }
     requires ends { kept.old ≡ offsets_of 0 (where_set (take (64 * at) asked.now) (take (64 * at) (items_of offsets.now bytes.now))) }
     requires joined { kept_bytes.old.items ≡ concat (where_set (take (64 * at) asked.now) (take (64 * at) (items_of offsets.now bytes.now))) }
     ensures ends { OnOk result (kept.new ≡ offsets_of 0 (where_set (take (64 * at + 64) asked.now) (take (64 * at + 64) (items_of offsets.now bytes.now)))) }

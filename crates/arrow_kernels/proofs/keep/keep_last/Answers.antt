@@ -1,6 +1,5 @@
-use Rattle.std.proofs.Common.{◌≡◌, ◌+◌, ◌-◌, ◌<◌, ap, arith, length, sym, take, ◌∙◌}
+use Rattle.std.proofs.Common.{◌≡◌, ◌<◌, arith, length, sym, ◌∙◌}
 use Rattle.std.proofs.lemmas.Option.{slice_get_read}
-use Rattle.arrow_kernels.specs.Kernels.{where_set}
 use Rattle.arrow_kernels.proofs.ChoiceLemmas.{where-all, where-gap-up, where-grown}
 use Rattle.arrow_kernels.proofs.WordLemmas.{room-left}
 use Rattle.arrow_kernels.proofs.keep.keep_last.Goals as goal

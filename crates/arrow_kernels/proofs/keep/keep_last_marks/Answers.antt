@@ -17,7 +17,7 @@ loop-i-preserved c =
     let marks = c.args.marks.now in
     let i = c.loop-i.i in
     let next = c.next-i-in-loop-i.ensures in
-    let low : c.loop-i.i < length asked = omega (arith, c.loop-i-test.true, c.len-in-loop-i.ensures) in
+    let low : c.loop-i.i < length asked = omega (arith, c.loop-i-test.true, c.len.ensures) in
     record {
       within = next.high;
       marked = next.set;
@@ -27,5 +27,5 @@ loop-i-preserved c =
 pub returns-clause-ok : goal.returns-clause-ok
 returns-clause-ok c =
     let asked = c.args.asked.now in
-    let all : c.loop-i.i ≡ length asked = omega (arith, c.loop-i-test.false, c.len-in-loop-i.ensures, c.loop-i.invariant.within) in
+    let all : c.loop-i.i ≡ length asked = omega (arith, c.loop-i-test.false, c.len.ensures, c.loop-i.invariant.within) in
     c.loop-i.invariant.so_far ∙ where-all asked c.args.marks.now c.loop-i.i all (all ∙ c.requires.same)

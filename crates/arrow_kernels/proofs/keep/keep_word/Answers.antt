@@ -1,9 +1,9 @@
-use Rattle.std.proofs.Common.{◌≡◌, ◌+◌, ◌*◌, ◌<◌, ap, arith, length, take, w64, ◌∙◌}
+use Rattle.std.proofs.Common.{◌+◌, ◌*◌, ap, arith, take, w64, ◌∙◌}
 use Rattle.std.specs.Int.{trailing_zeros}
 use Rattle.std.proofs.lemmas.Option.{slice_get_read}
 use Rattle.arrow_kernels.specs.Kernels.{where_set}
 use Rattle.arrow_kernels.proofs.ChoiceLemmas.{where-grown}
-use Rattle.arrow_kernels.proofs.WordLemmas.{full-word, left-next, less-left, lowest-set, no-more, none-between, room-left, starts-word, word-grown}
+use Rattle.arrow_kernels.proofs.WordLemmas.{full-word, left-next, less-left, lowest-set, lowest-within, no-more, none-between, room-left, starts-word, word-grown}
 use Rattle.arrow_kernels.proofs.keep.keep_word.Goals as goal
 
 -- ---- a word that asks for all its rows
@@ -14,7 +14,7 @@ push_reserved-requires g c =
     let values = c.args.values.now in
     let row = c.loop-row.row in
     let x = c.index-values-row.result in
-    let set = full-word asked (64 * c.args.at) c.word-left.result row c.if-left-MAX.true c.word-left.ensures (omega arith) (omega arith) in
+    let set = full-word asked (64 * c.args.at) c.word-left.result row c.if-left.true c.word-left.ensures (omega arith) (omega arith) in
     let read = slice_get_read values _ row x c.requires.same (omega arith) c.index-values-row.is in
     room-left asked values c.loop-row.kept.items row _ _ x set read c.loop-row.invariant.so_far (omega arith) c.loop-row.invariant.room
 
@@ -24,9 +24,10 @@ loop-row-preserved g c =
     let values = c.args.values.now in
     let row = c.loop-row.row in
     let x = c.index-values-row.result in
-    let set = full-word asked (64 * c.args.at) c.word-left.result row c.if-left-MAX.true c.word-left.ensures (omega arith) (omega arith) in
+    let set = full-word asked (64 * c.args.at) c.word-left.result row c.if-left.true c.word-left.ensures (omega arith) (omega arith) in
     let read = slice_get_read values _ row x c.requires.same (omega arith) c.index-values-row.is in
     record {
+      from = omega arith;
       so_far = where-grown asked values row (row + 1) x _ _ set read (omega arith) (none-between asked row) c.loop-row.invariant.so_far c.push_reserved.ensures.items;
       room = omega (arith, c.loop-row.invariant.room, c.push_reserved.ensures.capacity);
     }
@@ -51,7 +52,7 @@ push_reserved-requires-in-loop-left g c =
     let left = c.loop-left.left in
     let x = c.index-values-i.result in
     let set = lowest-set asked (64 * c.args.at) left (omega arith) (omega arith) c.loop-left.invariant.marked in
-    let read = slice_get_read values _ (64 * c.args.at + trailing_zeros w64 left) x c.requires.same (omega arith) c.index-values-i.is in
+    let read = slice_get_read values _ (64 * c.args.at + trailing_zeros w64 left) x c.requires.same (omega (arith, c.requires.within, lowest-within left (omega arith) (omega arith))) c.index-values-i.is in
     room-left asked values c.loop-left.kept.items (64 * c.args.at + trailing_zeros w64 left) _ _ x set read c.loop-left.invariant.so_far (omega arith) c.loop-left.invariant.room
 
 pub loop-left-preserved : goal.loop-left-preserved
@@ -60,7 +61,7 @@ loop-left-preserved g c =
     let values = c.args.values.now in
     let left = c.loop-left.left in
     let x = c.index-values-i.result in
-    let read = slice_get_read values _ (64 * c.args.at + trailing_zeros w64 left) x c.requires.same (omega arith) c.index-values-i.is in
+    let read = slice_get_read values _ (64 * c.args.at + trailing_zeros w64 left) x c.requires.same (omega (arith, c.requires.within, lowest-within left (omega arith) (omega arith))) c.index-values-i.is in
     record {
       marked = left-next asked (64 * c.args.at) left (omega arith) (omega arith) c.loop-left.invariant.marked;
       so_far = word-grown asked (64 * c.args.at) left (omega arith) (omega arith) c.loop-left.invariant.marked values _ _ x read c.loop-left.invariant.so_far c.push_reserved-in-loop-left.ensures.items;

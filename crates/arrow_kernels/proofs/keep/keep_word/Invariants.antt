@@ -7,6 +7,7 @@ use Rattle.arrow_kernels.proofs.keep.keep_word.Given as goal
 
 abbrev pub invariant-loop-row : goal.invariant-loop-row
 invariant-loop-row g l = record {
+  from : 64 * l.at ≤ l.row;
   so_far : l.kept.items ≡ where_set (take l.row l.asked) (take l.row l.values);
   room : length l.asked ≤ vec_capacity l.kept + count_by not l.asked;
 }

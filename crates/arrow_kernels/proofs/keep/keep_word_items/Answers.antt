@@ -1,4 +1,4 @@
-use Rattle.std.proofs.Common.{◌+◌, ◌*◌, ap, arith, refl, sym, take, w64, ◌∙◌}
+use Rattle.std.proofs.Common.{◌+◌, ◌*◌, ap, arith, refl, take, w64, ◌∙◌}
 use Rattle.std.specs.Int.{trailing_zeros}
 use Rattle.std.specs.List.{concat}
 use Rattle.arrow_check.specs.Pieces.{items_of, offsets_of}
