@@ -5,6 +5,7 @@
 mod bits;
 mod boolean;
 mod bytes;
+mod kernels;
 mod primitive;
 mod read;
 mod text;

@@ -8,7 +8,11 @@ use arrow_utf8::{MutableUtf8Array, Utf8Array};
 use std::alloc::Global;
 
 /// Offsets and bytes that can be shared.
-fn parts(alloc: Global, data: &[u8], offsets: &[i32]) -> Option<(OffsetsBuffer<i32>, Buffer<u8>)> {
+pub(crate) fn parts(
+    alloc: Global,
+    data: &[u8],
+    offsets: &[i32],
+) -> Option<(OffsetsBuffer<i32>, Buffer<u8>)> {
     let (mut all, mut bytes) = (Vec::new(alloc), Vec::new(alloc));
     all.extend_from_slice(offsets).ok()?;
     bytes.extend_from_slice(data).ok()?;

@@ -8,7 +8,11 @@ use either::{Left, Right};
 use std::alloc::Global;
 
 /// A builder of values and marks, one byte each, as parts; a null stores its value too.
-fn of_parts(alloc: Global, values: &[i64], valid: &[u8]) -> Option<MutablePrimitiveArray<i64>> {
+pub(crate) fn of_parts(
+    alloc: Global,
+    values: &[i64],
+    valid: &[u8],
+) -> Option<MutablePrimitiveArray<i64>> {
     let mut all = Vec::new(alloc);
     all.extend_from_slice(values).ok()?;
     if valid.is_empty() {
@@ -169,7 +173,7 @@ pub extern "C" fn rattle_flat_prim_slice_sum(
 }
 
 /// The number of rows and the value that is stored in one of them.
-fn probe_array(array: &PrimitiveArray<i64>, round: usize) -> u64 {
+pub(crate) fn probe_array(array: &PrimitiveArray<i64>, round: usize) -> u64 {
     let rows = array.len() as u64;
     match array
         .values()

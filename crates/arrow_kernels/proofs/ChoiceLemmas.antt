@@ -59,6 +59,13 @@ where-gap marks xs i (suc d) clear =
     ∙ where-clear marks xs (i + d) (clear (i + d) (omega arith) (omega arith))
     ∙ where-gap marks xs i d (λ k low high. clear k low (omega arith))
 
+-- the same up to a later place
+pub where-gap-up : {X : Type 0} (marks : List Bool) (xs : List X) (i j : ℕ) → i ≤ j → ((k : ℕ) → i ≤ k → k < j → slice_get marks k ≡ Some false)
+    → where_set (take j marks) (take j xs) ≡ where_set (take i marks) (take i xs)
+where-gap-up marks xs i j up clear =
+    ap (λ k. where_set (take k marks) (take k xs)) (let e : j ≡ i + (j - i) = omega (arith, up) in e)
+    ∙ where-gap marks xs i (j - i) (λ k low high. clear k low (omega arith))
+
 -- up to the first set mark nothing is left
 pub where-starts : {X : Type 0} (marks : List Bool) (xs : List X) (j : ℕ) → ((k : ℕ) → 0 ≤ k → k < j → slice_get marks k ≡ Some false) → [] ≡ where_set (take j marks) (take j xs)
 where-starts marks xs j clear =
@@ -183,7 +190,7 @@ all-by-count (false ∷ marks) =
     let same : count_by not (false ∷ marks) ≡ 1 + count_by not marks = sum_by-cons (λ m. cond (not m) 1 0) false marks in
     (λ e. absurd (omega arith), λ h. refl)
 
-count-le : (marks : List Bool) → count_by not marks ≤ length marks
+pub count-le : (marks : List Bool) → count_by not marks ≤ length marks
 count-le [] = omega arith
 count-le (true ∷ marks) =
     let same : count_by not (true ∷ marks) ≡ 0 + count_by not marks = sum_by-cons (λ m. cond (not m) 1 0) true marks in

@@ -1,3 +1,4 @@
 pub mod ByteLemmas
 pub mod ChoiceLemmas
 pub mod ItemLemmas
+pub mod WordLemmas

@@ -1,6 +1,7 @@
 //! For which rows a filter asks.
-ghost use Rattle.std.specs.Prelude.{◌≡◌, ℕ, ◌+◌, ◌*◌, ◌<◌, ◌≤◌, true, false, not, count_by, length, slice_get, vec_len, Some, IsTrue, IfOk, IfErr};
-ghost use Rattle.arrow_memory.specs.Marks.{marks};
+ghost use Rattle.std.specs.Prelude.{◌≡◌, ℕ, ◌+◌, ◌*◌, ◌<◌, ◌≤◌, ◌==◌, true, false, not, count_by, length, slice_get, vec_len, Some, IsTrue, IfOk, IfErr};
+ghost use Rattle.std.specs.Int.{bit_at};
+ghost use Rattle.arrow_memory.specs.Marks.{mark_at, marks};
 ghost use Rattle.arrow_kernels.specs.Kernels.{asked};
 
 use arrow_boolean::BooleanArray;
@@ -66,6 +67,24 @@ fn own_bytes(alloc: Global, bitmap: &Bitmap) -> Result<Vec<u8>, Error>
     }
 }
 
+/// The marks of eight bytes from a place on, as the bits of a word.
+#[inline(always)]
+fn word_at(bytes: &[u8], first: usize) -> u64
+    requires { first + 8 ≤ length bytes.now }
+    ensures { (k : ℕ) → k < 64 → (bit_at result k == 1) ≡ mark_at bytes.now (8 * first + k) }
+{
+    u64::from_le_bytes([
+        bytes[first],
+        bytes[first + 1],
+        bytes[first + 2],
+        bytes[first + 3],
+        bytes[first + 4],
+        bytes[first + 5],
+        bytes[first + 6],
+        bytes[first + 7],
+    ])
+}
+
 /// The rows for which a filter asks: a mark for each row, and the same marks as packed bytes.
 #[derive(Drop)]
 pub(crate) struct Asked {
@@ -110,6 +129,15 @@ impl Asked {
         ensures { result ≡ count_by not self.now }
     {
         self.bitmap.unset_bits()
+    }
+
+    /// The marks of the 64 rows from row `64 * at` on, as the bits of a word.
+    #[inline(always)]
+    pub(crate) fn word(&self, at: usize) -> u64
+        requires { 64 * at + 64 ≤ length self.now }
+        ensures { (k : ℕ) → k < 64 → slice_get self.now (64 * at + k) ≡ Some (bit_at result k == 1) }
+    {
+        word_at(&self.bytes, 8 * at)
     }
 
     /// Whether none of the eight rows from a place on is asked for, which is told where they share a byte.

@@ -1,7 +1,8 @@
 //! What a filter leaves of stored values, of marks and of items: those with a set mark.
-ghost use Rattle.std.specs.Prelude.{◌≡◌, ◌+◌, ◌≤◌, length, option_map, IfOk, IfErr, IfSome};
+ghost use Rattle.std.specs.Prelude.{◌≡◌, ◌+◌, ◌*◌, ◌^◌, ◌<◌, ◌≤◌, count_by, length, not, option_map, take, IfOk, IfErr, IfSome, OnOk};
 ghost use Rattle.std.specs.List.{concat};
 ghost use Rattle.std.specs.Option.{option_copied};
+ghost use Rattle.std.specs.Vec.{vec_capacity};
 ghost use Rattle.arrow_column.specs.Masks.{mask_with_nulls};
 ghost use Rattle.arrow_column.specs.Column.{stored_values};
 ghost use Rattle.arrow_memory.specs.Offsets.{last_of};
@@ -23,7 +24,48 @@ use arrow_types::native_type::NativeType;
 use arrow_types::offset::Offset;
 use std::alloc::Global;
 
-/// The values that are asked for, one by one.
+/// Appends the values that are asked for of 64 rows, from row `64 * at` on, behind those of the rows before them. All
+/// values of a word that asks for all are copied at once, and of another the set bits are looked for.
+#[inline(always)]
+fn keep_word<T: NativeType>(kept: &mut Vec<T>, values: &[T], asked: &Asked, at: usize)
+    requires same { length asked.now ≡ length values.now }
+    requires within { 64 * at + 64 ≤ length asked.now }
+    requires fits { length asked.now < 2 ^ 64 }
+    requires so_far { kept.old.items ≡ where_set (take (64 * at) asked.now) (take (64 * at) values.now) }
+    requires room { length asked.now ≤ vec_capacity kept.old + count_by not asked.now }
+    ensures so_far { kept.new.items ≡ where_set (take (64 * at + 64) asked.now) (take (64 * at + 64) values.now) }
+    ensures room { length asked.now ≤ vec_capacity kept.new + count_by not asked.now }
+{
+    let mut left = asked.word(at);
+    if left == u64::MAX {
+        for row in 64 * at..64 * at + 64 {
+            kept.push_reserved(values[row]);
+        }
+        return;
+    }
+    while left != 0 {
+        let i = 64 * at + left.trailing_zeros() as usize;
+        kept.push_reserved(values[i]);
+        left &= left - 1;
+    }
+}
+
+/// Appends the values that are asked for from a row on, behind those of the rows before it.
+fn keep_last<T: NativeType>(kept: &mut Vec<T>, values: &[T], asked: &Asked, start: usize)
+    requires same { length asked.now ≡ length values.now }
+    requires within { start ≤ length asked.now }
+    requires so_far { kept.old.items ≡ where_set (take start asked.now) (take start values.now) }
+    requires room { length asked.now ≤ vec_capacity kept.old + count_by not asked.now }
+    ensures { kept.new.items ≡ where_set asked.now values.now }
+{
+    let mut i = asked.next(start);
+    while i < asked.len() {
+        kept.push_reserved(values[i]);
+        i = asked.next(i + 1);
+    }
+}
+
+/// The values that are asked for, 64 rows at a time. Room is made once.
 fn keep_each_value<T: NativeType>(
     alloc: Global,
     values: &[T],
@@ -34,11 +76,11 @@ fn keep_each_value<T: NativeType>(
     ensures err { IfErr result (λ e. e ≡ Error.OutOfMemory) }
 {
     let mut kept = Vec::with_capacity(alloc, asked.len() - asked.unset_bits())?;
-    let mut i = asked.next(0);
-    while i < asked.len() {
-        kept.push(values[i])?;
-        i = asked.next(i + 1);
+    let words = asked.len() / 64;
+    for at in 0..words {
+        keep_word(&mut kept, values, asked, at);
     }
+    keep_last(&mut kept, values, asked, 64 * words);
     Ok(kept)
 }
 
@@ -63,18 +105,63 @@ pub(crate) fn keep_values<T: NativeType>(
     keep_each_value(alloc, values, asked)
 }
 
-/// The marks that are asked for, one by one.
+/// Appends the marks that are asked for of 64 rows, from row `64 * at` on, behind those of the rows before them.
+#[inline(always)]
+fn keep_word_marks(
+    kept: &mut MutableBitmap,
+    marks: &Bitmap,
+    asked: &Asked,
+    at: usize,
+) -> Result<(), Error>
+    requires same { length asked.now ≡ length marks.now }
+    requires within { 64 * at + 64 ≤ length asked.now }
+    requires fits { length asked.now < 2 ^ 64 }
+    requires so_far { kept.old ≡ where_set (take (64 * at) asked.now) (take (64 * at) marks.now) }
+    ensures ok { OnOk result (kept.new ≡ where_set (take (64 * at + 64) asked.now) (take (64 * at + 64) marks.now)) }
+    ensures err { IfErr result (λ e. e ≡ Error.OutOfMemory) }
+{
+    let mut left = asked.word(at);
+    while left != 0 {
+        let row = 64 * at + left.trailing_zeros() as usize;
+        kept.push(marks.get_bit(row))?;
+        left &= left - 1;
+    }
+    Ok(())
+}
+
+/// Appends the marks that are asked for from a row on, behind those of the rows before it.
+fn keep_last_marks(
+    kept: &mut MutableBitmap,
+    marks: &Bitmap,
+    asked: &Asked,
+    start: usize,
+) -> Result<(), Error>
+    requires same { length asked.now ≡ length marks.now }
+    requires within { start ≤ length asked.now }
+    requires so_far { kept.old ≡ where_set (take start asked.now) (take start marks.now) }
+    ensures ok { OnOk result (kept.new ≡ where_set asked.now marks.now) }
+    ensures err { IfErr result (λ e. e ≡ Error.OutOfMemory) }
+{
+    let mut i = asked.next(start);
+    while i < asked.len() {
+        kept.push(marks.get_bit(i))?;
+        i = asked.next(i + 1);
+    }
+    Ok(())
+}
+
+/// The marks that are asked for, 64 rows at a time. Room is made once.
 fn keep_each_mark(alloc: Global, marks: &Bitmap, asked: &Asked) -> Result<Bitmap, Error>
     requires { length asked.now ≡ length marks.now }
     ensures ok { IfOk result (λ kept. kept ≡ where_set asked.now marks.now) }
     ensures err { IfErr result (λ e. e ≡ Error.OutOfMemory) }
 {
     let mut kept = MutableBitmap::with_capacity(alloc, asked.len() - asked.unset_bits())?;
-    let mut i = asked.next(0);
-    while i < asked.len() {
-        kept.push(marks.get_bit(i))?;
-        i = asked.next(i + 1);
+    let words = asked.len() / 64;
+    for at in 0..words {
+        keep_word_marks(&mut kept, marks, asked, at)?;
     }
+    keep_last_marks(&mut kept, marks, asked, 64 * words)?;
     kept.freeze()
 }
 
@@ -109,7 +196,72 @@ pub(crate) fn keep_mask(
     }
 }
 
-/// The items that are asked for, as offsets and bytes of their own.
+/// Appends the items that are asked for of 64 rows, from row `64 * at` on, behind those of the rows before them.
+#[inline(always)]
+fn keep_word_items<O: Offset>(
+    kept: &mut Offsets<O>,
+    kept_bytes: &mut Vec<u8>,
+    offsets: &OffsetsBuffer<O>,
+    bytes: &[u8],
+    asked: &Asked,
+    at: usize,
+) -> Result<(), Error>
+    requires count { length asked.now + 1 ≡ length offsets.now }
+    requires held { last_of offsets.now ≤ length bytes.now }
+    requires within { 64 * at + 64 ≤ length asked.now }
+    requires fits { length asked.now < 2 ^ 64 }
+    requires ends { kept.old ≡ offsets_of 0 (where_set (take (64 * at) asked.now) (take (64 * at) (items_of offsets.now bytes.now))) }
+    requires joined { kept_bytes.old.items ≡ concat (where_set (take (64 * at) asked.now) (take (64 * at) (items_of offsets.now bytes.now))) }
+    ensures ends { OnOk result (kept.new ≡ offsets_of 0 (where_set (take (64 * at + 64) asked.now) (take (64 * at + 64) (items_of offsets.now bytes.now)))) }
+    ensures joined { OnOk result (kept_bytes.new.items ≡ concat (where_set (take (64 * at + 64) asked.now) (take (64 * at + 64) (items_of offsets.now bytes.now)))) }
+    ensures err { IfErr result (λ e. e ≡ Error.OutOfMemory) }
+{
+    let mut left = asked.word(at);
+    while left != 0 {
+        let row = 64 * at + left.trailing_zeros() as usize;
+        let item = item_at(offsets, bytes, row);
+        // Some items of an array never end past what its offsets can tell, so it is memory that is refused.
+        match kept.try_push_item(kept_bytes, item) {
+            Ok(()) => {}
+            Err(_) => return Err(Error::OutOfMemory),
+        }
+        left &= left - 1;
+    }
+    Ok(())
+}
+
+/// Appends the items that are asked for from a row on, behind those of the rows before it.
+fn keep_last_items<O: Offset>(
+    kept: &mut Offsets<O>,
+    kept_bytes: &mut Vec<u8>,
+    offsets: &OffsetsBuffer<O>,
+    bytes: &[u8],
+    asked: &Asked,
+    start: usize,
+) -> Result<(), Error>
+    requires count { length asked.now + 1 ≡ length offsets.now }
+    requires held { last_of offsets.now ≤ length bytes.now }
+    requires within { start ≤ length asked.now }
+    requires ends { kept.old ≡ offsets_of 0 (where_set (take start asked.now) (take start (items_of offsets.now bytes.now))) }
+    requires joined { kept_bytes.old.items ≡ concat (where_set (take start asked.now) (take start (items_of offsets.now bytes.now))) }
+    ensures ends { OnOk result (kept.new ≡ offsets_of 0 (where_set asked.now (items_of offsets.now bytes.now))) }
+    ensures joined { OnOk result (kept_bytes.new.items ≡ concat (where_set asked.now (items_of offsets.now bytes.now))) }
+    ensures err { IfErr result (λ e. e ≡ Error.OutOfMemory) }
+{
+    let mut i = asked.next(start);
+    while i < asked.len() {
+        let item = item_at(offsets, bytes, i);
+        // Here too it is memory that is refused.
+        match kept.try_push_item(kept_bytes, item) {
+            Ok(()) => {}
+            Err(_) => return Err(Error::OutOfMemory),
+        }
+        i = asked.next(i + 1);
+    }
+    Ok(())
+}
+
+/// The items that are asked for, as offsets and bytes of their own, 64 rows at a time.
 pub(crate) fn keep_items<O: Offset>(
     alloc: Global,
     offsets: &OffsetsBuffer<O>,
@@ -124,16 +276,18 @@ pub(crate) fn keep_items<O: Offset>(
 {
     let mut kept = Offsets::with_capacity(alloc, asked.len() - asked.unset_bits())?;
     let mut kept_bytes = Vec::new(alloc);
-    let mut i = asked.next(0);
-    while i < asked.len() {
-        let item = item_at(offsets, bytes, i);
-        // Some items of an array never end past what its offsets can tell, so it is memory that is refused.
-        match kept.try_push_item(&mut kept_bytes, item) {
-            Ok(()) => {}
-            Err(_) => return Err(Error::OutOfMemory),
-        }
-        i = asked.next(i + 1);
+    let words = asked.len() / 64;
+    for at in 0..words {
+        keep_word_items(&mut kept, &mut kept_bytes, offsets, bytes, asked, at)?;
     }
+    keep_last_items(
+        &mut kept,
+        &mut kept_bytes,
+        offsets,
+        bytes,
+        asked,
+        64 * words,
+    )?;
     Ok((kept, kept_bytes))
 }
 

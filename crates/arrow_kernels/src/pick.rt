@@ -37,7 +37,7 @@ fn place_of<K: IndexKey>(key: &K, len: usize) -> usize
     }
 }
 
-/// The values at the keys' places.
+/// The values at the keys' places. Room is made once.
 pub(crate) fn pick_values<T: NativeType, K: IndexKey>(
     alloc: Global,
     values: &[T],
@@ -49,7 +49,7 @@ pub(crate) fn pick_values<T: NativeType, K: IndexKey>(
 {
     let mut picked = Vec::with_capacity(alloc, keys.len())?;
     for key in keys {
-        picked.push(values[place_of(key, values.len())])?;
+        picked.push_reserved(values[place_of(key, values.len())]);
     }
     Ok(picked)
 }

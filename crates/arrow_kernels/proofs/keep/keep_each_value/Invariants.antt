@@ -1,13 +1,10 @@
-use Rattle.std.proofs.Common.{◌≡◌, ◌<◌, ◌≤◌, ◌-◌, length, slice_get, Some, true, take}
+use Rattle.std.proofs.Common.{◌≡◌, ◌+◌, ◌*◌, ◌≤◌, count_by, length, not, take}
+use Rattle.std.specs.Vec.{vec_capacity}
 use Rattle.arrow_kernels.specs.Kernels.{where_set}
 use Rattle.arrow_kernels.proofs.keep.keep_each_value.Given as goal
 
-abbrev pub invariant-loop-i : goal.invariant-loop-i
-invariant-loop-i g l = record {
-  within : l.i ≤ length l.asked;
-  marked : l.i < length l.asked → slice_get l.asked l.i ≡ Some true;
-  so_far : l.kept.items ≡ where_set (take l.i l.asked) (take l.i l.values);
+abbrev pub invariant-loop-at : goal.invariant-loop-at
+invariant-loop-at g l = record {
+  so_far : l.kept.items ≡ where_set (take (64 * l.at) l.asked) (take (64 * l.at) l.values);
+  room : length l.asked ≤ vec_capacity l.kept + count_by not l.asked;
 }
-
-abbrev pub decreases-loop-i : goal.decreases-loop-i
-decreases-loop-i g l = length l.asked - l.i

@@ -1,0 +1,16 @@
+use Rattle.std.proofs.Common.{◌≡◌, ◌<◌, ◌≤◌, ◌-◌, length, slice_get, Some, true, take}
+use Rattle.std.specs.List.{concat}
+use Rattle.arrow_check.specs.Pieces.{items_of, offsets_of}
+use Rattle.arrow_kernels.specs.Kernels.{where_set}
+use Rattle.arrow_kernels.proofs.keep.keep_last_items.Given as goal
+
+abbrev pub invariant-loop-i : goal.invariant-loop-i
+invariant-loop-i g l = record {
+  within : l.i ≤ length l.asked;
+  marked : l.i < length l.asked → slice_get l.asked l.i ≡ Some true;
+  ends : l.kept ≡ offsets_of 0 (where_set (take l.i l.asked) (take l.i (items_of l.offsets l.bytes)));
+  joined : l.kept_bytes.items ≡ concat (where_set (take l.i l.asked) (take l.i (items_of l.offsets l.bytes)));
+}
+
+abbrev pub decreases-loop-i : goal.decreases-loop-i
+decreases-loop-i g l = length l.asked - l.i
