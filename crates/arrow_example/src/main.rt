@@ -36,11 +36,15 @@ fn read(rt: &impl Print, title: &str, names: &Utf8Array<i32>) -> io::Result<()> 
     Ok(())
 }
 
-/// An iterator gives what the slots store, which is a text for a null slot too, and here an empty one.
-fn read_stored(rt: &impl Print, names: &Utf8Array<i32>) -> io::Result<()> {
-    println!(rt; "stored:")?;
-    for text in names.values_iter() {
-        println!(rt; "  '{text}'")?;
+/// An iterator gives what the slots store, from both ends, and for a null slot too. A `for` over it asks for a measure in a
+/// proof file.
+fn read_ends(rt: &impl Print, names: &Utf8Array<i32>) -> io::Result<()> {
+    let mut stored = names.values_iter();
+    if let Some(first) = stored.next() {
+        println!(rt; "the first slot stores '{first}'")?;
+    }
+    if let Some(last) = stored.next_back() {
+        println!(rt; "the last slot stores '{last}'")?;
     }
     Ok(())
 }
@@ -103,7 +107,7 @@ fn choose(rt: &impl Print, alloc: Global, names: &Utf8Array<i32>) -> anyhow::Res
 fn main(rt: HostRuntime) -> anyhow::Result<()> {
     let alloc = rt.alloc();
     let names = append(build(alloc)?, "Bo")?;
-    read_stored(&rt, &names)?;
+    read_ends(&rt, &names)?;
     share(&rt, &names)?;
     if let Err(error) = accept(alloc) {
         println!(rt; "refused: {error}")?;
