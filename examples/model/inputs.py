@@ -71,21 +71,26 @@ class Words:
 
 
 class Author:
-    """Writes an input, and has the model beside it so as to know what stands in the table."""
+    """Writes an input, and has the model beside it so as to know what stands in the tables. A line is about one of them."""
 
     def __init__(self, rng, most_lines):
-        self.rng, self.words, self.table = rng, Words(rng), model.Table()
+        self.rng, self.words, self.tables = rng, Words(rng), model.Tables()
+        self.table, self.width = self.tables.narrow, []
         self.lines, self.most_lines, self.is_wrong = [], most_lines, 0.05
 
     def chance(self, share):
         return self.words.chance(share)
 
+    def turn_to(self, is_wide):
+        self.table, self.width = (self.tables.wide, ["wide"]) if is_wide else (self.tables.narrow, [])
+
     def write(self, *words):
+        words = [*self.width, *words]
         gap = lambda: " " * self.rng.randint(1, 3) if self.chance(0.02) else " "
         ends = [" " * self.rng.randint(1, 3) if self.chance(0.015) else "" for _ in range(2)]
         line = ends[0] + "".join(word + gap() for word in words)[:-1].rstrip(" ") + ends[1]
         command = model.read_line(line.encode())
-        self.table.reply(command)
+        self.tables.reply(command)
         self.lines.append(line.encode())
 
     def between(self):
@@ -163,7 +168,7 @@ class Author:
     def parts(self):
         kind = self.rng.choice(model.KINDS)
         sort = model.SORTS[kind]
-        name = self.rng.choice(model.TYPES if self.chance(0.12) else model.RIGHT_TYPES[sort])
+        name = self.rng.choice(model.TYPES if self.chance(0.12) else self.table.right_types[sort])
         if sort in "xt":
             vectors, count = self.pieces(kind, sort)
         else:
@@ -210,7 +215,7 @@ class Author:
         elif case == 8:
             offsets[:] = sorted(self.rng.randint(0, length) for _ in offsets)
         else:
-            offsets[-1] = self.rng.choice((length, length + 1, 2**31 - 1))
+            offsets[-1] = self.rng.choice((length, length + 1, 2**31 - 1, *([2**31, 2**63 - 1] if self.width else [])))
 
     # Lines that tell
 
@@ -258,13 +263,45 @@ class Author:
             else:
                 vectors = [*map(self.words.signed, values)] if sort == "v" else ["".join(values)]
             mask = "-" if "0" not in marks and self.chance(0.5) else marks
-            self.write("parts", str(ends[-1]), kind, self.rng.choice(model.RIGHT_TYPES[sort]), mask, *vectors)
+            self.write("parts", str(ends[-1]), kind, self.rng.choice(self.table.right_types[sort]), mask, *vectors)
         self.write("equal", *map(str, ends))
 
     def indexes(self):
         length = self.rng.choice((0, 1, 3, 9, BIG, 2**63))
         key = lambda: self.rng.choice((0, 0, 1, 2, 3, 8, 9, -1, self.words.integer()))
         self.write("indexes", self.number(length), *(self.words.signed(it) for it in self.some(key)))
+
+    def filter(self):
+        at = self.at(*model.FROZEN)
+        filters = [it for it, of in enumerate(self.table.entries) if of and of.kind == "bool" and len(of.stored) == self.length(at)]
+        if not filters and self.chance(0.8):
+            filters = [self.empty()]
+            nulls, ones = self.rng.choice((0, 0, 0.3)), self.rng.choice((0, 0.1, 0.5, 0.9, 1))
+            asks = ["_" if self.chance(nulls) else "b1" if self.chance(ones) else "b0" for _ in range(self.length(at))]
+            self.write("slots", str(filters[0]), "bool", *asks)
+        by = self.rng.choice(filters) if filters and not self.chance(self.is_wrong) else self.at("bool")
+        self.write("filter", self.number(at), self.number(by), self.number(self.empty()))
+
+    def take(self):
+        at = self.at(*model.FROZEN)
+        length, keys = self.length(at), self.some(lambda: 0)
+        if length:
+            keys = [self.rng.randrange(length) for _ in keys]
+        elif not self.chance(0.2):
+            keys = []
+        if keys and self.chance(0.12):
+            keys[self.rng.randrange(len(keys))] = self.rng.choice((length, length + 1, -1, -length, 2**63 - 1, -(2**63)))
+        self.write("take", self.number(at), self.number(self.empty()), *map(self.words.signed, keys))
+
+    # Lines that lead from one table to the other
+
+    def resize(self):
+        is_wide = bool(self.width)
+        at = self.at("bin", "utf8")
+        self.turn_to(not is_wide)
+        to = self.empty()
+        self.width = []
+        self.write("narrow" if is_wide else "widen", self.number(at), self.number(to))
 
     # Lines that change
 
@@ -366,7 +403,7 @@ class Author:
         self.write("to", self.number(self.at("prim", "mprim")), name)
 
     def show(self):
-        """All that can be told of each entry."""
+        """All that can be told of each entry of a table."""
         for at, entry in enumerate(self.table.entries):
             if entry:
                 for word in ("list", "held", "type") + (("bytes", "offsets") if entry.sort in "xt" else ()):
@@ -375,24 +412,29 @@ class Author:
 
     LINES = {
         new: 4, null: 2, slots: 6, items: 6, parts: 12, tell: 4, tell_frozen: 4, value: 2, tell_bytes: 2, turns: 3,
-        equal: 2, twins: 1, indexes: 1, slice: 6, clone: 5, drop: 5, mask: 5, applymask: 3, applyvalues: 3, values: 3, set: 3,
+        equal: 2, twins: 1, indexes: 1, filter: 4, take: 4, resize: 4, slice: 6, clone: 5, drop: 5, mask: 5, applymask: 3, applyvalues: 3, values: 3, set: 3,
         overwrite: 4, push: 5, on_builder: 5, extend: 3, extendvalues: 4, constant: 2, join: 4, reserve: 1, freeze: 5,
         thaw: 7, nullable: 1, to: 2,
     }  # fmt: skip
 
     def input(self):
         lines, shares = list(self.LINES), list(self.LINES.values())
+        wide = self.rng.choice((0, 0, 0.3, 0.9))
         for _ in range(self.rng.randint(1, 3)):
+            self.turn_to(self.chance(wide))
             self.rng.choice((Author.slots, Author.items, Author.parts))(self)
         while len(self.lines) < self.most_lines:
             self.between()
+            self.turn_to(self.chance(wide))
             filled = sum(it is not None for it in self.table.entries)
             if filled > 8 and self.chance(0.3):
                 self.drop()
             else:
                 self.rng.choices(lines, shares)[0](self)
         if self.chance(0.9):
-            self.show()
+            for is_wide in (False, True):
+                self.turn_to(is_wide)
+                self.show()
         return self.lines
 
 
@@ -414,7 +456,7 @@ BAD_WORDS = (
     "1- 1a 0x1 1e3 . .. 0. 12 2 102 __ _1 *  # fill reverse rev f b s s- s-1 s18446744073709551616 sx ff "
     "18446744073709551616 99999999999999999999999 9223372036854775808 -9223372036854775809 v9223372036854775808 "
     "v-9223372036854775809 v-18446744073709551616 2147483648 -2147483649 4294967296 prim PRIM int64 INT64 Int128 Null Float64 "
-    "Decimal mprims vprim vbool text bytes list lists"
+    "Decimal mprims vprim vbool text bytes list lists wide narrow widen Wide"
 ).split()
 BAD_BYTES = [b"\t", b"\r", b"\0", b"\x0b", b"\x0c", b"\x1f", b"\x7f", b"\x80", b"\xa0", b"\xff", "é".encode(), "١".encode(), b"\xc2\xa0"]
 BAD_LINES = (
@@ -424,7 +466,10 @@ BAD_LINES = (
     b"items 0 prim _", b"extendvalues 0 _", b"parts 0 bool Boolean -", b"parts 0 bool Boolean - 1 0", b"parts 0 bool Boolean - -",
     b"parts 0 bin Binary -", b"parts 0 bin Binary - 00 0", b"parts 0 bin Binary - t00 0", b"parts 0 prim Int64", b"parts 0 prim Int64 -0 1",
     b"parts 0 prim Int64 - v1", b"slice 0 0", b"slice 0 0 0 0", b"clone 0", b"self 0", b"reserve 0 1", b"null 0 prim", b"to 0", b"to 0 Int128",
-    b"turns 0 F", b"turns 0 s", b"turns 0 s-1", b"turns 0 f1", b"mask 0", b"mask 0 1 1", b"mask 0 _", b"mask 0 1-", b"equal 0", b"get 0",
+    b"turns 0 F", b"turns 0 s", b"turns 0 s-1", b"turns 0 f1", b"mask 0", b"mask 0 1 1", b"mask 0 _", b"mask 0 1-", b"equal 0", b"get 0", b"filter 0 1", b"filter 0 1 2 3",
+    b"filter 0 1 -", b"filter 0 1 _", b"take 0", b"take 0 1 v1", b"take 0 1 0 _", b"take 0 -1", b"take 0 1 +1", b"takes 0 1",
+    b"wide", b"wide wide len 0", b"wide widen 0 0", b"wide narrow 0 0", b"Wide len 0", b"wide # len 0", b"widen 0", b"widen 0 1 2", b"narrow", b"narrow 0",
+    b"narrow 0 0 0", b"narrow len 0", b"widen v0 0", b"parts 0 bin Binary - x 2147483648", b"wide parts 0 bin LargeBinary - x 9223372036854775808",
     b"new -0 prim", b"new 0 mprim prim", b"# passed over", b"", b"   ",
 )  # fmt: skip
 

@@ -17,6 +17,7 @@ TYPES = (
     "Boolean Int8 Int16 Int32 Int64 UInt8 UInt16 UInt32 UInt64 Date32 Date64 Binary LargeBinary Utf8 LargeUtf8".split()
 )
 RIGHT_TYPES = {"v": ("Int64", "Date64"), "b": ("Boolean",), "x": ("Binary",), "t": ("Utf8",)}
+WIDE_TYPES = {**RIGHT_TYPES, "x": ("LargeBinary",), "t": ("LargeUtf8",)}
 DEFAULTS = {"v": 0, "b": False, "x": b"", "t": b""}
 
 ENTRIES = 16
@@ -34,6 +35,7 @@ KEY_TOO_HIGH = "a dictionary key must be below the length of the dictionary valu
 NO_OFFSET = "offsets must have at least one element"
 NEGATIVE_OFFSET = "the first offset must not be negative"
 FALLING_OFFSET = "offsets must never fall"
+PAST_OFFSETS = "overflow"
 ONLY = "{} can only be initialized with {}"
 OF_PHYSICAL = "a DataType whose physical type is "
 WRONG_TYPES = {
@@ -113,8 +115,8 @@ def integer(word):
     return signed(word, 64)
 
 
-def offset(word):
-    return signed(word, 32)
+def offset_of(width):
+    return lambda word: signed(word, width)
 
 
 def hexadecimal(word):
@@ -199,6 +201,10 @@ FORMS = {
     "reserve": (number, number, number),
     "to": (number, type_name),
     "equal": (number, number),
+    "filter": (number, number, number),
+    "widen": (number, number),
+    "narrow": (number, number),
+    "take": (number, number, [integer]),
     "indexes": (number, [integer]),
 }
 ALONE = "len nulls list type held bytes offsets drop pushnull pop shrink freeze thaw nullable".split()
@@ -217,10 +223,10 @@ def read_words(form, words):
     return read
 
 
-def read_parts(words):
+def read_parts(words, width):
     start = read_words((number, kind, type_name, mask), words[:4])
-    sort = SORTS[start[1]]
-    form = {"v": ([integer],), "b": (bits,), "x": (raw_bytes, [offset]), "t": (raw_bytes, [offset])}[sort]
+    pieces = (raw_bytes, [offset_of(width)])
+    form = {"v": ([integer],), "b": (bits,), "x": pieces, "t": pieces}[SORTS[start[1]]]
     return start + read_words(form, words[4:])
 
 
@@ -231,18 +237,29 @@ def read_named(words):
     return [number(words[0]), item(words[2])]
 
 
-def read_line(line):
-    """Gives a line's first word and what its other words say, or None where the line is passed over."""
-    if line.startswith(b"#") or not line.strip(b" "):
-        return None
-    want(all(0x20 <= byte <= 0x7E for byte in line))
-    first, *words = [word for word in line.decode("ascii").split(" ") if word]
+def read_command(words, width):
+    want(words)
+    first, *words = words
     if first == "parts":
-        return first, read_parts(words)
+        return first, read_parts(words, width)
     if first in ("applymask", "applyvalues"):
         return first, read_named(words)
     want(first in FORMS)
     return first, read_words(FORMS[first], words)
+
+
+def read_line(line):
+    """Gives whether a line is about the wide table, its command's word and what the words behind that say, or None where
+    the line is passed over."""
+    if line.startswith(b"#") or not line.strip(b" "):
+        return None
+    want(all(0x20 <= byte <= 0x7E for byte in line))
+    words = [word for word in line.decode("ascii").split(" ") if word]
+    if words[0] != "wide":
+        return False, *read_command(words, 32)
+    # These two are no commands of one table.
+    want(words[1:2] not in (["widen"], ["narrow"]))
+    return True, *read_command(words[1:], 64)
 
 
 def lines_of(data):
@@ -290,11 +307,11 @@ def view_of(length):
 class Entry:
     """An array or a builder: a row (stored value, mark) for each slot, and what stands around them."""
 
-    def __init__(self, kind, stored, marks=None, type_name=None, lead=b"", tail=b""):
+    def __init__(self, kind, stored, marks, type_name, lead=b"", tail=b""):
         self.kind, self.stored, self.lead, self.tail = kind, list(stored), lead, tail
         self.held = marks is not None
         self.marks = list(marks) if self.held else [True] * len(self.stored)
-        self.type_name = type_name or RIGHT_TYPES[self.sort][0]
+        self.type_name = type_name
         self.views = {}
         if kind in FROZEN:
             self.share()
@@ -432,10 +449,15 @@ def flag(holds):
 
 
 class Table:
-    """The entries, and the commands on them, each named by a line's first word."""
+    """The entries over offsets of one width, and the commands on them, each named by a word."""
 
-    def __init__(self):
+    def __init__(self, is_wide):
         self.entries = [None] * ENTRIES
+        self.right_types = WIDE_TYPES if is_wide else RIGHT_TYPES
+        self.most_offset = 2**63 - 1 if is_wide else 2**31 - 1
+
+    def make(self, kind, stored, marks=None):
+        return Entry(kind, stored, marks, self.right_types[SORTS[kind]][0])
 
     def entry(self, at, *kinds):
         meet(at < ENTRIES and self.entries[at] is not None)
@@ -450,24 +472,15 @@ class Table:
     def empty(self, at):
         meet(at < ENTRIES and self.entries[at] is None)
 
-    def reply(self, command):
-        name, arguments = command
-        try:
-            return getattr(self, "do_" + name)(*arguments) or "ok"
-        except NotMet:
-            return "not met"
-        except Refused as why:
-            return f"refused: {why}"
-
     def do_new(self, at, kind):
         self.empty(at)
-        self.entries[at] = Entry(kind, [])
+        self.entries[at] = self.make(kind, [])
 
     def do_null(self, at, kind, count):
         self.empty(at)
         meet(kind in FROZEN)
         ask_for(count // 8)
-        self.entries[at] = Entry(kind, [DEFAULTS[SORTS[kind]]] * count, [False] * count)
+        self.entries[at] = self.make(kind, [DEFAULTS[SORTS[kind]]] * count, [False] * count)
 
     def do_parts(self, at, kind, type_name, marks, *vectors):
         self.empty(at)
@@ -482,7 +495,7 @@ class Table:
         self.entries[at] = made
 
     def refuse_type(self, kind, type_name):
-        refuse_if(type_name not in RIGHT_TYPES[SORTS[kind]], WRONG_TYPES[kind])
+        refuse_if(type_name not in self.right_types[SORTS[kind]], WRONG_TYPES[kind])
 
     def byte_parts(self, kind, type_name, marks, data, offsets):
         refuse_if(not offsets, NO_OFFSET)
@@ -502,7 +515,7 @@ class Table:
     def do_slots(self, at, kind, slots):
         self.empty(at)
         meet(kind not in VALUES)
-        made = Entry("m" + PLAIN[SORTS[kind]], [])
+        made = self.make("m" + PLAIN[SORTS[kind]], [])
         meet(made.all_fit(slots))
         for it in slots:
             made.append(it)
@@ -514,7 +527,7 @@ class Table:
     def do_items(self, at, kind, items):
         self.empty(at)
         meet(all(sort == SORTS[kind] for sort, _ in items))
-        self.entries[at] = Entry(kind, [value for _, value in items])
+        self.entries[at] = self.make(kind, [value for _, value in items])
 
     def do_len(self, at):
         return str(len(self.entry(at).stored))
@@ -683,10 +696,71 @@ class Table:
         meet(entry.kind == other.kind)
         return flag(entry.slots() == other.slots())
 
+    def choose(self, entry, places, to):
+        """Puts the rows of an array at these places into an empty entry; a mask is held only where one is null."""
+        stored, marks = ([of[at] for at in places] for of in (entry.stored, entry.marks))
+        refuse_if(entry.sort in "xt" and sum(map(len, stored)) > self.most_offset, PAST_OFFSETS)
+        self.entries[to] = Entry(entry.kind, stored, None if all(marks) else marks, entry.type_name)
+
+    def do_filter(self, at, by, to):
+        entry, by = self.entry(at, *FROZEN), self.entry(by, "bool")
+        meet(len(entry.stored) == len(by.stored))
+        self.empty(to)
+        places = [at for at, it in enumerate(by.slots()) if it == ("b", True)]
+        self.choose(entry, places, to)
+        if len(places) == len(entry.stored):
+            self.share_marks(entry, self.entries[to])
+
+    def share_marks(self, entry, made):
+        """A filter that asks for every row shows the bits of truth values, and a mask that has a null, as they are."""
+        if entry.sort == "b":
+            made.show("values", entry.views["values"].again())
+        if made.held:
+            made.show("mask", entry.views["mask"].again())
+
+    def do_take(self, at, to, keys):
+        entry = self.entry(at, *FROZEN)
+        self.empty(to)
+        self.do_indexes(len(entry.stored), keys)
+        self.choose(entry, keys, to)
+
     def do_indexes(self, length, keys):
         for key in keys:
             refuse_if(key < 0, KEY_TOO_LOW)
             refuse_if(key >= length, KEY_TOO_HIGH)
+
+
+class Tables:
+    """A table of each width, and the commands on both."""
+
+    def __init__(self):
+        self.narrow, self.wide = Table(False), Table(True)
+
+    def reply(self, command):
+        is_wide, name, arguments = command
+        table = self if name in ("widen", "narrow") else self.wide if is_wide else self.narrow
+        try:
+            return getattr(table, "do_" + name)(*arguments) or "ok"
+        except NotMet:
+            return "not met"
+        except Refused as why:
+            return f"refused: {why}"
+
+    def resize(self, of, at, table, to):
+        """Puts an array of bytes or texts over other offsets; its bytes and its mask are shared."""
+        entry = of.entry(at, "bin", "utf8")
+        table.empty(to)
+        refuse_if(entry.bytes_and_offsets()[1][-1] > table.most_offset, PAST_OFFSETS)
+        made = entry.copy()
+        made.type_name = table.right_types[made.sort][0]
+        made.show("offsets", view_of(len(made.stored) + 1))
+        table.entries[to] = made
+
+    def do_widen(self, at, to):
+        self.resize(self.narrow, at, self.wide, to)
+
+    def do_narrow(self, at, to):
+        self.resize(self.wide, at, self.narrow, to)
 
 
 def session(data):
@@ -699,8 +773,8 @@ def session(data):
             return 2, b"", f"line {at}: not a command\n".encode()
         if command:
             commands.append(command)
-    table = Table()
-    return 0, "".join(table.reply(it) + "\n" for it in commands).encode(), b""
+    tables = Tables()
+    return 0, "".join(tables.reply(it) + "\n" for it in commands).encode(), b""
 
 
 if __name__ == "__main__":

@@ -1,7 +1,8 @@
 //! Builders of one kind that grow by many slots.
-ghost use Rattle.std.specs.Prelude.{◌≡◌, List, Option, Some, [], false, true, map, OnOk, IfErr, option_map};
-ghost use Rattle.std.specs.Iterator.{Drains, IsFinite, YieldsThen};
-ghost use Rattle.arrow_column.specs.Column.{append_slots, joined, refused_growth, slot_overflows, slots_fit, stored_values};
+ghost use Rattle.std.specs.Prelude.{◌≡◌, Option, [], false, OnOk, IfErr};
+ghost use Rattle.std.specs.Iterator.{IsFinite};
+ghost use Rattle.arrow_column.specs.Appends.{ExtendsByItems, ExtendsBySlots, StopsInItems, StopsInSlots};
+ghost use Rattle.arrow_column.specs.Column.{joined, refused_growth};
 ghost use Rattle.arrow_bytes.specs.Column.{item_overflows, joins_overflow};
 
 use crate::{MutableByteArray, MutableByteValuesArray};
@@ -22,8 +23,8 @@ impl<K: ByteKind, O: Offset> MutableByteArray<K, O> {
     ) -> Result<(), X::Error>
         requires can { I.can_next iter }
         requires ends { IsFinite (I.remaining iter) }
-        ensures ok { OnOk result ((items : List (Option X)) × Drains I.next_gives iter items × (slots_fit (item_overflows X.bytes O.most) X.bytes [] self.old items ≡ true) × (self.new ≡ append_slots [] self.old (map (option_map X.bytes) items))) }
-        ensures err { IfErr result (λ e. (begun : List (Option X)) × (last : Option X) × (rest : I) × YieldsThen I.next_gives iter begun (Some last) rest × (slots_fit (item_overflows X.bytes O.most) X.bytes [] self.old begun ≡ true) × (self.new ≡ append_slots [] self.old (map (option_map X.bytes) begun)) × (X.error e ≡ refused_growth (slot_overflows (item_overflows X.bytes O.most) self.new last))) }
+        ensures ok { OnOk result (ExtendsBySlots (item_overflows X.bytes O.most) X.bytes [] I.next_gives iter self.old self.new) }
+        ensures err { IfErr result (λ e. StopsInSlots (item_overflows X.bytes O.most) X.bytes [] I.next_gives iter self.old self.new (X.error e)) }
     {
         match self.column.extend(iter) {
             Ok(()) => Ok(()),
@@ -41,8 +42,8 @@ impl<K: ByteKind, O: Offset> MutableByteArray<K, O> {
     ) -> Result<(), X::Error>
         requires can { I.can_next iter }
         requires ends { IsFinite (I.remaining iter) }
-        ensures ok { OnOk result ((items : List (Option X)) × Drains I.next_gives iter items × (slots_fit (item_overflows X.bytes O.most) X.bytes [] self.old items ≡ true) × (self.new ≡ append_slots [] self.old (map (option_map X.bytes) items))) }
-        ensures err { IfErr result (λ e. (begun : List (Option X)) × (last : Option X) × (rest : I) × YieldsThen I.next_gives iter begun (Some last) rest × (slots_fit (item_overflows X.bytes O.most) X.bytes [] self.old begun ≡ true) × (self.new ≡ append_slots [] self.old (map (option_map X.bytes) begun)) × (X.error e ≡ refused_growth (slot_overflows (item_overflows X.bytes O.most) self.new last))) }
+        ensures ok { OnOk result (ExtendsBySlots (item_overflows X.bytes O.most) X.bytes [] I.next_gives iter self.old self.new) }
+        ensures err { IfErr result (λ e. StopsInSlots (item_overflows X.bytes O.most) X.bytes [] I.next_gives iter self.old self.new (X.error e)) }
     {
         self.extend(iter)
     }
@@ -59,8 +60,8 @@ impl<K: ByteKind, O: Offset> MutableByteArray<K, O> {
     ) -> Result<(), X::Error>
         requires can { I.can_next iter }
         requires ends { IsFinite (I.remaining iter) }
-        ensures ok { OnOk result ((items : List X) × Drains I.next_gives iter items × (slots_fit (item_overflows X.bytes O.most) X.bytes [] self.old (map Some items) ≡ true) × (self.new ≡ append_slots [] self.old (map (λ item. Some (X.bytes item)) items))) }
-        ensures err { IfErr result (λ e. (begun : List X) × (last : X) × (rest : I) × YieldsThen I.next_gives iter begun (Some last) rest × (slots_fit (item_overflows X.bytes O.most) X.bytes [] self.old (map Some begun) ≡ true) × (self.new ≡ append_slots [] self.old (map (λ item. Some (X.bytes item)) begun)) × (X.error e ≡ refused_growth (item_overflows X.bytes O.most self.new.around (stored_values self.new) last))) }
+        ensures ok { OnOk result (ExtendsByItems (item_overflows X.bytes O.most) X.bytes [] I.next_gives iter self.old self.new) }
+        ensures err { IfErr result (λ e. StopsInItems (item_overflows X.bytes O.most) X.bytes [] I.next_gives iter self.old self.new (X.error e)) }
     {
         match self.column.extend_values(iter) {
             Ok(()) => Ok(()),
@@ -94,8 +95,8 @@ impl<K: ByteKind, O: Offset> MutableByteValuesArray<K, O> {
     ) -> Result<(), X::Error>
         requires can { I.can_next iter }
         requires ends { IsFinite (I.remaining iter) }
-        ensures ok { OnOk result ((items : List X) × Drains I.next_gives iter items × (slots_fit (item_overflows X.bytes O.most) X.bytes [] self.old (map Some items) ≡ true) × (self.new ≡ append_slots [] self.old (map (λ item. Some (X.bytes item)) items))) }
-        ensures err { IfErr result (λ e. (begun : List X) × (last : X) × (rest : I) × YieldsThen I.next_gives iter begun (Some last) rest × (slots_fit (item_overflows X.bytes O.most) X.bytes [] self.old (map Some begun) ≡ true) × (self.new ≡ append_slots [] self.old (map (λ item. Some (X.bytes item)) begun)) × (X.error e ≡ refused_growth (item_overflows X.bytes O.most self.new.around (stored_values self.new) last))) }
+        ensures ok { OnOk result (ExtendsByItems (item_overflows X.bytes O.most) X.bytes [] I.next_gives iter self.old self.new) }
+        ensures err { IfErr result (λ e. StopsInItems (item_overflows X.bytes O.most) X.bytes [] I.next_gives iter self.old self.new (X.error e)) }
     {
         match self.column.extend_unmasked(iter) {
             Ok(()) => Ok(()),
@@ -113,8 +114,8 @@ impl<K: ByteKind, O: Offset> MutableByteValuesArray<K, O> {
     ) -> Result<(), X::Error>
         requires can { I.can_next iter }
         requires ends { IsFinite (I.remaining iter) }
-        ensures ok { OnOk result ((items : List X) × Drains I.next_gives iter items × (slots_fit (item_overflows X.bytes O.most) X.bytes [] self.old (map Some items) ≡ true) × (self.new ≡ append_slots [] self.old (map (λ item. Some (X.bytes item)) items))) }
-        ensures err { IfErr result (λ e. (begun : List X) × (last : X) × (rest : I) × YieldsThen I.next_gives iter begun (Some last) rest × (slots_fit (item_overflows X.bytes O.most) X.bytes [] self.old (map Some begun) ≡ true) × (self.new ≡ append_slots [] self.old (map (λ item. Some (X.bytes item)) begun)) × (X.error e ≡ refused_growth (item_overflows X.bytes O.most self.new.around (stored_values self.new) last))) }
+        ensures ok { OnOk result (ExtendsByItems (item_overflows X.bytes O.most) X.bytes [] I.next_gives iter self.old self.new) }
+        ensures err { IfErr result (λ e. StopsInItems (item_overflows X.bytes O.most) X.bytes [] I.next_gives iter self.old self.new (X.error e)) }
     {
         self.extend(iter)
     }

@@ -1,9 +1,10 @@
 //! Arrays and builders made of items or of slots.
-ghost use Rattle.std.specs.Prelude.{◌≡◌, ◌++◌, ◌∷◌, List, Option, Some, [], false, true, ⊤, map, replicate, IfOk, IfErr, option_map};
-ghost use Rattle.std.specs.Iterator.{Drains, IsFinite, YieldsThen};
+ghost use Rattle.std.specs.Prelude.{◌≡◌, Option, Some, [], false, ⊤, replicate, IfOk, IfErr};
+ghost use Rattle.std.specs.Iterator.{IsFinite};
 ghost use Rattle.arrow_types.specs.Types.{logical_type, IsRightType};
 ghost use Rattle.arrow_memory.specs.Offsets.{MatchGrowth};
-ghost use Rattle.arrow_column.specs.Column.{append_slots, column_with, slot_overflows, slots_fit, without_needless_mask};
+ghost use Rattle.arrow_column.specs.Appends.{AppendsSlots, ExtendsByItems, ExtendsBySlots, FreezesBySlots, FreezesItems, FreezesSlots, GivesTooManyItems, GivesTooManySlots, ItemsOverflow, SlotsOverflow};
+ghost use Rattle.arrow_column.specs.Column.{column_with};
 ghost use Rattle.arrow_bytes.specs.Pieces.{nothing_around};
 ghost use Rattle.arrow_bytes.specs.Column.{empty_bytes, item_overflows};
 
@@ -23,8 +24,8 @@ impl<K: ByteKind, O: Offset> MutableByteArray<K, O> {
     /// `Overflow` where the bytes of a slot would end past the greatest offset, or `OutOfMemory` where memory is
     /// refused.
     pub fn from<X: ByteItem<K>>(alloc: Global, slots: &[Option<X>]) -> Result<Self, Error>
-        ensures ok { IfOk result (λ builder. (slots_fit (item_overflows X.bytes O.most) X.bytes [] (empty_bytes (K.default_type O.IS_LARGE)) slots.now ≡ true) × (builder ≡ append_slots [] (empty_bytes (K.default_type O.IS_LARGE)) (map (option_map X.bytes) slots.now))) }
-        ensures err { IfErr result (λ e. MatchGrowth e ((begun rest : List (Option X)) × (last : Option X) × (slots.now ≡ begun ++ last ∷ rest) × (slots_fit (item_overflows X.bytes O.most) X.bytes [] (empty_bytes (K.default_type O.IS_LARGE)) begun ≡ true) × (slot_overflows (item_overflows X.bytes O.most) (append_slots [] (empty_bytes (K.default_type O.IS_LARGE)) (map (option_map X.bytes) begun)) last ≡ true)) ⊤) }
+        ensures ok { IfOk result (λ builder. AppendsSlots (item_overflows X.bytes O.most) X.bytes [] (empty_bytes (K.default_type O.IS_LARGE)) slots.now builder) }
+        ensures err { IfErr result (λ e. MatchGrowth e (SlotsOverflow (item_overflows X.bytes O.most) X.bytes [] slots.now (empty_bytes (K.default_type O.IS_LARGE))) ⊤) }
     {
         let mut builder = MutableByteArray::<K, O>::new(alloc)?;
         match builder.column.extend_from_slots(slots) {
@@ -45,8 +46,8 @@ impl<K: ByteKind, O: Offset> MutableByteArray<K, O> {
     ) -> Result<Self, X::Error>
         requires can { I.can_next iter }
         requires ends { IsFinite (I.remaining iter) }
-        ensures ok { IfOk result (λ builder. (items : List (Option X)) × Drains I.next_gives iter items × (slots_fit (item_overflows X.bytes O.most) X.bytes [] (empty_bytes (K.default_type O.IS_LARGE)) items ≡ true) × (builder ≡ append_slots [] (empty_bytes (K.default_type O.IS_LARGE)) (map (option_map X.bytes) items))) }
-        ensures err { IfErr result (λ e. MatchGrowth (X.error e) ((begun : List (Option X)) × (last : Option X) × (rest : I) × YieldsThen I.next_gives iter begun (Some last) rest × (slots_fit (item_overflows X.bytes O.most) X.bytes [] (empty_bytes (K.default_type O.IS_LARGE)) begun ≡ true) × (slot_overflows (item_overflows X.bytes O.most) (append_slots [] (empty_bytes (K.default_type O.IS_LARGE)) (map (option_map X.bytes) begun)) last ≡ true)) ⊤) }
+        ensures ok { IfOk result (λ builder. ExtendsBySlots (item_overflows X.bytes O.most) X.bytes [] I.next_gives iter (empty_bytes (K.default_type O.IS_LARGE)) builder) }
+        ensures err { IfErr result (λ e. MatchGrowth (X.error e) (GivesTooManySlots (item_overflows X.bytes O.most) X.bytes [] I.next_gives iter (empty_bytes (K.default_type O.IS_LARGE))) ⊤) }
     {
         let mut builder = match MutableByteArray::<K, O>::new(alloc) {
             Ok(builder) => builder,
@@ -70,8 +71,8 @@ impl<K: ByteKind, O: Offset> MutableByteArray<K, O> {
     ) -> Result<Self, X::Error>
         requires can { I.can_next iter }
         requires ends { IsFinite (I.remaining iter) }
-        ensures ok { IfOk result (λ builder. (items : List X) × Drains I.next_gives iter items × (slots_fit (item_overflows X.bytes O.most) X.bytes [] (empty_bytes (K.default_type O.IS_LARGE)) (map Some items) ≡ true) × (builder ≡ append_slots [] (empty_bytes (K.default_type O.IS_LARGE)) (map (λ item. Some (X.bytes item)) items))) }
-        ensures err { IfErr result (λ e. MatchGrowth (X.error e) ((begun : List X) × (last : X) × (rest : I) × YieldsThen I.next_gives iter begun (Some last) rest × (slots_fit (item_overflows X.bytes O.most) X.bytes [] (empty_bytes (K.default_type O.IS_LARGE)) (map Some begun) ≡ true) × (slot_overflows (item_overflows X.bytes O.most) (append_slots [] (empty_bytes (K.default_type O.IS_LARGE)) (map (λ item. Some (X.bytes item)) begun)) (Some last) ≡ true)) ⊤) }
+        ensures ok { IfOk result (λ builder. ExtendsByItems (item_overflows X.bytes O.most) X.bytes [] I.next_gives iter (empty_bytes (K.default_type O.IS_LARGE)) builder) }
+        ensures err { IfErr result (λ e. MatchGrowth (X.error e) (GivesTooManyItems (item_overflows X.bytes O.most) X.bytes [] I.next_gives iter (empty_bytes (K.default_type O.IS_LARGE))) ⊤) }
     {
         let mut builder = match MutableByteArray::<K, O>::new(alloc) {
             Ok(builder) => builder,
@@ -97,8 +98,8 @@ impl<K: ByteKind, O: Offset> MutableByteValuesArray<K, O> {
     ) -> Result<Self, X::Error>
         requires can { I.can_next iter }
         requires ends { IsFinite (I.remaining iter) }
-        ensures ok { IfOk result (λ builder. (items : List X) × Drains I.next_gives iter items × (slots_fit (item_overflows X.bytes O.most) X.bytes [] (empty_bytes (K.default_type O.IS_LARGE)) (map Some items) ≡ true) × (builder ≡ append_slots [] (empty_bytes (K.default_type O.IS_LARGE)) (map (λ item. Some (X.bytes item)) items))) }
-        ensures err { IfErr result (λ e. MatchGrowth (X.error e) ((begun : List X) × (last : X) × (rest : I) × YieldsThen I.next_gives iter begun (Some last) rest × (slots_fit (item_overflows X.bytes O.most) X.bytes [] (empty_bytes (K.default_type O.IS_LARGE)) (map Some begun) ≡ true) × (slot_overflows (item_overflows X.bytes O.most) (append_slots [] (empty_bytes (K.default_type O.IS_LARGE)) (map (λ item. Some (X.bytes item)) begun)) (Some last) ≡ true)) ⊤) }
+        ensures ok { IfOk result (λ builder. ExtendsByItems (item_overflows X.bytes O.most) X.bytes [] I.next_gives iter (empty_bytes (K.default_type O.IS_LARGE)) builder) }
+        ensures err { IfErr result (λ e. MatchGrowth (X.error e) (GivesTooManyItems (item_overflows X.bytes O.most) X.bytes [] I.next_gives iter (empty_bytes (K.default_type O.IS_LARGE))) ⊤) }
     {
         let mut builder = match MutableByteValuesArray::<K, O>::new(alloc) {
             Ok(builder) => builder,
@@ -121,8 +122,8 @@ impl<K: ByteKind, O: Offset> MutableByteValuesArray<K, O> {
     ) -> Result<Self, X::Error>
         requires can { I.can_next iter }
         requires ends { IsFinite (I.remaining iter) }
-        ensures ok { IfOk result (λ builder. (items : List X) × Drains I.next_gives iter items × (slots_fit (item_overflows X.bytes O.most) X.bytes [] (empty_bytes (K.default_type O.IS_LARGE)) (map Some items) ≡ true) × (builder ≡ append_slots [] (empty_bytes (K.default_type O.IS_LARGE)) (map (λ item. Some (X.bytes item)) items))) }
-        ensures err { IfErr result (λ e. MatchGrowth (X.error e) ((begun : List X) × (last : X) × (rest : I) × YieldsThen I.next_gives iter begun (Some last) rest × (slots_fit (item_overflows X.bytes O.most) X.bytes [] (empty_bytes (K.default_type O.IS_LARGE)) (map Some begun) ≡ true) × (slot_overflows (item_overflows X.bytes O.most) (append_slots [] (empty_bytes (K.default_type O.IS_LARGE)) (map (λ item. Some (X.bytes item)) begun)) (Some last) ≡ true)) ⊤) }
+        ensures ok { IfOk result (λ builder. ExtendsByItems (item_overflows X.bytes O.most) X.bytes [] I.next_gives iter (empty_bytes (K.default_type O.IS_LARGE)) builder) }
+        ensures err { IfErr result (λ e. MatchGrowth (X.error e) (GivesTooManyItems (item_overflows X.bytes O.most) X.bytes [] I.next_gives iter (empty_bytes (K.default_type O.IS_LARGE))) ⊤) }
     {
         MutableByteValuesArray::<K, O>::from_iter(alloc, iter)
     }
@@ -135,8 +136,8 @@ impl<K: ByteKind, O: Offset> ByteArray<K, O> {
     /// `Overflow` where the bytes of a slot would end past the greatest offset, or `OutOfMemory` where memory is
     /// refused.
     pub fn from_slice<X: ByteItem<K>>(alloc: Global, slice: &[X]) -> Result<Self, Error>
-        ensures ok { IfOk result (λ array. (slots_fit (item_overflows X.bytes O.most) X.bytes [] (empty_bytes (K.default_type O.IS_LARGE)) (map Some slice.now) ≡ true) × (array ≡ without_needless_mask (append_slots [] (empty_bytes (K.default_type O.IS_LARGE)) (map (λ item. Some (X.bytes item)) slice.now)))) }
-        ensures err { IfErr result (λ e. MatchGrowth e ((begun rest : List X) × (last : X) × (slice.now ≡ begun ++ last ∷ rest) × (slots_fit (item_overflows X.bytes O.most) X.bytes [] (empty_bytes (K.default_type O.IS_LARGE)) (map Some begun) ≡ true) × (slot_overflows (item_overflows X.bytes O.most) (append_slots [] (empty_bytes (K.default_type O.IS_LARGE)) (map (λ item. Some (X.bytes item)) begun)) (Some last) ≡ true)) ⊤) }
+        ensures ok { IfOk result (λ array. FreezesItems (item_overflows X.bytes O.most) X.bytes [] (empty_bytes (K.default_type O.IS_LARGE)) slice.now array) }
+        ensures err { IfErr result (λ e. MatchGrowth e (ItemsOverflow (item_overflows X.bytes O.most) X.bytes [] slice.now (empty_bytes (K.default_type O.IS_LARGE))) ⊤) }
     {
         let mut builder = MutableByteArray::<K, O>::new(alloc)?;
         match builder.column.extend_from_values(slice) {
@@ -151,8 +152,8 @@ impl<K: ByteKind, O: Offset> ByteArray<K, O> {
     /// `Overflow` where the bytes of a slot would end past the greatest offset, or `OutOfMemory` where memory is
     /// refused.
     pub fn from<X: ByteItem<K>>(alloc: Global, slots: &[Option<X>]) -> Result<Self, Error>
-        ensures ok { IfOk result (λ array. (slots_fit (item_overflows X.bytes O.most) X.bytes [] (empty_bytes (K.default_type O.IS_LARGE)) slots.now ≡ true) × (array ≡ without_needless_mask (append_slots [] (empty_bytes (K.default_type O.IS_LARGE)) (map (option_map X.bytes) slots.now)))) }
-        ensures err { IfErr result (λ e. MatchGrowth e ((begun rest : List (Option X)) × (last : Option X) × (slots.now ≡ begun ++ last ∷ rest) × (slots_fit (item_overflows X.bytes O.most) X.bytes [] (empty_bytes (K.default_type O.IS_LARGE)) begun ≡ true) × (slot_overflows (item_overflows X.bytes O.most) (append_slots [] (empty_bytes (K.default_type O.IS_LARGE)) (map (option_map X.bytes) begun)) last ≡ true)) ⊤) }
+        ensures ok { IfOk result (λ array. FreezesSlots (item_overflows X.bytes O.most) X.bytes [] (empty_bytes (K.default_type O.IS_LARGE)) slots.now array) }
+        ensures err { IfErr result (λ e. MatchGrowth e (SlotsOverflow (item_overflows X.bytes O.most) X.bytes [] slots.now (empty_bytes (K.default_type O.IS_LARGE))) ⊤) }
     {
         match MutableByteArray::<K, O>::from(alloc, slots) {
             Ok(builder) => builder.freeze(),
@@ -172,8 +173,8 @@ impl<K: ByteKind, O: Offset> ByteArray<K, O> {
     ) -> Result<Self, X::Error>
         requires can { I.can_next iter }
         requires ends { IsFinite (I.remaining iter) }
-        ensures ok { IfOk result (λ array. (items : List (Option X)) × Drains I.next_gives iter items × (slots_fit (item_overflows X.bytes O.most) X.bytes [] (empty_bytes (K.default_type O.IS_LARGE)) items ≡ true) × (array ≡ without_needless_mask (append_slots [] (empty_bytes (K.default_type O.IS_LARGE)) (map (option_map X.bytes) items)))) }
-        ensures err { IfErr result (λ e. MatchGrowth (X.error e) ((begun : List (Option X)) × (last : Option X) × (rest : I) × YieldsThen I.next_gives iter begun (Some last) rest × (slots_fit (item_overflows X.bytes O.most) X.bytes [] (empty_bytes (K.default_type O.IS_LARGE)) begun ≡ true) × (slot_overflows (item_overflows X.bytes O.most) (append_slots [] (empty_bytes (K.default_type O.IS_LARGE)) (map (option_map X.bytes) begun)) last ≡ true)) ⊤) }
+        ensures ok { IfOk result (λ array. FreezesBySlots (item_overflows X.bytes O.most) X.bytes [] I.next_gives iter (empty_bytes (K.default_type O.IS_LARGE)) array) }
+        ensures err { IfErr result (λ e. MatchGrowth (X.error e) (GivesTooManySlots (item_overflows X.bytes O.most) X.bytes [] I.next_gives iter (empty_bytes (K.default_type O.IS_LARGE))) ⊤) }
     {
         match MutableByteArray::<K, O>::from_iter(alloc, iter) {
             Ok(builder) => match builder.freeze() {
@@ -196,8 +197,8 @@ impl<K: ByteKind, O: Offset> ByteArray<K, O> {
     ) -> Result<Self, X::Error>
         requires can { I.can_next iter }
         requires ends { IsFinite (I.remaining iter) }
-        ensures ok { IfOk result (λ array. (items : List X) × Drains I.next_gives iter items × (slots_fit (item_overflows X.bytes O.most) X.bytes [] (empty_bytes (K.default_type O.IS_LARGE)) (map Some items) ≡ true) × (array ≡ append_slots [] (empty_bytes (K.default_type O.IS_LARGE)) (map (λ item. Some (X.bytes item)) items))) }
-        ensures err { IfErr result (λ e. MatchGrowth (X.error e) ((begun : List X) × (last : X) × (rest : I) × YieldsThen I.next_gives iter begun (Some last) rest × (slots_fit (item_overflows X.bytes O.most) X.bytes [] (empty_bytes (K.default_type O.IS_LARGE)) (map Some begun) ≡ true) × (slot_overflows (item_overflows X.bytes O.most) (append_slots [] (empty_bytes (K.default_type O.IS_LARGE)) (map (λ item. Some (X.bytes item)) begun)) (Some last) ≡ true)) ⊤) }
+        ensures ok { IfOk result (λ array. ExtendsByItems (item_overflows X.bytes O.most) X.bytes [] I.next_gives iter (empty_bytes (K.default_type O.IS_LARGE)) array) }
+        ensures err { IfErr result (λ e. MatchGrowth (X.error e) (GivesTooManyItems (item_overflows X.bytes O.most) X.bytes [] I.next_gives iter (empty_bytes (K.default_type O.IS_LARGE))) ⊤) }
     {
         match MutableByteValuesArray::<K, O>::from_iter(alloc, iter) {
             Ok(builder) => match builder.freeze() {

@@ -1,3 +1,3 @@
 mod KindLemmas
-mod PieceLemmas
+pub mod PieceLemmas
 mod TextLemmas

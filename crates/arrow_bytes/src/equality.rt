@@ -4,7 +4,6 @@ use arrow_column::EqualValues;
 use arrow_types::offset::Offset;
 
 impl<K: ByteKind, O: Offset> EqualValues for MutableByteValues<K, O> {
-    ghost use Rattle.std.specs.Prelude.{ℕ};
     ghost use Rattle.arrow_bytes.specs.Equality.{same_bytes, same_bytes-Decides};
 
     ghost test = { same_bytes };

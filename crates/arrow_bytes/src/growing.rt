@@ -1,6 +1,5 @@
 //! Stored values of bytes that grow.
-ghost use Rattle.std.specs.Prelude.{◌≡◌, ◌+◌, ◌<◌, ◌≤◌, [], length, take, slice_get, Some, IfOk, IfErr};
-ghost use Rattle.arrow_types.specs.Types.{logical_type};
+ghost use Rattle.std.specs.Prelude.{◌≡◌, ◌<◌, ◌≤◌, [], length, slice_get, Some, IfOk, IfErr};
 ghost use Rattle.arrow_memory.specs.Offsets.{last_of, IsOffsets};
 ghost use Rattle.arrow_check.specs.Pieces.{bytes_of, items_of, offsets_of};
 ghost use Rattle.arrow_bytes.specs.Kinds.{AreItems, IsItem};

@@ -123,7 +123,6 @@ impl<K: ByteKind, O: Offset> ByteValues<K, O> {
 
 #[tactic(auto, using(crate::proofs::PieceLemmas::piece_reads, crate::proofs::PieceLemmas::piece_cuts))]
 impl<K: ByteKind, O: Offset> Values for ByteValues<K, O> {
-    ghost use Rattle.std.specs.Prelude.{List, ℕ};
     ghost use Rattle.arrow_bytes.specs.Pieces.{Around, around_cut};
     ghost use Rattle.arrow_bytes.specs.Cuts.{around-twice};
 

@@ -2,7 +2,6 @@
 ghost use Rattle.std.specs.Prelude.{◌≡◌, ◌+◌, ◌-◌, ◌<◌, ◌≤◌, ◌↔◌, ℕ, List, IsTrue, MatchBool, length, take, drop, slice_get, Some};
 ghost use Rattle.std.specs.Str.{IsAscii, IsNotAscii};
 ghost use Rattle.arrow_memory.specs.Offsets.{last_of, numbers_of, KeepsOffsets};
-ghost use Rattle.arrow_check.specs.Pieces.{bytes_between};
 ghost use Rattle.arrow_check.specs.Reading.{Reading, LooksAtMost, after_ascii, after_whole_test, after_look, after_looks};
 ghost use Rattle.arrow_check.specs.Windows.{window_of, inner_before_end, InnerCutBetween, IsContinuation};
 

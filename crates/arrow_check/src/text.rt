@@ -1,5 +1,5 @@
 //! Whether the items that offsets cut out of bytes are texts.
-ghost use Rattle.std.specs.Prelude.{◌≡◌, ◌+◌, ◌-◌, ◌<◌, ◌≤◌, ◌↔◌, IsTrue, IfErr, MatchBool, OnOk, length};
+ghost use Rattle.std.specs.Prelude.{◌≡◌, ◌-◌, ◌<◌, ◌≤◌, IfErr, MatchBool, OnOk, length};
 ghost use Rattle.std.specs.Str.{IsAscii, IsNotAscii};
 ghost use Rattle.arrow_types.specs.Types.{refusal};
 ghost use Rattle.arrow_memory.specs.Offsets.{last_of, numbers_of, KeepsOffsets};

@@ -33,7 +33,7 @@ impl<'a> AsciiBytes<'a> {
 }
 
 impl<'a> Judge for AsciiBytes<'a> {
-    ghost use Rattle.std.specs.Prelude.{⊤, ℕ, List};
+    ghost use Rattle.std.specs.Prelude.{⊤};
     ghost use Rattle.std.specs.Str.{IsAscii};
 
     ghost reading = { λ j. record { bytes = j.bytes.now; cost = record { ascii_tests = j.ascii_tests; whole_tests = j.whole_tests; bytes_looked = j.bytes_looked } } };
@@ -96,7 +96,7 @@ impl<'a> AnyBytes<'a> {
 }
 
 impl<'a> Judge for AnyBytes<'a> {
-    ghost use Rattle.std.specs.Prelude.{⊤, ℕ, List};
+    ghost use Rattle.std.specs.Prelude.{⊤};
     ghost use Rattle.std.specs.Str.{IsAscii};
 
     ghost reading = { λ j. record { bytes = j.bytes.now; cost = record { ascii_tests = j.ascii_tests; whole_tests = j.whole_tests; bytes_looked = j.bytes_looked } } };

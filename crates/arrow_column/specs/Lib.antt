@@ -1,3 +1,4 @@
 pub mod Column
 pub mod Masks
 pub mod SlotEquality
+pub mod Appends

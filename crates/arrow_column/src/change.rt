@@ -1,6 +1,6 @@
 //! Columns that are changed in place.
 ghost use Rattle.std.specs.Prelude.{◌≡◌, ◌<◌, length, OnOk, IfErr, option_map};
-ghost use Rattle.arrow_column.specs.Column.{stored_values, with_slot, with_stored};
+ghost use Rattle.arrow_column.specs.Column.{with_slot, with_stored};
 
 use crate::mask::{set_null_mark, set_valid_mark};
 use crate::values::{MutableValues, SetValue, Values};

@@ -2,7 +2,7 @@
 ghost use Rattle.std.specs.Prelude.{◌≡◌, ◌<◌, ◌↔◌, Bool, IsTrue, length, slice_get};
 ghost use Rattle.std.specs.Bool.{Decides};
 ghost use Rattle.arrow_memory.specs.Rows.{FitsMask};
-ghost use Rattle.arrow_column.specs.Column.{marks_of, slots_of};
+ghost use Rattle.arrow_column.specs.Column.{slots_of};
 ghost use Rattle.arrow_memory.specs.Rows.{AgreeWhere};
 ghost use Rattle.arrow_column.specs.SlotEquality.{same_slots};
 

@@ -1,7 +1,7 @@
 //! Columns that grow by the items of an iterator.
-ghost use Rattle.std.specs.Prelude.{◌++◌, ◌∷◌, ◌≡◌, List, Option, Some, true, map, OnOk, IfErr, option_map};
-ghost use Rattle.std.specs.Iterator.{Drains, IsFinite, YieldsThen};
-ghost use Rattle.arrow_column.specs.Column.{append_slots, refused_growth, slot_overflows, slots_fit, stored_values};
+ghost use Rattle.std.specs.Prelude.{◌≡◌, Option, OnOk, IfErr};
+ghost use Rattle.std.specs.Iterator.{IsFinite};
+ghost use Rattle.arrow_column.specs.Appends.{AppendsItems, AppendsSlots, ExtendsByItems, ExtendsBySlots, StopsAmongItems, StopsAmongSlots, StopsInItems, StopsInSlots};
 
 use crate::GrowingColumn;
 use crate::values::{MutableValues, PushValue};
@@ -21,8 +21,8 @@ impl<V: MutableValues> GrowingColumn<V> {
         requires can { I.can_next slots }
         requires ends { IsFinite (I.remaining slots) }
         ensures data_type { self.new.data_type ≡ self.old.data_type }
-        ensures ok { OnOk result ((items : List (Option X)) × Drains I.next_gives slots items × (slots_fit V.overflows V.shown V.default self.old items ≡ true) × (self.new ≡ append_slots V.default self.old (map (option_map V.shown) items))) }
-        ensures err { IfErr result (λ e. (begun : List (Option X)) × (last : Option X) × (rest : I) × YieldsThen I.next_gives slots begun (Some last) rest × (slots_fit V.overflows V.shown V.default self.old begun ≡ true) × (self.new ≡ append_slots V.default self.old (map (option_map V.shown) begun)) × (e ≡ refused_growth (slot_overflows V.overflows self.new last))) }
+        ensures ok { OnOk result (ExtendsBySlots V.overflows V.shown V.default I.next_gives slots self.old self.new) }
+        ensures err { IfErr result (λ e. StopsInSlots V.overflows V.shown V.default I.next_gives slots self.old self.new e) }
     {
         let (least, _) = slots.size_hint();
         // Where as much is refused at once, each slot asks for its own room.
@@ -45,8 +45,8 @@ impl<V: MutableValues> GrowingColumn<V> {
         requires can { I.can_next values }
         requires ends { IsFinite (I.remaining values) }
         ensures data_type { self.new.data_type ≡ self.old.data_type }
-        ensures ok { OnOk result ((items : List X) × Drains I.next_gives values items × (slots_fit V.overflows V.shown V.default self.old (map Some items) ≡ true) × (self.new ≡ append_slots V.default self.old (map (λ x. Some (V.shown x)) items))) }
-        ensures err { IfErr result (λ e. (begun : List X) × (last : X) × (rest : I) × YieldsThen I.next_gives values begun (Some last) rest × (slots_fit V.overflows V.shown V.default self.old (map Some begun) ≡ true) × (self.new ≡ append_slots V.default self.old (map (λ x. Some (V.shown x)) begun)) × (e ≡ refused_growth (V.overflows self.new.around (stored_values self.new) last))) }
+        ensures ok { OnOk result (ExtendsByItems V.overflows V.shown V.default I.next_gives values self.old self.new) }
+        ensures err { IfErr result (λ e. StopsInItems V.overflows V.shown V.default I.next_gives values self.old self.new e) }
     {
         let (least, _) = values.size_hint();
         // Where as much is refused at once, each value asks for its own room.
@@ -66,8 +66,8 @@ impl<V: MutableValues> GrowingColumn<V> {
     where
         V: PushValue<X>,
         ensures data_type { self.new.data_type ≡ self.old.data_type }
-        ensures ok { OnOk result ((slots_fit V.overflows V.shown V.default self.old (map Some values.now) ≡ true) × (self.new ≡ append_slots V.default self.old (map (λ x. Some (V.shown x)) values.now))) }
-        ensures err { IfErr result (λ e. (begun rest : List X) × (last : X) × (values.now ≡ begun ++ last ∷ rest) × (slots_fit V.overflows V.shown V.default self.old (map Some begun) ≡ true) × (self.new ≡ append_slots V.default self.old (map (λ x. Some (V.shown x)) begun)) × (e ≡ refused_growth (V.overflows self.new.around (stored_values self.new) last))) }
+        ensures ok { OnOk result (AppendsItems V.overflows V.shown V.default self.old values.now self.new) }
+        ensures err { IfErr result (λ e. StopsAmongItems V.overflows V.shown V.default values.now self.old self.new e) }
     {
         for value in values {
             match self.push_valid(*value) {
@@ -87,8 +87,8 @@ impl<V: MutableValues> GrowingColumn<V> {
     where
         V: PushValue<X>,
         ensures data_type { self.new.data_type ≡ self.old.data_type }
-        ensures ok { OnOk result ((slots_fit V.overflows V.shown V.default self.old slots.now ≡ true) × (self.new ≡ append_slots V.default self.old (map (option_map V.shown) slots.now))) }
-        ensures err { IfErr result (λ e. (begun rest : List (Option X)) × (last : Option X) × (slots.now ≡ begun ++ last ∷ rest) × (slots_fit V.overflows V.shown V.default self.old begun ≡ true) × (self.new ≡ append_slots V.default self.old (map (option_map V.shown) begun)) × (e ≡ refused_growth (slot_overflows V.overflows self.new last))) }
+        ensures ok { OnOk result (AppendsSlots V.overflows V.shown V.default self.old slots.now self.new) }
+        ensures err { IfErr result (λ e. StopsAmongSlots V.overflows V.shown V.default slots.now self.old self.new e) }
     {
         for slot in slots {
             match self.push(*slot) {

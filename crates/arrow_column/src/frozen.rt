@@ -1,5 +1,5 @@
 //! Columns that don't change, of which arrays are made.
-ghost use Rattle.std.specs.Prelude.{IsTrue, None, ◌≡◌, ℕ, ◌+◌, ◌-◌, ◌<◌, ◌≤◌, List, Bool, length, take, drop, not, count_by, slice_get, Some, option_map, is_some, IfSome};
+ghost use Rattle.std.specs.Prelude.{IsTrue, None, ◌≡◌, ◌-◌, ◌<◌, length, not, count_by, slice_get, Some, IfSome};
 ghost use Rattle.std.specs.Option.{option_copied};
 ghost use Rattle.arrow_types.specs.Types.{logical_type};
 ghost use Rattle.arrow_memory.specs.Rows.{FitsMask, rows_of};

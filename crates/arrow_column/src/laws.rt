@@ -1,6 +1,6 @@
 //! Laws of columns, stated over their definitions for all values. Each is the contract of a function
 //! that does nothing.
-ghost use Rattle.std.specs.Prelude.{true, false, not, replicate, ◌<◌, ◌||◌, is_some, ◌≡◌, ℕ, ◌+◌, ◌-◌, ◌≤◌, Bool, [], List, Option, Some, None, length, map, slice_get, option_map, if◌then◌else◌, ◌↔◌, IsTrue, IsNone};
+ghost use Rattle.std.specs.Prelude.{true, false, not, replicate, ◌<◌, ◌||◌, is_some, ◌≡◌, ℕ, ◌+◌, ◌≤◌, Bool, [], List, Option, Some, None, length, map, slice_get, option_map, if◌then◌else◌, ◌↔◌, IsTrue, IsNone};
 ghost use Rattle.arrow_types.specs.Types.{LogicalType};
 ghost use Rattle.arrow_memory.specs.Rows.{FitsMask, rows_of};
 ghost use Rattle.arrow_column.specs.Column.{ColumnWith, append_nulls, append_slots, append_values, column_with, cut_with, joined, with_mask, with_slot, with_stored, with_type, FitsCut, mask_of, marks_of, slots_of, stored_values, all_valid, IsColumn, append_slot, last_slot, without_last, without_needless_mask};

@@ -1,7 +1,8 @@
 //! Columns that hold no mask, and grow without a look at one.
-ghost use Rattle.std.specs.Prelude.{◌≡◌, List, false, true, Some, map, OnOk, IfErr};
-ghost use Rattle.std.specs.Iterator.{Drains, IsFinite, YieldsThen};
-ghost use Rattle.arrow_column.specs.Column.{append_slot, append_slots, refused_growth, slots_fit, stored_values};
+ghost use Rattle.std.specs.Prelude.{◌≡◌, false, Some, OnOk, IfErr};
+ghost use Rattle.std.specs.Iterator.{IsFinite};
+ghost use Rattle.arrow_column.specs.Appends.{ExtendsByItems, StopsInItems};
+ghost use Rattle.arrow_column.specs.Column.{append_slot, refused_growth, stored_values};
 
 use crate::GrowingColumn;
 use crate::values::{MutableValues, PushValue};
@@ -55,8 +56,8 @@ impl<V: MutableValues> GrowingColumn<V> {
         requires ends { IsFinite (I.remaining values) }
         ensures held { self.new.held ≡ false }
         ensures data_type { self.new.data_type ≡ self.old.data_type }
-        ensures ok { OnOk result ((items : List X) × Drains I.next_gives values items × (slots_fit V.overflows V.shown V.default self.old (map Some items) ≡ true) × (self.new ≡ append_slots V.default self.old (map (λ x. Some (V.shown x)) items))) }
-        ensures err { IfErr result (λ e. (begun : List X) × (last : X) × (rest : I) × YieldsThen I.next_gives values begun (Some last) rest × (slots_fit V.overflows V.shown V.default self.old (map Some begun) ≡ true) × (self.new ≡ append_slots V.default self.old (map (λ x. Some (V.shown x)) begun)) × (e ≡ refused_growth (V.overflows self.new.around (stored_values self.new) last))) }
+        ensures ok { OnOk result (ExtendsByItems V.overflows V.shown V.default I.next_gives values self.old self.new) }
+        ensures err { IfErr result (λ e. StopsInItems V.overflows V.shown V.default I.next_gives values self.old self.new e) }
     {
         let (least, _) = values.size_hint();
         // Where as much is refused at once, each value asks for its own room.

@@ -1,13 +1,13 @@
 -- Lemmas about some of a list: those with a set mark, and those at the places that keys tell.
-use Rattle.std.proofs.Common.{◌≡◌, ℕ, zero, suc, ◌+◌, ◌-◌, ◌<◌, ◌≤◌, ℤ, Bool, true, false, ◌&&◌, cond, IsTrue, if◌then◌else◌, List, [], ◌∷◌, ◌++◌, length, map, take, get_or, slice_get, Option, Some, None, option_and_then, option_map, refl, zero-add, sym, subst, ap, ap₂, ◌∙◌, arith}
+use Rattle.std.proofs.Common.{◌≡◌, ℕ, zero, suc, ◌+◌, ◌-◌, ◌<◌, ◌≤◌, ℤ, Bool, true, false, ◌&&◌, cond, IsTrue, if◌then◌else◌, List, [], ◌∷◌, ◌++◌, length, map, take, drop, get_or, slice_get, Option, Some, None, option_and_then, option_map, refl, zero-add, sym, subst, ap, ap₂, ◌∙◌, arith}
 use Rattle.std.specs.Prelude.{not, All, IfErr, IfSome, IsSomeAnd, MatchOption, Result, Ok, Err, count_by, find, unwrap_or}
 use Rattle.std.specs.List.{cons_option, list_all}
-use Rattle.std.proofs.Math.Seq.{take-length}
+use Rattle.std.proofs.Math.Seq.{take-add, take-length}
 use Rattle.std.proofs.lemmas.Bool.{false≢true}
 use Rattle.std.proofs.lemmas.List.{take_more, length-map}
 use Rattle.std.proofs.lemmas.List.Elements.{All-weaker, filter_map-append}
 use Rattle.std.proofs.lemmas.List.Sums.{sum_by-cons}
-use Rattle.std.proofs.lemmas.Option.{MatchOption-at_none, get_or_from_slice_get, slice_get-map, slice_get_within}
+use Rattle.std.proofs.lemmas.Option.{MatchOption-at_none, slice_get-map}
 use Rattle.arrow_types.specs.Types.{LogicalType}
 use Rattle.arrow_types.specs.IndexKey.{index_of}
 use Rattle.arrow_memory.specs.Rows.{FitsMask, Row, slot}
@@ -15,7 +15,7 @@ use Rattle.arrow_column.specs.Masks.{mask_with_nulls}
 use Rattle.arrow_column.specs.Column.{Column, ColumnWith, IsColumn, column_with, mask_of, slots_of, stored_values}
 use Rattle.arrow_column.proofs.ColumnLemmas.{column_again, slots_valid, valid_by_held}
 use Rattle.arrow_check.specs.Indexes.{is_place}
-use Rattle.arrow_kernels.specs.Kernels.{asked, at_key, at_keys, column_of_rows, filtered, first_astray, taken, where_set}
+use Rattle.arrow_kernels.specs.Kernels.{asked, at_key, at_keys, column_of_rows, filtered, first_astray, set_in_both, taken, where_set}
 
 -- ---- one more
 
@@ -92,6 +92,14 @@ where-grown marks xs i j x old new e f up clear was pushed = pushed ∙ ap (λ y
 pub where-all : {X : Type 0} (marks : List Bool) (xs : List X) (n : ℕ) → n ≡ length marks → n ≡ length xs → where_set (take n marks) (take n xs) ≡ where_set marks xs
 where-all marks xs n long wide = ap₂ where_set (ap (λ k. take k marks) long ∙ take-length marks) (ap (λ k. take k xs) wide ∙ take-length xs)
 
+-- of lists one behind the other
+pub where-append : {X : Type 0} (marks others : List Bool) (xs ys : List X) → length marks ≡ length xs → where_set (marks ++ others) (xs ++ ys) ≡ where_set marks xs ++ where_set others ys
+where-append [] others [] ys long = refl
+where-append [] others (x ∷ xs) ys long = cc
+where-append (m ∷ marks) others [] ys long = cc
+where-append (true ∷ marks) others (x ∷ xs) ys long = ap (λ rest. x ∷ rest) (where-append marks others xs ys (let e : length marks ≡ length xs = omega (arith, long) in e))
+where-append (false ∷ marks) others (x ∷ xs) ys long = where-append marks others xs ys (let e : length marks ≡ length xs = omega (arith, long) in e)
+
 -- what stands at the place that a key tells
 pub key-place : {X : Type 0} (xs : List X) (key : ℤ) (place : ℕ) (x : X) → index_of key ≡ Some place → slice_get xs place ≡ Some x → at_key xs key ≡ Some x
 key-place xs key place x e f = ap (option_and_then (slice_get xs)) e ∙ f
@@ -104,12 +112,10 @@ keys-more number keys xs i key x low read found =
     ∙ filter_map-append (λ k. at_key xs (number k)) (take i keys) (key ∷ [])
     ∙ ap (λ o. at_keys number (take i keys) xs ++ cons_option o []) found
 
--- one more row of a filter
-pub asked-more : (filter : Column Bool) (i : ℕ) (shown : Option Bool) → slice_get (slots_of filter) i ≡ Some shown → take (i + 1) (asked filter) ≡ take i (asked filter) ++ unwrap_or shown false ∷ []
-asked-more filter i shown e =
-    let found : slice_get (asked filter) i ≡ Some (unwrap_or shown false) = slice_get-map (λ s. unwrap_or s false) (slots_of filter) i ∙ ap (option_map (λ s. unwrap_or s false)) e in
-    let low : i < length (asked filter) = slice_get_within (asked filter) i (unwrap_or shown false) found in
-    take_more (asked filter) i false low ∙ ap (λ b. take i (asked filter) ++ b ∷ []) (get_or_from_slice_get (asked filter) i (unwrap_or shown false) false found)
+-- so many keys more
+pub keys-append : {K X : Type 0} (number : K → ℤ) (keys : List K) (xs : List X) (i n : ℕ) → at_keys number (take (i + n) keys) xs ≡ at_keys number (take i keys) xs ++ at_keys number (take n (drop i keys)) xs
+keys-append number keys xs i n =
+    ap (λ ks. at_keys number ks xs) (take-add i n keys) ∙ filter_map-append (λ key. at_key xs (number key)) (take i keys) (take n (drop i keys))
 
 pub length-asked : (filter : Column Bool) → length (asked filter) ≡ length filter.rows
 length-asked filter = length-map (slots_of filter) (λ s. unwrap_or s false) ∙ length-map filter.rows slot
@@ -231,11 +237,37 @@ bare-asked filter is_column bare =
     ap (map (λ shown. unwrap_or shown false)) (slots_valid filter.rows (valid_by_held filter.held filter.rows is_column bare))
     ∙ shown-values (stored_values filter)
 
--- ---- columns of rows
-
 marks-all : {S : Type 0} (rows : List (Row S)) → list_all (λ mark. mark) (map (λ row. row.1) rows) ≡ list_all (λ row. row.1) rows
 marks-all [] = refl
 marks-all (row ∷ rows) = ap (λ b. row.1 && b) (marks-all rows)
+
+held-marks : (held : Bool) (rows : List (Row Bool)) (marks : List Bool) → (if held then Some (map (λ row. row.1) rows) else None) ≡ Some marks → map (λ row. row.1) rows ≡ marks
+held-marks true rows marks mask = cc
+held-marks false rows marks mask = cc
+
+-- a filter without a null asks by its values
+pub valid-asked : (filter : Column Bool) (marks : List Bool) → mask_of filter ≡ Some marks → count_by not marks ≡ 0 → asked filter ≡ stored_values filter
+valid-asked filter marks mask none =
+    let all = (all-by-count (map (λ row. row.1) filter.rows)).0 (ap (count_by not) (held-marks filter.held filter.rows marks mask) ∙ none) in
+    ap (map (λ shown. unwrap_or shown false)) (slots_valid filter.rows (sym (marks-all filter.rows) ∙ all)) ∙ shown-values (stored_values filter)
+
+shown-both : (value mark : Bool) → unwrap_or (if mark then Some value else None) false ≡ (mark && value)
+shown-both value true = refl
+shown-both value false = refl
+
+each-asked : (rows : List (Row Bool)) → map (λ shown. unwrap_or shown false) (map slot rows) ≡ set_in_both (map (λ row. row.0) rows) (map (λ row. row.1) rows)
+each-asked [] = refl
+each-asked (row ∷ rows) = ap₂ ◌∷◌ (shown-both row.0 row.1) (each-asked rows)
+
+-- a filter with a mask asks where both a value and its mark are set
+pub masked-asked : (filter : Column Bool) (marks : List Bool) → mask_of filter ≡ Some marks → asked filter ≡ set_in_both (stored_values filter) marks
+masked-asked filter marks mask = each-asked filter.rows ∙ ap (set_in_both (stored_values filter)) (held-marks filter.held filter.rows marks mask)
+
+pub masked-length : (filter : Column Bool) (marks : List Bool) → mask_of filter ≡ Some marks → length marks ≡ length (stored_values filter)
+masked-length filter marks mask =
+    ap length (sym (held-marks filter.held filter.rows marks mask)) ∙ length-map filter.rows (λ row. row.1) ∙ sym (length-map filter.rows (λ row. row.0))
+
+-- ---- columns of rows
 
 marked : {A S : Type 0} (t : LogicalType) (nothing : A) (rows : List (Row S)) (b : Bool) → list_all (λ (row : Row S). row.1) rows ≡ b
     → column_with t nothing (map (λ row. row.0) rows) (if b then None else Some (map (λ row. row.1) rows)) ≡ record { data_type = t; around = nothing; rows = rows; held = not b }
@@ -296,6 +328,16 @@ fits-taken {A} {S} column number keys =
     let P : List S → Option (List Bool) → Type 0 = λ values mask. FitsMask values (mask_with_nulls mask) in
     subst (λ values. P values (option_map (at_keys number keys) (mask_of column))) (sym (keys-map (λ row. row.0) number keys column.rows))
     (subst (P (map (λ row. row.0) (at_keys number keys column.rows))) (sym (mask-keys number keys column.held column.rows)) (needed-fits column.held (at_keys number keys column.rows)))
+
+-- where no row is null, no mask is needed of what is asked for
+pub where-valid-mask : (asked marks : List Bool) → count_by not marks ≡ 0 → None ≡ mask_with_nulls (Some (where_set asked marks))
+where-valid-mask asked marks none =
+    sym (ap (λ b. if b then None else Some (where_set asked marks)) (where-valid (λ mark. mark) asked marks ((all-by-count marks).0 none)))
+
+-- nor of what keys take
+pub keys-valid-mask : {K : Type 0} (number : K → ℤ) (keys : List K) (marks : List Bool) → count_by not marks ≡ 0 → None ≡ mask_with_nulls (Some (at_keys number keys marks))
+keys-valid-mask number keys marks none =
+    sym (ap (λ b. if b then None else Some (at_keys number keys marks)) (keys-valid (λ mark. mark) number keys marks ((all-by-count marks).0 none)))
 
 -- ---- what a kernel makes
 

@@ -1,22 +1,24 @@
 -- Lemmas about items, and the offsets and bytes that they have alone.
-use Rattle.std.proofs.Common.{◌≡◌, ℕ, zero, suc, ◌+◌, ◌-◌, ◌<◌, ◌≤◌, ℤ, Bool, true, false, List, [], ◌∷◌, ◌++◌, length, take, drop, get_or, slice_get, Option, Some, None, option_and_then, refl, sym, subst, ap, ap₂, ◌∙◌, arith, append_assoc, length-append}
+use Rattle.std.proofs.Common.{◌≡◌, ℕ, zero, suc, ◌+◌, ◌-◌, ◌<◌, ◌≤◌, ℤ, Bool, true, false, List, [], ◌∷◌, ◌++◌, length, take, drop, get_or, slice_get, Option, Some, None, option_and_then, refl, sym, subst, ap, ap₂, ◌∙◌, arith, append_assoc, length-append, zero-add}
 use Rattle.std.specs.Prelude.{All, IfErr, IfOk, IfSome, OnOk, Result, Ok, Err, nat_lt}
 use Rattle.std.specs.List.{concat, cons_option}
 use Rattle.std.proofs.Math.Seq.{drop-length}
 use Rattle.std.proofs.lemmas.Bool.{le-ltb, lt-ltb}
-use Rattle.std.proofs.lemmas.List.{append-nil, drop_at, length-map, take-append-drop, take_at}
+use Rattle.std.proofs.lemmas.List.{append-nil, drop_at, length-map, length-take-le, take-append-drop, take_at}
 use Rattle.std.proofs.lemmas.List.Elements.{All-nil, All-cons, All-head, All-tail, filter_map-append}
 use Rattle.std.proofs.lemmas.List.Folds.{concat-append}
 use Rattle.arrow_types.specs.IndexKey.{index_of}
 use Rattle.arrow_types.specs.declared.error.Error.{Error}
 use Rattle.arrow_types.specs.declared.error.Error.TheVariants as error
 use Rattle.arrow_column.specs.Column.{stored_values}
-use Rattle.arrow_memory.specs.Offsets.{last_of}
-use Rattle.arrow_check.specs.Pieces.{bytes_between, bytes_of, ends_after, items_after, items_of, offsets_of}
+use Rattle.arrow_memory.specs.Offsets.{first_of, IsOffsets, last_of, moved_behind}
+use Rattle.arrow_memory.proofs.OffsetLemmas.{legal-piece}
+use Rattle.arrow_check.specs.Pieces.{bytes_between, bytes_of, ends_after, items_after, items_of, lead_of, offsets_of, tail_of}
 use Rattle.arrow_check.specs.Utf8.{IsWellFormed}
 use Rattle.arrow_bytes.specs.Column.{ByteColumn, bytes_held, offsets_held}
 use Rattle.arrow_bytes.specs.Kinds.{AreItems, CutItems}
 use Rattle.arrow_bytes.specs.Pieces.{Around, around_of, nothing_around}
+use Rattle.arrow_bytes.proofs.PieceLemmas.{bytes-again, ends-joined, items-joined, offsets-again, window-long}
 use Rattle.arrow_kernels.specs.Kernels.{at_key, at_keys, where_set}
 
 -- ---- offsets of items
@@ -64,6 +66,74 @@ offsets-more old new items item was pushed = pushed ∙ ap (λ os. os ++ (last_o
 pub bytes-more : (old new : List ℕ) (items : List (List ℕ)) (item : List ℕ) → old ≡ concat items → new ≡ old ++ item → new ≡ concat (items ++ item ∷ [])
 bytes-more old new items item was pushed = pushed ∙ ap (λ bytes. bytes ++ item) was ∙ sym (bytes-push items item)
 
+after-again : (lead : List ℕ) (items : List (List ℕ)) (tail : List ℕ) → items_after (length lead) (ends_after (length lead) items) (lead ++ (concat items ++ tail)) ≡ items
+after-again lead [] tail = refl
+after-again lead (item ∷ items) tail =
+    let start : length lead + length item - length lead ≡ length item = omega arith in
+    let whole : (item ++ concat items) ++ tail ≡ item ++ (concat items ++ tail) = append_assoc item (concat items) tail in
+    let first : bytes_between (length lead) (length lead + length item) (lead ++ ((item ++ concat items) ++ tail)) ≡ item =
+    ap₂ take start (drop_at lead ((item ++ concat items) ++ tail) (length lead) refl ∙ whole) ∙ take_at item (concat items ++ tail) (length item) refl in
+    let moved : lead ++ ((item ++ concat items) ++ tail) ≡ (lead ++ item) ++ (concat items ++ tail) = ap (λ rest. lead ++ rest) whole ∙ sym (append_assoc lead item (concat items ++ tail)) in
+    ap₂ ◌∷◌ first (
+    ap₂ (λ k bytes. items_after k (ends_after k items) bytes) (sym (length-append lead item)) moved
+    ∙ after-again (lead ++ item) items tail
+    )
+
+-- items that have offsets and bytes alone
+pub items-alone : (items : List (List ℕ)) → items_of (offsets_of 0 items) (concat items) ≡ items
+items-alone items = ap (items_of (offsets_of 0 items)) (sym (append-nil (concat items))) ∙ after-again [] items []
+
+-- the bytes that offsets cut items out of
+cut-bytes : (os bytes : List ℕ) → IsOffsets os → last_of os ≤ length bytes → concat (items_of os bytes) ≡ bytes_between (first_of os) (last_of os) bytes
+cut-bytes os bytes legal within =
+    sym (
+    ap (λ all. take (last_of os - first_of os) (drop (first_of os) all)) (sym (bytes-again os bytes legal))
+    ∙ ap (take (last_of os - first_of os)) (drop_at (lead_of os bytes) (concat (items_of os bytes) ++ tail_of os bytes) (first_of os) (length-take-le (first_of os) bytes low))
+    ∙ take_at (concat (items_of os bytes)) (tail_of os bytes) (last_of os - first_of os) (window-long os bytes legal within)
+    )
+  where
+    low : first_of os ≤ length bytes
+    low = omega (arith, legal.order 0 (length os - 1) (omega arith) (omega (arith, legal.some)), within)
+
+-- behind the offsets and bytes of some items, those of a piece of others
+module _ (items : List (List ℕ)) (piece others old new held longer : List ℕ) (legal : IsOffsets piece) (within : last_of piece ≤ length others) (was : old ≡ offsets_of 0 items) (joined : held ≡ concat items)
+    (ends : IsOffsets new) (appended : new ≡ old ++ moved_behind (last_of old) piece) (copied : longer ≡ held ++ bytes_between (first_of piece) (last_of piece) others) where
+  behind : List ℕ
+  behind = offsets_of 0 items ++ moved_behind (last_of (offsets_of 0 items)) piece
+
+  whole : List ℕ
+  whole = concat items ++ bytes_between (first_of piece) (last_of piece) others
+
+  is-behind : new ≡ behind
+  unfolding behind
+  is-behind = appended ∙ ap (λ os. os ++ moved_behind (last_of os) piece) was
+
+  last : last_of (offsets_of 0 items) ≡ length (concat items)
+  last = last-offset 0 items ∙ zero-add (length (concat items))
+
+  -- they are the first of legal ones
+  legal-old : IsOffsets (offsets_of 0 items)
+  unfolding behind
+  legal-old =
+      let front = length (offsets_of 0 items) in
+      let moved = moved_behind (last_of (offsets_of 0 items)) piece in
+      let long : length (offsets_of 0 items) ≤ length new = omega (arith, ap length is-behind, length-append (offsets_of 0 items) moved) in
+      subst IsOffsets (ap (take front) is-behind ∙ take_at (offsets_of 0 items) moved front refl) (legal-piece new 0 front ends (omega arith) (omega (arith, long)))
+
+  again : offsets_of 0 (items_of behind whole) ≡ behind
+  unfolding behind whole
+  again = offsets-again behind whole (subst IsOffsets is-behind ends) (omega (arith, ends-joined (offsets_of 0 items) (concat items) piece others legal-old last legal within))
+
+  cut : items_of behind whole ≡ items ++ items_of piece others
+  unfolding behind whole
+  cut = items-joined (offsets_of 0 items) (concat items) piece others legal-old last legal ∙ ap (λ front. front ++ items_of piece others) (items-alone items)
+
+  pub offsets-run : new ≡ offsets_of 0 (items ++ items_of piece others)
+  offsets-run = is-behind ∙ sym again ∙ ap (offsets_of 0) cut
+
+  pub bytes-run : longer ≡ concat (items ++ items_of piece others)
+  bytes-run = copied ∙ ap₂ ◌++◌ joined (sym (cut-bytes piece others legal within)) ∙ sym (concat-append items (items_of piece others))
+
 -- the first keys take no more bytes than all
 pub keys-length : {K : Type 0} (number : K → ℤ) (n : ℕ) (keys : List K) (items : List (List ℕ)) → length (concat (at_keys number (take n keys) items)) ≤ length (concat (at_keys number keys items))
 keys-length number n keys items =
@@ -96,19 +166,6 @@ pub length-items : (os bytes : List ℕ) → 0 < length os → length (items_of 
 length-items [] bytes some = absurd (omega (arith, some))
 length-items (x ∷ ys) bytes some = omega (arith, length-after x ys bytes)
 
-after-again : (lead : List ℕ) (items : List (List ℕ)) (tail : List ℕ) → items_after (length lead) (ends_after (length lead) items) (lead ++ (concat items ++ tail)) ≡ items
-after-again lead [] tail = refl
-after-again lead (item ∷ items) tail =
-    let start : length lead + length item - length lead ≡ length item = omega arith in
-    let whole : (item ++ concat items) ++ tail ≡ item ++ (concat items ++ tail) = append_assoc item (concat items) tail in
-    let first : bytes_between (length lead) (length lead + length item) (lead ++ ((item ++ concat items) ++ tail)) ≡ item =
-    ap₂ take start (drop_at lead ((item ++ concat items) ++ tail) (length lead) refl ∙ whole) ∙ take_at item (concat items ++ tail) (length item) refl in
-    let moved : lead ++ ((item ++ concat items) ++ tail) ≡ (lead ++ item) ++ (concat items ++ tail) = ap (λ rest. lead ++ rest) whole ∙ sym (append_assoc lead item (concat items ++ tail)) in
-    ap₂ ◌∷◌ first (
-    ap₂ (λ k bytes. items_after k (ends_after k items) bytes) (sym (length-append lead item)) moved
-    ∙ after-again (lead ++ item) items tail
-    )
-
 -- the items of an array are cut out of its bytes by its offsets
 pub items-held : (lead : List ℕ) (items : List (List ℕ)) (tail : List ℕ) → items_of (offsets_of (length lead) items) (bytes_of lead items tail) ≡ items
 items-held = after-again
@@ -128,10 +185,6 @@ within-held column os bytes e f = omega (arith, ap last_of e, ap length f, ends-
 
 pub items-of-held : (column : ByteColumn) (os bytes : List ℕ) → os ≡ offsets_held column → bytes ≡ bytes_held column → items_of os bytes ≡ stored_values column
 items-of-held column os bytes e f = ap₂ items_of e f ∙ items-held column.around.lead (stored_values column) column.around.tail
-
--- items that have offsets and bytes alone
-pub items-alone : (items : List (List ℕ)) → items_of (offsets_of 0 items) (concat items) ≡ items
-items-alone items = ap (items_of (offsets_of 0 items)) (sym (append-nil (concat items))) ∙ after-again [] items []
 
 pub around-alone : (items : List (List ℕ)) → around_of (offsets_of 0 items) (concat items) ≡ nothing_around
 around-alone items =

@@ -1,4 +1,5 @@
-pub mod ByteLemmas
+pub mod BitLemmas
 pub mod ChoiceLemmas
 pub mod ItemLemmas
+pub mod RunLemmas
 pub mod WordLemmas

@@ -1,88 +1,13 @@
--- Lemmas about the marks of 64 rows that are read as a word, and about the set bits of a word, the lowest first.
-use Rattle.std.proofs.Common.{◌≡◌, ◌≢◌, ℕ, zero, suc, ◌+◌, ◌-◌, ◌*◌, ◌/◌, ◌%◌, ◌^◌, ◌<◌, ◌≤◌, ◌==◌, min, bit_and, w64, Bool, true, false, not, cond, count_by, List, [], ◌∷◌, ◌++◌, length, take, get_or, slice_get, Some, refl, sym, subst, ap, ap₂, ◌∙◌, inl, inr, arith, add-zero}
-use Rattle.std.specs.Int.{bit_at, byte_worth, from_le_bytes, sum_through, trailing_zeros}
-use Rattle.std.proofs.Math.Nat.{pow-suc, suc-mul, mul-le-mul_right}
+-- Lemmas about the set bits of a word, the lowest first.
+use Rattle.std.proofs.Common.{◌≡◌, ◌≢◌, ℕ, zero, suc, ◌+◌, ◌-◌, ◌/◌, ◌%◌, ◌^◌, ◌<◌, ◌≤◌, ◌==◌, min, bit_and, w64, Bool, true, false, not, cond, count_by, List, [], ◌∷◌, ◌++◌, length, take, slice_get, Some, refl, sym, subst, ap, ap₂, ◌∙◌, inl, inr, arith}
+use Rattle.std.specs.Int.{bit_at, trailing_zeros}
 use Rattle.std.proofs.lemmas.Bool.{cases_eq, cases_lt}
 use Rattle.std.specs.Int.Count.{trailing_of_zero}
 use Rattle.std.proofs.lemmas.List.Sums.{sum_by-cons}
-use Rattle.std.proofs.lemmas.Nat.{and_le_r, pow-add, trailing_le}
-use Rattle.std.proofs.lemmas.Nat.Bits.{bit_at_and, bit_at_cat_low, bit_at_cat_high, bit_at_lowest, bit_at_ones, bit_at-suc, bit_at-trailing_zeros, bit_at-zero}
-use Rattle.arrow_memory.specs.Marks.{mark_at, marks}
-use Rattle.arrow_memory.proofs.MarkLemmas.{slice_get-marks}
+use Rattle.std.proofs.lemmas.Nat.{and_le_r, trailing_le}
+use Rattle.std.proofs.lemmas.Nat.Bits.{bit_at_and, bit_at_lowest, bit_at_ones, bit_at-suc, bit_at-trailing_zeros, bit_at-zero}
 use Rattle.arrow_kernels.specs.Kernels.{where_set}
 use Rattle.arrow_kernels.proofs.ChoiceLemmas.{count-le, where-gap, where-grown}
-
--- ---- eight bytes read as a word
-
--- the number that bytes are, the lowest first
-number : List ℕ → ℕ → ℕ
-number bs k = sum_through (λ i. byte_worth i (get_or bs i 0)) k
-
-pow-256 : (k : ℕ) → 256 ^ k ≡ 2 ^ (8 * k)
-pow-256 zero = refl
-pow-256 (suc k) =
-    let more : 8 * suc k ≡ 8 * k + 8 = omega arith in
-    pow-suc 256 k ∙ ap (λ x. x * 256) (pow-256 k) ∙ sym (pow-add 2 (8 * k) 8) ∙ sym (ap (λ x. 2 ^ x) more)
-
--- one more byte
-number-more : (bs : List ℕ) (k : ℕ) → number bs (suc k) ≡ get_or bs (suc k) 0 * 2 ^ (8 * suc k) + number bs k
-unfolding number
-number-more bs k = ap (λ x. number bs k + get_or bs (suc k) 0 * x) (pow-256 (suc k)) ∙ (let e : number bs k + get_or bs (suc k) 0 * 2 ^ (8 * suc k) ≡ get_or bs (suc k) 0 * 2 ^ (8 * suc k) + number bs k = omega arith in e)
-
-number-lt : (bs : List ℕ) (k : ℕ) → ((i : ℕ) → i ≤ k → get_or bs i 0 < 256) → number bs k < 2 ^ (8 * suc k)
-unfolding number
-number-lt bs zero small = small 0 (omega arith)
-number-lt bs (suc k) small =
-    let more : 8 * suc (suc k) ≡ 8 + 8 * suc k = omega arith in
-    let size : 2 ^ (8 * suc (suc k)) ≡ 256 * 2 ^ (8 * suc k) = ap (λ x. 2 ^ x) more ∙ pow-add 2 8 (8 * suc k) in
-    let low = number-lt bs k (λ i le. small i (omega arith)) in
-    let high = mul-le-mul_right (2 ^ (8 * suc k)) (let le : suc (get_or bs (suc k) 0) ≤ 256 = omega (arith, small (suc k) (omega arith)) in le) in
-    omega (arith, number-more bs k, size, low, high, suc-mul (get_or bs (suc k) 0) (2 ^ (8 * suc k)))
-
--- its bits are those of the bytes
-number-bit : (bs : List ℕ) (k : ℕ) → ((i : ℕ) → i ≤ k → get_or bs i 0 < 256) → (i : ℕ) → i < 8 * suc k → bit_at (number bs k) i ≡ bit_at (get_or bs (i / 8) 0) (i % 8)
-unfolding number
-number-bit bs zero small i low = ap₂ (λ x y. bit_at (get_or bs x 0) y) (let e : 0 ≡ i / 8 = omega arith in e) (let e : i ≡ i % 8 = omega arith in e)
-number-bit bs (suc k) small i low = ap (λ n. bit_at n i) (number-more bs k) ∙ elim (cases_lt i (8 * suc k)) [
-  | inl here ↦ bit_at_cat_low (get_or bs (suc k) 0) (8 * suc k) (number bs k) i here ∙ number-bit bs k (λ j le. small j (omega arith)) i here
-  | inr past ↦
-      bit_at_cat_high (get_or bs (suc k) 0) (8 * suc k) (number bs k) i (number-lt bs k (λ j le. small j (omega arith))) past
-      ∙ ap₂ (λ x y. bit_at (get_or bs x 0) y) (let e : suc k ≡ i / 8 = omega arith in e) (let e : i - 8 * suc k ≡ i % 8 = omega arith in e)
-]
-
--- the eight bytes from a place on, one by one
-abbrev eight_at : List ℕ → ℕ → List ℕ
-eight_at bytes k = get_or bytes k 0 ∷ get_or bytes (k + 1) 0 ∷ get_or bytes (k + 2) 0 ∷ get_or bytes (k + 3) 0 ∷ get_or bytes (k + 4) 0 ∷ get_or bytes (k + 5) 0 ∷ get_or bytes (k + 6) 0 ∷ get_or bytes (k + 7) 0 ∷ []
-
-eight-same : (bytes : List ℕ) (k i : ℕ) → i < 8 → get_or (eight_at bytes k) i 0 ≡ get_or bytes (k + i) 0
-eight-same bytes k zero low = ap (λ j. get_or bytes j 0) (sym (add-zero k))
-eight-same bytes k (suc zero) low = refl
-eight-same bytes k (suc (suc zero)) low = refl
-eight-same bytes k (suc (suc (suc zero))) low = refl
-eight-same bytes k (suc (suc (suc (suc zero)))) low = refl
-eight-same bytes k (suc (suc (suc (suc (suc zero))))) low = refl
-eight-same bytes k (suc (suc (suc (suc (suc (suc zero)))))) low = refl
-eight-same bytes k (suc (suc (suc (suc (suc (suc (suc zero))))))) low = refl
-eight-same bytes k (suc (suc (suc (suc (suc (suc (suc (suc i)))))))) low = absurd (omega arith)
-
--- the bits of eight bytes that are read as a word are their marks
-pub word-mark : (bytes : List ℕ) (first : ℕ) → ((i : ℕ) → get_or bytes i 0 < 256) → (k : ℕ) → k < 64 → (bit_at (from_le_bytes w64 (eight_at bytes first)) k == 1) ≡ mark_at bytes (8 * first + k)
-unfolding mark_at number
-word-mark bytes first small k low = ap (λ b. b == 1) (
-    number-bit (eight_at bytes first) 7 little k low
-    ∙ ap (λ b. bit_at b (k % 8)) (eight-same bytes first (k / 8) (omega arith))
-    ∙ ap₂ (λ x y. bit_at (get_or bytes x 0) y) (let e : first + k / 8 ≡ (8 * first + k) / 8 = omega arith in e) (let e : k % 8 ≡ (8 * first + k) % 8 = omega arith in e))
-  where
-    little : (i : ℕ) → i ≤ 7 → get_or (eight_at bytes first) i 0 < 256
-    little i le = subst (λ x. x < 256) (sym (eight-same bytes first i (omega arith))) (small (first + i))
-
--- where the bytes hold the marks of rows, the bits are those of 64 of them
-pub word-rows : (bytes : List ℕ) (rows : List Bool) (n at word : ℕ) → marks bytes 0 n ≡ rows → 64 * at + 64 ≤ n → ((k : ℕ) → k < 64 → (bit_at word k == 1) ≡ mark_at bytes (8 * (8 * at) + k))
-    → (k : ℕ) → k < 64 → slice_get rows (64 * at + k) ≡ Some (bit_at word k == 1)
-word-rows bytes rows n at word same within read k low =
-    ap (λ xs. slice_get xs (64 * at + k)) (sym same)
-    ∙ slice_get-marks bytes 0 n (64 * at + k) (omega arith)
-    ∙ ap Some (ap (mark_at bytes) (let e : 0 + (64 * at + k) ≡ 8 * (8 * at) + k = omega arith in e) ∙ sym (read k low))
 
 -- ---- the lowest set bit
 

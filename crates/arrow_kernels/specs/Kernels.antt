@@ -1,12 +1,13 @@
 -- What kernels make of columns: a column of some of the rows of another, those for which a filter asks, or those at the
 -- places that keys tell.
-use Rattle.std.specs.Prelude.{ℕ, ℤ, Bool, false, not, nat_lt, List, length, map, find, Option, slice_get, option_and_then, unwrap_or}
+use Rattle.std.specs.Prelude.{◌&&◌, ℕ, ℤ, Bool, false, not, nat_lt, List, length, map, find, Option, slice_get, option_and_then, unwrap_or}
 use Rattle.std.specs.List.{concat, filter_map, zip}
 use Rattle.arrow_types.specs.IndexKey.{index_of}
+use Rattle.arrow_memory.specs.Offsets.{last_of}
 use Rattle.arrow_memory.specs.Rows.{Row, slot}
 use Rattle.arrow_column.specs.Column.{Column, ColumnWith, slots_of, stored_values, without_needless_mask}
 use Rattle.arrow_check.specs.Indexes.{is_place}
-use Rattle.arrow_bytes.specs.Column.{ByteColumn}
+use Rattle.arrow_bytes.specs.Column.{ByteColumn, offsets_held}
 
 -- a column of these rows alone, under the type of another: nothing lies around them, and a mask is held exactly where a
 -- slot is null
@@ -16,6 +17,10 @@ column_of_rows nothing column rows = without_needless_mask (record column { arou
 -- those of a list that have a set mark, in order
 abbrev pub where_set : {X : Type 0} → List Bool → List X → List X
 where_set marks xs = filter_map slot (zip xs marks)
+
+-- a mark for each of as many values and marks: set where both are
+abbrev pub set_in_both : List Bool → List Bool → List Bool
+set_in_both values marks = map (λ row. row.1 && row.0) (zip values marks)
 
 -- for which rows a filter asks: those at which its slot is valid and true
 abbrev pub asked : Column Bool → List Bool
@@ -44,3 +49,7 @@ first_astray number column keys = find (λ key. not (is_place (length column.row
 -- whether the items that keys take would end past the greatest number of an offset
 abbrev pub taking_overflows : {K : Type 0} → ℕ → (K → ℤ) → ByteColumn → List K → Bool
 taking_overflows most number column keys = nat_lt most (length (concat (at_keys number keys (stored_values column))))
+
+-- whether the last offset of a column is above the greatest number of 32 bits
+abbrev pub narrowing_overflows : ByteColumn → Bool
+narrowing_overflows column = nat_lt 2147483647 (last_of (offsets_held column))

@@ -5,6 +5,7 @@ ghost use Rattle.std.specs.Option.{option_copied};
 ghost use Rattle.std.specs.Vec.{vec_capacity};
 ghost use Rattle.arrow_column.specs.Masks.{mask_with_nulls};
 ghost use Rattle.arrow_column.specs.Column.{stored_values};
+ghost use Rattle.arrow_memory.specs.Marks.{bits_of};
 ghost use Rattle.arrow_memory.specs.Offsets.{last_of};
 ghost use Rattle.arrow_check.specs.Pieces.{items_of, offsets_of};
 ghost use Rattle.arrow_bytes.specs.Kinds.{CutItems};
@@ -14,6 +15,7 @@ ghost use Rattle.arrow_kernels.specs.Kernels.{where_set};
 use crate::asked::Asked;
 use crate::mask::needed_mask;
 use crate::pieces::item_at;
+use crate::runs::{has_few_runs, next_set, run_end};
 use arrow_byte_array::ByteArray;
 use arrow_bytes::ByteKind;
 use arrow_memory::bitmap::{Bitmap, MutableBitmap};
@@ -105,6 +107,58 @@ pub(crate) fn keep_values<T: NativeType>(
     keep_each_value(alloc, values, asked)
 }
 
+/// The bits of a word of marks where a word of asked rows has set bits, one behind the other, and how many they are: run by
+/// run.
+fn kept_runs(asked: u64, marks: u64) -> (u64, usize)
+    ensures count { result.1 ≤ 64 }
+    ensures bits { bits_of result.0 result.1 ≡ where_set (bits_of asked 64) (bits_of marks 64) }
+{
+    let mut kept = 0;
+    let mut count = 0;
+    let mut first = next_set(asked, 0);
+    while first < 64 {
+        let end = run_end(asked, first);
+        let run = marks >> first & u64::MAX >> (64 - (end - first));
+        kept += run << count;
+        count += end - first;
+        first = next_set(asked, end);
+    }
+    (kept, count)
+}
+
+/// The same, bit by bit.
+#[inline(always)]
+fn kept_bits(asked: u64, marks: u64) -> (u64, usize)
+    ensures count { result.1 ≤ 64 }
+    ensures bits { bits_of result.0 result.1 ≡ where_set (bits_of asked 64) (bits_of marks 64) }
+{
+    let mut kept = 0;
+    let mut count = 0;
+    let mut left = asked;
+    while left != 0 {
+        kept += (marks >> left.trailing_zeros() & 1) << count;
+        count += 1;
+        left &= left - 1;
+    }
+    (kept, count)
+}
+
+/// The same, in the way that suits the word of asked rows.
+#[inline(always)]
+fn kept_word(asked: u64, marks: u64) -> (u64, usize)
+    ensures count { result.1 ≤ 64 }
+    ensures bits { bits_of result.0 result.1 ≡ where_set (bits_of asked 64) (bits_of marks 64) }
+{
+    if asked == u64::MAX {
+        return (marks, 64);
+    }
+    if has_few_runs(asked) {
+        kept_runs(asked, marks)
+    } else {
+        kept_bits(asked, marks)
+    }
+}
+
 /// Appends the marks that are asked for of 64 rows, from row `64 * at` on, behind those of the rows before them.
 #[inline(always)]
 fn keep_word_marks(
@@ -120,13 +174,11 @@ fn keep_word_marks(
     ensures ok { OnOk result (kept.new ≡ where_set (take (64 * at + 64) asked.now) (take (64 * at + 64) marks.now)) }
     ensures err { IfErr result (λ e. e ≡ Error.OutOfMemory) }
 {
-    let mut left = asked.word(at);
-    while left != 0 {
-        let row = 64 * at + left.trailing_zeros() as usize;
-        kept.push(marks.get_bit(row))?;
-        left &= left - 1;
+    let (bits, count) = kept_word(asked.word(at), marks.word(64 * at));
+    if count == 0 {
+        return Ok(());
     }
-    Ok(())
+    kept.extend_from_word(bits, count)
 }
 
 /// Appends the marks that are asked for from a row on, behind those of the rows before it.
@@ -150,13 +202,14 @@ fn keep_last_marks(
     Ok(())
 }
 
-/// The marks that are asked for, 64 rows at a time. Room is made once.
+/// The marks that are asked for, 64 rows at a time. Room is made once, with a word more, since marks come as whole words.
 fn keep_each_mark(alloc: Global, marks: &Bitmap, asked: &Asked) -> Result<Bitmap, Error>
     requires { length asked.now ≡ length marks.now }
     ensures ok { IfOk result (λ kept. kept ≡ where_set asked.now marks.now) }
     ensures err { IfErr result (λ e. e ≡ Error.OutOfMemory) }
 {
-    let mut kept = MutableBitmap::with_capacity(alloc, asked.len() - asked.unset_bits())?;
+    let count = asked.len() - asked.unset_bits();
+    let mut kept = MutableBitmap::with_capacity(alloc, count.saturating_add(64))?;
     let words = asked.len() / 64;
     for at in 0..words {
         keep_word_marks(&mut kept, marks, asked, at)?;
@@ -180,7 +233,8 @@ pub(crate) fn keep_marks(alloc: Global, marks: &Bitmap, asked: &Asked) -> Result
     keep_each_mark(alloc, marks, asked)
 }
 
-/// The mask of the rows that are asked for, which is held only where one of them is null.
+/// The mask of the rows that are asked for, which is held only where one of them is null. Where no row is null, none is
+/// made.
 pub(crate) fn keep_mask(
     alloc: Global,
     validity: Option<&Bitmap>,
@@ -192,13 +246,53 @@ pub(crate) fn keep_mask(
 {
     match validity {
         None => Ok(None),
-        Some(marks) => Ok(needed_mask(keep_marks(alloc, marks, asked)?)),
+        Some(marks) => {
+            if marks.unset_bits() == 0 {
+                return Ok(None);
+            }
+            Ok(needed_mask(keep_marks(alloc, marks, asked)?))
+        }
     }
 }
 
-/// Appends the items that are asked for of 64 rows, from row `64 * at` on, behind those of the rows before them.
+/// Appends the items that are asked for of 64 rows, from row `64 * at` on, behind those of the rows before them: run by run,
+/// whose bytes are copied at once.
+#[inline(never)]
+fn keep_runs<O: Offset>(
+    kept: &mut Offsets<O>,
+    kept_bytes: &mut Vec<u8>,
+    offsets: &OffsetsBuffer<O>,
+    bytes: &[u8],
+    asked: &Asked,
+    at: usize,
+) -> Result<(), Error>
+    requires count { length asked.now + 1 ≡ length offsets.now }
+    requires held { last_of offsets.now ≤ length bytes.now }
+    requires within { 64 * at + 64 ≤ length asked.now }
+    requires fits { length asked.now < 2 ^ 64 }
+    requires ends { kept.old ≡ offsets_of 0 (where_set (take (64 * at) asked.now) (take (64 * at) (items_of offsets.now bytes.now))) }
+    requires joined { kept_bytes.old.items ≡ concat (where_set (take (64 * at) asked.now) (take (64 * at) (items_of offsets.now bytes.now))) }
+    ensures ends { OnOk result (kept.new ≡ offsets_of 0 (where_set (take (64 * at + 64) asked.now) (take (64 * at + 64) (items_of offsets.now bytes.now)))) }
+    ensures joined { OnOk result (kept_bytes.new.items ≡ concat (where_set (take (64 * at + 64) asked.now) (take (64 * at + 64) (items_of offsets.now bytes.now)))) }
+    ensures err { IfErr result (λ e. e ≡ Error.OutOfMemory) }
+{
+    let word = asked.word(at);
+    let mut first = next_set(word, 0);
+    while first < 64 {
+        let end = run_end(word, first);
+        // Some items of an array never end past what its offsets can tell, so it is memory that is refused.
+        match kept.try_extend_slots(kept_bytes, offsets, bytes, 64 * at + first, end - first) {
+            Ok(()) => {}
+            Err(_) => return Err(Error::OutOfMemory),
+        }
+        first = next_set(word, end);
+    }
+    Ok(())
+}
+
+/// The same, item by item.
 #[inline(always)]
-fn keep_word_items<O: Offset>(
+fn keep_each_item<O: Offset>(
     kept: &mut Offsets<O>,
     kept_bytes: &mut Vec<u8>,
     offsets: &OffsetsBuffer<O>,
@@ -220,7 +314,7 @@ fn keep_word_items<O: Offset>(
     while left != 0 {
         let row = 64 * at + left.trailing_zeros() as usize;
         let item = item_at(offsets, bytes, row);
-        // Some items of an array never end past what its offsets can tell, so it is memory that is refused.
+        // Here too it is memory that is refused.
         match kept.try_push_item(kept_bytes, item) {
             Ok(()) => {}
             Err(_) => return Err(Error::OutOfMemory),
@@ -228,6 +322,33 @@ fn keep_word_items<O: Offset>(
         left &= left - 1;
     }
     Ok(())
+}
+
+/// The same, in the way that suits the rows.
+#[inline(always)]
+fn keep_word_items<O: Offset>(
+    kept: &mut Offsets<O>,
+    kept_bytes: &mut Vec<u8>,
+    offsets: &OffsetsBuffer<O>,
+    bytes: &[u8],
+    asked: &Asked,
+    at: usize,
+) -> Result<(), Error>
+    requires count { length asked.now + 1 ≡ length offsets.now }
+    requires held { last_of offsets.now ≤ length bytes.now }
+    requires within { 64 * at + 64 ≤ length asked.now }
+    requires fits { length asked.now < 2 ^ 64 }
+    requires ends { kept.old ≡ offsets_of 0 (where_set (take (64 * at) asked.now) (take (64 * at) (items_of offsets.now bytes.now))) }
+    requires joined { kept_bytes.old.items ≡ concat (where_set (take (64 * at) asked.now) (take (64 * at) (items_of offsets.now bytes.now))) }
+    ensures ends { OnOk result (kept.new ≡ offsets_of 0 (where_set (take (64 * at + 64) asked.now) (take (64 * at + 64) (items_of offsets.now bytes.now)))) }
+    ensures joined { OnOk result (kept_bytes.new.items ≡ concat (where_set (take (64 * at + 64) asked.now) (take (64 * at + 64) (items_of offsets.now bytes.now)))) }
+    ensures err { IfErr result (λ e. e ≡ Error.OutOfMemory) }
+{
+    if has_few_runs(asked.word(at)) {
+        keep_runs(kept, kept_bytes, offsets, bytes, asked, at)
+    } else {
+        keep_each_item(kept, kept_bytes, offsets, bytes, asked, at)
+    }
 }
 
 /// Appends the items that are asked for from a row on, behind those of the rows before it.
@@ -261,6 +382,17 @@ fn keep_last_items<O: Offset>(
     Ok(())
 }
 
+/// Room for the bytes of so many of the items, were each as long as the items are on average, and for a word more.
+fn room_for<O: Offset>(offsets: &OffsetsBuffer<O>, count: usize) -> usize {
+    let all = offsets.last().to_usize() - offsets.first().to_usize();
+    let slots = offsets.len_proxy();
+    if slots == 0 {
+        return 0;
+    }
+    let some = (all / slots).saturating_add(1).saturating_mul(count);
+    some.min(all).saturating_add(16)
+}
+
 /// The items that are asked for, as offsets and bytes of their own, 64 rows at a time.
 pub(crate) fn keep_items<O: Offset>(
     alloc: Global,
@@ -274,8 +406,9 @@ pub(crate) fn keep_items<O: Offset>(
     ensures bytes { IfOk result (λ kept. kept.1.items ≡ concat (where_set asked.now (items_of offsets.now bytes.now))) }
     ensures err { IfErr result (λ e. e ≡ Error.OutOfMemory) }
 {
-    let mut kept = Offsets::with_capacity(alloc, asked.len() - asked.unset_bits())?;
-    let mut kept_bytes = Vec::new(alloc);
+    let count = asked.len() - asked.unset_bits();
+    let mut kept = Offsets::with_capacity(alloc, count)?;
+    let mut kept_bytes = Vec::with_capacity(alloc, room_for(offsets, count))?;
     let words = asked.len() / 64;
     for at in 0..words {
         keep_word_items(&mut kept, &mut kept_bytes, offsets, bytes, asked, at)?;

@@ -1,4 +1,5 @@
-//! Kernels over arrays: the rows for which a filter asks, and the rows at the places that keys tell. They stand on the
+//! Kernels over arrays: the rows for which a filter asks, the rows at the places that keys tell, and the same rows over
+//! offsets of the other width. They stand on the
 //! public calls of arrays and builders, and their proofs on the contracts of these.
 #![tactic(auto)]
 
@@ -8,7 +9,10 @@ mod keep;
 mod mask;
 mod pick;
 mod pieces;
+mod runs;
 mod take;
+mod widths;
 
 pub use filter::{filter_binary, filter_boolean, filter_primitive, filter_utf8};
 pub use take::{take_binary, take_boolean, take_primitive, take_utf8};
+pub use widths::{narrow_binary, narrow_utf8, widen_binary, widen_utf8};

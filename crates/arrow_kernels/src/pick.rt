@@ -5,6 +5,7 @@ ghost use Rattle.std.specs.Option.{option_copied};
 ghost use Rattle.arrow_types.specs.IndexKey.{index_of};
 ghost use Rattle.arrow_column.specs.Masks.{mask_with_nulls};
 ghost use Rattle.arrow_column.specs.Column.{stored_values};
+ghost use Rattle.arrow_memory.specs.Marks.{bits_of};
 ghost use Rattle.arrow_memory.specs.Offsets.{last_of};
 ghost use Rattle.arrow_check.specs.Pieces.{items_of, offsets_of};
 ghost use Rattle.arrow_bytes.specs.Kinds.{CutItems};
@@ -54,7 +55,24 @@ pub(crate) fn pick_values<T: NativeType, K: IndexKey>(
     Ok(picked)
 }
 
-/// The marks at the keys' places.
+/// The marks at the places of at most 64 keys, as the bits of a word.
+#[inline(always)]
+fn picked_word<K: IndexKey>(marks: &Bitmap, keys: &[K]) -> u64
+    requires few { length keys.now ≤ 64 }
+    requires keys { All (λ key. IsSomeAnd (index_of (K.number key)) (λ index. index < length marks.now)) keys.now }
+    ensures { bits_of result (length keys.now) ≡ at_keys K.number keys.now marks.now }
+{
+    let mut word = 0;
+    let mut count = 0_usize;
+    for key in keys {
+        let mark = marks.get_bit(place_of(key, marks.len()));
+        word += u64::from(mark) << count;
+        count += 1;
+    }
+    word
+}
+
+/// The marks at the keys' places, 64 at a time. Room is made once, with a word more, since marks come as whole words.
 pub(crate) fn pick_marks<K: IndexKey>(
     alloc: Global,
     marks: &Bitmap,
@@ -64,14 +82,19 @@ pub(crate) fn pick_marks<K: IndexKey>(
     ensures ok { IfOk result (λ picked. picked ≡ at_keys K.number keys.now marks.now) }
     ensures err { IfErr result (λ e. e ≡ Error.OutOfMemory) }
 {
-    let mut picked = MutableBitmap::with_capacity(alloc, keys.len())?;
-    for key in keys {
-        picked.push(marks.get_bit(place_of(key, marks.len())))?;
+    let mut picked = MutableBitmap::with_capacity(alloc, keys.len().saturating_add(64))?;
+    let words = keys.len() / 64;
+    for at in 0..words {
+        let some = &keys[64 * at..64 * at + 64];
+        picked.extend_from_word(picked_word(marks, some), 64)?;
     }
+    let last = &keys[64 * words..];
+    picked.extend_from_word(picked_word(marks, last), last.len())?;
     picked.freeze()
 }
 
-/// The mask of the rows at the keys' places, which is held only where one of them is null.
+/// The mask of the rows at the keys' places, which is held only where one of them is null. Where no row is null, none is
+/// made.
 pub(crate) fn pick_mask<K: IndexKey>(
     alloc: Global,
     validity: Option<&Bitmap>,
@@ -83,7 +106,12 @@ pub(crate) fn pick_mask<K: IndexKey>(
 {
     match validity {
         None => Ok(None),
-        Some(marks) => Ok(needed_mask(pick_marks(alloc, marks, keys)?)),
+        Some(marks) => {
+            if marks.unset_bits() == 0 {
+                return Ok(None);
+            }
+            Ok(needed_mask(pick_marks(alloc, marks, keys)?))
+        }
     }
 }
 

@@ -6,6 +6,7 @@
 mod bytes;
 mod numbers;
 mod truths;
+mod widths;
 
 use arrow_boolean::BooleanArray;
 use arrow_memory::bitmap::Bitmap;

@@ -1,9 +1,9 @@
 -- Lemmas about marks that are copied between packed bytes.
-use Rattle.std.proofs.Common.{◌≡◌, ◌≢◌, ℕ, zero, suc, ◌+◌, ◌-◌, ◌*◌, ◌/◌, ◌%◌, ◌^◌, ◌<◌, ◌≤◌, Bool, false, if◌then◌else◌, subst, List, [], ◌∷◌, ◌++◌, length, get_or, set, take, drop, get_or-take, get_or-drop, length-take, length-drop, ap, ap₂, refl, sym, ◌∙◌, inl, inr, ◌==◌, bit_and, bit_or, max, arith, zero-add}
+use Rattle.std.proofs.Common.{◌≡◌, ◌≢◌, ℕ, zero, suc, ◌+◌, ◌-◌, ◌*◌, ◌/◌, ◌%◌, ◌^◌, ◌<◌, ◌≤◌, Bool, false, if◌then◌else◌, subst, List, [], ◌∷◌, ◌++◌, length, get_or, set, take, drop, get_or-take, get_or-drop, length-take, length-drop, ap, ap₂, refl, sym, ◌∙◌, inl, inr, ◌==◌, bit_and, bit_or, max, arith, add-zero, zero-add}
 use Rattle.std.specs.Int.{bit_at, div_ceil}
 use Rattle.std.proofs.lemmas.List.{same_lists, get_or-append_right, get_or_default}
 use Rattle.std.proofs.lemmas.Bool.{cases_eq, cases_lt}
-use Rattle.std.proofs.lemmas.Nat.{pow_pos, shr-shr}
+use Rattle.std.proofs.lemmas.Nat.{pow_pos, shr-shr, shr_split}
 use Rattle.std.proofs.lemmas.Nat.Bits.{bit_at_above, bit_at_or, bit_at-zero, bit_at_cat_low, bit_at_cat_high}
 use Rattle.arrow_memory.specs.Marks.{mark_at, marks}
 use Rattle.arrow_memory.specs.MarkWrites.{CopiesMarks}
@@ -11,38 +11,35 @@ use Rattle.arrow_memory.proofs.MarkLemmas.{mark_at-set_same, mark_at-append, mar
 
 -- ---- bits of a byte that is shifted
 
--- the low byte of a number has its bits
-low_bit : (n i : ℕ) → i < 8 → bit_at (n % 256) i ≡ bit_at n i
-low_bit n i low =
-    let whole : n / 256 * 2 ^ 8 + n % 256 ≡ n = omega arith in
-    sym (bit_at_cat_low (n / 256) 8 (n % 256) i low) ∙ ap (λ m. bit_at m i) whole
+-- the low bits of a number
+low_bit : (w n i : ℕ) → i < w → bit_at (n % 2 ^ w) i ≡ bit_at n i
+low_bit w n i low = sym (bit_at_cat_low (n / 2 ^ w) w (n % 2 ^ w) i low) ∙ ap (λ m. bit_at m i) (shr_split n w)
 
-shifted_below : (n f i : ℕ) → i < f → i < 8 → bit_at (n * 2 ^ f % 256) i ≡ 0
-shifted_below n f i below low =
-    let plain : n * 2 ^ f + 0 ≡ n * 2 ^ f = omega arith in
-    low_bit (n * 2 ^ f) i low ∙ ap (λ m. bit_at m i) (sym plain) ∙ bit_at_cat_low n f 0 i below ∙ bit_at-zero i
+-- a number that is shifted, at a width
+pub shifted_below : (w n f i : ℕ) → i < f → i < w → bit_at (n * 2 ^ f % 2 ^ w) i ≡ 0
+shifted_below w n f i below low =
+    low_bit w (n * 2 ^ f) i low ∙ ap (λ m. bit_at m i) (sym (add-zero (n * 2 ^ f))) ∙ bit_at_cat_low n f 0 i below ∙ bit_at-zero i
 
-shifted_above : (n f i : ℕ) → f + i < 8 → bit_at (n * 2 ^ f % 256) (f + i) ≡ bit_at n i
-shifted_above n f i low =
-    let plain : n * 2 ^ f + 0 ≡ n * 2 ^ f = omega arith in
+pub shifted_above : (w n f i : ℕ) → f + i < w → bit_at (n * 2 ^ f % 2 ^ w) (f + i) ≡ bit_at n i
+shifted_above w n f i low =
     let back : f + i - f ≡ i = omega arith in
-    low_bit (n * 2 ^ f) (f + i) low ∙ ap (λ m. bit_at m (f + i)) (sym plain) ∙ bit_at_cat_high n f 0 (f + i) (pow_pos f) (omega arith) ∙ ap (bit_at n) back
+    low_bit w (n * 2 ^ f) (f + i) low ∙ ap (λ m. bit_at m (f + i)) (sym (add-zero (n * 2 ^ f))) ∙ bit_at_cat_high n f 0 (f + i) (pow_pos f) (omega arith) ∙ ap (bit_at n) back
 
-max-zero : (x y : ℕ) → y ≡ 0 → max x y ≡ x
+pub max-zero : (x y : ℕ) → y ≡ 0 → max x y ≡ x
 max-zero x y e = omega (arith, e)
 
-zero-max : (x y : ℕ) → x ≡ 0 → max x y ≡ y
+pub zero-max : (x y : ℕ) → x ≡ 0 → max x y ≡ y
 zero-max x y e = omega (arith, e)
 
 -- a byte's low bits and another's above them
 module _ (b from above : ℕ) (within : from < 8) where
   pub joined-kept : (k : ℕ) → k < from → bit_at (bit_or (bit_and b (255 - 255 * 2 ^ from % 256)) (above * 2 ^ from % 256)) k ≡ bit_at b k
   joined-kept k below = bit_at_or (bit_and b (255 - 255 * 2 ^ from % 256)) (above * 2 ^ from % 256) k
-      ∙ max-zero _ _ (shifted_below above from k below (omega arith)) ∙ top_clear-kept b from within k below
+      ∙ max-zero _ _ (shifted_below 8 above from k below (omega arith)) ∙ top_clear-kept b from within k below
 
   pub joined-put : (k : ℕ) → from + k < 8 → bit_at (bit_or (bit_and b (255 - 255 * 2 ^ from % 256)) (above * 2 ^ from % 256)) (from + k) ≡ bit_at above k
   joined-put k low = bit_at_or (bit_and b (255 - 255 * 2 ^ from % 256)) (above * 2 ^ from % 256) (from + k)
-      ∙ zero-max _ _ (top_clear b from within (from + k) (omega arith) low) ∙ shifted_above above from k low
+      ∙ zero-max _ _ (top_clear b from within (from + k) (omega arith) low) ∙ shifted_above 8 above from k low
 
 -- ---- marks between two bytes
 
@@ -50,16 +47,16 @@ module _ (b from above : ℕ) (within : from < 8) where
 module _ (high shift : ℕ) (within : shift < 8) where
   high_below : (k : ℕ) → k < 8 → shift + k < 8 → bit_at (high * 2 ^ 1 % 256 * 2 ^ (7 - shift) % 256) k ≡ 0
   high_below k inner early = elim (cases_lt k (7 - shift)) [
-    | inl low ↦ shifted_below (high * 2 ^ 1 % 256) (7 - shift) k low inner
+    | inl low ↦ shifted_below 8 (high * 2 ^ 1 % 256) (7 - shift) k low inner
     | inr past ↦
         let last : k ≡ 7 - shift + 0 = omega arith in
-        ap (bit_at (high * 2 ^ 1 % 256 * 2 ^ (7 - shift) % 256)) last ∙ shifted_above (high * 2 ^ 1 % 256) (7 - shift) 0 (omega arith) ∙ shifted_below high 1 0 (omega arith) (omega arith)
+        ap (bit_at (high * 2 ^ 1 % 256 * 2 ^ (7 - shift) % 256)) last ∙ shifted_above 8 (high * 2 ^ 1 % 256) (7 - shift) 0 (omega arith) ∙ shifted_below 8 high 1 0 (omega arith) (omega arith)
   ]
 
   high_above : (k : ℕ) → k < 8 → 8 ≤ shift + k → bit_at (high * 2 ^ 1 % 256 * 2 ^ (7 - shift) % 256) k ≡ bit_at high (shift + k - 8)
   high_above k inner late =
       let place : k ≡ 7 - shift + (1 + (shift + k - 8)) = omega arith in
-      ap (bit_at (high * 2 ^ 1 % 256 * 2 ^ (7 - shift) % 256)) place ∙ shifted_above (high * 2 ^ 1 % 256) (7 - shift) (1 + (shift + k - 8)) (omega arith) ∙ shifted_above high 1 (shift + k - 8) (omega arith)
+      ap (bit_at (high * 2 ^ 1 % 256 * 2 ^ (7 - shift) % 256)) place ∙ shifted_above 8 (high * 2 ^ 1 % 256) (7 - shift) (1 + (shift + k - 8)) (omega arith) ∙ shifted_above 8 high 1 (shift + k - 8) (omega arith)
 
 pub between-mark : (low high shift : ℕ) → low < 256 → shift < 8 → (k : ℕ) → k < 8 → (bit_at (bit_or (low / 2 ^ shift) (high * 2 ^ 1 % 256 * 2 ^ (7 - shift) % 256)) k == 1) ≡ mark_at (low ∷ high ∷ []) (shift + k)
 unfolding mark_at
@@ -202,7 +199,7 @@ packed_bit values b w n low before same others k within = elim (cases_eq k n) [
   | inr apart ↦ mark_at-one w k (omega arith) ∙ ap (λ x. x == 1) (others k (omega arith) apart) ∙ sym (mark_at-one b k (omega arith)) ∙ before k (omega arith)
 ]
 
-mark_at-behind : (xs ys : List ℕ) (n i : ℕ) → length xs ≡ n → 8 * n ≤ i → mark_at (xs ++ ys) i ≡ mark_at ys (i - 8 * n)
+pub mark_at-behind : (xs ys : List ℕ) (n i : ℕ) → length xs ≡ n → 8 * n ≤ i → mark_at (xs ++ ys) i ≡ mark_at ys (i - 8 * n)
 unfolding mark_at
 mark_at-behind xs ys n i e past =
     ap (λ b. bit_at b (i % 8) == 1) (get_or-append_right xs ys n (i / 8) 0 e (omega arith))

@@ -4,6 +4,7 @@ mod growing;
 mod items;
 mod numbers;
 mod shared;
+mod widths;
 
 pub use growing::Offsets;
 pub use numbers::{number_at, start_end_of};

@@ -2,6 +2,7 @@
 mod copies;
 mod mutable;
 mod shared;
+mod words;
 
 use arrow_memory::bitmap::{Bitmap, BitmapIter, MutableBitmap};
 use arrow_types::error::Error;

@@ -1,2 +1,3 @@
 mod growing;
 mod shared;
+mod widths;

@@ -1,5 +1,5 @@
 //! Arrays and builders whose values or masks are replaced, and arrays that are thawed.
-ghost use Rattle.std.specs.Prelude.{◌≡◌, List, Bool, Some, length, IfSome, IsTrue, MatchOption, OnOk, IfErr, vec_len};
+ghost use Rattle.std.specs.Prelude.{◌≡◌, List, Bool, Some, length, IfSome, IsTrue, MatchOption, vec_len};
 ghost use Rattle.std.specs.Bool.{OnFalse};
 ghost use Rattle.std.specs.Borrow.{MutBor};
 ghost use Rattle.std.specs.Fn.{FnOnceReturnsAtMut};

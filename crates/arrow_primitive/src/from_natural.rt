@@ -1,8 +1,8 @@
 //! Arrays and builders made of values or of slots.
-ghost use Rattle.std.specs.Prelude.{◌≡◌, List, Option, Some, None, [], false, map, replicate, IfOk, IfErr};
+ghost use Rattle.std.specs.Prelude.{◌≡◌, List, Option, Some, None, [], false, replicate, IfOk, IfErr};
 ghost use Rattle.std.specs.Iterator.{Drains, IsFinite};
 ghost use Rattle.arrow_types.specs.Types.{logical_type, IsRightType, default_logical_type};
-ghost use Rattle.arrow_column.specs.Column.{append_slots, column_of_parts, empty_column, without_needless_mask};
+ghost use Rattle.arrow_column.specs.Column.{append_slots, column_of_parts, without_needless_mask};
 
 use crate::{MutablePrimitiveArray, PrimitiveArray};
 use arrow_memory::bitmap::{Bitmap, MutableBitmap};

@@ -72,83 +72,59 @@ fn grow(
     }
 }
 
-/// What the builder of a true slot stores after it, and its marks.
-fn wanted<'a>(call: Growth) -> (&'a str, &'a str) {
-    match call {
-        Growth::Push => ("11", "none"),
-        Growth::PushOfANull | Growth::TryPush | Growth::PushNull => ("10", "10"),
-        Growth::TryExtendFromSelf => ("100", "110"),
-        Growth::Set => ("0", "0"),
-        Growth::Reserve | Growth::ShrinkToFit => ("1", "none"),
-    }
-}
+/// Each of the calls, and what the builder of a true slot stores after it, under which marks.
+const GROWTHS: &[(Growth, &str, &str)] = &[
+    (Growth::Push, "11", "none"),
+    (Growth::PushOfANull, "10", "10"),
+    (Growth::TryPush, "10", "10"),
+    (Growth::PushNull, "10", "10"),
+    (Growth::TryExtendFromSelf, "100", "110"),
+    (Growth::Set, "0", "0"),
+    (Growth::Reserve, "1", "none"),
+    (Growth::ShrinkToFit, "1", "none"),
+];
 
 /// Whether a builder of a true slot has grown, or, where that is refused, is as before, and grows by the same call.
 fn grows(
     builder: &mut MutableBooleanArray,
     other: &MutableBooleanArray,
     call: Growth,
+    values: &str,
+    mask: &str,
 ) -> Result<bool, Error> {
-    let (values, mask) = wanted(call);
     match grow(builder, other, call) {
         Ok(()) => Ok(builds(builder, values, mask)),
         Err(refused) => {
             let is_left = builds(builder, "1", "none");
             let is_grown = grow(builder, other, call).is_ok();
-            after(refused, is_left & is_grown && builds(builder, values, mask))
+            after(refused, is_left & is_grown & builds(builder, values, mask))
         }
     }
 }
 
-/// Whether a new one has.
-fn grows_new(alloc: Global, other: &MutableBooleanArray, call: Growth) -> Result<bool, Error> {
-    grows(&mut one(alloc)?, other, call)
+/// Whether new ones have by each call.
+fn each_grown(
+    alloc: Global,
+    other: &MutableBooleanArray,
+    calls: &[(Growth, &str, &str)],
+) -> Result<bool, Error> {
+    for (call, values, mask) in calls {
+        if !grows(&mut one(alloc)?, other, *call, *values, *mask)? {
+            return Ok(false);
+        }
+    }
+    Ok(true)
 }
 
-/// Whether it has beside a builder of a false slot and a null.
-fn grown(alloc: Global, call: Growth) -> Result<bool, Error> {
+/// Whether they have beside a builder of a false slot and a null.
+fn all_grown(alloc: Global) -> Result<bool, Error> {
     let other = MutableBooleanArray::from(alloc, [Some(false), None].as_slice())?;
-    grows_new(alloc, &other, call)
+    each_grown(alloc, &other, GROWTHS)
 }
 
 #[test]
-fn push(rt: HostRuntime) -> Result<(), Fail> {
-    told(grown(rt.alloc(), Growth::Push))
-}
-
-#[test]
-fn push_of_a_null(rt: HostRuntime) -> Result<(), Fail> {
-    told(grown(rt.alloc(), Growth::PushOfANull))
-}
-
-#[test]
-fn try_push(rt: HostRuntime) -> Result<(), Fail> {
-    told(grown(rt.alloc(), Growth::TryPush))
-}
-
-#[test]
-fn push_null(rt: HostRuntime) -> Result<(), Fail> {
-    told(grown(rt.alloc(), Growth::PushNull))
-}
-
-#[test]
-fn try_extend_from_self(rt: HostRuntime) -> Result<(), Fail> {
-    told(grown(rt.alloc(), Growth::TryExtendFromSelf))
-}
-
-#[test]
-fn set(rt: HostRuntime) -> Result<(), Fail> {
-    told(grown(rt.alloc(), Growth::Set))
-}
-
-#[test]
-fn reserve(rt: HostRuntime) -> Result<(), Fail> {
-    told(grown(rt.alloc(), Growth::Reserve))
-}
-
-#[test]
-fn shrink_to_fit(rt: HostRuntime) -> Result<(), Fail> {
-    told(grown(rt.alloc(), Growth::ShrinkToFit))
+fn growths(rt: HostRuntime) -> Result<(), Fail> {
+    told(all_grown(rt.alloc()))
 }
 
 /// The calls by which a builder grows by what an iterator gives, as far as there is memory.
@@ -203,24 +179,24 @@ fn extends(builder: &mut MutableBooleanArray, call: Extension) -> Result<bool, E
     }
 }
 
-/// Whether a new one is.
-fn extended(alloc: Global, call: Extension) -> Result<bool, Error> {
-    extends(&mut one(alloc)?, call)
+/// Whether new ones are by each call.
+fn all_extended(alloc: Global, calls: &[Extension]) -> Result<bool, Error> {
+    for call in calls {
+        if !extends(&mut one(alloc)?, *call)? {
+            return Ok(false);
+        }
+    }
+    Ok(true)
 }
 
 #[test]
-fn extend(rt: HostRuntime) -> Result<(), Fail> {
-    told(extended(rt.alloc(), Extension::Extend))
-}
-
-#[test]
-fn try_extend(rt: HostRuntime) -> Result<(), Fail> {
-    told(extended(rt.alloc(), Extension::TryExtend))
-}
-
-#[test]
-fn extend_values(rt: HostRuntime) -> Result<(), Fail> {
-    told(extended(rt.alloc(), Extension::ExtendValues))
+fn extensions(rt: HostRuntime) -> Result<(), Fail> {
+    let calls = [
+        Extension::Extend,
+        Extension::TryExtend,
+        Extension::ExtendValues,
+    ];
+    told(all_extended(rt.alloc(), calls.as_slice()))
 }
 
 /// Clears the first of some marks, and notes that it ran.
@@ -319,71 +295,48 @@ fn array(alloc: Global, call: Made) -> Result<BooleanArray, Error> {
     }
 }
 
-/// What it stores, and its marks.
-fn stored<'a>(call: Made) -> (&'a str, &'a str) {
-    match call {
-        Made::FromSlice => ("10", "none"),
-        Made::NewEmpty => ("", "none"),
-        Made::NewNull => ("00", "00"),
-        _ => ("10", "10"),
-    }
-}
-
-/// Whether it does.
-fn is_made(alloc: Global, call: Made) -> Result<bool, Error> {
-    let (values, mask) = stored(call);
-    match array(alloc, call) {
+/// Whether an array was made that stores these values, under these marks.
+pub(crate) fn shown(
+    answer: Result<BooleanArray, Error>,
+    values: &str,
+    mask: &str,
+) -> Result<bool, Error> {
+    match answer {
         Ok(array) => Ok(shows(&array, values, mask)),
         Err(refused) => Err(refused),
     }
 }
 
-/// Whether an array is made, or, where that is refused, by the same call once more.
-fn makes(alloc: Global, call: Made) -> Result<bool, Error> {
-    match is_made(alloc, call) {
-        Ok(is_right) => Ok(is_right),
-        Err(refused) => after(refused, is_made(alloc, call) == Ok(true)),
+/// Each of the calls, and what the array stores, under which marks.
+const MADE: &[(Made, &str, &str)] = &[
+    (Made::FromSlice, "10", "none"),
+    (Made::From, "10", "10"),
+    (Made::FromIter, "10", "10"),
+    (Made::NewEmpty, "", "none"),
+    (Made::NewNull, "00", "00"),
+    (Made::WithValues, "10", "10"),
+    (Made::Freeze, "10", "10"),
+    (Made::Clone, "10", "10"),
+];
+
+/// Whether arrays are made, or, where that is refused, by the same call once more.
+fn all_made(alloc: Global, calls: &[(Made, &str, &str)]) -> Result<bool, Error> {
+    for (call, values, mask) in calls {
+        match shown(array(alloc, *call), *values, *mask) {
+            Ok(true) => (),
+            Ok(false) => return Ok(false),
+            Err(refused) => {
+                let is_made = shown(array(alloc, *call), *values, *mask) == Ok(true);
+                return after(refused, is_made);
+            }
+        }
     }
+    Ok(true)
 }
 
 #[test]
-fn array_from_slice(rt: HostRuntime) -> Result<(), Fail> {
-    told(makes(rt.alloc(), Made::FromSlice))
-}
-
-#[test]
-fn array_from(rt: HostRuntime) -> Result<(), Fail> {
-    told(makes(rt.alloc(), Made::From))
-}
-
-#[test]
-fn array_from_iter(rt: HostRuntime) -> Result<(), Fail> {
-    told(makes(rt.alloc(), Made::FromIter))
-}
-
-#[test]
-fn array_new_empty(rt: HostRuntime) -> Result<(), Fail> {
-    told(makes(rt.alloc(), Made::NewEmpty))
-}
-
-#[test]
-fn array_new_null(rt: HostRuntime) -> Result<(), Fail> {
-    told(makes(rt.alloc(), Made::NewNull))
-}
-
-#[test]
-fn array_with_values(rt: HostRuntime) -> Result<(), Fail> {
-    told(makes(rt.alloc(), Made::WithValues))
-}
-
-#[test]
-fn freeze(rt: HostRuntime) -> Result<(), Fail> {
-    told(makes(rt.alloc(), Made::Freeze))
-}
-
-#[test]
-fn array_clone(rt: HostRuntime) -> Result<(), Fail> {
-    told(makes(rt.alloc(), Made::Clone))
+fn arrays(rt: HostRuntime) -> Result<(), Fail> {
+    told(all_made(rt.alloc(), MADE))
 }
 
 /// The calls that make a builder of truth values.
@@ -407,49 +360,41 @@ fn builder(alloc: Global, call: Built) -> Result<MutableBooleanArray, Error> {
     }
 }
 
-/// Whether it stores what it should, under its marks.
-fn is_built(alloc: Global, call: Built) -> Result<bool, Error> {
+/// Whether it stores these values, under these marks.
+fn is_built(alloc: Global, call: Built, values: &str, mask: &str) -> Result<bool, Error> {
     match builder(alloc, call) {
-        Ok(builder) => Ok(match call {
-            Built::WithCapacity => builds(&builder, "", "none"),
-            Built::FromSlice => builds(&builder, "10", "none"),
-            _ => builds(&builder, "10", "10"),
-        }),
+        Ok(builder) => Ok(builds(&builder, values, mask)),
         Err(refused) => Err(refused),
     }
 }
 
-/// Whether a builder is made, or, where that is refused, by the same call once more.
-fn makes_builder(alloc: Global, call: Built) -> Result<bool, Error> {
-    match is_built(alloc, call) {
-        Ok(is_right) => Ok(is_right),
-        Err(refused) => after(refused, is_built(alloc, call) == Ok(true)),
+/// Each of the calls, and what the builder stores, under which marks.
+const BUILT: &[(Built, &str, &str)] = &[
+    (Built::WithCapacity, "", "none"),
+    (Built::FromSlice, "10", "none"),
+    (Built::From, "10", "10"),
+    (Built::FromIter, "10", "10"),
+    (Built::Clone, "10", "10"),
+];
+
+/// Whether builders are made, or, where that is refused, by the same call once more.
+fn all_built(alloc: Global, calls: &[(Built, &str, &str)]) -> Result<bool, Error> {
+    for (call, values, mask) in calls {
+        match is_built(alloc, *call, *values, *mask) {
+            Ok(true) => (),
+            Ok(false) => return Ok(false),
+            Err(refused) => {
+                let is_built = is_built(alloc, *call, *values, *mask) == Ok(true);
+                return after(refused, is_built);
+            }
+        }
     }
+    Ok(true)
 }
 
 #[test]
-fn with_capacity(rt: HostRuntime) -> Result<(), Fail> {
-    told(makes_builder(rt.alloc(), Built::WithCapacity))
-}
-
-#[test]
-fn from_slice(rt: HostRuntime) -> Result<(), Fail> {
-    told(makes_builder(rt.alloc(), Built::FromSlice))
-}
-
-#[test]
-fn from(rt: HostRuntime) -> Result<(), Fail> {
-    told(makes_builder(rt.alloc(), Built::From))
-}
-
-#[test]
-fn from_iter(rt: HostRuntime) -> Result<(), Fail> {
-    told(makes_builder(rt.alloc(), Built::FromIter))
-}
-
-#[test]
-fn clone(rt: HostRuntime) -> Result<(), Fail> {
-    told(makes_builder(rt.alloc(), Built::Clone))
+fn builders(rt: HostRuntime) -> Result<(), Fail> {
+    told(all_built(rt.alloc(), BUILT))
 }
 
 /// More slots than any memory holds.

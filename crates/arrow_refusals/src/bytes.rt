@@ -21,6 +21,9 @@ trait Known: ByteKind {
     /// Items of two, no and five bytes.
     fn items<'a>() -> &'a [Self::Item];
 
+    /// An item of one byte.
+    fn one<'a>() -> &'a [Self::Item];
+
     /// Whether an item that was popped is this.
     fn is(item: &Self::Owned, text: &str) -> bool;
 
@@ -48,6 +51,10 @@ impl Known for Binary {
 
     fn items<'a>() -> &'a [&'static [u8]] {
         &[&[0xC3, 0xA9], &[], b"there"]
+    }
+
+    fn one<'a>() -> &'a [&'static [u8]] {
+        &[b"a"]
     }
 
     fn is(item: &Vec<u8>, text: &str) -> bool {
@@ -93,6 +100,10 @@ impl Known for Utf8 {
         &["é", "", "there"]
     }
 
+    fn one<'a>() -> &'a [&'static str] {
+        &["a"]
+    }
+
     fn is(item: &String, text: &str) -> bool {
         item.as_str() == text
     }
@@ -123,12 +134,8 @@ impl Known for Utf8 {
 }
 
 /// Whether an array has these offsets over these bytes, and these marks.
-fn shows<K: ByteKind, O: Offset>(
-    array: &ByteArray<K, O>,
-    offsets: &[usize],
-    text: &str,
-    mask: &str,
-) -> bool {
+fn shows<K: ByteKind, O: Offset>(array: &ByteArray<K, O>, wanted: (&[usize], &str, &str)) -> bool {
+    let (offsets, text, mask) = wanted;
     let marks = match array.validity() {
         Some(marks) => Some(marks.iter()),
         None => None,
@@ -140,10 +147,9 @@ fn shows<K: ByteKind, O: Offset>(
 /// Whether a builder has these offsets over these bytes, and these marks.
 fn builds<K: ByteKind, O: Offset>(
     builder: &MutableByteArray<K, O>,
-    offsets: &[usize],
-    text: &str,
-    mask: &str,
+    wanted: (&[usize], &str, &str),
 ) -> bool {
+    let (offsets, text, mask) = wanted;
     let marks = match builder.validity() {
         Some(marks) => Some(marks.iter()),
         None => None,
@@ -155,25 +161,11 @@ fn builds<K: ByteKind, O: Offset>(
 /// Whether a builder without nulls has these offsets over these bytes.
 fn holds<K: ByteKind, O: Offset>(
     builder: &MutableByteValuesArray<K, O>,
-    offsets: &[usize],
-    text: &str,
+    wanted: (&[usize], &str, &str),
 ) -> bool {
+    let (offsets, text, _) = wanted;
     builder.values().as_slice() == text.as_bytes()
         && are_offsets(builder.offsets().as_slice(), offsets)
-}
-
-/// A builder without nulls of one item.
-fn one_item<K: Known, O: Offset>(alloc: Global) -> Result<MutableByteValuesArray<K, O>, Error> {
-    let mut builder = MutableByteValuesArray::<K, O>::new(alloc)?;
-    K::push_item(&mut builder, "a", false)?;
-    Ok(builder)
-}
-
-/// A builder of one slot, without a mask.
-fn one<K: Known, O: Offset>(alloc: Global) -> Result<MutableByteArray<K, O>, Error> {
-    let mut builder = MutableByteArray::<K, O>::new(alloc)?;
-    K::push(&mut builder, Some("a"), false)?;
-    Ok(builder)
 }
 
 /// More bytes than a builder of one slot has room for.
@@ -191,6 +183,30 @@ enum Growth {
     ShrinkToFit,
     Pop,
 }
+
+/// Offsets, bytes and marks.
+pub(crate) type Pieces = (&'static [usize], &'static str, &'static str);
+
+/// Each of the calls, and what a builder of one slot has after it.
+const GROWTHS: &[(Growth, Pieces)] = &[
+    (
+        Growth::Push,
+        (&[0, 1, 38], "abcdefghijklmnopqrstuvwxyz0123456789é", "none"),
+    ),
+    (Growth::PushOfANull, (&[0, 1, 1], "a", "10")),
+    (
+        Growth::TryPush,
+        (&[0, 1, 38], "abcdefghijklmnopqrstuvwxyz0123456789é", "none"),
+    ),
+    (Growth::PushNull, (&[0, 1, 1], "a", "10")),
+    (
+        Growth::TryExtendFromSelf,
+        (&[0, 1, 3, 3, 8], "aéthere", "1101"),
+    ),
+    (Growth::Reserve, (&[0, 1], "a", "none")),
+    (Growth::ShrinkToFit, (&[0, 1], "a", "none")),
+    (Growth::Pop, (&[0], "", "none")),
+];
 
 /// Removes the last slot, and is refused where it isn't this.
 fn pop<K: Known, O: Offset>(builder: &mut MutableByteArray<K, O>, text: &str) -> Result<(), Error> {
@@ -219,129 +235,74 @@ fn grow<K: Known, O: Offset>(
     }
 }
 
-/// The offsets, bytes and marks of the builder of one slot after it.
-fn wanted<'a>(call: Growth) -> (&'a [usize], &'a str, &'a str) {
-    match call {
-        Growth::Push | Growth::TryPush => {
-            (&[0, 1, 38], "abcdefghijklmnopqrstuvwxyz0123456789é", "none")
-        }
-        Growth::PushOfANull | Growth::PushNull => (&[0, 1, 1], "a", "10"),
-        Growth::TryExtendFromSelf => (&[0, 1, 3, 3, 8], "aéthere", "1101"),
-        Growth::Reserve | Growth::ShrinkToFit => (&[0, 1], "a", "none"),
-        Growth::Pop => (&[0], "", "none"),
-    }
+/// Whether a builder of one slot is as before a growth that was refused, and changes by the same call.
+fn grows_again<K: Known, O: Offset>(
+    builder: &mut MutableByteArray<K, O>,
+    other: &MutableByteArray<K, O>,
+    call: Growth,
+    wanted: Pieces,
+) -> bool {
+    let is_left = builds(builder, (&[0, 1], "a", "none"));
+    let is_grown = grow(builder, other, call).is_ok();
+    is_left & is_grown & builds(builder, wanted)
 }
 
-/// Whether a builder of one slot has changed, or, where that is refused, is as before, and changes by the same call.
+/// Whether it has changed, or does so by the same call where that is refused.
 fn grows<K: Known, O: Offset>(
     builder: &mut MutableByteArray<K, O>,
     other: &MutableByteArray<K, O>,
     call: Growth,
+    wanted: Pieces,
 ) -> Result<bool, Error> {
-    let (offsets, text, mask) = wanted(call);
     match grow(builder, other, call) {
-        Ok(()) => Ok(builds(builder, offsets, text, mask)),
-        Err(refused) => {
-            let is_left = builds(builder, [0, 1].as_slice(), "a", "none");
-            let is_grown = grow(builder, other, call).is_ok();
-            after(
-                refused,
-                is_left & is_grown && builds(builder, offsets, text, mask),
-            )
+        Ok(()) => Ok(builds(builder, wanted)),
+        Err(refused) => after(refused, grows_again(builder, other, call, wanted)),
+    }
+}
+
+/// Whether a new one has.
+fn grown<K: Known, O: Offset>(
+    alloc: Global,
+    other: &MutableByteArray<K, O>,
+    call: Growth,
+    wanted: Pieces,
+) -> Result<bool, Error> {
+    match MutableByteArray::<K, O>::from_iter_values(alloc, K::one().iter().copied()) {
+        Ok(mut builder) => grows(&mut builder, other, call, wanted),
+        Err(refused) => Err(refused),
+    }
+}
+
+/// Whether new ones have by each call, beside a builder of three slots.
+fn each_grown<K: Known, O: Offset>(
+    alloc: Global,
+    other: &MutableByteArray<K, O>,
+    calls: &[(Growth, Pieces)],
+) -> Result<bool, Error> {
+    for (call, wanted) in calls {
+        if !grown(alloc, other, *call, *wanted)? {
+            return Ok(false);
         }
     }
+    Ok(true)
 }
 
-/// Whether a new one has, beside a builder of three slots.
-fn grown<K: Known, O: Offset>(alloc: Global, call: Growth) -> Result<bool, Error> {
-    match (
-        MutableByteArray::<K, O>::from(alloc, K::slots()),
-        one::<K, O>(alloc),
-    ) {
-        (Ok(other), Ok(mut builder)) => grows(&mut builder, &other, call),
-        (Err(refused), _) => Err(refused),
-        (_, Err(refused)) => Err(refused),
+/// The same beside a new one.
+fn all_grown<K: Known, O: Offset>(alloc: Global) -> Result<bool, Error> {
+    match MutableByteArray::<K, O>::from(alloc, K::slots()) {
+        Ok(other) => each_grown(alloc, &other, GROWTHS),
+        Err(refused) => Err(refused),
     }
 }
 
 #[test]
-fn push(rt: HostRuntime) -> Result<(), Fail> {
-    told(grown::<Binary, i32>(rt.alloc(), Growth::Push))
+fn growths(rt: HostRuntime) -> Result<(), Fail> {
+    told(all_grown::<Binary, i32>(rt.alloc()))
 }
 
 #[test]
-fn text_push(rt: HostRuntime) -> Result<(), Fail> {
-    told(grown::<Utf8, i64>(rt.alloc(), Growth::Push))
-}
-
-#[test]
-fn push_of_a_null(rt: HostRuntime) -> Result<(), Fail> {
-    told(grown::<Binary, i32>(rt.alloc(), Growth::PushOfANull))
-}
-
-#[test]
-fn text_push_of_a_null(rt: HostRuntime) -> Result<(), Fail> {
-    told(grown::<Utf8, i64>(rt.alloc(), Growth::PushOfANull))
-}
-
-#[test]
-fn try_push(rt: HostRuntime) -> Result<(), Fail> {
-    told(grown::<Binary, i32>(rt.alloc(), Growth::TryPush))
-}
-
-#[test]
-fn text_try_push(rt: HostRuntime) -> Result<(), Fail> {
-    told(grown::<Utf8, i64>(rt.alloc(), Growth::TryPush))
-}
-
-#[test]
-fn push_null(rt: HostRuntime) -> Result<(), Fail> {
-    told(grown::<Binary, i32>(rt.alloc(), Growth::PushNull))
-}
-
-#[test]
-fn text_push_null(rt: HostRuntime) -> Result<(), Fail> {
-    told(grown::<Utf8, i64>(rt.alloc(), Growth::PushNull))
-}
-
-#[test]
-fn try_extend_from_self(rt: HostRuntime) -> Result<(), Fail> {
-    told(grown::<Binary, i32>(rt.alloc(), Growth::TryExtendFromSelf))
-}
-
-#[test]
-fn text_try_extend_from_self(rt: HostRuntime) -> Result<(), Fail> {
-    told(grown::<Utf8, i64>(rt.alloc(), Growth::TryExtendFromSelf))
-}
-
-#[test]
-fn reserve(rt: HostRuntime) -> Result<(), Fail> {
-    told(grown::<Binary, i32>(rt.alloc(), Growth::Reserve))
-}
-
-#[test]
-fn text_reserve(rt: HostRuntime) -> Result<(), Fail> {
-    told(grown::<Utf8, i64>(rt.alloc(), Growth::Reserve))
-}
-
-#[test]
-fn shrink_to_fit(rt: HostRuntime) -> Result<(), Fail> {
-    told(grown::<Binary, i32>(rt.alloc(), Growth::ShrinkToFit))
-}
-
-#[test]
-fn text_shrink_to_fit(rt: HostRuntime) -> Result<(), Fail> {
-    told(grown::<Utf8, i64>(rt.alloc(), Growth::ShrinkToFit))
-}
-
-#[test]
-fn pop_of_a_slot(rt: HostRuntime) -> Result<(), Fail> {
-    told(grown::<Binary, i32>(rt.alloc(), Growth::Pop))
-}
-
-#[test]
-fn text_pop_of_a_slot(rt: HostRuntime) -> Result<(), Fail> {
-    told(grown::<Utf8, i64>(rt.alloc(), Growth::Pop))
+fn text_growths(rt: HostRuntime) -> Result<(), Fail> {
+    told(all_grown::<Utf8, i64>(rt.alloc()))
 }
 
 /// Removes the last item, and is refused where it isn't this.
@@ -373,103 +334,74 @@ fn grow_items<K: Known, O: Offset>(
     }
 }
 
-/// Whether a builder of one item has changed, or, where that is refused, is as before, and changes by the same call.
+/// Whether a builder of one item is as before a growth that was refused, and changes by the same call.
+fn grows_by_items_again<K: Known, O: Offset>(
+    builder: &mut MutableByteValuesArray<K, O>,
+    other: &MutableByteValuesArray<K, O>,
+    call: Growth,
+    wanted: Pieces,
+) -> bool {
+    let is_left = holds(builder, (&[0, 1], "a", "none"));
+    let is_grown = grow_items(builder, other, call).is_ok();
+    is_left & is_grown & holds(builder, wanted)
+}
+
+/// Whether it has changed, or does so by the same call where that is refused.
 fn grows_by_items<K: Known, O: Offset>(
     builder: &mut MutableByteValuesArray<K, O>,
     other: &MutableByteValuesArray<K, O>,
     call: Growth,
+    wanted: Pieces,
 ) -> Result<bool, Error> {
-    let (offsets, text, _) = wanted(call);
     match grow_items(builder, other, call) {
-        Ok(()) => Ok(holds(builder, offsets, text)),
-        Err(refused) => {
-            let is_left = holds(builder, [0, 1].as_slice(), "a");
-            let is_grown = grow_items(builder, other, call).is_ok();
-            after(refused, is_left & is_grown && holds(builder, offsets, text))
+        Ok(()) => Ok(holds(builder, wanted)),
+        Err(refused) => after(refused, grows_by_items_again(builder, other, call, wanted)),
+    }
+}
+
+/// Whether a new one has.
+fn grown_by_items<K: Known, O: Offset>(
+    alloc: Global,
+    other: &MutableByteValuesArray<K, O>,
+    call: Growth,
+    wanted: Pieces,
+) -> Result<bool, Error> {
+    match MutableByteValuesArray::<K, O>::from_iter(alloc, K::one().iter().copied()) {
+        Ok(mut builder) => grows_by_items(&mut builder, other, call, wanted),
+        Err(refused) => Err(refused),
+    }
+}
+
+/// Whether new ones have by each call, beside a builder of three items.
+fn each_grown_by_items<K: Known, O: Offset>(
+    alloc: Global,
+    other: &MutableByteValuesArray<K, O>,
+    calls: &[(Growth, Pieces)],
+) -> Result<bool, Error> {
+    for (call, wanted) in calls {
+        if !grown_by_items(alloc, other, *call, *wanted)? {
+            return Ok(false);
         }
     }
+    Ok(true)
 }
 
-/// Whether a new one has, beside a builder of three items.
-fn grown_by_items<K: Known, O: Offset>(alloc: Global, call: Growth) -> Result<bool, Error> {
-    match (
-        MutableByteValuesArray::<K, O>::from_iter(alloc, K::items().iter().copied()),
-        one_item::<K, O>(alloc),
-    ) {
-        (Ok(other), Ok(mut builder)) => grows_by_items(&mut builder, &other, call),
-        (Err(refused), _) => Err(refused),
-        (_, Err(refused)) => Err(refused),
+/// The same beside a new one.
+fn all_grown_by_items<K: Known, O: Offset>(alloc: Global) -> Result<bool, Error> {
+    match MutableByteValuesArray::<K, O>::from_iter(alloc, K::items().iter().copied()) {
+        Ok(other) => each_grown_by_items(alloc, &other, GROWTHS),
+        Err(refused) => Err(refused),
     }
 }
 
 #[test]
-fn push_of_an_item(rt: HostRuntime) -> Result<(), Fail> {
-    told(grown_by_items::<Binary, i32>(rt.alloc(), Growth::Push))
+fn growths_by_items(rt: HostRuntime) -> Result<(), Fail> {
+    told(all_grown_by_items::<Binary, i32>(rt.alloc()))
 }
 
 #[test]
-fn text_push_of_an_item(rt: HostRuntime) -> Result<(), Fail> {
-    told(grown_by_items::<Utf8, i64>(rt.alloc(), Growth::Push))
-}
-
-#[test]
-fn try_push_of_an_item(rt: HostRuntime) -> Result<(), Fail> {
-    told(grown_by_items::<Binary, i32>(rt.alloc(), Growth::TryPush))
-}
-
-#[test]
-fn text_try_push_of_an_item(rt: HostRuntime) -> Result<(), Fail> {
-    told(grown_by_items::<Utf8, i64>(rt.alloc(), Growth::TryPush))
-}
-
-#[test]
-fn push_null_of_items(rt: HostRuntime) -> Result<(), Fail> {
-    told(grown_by_items::<Binary, i32>(rt.alloc(), Growth::PushNull))
-}
-
-#[test]
-fn text_push_null_of_items(rt: HostRuntime) -> Result<(), Fail> {
-    told(grown_by_items::<Utf8, i64>(rt.alloc(), Growth::PushNull))
-}
-
-#[test]
-fn try_extend_from_self_of_items(rt: HostRuntime) -> Result<(), Fail> {
-    told(grown_by_items::<Binary, i32>(rt.alloc(), Growth::TryExtendFromSelf))
-}
-
-#[test]
-fn text_try_extend_from_self_of_items(rt: HostRuntime) -> Result<(), Fail> {
-    told(grown_by_items::<Utf8, i64>(rt.alloc(), Growth::TryExtendFromSelf))
-}
-
-#[test]
-fn reserve_of_items(rt: HostRuntime) -> Result<(), Fail> {
-    told(grown_by_items::<Binary, i32>(rt.alloc(), Growth::Reserve))
-}
-
-#[test]
-fn text_reserve_of_items(rt: HostRuntime) -> Result<(), Fail> {
-    told(grown_by_items::<Utf8, i64>(rt.alloc(), Growth::Reserve))
-}
-
-#[test]
-fn shrink_to_fit_of_items(rt: HostRuntime) -> Result<(), Fail> {
-    told(grown_by_items::<Binary, i32>(rt.alloc(), Growth::ShrinkToFit))
-}
-
-#[test]
-fn text_shrink_to_fit_of_items(rt: HostRuntime) -> Result<(), Fail> {
-    told(grown_by_items::<Utf8, i64>(rt.alloc(), Growth::ShrinkToFit))
-}
-
-#[test]
-fn pop_of_an_item(rt: HostRuntime) -> Result<(), Fail> {
-    told(grown_by_items::<Binary, i32>(rt.alloc(), Growth::Pop))
-}
-
-#[test]
-fn text_pop_of_an_item(rt: HostRuntime) -> Result<(), Fail> {
-    told(grown_by_items::<Utf8, i64>(rt.alloc(), Growth::Pop))
+fn text_growths_by_items(rt: HostRuntime) -> Result<(), Fail> {
+    told(all_grown_by_items::<Utf8, i64>(rt.alloc()))
 }
 
 /// The calls by which a builder grows by what an iterator gives, as far as there is memory.
@@ -479,6 +411,12 @@ enum Extension {
     TryExtend,
     ExtendValues,
 }
+
+const EXTENSIONS: &[Extension] = &[
+    Extension::Extend,
+    Extension::TryExtend,
+    Extension::ExtendValues,
+];
 
 /// Calls it.
 fn extend_by<K: Known, O: Offset>(
@@ -492,155 +430,151 @@ fn extend_by<K: Known, O: Offset>(
     }
 }
 
-/// The offsets of a builder of one slot that was extended by three, and by three again.
-const EXTENDED: [usize; 5] = [0, 1, 3, 3, 8];
-
-/// Whether the first slots of an extended builder of one slot are there, and no others.
-fn is_begun<K: Known, O: Offset>(builder: &MutableByteArray<K, O>, call: Extension) -> bool {
-    let (all, count) = (EXTENDED, builder.len());
-    let offsets = all.as_slice().get(..count.saturating_add(1)).unwrap_or(&[]);
+/// What a builder of one slot has that was extended so far that there are so many slots.
+fn begun<'a>(call: Extension, count: usize) -> (&'a [usize], &'a str, &'a str) {
+    const ALL: &[usize] = &[0, 1, 3, 3, 8];
+    let offsets = ALL.get(..count.saturating_add(1)).unwrap_or(&[]);
     let end = offsets.last().copied().unwrap_or(0);
     let mask = match call {
         Extension::ExtendValues => "none",
         _ if count <= 2 => "none",
         _ => "1101".get(..count).unwrap_or("too many"),
     };
-    1 <= count
-        && builds(
-            builder,
-            offsets,
-            "aéthere".get(..end).unwrap_or("too many"),
-            mask,
-        )
+    (offsets, "aéthere".get(..end).unwrap_or("too many"), mask)
 }
 
-/// Whether a builder of one slot is extended, or, where that is refused, by a beginning, and then by the same call.
+/// Whether the first slots of an extended builder of one slot are there, and no others.
+fn is_begun<K: Known, O: Offset>(builder: &MutableByteArray<K, O>, call: Extension) -> bool {
+    let count = builder.len();
+    (1 <= count) & builds(builder, begun(call, count))
+}
+
+/// Whether a builder of one slot was extended by a beginning where that is refused, and then is by the same call.
+fn extends_again<K: Known, O: Offset>(
+    builder: &mut MutableByteArray<K, O>,
+    call: Extension,
+) -> bool {
+    let (is_left, end) = (is_begun(builder, call), builder.values().len());
+    let is_extended = extend_by(builder, call).is_ok();
+    let is_behind = builder.values().as_slice().get(end..) == Some("éthere".as_bytes());
+    is_left & is_extended & is_behind
+}
+
+/// Whether it is extended, or is by the same call where that is refused.
 fn extends<K: Known, O: Offset>(
     builder: &mut MutableByteArray<K, O>,
     call: Extension,
 ) -> Result<bool, Error> {
     match extend_by(builder, call) {
-        Ok(()) => Ok(builder.len() == 4 && is_begun(builder, call)),
-        Err(refused) => {
-            let (is_left, end) = (is_begun(builder, call), builder.values().len());
-            let is_extended = extend_by(builder, call).is_ok();
-            let is_behind = builder.values().as_slice().get(end..) == Some("éthere".as_bytes());
-            after(refused, is_left & is_extended & is_behind)
-        }
+        Ok(()) => Ok(builds(builder, begun(call, 4))),
+        Err(refused) => after(refused, extends_again(builder, call)),
     }
 }
 
 /// Whether a new one is.
 fn extended<K: Known, O: Offset>(alloc: Global, call: Extension) -> Result<bool, Error> {
-    match one::<K, O>(alloc) {
+    match MutableByteArray::<K, O>::from_iter_values(alloc, K::one().iter().copied()) {
         Ok(mut builder) => extends(&mut builder, call),
         Err(refused) => Err(refused),
     }
 }
 
-#[test]
-fn extend(rt: HostRuntime) -> Result<(), Fail> {
-    told(extended::<Binary, i32>(rt.alloc(), Extension::Extend))
+/// Whether new ones are by each call.
+fn all_extended<K: Known, O: Offset>(alloc: Global, calls: &[Extension]) -> Result<bool, Error> {
+    for call in calls {
+        if !extended::<K, O>(alloc, *call)? {
+            return Ok(false);
+        }
+    }
+    Ok(true)
 }
 
 #[test]
-fn text_extend(rt: HostRuntime) -> Result<(), Fail> {
-    told(extended::<Utf8, i64>(rt.alloc(), Extension::Extend))
+fn extensions(rt: HostRuntime) -> Result<(), Fail> {
+    told(all_extended::<Binary, i32>(rt.alloc(), EXTENSIONS))
 }
 
 #[test]
-fn try_extend(rt: HostRuntime) -> Result<(), Fail> {
-    told(extended::<Binary, i32>(rt.alloc(), Extension::TryExtend))
-}
-
-#[test]
-fn text_try_extend(rt: HostRuntime) -> Result<(), Fail> {
-    told(extended::<Utf8, i64>(rt.alloc(), Extension::TryExtend))
-}
-
-#[test]
-fn extend_values(rt: HostRuntime) -> Result<(), Fail> {
-    told(extended::<Binary, i32>(rt.alloc(), Extension::ExtendValues))
-}
-
-#[test]
-fn text_extend_values(rt: HostRuntime) -> Result<(), Fail> {
-    told(extended::<Utf8, i64>(rt.alloc(), Extension::ExtendValues))
+fn text_extensions(rt: HostRuntime) -> Result<(), Fail> {
+    told(all_extended::<Utf8, i64>(rt.alloc(), EXTENSIONS))
 }
 
 /// Calls it, of a builder without nulls.
 fn extend_items<K: Known, O: Offset>(
     builder: &mut MutableByteValuesArray<K, O>,
-    call: Extension,
+    tries: bool,
 ) -> Result<(), Error> {
-    match call {
-        Extension::Extend => builder.extend(K::items().iter().copied()),
-        _ => builder.try_extend(K::items().iter().copied()),
+    if tries {
+        builder.try_extend(K::items().iter().copied())
+    } else {
+        builder.extend(K::items().iter().copied())
     }
 }
 
-/// Whether the first items of an extended builder of one item are there, and no others.
-fn is_begun_by_items<K: Known, O: Offset>(builder: &MutableByteValuesArray<K, O>) -> bool {
-    let (all, count) = (EXTENDED, builder.len());
-    let offsets = all.as_slice().get(..count.saturating_add(1)).unwrap_or(&[]);
-    let end = offsets.last().copied().unwrap_or(0);
-    1 <= count && holds(builder, offsets, "aéthere".get(..end).unwrap_or("too many"))
+/// Whether a builder of one item was extended by a beginning where that is refused, and then is by the same call.
+fn extends_by_items_again<K: Known, O: Offset>(
+    builder: &mut MutableByteValuesArray<K, O>,
+    tries: bool,
+) -> bool {
+    let (count, end) = (builder.len(), builder.values().len());
+    let is_left = (1 <= count) & holds(builder, begun(Extension::ExtendValues, count));
+    let is_extended = extend_items(builder, tries).is_ok();
+    let is_behind = builder.values().as_slice().get(end..) == Some("éthere".as_bytes());
+    is_left & is_extended & is_behind
 }
 
-/// Whether a builder of one item is extended, or, where that is refused, by a beginning, and then by the same call.
+/// Whether it is extended, or is by the same call where that is refused.
 fn extends_by_items<K: Known, O: Offset>(
     builder: &mut MutableByteValuesArray<K, O>,
-    call: Extension,
+    tries: bool,
 ) -> Result<bool, Error> {
-    match extend_items(builder, call) {
-        Ok(()) => Ok(builder.len() == 4 && is_begun_by_items(builder)),
-        Err(refused) => {
-            let (is_left, end) = (is_begun_by_items(builder), builder.values().len());
-            let is_extended = extend_items(builder, call).is_ok();
-            let is_behind = builder.values().as_slice().get(end..) == Some("éthere".as_bytes());
-            after(refused, is_left & is_extended & is_behind)
-        }
+    match extend_items(builder, tries) {
+        Ok(()) => Ok(holds(builder, begun(Extension::ExtendValues, 4))),
+        Err(refused) => after(refused, extends_by_items_again(builder, tries)),
     }
 }
 
-/// Whether a new one is.
-fn extended_by_items<K: Known, O: Offset>(alloc: Global, call: Extension) -> Result<bool, Error> {
-    match one_item::<K, O>(alloc) {
-        Ok(mut builder) => extends_by_items(&mut builder, call),
+/// Whether a new one is, by `extend` or by `try_extend`.
+fn extended_by_items<K: Known, O: Offset>(alloc: Global, tries: bool) -> Result<bool, Error> {
+    match MutableByteValuesArray::<K, O>::from_iter(alloc, K::one().iter().copied()) {
+        Ok(mut builder) => extends_by_items(&mut builder, tries),
         Err(refused) => Err(refused),
     }
 }
 
 #[test]
-fn extend_by_items(rt: HostRuntime) -> Result<(), Fail> {
-    told(extended_by_items::<Binary, i32>(rt.alloc(), Extension::Extend))
+fn extensions_by_items(rt: HostRuntime) -> Result<(), Fail> {
+    told(extended_by_items::<Binary, i32>(rt.alloc(), false))?;
+    told(extended_by_items::<Binary, i32>(rt.alloc(), true))
 }
 
 #[test]
-fn text_extend_by_items(rt: HostRuntime) -> Result<(), Fail> {
-    told(extended_by_items::<Utf8, i64>(rt.alloc(), Extension::Extend))
+fn text_extensions_by_items(rt: HostRuntime) -> Result<(), Fail> {
+    told(extended_by_items::<Utf8, i64>(rt.alloc(), false))?;
+    told(extended_by_items::<Utf8, i64>(rt.alloc(), true))
 }
 
-#[test]
-fn try_extend_by_items(rt: HostRuntime) -> Result<(), Fail> {
-    told(extended_by_items::<Binary, i32>(rt.alloc(), Extension::TryExtend))
-}
-
-#[test]
-fn text_try_extend_by_items(rt: HostRuntime) -> Result<(), Fail> {
-    told(extended_by_items::<Utf8, i64>(rt.alloc(), Extension::TryExtend))
-}
-
-/// The calls that make an array.
+/// The calls that make an array, a builder, or one without nulls.
 #[derive(Clone, Copy)]
 enum Made {
+    Array(Maker),
+    Builder(Maker),
+    Values(Maker),
+}
+
+/// Such a call. Some of them make nothing of some kind; then `New` is called.
+#[derive(Clone, Copy)]
+enum Maker {
+    New,
+    Default,
+    WithCapacity,
+    WithCapacities,
     FromSlice,
     From,
     FromIter,
     FromIterValues,
-    NewEmpty,
+    TryFromIter,
     NewNull,
-    Default,
     Freeze,
     FreezeOfItems,
     Clone,
@@ -677,162 +611,34 @@ fn frozen_items<K: ByteKind, O: Offset>(
 }
 
 /// The array that it makes.
-fn array<K: Known, O: Offset>(alloc: Global, call: Made) -> Result<ByteArray<K, O>, Error> {
+fn array<K: Known, O: Offset>(alloc: Global, call: Maker) -> Result<ByteArray<K, O>, Error> {
     let (slots, items) = (K::slots(), K::items());
     match call {
-        Made::FromSlice => ByteArray::<K, O>::from_slice(alloc, items),
-        Made::From => ByteArray::<K, O>::from(alloc, slots),
-        Made::FromIter => ByteArray::<K, O>::from_iter(alloc, slots.iter().copied()),
-        Made::FromIterValues => ByteArray::<K, O>::from_iter_values(alloc, items.iter().copied()),
-        Made::NewEmpty => ByteArray::new_empty(alloc, ByteArray::<K, O>::default_data_type()),
-        Made::NewNull => ByteArray::new_null(alloc, ByteArray::<K, O>::default_data_type(), 2),
-        Made::Default => ByteArray::default(alloc),
-        Made::Freeze => frozen(MutableByteArray::<K, O>::from(alloc, slots)),
-        Made::FreezeOfItems => frozen_items(MutableByteValuesArray::<K, O>::from_iter(
+        Maker::FromSlice => ByteArray::<K, O>::from_slice(alloc, items),
+        Maker::From => ByteArray::<K, O>::from(alloc, slots),
+        Maker::FromIter => ByteArray::<K, O>::from_iter(alloc, slots.iter().copied()),
+        Maker::FromIterValues => ByteArray::<K, O>::from_iter_values(alloc, items.iter().copied()),
+        Maker::NewNull => ByteArray::new_null(alloc, K::default_type(O::IS_LARGE), 2),
+        Maker::Default => ByteArray::default(alloc),
+        Maker::Freeze => frozen(MutableByteArray::<K, O>::from(alloc, slots)),
+        Maker::FreezeOfItems => frozen_items(MutableByteValuesArray::<K, O>::from_iter(
             alloc,
             items.iter().copied(),
         )),
-        Made::Clone => cloned(ByteArray::<K, O>::from(alloc, slots)),
+        Maker::Clone => cloned(ByteArray::<K, O>::from(alloc, slots)),
+        _ => ByteArray::new_empty(alloc, K::default_type(O::IS_LARGE)),
     }
 }
 
-/// The offsets of two, no and five bytes.
-const THREE: [usize; 4] = [0, 2, 2, 7];
-
-/// Whether it has its offsets, bytes and marks.
-fn is_made<K: Known, O: Offset>(alloc: Global, call: Made) -> Result<bool, Error> {
-    match array::<K, O>(alloc, call) {
-        Ok(array) => Ok(match call {
-            Made::NewEmpty | Made::Default => shows(&array, [0].as_slice(), "", "none"),
-            Made::NewNull => shows(&array, [0, 0, 0].as_slice(), "", "00"),
-            Made::FromSlice | Made::FromIterValues | Made::FreezeOfItems => {
-                shows(&array, THREE.as_slice(), "éthere", "none")
-            }
-            _ => shows(&array, THREE.as_slice(), "éthere", "101"),
-        }),
+/// Whether an array was made that has these offsets, bytes and marks.
+pub(crate) fn shown<K: ByteKind, O: Offset>(
+    answer: Result<ByteArray<K, O>, Error>,
+    wanted: Pieces,
+) -> Result<bool, Error> {
+    match answer {
+        Ok(array) => Ok(shows(&array, wanted)),
         Err(refused) => Err(refused),
     }
-}
-
-/// Whether an array is made, or, where that is refused, by the same call once more.
-fn makes<K: Known, O: Offset>(alloc: Global, call: Made) -> Result<bool, Error> {
-    match is_made::<K, O>(alloc, call) {
-        Ok(is_right) => Ok(is_right),
-        Err(refused) => after(refused, is_made::<K, O>(alloc, call) == Ok(true)),
-    }
-}
-
-#[test]
-fn array_from_slice(rt: HostRuntime) -> Result<(), Fail> {
-    told(makes::<Binary, i32>(rt.alloc(), Made::FromSlice))
-}
-
-#[test]
-fn text_array_from_slice(rt: HostRuntime) -> Result<(), Fail> {
-    told(makes::<Utf8, i64>(rt.alloc(), Made::FromSlice))
-}
-
-#[test]
-fn array_from(rt: HostRuntime) -> Result<(), Fail> {
-    told(makes::<Binary, i32>(rt.alloc(), Made::From))
-}
-
-#[test]
-fn text_array_from(rt: HostRuntime) -> Result<(), Fail> {
-    told(makes::<Utf8, i64>(rt.alloc(), Made::From))
-}
-
-#[test]
-fn array_from_iter(rt: HostRuntime) -> Result<(), Fail> {
-    told(makes::<Binary, i32>(rt.alloc(), Made::FromIter))
-}
-
-#[test]
-fn text_array_from_iter(rt: HostRuntime) -> Result<(), Fail> {
-    told(makes::<Utf8, i64>(rt.alloc(), Made::FromIter))
-}
-
-#[test]
-fn array_from_iter_values(rt: HostRuntime) -> Result<(), Fail> {
-    told(makes::<Binary, i32>(rt.alloc(), Made::FromIterValues))
-}
-
-#[test]
-fn text_array_from_iter_values(rt: HostRuntime) -> Result<(), Fail> {
-    told(makes::<Utf8, i64>(rt.alloc(), Made::FromIterValues))
-}
-
-#[test]
-fn array_new_empty(rt: HostRuntime) -> Result<(), Fail> {
-    told(makes::<Binary, i32>(rt.alloc(), Made::NewEmpty))
-}
-
-#[test]
-fn text_array_new_empty(rt: HostRuntime) -> Result<(), Fail> {
-    told(makes::<Utf8, i64>(rt.alloc(), Made::NewEmpty))
-}
-
-#[test]
-fn array_new_null(rt: HostRuntime) -> Result<(), Fail> {
-    told(makes::<Binary, i32>(rt.alloc(), Made::NewNull))
-}
-
-#[test]
-fn text_array_new_null(rt: HostRuntime) -> Result<(), Fail> {
-    told(makes::<Utf8, i64>(rt.alloc(), Made::NewNull))
-}
-
-#[test]
-fn array_default(rt: HostRuntime) -> Result<(), Fail> {
-    told(makes::<Binary, i32>(rt.alloc(), Made::Default))
-}
-
-#[test]
-fn text_array_default(rt: HostRuntime) -> Result<(), Fail> {
-    told(makes::<Utf8, i64>(rt.alloc(), Made::Default))
-}
-
-#[test]
-fn freeze(rt: HostRuntime) -> Result<(), Fail> {
-    told(makes::<Binary, i32>(rt.alloc(), Made::Freeze))
-}
-
-#[test]
-fn text_freeze(rt: HostRuntime) -> Result<(), Fail> {
-    told(makes::<Utf8, i64>(rt.alloc(), Made::Freeze))
-}
-
-#[test]
-fn freeze_of_items(rt: HostRuntime) -> Result<(), Fail> {
-    told(makes::<Binary, i32>(rt.alloc(), Made::FreezeOfItems))
-}
-
-#[test]
-fn text_freeze_of_items(rt: HostRuntime) -> Result<(), Fail> {
-    told(makes::<Utf8, i64>(rt.alloc(), Made::FreezeOfItems))
-}
-
-#[test]
-fn array_clone(rt: HostRuntime) -> Result<(), Fail> {
-    told(makes::<Binary, i32>(rt.alloc(), Made::Clone))
-}
-
-#[test]
-fn text_array_clone(rt: HostRuntime) -> Result<(), Fail> {
-    told(makes::<Utf8, i64>(rt.alloc(), Made::Clone))
-}
-
-/// The calls that make a builder; some of them make one without nulls, too.
-#[derive(Clone, Copy)]
-enum Built {
-    New,
-    Default,
-    WithCapacity,
-    WithCapacities,
-    From,
-    FromIter,
-    FromIterValues,
-    Clone,
 }
 
 /// The copy of a builder.
@@ -848,123 +654,32 @@ fn copied<K: ByteKind, O: Offset>(
 /// The builder that it makes.
 fn builder<K: Known, O: Offset>(
     alloc: Global,
-    call: Built,
+    call: Maker,
 ) -> Result<MutableByteArray<K, O>, Error> {
     let (slots, items) = (K::slots(), K::items());
     match call {
-        Built::New => MutableByteArray::new(alloc),
-        Built::Default => MutableByteArray::default(alloc),
-        Built::WithCapacity => MutableByteArray::with_capacity(alloc, 3),
-        Built::WithCapacities => MutableByteArray::with_capacities(alloc, 3, 6),
-        Built::From => MutableByteArray::<K, O>::from(alloc, slots),
-        Built::FromIter => MutableByteArray::<K, O>::from_iter(alloc, slots.iter().copied()),
-        Built::FromIterValues => {
+        Maker::Default => MutableByteArray::default(alloc),
+        Maker::WithCapacity => MutableByteArray::with_capacity(alloc, 3),
+        Maker::WithCapacities => MutableByteArray::with_capacities(alloc, 3, 6),
+        Maker::From => MutableByteArray::<K, O>::from(alloc, slots),
+        Maker::FromIter => MutableByteArray::<K, O>::from_iter(alloc, slots.iter().copied()),
+        Maker::FromIterValues => {
             MutableByteArray::<K, O>::from_iter_values(alloc, items.iter().copied())
         }
-        Built::Clone => copied(MutableByteArray::<K, O>::from(alloc, slots)),
+        Maker::Clone => copied(MutableByteArray::<K, O>::from(alloc, slots)),
+        _ => MutableByteArray::new(alloc),
     }
 }
 
-/// Whether it has its offsets, bytes and marks.
-fn is_built<K: Known, O: Offset>(alloc: Global, call: Built) -> Result<bool, Error> {
-    match builder::<K, O>(alloc, call) {
-        Ok(builder) => Ok(match call {
-            Built::From | Built::FromIter | Built::Clone => {
-                builds(&builder, THREE.as_slice(), "éthere", "101")
-            }
-            Built::FromIterValues => builds(&builder, THREE.as_slice(), "éthere", "none"),
-            _ => builds(&builder, [0].as_slice(), "", "none"),
-        }),
+/// Whether a builder was.
+fn built<K: ByteKind, O: Offset>(
+    answer: Result<MutableByteArray<K, O>, Error>,
+    wanted: Pieces,
+) -> Result<bool, Error> {
+    match answer {
+        Ok(builder) => Ok(builds(&builder, wanted)),
         Err(refused) => Err(refused),
     }
-}
-
-/// Whether a builder is made, or, where that is refused, by the same call once more.
-fn makes_builder<K: Known, O: Offset>(alloc: Global, call: Built) -> Result<bool, Error> {
-    match is_built::<K, O>(alloc, call) {
-        Ok(is_right) => Ok(is_right),
-        Err(refused) => after(refused, is_built::<K, O>(alloc, call) == Ok(true)),
-    }
-}
-
-#[test]
-fn new(rt: HostRuntime) -> Result<(), Fail> {
-    told(makes_builder::<Binary, i32>(rt.alloc(), Built::New))
-}
-
-#[test]
-fn text_new(rt: HostRuntime) -> Result<(), Fail> {
-    told(makes_builder::<Utf8, i64>(rt.alloc(), Built::New))
-}
-
-#[test]
-fn default(rt: HostRuntime) -> Result<(), Fail> {
-    told(makes_builder::<Binary, i32>(rt.alloc(), Built::Default))
-}
-
-#[test]
-fn text_default(rt: HostRuntime) -> Result<(), Fail> {
-    told(makes_builder::<Utf8, i64>(rt.alloc(), Built::Default))
-}
-
-#[test]
-fn with_capacity(rt: HostRuntime) -> Result<(), Fail> {
-    told(makes_builder::<Binary, i32>(rt.alloc(), Built::WithCapacity))
-}
-
-#[test]
-fn text_with_capacity(rt: HostRuntime) -> Result<(), Fail> {
-    told(makes_builder::<Utf8, i64>(rt.alloc(), Built::WithCapacity))
-}
-
-#[test]
-fn with_capacities(rt: HostRuntime) -> Result<(), Fail> {
-    told(makes_builder::<Binary, i32>(rt.alloc(), Built::WithCapacities))
-}
-
-#[test]
-fn text_with_capacities(rt: HostRuntime) -> Result<(), Fail> {
-    told(makes_builder::<Utf8, i64>(rt.alloc(), Built::WithCapacities))
-}
-
-#[test]
-fn from(rt: HostRuntime) -> Result<(), Fail> {
-    told(makes_builder::<Binary, i32>(rt.alloc(), Built::From))
-}
-
-#[test]
-fn text_from(rt: HostRuntime) -> Result<(), Fail> {
-    told(makes_builder::<Utf8, i64>(rt.alloc(), Built::From))
-}
-
-#[test]
-fn from_iter(rt: HostRuntime) -> Result<(), Fail> {
-    told(makes_builder::<Binary, i32>(rt.alloc(), Built::FromIter))
-}
-
-#[test]
-fn text_from_iter(rt: HostRuntime) -> Result<(), Fail> {
-    told(makes_builder::<Utf8, i64>(rt.alloc(), Built::FromIter))
-}
-
-#[test]
-fn from_iter_values(rt: HostRuntime) -> Result<(), Fail> {
-    told(makes_builder::<Binary, i32>(rt.alloc(), Built::FromIterValues))
-}
-
-#[test]
-fn text_from_iter_values(rt: HostRuntime) -> Result<(), Fail> {
-    told(makes_builder::<Utf8, i64>(rt.alloc(), Built::FromIterValues))
-}
-
-#[test]
-fn clone(rt: HostRuntime) -> Result<(), Fail> {
-    told(makes_builder::<Binary, i32>(rt.alloc(), Built::Clone))
-}
-
-#[test]
-fn text_clone(rt: HostRuntime) -> Result<(), Fail> {
-    told(makes_builder::<Utf8, i64>(rt.alloc(), Built::Clone))
 }
 
 /// The copy of a builder without nulls.
@@ -980,114 +695,105 @@ fn copied_items<K: ByteKind, O: Offset>(
 /// The builder without nulls that it makes.
 fn values<K: Known, O: Offset>(
     alloc: Global,
-    call: Built,
+    call: Maker,
 ) -> Result<MutableByteValuesArray<K, O>, Error> {
     let items = K::items();
     match call {
-        Built::New => MutableByteValuesArray::new(alloc),
-        Built::Default => MutableByteValuesArray::default(alloc),
-        Built::WithCapacity => MutableByteValuesArray::with_capacity(alloc, 3),
-        Built::WithCapacities => MutableByteValuesArray::with_capacities(alloc, 3, 6),
-        Built::FromIter => MutableByteValuesArray::<K, O>::from_iter(alloc, items.iter().copied()),
-        Built::From | Built::FromIterValues => {
+        Maker::Default => MutableByteValuesArray::default(alloc),
+        Maker::WithCapacity => MutableByteValuesArray::with_capacity(alloc, 3),
+        Maker::WithCapacities => MutableByteValuesArray::with_capacities(alloc, 3, 6),
+        Maker::FromIter => MutableByteValuesArray::<K, O>::from_iter(alloc, items.iter().copied()),
+        Maker::TryFromIter => {
             MutableByteValuesArray::<K, O>::try_from_iter(alloc, items.iter().copied())
         }
-        Built::Clone => copied_items(MutableByteValuesArray::<K, O>::from_iter(
+        Maker::Clone => copied_items(MutableByteValuesArray::<K, O>::from_iter(
             alloc,
             items.iter().copied(),
         )),
+        _ => MutableByteValuesArray::new(alloc),
     }
 }
 
-/// Whether it has its offsets and bytes.
-fn is_held<K: Known, O: Offset>(alloc: Global, call: Built) -> Result<bool, Error> {
-    match values::<K, O>(alloc, call) {
-        Ok(builder) => Ok(match call {
-            Built::New | Built::Default | Built::WithCapacity | Built::WithCapacities => {
-                holds(&builder, [0].as_slice(), "")
-            }
-            _ => holds(&builder, THREE.as_slice(), "éthere"),
-        }),
+/// Whether a builder without nulls was that has these offsets and bytes.
+fn held<K: ByteKind, O: Offset>(
+    answer: Result<MutableByteValuesArray<K, O>, Error>,
+    wanted: Pieces,
+) -> Result<bool, Error> {
+    match answer {
+        Ok(builder) => Ok(holds(&builder, wanted)),
         Err(refused) => Err(refused),
     }
 }
 
-/// Whether a builder without nulls is made, or, where that is refused, by the same call once more.
-fn makes_values<K: Known, O: Offset>(alloc: Global, call: Built) -> Result<bool, Error> {
-    match is_held::<K, O>(alloc, call) {
-        Ok(is_right) => Ok(is_right),
-        Err(refused) => after(refused, is_held::<K, O>(alloc, call) == Ok(true)),
+/// Whether what a call makes has these offsets, bytes and marks.
+fn is_made<K: Known, O: Offset>(alloc: Global, call: Made, wanted: Pieces) -> Result<bool, Error> {
+    match call {
+        Made::Array(call) => shown(array::<K, O>(alloc, call), wanted),
+        Made::Builder(call) => built(builder::<K, O>(alloc, call), wanted),
+        Made::Values(call) => held(values::<K, O>(alloc, call), wanted),
     }
 }
 
-#[test]
-fn new_of_items(rt: HostRuntime) -> Result<(), Fail> {
-    told(makes_values::<Binary, i32>(rt.alloc(), Built::New))
+/// No slot; two nulls; slots, and items, of two, no and five bytes.
+const NOTHING: Pieces = (&[0], "", "none");
+
+const NULLS: Pieces = (&[0, 0, 0], "", "00");
+
+const SLOTS: Pieces = (&[0, 2, 2, 7], "éthere", "101");
+
+const ITEMS: Pieces = (&[0, 2, 2, 7], "éthere", "none");
+
+/// Each of the calls, and what it makes.
+const MADE: &[(Made, Pieces)] = &[
+    (Made::Array(Maker::FromSlice), ITEMS),
+    (Made::Array(Maker::From), SLOTS),
+    (Made::Array(Maker::FromIter), SLOTS),
+    (Made::Array(Maker::FromIterValues), ITEMS),
+    (Made::Array(Maker::New), NOTHING),
+    (Made::Array(Maker::NewNull), NULLS),
+    (Made::Array(Maker::Default), NOTHING),
+    (Made::Array(Maker::Freeze), SLOTS),
+    (Made::Array(Maker::FreezeOfItems), ITEMS),
+    (Made::Array(Maker::Clone), SLOTS),
+    (Made::Builder(Maker::New), NOTHING),
+    (Made::Builder(Maker::Default), NOTHING),
+    (Made::Builder(Maker::WithCapacity), NOTHING),
+    (Made::Builder(Maker::WithCapacities), NOTHING),
+    (Made::Builder(Maker::From), SLOTS),
+    (Made::Builder(Maker::FromIter), SLOTS),
+    (Made::Builder(Maker::FromIterValues), ITEMS),
+    (Made::Builder(Maker::Clone), SLOTS),
+    (Made::Values(Maker::New), NOTHING),
+    (Made::Values(Maker::Default), NOTHING),
+    (Made::Values(Maker::WithCapacity), NOTHING),
+    (Made::Values(Maker::WithCapacities), NOTHING),
+    (Made::Values(Maker::FromIter), ITEMS),
+    (Made::Values(Maker::TryFromIter), ITEMS),
+    (Made::Values(Maker::Clone), ITEMS),
+];
+
+/// Whether each makes it, or, where that is refused, makes it by the same call once more.
+fn all_made<K: Known, O: Offset>(alloc: Global, calls: &[(Made, Pieces)]) -> Result<bool, Error> {
+    for (call, wanted) in calls {
+        match is_made::<K, O>(alloc, *call, *wanted) {
+            Ok(true) => (),
+            Ok(false) => return Ok(false),
+            Err(refused) => {
+                return after(refused, is_made::<K, O>(alloc, *call, *wanted) == Ok(true));
+            }
+        }
+    }
+    Ok(true)
 }
 
 #[test]
-fn text_new_of_items(rt: HostRuntime) -> Result<(), Fail> {
-    told(makes_values::<Utf8, i64>(rt.alloc(), Built::New))
+fn makers(rt: HostRuntime) -> Result<(), Fail> {
+    told(all_made::<Binary, i32>(rt.alloc(), MADE))
 }
 
 #[test]
-fn default_of_items(rt: HostRuntime) -> Result<(), Fail> {
-    told(makes_values::<Binary, i32>(rt.alloc(), Built::Default))
-}
-
-#[test]
-fn text_default_of_items(rt: HostRuntime) -> Result<(), Fail> {
-    told(makes_values::<Utf8, i64>(rt.alloc(), Built::Default))
-}
-
-#[test]
-fn with_capacity_for_items(rt: HostRuntime) -> Result<(), Fail> {
-    told(makes_values::<Binary, i32>(rt.alloc(), Built::WithCapacity))
-}
-
-#[test]
-fn text_with_capacity_for_items(rt: HostRuntime) -> Result<(), Fail> {
-    told(makes_values::<Utf8, i64>(rt.alloc(), Built::WithCapacity))
-}
-
-#[test]
-fn with_capacities_for_items(rt: HostRuntime) -> Result<(), Fail> {
-    told(makes_values::<Binary, i32>(rt.alloc(), Built::WithCapacities))
-}
-
-#[test]
-fn text_with_capacities_for_items(rt: HostRuntime) -> Result<(), Fail> {
-    told(makes_values::<Utf8, i64>(rt.alloc(), Built::WithCapacities))
-}
-
-#[test]
-fn from_iter_of_items(rt: HostRuntime) -> Result<(), Fail> {
-    told(makes_values::<Binary, i32>(rt.alloc(), Built::FromIter))
-}
-
-#[test]
-fn text_from_iter_of_items(rt: HostRuntime) -> Result<(), Fail> {
-    told(makes_values::<Utf8, i64>(rt.alloc(), Built::FromIter))
-}
-
-#[test]
-fn try_from_iter_of_items(rt: HostRuntime) -> Result<(), Fail> {
-    told(makes_values::<Binary, i32>(rt.alloc(), Built::FromIterValues))
-}
-
-#[test]
-fn text_try_from_iter_of_items(rt: HostRuntime) -> Result<(), Fail> {
-    told(makes_values::<Utf8, i64>(rt.alloc(), Built::FromIterValues))
-}
-
-#[test]
-fn clone_of_items(rt: HostRuntime) -> Result<(), Fail> {
-    told(makes_values::<Binary, i32>(rt.alloc(), Built::Clone))
-}
-
-#[test]
-fn text_clone_of_items(rt: HostRuntime) -> Result<(), Fail> {
-    told(makes_values::<Utf8, i64>(rt.alloc(), Built::Clone))
+fn text_makers(rt: HostRuntime) -> Result<(), Fail> {
+    told(all_made::<Utf8, i64>(rt.alloc(), MADE))
 }
 
 /// Whether three items of two bytes are appended, for which no memory is asked.
@@ -1109,7 +815,7 @@ fn fits<K: Known, O: Offset>(builder: &mut MutableByteArray<K, O>) -> Result<boo
 }
 
 /// Whether they are in a new builder, or in one with room.
-fn fits_room<K: Known, O: Offset>(alloc: Global, call: Built) -> Result<bool, Error> {
+fn fits_room<K: Known, O: Offset>(alloc: Global, call: Maker) -> Result<bool, Error> {
     match builder::<K, O>(alloc, call) {
         Ok(mut builder) => fits(&mut builder),
         Err(refused) => Err(refused),
@@ -1119,12 +825,12 @@ fn fits_room<K: Known, O: Offset>(alloc: Global, call: Built) -> Result<bool, Er
 /// Whichever allocation is refused, it is none of those pushes that is.
 #[test]
 fn room_that_was_given(rt: HostRuntime) -> Result<(), Fail> {
-    told(fits_room::<Binary, i32>(rt.alloc(), Built::New))
+    told(fits_room::<Binary, i32>(rt.alloc(), Maker::New))
 }
 
 #[test]
 fn text_room_that_was_given(rt: HostRuntime) -> Result<(), Fail> {
-    told(fits_room::<Utf8, i64>(rt.alloc(), Built::WithCapacities))
+    told(fits_room::<Utf8, i64>(rt.alloc(), Maker::WithCapacities))
 }
 
 /// What is told of more slots, or more bytes, than any memory holds.

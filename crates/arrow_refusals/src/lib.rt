@@ -8,6 +8,8 @@ mod boolean;
 #[cfg(test)]
 mod bytes;
 #[cfg(test)]
+mod kernels;
+#[cfg(test)]
 mod memory;
 #[cfg(test)]
 mod offsets;

@@ -72,50 +72,55 @@ fn grow(marks: &mut MutableBitmap, others: &MutableBitmap, call: Growth) -> Resu
     }
 }
 
-/// How many marks there are after it, and how many of them are clear.
-fn wanted(call: Growth) -> (usize, usize) {
-    match call {
-        Growth::ExtendFromBitmap => (101, 100),
-        Growth::Reserve | Growth::ShrinkToFit => (1, 0),
-    }
-}
+/// Each of the calls, how many marks there are after it, and how many of them are clear.
+const GROWTHS: &[(Growth, (usize, usize))] = &[
+    (Growth::ExtendFromBitmap, (101, 100)),
+    (Growth::Reserve, (1, 0)),
+    (Growth::ShrinkToFit, (1, 0)),
+];
 
 /// Whether one set mark has others behind it then, or, where that is refused, is as before, and has by the same call.
-fn grows(marks: &mut MutableBitmap, others: &MutableBitmap, call: Growth) -> Result<bool, Error> {
+fn grows(
+    marks: &mut MutableBitmap,
+    others: &MutableBitmap,
+    call: Growth,
+    wanted: (usize, usize),
+) -> Result<bool, Error> {
     match grow(marks, others, call) {
-        Ok(()) => Ok((marks.len(), marks.unset_bits()) == wanted(call)),
+        Ok(()) => Ok((marks.len(), marks.unset_bits()) == wanted),
         Err(refused) => {
             let is_left = gives_thirds(marks.iter(), 1);
             let is_grown = grow(marks, others, call).is_ok();
-            let is_right = (marks.len(), marks.unset_bits()) == wanted(call);
+            let is_right = (marks.len(), marks.unset_bits()) == wanted;
             after(refused, is_left & is_grown & is_right)
         }
     }
 }
 
-/// Whether a new one has.
-fn grown(alloc: Global, call: Growth) -> Result<bool, Error> {
+/// Whether new ones have by each call.
+fn each_grown(
+    alloc: Global,
+    others: &MutableBitmap,
+    calls: &[(Growth, (usize, usize))],
+) -> Result<bool, Error> {
+    for (call, wanted) in calls {
+        let mut marks = MutableBitmap::from_slice(alloc, [true].as_slice())?;
+        if !grows(&mut marks, others, *call, *wanted)? {
+            return Ok(false);
+        }
+    }
+    Ok(true)
+}
+
+/// Whether they have with a hundred clear marks behind them.
+fn all_grown(alloc: Global) -> Result<bool, Error> {
     let others = MutableBitmap::from_slice(alloc, [false; 100].as_slice())?;
-    grows(
-        &mut MutableBitmap::from_slice(alloc, [true].as_slice())?,
-        &others,
-        call,
-    )
+    each_grown(alloc, &others, GROWTHS)
 }
 
 #[test]
-fn extend_from_bitmap(rt: HostRuntime) -> Result<(), Fail> {
-    told(grown(rt.alloc(), Growth::ExtendFromBitmap))
-}
-
-#[test]
-fn reserve(rt: HostRuntime) -> Result<(), Fail> {
-    told(grown(rt.alloc(), Growth::Reserve))
-}
-
-#[test]
-fn shrink_to_fit(rt: HostRuntime) -> Result<(), Fail> {
-    told(grown(rt.alloc(), Growth::ShrinkToFit))
+fn growths(rt: HostRuntime) -> Result<(), Fail> {
+    told(all_grown(rt.alloc()))
 }
 
 /// Whether so many clear marks are refused behind one, and that one is left.
@@ -126,15 +131,10 @@ fn is_too_many(alloc: Global, count: usize) -> Result<bool, Error> {
     Ok(matches!(answer, Err(Error::OutOfMemory)) && gives_thirds(marks.iter(), 1))
 }
 
-/// More than `usize::MAX` marks.
-#[test]
-fn marks_that_no_number_counts(rt: HostRuntime) -> Result<(), Fail> {
-    told(is_too_many(rt.alloc(), usize::MAX))
-}
-
-/// As many as are counted but not held.
+/// More than `usize::MAX` marks, and as many as are counted but not held.
 #[test]
 fn marks_that_no_memory_holds(rt: HostRuntime) -> Result<(), Fail> {
+    told(is_too_many(rt.alloc(), usize::MAX))?;
     told(is_too_many(rt.alloc(), usize::MAX - 8))
 }
 
@@ -174,181 +174,175 @@ fn apply_mut(rt: HostRuntime) -> Result<(), Fail> {
     told(changed(rt.alloc()))
 }
 
-/// The calls that make marks.
-#[derive(Clone, Copy)]
-enum Built {
-    WithCapacity,
-    FromSlice,
-    Clone,
-}
-
-/// Whether it makes one set mark and two others, or none with room.
-fn is_built(alloc: Global, call: Built) -> Result<bool, Error> {
-    let marks = match call {
-        Built::WithCapacity => MutableBitmap::with_capacity(alloc, 100)?,
-        Built::FromSlice => MutableBitmap::from_slice(alloc, [true, false, false].as_slice())?,
-        Built::Clone => MutableBitmap::from_slice(alloc, [true, false, false].as_slice())?.clone()?,
-    };
-    Ok(match call {
-        Built::WithCapacity => gives_thirds(marks.iter(), 0),
-        _ => gives_thirds(marks.iter(), 3),
-    })
-}
-
-/// Whether marks are made, or, where that is refused, by the same call once more.
-fn builds(alloc: Global, call: Built) -> Result<bool, Error> {
-    match is_built(alloc, call) {
-        Ok(is_right) => Ok(is_right),
-        Err(refused) => after(refused, is_built(alloc, call) == Ok(true)),
+/// The copy of marks.
+fn copied(marks: Result<MutableBitmap, Error>) -> Result<MutableBitmap, Error> {
+    match marks {
+        Ok(marks) => marks.clone(),
+        Err(refused) => Err(refused),
     }
 }
 
-#[test]
-fn with_capacity(rt: HostRuntime) -> Result<(), Fail> {
-    told(builds(rt.alloc(), Built::WithCapacity))
-}
-
-#[test]
-fn from_slice(rt: HostRuntime) -> Result<(), Fail> {
-    told(builds(rt.alloc(), Built::FromSlice))
-}
-
-#[test]
-fn clone(rt: HostRuntime) -> Result<(), Fail> {
-    told(builds(rt.alloc(), Built::Clone))
-}
-
-/// The calls that make marks that don't change.
+/// The calls that make marks, which can change or can't, or a buffer.
 #[derive(Clone, Copy)]
 enum Made {
+    WithCapacity,
+    FromSlice,
+    Copy,
     New,
     Default,
     TryNew,
-    FromSlice,
+    FrozenFromSlice,
     NewZeroed,
     Freeze,
+    FreezeCounted,
     Clone,
+    Buffer,
+    BufferDefault,
+    BufferFromVec,
+    BufferClone,
 }
 
-/// The marks that it makes.
+/// The marks that it makes, which can change.
+fn marks(alloc: Global, call: Made) -> Result<MutableBitmap, Error> {
+    let marks = [true, false, false];
+    match call {
+        Made::WithCapacity => MutableBitmap::with_capacity(alloc, 100),
+        Made::Copy => copied(MutableBitmap::from_slice(alloc, marks.as_slice())),
+        _ => MutableBitmap::from_slice(alloc, marks.as_slice()),
+    }
+}
+
+/// Whether they are so many, of which every third is set, the first one too.
+fn are_marks(alloc: Global, call: Made, count: usize) -> Result<bool, Error> {
+    match marks(alloc, call) {
+        Ok(marks) => Ok(gives_thirds(marks.iter(), count)),
+        Err(refused) => Err(refused),
+    }
+}
+
+/// Marks that are frozen, with the count of the clear ones where one is asked for.
+fn frozen(marks: Result<MutableBitmap, Error>, counts: bool) -> Result<Bitmap, Error> {
+    match marks {
+        Ok(marks) => {
+            let unset = marks.unset_bits();
+            if counts {
+                marks.freeze_counted(unset)
+            } else {
+                marks.freeze()
+            }
+        }
+        Err(refused) => Err(refused),
+    }
+}
+
+/// The clone of marks that don't change.
+fn cloned(marks: Result<Bitmap, Error>) -> Result<Bitmap, Error> {
+    match marks {
+        Ok(marks) => marks.clone(),
+        Err(refused) => Err(refused),
+    }
+}
+
+/// The marks that it makes, which don't change.
 fn bitmap(alloc: Global, call: Made) -> Result<Bitmap, Error> {
     let marks = [true, false, false];
     match call {
         Made::New => Bitmap::new(alloc),
         Made::Default => Bitmap::default(alloc),
         Made::TryNew => Bitmap::try_new([0b11111001].to_vec(alloc)?, 3),
-        Made::FromSlice => Bitmap::from_slice(alloc, marks.as_slice()),
         Made::NewZeroed => Bitmap::new_zeroed(alloc, 3),
-        Made::Freeze => MutableBitmap::from_slice(alloc, marks.as_slice())?.freeze(),
-        Made::Clone => Bitmap::from_slice(alloc, marks.as_slice())?.clone(),
+        Made::Freeze => frozen(MutableBitmap::from_slice(alloc, marks.as_slice()), false),
+        Made::FreezeCounted => frozen(MutableBitmap::from_slice(alloc, marks.as_slice()), true),
+        Made::Clone => cloned(Bitmap::from_slice(alloc, marks.as_slice())),
+        _ => Bitmap::from_slice(alloc, marks.as_slice()),
     }
 }
 
-/// Whether they are one set mark and two others; or none; or three clear ones.
-fn is_made(alloc: Global, call: Made) -> Result<bool, Error> {
-    let marks = bitmap(alloc, call)?;
-    Ok(match call {
-        Made::New | Made::Default => gives_thirds(marks.iter(), 0),
-        Made::NewZeroed => marks.len() == 3 && marks.unset_bits() == 3,
-        _ => gives_thirds(marks.iter(), 3) && marks.unset_bits() == 2,
-    })
-}
-
-/// Whether they are made, or, where that is refused, by the same call once more.
-fn makes(alloc: Global, call: Made) -> Result<bool, Error> {
-    match is_made(alloc, call) {
-        Ok(is_right) => Ok(is_right),
-        Err(refused) => after(refused, is_made(alloc, call) == Ok(true)),
+/// Whether they are so many, of which every third is set, the first one too, or none is.
+fn are_frozen(alloc: Global, call: Made, count: usize) -> Result<bool, Error> {
+    match bitmap(alloc, call) {
+        Ok(marks) => Ok(match call {
+            Made::NewZeroed => (marks.len(), marks.unset_bits()) == (count, count),
+            _ => gives_thirds(marks.iter(), count) & (marks.unset_bits() == count / 3 * 2),
+        }),
+        Err(refused) => Err(refused),
     }
 }
 
-#[test]
-fn frozen_new(rt: HostRuntime) -> Result<(), Fail> {
-    told(makes(rt.alloc(), Made::New))
+/// The clone of a buffer.
+fn cloned_buffer(values: Result<Buffer<i64>, Error>) -> Result<Buffer<i64>, Error> {
+    match values {
+        Ok(values) => values.clone(),
+        Err(refused) => Err(refused),
+    }
 }
 
-#[test]
-fn frozen_default(rt: HostRuntime) -> Result<(), Fail> {
-    told(makes(rt.alloc(), Made::Default))
-}
-
-#[test]
-fn frozen_try_new(rt: HostRuntime) -> Result<(), Fail> {
-    told(makes(rt.alloc(), Made::TryNew))
-}
-
-#[test]
-fn frozen_from_slice(rt: HostRuntime) -> Result<(), Fail> {
-    told(makes(rt.alloc(), Made::FromSlice))
-}
-
-#[test]
-fn frozen_new_zeroed(rt: HostRuntime) -> Result<(), Fail> {
-    told(makes(rt.alloc(), Made::NewZeroed))
-}
-
-#[test]
-fn freeze(rt: HostRuntime) -> Result<(), Fail> {
-    told(makes(rt.alloc(), Made::Freeze))
-}
-
-#[test]
-fn frozen_clone(rt: HostRuntime) -> Result<(), Fail> {
-    told(makes(rt.alloc(), Made::Clone))
-}
-
-/// The calls that make a buffer.
-#[derive(Clone, Copy)]
-enum Filled {
-    New,
-    Default,
-    FromVec,
-    Clone,
+/// The buffer of two values.
+fn two(alloc: Global) -> Result<Buffer<i64>, Error> {
+    Buffer::from_vec([7, 8].to_vec(alloc)?)
 }
 
 /// The buffer that it makes.
-fn buffer(alloc: Global, call: Filled) -> Result<Buffer<i64>, Error> {
+fn buffer(alloc: Global, call: Made) -> Result<Buffer<i64>, Error> {
     match call {
-        Filled::New => Buffer::new(alloc),
-        Filled::Default => Buffer::default(alloc),
-        Filled::FromVec => Buffer::from_vec([7, 8].to_vec(alloc)?),
-        Filled::Clone => Buffer::from_vec([7, 8].to_vec(alloc)?)?.clone(),
+        Made::Buffer => Buffer::new(alloc),
+        Made::BufferDefault => Buffer::default(alloc),
+        Made::BufferClone => cloned_buffer(two(alloc)),
+        _ => two(alloc),
     }
 }
 
-/// Whether it has its values.
-fn is_filled(alloc: Global, call: Filled) -> Result<bool, Error> {
-    let values = buffer(alloc, call)?;
-    Ok(match call {
-        Filled::New | Filled::Default => values.len() == 0,
-        _ => values.as_slice() == [7, 8].as_slice(),
-    })
-}
-
-/// Whether a buffer is made, or, where that is refused, by the same call once more.
-fn fills(alloc: Global, call: Filled) -> Result<bool, Error> {
-    match is_filled(alloc, call) {
-        Ok(is_right) => Ok(is_right),
-        Err(refused) => after(refused, is_filled(alloc, call) == Ok(true)),
+/// Whether it has the first of two values, so many of them.
+fn is_buffer(alloc: Global, call: Made, count: usize) -> Result<bool, Error> {
+    match buffer(alloc, call) {
+        Ok(values) => Ok([7, 8].as_slice().get(..count) == Some(values.as_slice())),
+        Err(refused) => Err(refused),
     }
 }
 
-#[test]
-fn buffer_new(rt: HostRuntime) -> Result<(), Fail> {
-    told(fills(rt.alloc(), Filled::New))
+/// Whether a call makes so many marks, or values.
+fn is_made(alloc: Global, call: Made, count: usize) -> Result<bool, Error> {
+    match call {
+        Made::WithCapacity | Made::FromSlice | Made::Copy => are_marks(alloc, call, count),
+        Made::Buffer | Made::BufferDefault | Made::BufferFromVec | Made::BufferClone => {
+            is_buffer(alloc, call, count)
+        }
+        _ => are_frozen(alloc, call, count),
+    }
+}
+
+/// Each of the calls, and how many marks, or values, it makes.
+const MADE: &[(Made, usize)] = &[
+    (Made::WithCapacity, 0),
+    (Made::FromSlice, 3),
+    (Made::Copy, 3),
+    (Made::New, 0),
+    (Made::Default, 0),
+    (Made::TryNew, 3),
+    (Made::FrozenFromSlice, 3),
+    (Made::NewZeroed, 3),
+    (Made::Freeze, 3),
+    (Made::FreezeCounted, 3),
+    (Made::Clone, 3),
+    (Made::Buffer, 0),
+    (Made::BufferDefault, 0),
+    (Made::BufferFromVec, 2),
+    (Made::BufferClone, 2),
+];
+
+/// Whether each makes them, or, where that is refused, makes them by the same call once more.
+fn all_made(alloc: Global, calls: &[(Made, usize)]) -> Result<bool, Error> {
+    for (call, count) in calls {
+        match is_made(alloc, *call, *count) {
+            Ok(true) => (),
+            Ok(false) => return Ok(false),
+            Err(refused) => return after(refused, is_made(alloc, *call, *count) == Ok(true)),
+        }
+    }
+    Ok(true)
 }
 
 #[test]
-fn buffer_default(rt: HostRuntime) -> Result<(), Fail> {
-    told(fills(rt.alloc(), Filled::Default))
-}
-
-#[test]
-fn buffer_from_vec(rt: HostRuntime) -> Result<(), Fail> {
-    told(fills(rt.alloc(), Filled::FromVec))
-}
-
-#[test]
-fn buffer_clone(rt: HostRuntime) -> Result<(), Fail> {
-    told(fills(rt.alloc(), Filled::Clone))
+fn makers(rt: HostRuntime) -> Result<(), Fail> {
+    told(all_made(rt.alloc(), MADE))
 }

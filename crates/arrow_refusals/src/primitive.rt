@@ -79,105 +79,62 @@ fn grow(
     }
 }
 
-/// What the builder of a value stores after it, and its marks.
-fn wanted<'a>(call: Growth) -> (&'a [i64], &'a str) {
-    match call {
-        Growth::Push => (&[7, 8], "none"),
-        Growth::PushOfANull | Growth::TryPush | Growth::PushNull => (&[7, 0], "10"),
-        Growth::ExtendConstant => (&[7, 8, 8], "none"),
-        Growth::ExtendConstantByNulls => (&[7, 0, 0], "100"),
-        Growth::ExtendFromSlice => (&[7, 8, 9], "none"),
-        Growth::TryExtendFromSelf => (&[7, 0], "10"),
-        Growth::Set => (&[0], "0"),
-        Growth::Reserve | Growth::ShrinkToFit => (&[7], "none"),
-    }
-}
+/// Each of the calls, and what the builder of a value stores after it, under which marks.
+const GROWTHS: &[(Growth, &[i64], &str)] = &[
+    (Growth::Push, &[7, 8], "none"),
+    (Growth::PushOfANull, &[7, 0], "10"),
+    (Growth::TryPush, &[7, 0], "10"),
+    (Growth::PushNull, &[7, 0], "10"),
+    (Growth::ExtendConstant, &[7, 8, 8], "none"),
+    (Growth::ExtendConstantByNulls, &[7, 0, 0], "100"),
+    (Growth::ExtendFromSlice, &[7, 8, 9], "none"),
+    (Growth::TryExtendFromSelf, &[7, 0], "10"),
+    (Growth::Set, &[0], "0"),
+    (Growth::Reserve, &[7], "none"),
+    (Growth::ShrinkToFit, &[7], "none"),
+];
 
 /// Whether a builder of a value has grown, or, where that is refused, is as before, and grows by the same call.
 fn grows(
     builder: &mut MutablePrimitiveArray<i64>,
     other: &MutablePrimitiveArray<i64>,
     call: Growth,
+    values: &[i64],
+    mask: &str,
 ) -> Result<bool, Error> {
-    let (values, mask) = wanted(call);
     match grow(builder, other, call) {
         Ok(()) => Ok(builds(builder, values, mask)),
         Err(refused) => {
             let is_left = is_seven(builder);
             let is_grown = grow(builder, other, call).is_ok();
-            after(refused, is_left & is_grown && builds(builder, values, mask))
+            after(refused, is_left & is_grown & builds(builder, values, mask))
         }
     }
 }
 
-/// Whether a new one has.
-fn grows_new(
+/// Whether new ones have by each call.
+fn each_grown(
     alloc: Global,
     other: &MutablePrimitiveArray<i64>,
-    call: Growth,
+    calls: &[(Growth, &[i64], &str)],
 ) -> Result<bool, Error> {
-    grows(&mut seven(alloc)?, other, call)
+    for (call, values, mask) in calls {
+        if !grows(&mut seven(alloc)?, other, *call, *values, *mask)? {
+            return Ok(false);
+        }
+    }
+    Ok(true)
 }
 
-/// Whether it has beside a builder of a null.
-fn grown(alloc: Global, call: Growth) -> Result<bool, Error> {
+/// Whether they have beside a builder of a null.
+fn all_grown(alloc: Global) -> Result<bool, Error> {
     let null = MutablePrimitiveArray::from(alloc, [None].as_slice())?;
-    grows_new(alloc, &null, call)
+    each_grown(alloc, &null, GROWTHS)
 }
 
 #[test]
-fn push(rt: HostRuntime) -> Result<(), Fail> {
-    told(grown(rt.alloc(), Growth::Push))
-}
-
-#[test]
-fn push_of_a_null(rt: HostRuntime) -> Result<(), Fail> {
-    told(grown(rt.alloc(), Growth::PushOfANull))
-}
-
-#[test]
-fn try_push(rt: HostRuntime) -> Result<(), Fail> {
-    told(grown(rt.alloc(), Growth::TryPush))
-}
-
-#[test]
-fn push_null(rt: HostRuntime) -> Result<(), Fail> {
-    told(grown(rt.alloc(), Growth::PushNull))
-}
-
-#[test]
-fn extend_constant(rt: HostRuntime) -> Result<(), Fail> {
-    told(grown(rt.alloc(), Growth::ExtendConstant))
-}
-
-#[test]
-fn extend_constant_by_nulls(rt: HostRuntime) -> Result<(), Fail> {
-    told(grown(rt.alloc(), Growth::ExtendConstantByNulls))
-}
-
-#[test]
-fn extend_from_slice(rt: HostRuntime) -> Result<(), Fail> {
-    told(grown(rt.alloc(), Growth::ExtendFromSlice))
-}
-
-#[test]
-fn try_extend_from_self(rt: HostRuntime) -> Result<(), Fail> {
-    told(grown(rt.alloc(), Growth::TryExtendFromSelf))
-}
-
-#[test]
-fn set(rt: HostRuntime) -> Result<(), Fail> {
-    told(grown(rt.alloc(), Growth::Set))
-}
-
-#[test]
-fn reserve(rt: HostRuntime) -> Result<(), Fail> {
-    told(grown(rt.alloc(), Growth::Reserve))
-}
-
-#[test]
-fn shrink_to_fit(rt: HostRuntime) -> Result<(), Fail> {
-    told(grown(rt.alloc(), Growth::ShrinkToFit))
+fn growths(rt: HostRuntime) -> Result<(), Fail> {
+    told(all_grown(rt.alloc()))
 }
 
 /// The calls by which a builder grows by what an iterator gives, as far as there is memory.
@@ -225,24 +182,24 @@ fn extends(builder: &mut MutablePrimitiveArray<i64>, call: Extension) -> Result<
     }
 }
 
-/// Whether a new one is.
-fn extended(alloc: Global, call: Extension) -> Result<bool, Error> {
-    extends(&mut seven(alloc)?, call)
+/// Whether new ones are by each call.
+fn all_extended(alloc: Global, calls: &[Extension]) -> Result<bool, Error> {
+    for call in calls {
+        if !extends(&mut seven(alloc)?, *call)? {
+            return Ok(false);
+        }
+    }
+    Ok(true)
 }
 
 #[test]
-fn extend(rt: HostRuntime) -> Result<(), Fail> {
-    told(extended(rt.alloc(), Extension::Extend))
-}
-
-#[test]
-fn try_extend(rt: HostRuntime) -> Result<(), Fail> {
-    told(extended(rt.alloc(), Extension::TryExtend))
-}
-
-#[test]
-fn extend_values(rt: HostRuntime) -> Result<(), Fail> {
-    told(extended(rt.alloc(), Extension::ExtendValues))
+fn extensions(rt: HostRuntime) -> Result<(), Fail> {
+    let calls = [
+        Extension::Extend,
+        Extension::TryExtend,
+        Extension::ExtendValues,
+    ];
+    told(all_extended(rt.alloc(), calls.as_slice()))
 }
 
 /// Whether so many slots more are refused, of a null or of a value.
@@ -309,81 +266,50 @@ fn array(alloc: Global, call: Made) -> Result<PrimitiveArray<i64>, Error> {
     }
 }
 
-/// What it stores, and its marks.
-fn stored<'a>(call: Made) -> (&'a [i64], &'a str) {
-    match call {
-        Made::FromVec | Made::FromSlice | Made::FromValues => (&[7, 0], "none"),
-        Made::From | Made::FromIter | Made::Freeze | Made::Clone => (&[7, 0], "10"),
-        Made::NewEmpty | Made::Default => (&[], "none"),
-        Made::NewNull => (&[0, 0], "00"),
-    }
-}
-
-/// Whether it does.
-fn is_made(alloc: Global, call: Made) -> Result<bool, Error> {
-    let (values, mask) = stored(call);
-    match array(alloc, call) {
+/// Whether an array was made that stores these values, under these marks.
+pub(crate) fn shown(
+    answer: Result<PrimitiveArray<i64>, Error>,
+    values: &[i64],
+    mask: &str,
+) -> Result<bool, Error> {
+    match answer {
         Ok(array) => Ok(shows(&array, values, mask)),
         Err(refused) => Err(refused),
     }
 }
 
-/// Whether an array is made, or, where that is refused, by the same call once more.
-fn makes(alloc: Global, call: Made) -> Result<bool, Error> {
-    match is_made(alloc, call) {
-        Ok(is_right) => Ok(is_right),
-        Err(refused) => after(refused, is_made(alloc, call) == Ok(true)),
+/// Each of the calls, and what the array stores, under which marks.
+const MADE: &[(Made, &[i64], &str)] = &[
+    (Made::FromVec, &[7, 0], "none"),
+    (Made::FromSlice, &[7, 0], "none"),
+    (Made::From, &[7, 0], "10"),
+    (Made::FromIter, &[7, 0], "10"),
+    (Made::FromValues, &[7, 0], "none"),
+    (Made::NewEmpty, &[], "none"),
+    (Made::NewNull, &[0, 0], "00"),
+    (Made::Default, &[], "none"),
+    (Made::Freeze, &[7, 0], "10"),
+    (Made::Clone, &[7, 0], "10"),
+];
+
+/// Whether arrays are made, or, where that is refused, by the same call once more.
+fn all_made(alloc: Global, calls: &[(Made, &[i64], &str)]) -> Result<bool, Error> {
+    for (call, values, mask) in calls {
+        match shown(array(alloc, *call), *values, *mask) {
+            Ok(true) => (),
+            Ok(false) => return Ok(false),
+            Err(refused) => {
+                let is_made = shown(array(alloc, *call), *values, *mask) == Ok(true);
+                return after(refused, is_made);
+            }
+        }
     }
+    Ok(true)
 }
 
 #[test]
-fn array_from_vec(rt: HostRuntime) -> Result<(), Fail> {
-    told(makes(rt.alloc(), Made::FromVec))
-}
-
-#[test]
-fn array_from_slice(rt: HostRuntime) -> Result<(), Fail> {
-    told(makes(rt.alloc(), Made::FromSlice))
-}
-
-#[test]
-fn array_from(rt: HostRuntime) -> Result<(), Fail> {
-    told(makes(rt.alloc(), Made::From))
-}
-
-#[test]
-fn array_from_iter(rt: HostRuntime) -> Result<(), Fail> {
-    told(makes(rt.alloc(), Made::FromIter))
-}
-
-#[test]
-fn array_from_values(rt: HostRuntime) -> Result<(), Fail> {
-    told(makes(rt.alloc(), Made::FromValues))
-}
-
-#[test]
-fn array_new_empty(rt: HostRuntime) -> Result<(), Fail> {
-    told(makes(rt.alloc(), Made::NewEmpty))
-}
-
-#[test]
-fn array_new_null(rt: HostRuntime) -> Result<(), Fail> {
-    told(makes(rt.alloc(), Made::NewNull))
-}
-
-#[test]
-fn array_default(rt: HostRuntime) -> Result<(), Fail> {
-    told(makes(rt.alloc(), Made::Default))
-}
-
-#[test]
-fn freeze(rt: HostRuntime) -> Result<(), Fail> {
-    told(makes(rt.alloc(), Made::Freeze))
-}
-
-#[test]
-fn array_clone(rt: HostRuntime) -> Result<(), Fail> {
-    told(makes(rt.alloc(), Made::Clone))
+fn arrays(rt: HostRuntime) -> Result<(), Fail> {
+    told(all_made(rt.alloc(), MADE))
 }
 
 /// The calls that make a builder.
@@ -411,56 +337,48 @@ fn builder(alloc: Global, call: Built) -> Result<MutablePrimitiveArray<i64>, Err
     }
 }
 
-/// Whether it stores what it should, under its marks, with its room.
-fn is_built(alloc: Global, call: Built) -> Result<bool, Error> {
+/// Whether it stores these values, under these marks, with so much room.
+fn is_built(
+    alloc: Global,
+    call: Built,
+    values: &[i64],
+    mask: &str,
+    room: usize,
+) -> Result<bool, Error> {
     match builder(alloc, call) {
-        Ok(builder) => Ok(match call {
-            Built::WithCapacity | Built::WithCapacityFrom => {
-                3 <= builder.capacity() && builds(&builder, &[], "none")
-            }
-            Built::FromSlice => builds(&builder, [7, 0].as_slice(), "none"),
-            _ => builds(&builder, [7, 0].as_slice(), "10"),
-        }),
+        Ok(builder) => Ok((room <= builder.capacity()) & builds(&builder, values, mask)),
         Err(refused) => Err(refused),
     }
 }
 
-/// Whether a builder is made, or, where that is refused, by the same call once more.
-fn makes_builder(alloc: Global, call: Built) -> Result<bool, Error> {
-    match is_built(alloc, call) {
-        Ok(is_right) => Ok(is_right),
-        Err(refused) => after(refused, is_built(alloc, call) == Ok(true)),
+/// Each of the calls, what the builder stores, under which marks, and how much room it has at least.
+const BUILT: &[(Built, &[i64], &str, usize)] = &[
+    (Built::WithCapacity, &[], "none", 3),
+    (Built::WithCapacityFrom, &[], "none", 3),
+    (Built::FromSlice, &[7, 0], "none", 2),
+    (Built::From, &[7, 0], "10", 2),
+    (Built::FromIter, &[7, 0], "10", 2),
+    (Built::Clone, &[7, 0], "10", 2),
+];
+
+/// Whether builders are made, or, where that is refused, by the same call once more.
+fn all_built(alloc: Global, calls: &[(Built, &[i64], &str, usize)]) -> Result<bool, Error> {
+    for (call, values, mask, room) in calls {
+        match is_built(alloc, *call, *values, *mask, *room) {
+            Ok(true) => (),
+            Ok(false) => return Ok(false),
+            Err(refused) => {
+                let is_built = is_built(alloc, *call, *values, *mask, *room) == Ok(true);
+                return after(refused, is_built);
+            }
+        }
     }
+    Ok(true)
 }
 
 #[test]
-fn with_capacity(rt: HostRuntime) -> Result<(), Fail> {
-    told(makes_builder(rt.alloc(), Built::WithCapacity))
-}
-
-#[test]
-fn with_capacity_from(rt: HostRuntime) -> Result<(), Fail> {
-    told(makes_builder(rt.alloc(), Built::WithCapacityFrom))
-}
-
-#[test]
-fn from_slice(rt: HostRuntime) -> Result<(), Fail> {
-    told(makes_builder(rt.alloc(), Built::FromSlice))
-}
-
-#[test]
-fn from(rt: HostRuntime) -> Result<(), Fail> {
-    told(makes_builder(rt.alloc(), Built::From))
-}
-
-#[test]
-fn from_iter(rt: HostRuntime) -> Result<(), Fail> {
-    told(makes_builder(rt.alloc(), Built::FromIter))
-}
-
-#[test]
-fn clone(rt: HostRuntime) -> Result<(), Fail> {
-    told(makes_builder(rt.alloc(), Built::Clone))
+fn builders(rt: HostRuntime) -> Result<(), Fail> {
+    told(all_built(rt.alloc(), BUILT))
 }
 
 /// Whether three values are appended, for which no memory is asked.

@@ -5,9 +5,9 @@ use Rattle.std.specs.Prelude.{position, filter_map, option_map, MatchOption}
 use Rattle.std.specs.List.{position_or_len, cons_option}
 use Rattle.std.specs.Option.{option_to_list}
 use denote.Ref.{Bor}
-use Rattle.arrow_table.specs.Request.{Request}
-use Rattle.arrow_session.specs.Lines.{Reading, requests, bad_line, reading_at, commands_of, is_bad, asked_in}
-use Rattle.arrow_session.specs.Words.{lines_of}
+use Rattle.arrow_entry.specs.Both.{BothRequest}
+use Rattle.arrow_lines.specs.Lines.{Reading, requests, bad_line, reading_at, commands_of, is_bad, asked_in}
+use Rattle.arrow_words.specs.Words.{lines_of}
 
 -- the lines of what follows, where there is any
 abbrev pub lines_after : Option (Bor (List ℕ)) → List (List ℕ)
@@ -15,15 +15,15 @@ lines_after None = []
 lines_after (Some text) = lines_of text.now
 
 -- what an input is, whose lines from this number on have their first bad one here, behind these requests
-abbrev reading_with : ℕ → List (Request ℤ) → Option ℕ → List (Request ℤ) → Reading
+abbrev reading_with : ℕ → List (BothRequest ℤ) → Option ℕ → List (BothRequest ℤ) → Reading
 reading_with n before None asked = requests (before ++ asked)
 reading_with n before (Some place) asked = bad_line (place + n)
 
 -- what an input is, of which these lines from this number on are left, behind these requests
-unfoldable pub reading_from : ℕ → List (Request ℤ) → List (List ℕ) → Reading
+unfoldable pub reading_from : ℕ → List (BothRequest ℤ) → List (List ℕ) → Reading
 reading_from n before rest = reading_with n before (position is_bad rest) (filter_map asked_in rest)
 
-from_first : (found : Option ℕ) (asked : List (Request ℤ)) → reading_at found asked ≡ reading_with 1 [] found asked
+from_first : (found : Option ℕ) (asked : List (BothRequest ℤ)) → reading_at found asked ≡ reading_with 1 [] found asked
 from_first None asked = refl
 from_first (Some place) asked = refl
 
@@ -46,17 +46,17 @@ module _ {X : Type 0} (p : X → Bool) where
       first_of_some : (len : ℕ) → cond {A = Option ℕ} (nat_lt 0 (suc len)) (Some 0) None ≡ Some 0
       first_of_some len = rw (lt-ltb 0 (suc len) (omega arith)) refl
 
-next_number : (n : ℕ) (before asked : List (Request ℤ)) (found : Option ℕ) → reading_with n before (option_map (λ k. 1 + k) found) asked ≡ reading_with (n + 1) before found asked
+next_number : (n : ℕ) (before asked : List (BothRequest ℤ)) (found : Option ℕ) → reading_with n before (option_map (λ k. 1 + k) found) asked ≡ reading_with (n + 1) before found asked
 next_number n before asked None = refl
 next_number n before asked (Some k) = let e : 1 + k + n ≡ k + (n + 1) = omega arith in ap bad_line e
 
-next_request : (n : ℕ) (before asked : List (Request ℤ)) (c : Option (Request ℤ)) (found : Option ℕ) → reading_with n before found (cons_option c asked) ≡ reading_with n (before ++ option_to_list c) found asked
+next_request : (n : ℕ) (before asked : List (BothRequest ℤ)) (c : Option (BothRequest ℤ)) (found : Option ℕ) → reading_with n before found (cons_option c asked) ≡ reading_with n (before ++ option_to_list c) found asked
 next_request n before asked None found = ap (λ requests. reading_with n requests found asked) (sym (append-nil before))
 next_request n before asked (Some c) None = ap requests (sym (append_assoc before (c ∷ []) asked))
 next_request n before asked (Some c) (Some k) = refl
 
 -- one line more is read: it is good, and may ask something, or it is bad
-module _ (n : ℕ) (before : List (Request ℤ)) (line : List ℕ) (rest : List (List ℕ)) where
+module _ (n : ℕ) (before : List (BothRequest ℤ)) (line : List ℕ) (rest : List (List ℕ)) where
   pub reads_good : is_bad line ≡ false → reading_from n before (line ∷ rest) ≡ reading_from (n + 1) (before ++ option_to_list (asked_in line)) rest
   unfolding reading_from
   reads_good e =
@@ -67,7 +67,7 @@ module _ (n : ℕ) (before : List (Request ℤ)) (line : List ℕ) (rest : List 
   unfolding reading_from
   reads_bad e = let same : 0 + n ≡ n = omega arith in rw (place_here is_bad line rest e) (ap bad_line same)
 
-pub reads_all : (n : ℕ) (before : List (Request ℤ)) → reading_from n before [] ≡ requests before
+pub reads_all : (n : ℕ) (before : List (BothRequest ℤ)) → reading_from n before [] ≡ requests before
 unfolding reading_from
 reads_all n before = ap requests (append-nil before)
 

@@ -1,71 +1,52 @@
 -- Lemmas on runs, and on the answers that a text has.
-use Rattle.std.proofs.Common.{◌≡◌, ℕ, ◌+◌, List, [], ◌∷◌, ◌++◌, sym, ap, subst, ◌∙◌, true, false, ℤ}
+use Rattle.std.proofs.Common.{◌≡◌, ℕ, ◌+◌, List, [], ◌∷◌, ◌++◌, sym, ap, subst, ◌∙◌, true, false, ℤ, pos}
 use Rattle.std.specs.Option.{option_to_list}
 use Rattle.std.proofs.lemmas.Grind.{flat_map-append}
-use Rattle.arrow_table.specs.Answer.{Answer}
-use Rattle.arrow_table.specs.Entry.{Held, Types}
-use Rattle.arrow_table.specs.Request.{Request}
-use Rattle.arrow_table.specs.Run.{IsRun}
-use Rattle.arrow_session.specs.Answered.{at_first, AddsAnswers}
-use Rattle.arrow_session.specs.Lines.{bad_line, commands_of, program_types, asked_in, is_bad, IsGood}
+use Rattle.arrow_types.specs.declared.primitive_type.PrimitiveType.TheVariants.{Int64}
+use Rattle.arrow_entry.specs.Answer.{Answer}
+use Rattle.arrow_entry.specs.Both.{Both, BothRequest, IsBothStep}
+use Rattle.arrow_entry.specs.Run.{Runs}
+use Rattle.arrow_lines.specs.Answered.{IsProgramRun, at_first, AddsAnswers}
+use Rattle.arrow_lines.specs.Lines.{bad_line, commands_of, asked_in, is_bad}
 use Rattle.arrow_session.specs.Session.{IsAnswer}
-use Rattle.arrow_session.specs.Text.{text_of}
-use Rattle.arrow_session.specs.Words.{lines_of}
+use Rattle.arrow_words.specs.Text.{text_of}
+use Rattle.arrow_words.specs.Words.{lines_of}
 use Rattle.arrow_session.proofs.Reading.{reading_from, commands_of_is, reads_good, reads_bad, reads_all}
 
-module _ {T : Type 0} (c : Types T) where
+module _ {S C A : Type 0} (Step : S → C → A → S → Type 0) where
   -- a run, and then another
-  runs_joined : (s m n : Held T) (first others : List (Request T)) (replies answers : List (Answer T)) → IsRun c s first replies m → IsRun c m others answers n → IsRun c s (first ++ others) (replies ++ answers) n
-  runs_joined s m n [] others [] answers e run = subst (λ k. IsRun c k others answers n) e run
+  runs_joined : (s m n : S) (first others : List C) (replies answers : List A) → Runs Step s first replies m → Runs Step m others answers n → Runs Step s (first ++ others) (replies ++ answers) n
+  runs_joined s m n [] others [] answers e run = subst (λ k. Runs Step k others answers n) e run
   runs_joined s m n [] others (r ∷ replies) answers h run = absurd h
   runs_joined s m n (x ∷ first) others [] answers h run = absurd h
   runs_joined s m n (x ∷ first) others (r ∷ replies) answers h run = (h.0, h.1, runs_joined h.0 m n first others replies answers h.2 run)
 
--- so far: the requests that were read, of which the lines from this number on are left
-unfoldable pub IsReadTo : List ℕ → ℕ → List (List ℕ) → Type 0
-IsReadTo input n rest = (commands : List (Request ℤ)) × (commands_of input ≡ reading_from n commands rest)
-
--- the same, where they were run and left this table, and their answers are this text
-unfoldable pub IsRunTo : List ℕ → ℕ → List (List ℕ) → Held ℤ → List ℕ → Type 0
+-- so far: the requests that were read, of which the lines from this number on are left, were run and left these tables, and
+-- their answers are this text
+unfoldable pub IsRunTo : List ℕ → ℕ → List (List ℕ) → Both ℤ → List ℕ → Type 0
 IsRunTo input n rest table text =
-    (commands : List (Request ℤ)) × (answers : List (Answer ℤ))
-    × (commands_of input ≡ reading_from n commands rest) × IsRun program_types at_first commands answers table × (text ≡ text_of answers)
+    (commands : List (BothRequest ℤ)) × (answers : List (Answer ℤ))
+    × (commands_of input ≡ reading_from n commands rest) × IsProgramRun at_first commands answers table × (text ≡ text_of answers)
 
 module _ (input : List ℕ) where
-  pub read_none : IsReadTo input 1 (lines_of input)
-  unfolding IsReadTo
-  read_none = ([], commands_of_is input)
-
-  pub run_none : (table : Held ℤ) (text : List ℕ) → table ≡ at_first → text ≡ [] → IsRunTo input 1 (lines_of input) table text
+  pub run_none : (table : Both ℤ) (text : List ℕ) → table ≡ at_first → text ≡ [] → IsRunTo input 1 (lines_of input) table text
   unfolding IsRunTo
   run_none table text e f = ([], [], commands_of_is input, e, f)
 
-  pub read_to_end : (n : ℕ) → IsReadTo input n [] → IsGood input
-  unfolding IsReadTo
-  read_to_end n h = (h.0, h.1 ∙ reads_all n h.0)
-
-  pub run_to_end : (n : ℕ) (table : Held ℤ) (text : List ℕ) → IsRunTo input n [] table text → IsAnswer input text
+  pub run_to_end : (n : ℕ) (table : Both ℤ) (text : List ℕ) → IsRunTo input n [] table text → IsAnswer input text
   unfolding IsRunTo
   run_to_end n table text h = (h.0, h.1, table, h.2 ∙ reads_all n h.0, h.3, h.4)
 
   module _ (n : ℕ) (line : List ℕ) (rest : List (List ℕ)) where
-    pub read_good : is_bad line ≡ false → IsReadTo input n (line ∷ rest) → IsReadTo input (n + 1) rest
-    unfolding IsReadTo
-    read_good e h = (h.0 ++ option_to_list (asked_in line), h.1 ∙ reads_good n h.0 line rest e)
-
-    pub read_bad : is_bad line ≡ true → IsReadTo input n (line ∷ rest) → commands_of input ≡ bad_line n
-    unfolding IsReadTo
-    read_bad e h = h.1 ∙ reads_bad n h.0 line rest e
-
-    module _ (table : Held ℤ) (text : List ℕ) where
-      pub run_good : (later : Held ℤ) (grown : List ℕ) → is_bad line ≡ false → AddsAnswers (option_to_list (asked_in line)) table later text grown
+    module _ (table : Both ℤ) (text : List ℕ) where
+      pub run_good : (later : Both ℤ) (grown : List ℕ) → is_bad line ≡ false → AddsAnswers (option_to_list (asked_in line)) table later text grown
           → IsRunTo input n (line ∷ rest) table text → IsRunTo input (n + 1) rest later grown
       unfolding IsRunTo
       run_good later grown e adds h = (
         h.0 ++ option_to_list (asked_in line),
         h.1 ++ adds.0,
         h.2 ∙ reads_good n h.0 line rest e,
-        runs_joined program_types at_first table later h.0 (option_to_list (asked_in line)) h.1 adds.0 h.3 adds.1,
+        runs_joined (IsBothStep (pos 0) Int64) at_first table later h.0 (option_to_list (asked_in line)) h.1 adds.0 h.3 adds.1,
         adds.2 ∙ ap (λ before. before ++ text_of adds.0) h.4 ∙ sym (flat_map-append _ h.1 adds.0),
       )
 

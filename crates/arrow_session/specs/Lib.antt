@@ -1,9 +1,3 @@
-pub mod Words
-pub mod Readers
-pub mod Fields
-pub mod Lines
-pub mod Answered
-pub mod Text
 pub mod Counted
 pub mod Session
 pub mod Device

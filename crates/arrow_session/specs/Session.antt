@@ -6,20 +6,19 @@ use Rattle.arrow_session.specs.declared.outcome.Outcome.{Outcome}
 use Rattle.arrow_session.specs.declared.outcome.Outcome.TheVariants as outcome
 use Rattle.arrow_session.specs.declared.session.InputError.{InputError}
 use Rattle.arrow_session.specs.declared.session.InputError.TheVariants as error
-use Rattle.arrow_table.specs.Answer.{Answer}
-use Rattle.arrow_table.specs.Entry.{Held}
-use Rattle.arrow_table.specs.Request.{Request}
-use Rattle.arrow_table.specs.Run.{IsRun}
-use Rattle.arrow_session.specs.Answered.{at_first}
-use Rattle.arrow_session.specs.Lines.{requests, bad_line, commands_of, program_types}
-use Rattle.arrow_session.specs.Text.{text_of}
+use Rattle.arrow_entry.specs.Answer.{Answer}
+use Rattle.arrow_entry.specs.Both.{Both, BothRequest}
+use Rattle.arrow_lines.specs.Answered.{IsProgramRun, at_first}
+use Rattle.arrow_lines.specs.Lines.{requests, bad_line, commands_of}
+use Rattle.arrow_words.specs.Text.{text_of}
 
--- the input is a list of commands, and the text is that of the replies of a run of all of them from 16 empty entries
+-- the input is a list of commands, and the text is that of the replies of a run of all of them from 16 empty entries of
+-- each width
 abbrev pub IsAnswer : List ℕ → List ℕ → Type 0
 IsAnswer input text =
-    (commands : List (Request ℤ)) × (replies : List (Answer ℤ)) × (final : Held ℤ)
+    (commands : List (BothRequest ℤ)) × (replies : List (Answer ℤ)) × (final : Both ℤ)
     × (commands_of input ≡ requests commands)
-    × IsRun program_types at_first commands replies final
+    × IsProgramRun at_first commands replies final
     × (text ≡ text_of replies)
 
 -- the text is the answer to the input, and the number is that of its first bad line; memory may always be wanting

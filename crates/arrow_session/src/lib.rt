@@ -1,8 +1,7 @@
-//! Sessions of commands on a table of arrays and builders, from lines to lines.
+//! Sessions of commands on tables of arrays and builders, from lines to lines.
 #![tactic(auto)]
 
 pub mod counted;
 pub mod device;
-mod lines;
 pub mod outcome;
 pub mod session;

@@ -1,21 +1,19 @@
-//! A session: every line is read, then every command is run, and then every reply is written.
-ghost use Rattle.std.specs.Prelude.{◌≡◌, ◌∷◌, [], IfOk, IfSome, MatchOption, OnOk, ◌⊎◌, string_bytes};
-ghost use Rattle.arrow_session.specs.Answered.{program_asked, AddsAnswers, AnswersLine};
+//! A session: the input is read, its commands are run line by line, and then every reply is written.
+ghost use Rattle.std.specs.Prelude.{◌≡◌, IfSome, ◌⊎◌};
 ghost use Rattle.arrow_session.specs.Counted.{inside, fault_count, Rose};
-ghost use Rattle.arrow_session.specs.Lines.{IsGood, bad_line, commands_of};
 ghost use Rattle.arrow_session.specs.Session.{Answers, Ends};
 
 use crate::counted::Counted;
 use crate::device::{Fault, read_all, send};
-use crate::lines::parse::{command_in, is_good, is_passed_over};
-use crate::lines::print::push_replies;
-use crate::lines::words::cut;
 use crate::outcome::Outcome;
-use arrow_table::{Command, Reply, Table, run};
+use arrow_lines::answering::Answering;
+use arrow_lines::parse::answer_line;
+use arrow_table::Tables;
+use arrow_words::words::cut;
 use std::alloc::{AllocError, Global};
 use std::io::{Read, Write};
 
-/// The number of entries of a session's table.
+/// The number of entries of each of a session's tables.
 const ENTRIES: usize = 16;
 
 /// Why an input is not answered.
@@ -37,93 +35,34 @@ impl From<AllocError> for InputError {
     }
 }
 
-/// Runs a command, and appends its reply to a text. The list of replies is only lent, to be used again.
-fn answer_command(
-    table: &mut Table<i64, i32>,
-    command: Command<i64, i32>,
-    replies: &mut Vec<Reply<i64>>,
-    text: &mut String,
-) -> Result<(), AllocError>
-    ensures { OnOk result (AddsAnswers (program_asked command ∷ []) table.old table.new (string_bytes text.old) (string_bytes text.new)) }
-{
-    replies.clear();
-    if run(table, &[command], replies) < 1 {
-        return Err(AllocError);
-    }
-    push_replies(text, replies)
-}
-
-/// Runs the command that a line is, unless it is passed over, and appends its reply to a text. Answers whether it is either.
-fn answer_line(
-    alloc: Global,
-    table: &mut Table<i64, i32>,
-    line: &[u8],
-    replies: &mut Vec<Reply<i64>>,
-    text: &mut String,
-) -> Result<bool, AllocError>
-    ensures { IfOk result (AnswersLine line.now table.old table.new (string_bytes text.old) (string_bytes text.new)) }
-{
-    if is_passed_over(line) {
-        return Ok(true);
-    }
-    let Some(command) = command_in(alloc, line)? else {
-        return Ok(false);
-    };
-    answer_command(table, command, replies, text)?;
-    Ok(true)
-}
-
-/// The number of the first line of an input that is no command, counted from 1; `None` where each is one. The commands are
-/// let go.
-fn first_bad_line(alloc: Global, input: &[u8]) -> Result<Option<usize>, AllocError>
-    ensures { IfOk result (λ found. MatchOption found (IsGood input.now) (λ number. commands_of input.now ≡ bad_line number)) }
-{
-    let mut number = 1;
-    let mut rest = Some(input);
-    while let Some(lines) = rest {
-        let (line, after) = cut(b'\n', lines);
-        if !is_good(alloc, line)? {
-            return Ok(Some(number));
-        }
-        number += 1;
-        rest = after;
-    }
-    Ok(None)
-}
-
-/// The replies to an input, run on a table of empty entries. Each line is read once more and run at once, so that no list
-/// of commands or replies is kept.
+/// The replies to an input, run on tables of empty entries. Each line is run as soon as it is read, so that no list of
+/// commands or replies is kept; where one is no command the replies so far are let go.
 fn run_lines(alloc: Global, input: &[u8]) -> Result<String, InputError>
     ensures { Answers input.now result }
 {
-    let mut table = Table::new(alloc, ENTRIES).map_err(|_| InputError::Memory)?;
-    let mut replies = Vec::new(alloc);
-    let mut text = String::new(alloc);
+    let tables = Tables::new(alloc, ENTRIES).map_err(|_| InputError::Memory)?;
+    let replies = Vec::new(alloc);
+    let text = String::new(alloc);
+    let mut answering = Answering {
+        tables,
+        replies,
+        text,
+    };
     let mut number = 1;
     let mut rest = Some(input);
     while let Some(lines) = rest {
         let (line, after) = cut(b'\n', lines);
-        if !answer_line(alloc, &mut table, line, &mut replies, &mut text)? {
+        if !answer_line(alloc, &mut answering, line)? {
             return Err(InputError::BadLine(number));
         }
         number += 1;
         rest = after;
     }
-    Ok(text)
+    Ok(answering.text)
 }
 
-/// The replies to an input, of which nothing is run where a line is no command.
-fn answer(alloc: Global, input: &[u8]) -> Result<String, InputError>
-    ensures { Answers input.now result }
-{
-    match first_bad_line(alloc, input)? {
-        Some(number) => Err(InputError::BadLine(number)),
-        None => run_lines(alloc, input),
-    }
-}
-
-/// Reads every line of the input, runs every command on a table of 16 empty entries, and writes a
-/// reply for each. Where a line is no command nothing is run.
+/// Reads every line of the input, runs every command on 16 empty entries of each width, and writes a
+/// reply for each. Where a line is no command nothing is written.
 pub fn session<R: Read, W: Write>(
     alloc: Global,
     input: &mut Counted<R>,
@@ -140,7 +79,7 @@ pub fn session<R: Read, W: Write>(
         Err(Fault::Device) => return Outcome::Device,
         Err(Fault::Memory) => return Outcome::Memory,
     };
-    let text = match answer(alloc, &bytes) {
+    let text = match run_lines(alloc, &bytes) {
         Ok(text) => text,
         Err(InputError::BadLine(number)) => return Outcome::BadLine(number),
         Err(InputError::Memory) => return Outcome::Memory,

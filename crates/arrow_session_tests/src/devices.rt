@@ -7,19 +7,26 @@ use std::alloc::Global;
 use std::io;
 use std::io::{ErrorKind, Read, Write};
 
-/// Gives seven bytes at a time; the second read fails in this way.
+/// Which read or write fails, counted from one, and in which way.
+#[derive(Clone, Copy)]
+struct Failure {
+    number: usize,
+    kind: ErrorKind,
+}
+
+/// Gives seven bytes at a time; one read fails so.
 #[derive(Drop)]
 struct Reader {
     bytes: &'static [u8],
-    second: ErrorKind,
-    reads: u32,
+    failure: Failure,
+    reads: usize,
 }
 
 impl Read for Reader {
     fn read(&mut self, buf: &mut [u8]) -> io::Result<usize> {
         self.reads = self.reads.saturating_add(1);
-        if self.reads == 2 {
-            return Err(io::Error::from(self.second));
+        if self.reads == self.failure.number {
+            return Err(io::Error::from(self.failure.kind));
         }
         let mut piece = &self.bytes[..self.bytes.len().min(7)];
         let count = piece.read(buf)?;
@@ -28,21 +35,21 @@ impl Read for Reader {
     }
 }
 
-/// Takes three bytes at a time; the second write fails in this way, and each flush may.
+/// Takes three bytes at a time; one write fails so, and each flush may.
 #[derive(Drop)]
 struct Writer<'a> {
     taken: &'a mut Vec<u8>,
     flushes: &'a mut u32,
-    second: ErrorKind,
+    failure: Failure,
     flush_fails: bool,
-    writes: u32,
+    writes: usize,
 }
 
 impl Write for Writer<'_> {
     fn write(&mut self, buf: &[u8]) -> io::Result<usize> {
         self.writes = self.writes.saturating_add(1);
-        if self.writes == 2 {
-            return Err(io::Error::from(self.second));
+        if self.writes == self.failure.number {
+            return Err(io::Error::from(self.failure.kind));
         }
         let piece = &buf[..buf.len().min(3)];
         self.taken.extend_from_slice(piece)?;
@@ -74,11 +81,11 @@ fn session_to(alloc: Global, input: &str, writer: Writer<'_>) -> (Outcome, u64) 
     (outcome, output.count())
 }
 
-/// Whether a session whose second write fails in this way, as each flush may, comes to this.
+/// Whether a session of which one write fails so, as each flush may, comes to this.
 fn is_written(
     alloc: Global,
     input: &str,
-    second: ErrorKind,
+    failure: Failure,
     flush_fails: bool,
     wanted: &Wanted,
 ) -> bool {
@@ -87,7 +94,7 @@ fn is_written(
     let writer = Writer {
         taken: &mut taken,
         flushes: &mut flushes,
-        second,
+        failure,
         flush_fails,
         writes: 0,
     };
@@ -102,7 +109,7 @@ fn is_written(
 /// where it has no replies, and a flush that failed is a fault.
 #[test]
 fn failing_writers(rt: HostRuntime) {
-    for (input, second, flush_fails, outcome, faults, flushes, text) in [
+    for (input, kind, flush_fails, outcome, faults, flushes, text) in [
         (
             FIRST_RUN,
             ErrorKind::Interrupted,
@@ -164,17 +171,57 @@ fn failing_writers(rt: HostRuntime) {
             flushes,
             text,
         };
-        assert!(rt; is_written(rt.alloc(), input, second, flush_fails, &wanted));
+        let failure = Failure { number: 2, kind };
+        assert!(rt; is_written(rt.alloc(), input, failure, flush_fails, &wanted));
     }
 }
 
-/// Whether a session over the first run, whose second read fails in this way, ends so and writes this.
-fn is_read(alloc: Global, second: ErrorKind, wanted: Outcome, text: &str) -> bool {
+/// What a session over the first run comes to where one write fails, in a way that ends it or is tried again: what was
+/// written before is a beginning.
+fn after_failure(number: usize, is_end: bool) -> Wanted {
+    let length = number.saturating_sub(1).saturating_mul(3);
+    if is_end {
+        return Wanted {
+            outcome: Outcome::Device,
+            faults: 1,
+            flushes: 0,
+            text: FIRST_REPLIES.get(..length).unwrap_or("too many"),
+        };
+    }
+    Wanted {
+        outcome: Outcome::Done,
+        faults: 1,
+        flushes: 1,
+        text: FIRST_REPLIES,
+    }
+}
+
+/// The first of the seventeen writes of the first run after whose failure a session comes to something else; 18 where
+/// there is none.
+fn first_write(alloc: Global, kind: ErrorKind, is_end: bool) -> usize {
+    for number in 1..18 {
+        let wanted = after_failure(number, is_end);
+        if !is_written(alloc, FIRST_RUN, Failure { number, kind }, false, &wanted) {
+            return number;
+        }
+    }
+    18
+}
+
+#[test]
+fn each_write_may_fail(rt: HostRuntime) {
+    assert_eq!(rt; first_write(rt.alloc(), ErrorKind::Other, true), 18);
+    assert_eq!(rt; first_write(rt.alloc(), ErrorKind::BrokenPipe, true), 18);
+    assert_eq!(rt; first_write(rt.alloc(), ErrorKind::Interrupted, false), 18);
+}
+
+/// Whether a session over the first run, of which one read fails so, ends so and writes this.
+fn is_read(alloc: Global, failure: Failure, wanted: Outcome, text: &str) -> bool {
     let mut written = Vec::new(alloc);
     let mut output = Counted::new(&mut written);
     let mut input = Counted::new(Reader {
         bytes: FIRST_RUN.as_bytes(),
-        second,
+        failure,
         reads: 0,
     });
     let outcome = session(alloc, &mut input, &mut output);
@@ -182,14 +229,26 @@ fn is_read(alloc: Global, second: ErrorKind, wanted: Outcome, text: &str) -> boo
     outcome == wanted && input.count() == 1 && written.as_slice() == text.as_bytes()
 }
 
-/// A read that was interrupted is tried again, and any other failure ends the session.
+/// The first of the sixteen reads of the first run, the last of which finds its end, after whose failure a session ends
+/// otherwise or writes something else; 17 where there is none.
+fn first_read(alloc: Global, kind: ErrorKind, wanted: Outcome, text: &str) -> usize {
+    for number in 1..17 {
+        if !is_read(alloc, Failure { number, kind }, wanted, text) {
+            return number;
+        }
+    }
+    17
+}
+
+/// A read that was interrupted is tried again, and any other failure ends the session, whichever read it is.
 #[test]
-fn failing_readers(rt: HostRuntime) {
-    for (second, outcome, text) in [
+fn each_read_may_fail(rt: HostRuntime) {
+    for (kind, outcome, text) in [
         (ErrorKind::Interrupted, Outcome::Done, FIRST_REPLIES),
         (ErrorKind::Other, Outcome::Device, ""),
+        (ErrorKind::BrokenPipe, Outcome::Device, ""),
     ] {
-        assert!(rt; is_read(rt.alloc(), second, outcome, text));
+        assert_eq!(rt; first_read(rt.alloc(), kind, outcome, text), 17);
     }
 }
 

@@ -1,12 +1,2 @@
-pub mod Filled
-pub mod Grown
-pub mod Masks
-pub mod Makes
-pub mod Passes
-pub mod Seen
-pub mod Slots
-pub mod Steps
 pub mod RunLemmas
-pub mod Values
-pub mod Turns
-pub mod Costs
+pub mod Steps

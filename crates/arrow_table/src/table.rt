@@ -1,14 +1,15 @@
 //! A table, and the run of a list of commands on it.
-ghost use Rattle.std.specs.Prelude.{◌≡◌, ◌<◌, ◌≤◌, false, length, map, replicate, take, vec_capacity, vec_len, IfErr, IfOk, MatchOption, None, option_map};
+ghost use Rattle.std.specs.Prelude.{◌≡◌, ◌<◌, ◌≤◌, length, map, replicate, take, vec_capacity, vec_len, IfErr, IfOk, None, option_map};
 ghost use Rattle.arrow_check.specs.Reading.{no_cost};
-ghost use Rattle.arrow_table.specs.Answer.{told};
-ghost use Rattle.arrow_table.specs.Entry.{table_of, types};
-ghost use Rattle.arrow_table.specs.Kind.{shape};
-ghost use Rattle.arrow_table.specs.Request.{asked};
-ghost use Rattle.arrow_table.specs.Run.{AppendsRun, CostsAtMost};
-ghost use Rattle.arrow_table.specs.Step.{IsStep, entry_at};
+ghost use Rattle.arrow_entry.specs.Answer.{told};
+ghost use Rattle.arrow_entry.specs.Entry.{table_of, types};
+ghost use Rattle.arrow_entry.specs.Kind.{shape};
+ghost use Rattle.arrow_entry.specs.Request.{asked};
+ghost use Rattle.arrow_entry.specs.Run.{AppendsRun, CostsAtMost};
+ghost use Rattle.arrow_entry.specs.Step.{IsStep, entry_at};
 
-use crate::rows::step::step;
+use crate::sequence::{Steps, run_all};
+use crate::step::step;
 use crate::{Command, Entry, Kind, Reply};
 use arrow_check::cost::TextCost;
 use arrow_types::error::Error;
@@ -20,13 +21,13 @@ use std::marker::Model;
 /// A table of entries, each of which is empty or holds an array or a builder; and counts of what its tests of text cost.
 #[derive(Drop)]
 pub struct Table<T: NativeType, O: Offset> {
-    entries: Vec<Option<Entry<T, O>>>,
+    pub(crate) entries: Vec<Option<Entry<T, O>>>,
     cost: TextCost,
 }
 
 // Contracts see the values of the entries, in order, and the counts.
 impl<T: NativeType, O: Offset> Model for Table<T, O> {
-    ghost use Rattle.arrow_table.specs.Entry.{Held, table_of};
+    ghost use Rattle.arrow_entry.specs.Entry.{Held, table_of};
 
     ghost Value = { Held T };
 
@@ -78,6 +79,23 @@ impl<T: NativeType, O: Offset> Table<T, O> {
     }
 }
 
+impl<T: NativeType, O: Offset> Steps<T> for Table<T, O> {
+    ghost use Rattle.std.specs.Prelude.{◌∷◌, []};
+    ghost use Rattle.arrow_entry.specs.Answer.{told};
+    ghost use Rattle.arrow_entry.specs.Entry.{types};
+    ghost use Rattle.arrow_entry.specs.Request.{asked};
+    ghost use Rattle.arrow_entry.specs.Run.{CostsAtMost};
+    ghost use Rattle.arrow_entry.specs.Step.{IsStep};
+
+    type Command = Command<T, O>;
+
+    ghost steps_to = { λ old command reply new. IsStep (types T.zero T.PRIMITIVE O.most O.IS_LARGE) old (asked O.number command) (told reply) new × CostsAtMost (asked O.number command ∷ []) old.cost new.cost };
+
+    fn step(&mut self, alloc: Global, command: &Command<T, O>) -> Reply<T> {
+        step(alloc, &mut self.entries, &mut self.cost, command)
+    }
+}
+
 /// Runs commands in order and appends a reply for each. Answers how many were done: all, or as many as there was room for
 /// replies. It stops early only where the list of replies is full and its growth was refused, and never gives up room that
 /// the list has.
@@ -92,15 +110,5 @@ pub fn run<T: NativeType, O: Offset>(
     ensures full { result < length commands.now → vec_len replies.new ≡ vec_capacity replies.new }
     ensures room { vec_capacity replies.old ≤ vec_capacity replies.new }
 {
-    let alloc = *replies.allocator();
-    let mut done = 0;
-    for command in commands {
-        let Ok(()) = replies.reserve(1) else {
-            return done;
-        };
-        let reply = step(alloc, &mut table.entries, &mut table.cost, command);
-        replies.push_reserved(reply);
-        done += 1;
-    }
-    done
+    run_all(table, commands, replies)
 }

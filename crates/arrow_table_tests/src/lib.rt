@@ -9,6 +9,8 @@ mod arrays;
 #[cfg(test)]
 mod builders;
 #[cfg(test)]
+mod chosen;
+#[cfg(test)]
 mod narrow;
 #[cfg(test)]
 mod parts;
@@ -20,3 +22,5 @@ mod script;
 mod texts;
 #[cfg(test)]
 mod unmet;
+#[cfg(test)]
+mod widths;

@@ -94,6 +94,32 @@ slots 0 mutf8 _ taaaaaaaaaaaaaaaaaaaaaaaaaaaaaaaaaaaaaaaaaaaaaaaaaaaaaaaaaaaaaaa
 offsets 0 -> [0 0 99 100]
 ";
 
+/// Rows at keys: what is told first is a key that tells no row, and then an end that no offset tells; the entry that was to
+/// be filled stays empty. Some rows of an array never end past the greatest offset, and numbers have no end.
+const CHOICES: &str = "
+slots 0 bin x00000000000000000000000000000000000000000000000000000000000000000000000000000000 -> ok
+take 0 1 0 0 0 -> refused: overflow
+len 1 -> not met
+take 0 1 0 0 0 1 -> refused: a dictionary key must be below the length of the dictionary values
+take 0 1 0 0 -> ok
+offsets 1 -> [0 40 80]
+slots 2 utf8 taaaaaaaaaaaaaaaaaaaaaaaaaaaaaaaaaaaaaaaaaaaaaaaaaa _ -> ok
+take 2 3 0 1 0 1 -> ok
+offsets 3 -> [0 50 50 100 100]
+take 2 4 0 0 1 0 -> refused: overflow
+len 4 -> not met
+items 4 bool b1 b1 b0 b1 -> ok
+filter 3 4 5 -> ok
+offsets 5 -> [0 50 50 50]
+take 4 6 0 0 0 0 0 0 0 0 0 0 0 0 0 0 0 0 0 0 0 0 0 0 0 0 0 0 0 0 0 0 0 0 0 0 0 0 0 0 0 0 0 0 0 0 0 0 0 0 0 0 0 0 0 0 0 0 0 0 0 0 0 0 0 0 0 0 0 0 0 0 0 0 0 0 0 0 0 0 0 0 0 0 0 0 0 0 0 0 0 0 0 0 0 0 0 0 0 0 0 0 0 -> ok
+len 6 -> 101
+";
+
+#[test]
+fn choices_end(rt: HostRuntime) -> Result<(), Fail> {
+    answers::<i64, Tiny>(rt.alloc(), CHOICES)
+}
+
 #[test]
 fn offsets_end(rt: HostRuntime) -> Result<(), Fail> {
     answers::<i64, Tiny>(rt.alloc(), PUSHES)?;

@@ -33,7 +33,6 @@ pub enum PrimitiveType {
 
 impl PrimitiveType {
     ghost use Rattle.std.specs.Prelude.{◌≡◌};
-    ghost use Rattle.arrow_types.specs.declared.physical_type.PhysicalType.{PhysicalType};
     ghost use Rattle.arrow_types.specs.declared.physical_type.PhysicalType.TheVariants as physical;
     ghost use Rattle.arrow_types.specs.Types.{logical_type, default_logical_type, IsRightType};
 

@@ -11,7 +11,7 @@ use arrow_types::offset::Offset;
 use arrow_utf8::Utf8Array;
 
 /// Offsets, bytes and marks.
-type Written<'a> = (&'a [usize], &'a [u8], &'a str);
+pub(super) type Written<'a> = (&'a [usize], &'a [u8], &'a str);
 
 /// A kind of items, and its kernels, one of which is called where a filter is as long as an array.
 trait Known: ByteKind {
@@ -85,7 +85,7 @@ fn offsets_of<O: Offset>(alloc: Global, numbers: &[usize]) -> Result<OffsetsBuff
 }
 
 /// The array of such parts.
-fn array_of<K: ByteKind, O: Offset>(
+pub(super) fn array_of<K: ByteKind, O: Offset>(
     alloc: Global,
     given: Written<'_>,
 ) -> Result<ByteArray<K, O>, Error> {
@@ -96,7 +96,7 @@ fn array_of<K: ByteKind, O: Offset>(
 }
 
 /// Whether an array has these offsets, bytes and marks.
-fn shows<K: ByteKind, O: Offset>(array: &ByteArray<K, O>, wanted: Written<'_>) -> bool {
+pub(super) fn shows<K: ByteKind, O: Offset>(array: &ByteArray<K, O>, wanted: Written<'_>) -> bool {
     let marks = match array.validity() {
         Some(marks) => Some(marks.iter()),
         None => None,
@@ -221,6 +221,41 @@ fn items_at_keys_are_taken(rt: HostRuntime) -> Result<(), Fail> {
     told(takes_items::<Utf8, i32>(rt.alloc()))?;
     told(takes_items::<Utf8, i64>(rt.alloc()))?;
     told(takes_items::<Utf8, Tiny>(rt.alloc()))
+}
+
+/// The offsets of so many items of one byte.
+fn ends_of(alloc: Global, count: usize) -> Result<Vec<usize>, Error> {
+    let mut ends = Vec::new(alloc);
+    for end in 0..count {
+        ends.push(end)?;
+    }
+    ends.push(count)?;
+    Ok(ends)
+}
+
+/// Whether of seventy items of one byte each a filter leaves these.
+fn filters_seventy<K: Known>(alloc: Global, text: &str, kept: &str) -> Result<bool, Error> {
+    let bytes = b"abcdefghijabcdefghijabcdefghijabcdefghijabcdefghijabcdefghijabcdefghij";
+    let (all, left) = (ends_of(alloc, bytes.len())?, ends_of(alloc, kept.len())?);
+    let given = (all.as_slice(), bytes.as_slice(), "none");
+    let wanted = (left.as_slice(), kept.as_bytes(), "none");
+    filters::<K, Tiny>(alloc, given, text, wanted)
+}
+
+/// Whether a filter leaves items that stand by themselves, and items that stand in runs, over the border of a word.
+fn filters_words<K: Known>(alloc: Global) -> Result<bool, Error> {
+    let apart = "tftftftftftftftftftftftftftftftftftftftftftftftftftftftftftftftftftftf";
+    let runs = "ttttttttttfffffffffffffffffffffffffffffffffffffffffffffffffffffffttttt";
+    Ok(
+        filters_seventy::<K>(alloc, apart, "acegiacegiacegiacegiacegiacegiacegi")?
+            & filters_seventy::<K>(alloc, runs, "abcdefghijfghij")?,
+    )
+}
+
+#[test]
+fn items_are_left_over_the_border_of_a_word(rt: HostRuntime) -> Result<(), Fail> {
+    told(filters_words::<Binary>(rt.alloc()))?;
+    told(filters_words::<Utf8>(rt.alloc()))
 }
 
 /// Whether keys into one item of forty bytes, over offsets that end at a hundred, are told so.

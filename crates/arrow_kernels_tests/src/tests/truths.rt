@@ -63,6 +63,35 @@ fn truth_values_that_are_asked_for_are_left(rt: HostRuntime) -> Result<(), Fail>
     told(filters(alloc, given, bare_filter(alloc, "tttt"), given))
 }
 
+#[test]
+fn rows_are_left_over_the_borders_of_words(rt: HostRuntime) -> Result<(), Fail> {
+    let alloc = rt.alloc();
+    // Rows 0, 63, 64 and 129 are asked for. The filter is null at row 1, and the values are at rows 5 and 63.
+    let given = (
+        "1100000000000000000000000000000000000000000000000000000000000000100000000000000000000000000000000000000000000000000000000000000001",
+        "1111101111111111111111111111111111111111111111111111111111111110111111111111111111111111111111111111111111111111111111111111111111",
+    );
+    let filter = filter_of(
+        alloc,
+        "t_fffffffffffffffffffffffffffffffffffffffffffffffffffffffffffffttfffffffffffffffffffffffffffffffffffffffffffffffffffffffffffffffft",
+    );
+    told(filters(alloc, given, filter, ("1011", "1011")))?;
+    // The first 64 rows are asked for, and not the last.
+    let given = (
+        "01100110011001100110011001100110011001100110011001100110011001101",
+        "11111111111111111111111111111111111111111111111111111111111111101",
+    );
+    let filter = bare_filter(
+        alloc,
+        "ttttttttttttttttttttttttttttttttttttttttttttttttttttttttttttttttf",
+    );
+    let wanted = (
+        "0110011001100110011001100110011001100110011001100110011001100110",
+        "1111111111111111111111111111111111111111111111111111111111111110",
+    );
+    told(filters(alloc, given, filter, wanted))
+}
+
 /// Whether keys take these.
 fn takes(
     alloc: Global,

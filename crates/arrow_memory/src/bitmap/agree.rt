@@ -1,5 +1,5 @@
 //! Whether lists of marks agree, a byte at a time.
-ghost use Rattle.std.specs.Prelude.{◌≡◌, ℕ, ◌+◌, ◌*◌, ◌<◌, ◌≤◌, ◌↔◌, ◌==◌, IsTrue, IfSome, Some, length, slice_get};
+ghost use Rattle.std.specs.Prelude.{◌≡◌, ℕ, ◌+◌, ◌*◌, ◌<◌, ◌↔◌, ◌==◌, IsTrue, IfSome, Some, length};
 ghost use Rattle.std.specs.Int.{bit_at};
 ghost use Rattle.arrow_memory.specs.Rows.{AgreeWhere, IsValidAt};
 

@@ -28,7 +28,7 @@ fn byte_or_clear(bytes: &[u8], index: usize) -> u8
 
 /// Eight marks from a place on; those past the bytes are clear.
 #[inline(always)]
-fn byte_at(bytes: &[u8], place: usize) -> u8
+pub(crate) fn byte_at(bytes: &[u8], place: usize) -> u8
     ensures { (k : ℕ) → k < 8 → (bit_at result k == 1) ≡ mark_at bytes.now (place + k) }
 {
     let low = byte_or_clear(bytes, place / 8);
@@ -47,7 +47,7 @@ fn joined(byte: u8, from: usize, above: u8) -> u8
 }
 
 /// Writes marks behind the last of so many, up to the end of its byte.
-fn join_byte(bytes: &mut Vec<u8>, len: usize, source: &[u8], start: usize)
+pub(crate) fn join_byte(bytes: &mut Vec<u8>, len: usize, source: &[u8], start: usize)
     requires { len ≤ 8 * vec_len bytes.old }
     ensures marks { CopiesMarks bytes.old.items bytes.new.items source.now len start (8 * div_ceil len 8 - len) }
     ensures len { vec_len bytes.new ≡ vec_len bytes.old }

@@ -1,7 +1,7 @@
 //! Lists of marks that grow.
 ghost use Rattle.std.specs.Prelude.{◌≡◌, ℕ, ◌<◌, ◌+◌, ◌↔◌, ◌==◌, IsTrue, [], ◌∷◌, ◌++◌, count_by, length, not, replicate, slice_get, slice_set, take, Some, IfSome, OnOk, IfOk, IfErr, IsOkAnd, IsErrAnd, MatchOption, ◌*◌, ◌≤◌, vec_len};
 ghost use Rattle.std.specs.Int.{bit_at};
-ghost use Rattle.arrow_memory.specs.Marks.{marks, bits_past_bytes};
+ghost use Rattle.arrow_memory.specs.Marks.{bits_of, marks, bits_past_bytes};
 ghost use Rattle.arrow_memory.specs.Rows.{AgreeWhere};
 ghost use Rattle.arrow_types.specs.Types.{refusal};
 
@@ -9,6 +9,7 @@ use crate::bitmap::agree::agree_where;
 use crate::bitmap::bits::{count_clear, extend_marks, fits_bytes, mark_of, push_mark, write_mark};
 use crate::bitmap::copy::extend_from_bytes;
 use crate::bitmap::pack::pack;
+use crate::bitmap::words::extend_from_word;
 use crate::bitmap::{Bitmap, BitmapIter};
 use arrow_types::error::Error;
 use std::alloc::Global;
@@ -273,6 +274,25 @@ impl MutableBitmap {
             return Err(Error::OutOfMemory);
         };
         extend_from_bytes(&mut self.bytes, self.length, &other.bytes, 0, other.length)?;
+        self.length = end;
+        Ok(())
+    }
+
+    /// Appends the first `count` bits of a word, at most 64, the least significant first.
+    ///
+    /// # Errors
+    /// `OutOfMemory` where the growth is refused, as one past `usize::MAX` marks is; the marks are
+    /// then as before.
+    #[inline(always)]
+    pub fn extend_from_word(&mut self, word: u64, count: usize) -> Result<(), Error>
+        requires { count ≤ 64 }
+        ensures ok { OnOk result (self.new ≡ self.old ++ bits_of word count) }
+        ensures err { IfErr result (λ e. (e ≡ Error.OutOfMemory) × (self.new ≡ self.old)) }
+    {
+        let Some(end) = self.length.checked_add(count) else {
+            return Err(Error::OutOfMemory);
+        };
+        extend_from_word(&mut self.bytes, self.length, word, count)?;
         self.length = end;
         Ok(())
     }

@@ -1,7 +1,7 @@
 //! What is wrong with offsets that are handed in.
-ghost use Rattle.std.specs.Prelude.{◌≡◌, ◌≤◌, ℤ, pos, List, [], ◌∷◌, map, Some, None, IfSome, MatchOption, int_lt, false};
+ghost use Rattle.std.specs.Prelude.{◌≡◌, ◌≤◌, pos, map, Some, None, int_lt, false};
 ghost use Rattle.std.specs.Option.{option_map};
-ghost use Rattle.arrow_memory.specs.Offsets.{falls_after, first_fault, last_of, numbers_of};
+ghost use Rattle.arrow_memory.specs.Offsets.{first_fault, last_of, numbers_of};
 
 use arrow_types::offset::Offset;
 

@@ -6,7 +6,7 @@ ghost use Rattle.arrow_memory.specs.Offsets.{first_of, last_of, IsOffsets, Keeps
 use crate::buffer::Buffer;
 use crate::offset::OffsetsBuffer;
 use crate::offset::faults::first_broken_rule;
-use crate::offset::numbers::{append_moved, start_end_of};
+use crate::offset::numbers::{append_moved, number_at, start_end_of};
 use arrow_types::error::Error;
 use arrow_types::offset::Offset;
 use std::alloc::Global;
@@ -228,6 +228,25 @@ impl<O: Offset> Offsets<O> {
         Ok(())
     }
 
+    /// Appends the slots of offsets that are kept as values, as [`Offsets::try_extend_from_self`].
+    pub(super) fn try_extend_from_slice(&mut self, other: &[O]) -> Result<(), Error>
+        requires { KeepsOffsets O.number O.most other.now }
+        ensures legal { IsOffsets self.new }
+        ensures ok { OnOk result (let ends = numbers_of O.number other.now in (last_of self.old + (last_of ends - first_of ends) ≤ O.most) × (self.new ≡ self.old ++ moved_behind (last_of self.old) ends)) }
+        ensures err { IfErr result (λ e. let ends = numbers_of O.number other.now in MatchGrowth e (O.most < last_of self.old + (last_of ends - first_of ends)) (last_of self.old + (last_of ends - first_of ends) ≤ O.most) × (self.new ≡ self.old)) }
+    {
+        let last = self.last().to_usize();
+        let added = number_at(other, other.len() - 1) - number_at(other, 0);
+        let Some(end) = last.checked_add(added) else {
+            return Err(Error::Overflow);
+        };
+        if O::from_usize(end).is_none() {
+            return Err(Error::Overflow);
+        }
+        append_moved(&mut self.offsets, other, last)?;
+        Ok(())
+    }
+
     /// Appends the slots of another, which keep their lengths: its offsets move by the distance
     /// from its first offset to this one's last.
     ///
@@ -240,16 +259,7 @@ impl<O: Offset> Offsets<O> {
         ensures ok { OnOk result ((last_of self.old + (last_of other.now - first_of other.now) ≤ O.most) × (self.new ≡ self.old ++ moved_behind (last_of self.old) other.now)) }
         ensures err { IfErr result (λ e. MatchGrowth e (O.most < last_of self.old + (last_of other.now - first_of other.now)) (last_of self.old + (last_of other.now - first_of other.now) ≤ O.most) × (self.new ≡ self.old)) }
     {
-        let last = self.last().to_usize();
-        let added = other.last().to_usize() - other.first().to_usize();
-        let Some(end) = last.checked_add(added) else {
-            return Err(Error::Overflow);
-        };
-        if O::from_usize(end).is_none() {
-            return Err(Error::Overflow);
-        }
-        append_moved(&mut self.offsets, &other.offsets, last)?;
-        Ok(())
+        self.try_extend_from_slice(other.as_slice())
     }
 
     /// Makes room for so many slots more.

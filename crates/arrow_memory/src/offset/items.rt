@@ -1,8 +1,9 @@
 //! Items that are appended together with their ends.
 ghost use Rattle.std.specs.Prelude.{◌≡◌, ◌+◌, ◌-◌, ◌<◌, ◌≤◌, [], ◌∷◌, ◌++◌, length, take, drop, OnOk, OnErr, IfErr};
-ghost use Rattle.arrow_memory.specs.Offsets.{first_of, last_of, IsOffsets, MatchGrowth, moved_behind};
+ghost use Rattle.arrow_memory.specs.Offsets.{first_of, last_of, IsOffsets, KeepsOffsets, MatchGrowth, moved_behind, numbers_of};
 
-use crate::offset::Offsets;
+use crate::offset::numbers::number_at;
+use crate::offset::{Offsets, OffsetsBuffer};
 use arrow_types::error::Error;
 use arrow_types::offset::Offset;
 use std::alloc::AllocError;
@@ -68,6 +69,32 @@ impl<O: Offset> Offsets<O> {
         Ok(())
     }
 
+    /// Appends the items that offsets cut out of bytes, as [`Offsets::try_extend_items`].
+    fn try_extend_cut(
+        &mut self,
+        values: &mut Vec<u8>,
+        other: &[O],
+        others: &[u8],
+    ) -> Result<(), Error>
+        requires keeps { KeepsOffsets O.number O.most other.now }
+        requires held { last_of (numbers_of O.number other.now) ≤ length others.now }
+        ensures legal { IsOffsets self.new }
+        ensures ok { OnOk result (let ends = numbers_of O.number other.now in (last_of self.old + (last_of ends - first_of ends) ≤ O.most) × (self.new ≡ self.old ++ moved_behind (last_of self.old) ends) × (values.new.items ≡ values.old.items ++ take (last_of ends - first_of ends) (drop (first_of ends) others.now))) }
+        ensures err { IfErr result (λ e. let ends = numbers_of O.number other.now in MatchGrowth e (O.most < last_of self.old + (last_of ends - first_of ends)) (last_of self.old + (last_of ends - first_of ends) ≤ O.most) × (self.new ≡ self.old) × (values.new.items ≡ values.old.items)) }
+    {
+        let before = self.len_proxy();
+        let start = number_at(other, 0);
+        let end = number_at(other, other.len() - 1);
+        self.try_extend_from_slice(other)?;
+        match values.extend_from_slice(&others[start..end]) {
+            Ok(()) => Ok(()),
+            Err(_) => {
+                self.truncate(before);
+                Err(Error::OutOfMemory)
+            }
+        }
+    }
+
     /// Appends another's items to the values, and their ends to the offsets: the bytes from the other's first offset
     /// to its last, and its slots, which keep their lengths.
     ///
@@ -86,16 +113,30 @@ impl<O: Offset> Offsets<O> {
         ensures ok { OnOk result ((last_of self.old + (last_of other.now - first_of other.now) ≤ O.most) × (self.new ≡ self.old ++ moved_behind (last_of self.old) other.now) × (values.new.items ≡ values.old.items ++ take (last_of other.now - first_of other.now) (drop (first_of other.now) others.now))) }
         ensures err { IfErr result (λ e. MatchGrowth e (O.most < last_of self.old + (last_of other.now - first_of other.now)) (last_of self.old + (last_of other.now - first_of other.now) ≤ O.most) × (self.new ≡ self.old) × (values.new.items ≡ values.old.items)) }
     {
-        let before = self.len_proxy();
-        let start = other.first().to_usize();
-        let end = other.last().to_usize();
-        self.try_extend_from_self(other)?;
-        match values.extend_from_slice(&others[start..end]) {
-            Ok(()) => Ok(()),
-            Err(_) => {
-                self.truncate(before);
-                Err(Error::OutOfMemory)
-            }
-        }
+        self.try_extend_cut(values, other.as_slice(), others)
+    }
+
+    /// Appends so many of another's items, from one on, to the values, and their ends to the offsets: the bytes between
+    /// the ends of the piece in one copy, and its slots, which keep their lengths.
+    ///
+    /// # Errors
+    /// As of [`Offsets::try_extend_items`].
+    pub fn try_extend_slots(
+        &mut self,
+        values: &mut Vec<u8>,
+        other: &OffsetsBuffer<O>,
+        others: &[u8],
+        first: usize,
+        count: usize,
+    ) -> Result<(), Error>
+        requires slots { first + count < length other.now }
+        requires held { last_of other.now ≤ length others.now }
+        ensures legal { IsOffsets self.new }
+        ensures other { IsOffsets other.now }
+        ensures ok { OnOk result (let piece = take (count + 1) (drop first other.now) in (last_of self.old + (last_of piece - first_of piece) ≤ O.most) × (self.new ≡ self.old ++ moved_behind (last_of self.old) piece) × (values.new.items ≡ values.old.items ++ take (last_of piece - first_of piece) (drop (first_of piece) others.now))) }
+        ensures err { IfErr result (λ e. let piece = take (count + 1) (drop first other.now) in MatchGrowth e (O.most < last_of self.old + (last_of piece - first_of piece)) (last_of self.old + (last_of piece - first_of piece) ≤ O.most) × (self.new ≡ self.old) × (values.new.items ≡ values.old.items)) }
+    {
+        let offsets = other.buffer().as_slice();
+        self.try_extend_cut(values, &offsets[first..first + count + 1], others)
     }
 }

@@ -37,6 +37,27 @@ fn joined<O: Offset>(alloc: Global) -> Result<usize, Error> {
     Ok(offsets.last().to_usize())
 }
 
+/// Where the last of these slots ends behind the same slots, of which the first is left out, and how many bytes there
+/// are then.
+fn extended<O: Offset>(alloc: Global) -> Result<(usize, usize), Error> {
+    let other = pushed::<O>(alloc)?.freeze()?;
+    let mut offsets = pushed::<O>(alloc)?;
+    let mut values = Vec::new(alloc);
+    if other.len_proxy() == 3 && other.last().to_usize() <= 20 {
+        offsets.try_extend_slots(&mut values, &other, b"a slot of 20 letters", 1, 2)?;
+    }
+    Ok((offsets.last().to_usize(), values.len()))
+}
+
+#[test]
+fn slots_are_appended(rt: HostRuntime) -> Result<(), Fail> {
+    let narrow = extended::<i32>(rt.alloc())?;
+    let wide = extended::<i64>(rt.alloc())?;
+    let least = extended::<Tiny>(rt.alloc())?;
+    assert!(rt; narrow == (40, 20) && wide == (40, 20) && least == (40, 20));
+    Ok(())
+}
+
 /// How many slots there are in a clone of the same offsets, frozen.
 fn frozen<O: Offset>(alloc: Global) -> Result<usize, Error> {
     let offsets = pushed::<O>(alloc)?.freeze()?;

@@ -1,5 +1,5 @@
 //! What builders answer at a narrow type, and at one of two parts.
-ghost use Rattle.std.specs.Prelude.{◌≡◌, length, vec_len};
+ghost use Rattle.std.specs.Prelude.{◌≡◌, vec_len};
 
 use super::arrays::{counts, is_default};
 use super::*;

@@ -16,7 +16,10 @@ pub(crate) fn change<T: Sample, O: Width>(
 ) -> Result<Command<T, O>, Error> {
     match name {
         "value" | "get" | "isnull" | "clone" | "self" | "equal" => at_number(name, entry, words),
-        "set" | "write" | "constant" | "slice" | "reserve" => at_place(alloc, name, entry, words),
+        "set" | "write" | "constant" | "slice" | "reserve" | "filter" => {
+            at_place(alloc, name, entry, words)
+        }
+        "take" => taking(alloc, entry, words),
         "mask" | "push" | "to" => by_word(alloc, name, entry, words),
         _ => by_list(alloc, name, entry, words),
     }
@@ -51,6 +54,7 @@ fn at_place<T: Sample, O: Width>(
     match name {
         "slice" => Ok(Command::Slice(entry, place, number_in(said)?)),
         "reserve" => Ok(Command::Reserve(entry, place, number_in(said)?)),
+        "filter" => Ok(Command::Filter(entry, place, number_in(said)?)),
         "write" => Ok(Command::Write(entry, place, item_in(alloc, said)?)),
         _ => with_slot(name, entry, place, slot_in(alloc, said)),
     }
@@ -71,6 +75,16 @@ fn with_slot<T: Sample, O: Width>(
         }),
         Err(unreadable) => Err(unreadable),
     }
+}
+
+/// A command about an entry, another one, and keys.
+fn taking<T: Sample, O: Width>(
+    alloc: Global,
+    entry: usize,
+    mut words: SplitWhitespace<'_>,
+) -> Result<Command<T, O>, Error> {
+    let made = number(&mut words)?;
+    Ok(Command::Take(entry, keys(alloc, words)?, made))
 }
 
 /// A command about an entry and one word.

@@ -1,28 +1,24 @@
-use Rattle.std.proofs.Common.{◌+◌, ◌*◌, ap, arith, take, ◌∙◌}
-use Rattle.arrow_kernels.specs.Kernels.{where_set}
-use Rattle.arrow_kernels.proofs.WordLemmas.{left-next, less-left, no-more, starts-word, word-grown}
+use Rattle.std.proofs.Common.{◌≡◌, ◌*◌, ◌++◌, ap, arith, sym, ◌∙◌}
+use Rattle.std.proofs.lemmas.List.{append-nil}
+use Rattle.arrow_memory.specs.Marks.{bits_of}
+use Rattle.std.proofs.lemmas.Result.{IfErr-weaker, on_ok_weaker}
+use Rattle.arrow_kernels.proofs.BitLemmas.{where-word}
 use Rattle.arrow_kernels.proofs.keep.keep_word_marks.Goals as goal
 
-pub loop-left-init : goal.loop-left-init
-loop-left-init c =
-    record {
-      marked = λ k low up. c.word-left.ensures k low;
-      so_far = c.requires.so_far ∙ starts-word c.args.asked.now (64 * c.args.at) c.word-left.result (omega arith) c.args.marks.now c.word-left.ensures;
-    }
-
-pub loop-left-preserved : goal.loop-left-preserved
-loop-left-preserved c =
-    let asked = c.args.asked.now in
-    let left = c.loop-left.left in
-    record {
-      marked = left-next asked (64 * c.args.at) left (omega arith) (omega arith) c.loop-left.invariant.marked;
-      so_far = word-grown asked (64 * c.args.at) left (omega arith) (omega arith) c.loop-left.invariant.marked c.args.marks.now _ _ c.get_bit.result c.get_bit.ensures c.loop-left.invariant.so_far c.in_ok-push.ensures.ok;
-    }
-
-pub loop-left-smaller : goal.loop-left-smaller
-loop-left-smaller c = less-left c.loop-left.left (omega arith)
+pub returns-then-count-eq0-clause-ok : goal.returns-then-count-eq0-clause-ok
+returns-then-count-eq0-clause-ok c =
+    let kept = c.args.kept.now in
+    let none : kept ++ bits_of c.kept_word-bits.result.0 c.kept_word-bits.result.1 ≡ kept = ap (λ n. kept ++ bits_of c.kept_word-bits.result.0 n) c.if-count-eq0.true ∙ append-nil kept in
+    where-word c.args.asked.now c.args.marks.now kept kept (64 * c.args.at) c.word.result c.word-2.result c.kept_word-bits.result.0 c.kept_word-bits.result.1
+    c.requires.same (omega arith) c.word.ensures c.word-2.ensures c.kept_word-bits.ensures.bits c.requires.so_far (sym none)
 
 pub returns-clause-ok : goal.returns-clause-ok
 returns-clause-ok c =
-    c.loop-left.invariant.so_far
-    ∙ ap (λ n. where_set (take (64 * c.args.at + n) c.args.asked.now) (take (64 * c.args.at + n) c.args.marks.now)) (no-more c.loop-left.left (omega arith))
+    let kept = c.args.kept.now in
+    let new = c.extend_from_word.new.self in
+    on_ok_weaker c.extend_from_word.result (λ e.
+    where-word c.args.asked.now c.args.marks.now kept new (64 * c.args.at) c.word.result c.word-2.result c.kept_word-bits.result.0 c.kept_word-bits.result.1
+    c.requires.same (omega arith) c.word.ensures c.word-2.ensures c.kept_word-bits.ensures.bits c.requires.so_far e) c.extend_from_word.ensures.ok
+
+pub returns-clause-err : goal.returns-clause-err
+returns-clause-err c = IfErr-weaker c.extend_from_word.result _ _ (λ e refused. refused.0) c.extend_from_word.ensures.err

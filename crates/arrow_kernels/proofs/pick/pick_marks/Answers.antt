@@ -1,10 +1,44 @@
-use Rattle.arrow_kernels.proofs.ChoiceLemmas.{key-place, keys-grown}
+use Rattle.std.proofs.Common.{◌≡◌, ◌+◌, ◌-◌, ◌*◌, ◌/◌, ◌++◌, ap, arith, drop, length, length-drop, sym, take, ◌∙◌}
+use Rattle.std.proofs.Math.Seq.{take-length}
+use Rattle.std.proofs.lemmas.List.{length-take-le}
+use Rattle.std.proofs.lemmas.Result.{MatchResult-weaker}
+use Rattle.arrow_memory.specs.Marks.{bits_of}
+use Rattle.arrow_kernels.specs.Kernels.{at_keys}
+use Rattle.arrow_kernels.proofs.ChoiceLemmas.{keys-append}
 use Rattle.arrow_kernels.proofs.pick.pick_marks.Goals as goal
 
-pub loop-key-preserved : goal.loop-key-preserved
-loop-key-preserved g c =
+pub loop-at-preserved : goal.loop-at-preserved
+loop-at-preserved g c =
     let number = g.K.IndexKey.number in
+    let keys = c.args.keys.now in
     let marks = c.args.marks.now in
-    let x = c.get_bit.result in
-    let found = key-place marks (number c.key-item.result) c.place_of.result x c.place_of.ensures.place c.get_bit.ensures in
-    keys-grown number c.args.keys.now marks c.loop-key.key-index c.key-item.result x _ _ c.loop-key-test.true c.key-item.is found c.loop-key.invariant c.in_ok-push.ensures.ok
+    let at = c.loop-at.at in
+    let word = c.picked_word.result in
+    let e : 64 * at + 64 - 64 * at ≡ 64 = omega arith in
+    let long : length (take (64 * at + 64 - 64 * at) (drop (64 * at) keys)) ≡ 64 =
+    ap (λ n. length (take n (drop (64 * at) keys))) e ∙ length-take-le 64 (drop (64 * at) keys) (omega (arith, length-drop (64 * at) keys, c.loop-at-test.true)) in
+    let bits : bits_of word 64 ≡ at_keys number (take 64 (drop (64 * at) keys)) marks =
+    ap (bits_of word) (sym long) ∙ c.picked_word.ensures ∙ ap (λ n. at_keys number (take n (drop (64 * at) keys)) marks) e in
+    c.in_ok-extend_from_word.ensures.ok
+    ∙ ap (λ ms. ms ++ bits_of word 64) c.loop-at.invariant
+    ∙ ap (λ ms. at_keys number (take (64 * at) keys) marks ++ ms) bits
+    ∙ sym (keys-append number keys marks (64 * at) 64)
+    ∙ ap (λ n. at_keys number (take n keys) marks) (let f : 64 * at + 64 ≡ 64 * (at + 1) = omega arith in f)
+
+pub returns-clause-ok : goal.returns-clause-ok
+returns-clause-ok g c =
+    let number = g.K.IndexKey.number in
+    let keys = c.args.keys.now in
+    let marks = c.args.marks.now in
+    let words = length keys / 64 in
+    let all : c.loop-at.at ≡ length keys / 64 = omega (arith, c.loop-at-test.false, c.loop-at.auto.at-end) in
+    let rest = length keys - 64 * words in
+    let whole : 64 * (length keys / 64) + (length keys - 64 * (length keys / 64)) ≡ length keys = omega arith in
+    MatchResult-weaker c.freeze.result c.freeze.ensures.ok (λ made e.
+    e
+    ∙ c.in_ok-extend_from_word-2.ensures.ok
+    ∙ ap (λ ms. ms ++ bits_of c.picked_word-2.result (length (take (length keys - 64 * (length keys / 64)) (drop (64 * (length keys / 64)) keys)))) (c.loop-at.invariant ∙ ap (λ n. at_keys number (take (64 * n) keys) marks) all)
+    ∙ ap (λ ms. at_keys number (take (64 * words) keys) marks ++ ms) c.picked_word-2.ensures
+    ∙ sym (keys-append number keys marks (64 * words) rest)
+    ∙ ap (λ n. at_keys number (take n keys) marks) whole
+    ∙ ap (λ ks. at_keys number ks marks) (take-length keys)) (λ _ t. t)

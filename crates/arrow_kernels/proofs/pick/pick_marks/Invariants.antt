@@ -1,6 +1,6 @@
-use Rattle.std.proofs.Common.{◌≡◌, take}
+use Rattle.std.proofs.Common.{◌≡◌, ◌*◌, take}
 use Rattle.arrow_kernels.specs.Kernels.{at_keys}
 use Rattle.arrow_kernels.proofs.pick.pick_marks.Given as goal
 
-abbrev pub invariant-loop-key : goal.invariant-loop-key
-invariant-loop-key g l = l.picked ≡ at_keys g.K.IndexKey.number (take l.key-index l.keys) l.marks
+abbrev pub invariant-loop-at : goal.invariant-loop-at
+invariant-loop-at g l = l.picked ≡ at_keys g.K.IndexKey.number (take (64 * l.at) l.keys) l.marks

@@ -1,12 +1,12 @@
 use Rattle.std.proofs.Common.{◌+◌, ◌≤◌, length, string_bytes}
-use Rattle.arrow_session.proofs.Pieces.{length_after}
+use Rattle.arrow_words.proofs.Pieces.{length_after}
 use Rattle.arrow_session.proofs.Reading.{lines_after}
 use Rattle.arrow_session.proofs.Runs.{IsRunTo}
 use Rattle.arrow_session.proofs.session.run_lines.Given as goal
 
 abbrev pub invariant-loop-rest : goal.invariant-loop-rest
 invariant-loop-rest l = record {
-  run : IsRunTo l.fn.input l.number (lines_after l.rest) l.table (string_bytes l.text);
+  run : IsRunTo l.fn.input l.number (lines_after l.rest) l.answering.tables (string_bytes l.answering.text);
   room : l.number + length_after l.rest ≤ length l.fn.input + 2;
 }
 

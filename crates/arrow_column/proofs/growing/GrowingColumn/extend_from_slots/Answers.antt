@@ -29,4 +29,4 @@ returns-in-Err-clause-err g c =
     let i = c.loop-slot.slot-index in
     let x = c.slot-item.result in
     let split = sym (take-append-drop i slots) ∙ ap (λ rest. take i slots ++ rest) (drop-cons slots i x c.loop-slot-test.true ∙ ap (λ y. y ∷ drop (suc i) slots) (sym c.slot-item.is)) in
-    (take i slots, drop (suc i) slots, x, split, so_far.1, refused.1 ∙ so_far.0, refused.0 ∙ ap (λ column. refused_growth (slot_overflows P.overflows column x)) (sym refused.1))
+    (take i slots, drop (suc i) slots, x, split, (so_far.1, refused.1 ∙ so_far.0, refused.0 ∙ ap (λ column. refused_growth (slot_overflows P.overflows column x)) (sym refused.1)))

@@ -32,4 +32,4 @@ returns-in-Err-clause-err g c =
     let i = c.loop-value.value-index in
     let x = c.value-item.result in
     let split = sym (take-append-drop i values) ∙ ap (λ rest. take i values ++ rest) (drop-cons values i x c.loop-value-test.true ∙ ap (λ y. y ∷ drop (suc i) values) (sym c.value-item.is)) in
-    (take i values, drop (suc i) values, x, split, so_far.1, refused.1 ∙ so_far.0, refused.0 ∙ ap (λ column. refused_growth (slot_overflows P.overflows column (Some x))) (sym refused.1))
+    (take i values, drop (suc i) values, x, split, (so_far.1, refused.1 ∙ so_far.0, refused.0 ∙ ap (λ column. refused_growth (slot_overflows P.overflows column (Some x))) (sym refused.1)))

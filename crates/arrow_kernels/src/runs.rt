@@ -1,0 +1,40 @@
+//! Runs of set bits of a word.
+ghost use Rattle.std.specs.Prelude.{◌≡◌, ℕ, ◌<◌, ◌≤◌};
+ghost use Rattle.std.specs.Int.{bit_at};
+
+/// The place of the first set bit of a word from a place on; where there is none, 64.
+#[inline(always)]
+pub(crate) fn next_set(word: u64, from: usize) -> usize
+    requires { from ≤ 64 }
+    ensures low { from ≤ result }
+    ensures high { result ≤ 64 }
+    ensures clear { (k : ℕ) → from ≤ k → k < result → bit_at word k ≡ 0 }
+    ensures set { result < 64 → bit_at word result ≡ 1 }
+{
+    if from == 64 {
+        return 64;
+    }
+    let rest = word >> from;
+    if rest == 0 {
+        return 64;
+    }
+    from + rest.trailing_zeros() as usize
+}
+
+/// The place behind the set bits of a word that follow one another from a place on.
+#[inline(always)]
+pub(crate) fn run_end(word: u64, first: usize) -> usize
+    requires within { first < 64 }
+    requires set { bit_at word first ≡ 1 }
+    ensures more { first < result }
+    ensures high { result ≤ 64 }
+    ensures set { (k : ℕ) → first ≤ k → k < result → bit_at word k ≡ 1 }
+{
+    first + (word >> first).trailing_ones() as usize
+}
+
+/// Whether the set bits of a word stand in so few runs that they are better taken run by run than one by one.
+#[inline(always)]
+pub(crate) fn has_few_runs(word: u64) -> bool {
+    (word & !(word << 1)).count_ones() <= 8
+}

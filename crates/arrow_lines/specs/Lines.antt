@@ -1,0 +1,153 @@
+-- What each line of the program's input asks.
+use Rattle.std.specs.Prelude.{◌≡◌, ℕ, ◌+◌, Bool, not, ◌&&◌, codes, if◌then◌else◌, List, [], ◌∷◌, ◌++◌, ℤ, pos, false, Option, Some, None, option_and_then, option_map, bytes_eq, is_some, filter, filter_map, length, position}
+use Rattle.arrow_types.specs.declared.primitive_type.PrimitiveType.TheVariants.{Int64}
+use Rattle.arrow_entry.specs.Both.{BothRequest, narrow, wide, widen, narrow_to, narrow_types, wide_types}
+use Rattle.arrow_entry.specs.Entry.{Types, default_type}
+use Rattle.arrow_entry.specs.Kind.{Shape, Sort, shape}
+use Rattle.arrow_entry.specs.Request as ask
+use Rattle.arrow_entry.specs.Request.{Request, make, at, clone_from, extend_from, equal, filter_from, take_from, check_indexes}
+use Rattle.arrow_words.specs.Fields.{kind_of, type_of, item_of, slot_of, mask_of, packed_mask_in, turn_of, change_in, raw_in}
+use Rattle.arrow_words.specs.Readers.{Reader, beside, only, each, ◌▸◌, next, reads}
+use Rattle.arrow_words.specs.Words.{lines_of, words_of, is_passed_over, is_printable, number_of, integer_of, offset_of}
+
+-- a line of the program: its name, and what the words behind the name ask
+abbrev pub Line : Type 0
+Line = List ℕ × Reader (Request ℤ)
+
+-- the end of a line about raw parts: their type, their mask, and their values by the sort of the kind; an offset is a word
+-- that its width has
+abbrev pub parts_of : (List ℕ → Option ℤ) → ℕ → Shape → Sort → Reader (Request ℤ)
+parts_of offset e s sort = reads (type_of ▸ packed_mask_in ▸ raw_in offset sort) (λ (t, (mask, raw)). make e s (ask.parts t raw mask))
+
+-- lines that make a value in an empty entry, over offsets of some width
+unfoldable pub making : Types ℤ → (List ℕ → Option ℤ) → List Line
+making c offset =
+    (codes "new", reads (number_of ▸ only kind_of) (λ (e, kind). make e (shape kind) ask.nothing))
+    ∷ (codes "null", reads (number_of ▸ kind_of ▸ only number_of) (λ (e, (kind, n)). make e (shape kind) (ask.nulls (default_type c (shape kind).sort) n)))
+    ∷ (codes "parts", next number_of (λ e. next kind_of (λ kind. parts_of offset e (shape kind) (shape kind).sort)))
+    ∷ (codes "slots", reads (number_of ▸ kind_of ▸ each slot_of) (λ (e, (kind, slots)). make e (shape kind) (ask.slots slots)))
+    ∷ (codes "items", reads (number_of ▸ kind_of ▸ each item_of) (λ (e, (kind, items)). make e (shape kind) (ask.items items)))
+    ∷ []
+
+-- lines that tell of one
+unfoldable pub telling : List Line
+telling =
+    (codes "len", reads (only number_of) (λ e. at e ask.len))
+    ∷ (codes "value", reads (number_of ▸ only number_of) (λ (e, i). at e (ask.value i)))
+    ∷ (codes "get", reads (number_of ▸ only number_of) (λ (e, i). at e (ask.get i)))
+    ∷ (codes "isnull", reads (number_of ▸ only number_of) (λ (e, i). at e (ask.is_null i)))
+    ∷ (codes "nulls", reads (only number_of) (λ e. at e ask.null_count))
+    ∷ (codes "list", reads (only number_of) (λ e. at e ask.all_slots))
+    ∷ (codes "turns", reads (number_of ▸ each turn_of) (λ (e, turns). at e (ask.turns turns)))
+    ∷ (codes "type", reads (only number_of) (λ e. at e ask.type_of))
+    ∷ (codes "held", reads (only number_of) (λ e. at e ask.held))
+    ∷ (codes "bytes", reads (only number_of) (λ e. at e ask.bytes))
+    ∷ (codes "offsets", reads (only number_of) (λ e. at e ask.offsets))
+    ∷ []
+
+-- lines that cut, copy and change one
+unfoldable pub changing : List Line
+changing =
+    (codes "slice", reads (number_of ▸ number_of ▸ only number_of) (λ (e, (a, n)). at e (ask.slice a n)))
+    ∷ (codes "clone", reads (number_of ▸ only number_of) (λ (e, f). clone_from f e))
+    ∷ (codes "drop", reads (only number_of) (λ e. at e ask.empty))
+    ∷ (codes "mask", reads (number_of ▸ only mask_of) (λ (e, mask). at e (ask.set_mask mask)))
+    ∷ (codes "applymask", reads (number_of ▸ change_in) (λ (e, change). at e (ask.apply_mask change)))
+    ∷ (codes "values", reads (number_of ▸ each item_of) (λ (e, items). at e (ask.set_values items)))
+    ∷ (codes "applyvalues", reads (number_of ▸ change_in) (λ (e, change). at e (ask.apply_values change)))
+    ∷ (codes "set", reads (number_of ▸ number_of ▸ only slot_of) (λ (e, (i, slot)). at e (ask.set i slot)))
+    ∷ (codes "write", reads (number_of ▸ number_of ▸ only item_of) (λ (e, (i, item)). at e (ask.write i item)))
+    ∷ []
+
+-- lines that make one grow, or less
+unfoldable pub growing : List Line
+growing =
+    (codes "push", reads (number_of ▸ only slot_of) (λ (e, slot). at e (ask.push slot)))
+    ∷ (codes "pushnull", reads (only number_of) (λ e. at e ask.push_null))
+    ∷ (codes "pop", reads (only number_of) (λ e. at e ask.pop))
+    ∷ (codes "extend", reads (number_of ▸ each slot_of) (λ (e, slots). at e (ask.extend slots)))
+    ∷ (codes "extendvalues", reads (number_of ▸ each item_of) (λ (e, items). at e (ask.extend_values items)))
+    ∷ (codes "constant", reads (number_of ▸ number_of ▸ only slot_of) (λ (e, (n, slot)). at e (ask.extend_constant n slot)))
+    ∷ (codes "self", reads (number_of ▸ only number_of) (λ (e, f). extend_from e f))
+    ∷ (codes "reserve", reads (number_of ▸ number_of ▸ only number_of) (λ (e, (n, b)). at e ask.reserve))
+    ∷ (codes "shrink", reads (only number_of) (λ e. at e ask.shrink))
+    ∷ []
+
+-- lines that turn one into another, and lines about two, about three, and about none
+unfoldable pub turning : List Line
+turning =
+    (codes "freeze", reads (only number_of) (λ e. at e ask.freeze))
+    ∷ (codes "thaw", reads (only number_of) (λ e. at e ask.thaw))
+    ∷ (codes "nullable", reads (only number_of) (λ e. at e ask.nullable))
+    ∷ (codes "to", reads (number_of ▸ only type_of) (λ (e, t). at e (ask.to t)))
+    ∷ (codes "equal", reads (number_of ▸ only number_of) (λ (e, f). equal e f))
+    ∷ (codes "filter", reads (number_of ▸ number_of ▸ only number_of) (λ (e, (f, g)). filter_from g e f))
+    ∷ (codes "take", reads (number_of ▸ number_of ▸ each integer_of) (λ (e, (g, keys)). take_from g e keys))
+    ∷ (codes "indexes", reads (number_of ▸ each integer_of) (λ (n, keys). check_indexes keys n))
+    ∷ []
+
+-- all lines of one table; the native values are integers of 64 bits
+abbrev pub lines : Types ℤ → (List ℕ → Option ℤ) → List Line
+lines c offset = making c offset ++ (telling ++ (changing ++ (growing ++ turning)))
+
+-- those of the narrow one, and of the wide one
+unfoldable pub narrow_lines : List Line
+narrow_lines = lines (narrow_types (pos 0) Int64) offset_of
+
+unfoldable pub wide_lines : List Line
+wide_lines = lines (wide_types (pos 0) Int64) integer_of
+
+-- those of these lines whose names have such a length
+abbrev pub of_length : (ℕ → Bool) → List Line → List Line
+of_length p = filter (λ row. p (length row.0))
+
+-- what words behind a name ask, where one of these lines has the name
+unfoldable pub request_among : List Line → List ℕ → Reader (Request ℤ)
+request_among rows name words = option_and_then (λ reader. reader words) (beside rows name)
+
+-- what words ask that begin with the name of one of these lines
+unfoldable pub request_of : List Line → Reader (Request ℤ)
+request_of rows [] = None
+request_of rows (name ∷ words) = request_among rows name words
+
+-- the lines that lead from one table to the other
+abbrev pub widened : Reader (BothRequest ℤ)
+widened = reads (number_of ▸ only number_of) (λ (e, f). widen e f)
+
+abbrev pub narrowed : Reader (BothRequest ℤ)
+narrowed = reads (number_of ▸ only number_of) (λ (e, f). narrow_to e f)
+
+-- what a line of these words asks: `wide` stands before a command on the wide table
+unfoldable pub both_of : Reader (BothRequest ℤ)
+both_of [] = None
+both_of (name ∷ words) =
+    if bytes_eq name (codes "wide") then option_map wide (request_of wide_lines words) else (
+    if bytes_eq name (codes "widen") then widened words else (
+    if bytes_eq name (codes "narrow") then narrowed words else
+    option_map narrow (request_among narrow_lines name words)))
+
+-- what a line asks, where it is a command
+abbrev pub request_in : List ℕ → Option (BothRequest ℤ)
+request_in line = if is_printable line then both_of (words_of line) else None
+
+-- a line that is neither passed over nor a command
+abbrev pub is_bad : List ℕ → Bool
+is_bad line = not (is_passed_over line) && not (is_some (request_in line))
+
+-- what a line asks, but for one that is passed over
+abbrev pub asked_in : List ℕ → Option (BothRequest ℤ)
+asked_in line = if is_passed_over line then None else request_in line
+
+-- what an input is: a list of requests, or bad from the line of this number on, counted from 1
+pub data Reading : Type 0 where
+  requests : List (BothRequest ℤ) → Reading
+  bad_line : ℕ → Reading
+
+-- the number of a line by its place
+abbrev pub reading_at : Option ℕ → List (BothRequest ℤ) → Reading
+reading_at None asked = requests asked
+reading_at (Some place) asked = bad_line (place + 1)
+
+-- the requests of the input in order, or the number of its first bad line
+unfoldable pub commands_of : List ℕ → Reading
+commands_of input = reading_at (position is_bad (lines_of input)) (filter_map asked_in (lines_of input))

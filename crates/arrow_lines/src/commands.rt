@@ -1,0 +1,114 @@
+//! The commands that words ask for.
+ghost use Rattle.std.specs.Prelude.{◌≡◌, ℤ, ℕ, IfOk, List, Option, Some, map, option_map};
+ghost use Rattle.arrow_entry.specs.Both.{BothRequest, both_asked};
+ghost use Rattle.arrow_entry.specs.Request.{Request, asked};
+ghost use Rattle.arrow_lines.specs.Answered.{AnswersAsked};
+ghost use Rattle.arrow_words.specs.Readers.{each};
+ghost use Rattle.arrow_words.specs.Words.{words_of};
+
+mod both;
+mod by_length;
+mod changing;
+mod growing;
+mod making;
+mod telling;
+mod turning;
+
+use crate::answering::Answering;
+use arrow_table::{BothCommand, Command};
+use arrow_types::offset::Offset;
+use arrow_words::readers::Words;
+pub(crate) use both::run_words;
+use std::alloc::{AllocError, Global};
+
+/// Whether words were a command, which was then run and answered.
+pub type Answered = Result<bool, AllocError>;
+
+/// A width of offsets that words are written for.
+pub(crate) trait Width: Offset {
+    /// The number that a word writes, where it is one of the width's.
+    ghost offset: { List ℕ → Option ℤ };
+
+    /// What a request of a table of this width is of two tables.
+    ghost side: { Request ℤ → BothRequest ℤ };
+
+    /// A command on the table of this width, of two.
+    fn on_side(command: Command<i64, Self>) -> BothCommand<i64>
+        ensures { both_asked result ≡ side (asked Self.number command) };
+
+    /// The offsets that words write; `None` where one of them writes none.
+    fn starts_of(alloc: Global, words: &[u8]) -> Result<Option<Vec<Self>>, AllocError>
+        ensures { IfOk result (λ read. option_map (λ starts. map Self.number starts.items) read ≡ each offset (words_of words.now)) };
+}
+
+impl Width for i32 {
+    ghost use Rattle.arrow_entry.specs.Both.{both_asked, narrow};
+    ghost use Rattle.arrow_entry.specs.Request.{asked};
+    ghost use Rattle.arrow_words.specs.Words.{offset_of};
+
+    ghost offset = { offset_of };
+
+    ghost side = { narrow };
+
+    #[inline(always)]
+    fn on_side(command: Command<i64, i32>) -> BothCommand<i64>
+        ensures { both_asked result ≡ narrow (asked (λ offset. offset) command) }
+    {
+        BothCommand::Narrow(command)
+    }
+
+    fn starts_of(alloc: Global, words: &[u8]) -> Result<Option<Vec<i32>>, AllocError> {
+        Vec::<i32>::of_words(alloc, words)
+    }
+}
+
+impl Width for i64 {
+    ghost use Rattle.arrow_entry.specs.Both.{both_asked, wide};
+    ghost use Rattle.arrow_entry.specs.Request.{asked};
+    ghost use Rattle.arrow_words.specs.Words.{integer_of};
+
+    ghost offset = { integer_of };
+
+    ghost side = { wide };
+
+    #[inline(always)]
+    fn on_side(command: Command<i64, i64>) -> BothCommand<i64>
+        ensures { both_asked result ≡ wide (asked (λ offset. offset) command) }
+    {
+        BothCommand::Wide(command)
+    }
+
+    fn starts_of(alloc: Global, words: &[u8]) -> Result<Option<Vec<i64>>, AllocError> {
+        Vec::<i64>::of_words(alloc, words)
+    }
+}
+
+/// Runs a command on the table of a width, and appends its reply to the text.
+#[inline(always)]
+fn answer<O: Width>(answering: &mut Answering, command: Command<i64, O>) -> Answered
+    ensures { IfOk result (AnswersAsked (Some (O.side (asked O.number command))) answering.old answering.new) }
+{
+    answering.answer(O::on_side(command))
+}
+
+/// Offsets, up to the last word.
+#[derive(Drop)]
+pub(crate) struct Starts<O: Width>(pub(crate) Vec<O>);
+
+impl<O: Width> Words for Starts<O> {
+    ghost use Rattle.std.specs.Prelude.{ℤ, List, map};
+    ghost use Rattle.arrow_words.specs.Readers.{each};
+
+    ghost Content = { List ℤ };
+
+    ghost content = { λ starts. map O.number starts.0.items };
+
+    ghost reader = { each O.offset };
+
+    fn of_words(alloc: Global, words: &[u8]) -> Result<Option<Self>, AllocError> {
+        match O::starts_of(alloc, words)? {
+            Some(starts) => Ok(Some(Starts(starts))),
+            None => Ok(None),
+        }
+    }
+}

@@ -1,0 +1,133 @@
+//! The lines that make a builder grow, or less.
+#![tactic(auto, unfolding(crate::specs::Lines::growing, crate::specs::Lines::request_among))]
+
+ghost use Rattle.std.specs.Prelude.{codes, IfOk};
+ghost use Rattle.arrow_lines.specs.Answered.{AnswersNamed};
+ghost use Rattle.arrow_lines.specs.Lines.{growing};
+ghost use Rattle.arrow_words.specs.Words.{words_of};
+
+use crate::answering::Answering;
+use crate::commands::{Answered, Width, answer};
+use arrow_table::{Command, Item};
+use arrow_words::readers::{Only, Words};
+use std::alloc::Global;
+
+/// `push E SLOT`
+pub(crate) fn run_push<O: Width>(alloc: Global, answering: &mut Answering, words: &[u8]) -> Answered
+    ensures { IfOk result (AnswersNamed O.side growing (codes "push") (words_of words.now) answering.old answering.new) }
+{
+    match <(usize, Only<Option<Item<i64>>>)>::of_words(alloc, words)? {
+        Some((entry, Only(slot))) => answer::<O>(answering, Command::Push(entry, slot)),
+        None => Ok(false),
+    }
+}
+
+/// `pushnull E`
+pub(crate) fn run_push_null<O: Width>(
+    alloc: Global,
+    answering: &mut Answering,
+    words: &[u8],
+) -> Answered
+    ensures { IfOk result (AnswersNamed O.side growing (codes "pushnull") (words_of words.now) answering.old answering.new) }
+{
+    match <Only<usize>>::of_words(alloc, words)? {
+        Some(Only(entry)) => answer::<O>(answering, Command::PushNull(entry)),
+        None => Ok(false),
+    }
+}
+
+/// `pop E`
+pub(crate) fn run_pop<O: Width>(alloc: Global, answering: &mut Answering, words: &[u8]) -> Answered
+    ensures { IfOk result (AnswersNamed O.side growing (codes "pop") (words_of words.now) answering.old answering.new) }
+{
+    match <Only<usize>>::of_words(alloc, words)? {
+        Some(Only(entry)) => answer::<O>(answering, Command::Pop(entry)),
+        None => Ok(false),
+    }
+}
+
+/// `extend E SLOT*`
+pub(crate) fn run_extend<O: Width>(
+    alloc: Global,
+    answering: &mut Answering,
+    words: &[u8],
+) -> Answered
+    ensures { IfOk result (AnswersNamed O.side growing (codes "extend") (words_of words.now) answering.old answering.new) }
+{
+    match <(usize, Vec<Option<Item<i64>>>)>::of_words(alloc, words)? {
+        Some((entry, slots)) => answer::<O>(answering, Command::Extend(entry, slots)),
+        None => Ok(false),
+    }
+}
+
+/// `extendvalues E ITEM*`
+pub(crate) fn run_extend_values<O: Width>(
+    alloc: Global,
+    answering: &mut Answering,
+    words: &[u8],
+) -> Answered
+    ensures { IfOk result (AnswersNamed O.side growing (codes "extendvalues") (words_of words.now) answering.old answering.new) }
+{
+    match <(usize, Vec<Item<i64>>)>::of_words(alloc, words)? {
+        Some((entry, items)) => answer::<O>(answering, Command::ExtendValues(entry, items)),
+        None => Ok(false),
+    }
+}
+
+/// `constant E N SLOT`
+pub(crate) fn run_constant<O: Width>(
+    alloc: Global,
+    answering: &mut Answering,
+    words: &[u8],
+) -> Answered
+    ensures { IfOk result (AnswersNamed O.side growing (codes "constant") (words_of words.now) answering.old answering.new) }
+{
+    match <(usize, (usize, Only<Option<Item<i64>>>))>::of_words(alloc, words)? {
+        Some((entry, (count, Only(slot)))) => answer::<O>(
+            answering,
+            Command::ExtendConstant(entry, count, slot),
+        ),
+        None => Ok(false),
+    }
+}
+
+/// `self E F`
+pub(crate) fn run_self<O: Width>(alloc: Global, answering: &mut Answering, words: &[u8]) -> Answered
+    ensures { IfOk result (AnswersNamed O.side growing (codes "self") (words_of words.now) answering.old answering.new) }
+{
+    match <(usize, Only<usize>)>::of_words(alloc, words)? {
+        Some((entry, Only(other))) => answer::<O>(answering, Command::ExtendFromSelf(entry, other)),
+        None => Ok(false),
+    }
+}
+
+/// `reserve E N B`
+pub(crate) fn run_reserve<O: Width>(
+    alloc: Global,
+    answering: &mut Answering,
+    words: &[u8],
+) -> Answered
+    ensures { IfOk result (AnswersNamed O.side growing (codes "reserve") (words_of words.now) answering.old answering.new) }
+{
+    match <(usize, (usize, Only<usize>))>::of_words(alloc, words)? {
+        Some((entry, (count, Only(bytes)))) => answer::<O>(
+            answering,
+            Command::Reserve(entry, count, bytes),
+        ),
+        None => Ok(false),
+    }
+}
+
+/// `shrink E`
+pub(crate) fn run_shrink<O: Width>(
+    alloc: Global,
+    answering: &mut Answering,
+    words: &[u8],
+) -> Answered
+    ensures { IfOk result (AnswersNamed O.side growing (codes "shrink") (words_of words.now) answering.old answering.new) }
+{
+    match <Only<usize>>::of_words(alloc, words)? {
+        Some(Only(entry)) => answer::<O>(answering, Command::Shrink(entry)),
+        None => Ok(false),
+    }
+}

@@ -1,0 +1,29 @@
+use Rattle.std.proofs.Common.{map, option_map, refl}
+use Rattle.arrow_types.specs.Types.{logical_type}
+use Rattle.arrow_entry.specs.Entry.{types}
+use Rattle.arrow_entry.specs.Kind.{with_nulls}
+use Rattle.arrow_entry.specs.Request.{packed_bits}
+use Rattle.arrow_making.proofs.Passes.{growing-parts}
+use Rattle.arrow_making.proofs.parts.growing_byte_array_of.Goals as goal
+
+pub returns-in-Ok-clause-row : goal.returns-in-Ok-clause-row
+returns-in-Ok-clause-row g c =
+    let made = c.in-Ok in
+    let is = c.in-Ok.ensures in
+    let tested = c.try_new_counted.ensures in
+    (growing-parts (types g.T.NativeType.zero g.T.NativeType.PRIMITIVE g.O.Offset.most g.O.Offset.IS_LARGE) g.K.ByteKind.is_text (logical_type c.args.data_type.now) (logical_type made.data_type)
+    (option_map packed_bits c.args.mask.now) made.mask (map g.O.Offset.number c.args.offsets.now.items) c.args.bytes.now.items made.offsets made.bytes.items
+    is.data_type is.fit is.mask is.legal is.offsets is.bytes
+    (g.K.ByteKind.layout g.O.Offset.IS_LARGE) g.K.ByteKind.wrong_builder_type c.try_new_counted.result
+    with_nulls refl refl c.requires tested.fit tested.bounds tested.items tested.data_type tested.mask tested.exact).0
+
+pub returns-in-Ok-clause-exact : goal.returns-in-Ok-clause-exact
+returns-in-Ok-clause-exact g c =
+    let made = c.in-Ok in
+    let is = c.in-Ok.ensures in
+    let tested = c.try_new_counted.ensures in
+    (growing-parts (types g.T.NativeType.zero g.T.NativeType.PRIMITIVE g.O.Offset.most g.O.Offset.IS_LARGE) g.K.ByteKind.is_text (logical_type c.args.data_type.now) (logical_type made.data_type)
+    (option_map packed_bits c.args.mask.now) made.mask (map g.O.Offset.number c.args.offsets.now.items) c.args.bytes.now.items made.offsets made.bytes.items
+    is.data_type is.fit is.mask is.legal is.offsets is.bytes
+    (g.K.ByteKind.layout g.O.Offset.IS_LARGE) g.K.ByteKind.wrong_builder_type c.try_new_counted.result
+    with_nulls refl refl c.requires tested.fit tested.bounds tested.items tested.data_type tested.mask tested.exact).1

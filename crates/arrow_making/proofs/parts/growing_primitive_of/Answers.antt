@@ -1,0 +1,15 @@
+use Rattle.std.proofs.Common.{option_map}
+use Rattle.arrow_types.specs.Types.{logical_type}
+use Rattle.arrow_entry.specs.Entry.{types}
+use Rattle.arrow_entry.specs.Kind.{with_nulls}
+use Rattle.arrow_entry.specs.Request.{packed_bits}
+use Rattle.arrow_making.proofs.Passes.{values-row}
+use Rattle.arrow_making.proofs.parts.growing_primitive_of.Goals as goal
+
+pub returns-in-Ok-growing_head_taken : goal.returns-in-Ok-growing_head_taken
+returns-in-Ok-growing_head_taken g c =
+    let head = c.in-Ok-growing_head_taken in
+    values-row (types g.T.NativeType.zero g.T.NativeType.PRIMITIVE g.O.Offset.most g.O.Offset.IS_LARGE) with_nulls (logical_type c.args.data_type.now) (logical_type head.data_type)
+    (option_map packed_bits c.args.mask.now) head.mask head.ensures.data_type head.ensures.fit head.ensures.mask
+    c.args.values.now.items c.in-Ok.values.items c.try_new.result c.in-Ok.ensures.ok
+    c.try_new.ensures.fit c.try_new.ensures.mask c.try_new.ensures.data_type

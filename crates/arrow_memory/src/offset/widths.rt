@@ -1,0 +1,77 @@
+//! Offsets of one width as those of the other.
+ghost use Rattle.std.specs.Prelude.{◌≡◌, ◌<◌, ◌≤◌, pos, length, map, IfOk, IfErr};
+ghost use Rattle.arrow_memory.specs.Offsets.{last_of, KeepsOffsets, MatchGrowth, numbers_of};
+
+use crate::buffer::Buffer;
+use crate::offset::OffsetsBuffer;
+use crate::offset::numbers::number_at;
+use arrow_types::error::Error;
+use arrow_types::offset::Offset;
+
+/// Writes the numbers of offsets over as many offsets of another type, which has each of them.
+fn write_numbers<O: Offset, P: Offset>(offsets: &[O], written: &mut [P])
+    requires keeps { KeepsOffsets O.number O.most offsets.now }
+    requires within { last_of (numbers_of O.number offsets.now) ≤ P.most }
+    requires room { length written.old ≡ length offsets.now }
+    ensures { map P.number written.new ≡ map pos (numbers_of O.number offsets.now) }
+{
+    // It tells the compiler that no place is outside of either, so that it makes vector code of the loop.
+    if written.len() != offsets.len() {
+        unreachable!();
+    }
+    for i in 0..offsets.len() {
+        written[i] = P::from_as_usize(number_at(offsets, i));
+    }
+}
+
+impl<O: Offset> OffsetsBuffer<O> {
+    /// The same numbers as offsets of another type.
+    ///
+    /// # Errors
+    /// `Overflow` where the last of them is above that type's greatest number, which is found before memory is asked for;
+    /// `OutOfMemory` where memory is refused.
+    fn as_offsets<P: Offset>(&self) -> Result<OffsetsBuffer<P>, Error>
+        ensures ok { IfOk result (λ offsets. (last_of self.now ≤ P.most) × (offsets ≡ self.now)) }
+        ensures err { IfErr result (λ e. MatchGrowth e (P.most < last_of self.now) (last_of self.now ≤ P.most)) }
+    {
+        if P::from_usize(self.last().to_usize()).is_none() {
+            return Err(Error::Overflow);
+        }
+        let offsets = self.offsets.as_slice();
+        let mut written = Vec::new(self.offsets.allocator());
+        written.resize(offsets.len(), P::from_as_usize(0))?;
+        write_numbers(offsets, written.as_mut_slice());
+        Ok(OffsetsBuffer {
+            offsets: Buffer::from_vec(written)?,
+        })
+    }
+}
+
+impl OffsetsBuffer<i32> {
+    /// The same numbers as offsets of 64 bits.
+    ///
+    /// # Errors
+    /// `OutOfMemory` where memory is refused.
+    pub fn widen(&self) -> Result<OffsetsBuffer<i64>, Error>
+        ensures ok { IfOk result (λ wide. wide ≡ self.now) }
+        ensures err { IfErr result (λ e. e ≡ Error.OutOfMemory) }
+    {
+        // The last offset is below every number that needs more than 32 bits.
+        self.last();
+        self.as_offsets()
+    }
+}
+
+impl OffsetsBuffer<i64> {
+    /// The same numbers as offsets of 32 bits.
+    ///
+    /// # Errors
+    /// `Overflow` where the last offset is above 2147483647, which is found before memory is asked for; `OutOfMemory` where
+    /// memory is refused.
+    pub fn narrow(&self) -> Result<OffsetsBuffer<i32>, Error>
+        ensures ok { IfOk result (λ narrow. (last_of self.now ≤ 2147483647) × (narrow ≡ self.now)) }
+        ensures err { IfErr result (λ e. MatchGrowth e (2147483647 < last_of self.now) (last_of self.now ≤ 2147483647)) }
+    {
+        self.as_offsets()
+    }
+}

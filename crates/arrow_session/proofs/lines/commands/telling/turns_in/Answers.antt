@@ -1,8 +1,0 @@
-use Rattle.std.proofs.Common.{arith}
-use Rattle.std.proofs.lemmas.List.{map-id}
-use Rattle.arrow_session.specs.Lines.{telling, request_among}
-use Rattle.arrow_session.proofs.lines.commands.telling.turns_in.Goals as goal
-
-pub returns-in-Some : goal.returns-in-Some
-unfolding telling request_among
-returns-in-Some c = grind (arith, map-id c.in-Some.turns.items)

@@ -1,0 +1,9 @@
+use Rattle.std.proofs.Common.{◌≡◌, ◌≤◌, ◌++◌, take, vec_capacity}
+use Rattle.arrow_entry.specs.Run.{Runs}
+use Rattle.arrow_table.proofs.sequence.run_all.Given as goal
+
+abbrev pub invariant-loop-command : goal.invariant-loop-command
+invariant-loop-command g l =
+    (l.done ≡ l.command-index)
+    × ((added : _) × (l.replies.items ≡ l.fn.replies.items ++ added) × Runs g.S.Steps.steps_to l.fn.state (take l.command-index l.commands) added l.state)
+    × (vec_capacity l.fn.replies ≤ vec_capacity l.replies)

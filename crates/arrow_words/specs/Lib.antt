@@ -1,0 +1,4 @@
+pub mod Words
+pub mod Readers
+pub mod Fields
+pub mod Text

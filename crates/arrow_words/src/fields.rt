@@ -1,0 +1,199 @@
+//! What single words say: numbers, kinds, types, and what is asked of an iterator.
+ghost use Rattle.std.specs.Prelude.{◌≡◌, ℕ, ℤ, option_map};
+ghost use Rattle.arrow_types.specs.Types.{LogicalType, logical_type};
+ghost use Rattle.arrow_entry.specs.declared.kind.Kind.{Kind};
+ghost use Rattle.arrow_entry.specs.declared.item.Turn.{Turn};
+ghost use Rattle.arrow_words.specs.Fields.{kind_of, type_of, skip_of, turn_of};
+ghost use Rattle.arrow_words.specs.Words.{number_of, integer_of, offset_of};
+
+use crate::numbers::{integer_of, number_of, offset_of};
+use crate::readers::Word;
+use crate::words::is;
+use arrow_entry::{Kind, Turn};
+use arrow_types::data_type::DataType;
+use std::alloc::{AllocError, Global};
+
+impl Word for usize {
+    ghost Meaning = { ℕ };
+
+    ghost meaning = { λ x. x };
+
+    ghost said = { number_of };
+
+    fn of_word(_alloc: Global, word: &[u8]) -> Result<Option<Self>, AllocError> {
+        Ok(number_of(word))
+    }
+}
+
+impl Word for i64 {
+    ghost Meaning = { ℤ };
+
+    ghost meaning = { λ x. x };
+
+    ghost said = { integer_of };
+
+    fn of_word(_alloc: Global, word: &[u8]) -> Result<Option<Self>, AllocError> {
+        Ok(integer_of(word))
+    }
+}
+
+impl Word for i32 {
+    ghost Meaning = { ℤ };
+
+    ghost meaning = { λ x. x };
+
+    ghost said = { offset_of };
+
+    fn of_word(_alloc: Global, word: &[u8]) -> Result<Option<Self>, AllocError> {
+        Ok(offset_of(word))
+    }
+}
+
+/// The kind of array or builder that a word names.
+fn kind_of(word: &[u8]) -> Option<Kind>
+    ensures { result ≡ kind_of word.now }
+{
+    if is(word, b"prim") {
+        return Some(Kind::Primitive);
+    }
+    if is(word, b"bool") {
+        return Some(Kind::Boolean);
+    }
+    if is(word, b"bin") {
+        return Some(Kind::Binary);
+    }
+    if is(word, b"utf8") {
+        return Some(Kind::Utf8);
+    }
+    if is(word, b"mprim") {
+        return Some(Kind::MutablePrimitive);
+    }
+    if is(word, b"mbool") {
+        return Some(Kind::MutableBoolean);
+    }
+    if is(word, b"mbin") {
+        return Some(Kind::MutableBinary);
+    }
+    if is(word, b"mutf8") {
+        return Some(Kind::MutableUtf8);
+    }
+    if is(word, b"vbin") {
+        return Some(Kind::BinaryValues);
+    }
+    if is(word, b"vutf8") {
+        return Some(Kind::Utf8Values);
+    }
+    None
+}
+
+impl Word for Kind {
+    ghost Meaning = { Kind };
+
+    ghost meaning = { λ x. x };
+
+    ghost said = { kind_of };
+
+    fn of_word(_alloc: Global, word: &[u8]) -> Result<Option<Self>, AllocError> {
+        Ok(kind_of(word))
+    }
+}
+
+/// The type that a word names.
+fn type_of(word: &[u8]) -> Option<DataType>
+    ensures { option_map logical_type result ≡ type_of word.now }
+{
+    if is(word, b"Boolean") {
+        return Some(DataType::Boolean);
+    }
+    if is(word, b"Int8") {
+        return Some(DataType::Int8);
+    }
+    if is(word, b"Int16") {
+        return Some(DataType::Int16);
+    }
+    if is(word, b"Int32") {
+        return Some(DataType::Int32);
+    }
+    if is(word, b"Int64") {
+        return Some(DataType::Int64);
+    }
+    if is(word, b"UInt8") {
+        return Some(DataType::UInt8);
+    }
+    if is(word, b"UInt16") {
+        return Some(DataType::UInt16);
+    }
+    if is(word, b"UInt32") {
+        return Some(DataType::UInt32);
+    }
+    if is(word, b"UInt64") {
+        return Some(DataType::UInt64);
+    }
+    if is(word, b"Date32") {
+        return Some(DataType::Date32);
+    }
+    if is(word, b"Date64") {
+        return Some(DataType::Date64);
+    }
+    if is(word, b"Binary") {
+        return Some(DataType::Binary);
+    }
+    if is(word, b"LargeBinary") {
+        return Some(DataType::LargeBinary);
+    }
+    if is(word, b"Utf8") {
+        return Some(DataType::Utf8);
+    }
+    if is(word, b"LargeUtf8") {
+        return Some(DataType::LargeUtf8);
+    }
+    None
+}
+
+impl Word for DataType {
+    ghost Meaning = { LogicalType };
+
+    ghost meaning = { logical_type };
+
+    ghost said = { type_of };
+
+    fn of_word(_alloc: Global, word: &[u8]) -> Result<Option<Self>, AllocError> {
+        Ok(type_of(word))
+    }
+}
+
+/// `s` and how many items are passed over.
+fn skip_of(word: &[u8]) -> Option<Turn>
+    ensures { result ≡ skip_of word.now }
+{
+    let (first, rest) = word.split_first()?;
+    if *first != b's' {
+        return None;
+    }
+    Some(Turn::Skip(number_of(rest)?))
+}
+
+/// What a word asks of an iterator.
+fn turn_of(word: &[u8]) -> Option<Turn>
+    ensures { result ≡ turn_of word.now }
+{
+    if is(word, b"f") {
+        return Some(Turn::Front);
+    }
+    if is(word, b"b") {
+        return Some(Turn::Back);
+    }
+    skip_of(word)
+}
+
+impl Word for Turn {
+    ghost Meaning = { Turn };
+
+    ghost meaning = { λ x. x };
+
+    ghost said = { turn_of };
+
+    fn of_word(_alloc: Global, word: &[u8]) -> Result<Option<Self>, AllocError> {
+        Ok(turn_of(word))
+    }
+}

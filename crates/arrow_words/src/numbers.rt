@@ -1,0 +1,86 @@
+//! The numbers that words stand for.
+ghost use Rattle.std.specs.Prelude.{◌≡◌, ◌^◌};
+ghost use Rattle.arrow_words.specs.Words.{number_of, with_digit, positive, negative, integer_of, offset_of};
+
+/// A number with one more digit at its end, or nothing for a byte that is no digit and past the
+/// greatest `usize`.
+fn with_digit(number: usize, byte: u8) -> Option<usize>
+    ensures { result ≡ with_digit number byte }
+{
+    if byte < b'0' || b'9' < byte {
+        return None;
+    }
+    number
+        .checked_mul(10)?
+        .checked_add(usize::from(byte - b'0'))
+}
+
+/// The number that one or more digits write, below 2 to the power 64. Zeros may lead it.
+pub fn number_of(word: &[u8]) -> Option<usize>
+    ensures { result ≡ number_of word.now }
+{
+    if word.is_empty() {
+        return None;
+    }
+    let mut number = 0;
+    for byte in word {
+        number = with_digit(number, *byte)?;
+    }
+    Some(number)
+}
+
+fn positive(number: usize) -> Option<i64>
+    ensures { result ≡ positive (2 ^ 63) number }
+{
+    i64::try_from(number).ok()
+}
+
+fn negative(number: usize) -> Option<i64>
+    ensures { result ≡ negative (2 ^ 63) number }
+{
+    // The least `i64` has no opposite.
+    if number == 1 << 63 {
+        return Some(i64::MIN);
+    }
+    Some(-i64::try_from(number).ok()?)
+}
+
+/// The `i64` that digits write, after a `-` where it is below zero.
+pub fn integer_of(word: &[u8]) -> Option<i64>
+    ensures { result ≡ integer_of word.now }
+{
+    let (first, digits) = word.split_first()?;
+    if *first == b'-' {
+        negative(number_of(digits)?)
+    } else {
+        positive(number_of(word)?)
+    }
+}
+
+fn positive_offset(number: usize) -> Option<i32>
+    ensures { result ≡ positive (2 ^ 31) number }
+{
+    i32::try_from(number).ok()
+}
+
+fn negative_offset(number: usize) -> Option<i32>
+    ensures { result ≡ negative (2 ^ 31) number }
+{
+    // The least `i32` has no opposite.
+    if number == 1 << 31 {
+        return Some(i32::MIN);
+    }
+    Some(-i32::try_from(number).ok()?)
+}
+
+/// The `i32` that digits write, after a `-` where it is below zero.
+pub fn offset_of(word: &[u8]) -> Option<i32>
+    ensures { result ≡ offset_of word.now }
+{
+    let (first, digits) = word.split_first()?;
+    if *first == b'-' {
+        negative_offset(number_of(digits)?)
+    } else {
+        positive_offset(number_of(word)?)
+    }
+}

@@ -1,0 +1,123 @@
+//! How the words behind a command's name are read: each by what it has to say, and none is left over.
+ghost use Rattle.std.specs.Prelude.{◌≡◌, IfOk, ℕ, List, Option, map, option_map};
+ghost use Rattle.arrow_words.specs.Readers.{first, zero, only, each, ◌▸◌};
+ghost use Rattle.arrow_words.specs.Words.{words_of};
+
+use crate::words::next_word;
+use std::alloc::{AllocError, Global};
+
+/// What one word says.
+pub trait Word: Sized + Drop {
+    /// What it is, apart from where it lies.
+    ghost Meaning: { Type 0 };
+
+    ghost meaning: { Self → Meaning };
+
+    /// What a word says, where it is as it should be.
+    ghost said: { List ℕ → Option Meaning };
+
+    /// What a word says; `None` where it is not as it should be.
+    fn of_word(alloc: Global, word: &[u8]) -> Result<Option<Self>, AllocError>
+        ensures { IfOk result (λ read. option_map meaning read ≡ said word.now) };
+}
+
+/// What all words that are left say.
+pub trait Words: Sized + Drop {
+    /// What it is, apart from where it lies.
+    ghost Content: { Type 0 };
+
+    ghost content: { Self → Content };
+
+    /// What words say, where they are as they should be.
+    ghost reader: { List (List ℕ) → Option Content };
+
+    /// What words say; `None` where they are not as they should be.
+    fn of_words(alloc: Global, words: &[u8]) -> Result<Option<Self>, AllocError>
+        ensures { IfOk result (λ read. option_map content read ≡ reader (words_of words.now)) };
+}
+
+/// The last word.
+#[derive(Drop)]
+pub struct Only<A>(pub A);
+
+/// What the first word says, and what follows that word.
+pub fn next<A: Word>(alloc: Global, text: &[u8]) -> Result<Option<(A, &[u8])>, AllocError>
+    ensures { IfOk result (λ read. option_map (λ x. (A.meaning x.0, words_of x.1.now)) read ≡ first A.said (words_of text.now)) }
+{
+    let Some((word, rest)) = next_word(text) else {
+        return Ok(None);
+    };
+    match A::of_word(alloc, word)? {
+        Some(said) => Ok(Some((said, rest))),
+        None => Ok(None),
+    }
+}
+
+/// Something, where no word follows.
+fn end(text: &[u8]) -> Option<()>
+    ensures { result ≡ zero tt (words_of text.now) }
+{
+    match next_word(text) {
+        Some(_) => None,
+        None => Some(()),
+    }
+}
+
+impl<A: Word> Words for Only<A> {
+    ghost Content = { A.Meaning };
+
+    ghost content = { λ x. A.meaning x.0 };
+
+    ghost reader = { only A.said };
+
+    fn of_words(alloc: Global, words: &[u8]) -> Result<Option<Self>, AllocError> {
+        let Some((word, rest)) = next::<A>(alloc, words)? else {
+            return Ok(None);
+        };
+        match end(rest) {
+            Some(()) => Ok(Some(Only(word))),
+            None => Ok(None),
+        }
+    }
+}
+
+// One word, and what the words behind it say.
+impl<A: Word, B: Words> Words for (A, B) {
+    ghost Content = { A.Meaning × B.Content };
+
+    ghost content = { λ x. (A.meaning x.0, B.content x.1) };
+
+    ghost reader = { A.said ▸ B.reader };
+
+    fn of_words(alloc: Global, words: &[u8]) -> Result<Option<Self>, AllocError> {
+        let Some((word, rest)) = next::<A>(alloc, words)? else {
+            return Ok(None);
+        };
+        match B::of_words(alloc, rest)? {
+            Some(others) => Ok(Some((word, others))),
+            None => Ok(None),
+        }
+    }
+}
+
+// Any number of words.
+impl<A: Word> Words for Vec<A> {
+    ghost Content = { List A.Meaning };
+
+    ghost content = { λ xs. map A.meaning xs.items };
+
+    ghost reader = { each A.said };
+
+    fn of_words(alloc: Global, words: &[u8]) -> Result<Option<Self>, AllocError> {
+        let mut all = Vec::new(alloc);
+        let mut rest = words;
+        while let Some((word, after)) = next_word(rest) {
+            let Some(said) = A::of_word(alloc, word)? else {
+                return Ok(None);
+            };
+            all.push(said)?;
+            rest = after;
+        }
+        Ok(Some(all))
+    }
+}
