@@ -1,9 +1,7 @@
 -- What rows use of how columns are seen: rulesets over the laws of `seen`.
-use Rattle.arrow_entry.proofs.Seen.{length-seen, type-seen, held-seen, around-seen, stored-seen, marks-seen, slots-seen, valid-seen, last-seen, parts-seen, append-seen, appends-seen, values-seen, nulls-seen, short-seen, frozen-seen, slot-seen, mask-seen, with-stored-seen, with-type-seen, same-values, same-bits, same-pieces, bare-frozen, thaw-pieces, thaw-plain}
+use Rattle.arrow_entry.proofs.Seen.{parts-seen, append-seen, appends-seen, values-seen, nulls-seen, short-seen, frozen-seen, slot-seen, mask-seen, with-stored-seen, with-type-seen, same-values, same-bits, same-pieces, bare-frozen, thaw-pieces, thaw-plain}
 use Rattle.arrow_entry.proofs.Slots.{grown-by, whole, length-slots}
-use Rattle.arrow_entry.proofs.Chosen.{bits-seen, filter-value, filter-bit, filter-pieces, take-value, take-bit, take-pieces, over-value, over-bit, bytes-seen, astray-seen}
-
-pub ruleset seen_reads = (length-seen, type-seen, held-seen, around-seen, stored-seen, marks-seen, slots-seen, valid-seen, last-seen)
+use Rattle.arrow_entry.proofs.Chosen.{bits-seen}
 
 pub ruleset seen_changes = (parts-seen, append-seen, appends-seen, values-seen, nulls-seen, short-seen, frozen-seen, slot-seen, mask-seen, with-stored-seen, with-type-seen)
 
@@ -16,5 +14,3 @@ pub ruleset seen_thaws = (thaw-pieces, thaw-plain)
 pub ruleset slot_lists = (grown-by, whole, length-slots)
 
 pub ruleset seen_bits = (bits-seen)
-
-pub ruleset seen_choices = (filter-value, filter-bit, filter-pieces, take-value, take-bit, take-pieces, over-value, over-bit, bytes-seen, astray-seen)

@@ -12,7 +12,7 @@ use Rattle.arrow_types.specs.Types.{LogicalType}
 use Rattle.arrow_types.specs.IndexKey.{index_of}
 use Rattle.arrow_memory.specs.Rows.{FitsMask, Row, slot}
 use Rattle.arrow_column.specs.Masks.{mask_with_nulls}
-use Rattle.arrow_column.specs.Column.{Column, ColumnWith, IsColumn, column_with, mask_of, slots_of, stored_values}
+use Rattle.arrow_column.specs.Column.{Column, ColumnWith, IsColumn, column_with, mask_of, stored_values}
 use Rattle.arrow_column.proofs.ColumnLemmas.{column_again, slots_valid, valid_by_held}
 use Rattle.arrow_check.specs.Indexes.{is_place}
 use Rattle.arrow_kernels.specs.Kernels.{asked, at_key, at_keys, column_of_rows, filtered, first_astray, set_in_both, taken, where_set}
@@ -66,12 +66,6 @@ where-gap-up marks xs i j up clear =
     ap (λ k. where_set (take k marks) (take k xs)) (let e : j ≡ i + (j - i) = omega (arith, up) in e)
     ∙ where-gap marks xs i (j - i) (λ k low high. clear k low (omega arith))
 
--- up to the first set mark nothing is left
-pub where-starts : {X : Type 0} (marks : List Bool) (xs : List X) (j : ℕ) → ((k : ℕ) → 0 ≤ k → k < j → slice_get marks k ≡ Some false) → [] ≡ where_set (take j marks) (take j xs)
-where-starts marks xs j clear =
-    let e : 0 + j ≡ j = omega arith in
-    sym (ap (λ k. where_set (take k marks) (take k xs)) (sym e) ∙ where-gap marks xs 0 j (λ k low high. clear k low (omega arith)))
-
 -- the rows up to the next that is asked for
 pub where-next : {X : Type 0} (marks : List Bool) (xs : List X) (i j : ℕ) (x : X) → slice_get marks i ≡ Some true → slice_get xs i ≡ Some x
     → i + 1 ≤ j → ((k : ℕ) → i + 1 ≤ k → k < j → slice_get marks k ≡ Some false)
@@ -116,9 +110,6 @@ keys-more number keys xs i key x low read found =
 pub keys-append : {K X : Type 0} (number : K → ℤ) (keys : List K) (xs : List X) (i n : ℕ) → at_keys number (take (i + n) keys) xs ≡ at_keys number (take i keys) xs ++ at_keys number (take n (drop i keys)) xs
 keys-append number keys xs i n =
     ap (λ ks. at_keys number ks xs) (take-add i n keys) ∙ filter_map-append (λ key. at_key xs (number key)) (take i keys) (take n (drop i keys))
-
-pub length-asked : (filter : Column Bool) → length (asked filter) ≡ length filter.rows
-length-asked filter = length-map (slots_of filter) (λ s. unwrap_or s false) ∙ length-map filter.rows slot
 
 -- the same of a list that grows by what stands at the key's place
 pub keys-grown : {K X : Type 0} (number : K → ℤ) (keys : List K) (xs : List X) (i : ℕ) (key : K) (x : X) (old new : List X) → i < length keys → key ≡ get_or keys i key → at_key xs (number key) ≡ Some x
@@ -392,9 +383,3 @@ marks-below : {A S K : Type 0} (column : ColumnWith A S) (number : K → ℤ) (k
 marks-below column number keys true all = subst (λ n. All (λ key. IsSomeAnd (index_of (number key)) (λ index. index < n)) keys) (sym (length-map column.rows (λ row. row.1))) all
 marks-below column number keys false all = tt
 
--- keys that tell places of rows tell places of marks
-pub mask-below : {A S K : Type 0} (column : ColumnWith A S) (number : K → ℤ) (keys : List K) (mask : Option (List Bool)) → mask ≡ mask_of column
-    → All (λ key. IsSomeAnd (index_of (number key)) (λ index. index < length column.rows)) keys
-    → IfSome mask (λ marks. All (λ key. IsSomeAnd (index_of (number key)) (λ index. index < length marks)) keys)
-mask-below column number keys mask same all =
-    subst (λ o. IfSome o (λ marks. All (λ key. IsSomeAnd (index_of (number key)) (λ index. index < length marks)) keys)) (sym same) (marks-below column number keys column.held all)

@@ -23,7 +23,7 @@ use Rattle.arrow_entry.specs.Answer.{Answer, refused, is_memory, is_not_met}
 use Rattle.arrow_entry.specs.Entry.{Value, Types, native_value, boolean_value, piece_value}
 use Rattle.arrow_entry.specs.Item.{value, bit, piece}
 use Rattle.arrow_entry.specs.Kind.{Group, native, boolean, pieces, Shape, shaped, frozen, is_frozen, is_pieces, is_text, is_values_alone}
-use Rattle.arrow_entry.specs.Request.{Packed, Request, make, packed, parts, cut_pieces}
+use Rattle.arrow_entry.specs.Request.{Packed, make, packed, parts, cut_pieces}
 use Rattle.arrow_entry.specs.Request as given
 use Rattle.arrow_entry.specs.Parts.{BitsFit, PartsCost, PartsRow, bits_tested, marks_in, offsets_tested, wrong_type}
 use Rattle.arrow_entry.specs.Row.{Row, leaves, memory, passes}
@@ -330,9 +330,6 @@ either-way {P} a b if-same if-other = go (a == b) refl
 pub still : (text : Bool) (offsets bytes : List ℕ) (old new : Cost) → Costs text offsets bytes old new → text ≡ false → new ≡ old
 still false offsets bytes old new costs e = costs
 still true offsets bytes old new costs e = absurd (false≢true (sym e))
-
-pub still-growing : (text : Bool) (offsets bytes : List ℕ) (old new : Cost) → BuilderCosts text offsets bytes old new → text ≡ false → new ≡ old
-still-growing text offsets bytes old new costs e = either-way (last_of offsets) (length bytes) (λ same. still text offsets bytes old new (costs.read same) e) (λ other. costs.unread other)
 
 pub tested-once : {T : Type 0} (text : Bool) (group : Group) (t : LogicalType) (mask : Option Packed) (numbers : List ℤ) (held offsets bytes : List ℕ) (old new : Cost)
     → offsets ≡ map unsigned_abs numbers → (text ≡ false → new ≡ old) → TestsOnce offsets bytes old new

@@ -59,10 +59,6 @@ module _ {T : Type 0} (c : Types T) where
     pub rest-none : (v : Value T) (rest : List (Option (Stored T))) → rest ≡ [] → DoesRest v rest → Extends c first whole done (Some v)
     rest-none v rest none h = h done (Some v) (rw (none) (extends-none v))
 
-    pub rest-refused : (v w : Value T) (rest others : List (Option (Stored T))) (x : Option (Stored T)) → rest ≡ x ∷ others
-        → w ≡ v → DoesRest v rest → Extends c first whole (refused (refusal (refused_growth (slot_over c v x)))) (Some w)
-    rest-refused v w rest others x split same h = rw (same) (h (refused (refusal (refused_growth (slot_over c v x)))) (Some v) (rw (split) (refused-so v x others (slot_over c v x) refl)))
-
   -- a row of builders with nulls
   pub nullable-row : (asked : Ask T) (old : Option (Value T)) (v : Value T) (reply : Answer T) (new : Option (Value T)) → old ≡ Some v → IsTrue (is_nullable v.shape) → Does c v asked reply new → Does_to c is_nullable asked old reply new
   nullable-row asked old v reply new is nullable h = rw (is, nullable) h

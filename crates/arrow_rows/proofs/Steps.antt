@@ -1,8 +1,8 @@
 -- A row of one entry is a step of the whole table.
-use Rattle.std.proofs.Common.{◌≡◌, ◌<◌, ◌≤◌, ◌∙◌, ℕ, zero, suc, Bool, true, false, ◌==◌, if◌then◌else◌, option_and_then, List, [], ◌∷◌, length, get_or, sym, map, replicate, slice_get, slice_set, Option, Some, None, option_map, refl, ap, arith}
+use Rattle.std.proofs.Common.{◌≡◌, ◌<◌, ◌∙◌, ℕ, zero, suc, Bool, true, false, ◌==◌, if◌then◌else◌, option_and_then, List, [], ◌∷◌, length, get_or, sym, map, replicate, slice_get, slice_set, Option, Some, None, option_map, refl, ap, arith}
 use Rattle.std.proofs.lemmas.Bool.{eqb-true, eqb-false}
-use Rattle.std.proofs.lemmas.Option.{slice_get-map, slice_get_past}
-use Rattle.arrow_entry.specs.Answer.{Answer, not_met}
+use Rattle.std.proofs.lemmas.Option.{slice_get-map}
+use Rattle.arrow_entry.specs.Answer.{Answer}
 use Rattle.arrow_entry.specs.Entry.{Value, value_of}
 use Rattle.arrow_entry.specs.Row.{Row}
 use Rattle.arrow_entry.specs.Step.{AtEntry, entry_at, other_at}
@@ -29,9 +29,6 @@ module _ {T E : Type 0} (f : E → Option (Value T)) (row : Option (Value T) →
 
   pub stays-row : (xs : List E) (e : ℕ) (x : E) (reply : Answer T) → slice_get xs e ≡ Some x → row (f x) reply (f x) → AtEntry (map f xs) e row reply (map f xs)
   stays-row xs e x reply is h = at-row xs xs e x x reply is (sym (set-same xs e x is)) h
-
-  pub past-row : (xs : List E) (e : ℕ) → length xs ≤ e → AtEntry (map f xs) e row not_met (map f xs)
-  past-row xs e past = rw (slice_get-map f xs e ∙ ap (option_map f) (slice_get_past xs e past)) (refl, refl)
 
 -- what was set there again
 pub set-twice : {E : Type 0} (xs : List E) (e : ℕ) (x y : E) → slice_set (slice_set xs e x) e y ≡ slice_set xs e y

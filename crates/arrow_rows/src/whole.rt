@@ -48,7 +48,7 @@ impl<T: NativeType, O: Offset> EntryRow<T, O> for Empty {
 }
 
 /// What becomes of what was in an entry that is to be an array, and the answer.
-#[tactic(auto, using(arrow_entry::proofs::Rules::seen_reads, arrow_entry::proofs::Rules::seen_freezes))]
+#[tactic(auto, using(arrow_entry::proofs::Seen::seen_reads, arrow_entry::proofs::Rules::seen_freezes))]
 pub fn frozen<T: NativeType, O: Offset>(
     taken: Option<Entry<T, O>>,
 ) -> (Option<Entry<T, O>>, Reply<T>)
@@ -103,7 +103,7 @@ impl<T: NativeType, O: Offset> EntryRow<T, O> for Freeze {
 }
 
 /// What becomes of what was in an entry that is to be a builder, and the answer.
-#[tactic(auto, using(arrow_entry::proofs::Rules::seen_reads, arrow_entry::proofs::Rules::seen_thaws))]
+#[tactic(auto, using(arrow_entry::proofs::Seen::seen_reads, arrow_entry::proofs::Rules::seen_thaws))]
 fn thawed<T: NativeType, O: Offset>(taken: Option<Entry<T, O>>) -> (Option<Entry<T, O>>, Reply<T>)
     ensures { Does_to (types T.zero T.PRIMITIVE O.most O.IS_LARGE) is_frozen ask.thaw (option_map value_of taken) (told result.1) (option_map value_of result.0) }
 {

@@ -12,7 +12,7 @@ use arrow_types::native_type::NativeType;
 use std::alloc::Global;
 
 /// The array of what an entry holds over wide offsets, where that is an array of items.
-#[tactic(auto, using(arrow_entry::proofs::Rules::seen_choices, arrow_entry::proofs::Rules::seen_changes))]
+#[tactic(auto, using(arrow_entry::proofs::Chosen::seen_choices, arrow_entry::proofs::Rules::seen_changes))]
 fn widened<T: NativeType>(entry: &Entry<T, i32>) -> Result<Entry<T, i64>, Reply<T>>
     ensures { EntryBy result (Widens (wide_types T.zero T.PRIMITIVE) (Some (value_of entry.now))) }
 {
@@ -30,7 +30,7 @@ fn widened<T: NativeType>(entry: &Entry<T, i32>) -> Result<Entry<T, i64>, Reply<
 }
 
 /// The array of what an entry holds over narrow offsets, where that is an array of items.
-#[tactic(auto, using(arrow_entry::proofs::Rules::seen_choices, arrow_entry::proofs::Rules::seen_changes))]
+#[tactic(auto, using(arrow_entry::proofs::Chosen::seen_choices, arrow_entry::proofs::Rules::seen_changes))]
 fn narrowed<T: NativeType>(entry: &Entry<T, i64>) -> Result<Entry<T, i32>, Reply<T>>
     ensures { EntryBy result (Narrows (narrow_types T.zero T.PRIMITIVE) (Some (value_of entry.now))) }
 {

@@ -35,12 +35,6 @@ module _ (p : ℕ → Bool) where
       let tail = take_all (length xs - (n + 1)) (drop (n + 1) xs) (omega (arith, length-drop (n + 1) xs)) in
       rw tail (rw same at first)
 
-  pub cut_within : (xs : List ℕ) (n : ℕ) → position p xs ≡ Some n → n < length xs
-  cut_within xs n e =
-      let found = cond_some _ _ _ e in
-      let within = ltb-true _ _ found.0 in
-      omega (arith, found.1)
-
 -- the words of what follows, where there is any
 abbrev pub words_after : Option (Bor (List ℕ)) → List (List ℕ)
 words_after None = []
