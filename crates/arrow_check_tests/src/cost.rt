@@ -18,8 +18,8 @@ fn each_act_is_counted_once(rt: HostRuntime) {
         !text.whole_test(0, 2),
         text.look(1) == 0xC3,
     ];
-    assert!(rt; acts == [true; 6]);
-    assert!(rt; text.len() == 4 && counts(text.cost()) == [3, 2, 1]);
+    let is_counted = counts(text.cost()) == [3, 2, 1];
+    assert!(rt; (acts == [true; 6]) & is_counted & (text.len() == 4));
 }
 
 #[test]
@@ -29,5 +29,6 @@ fn counts_go_on_from_those_before(rt: HostRuntime) {
     let first = text.whole_test(0, 1);
     let mut again = TextBytes::new(bytes.as_slice(), text.cost());
     let second = again.whole_test(0, 0);
-    assert!(rt; first && second && counts(again.cost()) == [0, 2, 0]);
+    let is_counted = counts(again.cost()) == [0, 2, 0];
+    assert!(rt; first & second & is_counted);
 }

@@ -4,6 +4,9 @@ use arrow_check::values_iter::ArrayValuesIter;
 use arrow_memory::bitmap::{BitmapIter, MutableBitmap};
 use arrow_memory::list_iter::ListIter;
 use arrow_memory::zip_validity::ZipValidity;
+use arrow_testing::told;
+use arrow_types::error::Error;
+use std::alloc::Global;
 use std::test::Fail;
 
 /// An array of numbers.
@@ -52,33 +55,48 @@ fn is(item: Option<&u64>, wanted: u64) -> bool {
     }
 }
 
+/// Whether three items come from both ends.
+fn turns(array: &Numbers) -> bool {
+    let mut items = ArrayValuesIter::new(array);
+    let ends = (items.len() == 3) & is(items.next(), 10) & is(items.next_back(), 30);
+    let is_sized = items.size_hint() == (1, Some(1));
+    let is_left = (items.len() == 1) & is(items.nth(0), 20);
+    let is_ended = items.next().is_none() & items.next_back().is_none();
+    ends & is_sized & is_left & is_ended & (items.len() == 0)
+}
+
 #[test]
 fn turns_from_both_ends(rt: HostRuntime) {
-    let array = tens();
-    let mut items = ArrayValuesIter::new(&array);
-    assert!(rt; items.len() == 3 && is(items.next(), 10) && is(items.next_back(), 30));
-    assert!(rt; items.size_hint() == (1, Some(1)) && items.len() == 1 && is(items.nth(0), 20));
-    assert!(rt; items.next().is_none() && items.next_back().is_none() && items.len() == 0);
+    assert!(rt; turns(&tens()));
+}
+
+/// Whether items are passed over, and none comes after the last.
+fn passes(array: &Numbers) -> bool {
+    let mut items = ArrayValuesIter::new(array);
+    let is_last = is(items.nth(2), 30) & items.next().is_none();
+    let mut items = ArrayValuesIter::new(array);
+    let is_past = items.nth(3).is_none() & items.next_back().is_none();
+    let mut items = ArrayValuesIter::new(array);
+    let is_far = is(items.next(), 10) & items.nth(usize::MAX).is_none();
+    is_last & is_past & is_far & (items.len() == 0)
 }
 
 #[test]
 fn items_are_passed_over(rt: HostRuntime) {
-    let array = tens();
-    let mut items = ArrayValuesIter::new(&array);
-    assert!(rt; is(items.nth(2), 30) && items.next().is_none());
-    let mut items = ArrayValuesIter::new(&array);
-    assert!(rt; items.nth(3).is_none() && items.next_back().is_none());
-    let mut items = ArrayValuesIter::new(&array);
-    assert!(rt; is(items.next(), 10) && items.nth(usize::MAX).is_none() && items.len() == 0);
+    assert!(rt; passes(&tens()));
+}
+
+/// Whether a clone goes on from where the first is.
+fn clones(array: &Numbers) -> bool {
+    let mut items = ArrayValuesIter::new(array);
+    let is_first = is(items.next(), 10);
+    let mut others = items.clone();
+    is_first & is(items.nth(1), 30) & (others.len() == 2) & is(others.next(), 20)
 }
 
 #[test]
 fn a_clone_goes_its_own_way(rt: HostRuntime) {
-    let array = tens();
-    let mut items = ArrayValuesIter::new(&array);
-    assert!(rt; is(items.next(), 10));
-    let mut others = items.clone();
-    assert!(rt; is(items.nth(1), 30) && others.len() == 2 && is(others.next(), 20));
+    assert!(rt; clones(&tens()));
 }
 
 /// The numbers as values under marks: another crate's trait is not given to another crate's iterator,
@@ -123,17 +141,25 @@ fn shows(slot: Option<Option<&u64>>, wanted: Option<u64>) -> bool {
     }
 }
 
+/// Whether three items come under marks, of which the second is clear, from both ends.
+fn stand_under(array: &Numbers, marks: BitmapIter<'_>) -> bool {
+    let items = ArrayValuesIter::new(array);
+    let mut slots = ZipValidity::new(NumberValues { items }, Some(marks));
+    let ends = shows(slots.next_back(), Some(30)) & shows(slots.next(), Some(10));
+    let is_sized = slots.size_hint() == (1, Some(1));
+    let is_null = shows(slots.next_back(), None);
+    ends & is_sized & is_null & slots.next().is_none() & slots.next_back().is_none()
+}
+
+/// Whether they do under marks that are made.
+fn marked(alloc: Global) -> Result<bool, Error> {
+    match MutableBitmap::from_slice(alloc, [true, false, true].as_slice()) {
+        Ok(marks) => Ok(marks.len() == 3 && stand_under(&tens(), marks.iter())),
+        Err(refused) => Err(refused),
+    }
+}
+
 #[test]
 fn items_stand_under_marks(rt: HostRuntime) -> Result<(), Fail> {
-    let array = tens();
-    let mut marks = MutableBitmap::new(rt.alloc());
-    marks.push(true)?;
-    marks.push(false)?;
-    marks.push(true)?;
-    let items = ArrayValuesIter::new(&array);
-    let mut slots = ZipValidity::new(NumberValues { items }, Some(marks.iter()));
-    assert!(rt; shows(slots.next_back(), Some(30)) && shows(slots.next(), Some(10)));
-    assert!(rt; slots.size_hint() == (1, Some(1)) && shows(slots.next_back(), None));
-    assert!(rt; slots.next().is_none() && slots.next_back().is_none());
-    Ok(())
+    told(marked(rt.alloc()))
 }

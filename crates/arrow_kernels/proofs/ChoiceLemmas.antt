@@ -382,4 +382,3 @@ marks-below : {A S K : Type 0} (column : ColumnWith A S) (number : K → ℤ) (k
     → IfSome (if held then Some (map (λ row. row.1) column.rows) else None) (λ marks. All (λ key. IsSomeAnd (index_of (number key)) (λ index. index < length marks)) keys)
 marks-below column number keys true all = subst (λ n. All (λ key. IsSomeAnd (index_of (number key)) (λ index. index < n)) keys) (sym (length-map column.rows (λ row. row.1))) all
 marks-below column number keys false all = tt
-

@@ -24,14 +24,13 @@ fn push_each<T: NativeType>(
 
 /// Appends slots twice, and then values, that iterators give.
 fn extend_each<T: NativeType>(
-    alloc: Global,
     builder: &mut MutablePrimitiveArray<T>,
     slots: &[Option<T>],
     values: &[T],
 ) -> Result<(), Error> {
-    builder.extend(slots.to_vec(alloc)?.into_iter())?;
-    builder.try_extend(slots.to_vec(alloc)?.into_iter())?;
-    builder.extend_values(values.to_vec(alloc)?.into_iter())
+    builder.extend(slots.iter().copied())?;
+    builder.try_extend(slots.iter().copied())?;
+    builder.extend_values(values.iter().copied())
 }
 
 /// Appends values and two slots, and removes the last.
@@ -47,16 +46,24 @@ fn extend_values<T: NativeType>(
 
 /// Appends eight slots in each way, of which four are null, where a null and a value are given.
 fn grow<T: NativeType>(
-    alloc: Global,
     builder: &mut MutablePrimitiveArray<T>,
     null: &[Option<T>],
     value: &[T],
 ) -> Result<(), Error> {
     push_each(builder, value.first().copied())?;
-    extend_each(alloc, builder, null, value)?;
-    extend_values(builder, value)?;
+    extend_each(builder, null, value)?;
+    extend_values(builder, value)
+}
+
+/// Whether a builder has nine slots then.
+fn is_grown<T: NativeType>(
+    builder: &mut MutablePrimitiveArray<T>,
+    null: &[Option<T>],
+    value: &[T],
+) -> Result<bool, Error> {
+    grow(builder, null, value)?;
     builder.apply_values(same_values::<T>);
-    Ok(())
+    Ok(builder.len() == 9)
 }
 
 /// Whether the array of a builder has what was appended to a slot.
@@ -66,10 +73,13 @@ fn grows<T: NativeType>(
     null: &[Option<T>],
     value: &[T],
 ) -> Result<bool, Error> {
-    let mut builder = MutablePrimitiveArray::<T>::from(alloc, first)?;
-    grow(alloc, &mut builder, null, value)?;
-    let is_grown = builder.len() == 9;
-    Ok(is_grown & counts(builder.freeze(), 9, 4)?)
+    match MutablePrimitiveArray::<T>::from(alloc, first) {
+        Ok(mut builder) => match is_grown(&mut builder, null, value) {
+            Ok(true) => counts(builder.freeze(), 9, 4),
+            other => other,
+        },
+        Err(refused) => Err(refused),
+    }
 }
 
 #[test]
@@ -106,6 +116,14 @@ fn is_pair<T: NativeType>(builder: &MutablePrimitiveArray<T>, value: T) -> bool 
     first && parts && builder.values_iter().next() == Some(&value) && 2 <= builder.capacity()
 }
 
+/// Whether the copy of a builder has its two slots.
+fn is_copied<T: NativeType>(builder: &MutablePrimitiveArray<T>, value: T) -> Result<bool, Error> {
+    match builder.clone() {
+        Ok(copy) => Ok(is_pair(&copy, value)),
+        Err(refused) => Err(refused),
+    }
+}
+
 /// Whether the copy of a builder that took another's slots has them.
 fn joins<T: NativeType>(
     builder: &mut MutablePrimitiveArray<T>,
@@ -114,7 +132,20 @@ fn joins<T: NativeType>(
 ) -> Result<bool, Error> {
     change(builder, value)?;
     builder.try_extend_from_self(other)?;
-    Ok(is_pair(&builder.clone()?, value))
+    is_copied(builder, value)
+}
+
+/// Whether it has those of a builder of these values.
+fn joins_values<T: NativeType>(
+    alloc: Global,
+    builder: &mut MutablePrimitiveArray<T>,
+    other: &[T],
+    value: T,
+) -> Result<bool, Error> {
+    match MutablePrimitiveArray::<T>::from_slice(alloc, other) {
+        Ok(other) => joins(builder, &other, value),
+        Err(refused) => Err(refused),
+    }
 }
 
 /// Whether that of a builder of a null has, once the null was replaced.
@@ -124,13 +155,10 @@ fn changes<T: NativeType>(
     value: T,
     other: &[T],
 ) -> Result<bool, Error> {
-    let null = null.to_vec(alloc)?.into_iter();
-    let mut builder = MutablePrimitiveArray::<T>::from_iter(alloc, null)?;
-    joins(
-        &mut builder,
-        &MutablePrimitiveArray::<T>::from_slice(alloc, other)?,
-        value,
-    )
+    match MutablePrimitiveArray::<T>::from_iter(alloc, null.iter().copied()) {
+        Ok(mut builder) => joins_values(alloc, &mut builder, other, value),
+        Err(refused) => Err(refused),
+    }
 }
 
 #[test]

@@ -34,11 +34,23 @@ fn nulls_are_equal_whatever_they_store(rt: HostRuntime) -> Result<(), Fail> {
     told(compared(rt.alloc()))
 }
 
+/// Writes over the first value of a builder that has one.
+fn write_first(builder: &mut MutablePrimitiveArray<i32>, value: i32) {
+    if builder.len() > 0 {
+        builder.values_mut_slice()[0] = value;
+    }
+}
+
 /// Whether what is written to the values of a builder is there.
+fn is_written(values: Vec<i32>) -> bool {
+    let mut builder = MutablePrimitiveArray::from_vec(values);
+    write_first(&mut builder, 7);
+    builds(&builder, [7, 2, 3].as_slice(), "none")
+}
+
+/// Whether it is in a builder of three.
 fn written(alloc: Global) -> Result<bool, Error> {
-    let mut builder = MutablePrimitiveArray::from_vec([1, 2, 3].to_vec(alloc)?);
-    builder.values_mut_slice()[0] = 7;
-    Ok(builds(&builder, [7, 2, 3].as_slice(), "none"))
+    Ok(is_written([1, 2, 3].to_vec(alloc)?))
 }
 
 #[test]
