@@ -144,6 +144,9 @@ fn shows(slot: Option<Option<&u64>>, wanted: Option<u64>) -> bool {
 /// Whether three items come under marks, of which the second is clear, from both ends.
 fn stand_under(array: &Numbers, marks: BitmapIter<'_>) -> bool {
     let items = ArrayValuesIter::new(array);
+    if marks.len() != items.len() {
+        return false;
+    }
     let mut slots = ZipValidity::new(NumberValues { items }, Some(marks));
     let ends = shows(slots.next_back(), Some(30)) & shows(slots.next(), Some(10));
     let is_sized = slots.size_hint() == (1, Some(1));
@@ -154,7 +157,7 @@ fn stand_under(array: &Numbers, marks: BitmapIter<'_>) -> bool {
 /// Whether they do under marks that are made.
 fn marked(alloc: Global) -> Result<bool, Error> {
     match MutableBitmap::from_slice(alloc, [true, false, true].as_slice()) {
-        Ok(marks) => Ok(marks.len() == 3 && stand_under(&tens(), marks.iter())),
+        Ok(marks) => Ok(stand_under(&tens(), marks.iter())),
         Err(refused) => Err(refused),
     }
 }

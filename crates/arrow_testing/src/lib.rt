@@ -37,6 +37,82 @@ pub fn after(refused: Error, is_right: bool) -> Result<bool, Error> {
     if is_right { Err(refused) } else { Ok(false) }
 }
 
+/// What a check says of a value. Of refusals only that of memory is told apart.
+fn checked<B: Drop, F: FnOnce(&mut B) -> Result<bool, Error>>(
+    value: B,
+    check: F,
+) -> Result<bool, Error>
+    requires { F.IsAlwaysCallable check }
+{
+    let mut value = value;
+    match check(&mut value) {
+        Ok(is_right) => Ok(is_right),
+        Err(Error::OutOfMemory) => Err(Error::OutOfMemory),
+        Err(_) => Err(Error::Overflow),
+    }
+}
+
+/// What a check says of a value that was made; the refusal where none was. A test that owns an array or a builder is dear
+/// to prove: here the value is of any type.
+pub fn with<B: Drop, F: FnOnce(&mut B) -> Result<bool, Error> + Drop>(
+    answer: Result<B, Error>,
+    check: F,
+) -> Result<bool, Error>
+    requires { F.IsAlwaysCallable check }
+{
+    match answer {
+        Ok(value) => checked(value, check),
+        Err(refused) => {
+            drop(check);
+            Err(refused)
+        }
+    }
+}
+
+/// Whether a test is true of a value that was made; the refusal where none was.
+pub fn seen<B: Drop, F: FnOnce(&B) -> bool + Drop>(
+    answer: Result<B, Error>,
+    test: F,
+) -> Result<bool, Error>
+    requires { F.IsAlwaysCallable test }
+{
+    match answer {
+        Ok(value) => Ok(test(&value)),
+        Err(refused) => {
+            drop(test);
+            Err(refused)
+        }
+    }
+}
+
+/// Whether a value was made of which a test is true.
+pub fn is_made<B: Drop, F: FnOnce(&B) -> bool + Drop>(answer: Result<B, Error>, test: F) -> bool
+    requires { F.IsAlwaysCallable test }
+{
+    seen(answer, test) == Ok(true)
+}
+
+/// What a check says of a value.
+fn is_right<B: Drop, F: FnOnce(&mut B) -> bool>(value: B, check: F) -> bool
+    requires { F.IsAlwaysCallable check }
+{
+    let mut value = value;
+    check(&mut value)
+}
+
+/// Whether a value was made that passes a check.
+pub fn passes<B: Drop, F: FnOnce(&mut B) -> bool + Drop>(answer: Result<B, Error>, check: F) -> bool
+    requires { F.IsAlwaysCallable check }
+{
+    match answer {
+        Ok(value) => is_right(value, check),
+        Err(_) => {
+            drop(check);
+            false
+        }
+    }
+}
+
 /// Whether a mask has the marks that a text writes and no more, where '1' is a set mark; no mask is held where the
 /// text is `none`.
 pub fn is_mask(marks: Option<BitmapIter<'_>>, text: &str) -> bool {
