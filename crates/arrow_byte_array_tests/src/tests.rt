@@ -22,7 +22,8 @@ use arrow_memory::bitmap::{Bitmap, MutableBitmap};
 use arrow_memory::buffer::Buffer;
 use arrow_memory::offset::{Offsets, OffsetsBuffer};
 use arrow_testing::{
-    are_offsets, frozen_mask, frozen_offsets, growing_mask, is_mask, offsets_of, told,
+    all_told, are_offsets, frozen_mask, frozen_offsets, growing_mask, is_mask, offsets_of, seen,
+    told, with,
 };
 use arrow_types::data_type::DataType;
 use arrow_types::error::Error;
@@ -77,10 +78,10 @@ fn made<K: Known, O: Offset>(
     bytes: &[u8],
     mask: &str,
 ) -> Result<bool, Error> {
-    match answer {
-        Ok(array) => Ok(shows(&array, offsets, bytes, mask) && is_type::<K, O>(array.data_type())),
-        Err(refused) => Err(refused),
-    }
+    seen(
+        answer,
+        |array| shows(array, offsets, bytes, mask) && is_type::<K, O>(array.data_type()),
+    )
 }
 
 /// Whether a builder was made that has these offsets, bytes and marks, and the type of its kind.
@@ -90,12 +91,10 @@ fn built<K: Known, O: Offset>(
     bytes: &[u8],
     mask: &str,
 ) -> Result<bool, Error> {
-    match answer {
-        Ok(builder) => {
-            Ok(builds(&builder, offsets, bytes, mask) && is_type::<K, O>(builder.data_type()))
-        }
-        Err(refused) => Err(refused),
-    }
+    seen(
+        answer,
+        |builder| builds(builder, offsets, bytes, mask) && is_type::<K, O>(builder.data_type()),
+    )
 }
 
 /// Whether a builder without nulls was made that has these offsets and bytes, and the type of its kind.
@@ -104,10 +103,10 @@ fn held<K: Known, O: Offset>(
     offsets: &[usize],
     bytes: &[u8],
 ) -> Result<bool, Error> {
-    match answer {
-        Ok(builder) => Ok(holds(&builder, offsets, bytes) && is_type::<K, O>(builder.data_type())),
-        Err(refused) => Err(refused),
-    }
+    seen(
+        answer,
+        |builder| holds(builder, offsets, bytes) && is_type::<K, O>(builder.data_type()),
+    )
 }
 
 /// Whether a type is that of a kind over these offsets.

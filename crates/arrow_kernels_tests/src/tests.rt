@@ -10,7 +10,7 @@ mod widths;
 
 use arrow_boolean::BooleanArray;
 use arrow_memory::bitmap::Bitmap;
-use arrow_testing::{is_mask, tells, told};
+use arrow_testing::{all_told, is_mask, tells, told};
 use arrow_types::data_type::DataType;
 use arrow_types::error::Error;
 use std::alloc::Global;

@@ -10,7 +10,7 @@ mod parts;
 mod shared;
 
 use arrow_primitive::{MutablePrimitiveArray, PrimitiveArray};
-use arrow_testing::{is_mask, told};
+use arrow_testing::{all_told, is_mask, told};
 use arrow_types::data_type::DataType;
 use arrow_types::error::Error;
 use std::alloc::Global;

@@ -22,6 +22,14 @@ pub fn told(answer: Result<bool, Error>) -> Result<(), Fail> {
     }
 }
 
+/// How a test ends of which these are the answers: as the first that is wrong or was refused.
+pub fn all_told(answers: &[Result<bool, Error>]) -> Result<(), Fail> {
+    for answer in answers {
+        told(*answer)?;
+    }
+    Ok(())
+}
+
 /// Whether a value was made, or which refusal was answered.
 pub fn tells<T: Drop>(answer: Result<T, Error>) -> &'static str {
     match answer {

@@ -17,18 +17,20 @@ fn reads_items<K: Known, O: Offset>(array: &ByteArray<K, O>) -> bool {
 
 /// Whether those between other bytes are.
 fn reads_around<K: Known, O: Offset>(alloc: Global) -> Result<bool, Error> {
-    match around::<K, O>(alloc) {
-        Ok(array) => Ok(reads(&array) && reads_items(&array) && is_type::<K, O>(array.data_type())),
-        Err(refused) => Err(refused),
-    }
+    seen(
+        around::<K, O>(alloc),
+        |array| reads(array) && reads_items(array) && is_type::<K, O>(array.data_type()),
+    )
 }
 
 #[test]
 fn slots_lie_between_other_bytes(rt: HostRuntime) -> Result<(), Fail> {
-    told(reads_around::<Binary, i32>(rt.alloc()))?;
-    told(reads_around::<Binary, i64>(rt.alloc()))?;
-    told(reads_around::<Utf8, i32>(rt.alloc()))?;
-    told(reads_around::<Utf8, i64>(rt.alloc()))
+    all_told(&[
+        reads_around::<Binary, i32>(rt.alloc()),
+        reads_around::<Binary, i64>(rt.alloc()),
+        reads_around::<Utf8, i32>(rt.alloc()),
+        reads_around::<Utf8, i64>(rt.alloc()),
+    ])
 }
 
 /// The slots of an array from a place on; all of them where there are fewer.
@@ -60,8 +62,10 @@ fn cuts_by_value<K: Known, O: Offset>(alloc: Global) -> Result<bool, Error> {
 
 #[test]
 fn slices_by_value_keep_all_bytes(rt: HostRuntime) -> Result<(), Fail> {
-    told(cuts_by_value::<Binary, i32>(rt.alloc()))?;
-    told(cuts_by_value::<Binary, i64>(rt.alloc()))?;
-    told(cuts_by_value::<Utf8, i32>(rt.alloc()))?;
-    told(cuts_by_value::<Utf8, i64>(rt.alloc()))
+    all_told(&[
+        cuts_by_value::<Binary, i32>(rt.alloc()),
+        cuts_by_value::<Binary, i64>(rt.alloc()),
+        cuts_by_value::<Utf8, i32>(rt.alloc()),
+        cuts_by_value::<Utf8, i64>(rt.alloc()),
+    ])
 }

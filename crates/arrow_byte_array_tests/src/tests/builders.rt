@@ -24,18 +24,20 @@ fn equals<K: Known, O: Offset>(
 
 /// Whether a builder with a null is compared by its slots alone.
 fn equals_three<K: Known, O: Offset>(alloc: Global) -> Result<bool, Error> {
-    match MutableByteArray::<K, O>::from(alloc, K::slots(List::Three)) {
-        Ok(first) => are_told_apart(alloc, &first),
-        Err(refused) => Err(refused),
-    }
+    with(
+        MutableByteArray::<K, O>::from(alloc, K::slots(List::Three)),
+        |first| are_told_apart(alloc, first),
+    )
 }
 
 #[test]
 fn equal_builders_have_the_same_slots(rt: HostRuntime) -> Result<(), Fail> {
-    told(equals_three::<Binary, i32>(rt.alloc()))?;
-    told(equals_three::<Binary, i64>(rt.alloc()))?;
-    told(equals_three::<Utf8, i32>(rt.alloc()))?;
-    told(equals_three::<Utf8, i64>(rt.alloc()))
+    all_told(&[
+        equals_three::<Binary, i32>(rt.alloc()),
+        equals_three::<Binary, i64>(rt.alloc()),
+        equals_three::<Utf8, i32>(rt.alloc()),
+        equals_three::<Utf8, i64>(rt.alloc()),
+    ])
 }
 
 /// Whether a builder equals that of the same slots, and no other.
@@ -50,18 +52,20 @@ fn are_told_apart<K: Known, O: Offset>(
 
 /// Whether a builder of nulls equals one whose nulls store bytes.
 fn equals_nulls<K: Known, O: Offset>(alloc: Global) -> Result<bool, Error> {
-    match MutableByteArray::<K, O>::from(alloc, K::slots(List::Nulls)) {
-        Ok(first) => equals(alloc, &first, "000"),
-        Err(refused) => Err(refused),
-    }
+    with(
+        MutableByteArray::<K, O>::from(alloc, K::slots(List::Nulls)),
+        |first| equals(alloc, first, "000"),
+    )
 }
 
 #[test]
 fn bytes_of_nulls_are_not_compared(rt: HostRuntime) -> Result<(), Fail> {
-    told(equals_nulls::<Binary, i32>(rt.alloc()))?;
-    told(equals_nulls::<Binary, i64>(rt.alloc()))?;
-    told(equals_nulls::<Utf8, i32>(rt.alloc()))?;
-    told(equals_nulls::<Utf8, i64>(rt.alloc()))
+    all_told(&[
+        equals_nulls::<Binary, i32>(rt.alloc()),
+        equals_nulls::<Binary, i64>(rt.alloc()),
+        equals_nulls::<Utf8, i32>(rt.alloc()),
+        equals_nulls::<Utf8, i64>(rt.alloc()),
+    ])
 }
 
 /// Whether the array of a builder holds this mask.
@@ -88,10 +92,12 @@ fn freezes_items<K: Known, O: Offset>(alloc: Global) -> Result<bool, Error> {
 
 #[test]
 fn builders_of_items_are_frozen(rt: HostRuntime) -> Result<(), Fail> {
-    told(freezes_items::<Binary, i32>(rt.alloc()))?;
-    told(freezes_items::<Binary, i64>(rt.alloc()))?;
-    told(freezes_items::<Utf8, i32>(rt.alloc()))?;
-    told(freezes_items::<Utf8, i64>(rt.alloc()))
+    all_told(&[
+        freezes_items::<Binary, i32>(rt.alloc()),
+        freezes_items::<Binary, i64>(rt.alloc()),
+        freezes_items::<Utf8, i32>(rt.alloc()),
+        freezes_items::<Utf8, i64>(rt.alloc()),
+    ])
 }
 
 #[test]

@@ -40,16 +40,18 @@ fn passes<O: Offset>(array: &BinaryArray<O>) -> bool {
 
 /// Whether all of this holds of an array with other bytes around its slots.
 fn slots_around<O: Offset>(alloc: Global) -> Result<bool, Error> {
-    match around::<Binary, O>(alloc) {
-        Ok(array) => Ok(slots(&array) && lends(&array) && items_of(&array) && passes(&array)),
-        Err(refused) => Err(refused),
-    }
+    seen(
+        around::<Binary, O>(alloc),
+        |array| slots(array) && lends(array) && items_of(array) && passes(array),
+    )
 }
 
 #[test]
 fn slots_of_arrays(rt: HostRuntime) -> Result<(), Fail> {
-    told(slots_around::<i32>(rt.alloc()))?;
-    told(slots_around::<i64>(rt.alloc()))
+    all_told(&[
+        slots_around::<i32>(rt.alloc()),
+        slots_around::<i64>(rt.alloc()),
+    ])
 }
 
 /// Whether the slots of a builder come from both ends, and in a loop.
@@ -72,16 +74,18 @@ fn builder_items<O: Offset>(builder: &MutableBinaryArray<O>) -> bool {
 /// Whether both do behind another byte.
 fn builder_slots_behind<O: Offset>(alloc: Global) -> Result<bool, Error> {
     let (data_type, offsets) = (Binary::data_type(O::IS_LARGE), [1, 2, 3].as_slice());
-    match builder_of::<Binary, O>(alloc, data_type, offsets, b"\xFFyz", "01") {
-        Ok(builder) => Ok(builder_slots(&builder) && builder_items(&builder)),
-        Err(refused) => Err(refused),
-    }
+    seen(
+        builder_of::<Binary, O>(alloc, data_type, offsets, b"\xFFyz", "01"),
+        |builder| builder_slots(builder) && builder_items(builder),
+    )
 }
 
 #[test]
 fn slots_of_builders(rt: HostRuntime) -> Result<(), Fail> {
-    told(builder_slots_behind::<i32>(rt.alloc()))?;
-    told(builder_slots_behind::<i64>(rt.alloc()))
+    all_told(&[
+        builder_slots_behind::<i32>(rt.alloc()),
+        builder_slots_behind::<i64>(rt.alloc()),
+    ])
 }
 
 /// Whether the items of a builder without nulls come from both ends, and in a loop.
@@ -94,19 +98,21 @@ fn values_items<O: Offset>(builder: &MutableBinaryValuesArray<O>) -> bool {
 
 /// Whether they do of two.
 fn items_of_values<O: Offset>(alloc: Global) -> Result<bool, Error> {
-    match MutableBinaryValuesArray::<O>::from_iter(
-        alloc,
-        [b"a".as_slice(), b"bc".as_slice()].into_iter(),
-    ) {
-        Ok(builder) => Ok(values_items(&builder)),
-        Err(refused) => Err(refused),
-    }
+    seen(
+        MutableBinaryValuesArray::<O>::from_iter(
+            alloc,
+            [b"a".as_slice(), b"bc".as_slice()].into_iter(),
+        ),
+        values_items::<O>,
+    )
 }
 
 #[test]
 fn items_of_builders(rt: HostRuntime) -> Result<(), Fail> {
-    told(items_of_values::<i32>(rt.alloc()))?;
-    told(items_of_values::<i64>(rt.alloc()))
+    all_told(&[
+        items_of_values::<i32>(rt.alloc()),
+        items_of_values::<i64>(rt.alloc()),
+    ])
 }
 
 /// Whether makers take items that are borrowed twice over.
@@ -137,14 +143,16 @@ fn borrowed_by_builders<O: Offset>(
     Ok(is_builder & are_items & held(builder, offsets, bytes)?)
 }
 
-/// Appends items that are borrowed twice over.
-fn extend<O: Offset>(
+/// Whether a builder takes items that are borrowed twice over.
+fn is_extended<O: Offset>(
     builder: &mut MutableBinaryArray<O>,
     slots: &[Option<&[u8]>],
     items: &[&[u8]],
-) -> Result<(), Error> {
+) -> Result<bool, Error> {
     builder.extend_values(items.iter().copied())?;
-    builder.extend(slots.iter().copied())
+    builder.extend(slots.iter().copied())?;
+    let offsets = [0, 2, 2, 7, 9, 9, 14].as_slice();
+    Ok(builds(builder, offsets, "éthereéthere".as_bytes(), "111101"))
 }
 
 /// Whether a new builder takes them.
@@ -153,27 +161,27 @@ fn extends<O: Offset>(
     slots: &[Option<&[u8]>],
     items: &[&[u8]],
 ) -> Result<bool, Error> {
-    match MutableBinaryArray::<O>::new(alloc) {
-        Ok(mut builder) => match extend(&mut builder, slots, items) {
-            Ok(()) => {
-                let offsets = [0, 2, 2, 7, 9, 9, 14].as_slice();
-                Ok(builds(&builder, offsets, "éthereéthere".as_bytes(), "111101"))
-            }
-            Err(refused) => Err(refused),
-        },
-        Err(refused) => Err(refused),
-    }
+    with(
+        MutableBinaryArray::<O>::new(alloc),
+        |builder| is_extended(builder, slots, items),
+    )
 }
 
-/// Whether a new builder without nulls does.
+/// Whether a builder without nulls takes them.
+fn are_extended<O: Offset>(
+    builder: &mut MutableBinaryValuesArray<O>,
+    items: &[&[u8]],
+) -> Result<bool, Error> {
+    builder.extend(items.iter().copied())?;
+    Ok(holds(builder, THREE.as_slice(), "éthere".as_bytes()))
+}
+
+/// Whether a new one does.
 fn extends_values<O: Offset>(alloc: Global, items: &[&[u8]]) -> Result<bool, Error> {
-    match MutableBinaryValuesArray::<O>::new(alloc) {
-        Ok(mut builder) => match builder.extend(items.iter().copied()) {
-            Ok(()) => Ok(holds(&builder, THREE.as_slice(), "éthere".as_bytes())),
-            Err(refused) => Err(refused),
-        },
-        Err(refused) => Err(refused),
-    }
+    with(
+        MutableBinaryValuesArray::<O>::new(alloc),
+        |builder| are_extended(builder, items),
+    )
 }
 
 /// Whether all of them take borrowed items.
@@ -187,17 +195,19 @@ fn all_borrowed<O: Offset>(alloc: Global) -> Result<bool, Error> {
 
 #[test]
 fn items_may_be_borrowed(rt: HostRuntime) -> Result<(), Fail> {
-    told(all_borrowed::<i32>(rt.alloc()))?;
-    told(all_borrowed::<i64>(rt.alloc()))
+    all_told(&[
+        all_borrowed::<i32>(rt.alloc()),
+        all_borrowed::<i64>(rt.alloc()),
+    ])
 }
 
 /// Whether bytes that are no text are items of an array.
 fn takes_any<O: Offset>(alloc: Global) -> Result<bool, Error> {
     let (data_type, offsets) = (Binary::data_type(O::IS_LARGE), [0, 1, 2].as_slice());
-    match array_of::<Binary, O>(alloc, data_type, offsets, b"\xC3\xA9", "none") {
-        Ok(array) => Ok(stores_any(&array)),
-        Err(refused) => Err(refused),
-    }
+    seen(
+        array_of::<Binary, O>(alloc, data_type, offsets, b"\xC3\xA9", "none"),
+        stores_any::<O>,
+    )
 }
 
 /// Whether the halves of a character are stored.
@@ -210,8 +220,7 @@ fn stores_any<O: Offset>(array: &BinaryArray<O>) -> bool {
 
 #[test]
 fn any_bytes_are_an_item(rt: HostRuntime) -> Result<(), Fail> {
-    told(takes_any::<i32>(rt.alloc()))?;
-    told(takes_any::<i64>(rt.alloc()))
+    all_told(&[takes_any::<i32>(rt.alloc()), takes_any::<i64>(rt.alloc())])
 }
 
 /// Whether no slot over some bytes is taken, and all bytes stay.
@@ -224,6 +233,5 @@ fn takes_none<O: Offset>(alloc: Global) -> Result<bool, Error> {
 
 #[test]
 fn bytes_without_slots_are_taken(rt: HostRuntime) -> Result<(), Fail> {
-    told(takes_none::<i32>(rt.alloc()))?;
-    told(takes_none::<i64>(rt.alloc()))
+    all_told(&[takes_none::<i32>(rt.alloc()), takes_none::<i64>(rt.alloc())])
 }

@@ -15,18 +15,17 @@ fn pushes<K: Known, O: Offset>(builder: &mut MutableByteArray<K, O>) -> Result<b
 
 /// Whether those of a new builder are.
 fn pushes_to_new<K: Known, O: Offset>(alloc: Global) -> Result<bool, Error> {
-    match MutableByteArray::<K, O>::new(alloc) {
-        Ok(mut builder) => pushes(&mut builder),
-        Err(refused) => Err(refused),
-    }
+    with(MutableByteArray::<K, O>::new(alloc), pushes::<K, O>)
 }
 
 #[test]
 fn slots_are_pushed(rt: HostRuntime) -> Result<(), Fail> {
-    told(pushes_to_new::<Binary, i32>(rt.alloc()))?;
-    told(pushes_to_new::<Binary, i64>(rt.alloc()))?;
-    told(pushes_to_new::<Utf8, i32>(rt.alloc()))?;
-    told(pushes_to_new::<Utf8, i64>(rt.alloc()))
+    all_told(&[
+        pushes_to_new::<Binary, i32>(rt.alloc()),
+        pushes_to_new::<Binary, i64>(rt.alloc()),
+        pushes_to_new::<Utf8, i32>(rt.alloc()),
+        pushes_to_new::<Utf8, i64>(rt.alloc()),
+    ])
 }
 
 /// Whether the slot that is popped has the bytes of this text.
@@ -59,18 +58,20 @@ fn pops_all<K: Known, O: Offset>(builder: &mut MutableByteArray<K, O>) -> Result
 
 /// Whether those of a builder of three slots are.
 fn pops_three<K: Known, O: Offset>(alloc: Global) -> Result<bool, Error> {
-    match MutableByteArray::<K, O>::from(alloc, K::slots(List::Three)) {
-        Ok(mut builder) => pops_all(&mut builder),
-        Err(refused) => Err(refused),
-    }
+    with(
+        MutableByteArray::<K, O>::from(alloc, K::slots(List::Three)),
+        pops_all::<K, O>,
+    )
 }
 
 #[test]
 fn slots_are_popped(rt: HostRuntime) -> Result<(), Fail> {
-    told(pops_three::<Binary, i32>(rt.alloc()))?;
-    told(pops_three::<Binary, i64>(rt.alloc()))?;
-    told(pops_three::<Utf8, i32>(rt.alloc()))?;
-    told(pops_three::<Utf8, i64>(rt.alloc()))
+    all_told(&[
+        pops_three::<Binary, i32>(rt.alloc()),
+        pops_three::<Binary, i64>(rt.alloc()),
+        pops_three::<Utf8, i32>(rt.alloc()),
+        pops_three::<Utf8, i64>(rt.alloc()),
+    ])
 }
 
 /// Whether a null is popped last, which leaves this.
@@ -82,18 +83,20 @@ fn pops_stored<K: Known, O: Offset>(builder: &mut MutableByteArray<K, O>) -> Res
 /// Whether a null that stores bytes is popped as a null, and takes its bytes with it.
 fn pops_bytes<K: Known, O: Offset>(alloc: Global) -> Result<bool, Error> {
     let (data_type, offsets) = (K::data_type(O::IS_LARGE), [1, 2, 3].as_slice());
-    match builder_of::<K, O>(alloc, data_type, offsets, b"\xFFyz", "10") {
-        Ok(mut builder) => pops_stored(&mut builder),
-        Err(refused) => Err(refused),
-    }
+    with(
+        builder_of::<K, O>(alloc, data_type, offsets, b"\xFFyz", "10"),
+        pops_stored::<K, O>,
+    )
 }
 
 #[test]
 fn bytes_of_popped_nulls_are_removed(rt: HostRuntime) -> Result<(), Fail> {
-    told(pops_bytes::<Binary, i32>(rt.alloc()))?;
-    told(pops_bytes::<Binary, i64>(rt.alloc()))?;
-    told(pops_bytes::<Utf8, i32>(rt.alloc()))?;
-    told(pops_bytes::<Utf8, i64>(rt.alloc()))
+    all_told(&[
+        pops_bytes::<Binary, i32>(rt.alloc()),
+        pops_bytes::<Binary, i64>(rt.alloc()),
+        pops_bytes::<Utf8, i32>(rt.alloc()),
+        pops_bytes::<Utf8, i64>(rt.alloc()),
+    ])
 }
 
 /// Whether a builder grows by many items, and then by many slots.
@@ -115,18 +118,17 @@ fn extends_by_slots<K: Known, O: Offset>(
 
 /// Whether a builder of no slot does.
 fn extends_default<K: Known, O: Offset>(alloc: Global) -> Result<bool, Error> {
-    match MutableByteArray::<K, O>::default(alloc) {
-        Ok(mut builder) => extends(&mut builder),
-        Err(refused) => Err(refused),
-    }
+    with(MutableByteArray::<K, O>::default(alloc), extends::<K, O>)
 }
 
 #[test]
 fn builders_grow_by_many(rt: HostRuntime) -> Result<(), Fail> {
-    told(extends_default::<Binary, i32>(rt.alloc()))?;
-    told(extends_default::<Binary, i64>(rt.alloc()))?;
-    told(extends_default::<Utf8, i32>(rt.alloc()))?;
-    told(extends_default::<Utf8, i64>(rt.alloc()))
+    all_told(&[
+        extends_default::<Binary, i32>(rt.alloc()),
+        extends_default::<Binary, i64>(rt.alloc()),
+        extends_default::<Utf8, i32>(rt.alloc()),
+        extends_default::<Utf8, i64>(rt.alloc()),
+    ])
 }
 
 /// Whether there is room for so many slots and so many bytes, each in its own place.
@@ -163,34 +165,38 @@ fn rooms<K: Known, O: Offset>(builder: &mut MutableByteArray<K, O>) -> Result<bo
 
 /// Whether those of a new builder are.
 fn rooms_in_room<K: Known, O: Offset>(alloc: Global) -> Result<bool, Error> {
-    match MutableByteArray::<K, O>::with_capacities(alloc, 40, 400) {
-        Ok(mut builder) => rooms(&mut builder),
-        Err(refused) => Err(refused),
-    }
+    with(
+        MutableByteArray::<K, O>::with_capacities(alloc, 40, 400),
+        rooms::<K, O>,
+    )
 }
 
 #[test]
 fn room_is_made_and_given_back(rt: HostRuntime) -> Result<(), Fail> {
-    told(rooms_in_room::<Binary, i32>(rt.alloc()))?;
-    told(rooms_in_room::<Binary, i64>(rt.alloc()))?;
-    told(rooms_in_room::<Utf8, i32>(rt.alloc()))?;
-    told(rooms_in_room::<Utf8, i64>(rt.alloc()))
+    all_told(&[
+        rooms_in_room::<Binary, i32>(rt.alloc()),
+        rooms_in_room::<Binary, i64>(rt.alloc()),
+        rooms_in_room::<Utf8, i32>(rt.alloc()),
+        rooms_in_room::<Utf8, i64>(rt.alloc()),
+    ])
 }
 
 /// Whether a new builder has the room for slots that it is given.
 fn has_capacity<K: Known, O: Offset>(alloc: Global) -> Result<bool, Error> {
-    match MutableByteArray::<K, O>::with_capacity(alloc, 40) {
-        Ok(builder) => Ok(has_room(&builder, 40, 0)),
-        Err(refused) => Err(refused),
-    }
+    seen(
+        MutableByteArray::<K, O>::with_capacity(alloc, 40),
+        |builder| has_room(builder, 40, 0),
+    )
 }
 
 #[test]
 fn room_for_slots_is_given(rt: HostRuntime) -> Result<(), Fail> {
-    told(has_capacity::<Binary, i32>(rt.alloc()))?;
-    told(has_capacity::<Binary, i64>(rt.alloc()))?;
-    told(has_capacity::<Utf8, i32>(rt.alloc()))?;
-    told(has_capacity::<Utf8, i64>(rt.alloc()))
+    all_told(&[
+        has_capacity::<Binary, i32>(rt.alloc()),
+        has_capacity::<Binary, i64>(rt.alloc()),
+        has_capacity::<Utf8, i32>(rt.alloc()),
+        has_capacity::<Utf8, i64>(rt.alloc()),
+    ])
 }
 
 /// Whether a null that is pushed is in this builder alone, and not in its copy.
@@ -206,45 +212,46 @@ fn parts_from<K: Known, O: Offset>(
 /// Whether a copy of a builder lives on its own.
 fn copies<K: Known, O: Offset>(builder: &mut MutableByteArray<K, O>) -> Result<bool, Error> {
     K::push(builder, Some("ab"))?;
-    match builder.clone() {
-        Ok(copy) => parts_from(builder, &copy),
-        Err(refused) => Err(refused),
-    }
+    with(builder.clone(), |copy| parts_from(builder, copy))
 }
 
 /// Whether a copy of a builder with room does.
 fn copies_room<K: Known, O: Offset>(alloc: Global) -> Result<bool, Error> {
-    match MutableByteArray::<K, O>::with_capacities(alloc, 2, 8) {
-        Ok(mut builder) => copies(&mut builder),
-        Err(refused) => Err(refused),
-    }
+    with(
+        MutableByteArray::<K, O>::with_capacities(alloc, 2, 8),
+        copies::<K, O>,
+    )
 }
 
 #[test]
 fn copies_are_on_their_own(rt: HostRuntime) -> Result<(), Fail> {
-    told(copies_room::<Binary, i32>(rt.alloc()))?;
-    told(copies_room::<Binary, i64>(rt.alloc()))?;
-    told(copies_room::<Utf8, i32>(rt.alloc()))?;
-    told(copies_room::<Utf8, i64>(rt.alloc()))
+    all_told(&[
+        copies_room::<Binary, i32>(rt.alloc()),
+        copies_room::<Binary, i64>(rt.alloc()),
+        copies_room::<Utf8, i32>(rt.alloc()),
+        copies_room::<Utf8, i64>(rt.alloc()),
+    ])
 }
 
 /// Whether the copy of a builder with a null has the same slots, bytes and marks.
 fn copies_three<K: Known, O: Offset>(alloc: Global) -> Result<bool, Error> {
-    match MutableByteArray::<K, O>::from(alloc, K::slots(List::Three)) {
-        Ok(builder) => built(
+    with(
+        MutableByteArray::<K, O>::from(alloc, K::slots(List::Three)),
+        |builder| built(
             builder.clone(),
             THREE.as_slice(),
             "éthere".as_bytes(),
             "101",
         ),
-        Err(refused) => Err(refused),
-    }
+    )
 }
 
 #[test]
 fn copies_have_the_same_slots(rt: HostRuntime) -> Result<(), Fail> {
-    told(copies_three::<Binary, i32>(rt.alloc()))?;
-    told(copies_three::<Binary, i64>(rt.alloc()))?;
-    told(copies_three::<Utf8, i32>(rt.alloc()))?;
-    told(copies_three::<Utf8, i64>(rt.alloc()))
+    all_told(&[
+        copies_three::<Binary, i32>(rt.alloc()),
+        copies_three::<Binary, i64>(rt.alloc()),
+        copies_three::<Utf8, i32>(rt.alloc()),
+        copies_three::<Utf8, i64>(rt.alloc()),
+    ])
 }

@@ -12,10 +12,12 @@ fn arrays_of_slots<K: Known, O: Offset>(alloc: Global) -> Result<bool, Error> {
 
 #[test]
 fn slots_are_offsets_bytes_and_marks(rt: HostRuntime) -> Result<(), Fail> {
-    told(arrays_of_slots::<Binary, i32>(rt.alloc()))?;
-    told(arrays_of_slots::<Binary, i64>(rt.alloc()))?;
-    told(arrays_of_slots::<Utf8, i32>(rt.alloc()))?;
-    told(arrays_of_slots::<Utf8, i64>(rt.alloc()))
+    all_told(&[
+        arrays_of_slots::<Binary, i32>(rt.alloc()),
+        arrays_of_slots::<Binary, i64>(rt.alloc()),
+        arrays_of_slots::<Utf8, i32>(rt.alloc()),
+        arrays_of_slots::<Utf8, i64>(rt.alloc()),
+    ])
 }
 
 /// Whether arrays of items, and of slots none of which is null, hold no mask.
@@ -31,10 +33,12 @@ fn arrays_of_items<K: Known, O: Offset>(alloc: Global) -> Result<bool, Error> {
 
 #[test]
 fn no_null_needs_no_mask(rt: HostRuntime) -> Result<(), Fail> {
-    told(arrays_of_items::<Binary, i32>(rt.alloc()))?;
-    told(arrays_of_items::<Binary, i64>(rt.alloc()))?;
-    told(arrays_of_items::<Utf8, i32>(rt.alloc()))?;
-    told(arrays_of_items::<Utf8, i64>(rt.alloc()))
+    all_told(&[
+        arrays_of_items::<Binary, i32>(rt.alloc()),
+        arrays_of_items::<Binary, i64>(rt.alloc()),
+        arrays_of_items::<Utf8, i32>(rt.alloc()),
+        arrays_of_items::<Utf8, i64>(rt.alloc()),
+    ])
 }
 
 /// Whether arrays of no slot and of nulls store no byte, and nulls have a mask.
@@ -52,10 +56,12 @@ fn arrays_of_nothing<K: Known, O: Offset>(alloc: Global) -> Result<bool, Error> 
 
 #[test]
 fn nulls_have_a_mask_and_no_bytes(rt: HostRuntime) -> Result<(), Fail> {
-    told(arrays_of_nothing::<Binary, i32>(rt.alloc()))?;
-    told(arrays_of_nothing::<Binary, i64>(rt.alloc()))?;
-    told(arrays_of_nothing::<Utf8, i32>(rt.alloc()))?;
-    told(arrays_of_nothing::<Utf8, i64>(rt.alloc()))
+    all_told(&[
+        arrays_of_nothing::<Binary, i32>(rt.alloc()),
+        arrays_of_nothing::<Binary, i64>(rt.alloc()),
+        arrays_of_nothing::<Utf8, i32>(rt.alloc()),
+        arrays_of_nothing::<Utf8, i64>(rt.alloc()),
+    ])
 }
 
 /// Whether builders of slots have these, from a slice and from an iterator, and builders of items hold no mask.
@@ -74,10 +80,12 @@ fn builders_of_slots<K: Known, O: Offset>(alloc: Global) -> Result<bool, Error> 
 
 #[test]
 fn builders_have_slots_and_items(rt: HostRuntime) -> Result<(), Fail> {
-    told(builders_of_slots::<Binary, i32>(rt.alloc()))?;
-    told(builders_of_slots::<Binary, i64>(rt.alloc()))?;
-    told(builders_of_slots::<Utf8, i32>(rt.alloc()))?;
-    told(builders_of_slots::<Utf8, i64>(rt.alloc()))
+    all_told(&[
+        builders_of_slots::<Binary, i32>(rt.alloc()),
+        builders_of_slots::<Binary, i64>(rt.alloc()),
+        builders_of_slots::<Utf8, i32>(rt.alloc()),
+        builders_of_slots::<Utf8, i64>(rt.alloc()),
+    ])
 }
 
 /// Whether new builders have no slot, and hold no mask.
@@ -93,10 +101,12 @@ fn builders_of_nothing<K: Known, O: Offset>(alloc: Global) -> Result<bool, Error
 
 #[test]
 fn new_builders_have_no_slot(rt: HostRuntime) -> Result<(), Fail> {
-    told(builders_of_nothing::<Binary, i32>(rt.alloc()))?;
-    told(builders_of_nothing::<Binary, i64>(rt.alloc()))?;
-    told(builders_of_nothing::<Utf8, i32>(rt.alloc()))?;
-    told(builders_of_nothing::<Utf8, i64>(rt.alloc()))
+    all_told(&[
+        builders_of_nothing::<Binary, i32>(rt.alloc()),
+        builders_of_nothing::<Binary, i64>(rt.alloc()),
+        builders_of_nothing::<Utf8, i32>(rt.alloc()),
+        builders_of_nothing::<Utf8, i64>(rt.alloc()),
+    ])
 }
 
 /// Whether builders without nulls of items have these.
@@ -110,10 +120,12 @@ fn values_of_items<K: Known, O: Offset>(alloc: Global) -> Result<bool, Error> {
 
 #[test]
 fn builders_without_nulls_have_items(rt: HostRuntime) -> Result<(), Fail> {
-    told(values_of_items::<Binary, i32>(rt.alloc()))?;
-    told(values_of_items::<Binary, i64>(rt.alloc()))?;
-    told(values_of_items::<Utf8, i32>(rt.alloc()))?;
-    told(values_of_items::<Utf8, i64>(rt.alloc()))
+    all_told(&[
+        values_of_items::<Binary, i32>(rt.alloc()),
+        values_of_items::<Binary, i64>(rt.alloc()),
+        values_of_items::<Utf8, i32>(rt.alloc()),
+        values_of_items::<Utf8, i64>(rt.alloc()),
+    ])
 }
 
 /// Whether new builders without nulls have no item.
@@ -129,10 +141,12 @@ fn values_of_nothing<K: Known, O: Offset>(alloc: Global) -> Result<bool, Error> 
 
 #[test]
 fn new_builders_without_nulls_have_no_item(rt: HostRuntime) -> Result<(), Fail> {
-    told(values_of_nothing::<Binary, i32>(rt.alloc()))?;
-    told(values_of_nothing::<Binary, i64>(rt.alloc()))?;
-    told(values_of_nothing::<Utf8, i32>(rt.alloc()))?;
-    told(values_of_nothing::<Utf8, i64>(rt.alloc()))
+    all_told(&[
+        values_of_nothing::<Binary, i32>(rt.alloc()),
+        values_of_nothing::<Binary, i64>(rt.alloc()),
+        values_of_nothing::<Utf8, i32>(rt.alloc()),
+        values_of_nothing::<Utf8, i64>(rt.alloc()),
+    ])
 }
 
 /// Whether the types that are given to arrays and builders are those of the kind.

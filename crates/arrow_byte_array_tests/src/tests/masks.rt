@@ -61,10 +61,12 @@ fn array_masks<K: Known, O: Offset>(alloc: Global) -> Result<bool, Error> {
 
 #[test]
 fn masks_of_arrays_are_replaced(rt: HostRuntime) -> Result<(), Fail> {
-    told(array_masks::<Binary, i32>(rt.alloc()))?;
-    told(array_masks::<Binary, i64>(rt.alloc()))?;
-    told(array_masks::<Utf8, i32>(rt.alloc()))?;
-    told(array_masks::<Utf8, i64>(rt.alloc()))
+    all_told(&[
+        array_masks::<Binary, i32>(rt.alloc()),
+        array_masks::<Binary, i64>(rt.alloc()),
+        array_masks::<Utf8, i32>(rt.alloc()),
+        array_masks::<Utf8, i64>(rt.alloc()),
+    ])
 }
 
 /// Whether an array's mask is dropped where it lies.
@@ -77,18 +79,17 @@ fn drops<K: Known, O: Offset>(array: &mut ByteArray<K, O>) -> bool {
 
 /// Whether that of slots between other bytes is.
 fn drops_mask<K: Known, O: Offset>(alloc: Global) -> Result<bool, Error> {
-    match around::<K, O>(alloc) {
-        Ok(mut array) => Ok(drops(&mut array)),
-        Err(refused) => Err(refused),
-    }
+    with(around::<K, O>(alloc), |array| Ok(drops(array)))
 }
 
 #[test]
 fn masks_of_arrays_are_dropped(rt: HostRuntime) -> Result<(), Fail> {
-    told(drops_mask::<Binary, i32>(rt.alloc()))?;
-    told(drops_mask::<Binary, i64>(rt.alloc()))?;
-    told(drops_mask::<Utf8, i32>(rt.alloc()))?;
-    told(drops_mask::<Utf8, i64>(rt.alloc()))
+    all_told(&[
+        drops_mask::<Binary, i32>(rt.alloc()),
+        drops_mask::<Binary, i64>(rt.alloc()),
+        drops_mask::<Utf8, i32>(rt.alloc()),
+        drops_mask::<Utf8, i64>(rt.alloc()),
+    ])
 }
 
 /// Whether nothing is changed in an array that holds no mask.
@@ -145,10 +146,12 @@ fn builder_masks<K: Known, O: Offset>(alloc: Global) -> Result<bool, Error> {
 
 #[test]
 fn masks_of_builders_are_replaced(rt: HostRuntime) -> Result<(), Fail> {
-    told(builder_masks::<Binary, i32>(rt.alloc()))?;
-    told(builder_masks::<Binary, i64>(rt.alloc()))?;
-    told(builder_masks::<Utf8, i32>(rt.alloc()))?;
-    told(builder_masks::<Utf8, i64>(rt.alloc()))
+    all_told(&[
+        builder_masks::<Binary, i32>(rt.alloc()),
+        builder_masks::<Binary, i64>(rt.alloc()),
+        builder_masks::<Utf8, i32>(rt.alloc()),
+        builder_masks::<Utf8, i64>(rt.alloc()),
+    ])
 }
 
 /// Whether a builder's mask is changed where it is held, and not where it is dropped.
@@ -162,16 +165,18 @@ fn changes<K: Known, O: Offset>(builder: &mut MutableByteArray<K, O>) -> bool {
 
 /// Whether that of a builder with a null is.
 fn changes_mask<K: Known, O: Offset>(alloc: Global) -> Result<bool, Error> {
-    match MutableByteArray::<K, O>::from(alloc, K::slots(List::Three)) {
-        Ok(mut builder) => Ok(changes(&mut builder)),
-        Err(refused) => Err(refused),
-    }
+    with(
+        MutableByteArray::<K, O>::from(alloc, K::slots(List::Three)),
+        |builder| Ok(changes(builder)),
+    )
 }
 
 #[test]
 fn masks_not_held_are_not_changed(rt: HostRuntime) -> Result<(), Fail> {
-    told(changes_mask::<Binary, i32>(rt.alloc()))?;
-    told(changes_mask::<Binary, i64>(rt.alloc()))?;
-    told(changes_mask::<Utf8, i32>(rt.alloc()))?;
-    told(changes_mask::<Utf8, i64>(rt.alloc()))
+    all_told(&[
+        changes_mask::<Binary, i32>(rt.alloc()),
+        changes_mask::<Binary, i64>(rt.alloc()),
+        changes_mask::<Utf8, i32>(rt.alloc()),
+        changes_mask::<Utf8, i64>(rt.alloc()),
+    ])
 }

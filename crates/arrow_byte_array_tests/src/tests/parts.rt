@@ -22,8 +22,10 @@ fn arrays_unmasked<K: Known, O: Offset>(alloc: Global) -> Result<bool, Error> {
 
 #[test]
 fn parts_that_fit_are_taken(rt: HostRuntime) -> Result<(), Fail> {
-    told(arrays_unmasked::<Binary, i32>(rt.alloc()))?;
-    told(arrays_unmasked::<Binary, i64>(rt.alloc()))?;
-    told(arrays_unmasked::<Utf8, i32>(rt.alloc()))?;
-    told(arrays_unmasked::<Utf8, i64>(rt.alloc()))
+    all_told(&[
+        arrays_unmasked::<Binary, i32>(rt.alloc()),
+        arrays_unmasked::<Binary, i64>(rt.alloc()),
+        arrays_unmasked::<Utf8, i32>(rt.alloc()),
+        arrays_unmasked::<Utf8, i64>(rt.alloc()),
+    ])
 }

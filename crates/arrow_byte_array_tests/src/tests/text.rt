@@ -32,16 +32,18 @@ fn items_of<O: Offset>(array: &Utf8Array<O>) -> bool {
 
 /// Whether all of this holds of an array with other bytes around its slots.
 fn slots_around<O: Offset>(alloc: Global) -> Result<bool, Error> {
-    match around::<Utf8, O>(alloc) {
-        Ok(array) => Ok(slots(&array) && lends(&array) && items_of(&array)),
-        Err(refused) => Err(refused),
-    }
+    seen(
+        around::<Utf8, O>(alloc),
+        |array| slots(array) && lends(array) && items_of(array),
+    )
 }
 
 #[test]
 fn slots_of_arrays(rt: HostRuntime) -> Result<(), Fail> {
-    told(slots_around::<i32>(rt.alloc()))?;
-    told(slots_around::<i64>(rt.alloc()))
+    all_told(&[
+        slots_around::<i32>(rt.alloc()),
+        slots_around::<i64>(rt.alloc()),
+    ])
 }
 
 /// Whether the slots of a builder come from both ends, and in a loop.
@@ -62,16 +64,18 @@ fn builder_items<O: Offset>(builder: &MutableUtf8Array<O>) -> bool {
 /// Whether both do behind another byte.
 fn builder_slots_behind<O: Offset>(alloc: Global) -> Result<bool, Error> {
     let (data_type, offsets) = (Utf8::data_type(O::IS_LARGE), [1, 2, 3].as_slice());
-    match builder_of::<Utf8, O>(alloc, data_type, offsets, b"\xFFyz", "01") {
-        Ok(builder) => Ok(builder_slots(&builder) && builder_items(&builder)),
-        Err(refused) => Err(refused),
-    }
+    seen(
+        builder_of::<Utf8, O>(alloc, data_type, offsets, b"\xFFyz", "01"),
+        |builder| builder_slots(builder) && builder_items(builder),
+    )
 }
 
 #[test]
 fn slots_of_builders(rt: HostRuntime) -> Result<(), Fail> {
-    told(builder_slots_behind::<i32>(rt.alloc()))?;
-    told(builder_slots_behind::<i64>(rt.alloc()))
+    all_told(&[
+        builder_slots_behind::<i32>(rt.alloc()),
+        builder_slots_behind::<i64>(rt.alloc()),
+    ])
 }
 
 /// Whether the items of a builder without nulls come from both ends, and in a loop.
@@ -84,16 +88,18 @@ fn values_items<O: Offset>(builder: &MutableUtf8ValuesArray<O>) -> bool {
 
 /// Whether they do of two.
 fn items_of_values<O: Offset>(alloc: Global) -> Result<bool, Error> {
-    match MutableUtf8ValuesArray::<O>::from_iter(alloc, ["a", "bc"].into_iter()) {
-        Ok(builder) => Ok(values_items(&builder)),
-        Err(refused) => Err(refused),
-    }
+    seen(
+        MutableUtf8ValuesArray::<O>::from_iter(alloc, ["a", "bc"].into_iter()),
+        values_items::<O>,
+    )
 }
 
 #[test]
 fn items_of_builders(rt: HostRuntime) -> Result<(), Fail> {
-    told(items_of_values::<i32>(rt.alloc()))?;
-    told(items_of_values::<i64>(rt.alloc()))
+    all_told(&[
+        items_of_values::<i32>(rt.alloc()),
+        items_of_values::<i64>(rt.alloc()),
+    ])
 }
 
 /// Whether makers take items that are borrowed twice over.
@@ -124,14 +130,16 @@ fn borrowed_by_builders<O: Offset>(
     Ok(is_builder & are_items & held(builder, offsets, bytes)?)
 }
 
-/// Appends items that are borrowed twice over.
-fn extend<O: Offset>(
+/// Whether a builder takes items that are borrowed twice over.
+fn is_extended<O: Offset>(
     builder: &mut MutableUtf8Array<O>,
     slots: &[Option<&str>],
     items: &[&str],
-) -> Result<(), Error> {
+) -> Result<bool, Error> {
     builder.extend_values(items.iter().copied())?;
-    builder.extend(slots.iter().copied())
+    builder.extend(slots.iter().copied())?;
+    let offsets = [0, 2, 2, 7, 9, 9, 14].as_slice();
+    Ok(builds(builder, offsets, "éthereéthere".as_bytes(), "111101"))
 }
 
 /// Whether a new builder takes them.
@@ -140,27 +148,27 @@ fn extends<O: Offset>(
     slots: &[Option<&str>],
     items: &[&str],
 ) -> Result<bool, Error> {
-    match MutableUtf8Array::<O>::new(alloc) {
-        Ok(mut builder) => match extend(&mut builder, slots, items) {
-            Ok(()) => {
-                let offsets = [0, 2, 2, 7, 9, 9, 14].as_slice();
-                Ok(builds(&builder, offsets, "éthereéthere".as_bytes(), "111101"))
-            }
-            Err(refused) => Err(refused),
-        },
-        Err(refused) => Err(refused),
-    }
+    with(
+        MutableUtf8Array::<O>::new(alloc),
+        |builder| is_extended(builder, slots, items),
+    )
 }
 
-/// Whether a new builder without nulls does.
+/// Whether a builder without nulls takes them.
+fn are_extended<O: Offset>(
+    builder: &mut MutableUtf8ValuesArray<O>,
+    items: &[&str],
+) -> Result<bool, Error> {
+    builder.extend(items.iter().copied())?;
+    Ok(holds(builder, THREE.as_slice(), "éthere".as_bytes()))
+}
+
+/// Whether a new one does.
 fn extends_values<O: Offset>(alloc: Global, items: &[&str]) -> Result<bool, Error> {
-    match MutableUtf8ValuesArray::<O>::new(alloc) {
-        Ok(mut builder) => match builder.extend(items.iter().copied()) {
-            Ok(()) => Ok(holds(&builder, THREE.as_slice(), "éthere".as_bytes())),
-            Err(refused) => Err(refused),
-        },
-        Err(refused) => Err(refused),
-    }
+    with(
+        MutableUtf8ValuesArray::<O>::new(alloc),
+        |builder| are_extended(builder, items),
+    )
 }
 
 /// Whether all of them take borrowed items.
@@ -174,8 +182,10 @@ fn all_borrowed<O: Offset>(alloc: Global) -> Result<bool, Error> {
 
 #[test]
 fn items_may_be_borrowed(rt: HostRuntime) -> Result<(), Fail> {
-    told(all_borrowed::<i32>(rt.alloc()))?;
-    told(all_borrowed::<i64>(rt.alloc()))
+    all_told(&[
+        all_borrowed::<i32>(rt.alloc()),
+        all_borrowed::<i64>(rt.alloc()),
+    ])
 }
 
 const NO_TEXT: &str = "every text between two offsets must be UTF-8";

@@ -65,10 +65,12 @@ fn shares_three<K: Known, O: Offset>(alloc: Global) -> Result<bool, Error> {
 
 #[test]
 fn shared_arrays_are_not_thawed(rt: HostRuntime) -> Result<(), Fail> {
-    told(shares_three::<Binary, i32>(rt.alloc()))?;
-    told(shares_three::<Binary, i64>(rt.alloc()))?;
-    told(shares_three::<Utf8, i32>(rt.alloc()))?;
-    told(shares_three::<Utf8, i64>(rt.alloc()))
+    all_told(&[
+        shares_three::<Binary, i32>(rt.alloc()),
+        shares_three::<Binary, i64>(rt.alloc()),
+        shares_three::<Utf8, i32>(rt.alloc()),
+        shares_three::<Utf8, i64>(rt.alloc()),
+    ])
 }
 
 /// Whether an array that does not show its first slot is not thawed.
@@ -84,8 +86,10 @@ fn rest_stays<K: Known, O: Offset>(alloc: Global) -> Result<bool, Error> {
 
 #[test]
 fn slices_are_not_thawed(rt: HostRuntime) -> Result<(), Fail> {
-    told(rest_stays::<Binary, i32>(rt.alloc()))?;
-    told(rest_stays::<Binary, i64>(rt.alloc()))?;
-    told(rest_stays::<Utf8, i32>(rt.alloc()))?;
-    told(rest_stays::<Utf8, i64>(rt.alloc()))
+    all_told(&[
+        rest_stays::<Binary, i32>(rt.alloc()),
+        rest_stays::<Binary, i64>(rt.alloc()),
+        rest_stays::<Utf8, i32>(rt.alloc()),
+        rest_stays::<Utf8, i64>(rt.alloc()),
+    ])
 }

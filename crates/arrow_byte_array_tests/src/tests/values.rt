@@ -33,18 +33,20 @@ fn pops_both<K: Known, O: Offset>(
 
 /// Whether they are onto a new builder.
 fn pops_new<K: Known, O: Offset>(alloc: Global) -> Result<bool, Error> {
-    match MutableByteValuesArray::<K, O>::new(alloc) {
-        Ok(mut builder) => pops_both(&mut builder),
-        Err(refused) => Err(refused),
-    }
+    with(
+        MutableByteValuesArray::<K, O>::new(alloc),
+        pops_both::<K, O>,
+    )
 }
 
 #[test]
 fn nulls_are_empty_items(rt: HostRuntime) -> Result<(), Fail> {
-    told(pops_new::<Binary, i32>(rt.alloc()))?;
-    told(pops_new::<Binary, i64>(rt.alloc()))?;
-    told(pops_new::<Utf8, i32>(rt.alloc()))?;
-    told(pops_new::<Utf8, i64>(rt.alloc()))
+    all_told(&[
+        pops_new::<Binary, i32>(rt.alloc()),
+        pops_new::<Binary, i64>(rt.alloc()),
+        pops_new::<Utf8, i32>(rt.alloc()),
+        pops_new::<Utf8, i64>(rt.alloc()),
+    ])
 }
 
 /// Whether there is room for so many items and so many bytes, each in its own place.
@@ -69,50 +71,60 @@ fn rooms<K: Known, O: Offset>(builder: &mut MutableByteValuesArray<K, O>) -> Res
 
 /// Whether those of a new builder are.
 fn rooms_in_room<K: Known, O: Offset>(alloc: Global) -> Result<bool, Error> {
-    match MutableByteValuesArray::<K, O>::with_capacities(alloc, 40, 400) {
-        Ok(mut builder) => rooms(&mut builder),
-        Err(refused) => Err(refused),
-    }
+    with(
+        MutableByteValuesArray::<K, O>::with_capacities(alloc, 40, 400),
+        rooms::<K, O>,
+    )
 }
 
 #[test]
 fn room_is_made_and_given_back(rt: HostRuntime) -> Result<(), Fail> {
-    told(rooms_in_room::<Binary, i32>(rt.alloc()))?;
-    told(rooms_in_room::<Binary, i64>(rt.alloc()))?;
-    told(rooms_in_room::<Utf8, i32>(rt.alloc()))?;
-    told(rooms_in_room::<Utf8, i64>(rt.alloc()))
+    all_told(&[
+        rooms_in_room::<Binary, i32>(rt.alloc()),
+        rooms_in_room::<Binary, i64>(rt.alloc()),
+        rooms_in_room::<Utf8, i32>(rt.alloc()),
+        rooms_in_room::<Utf8, i64>(rt.alloc()),
+    ])
 }
 
 /// Whether a new builder has the room for items that it is given.
 fn has_capacity<K: Known, O: Offset>(alloc: Global) -> Result<bool, Error> {
-    match MutableByteValuesArray::<K, O>::with_capacity(alloc, 40) {
-        Ok(builder) => Ok(has_room(&builder, 40, 0)),
-        Err(refused) => Err(refused),
-    }
+    seen(
+        MutableByteValuesArray::<K, O>::with_capacity(alloc, 40),
+        |builder| has_room(builder, 40, 0),
+    )
 }
 
 #[test]
 fn room_for_items_is_given(rt: HostRuntime) -> Result<(), Fail> {
-    told(has_capacity::<Binary, i32>(rt.alloc()))?;
-    told(has_capacity::<Binary, i64>(rt.alloc()))?;
-    told(has_capacity::<Utf8, i32>(rt.alloc()))?;
-    told(has_capacity::<Utf8, i64>(rt.alloc()))
+    all_told(&[
+        has_capacity::<Binary, i32>(rt.alloc()),
+        has_capacity::<Binary, i64>(rt.alloc()),
+        has_capacity::<Utf8, i32>(rt.alloc()),
+        has_capacity::<Utf8, i64>(rt.alloc()),
+    ])
 }
 
 /// Whether the copy of a builder has the same items.
 fn copies<K: Known, O: Offset>(alloc: Global) -> Result<bool, Error> {
-    match MutableByteValuesArray::<K, O>::from_iter(alloc, K::items(List::Three).iter().copied()) {
-        Ok(builder) => held(builder.clone(), THREE.as_slice(), "éthere".as_bytes()),
-        Err(refused) => Err(refused),
-    }
+    let answer = MutableByteValuesArray::<K, O>::from_iter(
+        alloc,
+        K::items(List::Three).iter().copied(),
+    );
+    with(
+        answer,
+        |builder| held(builder.clone(), THREE.as_slice(), "éthere".as_bytes()),
+    )
 }
 
 #[test]
 fn copies_have_the_same_items(rt: HostRuntime) -> Result<(), Fail> {
-    told(copies::<Binary, i32>(rt.alloc()))?;
-    told(copies::<Binary, i64>(rt.alloc()))?;
-    told(copies::<Utf8, i32>(rt.alloc()))?;
-    told(copies::<Utf8, i64>(rt.alloc()))
+    all_told(&[
+        copies::<Binary, i32>(rt.alloc()),
+        copies::<Binary, i64>(rt.alloc()),
+        copies::<Utf8, i32>(rt.alloc()),
+        copies::<Utf8, i64>(rt.alloc()),
+    ])
 }
 
 /// Whether a builder grows by many items.
@@ -124,18 +136,20 @@ fn extends<K: Known, O: Offset>(builder: &mut MutableByteValuesArray<K, O>) -> R
 
 /// Whether a builder of no item does.
 fn extends_default<K: Known, O: Offset>(alloc: Global) -> Result<bool, Error> {
-    match MutableByteValuesArray::<K, O>::default(alloc) {
-        Ok(mut builder) => extends(&mut builder),
-        Err(refused) => Err(refused),
-    }
+    with(
+        MutableByteValuesArray::<K, O>::default(alloc),
+        extends::<K, O>,
+    )
 }
 
 #[test]
 fn builders_grow_by_many(rt: HostRuntime) -> Result<(), Fail> {
-    told(extends_default::<Binary, i32>(rt.alloc()))?;
-    told(extends_default::<Binary, i64>(rt.alloc()))?;
-    told(extends_default::<Utf8, i32>(rt.alloc()))?;
-    told(extends_default::<Utf8, i64>(rt.alloc()))
+    all_told(&[
+        extends_default::<Binary, i32>(rt.alloc()),
+        extends_default::<Binary, i64>(rt.alloc()),
+        extends_default::<Utf8, i32>(rt.alloc()),
+        extends_default::<Utf8, i64>(rt.alloc()),
+    ])
 }
 
 /// A builder whose item lies behind a byte.
@@ -160,26 +174,25 @@ fn joins_to<K: Known, O: Offset>(
     alloc: Global,
     builder: &mut MutableByteValuesArray<K, O>,
 ) -> Result<bool, Error> {
-    match behind::<K, O>(alloc) {
-        Ok(other) => joins(builder, &other),
-        Err(refused) => Err(refused),
-    }
+    with(behind::<K, O>(alloc), |other| joins(builder, other))
 }
 
 /// Whether they do behind an item of a new builder.
 fn joins_rest<K: Known, O: Offset>(alloc: Global) -> Result<bool, Error> {
-    match MutableByteValuesArray::<K, O>::with_capacities(alloc, 1, 1) {
-        Ok(mut builder) => joins_to(alloc, &mut builder),
-        Err(refused) => Err(refused),
-    }
+    with(
+        MutableByteValuesArray::<K, O>::with_capacities(alloc, 1, 1),
+        |builder| joins_to(alloc, builder),
+    )
 }
 
 #[test]
 fn builders_grow_by_one_another(rt: HostRuntime) -> Result<(), Fail> {
-    told(joins_rest::<Binary, i32>(rt.alloc()))?;
-    told(joins_rest::<Binary, i64>(rt.alloc()))?;
-    told(joins_rest::<Utf8, i32>(rt.alloc()))?;
-    told(joins_rest::<Utf8, i64>(rt.alloc()))
+    all_told(&[
+        joins_rest::<Binary, i32>(rt.alloc()),
+        joins_rest::<Binary, i64>(rt.alloc()),
+        joins_rest::<Utf8, i32>(rt.alloc()),
+        joins_rest::<Utf8, i64>(rt.alloc()),
+    ])
 }
 
 /// Whether items are frozen without a mask.
@@ -197,10 +210,12 @@ fn freezes<K: Known, O: Offset>(alloc: Global) -> Result<bool, Error> {
 
 #[test]
 fn items_are_frozen(rt: HostRuntime) -> Result<(), Fail> {
-    told(freezes::<Binary, i32>(rt.alloc()))?;
-    told(freezes::<Binary, i64>(rt.alloc()))?;
-    told(freezes::<Utf8, i32>(rt.alloc()))?;
-    told(freezes::<Utf8, i64>(rt.alloc()))
+    all_told(&[
+        freezes::<Binary, i32>(rt.alloc()),
+        freezes::<Binary, i64>(rt.alloc()),
+        freezes::<Utf8, i32>(rt.alloc()),
+        freezes::<Utf8, i64>(rt.alloc()),
+    ])
 }
 
 /// Whether a builder with nulls has these items, and holds no mask until a null comes.
@@ -227,8 +242,10 @@ fn becomes_slots<K: Known, O: Offset>(alloc: Global) -> Result<bool, Error> {
 
 #[test]
 fn items_become_slots(rt: HostRuntime) -> Result<(), Fail> {
-    told(becomes_slots::<Binary, i32>(rt.alloc()))?;
-    told(becomes_slots::<Binary, i64>(rt.alloc()))?;
-    told(becomes_slots::<Utf8, i32>(rt.alloc()))?;
-    told(becomes_slots::<Utf8, i64>(rt.alloc()))
+    all_told(&[
+        becomes_slots::<Binary, i32>(rt.alloc()),
+        becomes_slots::<Binary, i64>(rt.alloc()),
+        becomes_slots::<Utf8, i32>(rt.alloc()),
+        becomes_slots::<Utf8, i64>(rt.alloc()),
+    ])
 }

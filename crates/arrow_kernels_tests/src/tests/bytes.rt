@@ -193,12 +193,14 @@ fn filters_items<K: Known, O: Offset>(alloc: Global) -> Result<bool, Error> {
 
 #[test]
 fn items_that_are_asked_for_are_left(rt: HostRuntime) -> Result<(), Fail> {
-    told(filters_items::<Binary, i32>(rt.alloc()))?;
-    told(filters_items::<Binary, i64>(rt.alloc()))?;
-    told(filters_items::<Binary, Tiny>(rt.alloc()))?;
-    told(filters_items::<Utf8, i32>(rt.alloc()))?;
-    told(filters_items::<Utf8, i64>(rt.alloc()))?;
-    told(filters_items::<Utf8, Tiny>(rt.alloc()))
+    all_told(&[
+        filters_items::<Binary, i32>(rt.alloc()),
+        filters_items::<Binary, i64>(rt.alloc()),
+        filters_items::<Binary, Tiny>(rt.alloc()),
+        filters_items::<Utf8, i32>(rt.alloc()),
+        filters_items::<Utf8, i64>(rt.alloc()),
+        filters_items::<Utf8, Tiny>(rt.alloc()),
+    ])
 }
 
 /// What keys take of the same items, and of a null that stores a letter.
@@ -215,12 +217,14 @@ fn takes_items<K: Known, O: Offset>(alloc: Global) -> Result<bool, Error> {
 
 #[test]
 fn items_at_keys_are_taken(rt: HostRuntime) -> Result<(), Fail> {
-    told(takes_items::<Binary, i32>(rt.alloc()))?;
-    told(takes_items::<Binary, i64>(rt.alloc()))?;
-    told(takes_items::<Binary, Tiny>(rt.alloc()))?;
-    told(takes_items::<Utf8, i32>(rt.alloc()))?;
-    told(takes_items::<Utf8, i64>(rt.alloc()))?;
-    told(takes_items::<Utf8, Tiny>(rt.alloc()))
+    all_told(&[
+        takes_items::<Binary, i32>(rt.alloc()),
+        takes_items::<Binary, i64>(rt.alloc()),
+        takes_items::<Binary, Tiny>(rt.alloc()),
+        takes_items::<Utf8, i32>(rt.alloc()),
+        takes_items::<Utf8, i64>(rt.alloc()),
+        takes_items::<Utf8, Tiny>(rt.alloc()),
+    ])
 }
 
 /// The offsets of so many items of one byte.
@@ -254,8 +258,10 @@ fn filters_words<K: Known>(alloc: Global) -> Result<bool, Error> {
 
 #[test]
 fn items_are_left_over_the_border_of_a_word(rt: HostRuntime) -> Result<(), Fail> {
-    told(filters_words::<Binary>(rt.alloc()))?;
-    told(filters_words::<Utf8>(rt.alloc()))
+    all_told(&[
+        filters_words::<Binary>(rt.alloc()),
+        filters_words::<Utf8>(rt.alloc()),
+    ])
 }
 
 /// Whether keys into one item of forty bytes, over offsets that end at a hundred, are told so.

@@ -1,5 +1,5 @@
 //! Offsets of one width as those of the other.
-use arrow_testing::{are_offsets, frozen_offsets, tells, told};
+use arrow_testing::{all_told, are_offsets, frozen_offsets, tells, told};
 use arrow_types::error::Error;
 use std::alloc::Global;
 use std::test::Fail;
@@ -26,7 +26,9 @@ fn ends_of_the_narrow_width(rt: HostRuntime) -> Result<(), Fail> {
 
 #[test]
 fn numbers_stay(rt: HostRuntime) -> Result<(), Fail> {
-    told(narrows(rt.alloc(), &[3, 3, 5, 9, 9, 200, 70000]))?;
-    told(widens(rt.alloc(), &[3, 3, 5, 9, 9, 200, 70000]))?;
-    told(widens(rt.alloc(), &[0, 2147483647]))
+    all_told(&[
+        narrows(rt.alloc(), &[3, 3, 5, 9, 9, 200, 70000]),
+        widens(rt.alloc(), &[3, 3, 5, 9, 9, 200, 70000]),
+        widens(rt.alloc(), &[0, 2147483647]),
+    ])
 }

@@ -113,8 +113,7 @@ fn changes<T: NativeType>(alloc: Global, first: &[T], second: &[T]) -> Result<bo
 
 #[test]
 fn arrays_of_other_parts(rt: HostRuntime) -> Result<(), Fail> {
-    told(changes::<i32>(rt.alloc(), [1].as_slice(), [2].as_slice()))?;
-    told(changes::<i256>(rt.alloc(), [i256(0, 1)].as_slice(), [i256(1, 2)].as_slice()))
+    all_told(&[changes::<i32>(rt.alloc(), [1].as_slice(), [2].as_slice()), changes::<i256>(rt.alloc(), [i256(0, 1)].as_slice(), [i256(1, 2)].as_slice())])
 }
 
 /// Whether an array has so many slots and nulls, and the default type.
@@ -163,13 +162,9 @@ fn given_values<T: NativeType>(alloc: Global, values: &[T]) -> Result<bool, Erro
 
 #[test]
 fn new_arrays(rt: HostRuntime) -> Result<(), Fail> {
-    told(begins::<i32>(rt.alloc()))?;
-    told(begins::<i256>(rt.alloc()))?;
-    told(given::<i32>(rt.alloc(), [Some(1), None].as_slice()))?;
-    told(given_values::<i32>(rt.alloc(), [1].as_slice()))?;
+    all_told(&[begins::<i32>(rt.alloc()), begins::<i256>(rt.alloc()), given::<i32>(rt.alloc(), [Some(1), None].as_slice()), given_values::<i32>(rt.alloc(), [1].as_slice()))?;
     let value = i256(0, 1);
-    told(given::<i256>(rt.alloc(), [Some(value), None].as_slice()))?;
-    told(given_values::<i256>(rt.alloc(), [value].as_slice()))
+    told(given::<i256>(rt.alloc(), [Some(value), None].as_slice()), given_values::<i256>(rt.alloc(), [value].as_slice())])
 }
 
 /// An array of other values, where they are as many.
@@ -212,8 +207,7 @@ fn changes<T: NativeType>(alloc: Global, first: &[T], second: &[T]) -> Result<bo
 
 #[test]
 fn arrays_of_other_parts(rt: HostRuntime) -> Result<(), Fail> {
-    told(changes::<i32>(rt.alloc(), [1].as_slice(), [2].as_slice()))?;
-    told(changes::<i256>(rt.alloc(), [i256(0, 1)].as_slice(), [i256(1, 2)].as_slice()))
+    all_told(&[changes::<i32>(rt.alloc(), [1].as_slice(), [2].as_slice()), changes::<i256>(rt.alloc(), [i256(0, 1)].as_slice(), [i256(1, 2)].as_slice())])
 }
 
 /// Whether an array has so many slots and nulls, and the default type.
@@ -262,13 +256,11 @@ fn given_values<T: NativeType>(alloc: Global, values: &[T]) -> Result<bool, Erro
 
 #[test]
 fn new_arrays(rt: HostRuntime) -> Result<(), Fail> {
-    told(begins::<i32>(rt.alloc()))?;
-    told(begins::<i256>(rt.alloc()))?;
-    told(given::<i32>(rt.alloc(), [Some(1), None].as_slice(), [1].as_slice()))?;
+    all_told(&[begins::<i32>(rt.alloc()), begins::<i256>(rt.alloc()), given::<i32>(rt.alloc(), [Some(1), None].as_slice(), [1].as_slice()))?;
     let value = i256(0, 1);
     told(given::<i256>(
         rt.alloc(),
         [Some(value), None].as_slice(),
         [value].as_slice(),
-    ))
+    )])
 }

@@ -190,6 +190,5 @@ fn begins<T: NativeType>(alloc: Global) -> Result<bool, Error> {
 
 #[test]
 fn new_builders(rt: HostRuntime) -> Result<(), Fail> {
-    told(begins::<i32>(rt.alloc()))?;
-    told(begins::<i256>(rt.alloc()))
+    all_told(&[begins::<i32>(rt.alloc()), begins::<i256>(rt.alloc())])
 }

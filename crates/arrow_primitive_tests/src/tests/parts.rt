@@ -190,8 +190,7 @@ fn is_of_dates(alloc: Global) -> Result<bool, Error> {
 
 #[test]
 fn arrays_of_a_type(rt: HostRuntime) -> Result<(), Fail> {
-    told(is_of_numbers(rt.alloc()))?;
-    told(is_of_dates(rt.alloc()))
+    all_told(&[is_of_numbers(rt.alloc()), is_of_dates(rt.alloc())])
 }
 
 /// Whether a builder of dates is of their type.
@@ -208,6 +207,8 @@ fn is_roomy_of_dates(alloc: Global) -> Result<bool, Error> {
 
 #[test]
 fn builders_of_a_type(rt: HostRuntime) -> Result<(), Fail> {
-    told(Ok(is_built_of_dates(rt.alloc())))?;
-    told(is_roomy_of_dates(rt.alloc()))
+    all_told(&[
+        Ok(is_built_of_dates(rt.alloc())),
+        is_roomy_of_dates(rt.alloc()),
+    ])
 }
