@@ -23,7 +23,7 @@ use arrow_memory::buffer::Buffer;
 use arrow_memory::offset::{Offsets, OffsetsBuffer};
 use arrow_testing::{
     all_told, are_offsets, frozen_mask, frozen_offsets, growing_mask, is_mask, offsets_of, seen,
-    told, with,
+    told,
 };
 use arrow_types::data_type::DataType;
 use arrow_types::error::Error;
@@ -78,10 +78,10 @@ fn made<K: Known, O: Offset>(
     bytes: &[u8],
     mask: &str,
 ) -> Result<bool, Error> {
-    seen(
-        answer,
-        |array| shows(array, offsets, bytes, mask) && is_type::<K, O>(array.data_type()),
-    )
+    match answer {
+        Ok(array) => Ok(shows(&array, offsets, bytes, mask) && is_type::<K, O>(array.data_type())),
+        Err(refused) => Err(refused),
+    }
 }
 
 /// Whether a builder was made that has these offsets, bytes and marks, and the type of its kind.
@@ -91,10 +91,12 @@ fn built<K: Known, O: Offset>(
     bytes: &[u8],
     mask: &str,
 ) -> Result<bool, Error> {
-    seen(
-        answer,
-        |builder| builds(builder, offsets, bytes, mask) && is_type::<K, O>(builder.data_type()),
-    )
+    match answer {
+        Ok(builder) => {
+            Ok(builds(&builder, offsets, bytes, mask) && is_type::<K, O>(builder.data_type()))
+        }
+        Err(refused) => Err(refused),
+    }
 }
 
 /// Whether a builder without nulls was made that has these offsets and bytes, and the type of its kind.
@@ -103,10 +105,10 @@ fn held<K: Known, O: Offset>(
     offsets: &[usize],
     bytes: &[u8],
 ) -> Result<bool, Error> {
-    seen(
-        answer,
-        |builder| holds(builder, offsets, bytes) && is_type::<K, O>(builder.data_type()),
-    )
+    match answer {
+        Ok(builder) => Ok(holds(&builder, offsets, bytes) && is_type::<K, O>(builder.data_type())),
+        Err(refused) => Err(refused),
+    }
 }
 
 /// Whether a type is that of a kind over these offsets.

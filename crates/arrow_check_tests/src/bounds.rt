@@ -47,7 +47,7 @@ const WITHIN_MANY: &[Case] = &[
 fn the_last_offset_lies_within_the_values(rt: HostRuntime) {
     let within = first_bounds::<i32>(rt.alloc(), WITHIN);
     let many = first_bounds::<i64>(rt.alloc(), WITHIN_MANY);
-    assert_eq!(rt; [within, many], [WITHIN.len(), WITHIN_MANY.len()]);
+    assert!(rt; [within, many] == [WITHIN.len(), WITHIN_MANY.len()]);
 }
 
 /// What is told of such offsets where their last has to be the number of values.

@@ -85,7 +85,7 @@ fn first_cut(alloc: Global, cases: &[(&[u8], &[usize])]) -> usize {
 
 #[test]
 fn each_item_is_text_by_itself(rt: HostRuntime) {
-    assert_eq!(rt; first_cut(rt.alloc(), CHARACTERS), CHARACTERS.len());
+    assert!(rt; first_cut(rt.alloc(), CHARACTERS) == CHARACTERS.len());
 }
 
 /// Offsets, bytes, what is answered, and the counts then.
@@ -144,7 +144,7 @@ const TEXTS: &[Case] = &[
 
 #[test]
 fn what_a_check_answers_and_costs(rt: HostRuntime) {
-    assert_eq!(rt; first_case(rt.alloc(), By::Text, TEXTS), TEXTS.len());
+    assert!(rt; first_case(rt.alloc(), By::Text, TEXTS) == TEXTS.len());
 }
 
 /// The bytes of a hundred texts of one character of two bytes.
@@ -190,7 +190,7 @@ const BY_ASCII: &[Case] = &[
 
 #[test]
 fn a_judge_says_what_is_text(rt: HostRuntime) {
-    assert_eq!(rt; first_case(rt.alloc(), By::Ascii, BY_ASCII), BY_ASCII.len());
+    assert!(rt; first_case(rt.alloc(), By::Ascii, BY_ASCII) == BY_ASCII.len());
 }
 
 const BY_ANY: &[Case] = &[
@@ -203,5 +203,5 @@ const BY_ANY: &[Case] = &[
 
 #[test]
 fn each_inner_offset_is_looked_at_once(rt: HostRuntime) {
-    assert_eq!(rt; first_case(rt.alloc(), By::Any, BY_ANY), BY_ANY.len());
+    assert!(rt; first_case(rt.alloc(), By::Any, BY_ANY) == BY_ANY.len());
 }

@@ -45,39 +45,8 @@ pub fn after(refused: Error, is_right: bool) -> Result<bool, Error> {
     if is_right { Err(refused) } else { Ok(false) }
 }
 
-/// What a check says of a value. Of refusals only that of memory is told apart.
-fn checked<B: Drop, F: FnOnce(&mut B) -> Result<bool, Error>>(
-    value: B,
-    check: F,
-) -> Result<bool, Error>
-    requires { F.IsAlwaysCallable check }
-{
-    let mut value = value;
-    match check(&mut value) {
-        Ok(is_right) => Ok(is_right),
-        Err(Error::OutOfMemory) => Err(Error::OutOfMemory),
-        Err(_) => Err(Error::Overflow),
-    }
-}
-
-/// What a check says of a value that was made; the refusal where none was. A test that owns an array or a builder is dear
-/// to prove: here the value is of any type.
-pub fn with<B: Drop, F: FnOnce(&mut B) -> Result<bool, Error> + Drop>(
-    answer: Result<B, Error>,
-    check: F,
-) -> Result<bool, Error>
-    requires { F.IsAlwaysCallable check }
-{
-    match answer {
-        Ok(value) => checked(value, check),
-        Err(refused) => {
-            drop(check);
-            Err(refused)
-        }
-    }
-}
-
-/// Whether a test is true of a value that was made; the refusal where none was.
+/// Whether a test is true of a value that was made; the refusal where none was. A function that owns an array or a builder
+/// is dear to prove: here the value is of any type.
 pub fn seen<B: Drop, F: FnOnce(&B) -> bool + Drop>(
     answer: Result<B, Error>,
     test: F,

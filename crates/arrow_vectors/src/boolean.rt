@@ -1,7 +1,7 @@
 //! Truth values: what slots and raw parts become. Stored values and marks are texts of '1' and '0'.
 use arrow_boolean::{BooleanArray, MutableBooleanArray};
 use arrow_memory::bitmap::{Bitmap, MutableBitmap};
-use arrow_testing::{frozen_mask, growing_mask, is_mask, tells};
+use arrow_testing::{frozen_mask, growing_mask, is_made, is_mask, tells};
 use arrow_types::data_type::DataType;
 use arrow_types::error::Error;
 use either::{Left, Right};
@@ -38,10 +38,10 @@ fn reads(array: &BooleanArray) -> bool {
 
 /// Whether those of an array of these slots are.
 fn is_read(alloc: Global) -> bool {
-    match BooleanArray::from(alloc, SLOTS.as_slice()) {
-        Ok(array) => reads(&array) && shows(&array, "100", "101"),
-        Err(_) => false,
-    }
+    is_made(
+        BooleanArray::from(alloc, SLOTS.as_slice()),
+        |array| reads(array) & shows(array, "100", "101"),
+    )
 }
 
 #[test]
@@ -111,7 +111,7 @@ fn first_fault(alloc: Global, cases: &[Fault]) -> usize {
 
 #[test]
 fn the_mask_is_tested_before_the_type(rt: HostRuntime) {
-    assert_eq!(rt; first_fault(rt.alloc(), FAULTS), FAULTS.len());
+    assert!(rt; first_fault(rt.alloc(), FAULTS) == FAULTS.len());
 }
 
 /// The array of the parts of an array.
@@ -168,5 +168,5 @@ fn first_again(alloc: Global, cases: &[(&str, &str, &str)]) -> usize {
 
 #[test]
 fn parts_that_are_taken_out_are_accepted_again(rt: HostRuntime) {
-    assert_eq!(rt; first_again(rt.alloc(), AGAIN), AGAIN.len());
+    assert!(rt; first_again(rt.alloc(), AGAIN) == AGAIN.len());
 }

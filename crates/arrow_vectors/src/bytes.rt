@@ -3,9 +3,9 @@
 use crate::Tiny;
 use crate::raw::{builds, own_array, own_builder, shows};
 use arrow_binary::{BinaryArray, MutableBinaryArray};
-use arrow_byte_array::MutableByteArray;
+use arrow_byte_array::{ByteArray, MutableByteArray};
 use arrow_bytes::{Binary, ByteKind, Utf8};
-use arrow_types::error::Error;
+use arrow_testing::passes;
 use arrow_types::offset::Offset;
 use either::{Left, Right};
 use std::alloc::Global;
@@ -26,26 +26,32 @@ fn stores<O: Offset>(array: &BinaryArray<O>, items: &[&[u8]]) -> bool {
 /// Bytes with others around three items of one, no and two bytes.
 const AROUND: [u8; 6] = [9, 9, 1, 4, 4, 8];
 
+/// Whether the last two of three items with other bytes around them are left, of which the first is null.
+fn is_rest<O: Offset>(array: &BinaryArray<O>) -> bool {
+    if array.len() != 2 {
+        return false;
+    }
+    let is_read = array.get(0).is_none() & (array.get(1) == Some([4, 4].as_slice()));
+    let is_rest = shows(array, [3, 3, 5].as_slice(), AROUND.as_slice(), "01");
+    is_read & is_rest & (array.null_count() == 1)
+}
+
 /// Whether three items with other bytes around them are stored, and the last two of them are left of a slice.
-fn is_sliced<O: Offset>(array: BinaryArray<O>) -> bool {
-    let mut array = array;
-    if !stores(&array, [[1].as_slice(), &[], &[4, 4]].as_slice()) || array.len() != 3 {
+fn is_sliced<O: Offset>(array: &mut BinaryArray<O>) -> bool {
+    if array.len() != 3 {
         return false;
     }
+    let are_stored = stores(array, [[1].as_slice(), &[], &[4, 4]].as_slice());
     array.slice(1, 2);
-    if array.len() != 2 || array.null_count() != 1 {
-        return false;
-    }
-    let is_read = array.get(0).is_none() && array.get(1) == Some([4, 4].as_slice());
-    is_read && shows(&array, [3, 3, 5].as_slice(), AROUND.as_slice(), "01")
+    are_stored & is_rest(array)
 }
 
 /// Whether those of an array of such parts are.
 fn slices<O: Offset>(alloc: Global) -> bool {
-    match own_array::<Binary, O>(alloc, [2, 3, 3, 5].as_slice(), AROUND.as_slice(), "101") {
-        Ok(array) => is_sliced(array),
-        Err(_) => false,
-    }
+    passes(
+        own_array::<Binary, O>(alloc, [2, 3, 3, 5].as_slice(), AROUND.as_slice(), "101"),
+        is_sliced::<O>,
+    )
 }
 
 #[test]
@@ -67,10 +73,10 @@ fn pops<O: Offset>(builder: &mut MutableBinaryArray<O>) -> bool {
 
 /// Whether that of a builder of such parts is.
 fn pops_behind<O: Offset>(alloc: Global) -> bool {
-    match own_builder::<Binary, O>(alloc, [1, 3].as_slice(), [7, 8, 9].as_slice(), "none") {
-        Ok(mut builder) => pops(&mut builder),
-        Err(_) => false,
-    }
+    passes(
+        own_builder::<Binary, O>(alloc, [1, 3].as_slice(), [7, 8, 9].as_slice(), "none"),
+        pops::<O>,
+    )
 }
 
 #[test]
@@ -85,27 +91,38 @@ fn bytes_before_a_popped_item_stay(rt: HostRuntime) {
 /// Offsets, bytes and a mask.
 type Pieces = (&'static [usize], &'static [u8], &'static str);
 
-/// A builder with another's slots behind its own.
-fn joined<K: ByteKind, O: Offset>(
-    alloc: Global,
-    first: Pieces,
-    second: Pieces,
-) -> Result<MutableByteArray<K, O>, Error> {
-    let other = own_builder::<K, O>(alloc, second.0, second.1, second.2)?;
-    let mut builder = own_builder::<K, O>(alloc, first.0, first.1, first.2)?;
-    builder.try_extend_from_self(&other)?;
-    Ok(builder)
+/// Whether a builder has these offsets, bytes and marks once another's slots came.
+fn takes<K: ByteKind, O: Offset>(
+    builder: &mut MutableByteArray<K, O>,
+    other: &MutableByteArray<K, O>,
+    all: Pieces,
+) -> bool {
+    let is_taken = builder.try_extend_from_self(other).is_ok();
+    is_taken & builds(builder, all.0, all.1, all.2)
 }
 
-/// Whether it has these offsets, bytes and marks.
+/// Whether it has them once those of a builder of such parts came.
+fn takes_parts<K: ByteKind, O: Offset>(
+    alloc: Global,
+    builder: &mut MutableByteArray<K, O>,
+    second: Pieces,
+    all: Pieces,
+) -> bool {
+    match own_builder::<K, O>(alloc, second.0, second.1, second.2) {
+        Ok(other) => takes(builder, &other, all),
+        Err(_) => false,
+    }
+}
+
+/// Whether a builder of such parts has these with another's slots behind its own.
 fn joins<K: ByteKind, O: Offset>(
     alloc: Global,
     first: Pieces,
     second: Pieces,
     all: Pieces,
 ) -> bool {
-    match joined::<K, O>(alloc, first, second) {
-        Ok(builder) => builds(&builder, all.0, all.1, all.2),
+    match own_builder::<K, O>(alloc, first.0, first.1, first.2) {
+        Ok(mut builder) => takes_parts(alloc, &mut builder, second, all),
         Err(_) => false,
     }
 }
@@ -165,22 +182,30 @@ fn first_join<K: ByteKind, O: Offset>(alloc: Global, cases: &[(Pieces, Pieces, P
     cases.len()
 }
 
-#[test]
-fn only_the_slots_of_another_builder_come(rt: HostRuntime) {
-    let bytes = first_join::<Binary, i32>(rt.alloc(), JOINS);
-    let wide_bytes = first_join::<Binary, i64>(rt.alloc(), JOINS);
-    let text = first_join::<Utf8, i32>(rt.alloc(), JOINS);
-    let wide_text = first_join::<Utf8, i64>(rt.alloc(), JOINS);
-    assert_eq!(rt; [bytes, wide_bytes, text, wide_text], [JOINS.len(); 4]);
+/// Whether all of them come over both widths of offsets.
+fn all_join<K: ByteKind>(alloc: Global, cases: &[(Pieces, Pieces, Pieces)]) -> bool {
+    let narrow = first_join::<K, i32>(alloc, cases) == cases.len();
+    narrow & (first_join::<K, i64>(alloc, cases) == cases.len())
 }
 
-/// Whether the array of such parts is thawed, and has these then: no byte is behind its last slot.
+#[test]
+fn only_the_slots_of_another_builder_come(rt: HostRuntime) {
+    let are_bytes = all_join::<Binary>(rt.alloc(), JOINS);
+    assert!(rt; are_bytes & all_join::<Utf8>(rt.alloc(), JOINS));
+}
+
+/// Whether an array is thawed, and has these parts then: no byte is behind its last slot.
+fn is_thawed<K: ByteKind, O: Offset>(array: ByteArray<K, O>, builder: Pieces) -> bool {
+    match array.into_mut() {
+        Right(thawed) => builds(&thawed, builder.0, builder.1, builder.2),
+        Left(_) => false,
+    }
+}
+
+/// Whether the array of such parts is.
 fn thaws<K: ByteKind, O: Offset>(alloc: Global, array: Pieces, builder: Pieces) -> bool {
     match own_array::<K, O>(alloc, array.0, array.1, array.2) {
-        Ok(array) => match array.into_mut() {
-            Right(thawed) => builds(&thawed, builder.0, builder.1, builder.2),
-            Left(_) => false,
-        },
+        Ok(array) => is_thawed(array, builder),
         Err(_) => false,
     }
 }
@@ -206,11 +231,14 @@ fn first_thaw<K: ByteKind, O: Offset>(alloc: Global, cases: &[(Pieces, Pieces)])
     cases.len()
 }
 
+/// Whether all of them are over both widths of offsets.
+fn all_thaw<K: ByteKind>(alloc: Global, cases: &[(Pieces, Pieces)]) -> bool {
+    let narrow = first_thaw::<K, i32>(alloc, cases) == cases.len();
+    narrow & (first_thaw::<K, i64>(alloc, cases) == cases.len())
+}
+
 #[test]
 fn a_thawed_array_ends_at_its_last_offset(rt: HostRuntime) {
-    let bytes = first_thaw::<Binary, i32>(rt.alloc(), THAWS);
-    let wide_bytes = first_thaw::<Binary, i64>(rt.alloc(), THAWS);
-    let text = first_thaw::<Utf8, i32>(rt.alloc(), THAWS);
-    let wide_text = first_thaw::<Utf8, i64>(rt.alloc(), THAWS);
-    assert_eq!(rt; [bytes, wide_bytes, text, wide_text], [THAWS.len(); 4]);
+    let are_bytes = all_thaw::<Binary>(rt.alloc(), THAWS);
+    assert!(rt; are_bytes & all_thaw::<Utf8>(rt.alloc(), THAWS));
 }

@@ -5,7 +5,7 @@ use arrow_boolean::{BooleanArray, MutableBooleanArray};
 use arrow_byte_array::{ByteArray, MutableByteArray, MutableByteValuesArray};
 use arrow_bytes::{Binary, ByteItem, ByteKind, ItemError, Utf8};
 use arrow_primitive::{MutablePrimitiveArray, PrimitiveArray};
-use arrow_testing::{are_offsets, is_mask, tells};
+use arrow_testing::{are_offsets, is_made, is_mask, tells};
 use arrow_types::error::Error;
 use arrow_types::offset::Offset;
 use arrow_utf8::Utf8Array;
@@ -116,15 +116,21 @@ const EXTENSIONS: &[Extension] = &[
     Extension::ExtendValues,
 ];
 
-/// Whether a new builder takes numbers by a call.
-fn extends(alloc: Global, lie: Lie, call: Extension) -> Taken {
-    let (slots, numbers, mut builder) = (SLOTS, NUMBERS, MutablePrimitiveArray::new(alloc));
-    let told = tells(match call {
+/// What is told where a builder takes numbers by a call.
+fn extend_by(builder: &mut MutablePrimitiveArray<i64>, lie: Lie, call: Extension) -> &'static str {
+    let (slots, numbers) = (SLOTS, NUMBERS);
+    tells(match call {
         Extension::Extend => builder.extend(lying(slots.as_slice(), lie)),
         Extension::TryExtend => builder.try_extend(lying(slots.as_slice(), lie)),
         Extension::ExtendValues => builder.extend_values(lying(numbers.as_slice(), lie)),
-    });
-    (told, builder.values().as_slice() == numbers.as_slice())
+    })
+}
+
+/// Whether a new builder takes them.
+fn extends(alloc: Global, lie: Lie, call: Extension) -> Taken {
+    let mut builder = MutablePrimitiveArray::new(alloc);
+    let told = extend_by(&mut builder, lie, call);
+    (told, builder.values().as_slice() == NUMBERS.as_slice())
 }
 
 /// Whether a builder is made of them.
@@ -188,14 +194,20 @@ const MARKS: [bool; 3] = [true, false, true];
 
 const MARK_SLOTS: [Option<bool>; 3] = [Some(true), None, Some(true)];
 
-/// Whether a new builder takes truth values by a call.
-fn extends_marks(alloc: Global, lie: Lie, call: Extension) -> Taken {
-    let (slots, marks, mut builder) = (MARK_SLOTS, MARKS, MutableBooleanArray::new(alloc));
-    let told = tells(match call {
+/// What is told where a builder takes truth values by a call.
+fn extend_marks_by(builder: &mut MutableBooleanArray, lie: Lie, call: Extension) -> &'static str {
+    let (slots, marks) = (MARK_SLOTS, MARKS);
+    tells(match call {
         Extension::Extend => builder.extend(lying(slots.as_slice(), lie)),
         Extension::TryExtend => builder.try_extend(lying(slots.as_slice(), lie)),
         Extension::ExtendValues => builder.extend_values(lying(marks.as_slice(), lie)),
-    });
+    })
+}
+
+/// Whether a new builder takes them.
+fn extends_marks(alloc: Global, lie: Lie, call: Extension) -> Taken {
+    let mut builder = MutableBooleanArray::new(alloc);
+    let told = extend_marks_by(&mut builder, lie, call);
     (told, is_mask(Some(builder.values_iter()), "101"))
 }
 
@@ -249,35 +261,48 @@ fn are_all<O: Offset>(offsets: &[O]) -> bool {
     are_offsets(offsets, [0, 2, 2, 7].as_slice())
 }
 
-/// Whether a new builder takes items.
+/// Whether a builder takes items.
+fn takes_items<K: ByteKind, X: ByteItem<K> + ItemError<Error = Error>>(
+    builder: &mut MutableByteArray<K, i32>,
+    items: Liar<'_, X>,
+) -> Taken {
+    let told = tells(builder.extend_values(items));
+    (told, are_all(builder.offsets().as_slice()))
+}
+
+/// Whether a new one does.
 fn extends_items<K: ByteKind, X: ByteItem<K> + ItemError<Error = Error>>(
     alloc: Global,
     items: Liar<'_, X>,
 ) -> Taken {
     match MutableByteArray::<K, i32>::new(alloc) {
-        Ok(mut builder) => {
-            let told = tells(builder.extend_values(items));
-            (told, are_all(builder.offsets().as_slice()))
-        }
+        Ok(mut builder) => takes_items(&mut builder, items),
         Err(_) => ("no memory", false),
     }
 }
 
-/// Whether it takes slots, by `extend` or by `try_extend`.
+/// Whether a builder takes slots, by `extend` or by `try_extend`.
+fn takes_slots<K: ByteKind, X: ByteItem<K> + ItemError<Error = Error>>(
+    builder: &mut MutableByteArray<K, i32>,
+    slots: Liar<'_, Option<X>>,
+    tries: bool,
+) -> Taken {
+    let told = tells(if tries {
+        builder.try_extend(slots)
+    } else {
+        builder.extend(slots)
+    });
+    (told, are_all(builder.offsets().as_slice()))
+}
+
+/// Whether a new one does.
 fn extends_slots<K: ByteKind, X: ByteItem<K> + ItemError<Error = Error>>(
     alloc: Global,
     slots: Liar<'_, Option<X>>,
     tries: bool,
 ) -> Taken {
     match MutableByteArray::<K, i32>::new(alloc) {
-        Ok(mut builder) => {
-            let told = tells(if tries {
-                builder.try_extend(slots)
-            } else {
-                builder.extend(slots)
-            });
-            (told, are_all(builder.offsets().as_slice()))
-        }
+        Ok(mut builder) => takes_slots(&mut builder, slots, tries),
         Err(_) => ("no memory", false),
     }
 }
@@ -306,21 +331,28 @@ fn is_values<K: ByteKind>(answer: Result<MutableByteValuesArray<K, i32>, Error>)
     }
 }
 
-/// Whether a new builder without nulls takes items, by `extend` or by `try_extend`.
+/// Whether a builder without nulls takes items, by `extend` or by `try_extend`.
+fn takes_values<K: ByteKind, X: ByteItem<K> + ItemError<Error = Error>>(
+    builder: &mut MutableByteValuesArray<K, i32>,
+    items: Liar<'_, X>,
+    tries: bool,
+) -> Taken {
+    let told = tells(if tries {
+        builder.try_extend(items)
+    } else {
+        builder.extend(items)
+    });
+    (told, are_all(builder.offsets().as_slice()))
+}
+
+/// Whether a new one does.
 fn extends_new_values<K: ByteKind, X: ByteItem<K> + ItemError<Error = Error>>(
     alloc: Global,
     items: Liar<'_, X>,
     tries: bool,
 ) -> Taken {
     match MutableByteValuesArray::<K, i32>::new(alloc) {
-        Ok(mut builder) => {
-            let told = tells(if tries {
-                builder.try_extend(items)
-            } else {
-                builder.extend(items)
-            });
-            (told, are_all(builder.offsets().as_slice()))
-        }
+        Ok(mut builder) => takes_values(&mut builder, items, tries),
         Err(_) => ("no memory", false),
     }
 }
@@ -423,10 +455,10 @@ fn passes<O: Offset>(array: &Utf8Array<O>) -> bool {
 
 /// Whether both hold of an array of three texts.
 fn ends<O: Offset>(alloc: Global, items: &[&'static str]) -> bool {
-    match Utf8Array::<O>::from_slice(alloc, items) {
-        Ok(array) => turns(&array) && passes(&array),
-        Err(_) => false,
-    }
+    is_made(
+        Utf8Array::<O>::from_slice(alloc, items),
+        |array| turns(array) & passes(array),
+    )
 }
 
 #[test]

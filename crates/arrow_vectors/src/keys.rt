@@ -30,5 +30,5 @@ fn first_told(cases: &[(&[i64], usize, &str)]) -> usize {
 
 #[test]
 fn the_first_failing_key_tells_the_fault(rt: HostRuntime) {
-    assert_eq!(rt; first_told(KEYS), KEYS.len());
+    assert!(rt; first_told(KEYS) == KEYS.len());
 }

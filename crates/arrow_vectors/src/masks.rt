@@ -40,7 +40,7 @@ fn first_told(alloc: Global, cases: &[(&[u8], usize, &'static str)]) -> usize {
 
 #[test]
 fn marks_fit_in_their_bytes(rt: HostRuntime) {
-    assert_eq!(rt; first_told(rt.alloc(), FITS), FITS.len());
+    assert!(rt; first_told(rt.alloc(), FITS) == FITS.len());
 }
 
 /// The first marks of bytes, a mark that is pushed behind them, all of them then, and how many are clear.
@@ -81,5 +81,5 @@ fn first_pushed(alloc: Global, cases: &[Pushed<'static>]) -> usize {
 
 #[test]
 fn bits_behind_the_marks_are_not_shown(rt: HostRuntime) {
-    assert_eq!(rt; first_pushed(rt.alloc(), PUSHED), PUSHED.len());
+    assert!(rt; first_pushed(rt.alloc(), PUSHED) == PUSHED.len());
 }

@@ -45,7 +45,7 @@ fn first_fault(alloc: Global, cases: &[(&[i32], &str)]) -> usize {
 
 #[test]
 fn the_first_fault_is_told(rt: HostRuntime) {
-    assert_eq!(rt; first_fault(rt.alloc(), FAULTS), FAULTS.len());
+    assert!(rt; first_fault(rt.alloc(), FAULTS) == FAULTS.len());
 }
 
 /// What is told of two raw offsets of a narrow type, where each is one.
@@ -79,7 +79,7 @@ fn first_narrow(alloc: Global, cases: &[(i8, i8, &str)]) -> usize {
 
 #[test]
 fn a_narrow_type_is_told_the_same(rt: HostRuntime) {
-    assert_eq!(rt; first_narrow(rt.alloc(), NARROW), NARROW.len());
+    assert!(rt; first_narrow(rt.alloc(), NARROW) == NARROW.len());
 }
 
 /// Where the last slot of two offsets begins so far before the greatest number, and how many bytes come then.
@@ -139,7 +139,7 @@ fn slots_end_at_the_greatest_offset(rt: HostRuntime) {
         first_push::<i64>(rt.alloc(), ENDS),
         first_push::<Tiny>(rt.alloc(), ENDS),
     ];
-    assert_eq!(rt; found, [ENDS.len(); 3]);
+    assert!(rt; found == [ENDS.len(); 3]);
 }
 
 /// Whether this is told of another's slot of so many bytes, which lies behind others, and a refusal leaves the offsets.
@@ -184,5 +184,5 @@ fn slots_of_other_offsets_end_there_too(rt: HostRuntime) {
         first_join::<i64>(rt.alloc(), JOINS),
         first_join::<Tiny>(rt.alloc(), JOINS),
     ];
-    assert_eq!(rt; found, [JOINS.len(); 3]);
+    assert!(rt; found == [JOINS.len(); 3]);
 }

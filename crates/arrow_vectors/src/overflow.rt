@@ -5,7 +5,7 @@ use crate::raw::{builds, own_builder};
 use arrow_binary::{MutableBinaryArray, MutableBinaryValuesArray};
 use arrow_byte_array::{ByteArray, MutableByteArray, MutableByteValuesArray};
 use arrow_bytes::{Binary, ByteItem, ByteKind, ItemError, Utf8};
-use arrow_testing::{are_offsets, tells};
+use arrow_testing::{are_offsets, passes, tells};
 use arrow_types::error::Error;
 use arrow_utf8::{MutableUtf8Array, MutableUtf8ValuesArray};
 use std::alloc::Global;
@@ -114,7 +114,23 @@ fn push_each<K: Pushes>(
     Ok(())
 }
 
-/// What is told of items that are appended to a new builder in one of five ways.
+/// What is told of items that are appended to a builder in one of five ways.
+fn grow_by<K: Pushes>(
+    builder: &mut MutableByteArray<K, Tiny>,
+    slots: &[Option<K::Item>],
+    items: &[K::Item],
+    way: usize,
+) -> &'static str {
+    tells(match way {
+        0 => push_each(builder, items, false),
+        1 => push_each(builder, items, true),
+        2 => builder.extend(slots.iter().copied()),
+        3 => builder.try_extend(slots.iter().copied()),
+        _ => builder.extend_values(items.iter().copied()),
+    })
+}
+
+/// What is told where the builder is new, and what it has then.
 fn grow<K: Pushes>(
     alloc: Global,
     slots: &[Option<K::Item>],
@@ -123,13 +139,7 @@ fn grow<K: Pushes>(
 ) -> Told {
     match MutableByteArray::<K, Tiny>::new(alloc) {
         Ok(mut builder) => {
-            let answer = tells(match way {
-                0 => push_each(&mut builder, items, false),
-                1 => push_each(&mut builder, items, true),
-                2 => builder.extend(slots.iter().copied()),
-                3 => builder.try_extend(slots.iter().copied()),
-                _ => builder.extend_values(items.iter().copied()),
-            });
+            let answer = grow_by(&mut builder, slots, items, way);
             told(&builder, answer)
         }
         Err(_) => ("no memory", 0, 0),
@@ -148,16 +158,25 @@ fn push_each_item<K: Pushes>(
     Ok(())
 }
 
-/// What is told of items that are appended to a new builder without nulls in one of four ways.
+/// What is told of items that are appended to a builder without nulls in one of four ways.
+fn grow_values_by<K: Pushes>(
+    builder: &mut MutableByteValuesArray<K, Tiny>,
+    items: &[K::Item],
+    way: usize,
+) -> &'static str {
+    tells(match way {
+        0 => push_each_item(builder, items, false),
+        1 => push_each_item(builder, items, true),
+        2 => builder.extend(items.iter().copied()),
+        _ => builder.try_extend(items.iter().copied()),
+    })
+}
+
+/// What is told where the builder is new, and what it has then.
 fn grow_values<K: Pushes>(alloc: Global, items: &[K::Item], way: usize) -> Told {
     match MutableByteValuesArray::<K, Tiny>::new(alloc) {
         Ok(mut builder) => {
-            let answer = tells(match way {
-                0 => push_each_item(&mut builder, items, false),
-                1 => push_each_item(&mut builder, items, true),
-                2 => builder.extend(items.iter().copied()),
-                _ => builder.try_extend(items.iter().copied()),
-            });
+            let answer = grow_values_by(&mut builder, items, way);
             told_of_items(&builder, answer)
         }
         Err(_) => ("no memory", 0, 0),
@@ -272,7 +291,7 @@ fn first_end<K: Pushes>(alloc: Global, cases: &[(&[Option<K::Item>], &[K::Item],
 #[test]
 fn bytes_end_at_the_greatest_offset(rt: HostRuntime) {
     let place = first_end::<Binary>(rt.alloc(), BYTES_THAT_END);
-    assert_eq!(rt; place, BYTES_THAT_END.len());
+    assert!(rt; place == BYTES_THAT_END.len());
 }
 
 const SIXTY_OF_TEXT: &str = "€€€€€€€€€€€€€€€€€€€€";
@@ -309,7 +328,7 @@ const TEXTS_THAT_END: &[Texts] = &[
 #[test]
 fn texts_end_at_the_greatest_offset(rt: HostRuntime) {
     let place = first_end::<Utf8>(rt.alloc(), TEXTS_THAT_END);
-    assert_eq!(rt; place, TEXTS_THAT_END.len());
+    assert!(rt; place == TEXTS_THAT_END.len());
 }
 
 /// Bytes that are pushed one after the other, what is told of them, and the offsets then.
@@ -342,7 +361,7 @@ fn pushed(alloc: Global, cases: &[(&[u8], &str, &[usize])]) -> usize {
 
 #[test]
 fn bytes_that_are_refused_leave_the_builder(rt: HostRuntime) {
-    assert_eq!(rt; pushed(rt.alloc(), PUSHES), PUSHES.len());
+    assert!(rt; pushed(rt.alloc(), PUSHES) == PUSHES.len());
 }
 
 const NINETY_NINE: &str =
@@ -360,10 +379,7 @@ fn text_goes_on(builder: &mut MutableUtf8Array<Tiny>) -> bool {
 
 /// Whether one that is refused leaves a new builder.
 fn text_pushed(alloc: Global) -> bool {
-    match MutableUtf8Array::new(alloc) {
-        Ok(mut builder) => text_goes_on(&mut builder),
-        Err(_) => false,
-    }
+    passes(MutableUtf8Array::new(alloc), text_goes_on)
 }
 
 #[test]
@@ -391,13 +407,35 @@ fn of(alloc: Global, slots: Slots) -> Result<MutableBinaryArray<Tiny>, Error> {
 }
 
 /// Whether this is told of another's slots, and these are there then.
+fn takes(
+    builder: &mut MutableBinaryArray<Tiny>,
+    other: &MutableBinaryArray<Tiny>,
+    answer: &str,
+    all: Slots,
+) -> bool {
+    let is_told = tells(builder.try_extend_from_self(other)) == answer;
+    is_told & builds(builder, all.0, sevens(end_of(all)), all.1)
+}
+
+/// Whether it is of those of a builder of such slots.
+fn takes_slots(
+    alloc: Global,
+    builder: &mut MutableBinaryArray<Tiny>,
+    second: Slots,
+    answer: &str,
+    all: Slots,
+) -> bool {
+    match of(alloc, second) {
+        Ok(other) => takes(builder, &other, answer, all),
+        Err(_) => false,
+    }
+}
+
+/// Whether it is where the first is a builder of such slots.
 fn joins(alloc: Global, first: Slots, second: Slots, answer: &str, all: Slots) -> bool {
-    match (of(alloc, first), of(alloc, second)) {
-        (Ok(mut builder), Ok(other)) => {
-            let told = tells(builder.try_extend_from_self(&other)) == answer;
-            told & builds(&builder, all.0, sevens(end_of(all)), all.1)
-        }
-        _ => false,
+    match of(alloc, first) {
+        Ok(mut builder) => takes_slots(alloc, &mut builder, second, answer, all),
+        Err(_) => false,
     }
 }
 
@@ -453,7 +491,7 @@ fn first_join(alloc: Global, cases: &[(Slots, Slots, &str, Slots)]) -> usize {
 
 #[test]
 fn slots_of_another_builder_end_there_too(rt: HostRuntime) {
-    assert_eq!(rt; first_join(rt.alloc(), JOINS), JOINS.len());
+    assert!(rt; first_join(rt.alloc(), JOINS) == JOINS.len());
 }
 
 /// Whether items behind forty bytes before the first slot end where those do.
@@ -467,10 +505,7 @@ fn goes_on_behind(builder: &mut MutableBinaryArray<Tiny>) -> bool {
 
 /// Whether they do in a new builder.
 fn pushes_behind(alloc: Global) -> bool {
-    match of(alloc, (&[40], "none")) {
-        Ok(mut builder) => goes_on_behind(&mut builder),
-        Err(_) => false,
-    }
+    passes(of(alloc, (&[40], "none")), goes_on_behind)
 }
 
 #[test]

@@ -4,7 +4,7 @@ use crate::Tiny;
 use crate::raw::{array_of, builder_of, builds, cut_off, holds, own_array, shows, values_of};
 use arrow_byte_array::{ByteArray, MutableByteArray, MutableByteValuesArray};
 use arrow_bytes::{Binary, ByteKind, Utf8};
-use arrow_testing::tells;
+use arrow_testing::{is_made, tells};
 use arrow_types::data_type::DataType;
 use arrow_types::error::Error;
 use arrow_types::offset::Offset;
@@ -156,13 +156,15 @@ const ARRAYS: &[Case] = &[
     ("own", &[1, 3], b"\x09\x09\x09", "none", MADE),
 ];
 
+/// Whether all of this is told of arrays.
+fn are_told<K: ByteKind>(alloc: Global, words: Words, cases: &[Case]) -> bool {
+    first_array::<K>(alloc, words, cases) == cases.len()
+}
+
 #[test]
 fn arrays_are_refused_by_their_first_fault(rt: HostRuntime) {
-    assert_eq!(rt;
-        first_array::<Binary>(rt.alloc(), BYTES, ARRAYS),
-        ARRAYS.len()
-    );
-    assert_eq!(rt; first_array::<Utf8>(rt.alloc(), TEXT, ARRAYS), ARRAYS.len());
+    let are_bytes = are_told::<Binary>(rt.alloc(), BYTES, ARRAYS);
+    assert!(rt; are_bytes & are_told::<Utf8>(rt.alloc(), TEXT, ARRAYS));
 }
 
 /// What is told of builders of either kind: the last offset is not the number of bytes; or else the type is another; or
@@ -183,16 +185,15 @@ const BUILDERS: &[Case] = &[
     ("own", &[3], b"\x09\x09\x09", "none", MADE),
 ];
 
+/// Whether all of this is told of builders.
+fn builders_are_told<K: ByteKind>(alloc: Global, words: Words, cases: &[Case]) -> bool {
+    first_builder::<K>(alloc, words, cases) == cases.len()
+}
+
 #[test]
 fn builders_are_refused_by_their_first_fault(rt: HostRuntime) {
-    assert_eq!(rt;
-        first_builder::<Binary>(rt.alloc(), BYTES, BUILDERS),
-        BUILDERS.len()
-    );
-    assert_eq!(rt;
-        first_builder::<Utf8>(rt.alloc(), TEXT, BUILDERS),
-        BUILDERS.len()
-    );
+    let are_bytes = builders_are_told::<Binary>(rt.alloc(), BYTES, BUILDERS);
+    assert!(rt; are_bytes & builders_are_told::<Utf8>(rt.alloc(), TEXT, BUILDERS));
 }
 
 /// What is told of arrays of text beside that: behind the bytes' end, and before the mask, that a slot is no text.
@@ -213,10 +214,7 @@ const TEXT_ARRAYS: &[Case] = &[
 
 #[test]
 fn arrays_of_text_are_refused_by_their_first_fault(rt: HostRuntime) {
-    assert_eq!(rt;
-        first_array::<Utf8>(rt.alloc(), TEXT, TEXT_ARRAYS),
-        TEXT_ARRAYS.len()
-    );
+    assert!(rt; are_told::<Utf8>(rt.alloc(), TEXT, TEXT_ARRAYS));
 }
 
 /// What is told of builders of text beside that: behind the bytes' end, and before the type, that a slot is no text.
@@ -237,10 +235,7 @@ const TEXT_BUILDERS: &[Case] = &[
 
 #[test]
 fn builders_of_text_are_refused_by_their_first_fault(rt: HostRuntime) {
-    assert_eq!(rt;
-        first_builder::<Utf8>(rt.alloc(), TEXT, TEXT_BUILDERS),
-        TEXT_BUILDERS.len()
-    );
+    assert!(rt; builders_are_told::<Utf8>(rt.alloc(), TEXT, TEXT_BUILDERS));
 }
 
 /// An extension around a type.
@@ -341,13 +336,16 @@ fn first_slice<K: ByteKind, O: Offset>(
     cases.len()
 }
 
+/// Whether all are accepted again over both widths of offsets.
+fn are_again<K: ByteKind>(alloc: Global, cases: &[(usize, usize, &[usize], &str)]) -> bool {
+    let narrow = first_slice::<K, i32>(alloc, cases) == cases.len();
+    narrow & (first_slice::<K, i64>(alloc, cases) == cases.len())
+}
+
 #[test]
 fn parts_of_slices_are_accepted_again(rt: HostRuntime) {
-    let bytes = first_slice::<Binary, i32>(rt.alloc(), SLICES);
-    let wide_bytes = first_slice::<Binary, i64>(rt.alloc(), SLICES);
-    let text = first_slice::<Utf8, i32>(rt.alloc(), SLICES);
-    let wide_text = first_slice::<Utf8, i64>(rt.alloc(), SLICES);
-    assert_eq!(rt; [bytes, wide_bytes, text, wide_text], [SLICES.len(); 4]);
+    let are_bytes = are_again::<Binary>(rt.alloc(), SLICES);
+    assert!(rt; are_bytes & are_again::<Utf8>(rt.alloc(), SLICES));
 }
 
 /// Whether a builder of the parts of another, from which a slot was popped, has one slot and a null.
@@ -355,19 +353,24 @@ fn is_built_again<K: ByteKind, O: Offset>(builder: MutableByteArray<K, O>) -> bo
     let mut builder = builder;
     let is_popped = builder.pop().is_ok();
     let (data_type, offsets, values, validity) = builder.into_data();
-    match MutableByteArray::<K, O>::try_new(data_type, offsets, values, validity) {
-        Ok(builder) => is_popped & builds(&builder, [2, 3, 3].as_slice(), b"\xFF\xFF\x01", "10"),
-        Err(_) => false,
+    is_made(
+        MutableByteArray::<K, O>::try_new(data_type, offsets, values, validity),
+        |builder| is_popped & builds(builder, [2, 3, 3].as_slice(), b"\xFF\xFF\x01", "10"),
+    )
+}
+
+/// Whether one of the parts of a thawed array has.
+fn is_thawed_again<K: ByteKind, O: Offset>(array: ByteArray<K, O>) -> bool {
+    match array.into_mut() {
+        Right(builder) => is_built_again(builder),
+        Left(_) => false,
     }
 }
 
-/// Whether one of the parts of three items that were thawed has.
+/// Whether one of those of three items has.
 fn builders_again<K: ByteKind, O: Offset>(alloc: Global) -> bool {
     match around::<K, O>(alloc) {
-        Ok(array) => match array.into_mut() {
-            Right(builder) => is_built_again(builder),
-            Left(_) => false,
-        },
+        Ok(array) => is_thawed_again(array),
         Err(_) => false,
     }
 }
@@ -377,10 +380,10 @@ fn is_held_again<K: ByteKind, O: Offset>(builder: MutableByteValuesArray<K, O>) 
     let mut builder = builder;
     let is_popped = builder.pop().is_ok();
     let (data_type, offsets, values) = builder.into_inner();
-    match MutableByteValuesArray::<K, O>::try_new(data_type, offsets, values) {
-        Ok(builder) => is_popped & holds(&builder, [2, 3].as_slice(), b"\xFF\xFF\x01"),
-        Err(_) => false,
-    }
+    is_made(
+        MutableByteValuesArray::<K, O>::try_new(data_type, offsets, values),
+        |builder| is_popped & holds(builder, [2, 3].as_slice(), b"\xFF\xFF\x01"),
+    )
 }
 
 /// Whether one of the parts of two items has.

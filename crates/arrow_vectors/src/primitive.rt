@@ -1,7 +1,7 @@
 //! Numbers: what slots and raw parts become, and what slices, clones, thaws and joins leave.
 use arrow_memory::buffer::Buffer;
 use arrow_primitive::{MutablePrimitiveArray, PrimitiveArray};
-use arrow_testing::{frozen_mask, growing_mask, is_mask, tells};
+use arrow_testing::{frozen_mask, growing_mask, is_made, is_mask, tells};
 use arrow_types::data_type::DataType;
 use arrow_types::error::Error;
 use either::{Left, Right};
@@ -56,10 +56,10 @@ fn reads(array: &PrimitiveArray<i32>) -> bool {
 
 /// Whether those of an array of these slots are.
 fn is_read(alloc: Global) -> bool {
-    match PrimitiveArray::from(alloc, SLOTS.as_slice()) {
-        Ok(array) => reads(&array) && shows(&array, [1, 0, 10].as_slice(), "101"),
-        Err(_) => false,
-    }
+    is_made(
+        PrimitiveArray::from(alloc, SLOTS.as_slice()),
+        |array| reads(array) && shows(array, [1, 0, 10].as_slice(), "101"),
+    )
 }
 
 #[test]
@@ -98,7 +98,7 @@ fn first_packed(alloc: Global, cases: &[(&[Option<i32>], u8)]) -> usize {
 
 #[test]
 fn marks_are_packed_from_the_lowest_bit_on(rt: HostRuntime) {
-    assert_eq!(rt; first_packed(rt.alloc(), PACKED), PACKED.len());
+    assert!(rt; first_packed(rt.alloc(), PACKED) == PACKED.len());
 }
 
 /// Whether an array of so many nulls stores these values, under these marks.
@@ -209,16 +209,43 @@ fn pushed(alloc: Global, slots: &[Option<i32>]) -> Result<MutablePrimitiveArray<
     Ok(builder)
 }
 
-/// A builder of the first slots with the others behind them.
-fn joined(
+/// Whether a builder stores these values, under these marks, once another's slots came.
+fn takes(
+    builder: &mut MutablePrimitiveArray<i32>,
+    other: &MutablePrimitiveArray<i32>,
+    values: &[i32],
+    mask: &str,
+) -> bool {
+    let is_taken = builder.try_extend_from_self(other).is_ok();
+    is_taken & builds(builder, values, mask)
+}
+
+/// Whether it does once a builder's of these slots came.
+fn takes_slots(
+    alloc: Global,
+    builder: &mut MutablePrimitiveArray<i32>,
+    second: &[Option<i32>],
+    values: &[i32],
+    mask: &str,
+) -> bool {
+    match pushed(alloc, second) {
+        Ok(other) => takes(builder, &other, values, mask),
+        Err(_) => false,
+    }
+}
+
+/// Whether a builder of the first slots with the others behind them does.
+fn joins(
     alloc: Global,
     first: &[Option<i32>],
     second: &[Option<i32>],
-) -> Result<MutablePrimitiveArray<i32>, Error> {
-    let other = pushed(alloc, second)?;
-    let mut builder = pushed(alloc, first)?;
-    builder.try_extend_from_self(&other)?;
-    Ok(builder)
+    values: &[i32],
+    mask: &str,
+) -> bool {
+    match pushed(alloc, first) {
+        Ok(mut builder) => takes_slots(alloc, &mut builder, second, values, mask),
+        Err(_) => false,
+    }
 }
 
 /// Slots, those behind them, and what both store under which marks.
@@ -241,7 +268,7 @@ const JOINS: &[Join] = &[
 /// The place of the first of them that store something else; their number where none do.
 fn first_join(alloc: Global, cases: &[Join]) -> usize {
     for (place, (first, second, values, mask)) in cases.iter().enumerate() {
-        if !built(joined(alloc, *first, *second), *values, *mask) {
+        if !joins(alloc, *first, *second, *values, *mask) {
             return place;
         }
     }
@@ -250,7 +277,7 @@ fn first_join(alloc: Global, cases: &[Join]) -> usize {
 
 #[test]
 fn slots_behind_others_keep_their_marks(rt: HostRuntime) {
-    assert_eq!(rt; first_join(rt.alloc(), JOINS), JOINS.len());
+    assert!(rt; first_join(rt.alloc(), JOINS) == JOINS.len());
 }
 
 /// The slots of an array from a place on, so many of them; the array as it is where there are fewer.
@@ -307,7 +334,7 @@ fn first_cut(alloc: Global, cases: &[Cut]) -> usize {
 
 #[test]
 fn places_of_a_slice_of_a_slice_are_added(rt: HostRuntime) {
-    assert_eq!(rt; first_cut(rt.alloc(), CUTS), CUTS.len());
+    assert!(rt; first_cut(rt.alloc(), CUTS) == CUTS.len());
 }
 
 const UNFIT: &str = "validity mask length must match the number of values";
@@ -324,10 +351,15 @@ fn named(is_own: bool) -> DataType {
     }
 }
 
+/// Three values.
+fn three(alloc: Global) -> Result<Buffer<i32>, Error> {
+    Ok(Buffer::from_vec([1, 2, 3].to_vec(alloc)?)?)
+}
+
 /// The array of three values, under their type or another, and a mask.
 fn array_of(alloc: Global, is_own: bool, mask: &str) -> Result<PrimitiveArray<i32>, Error> {
     let validity = frozen_mask(alloc, mask)?;
-    match Buffer::from_vec([1, 2, 3].to_vec(alloc)?) {
+    match three(alloc) {
         Ok(values) => PrimitiveArray::try_new(named(is_own), values, validity),
         Err(refused) => Err(refused),
     }
@@ -370,7 +402,7 @@ fn first_fault(alloc: Global, cases: &[(&str, bool, &str)]) -> usize {
 
 #[test]
 fn the_mask_is_tested_before_the_type(rt: HostRuntime) {
-    assert_eq!(rt; first_fault(rt.alloc(), FAULTS), FAULTS.len());
+    assert!(rt; first_fault(rt.alloc(), FAULTS) == FAULTS.len());
 }
 
 /// The array of the parts of a cut array.
@@ -417,5 +449,5 @@ fn first_again(alloc: Global, cases: &[(&str, &str, &str)]) -> usize {
 
 #[test]
 fn parts_that_are_taken_out_are_accepted_again(rt: HostRuntime) {
-    assert_eq!(rt; first_again(rt.alloc(), AGAIN), AGAIN.len());
+    assert!(rt; first_again(rt.alloc(), AGAIN) == AGAIN.len());
 }

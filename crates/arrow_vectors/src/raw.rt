@@ -2,7 +2,9 @@
 //! numbers, and masks as texts of '1' and '0', or as `none` where none is held.
 use arrow_byte_array::{ByteArray, MutableByteArray, MutableByteValuesArray};
 use arrow_bytes::ByteKind;
+use arrow_memory::bitmap::{Bitmap, MutableBitmap};
 use arrow_memory::buffer::Buffer;
+use arrow_memory::offset::{Offsets, OffsetsBuffer};
 use arrow_testing::{are_offsets, frozen_mask, frozen_offsets, growing_mask, is_mask, offsets_of};
 use arrow_types::data_type::DataType;
 use arrow_types::error::Error;
@@ -48,6 +50,21 @@ pub(crate) fn holds<K: ByteKind, O: Offset>(
     builder.values().as_slice() == bytes && are_offsets(builder.offsets().as_slice(), offsets)
 }
 
+/// Such offsets, bytes and marks.
+fn frozen<O: Offset>(
+    alloc: Global,
+    offsets: &[usize],
+    bytes: &[u8],
+    mask: &str,
+) -> Result<(OffsetsBuffer<O>, Buffer<u8>, Option<Bitmap>), Error> {
+    let values = Buffer::from_vec(bytes.to_vec(alloc)?)?;
+    let offsets = frozen_offsets(alloc, offsets)?;
+    match frozen_mask(alloc, mask) {
+        Ok(validity) => Ok((offsets, values, validity)),
+        Err(refused) => Err(refused),
+    }
+}
+
 /// The array of such parts.
 pub(crate) fn array_of<K: ByteKind, O: Offset>(
     alloc: Global,
@@ -56,9 +73,27 @@ pub(crate) fn array_of<K: ByteKind, O: Offset>(
     bytes: &[u8],
     mask: &str,
 ) -> Result<ByteArray<K, O>, Error> {
-    let validity = frozen_mask(alloc, mask)?;
-    let values = Buffer::from_vec(bytes.to_vec(alloc)?)?;
-    ByteArray::try_new(data_type, frozen_offsets(alloc, offsets)?, values, validity)
+    match frozen(alloc, offsets, bytes, mask) {
+        Ok((offsets, values, validity)) => {
+            ByteArray::try_new(data_type, offsets, values, validity)
+        }
+        Err(refused) => Err(refused),
+    }
+}
+
+/// Such offsets, bytes and marks, which may grow.
+fn growing<O: Offset>(
+    alloc: Global,
+    offsets: &[usize],
+    bytes: &[u8],
+    mask: &str,
+) -> Result<(Offsets<O>, Vec<u8>, Option<MutableBitmap>), Error> {
+    let values = bytes.to_vec(alloc)?;
+    let offsets = offsets_of(alloc, offsets)?;
+    match growing_mask(alloc, mask) {
+        Ok(validity) => Ok((offsets, values, validity)),
+        Err(refused) => Err(refused),
+    }
 }
 
 /// The builder of such parts.
@@ -69,9 +104,12 @@ pub(crate) fn builder_of<K: ByteKind, O: Offset>(
     bytes: &[u8],
     mask: &str,
 ) -> Result<MutableByteArray<K, O>, Error> {
-    let validity = growing_mask(alloc, mask)?;
-    let values = bytes.to_vec(alloc)?;
-    MutableByteArray::try_new(data_type, offsets_of(alloc, offsets)?, values, validity)
+    match growing(alloc, offsets, bytes, mask) {
+        Ok((offsets, values, validity)) => {
+            MutableByteArray::try_new(data_type, offsets, values, validity)
+        }
+        Err(refused) => Err(refused),
+    }
 }
 
 /// The builder without nulls of such parts.

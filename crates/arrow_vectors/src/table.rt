@@ -1,6 +1,7 @@
 //! What a table of arrays answers to hostile commands.
 use crate::Tiny;
 use arrow_table::{Command, Item, Kind, Reply, Table, run};
+use arrow_testing::passes;
 use arrow_types::data_type::DataType;
 use arrow_types::error::Error;
 use arrow_types::offset::Offset;
@@ -60,10 +61,10 @@ fn slices(alloc: Global, table: &mut Table<i64, i32>) -> bool {
 
 /// Whether those of a new table are.
 fn slices_new(alloc: Global) -> bool {
-    match Table::<i64, i32>::new(alloc, 1) {
-        Ok(mut table) => slices(alloc, &mut table),
-        Err(_) => false,
-    }
+    passes(
+        Table::<i64, i32>::new(alloc, 1),
+        |table| slices(alloc, table),
+    )
 }
 
 #[test]

@@ -2,6 +2,7 @@
 use crate::Tiny;
 use crate::raw::{builds, own_array, own_builder, shows};
 use arrow_bytes::Utf8;
+use arrow_testing::is_made;
 use arrow_types::offset::Offset;
 use arrow_utf8::{MutableUtf8Array, Utf8Array};
 use either::{Left, Right};
@@ -28,19 +29,19 @@ fn gives<O: Offset>(array: &Utf8Array<O>) -> bool {
 }
 
 /// Whether slots are stored as bytes between offsets, under marks.
-fn is_made<O: Offset>(alloc: Global, slots: &[Option<&'static str>]) -> bool {
-    match Utf8Array::<O>::from(alloc, slots) {
-        Ok(array) => { shows(&array, [0, 2, 2, 7].as_slice(), b"hithere", "101") && gives(&array) }
-        Err(_) => false,
-    }
+fn is_stored<O: Offset>(alloc: Global, slots: &[Option<&'static str>]) -> bool {
+    is_made(
+        Utf8Array::<O>::from(alloc, slots),
+        |array| shows(array, [0, 2, 2, 7].as_slice(), b"hithere", "101") & gives(array),
+    )
 }
 
 #[test]
 fn a_null_stores_no_byte_under_a_clear_mark(rt: HostRuntime) {
     let slots = [Some("hi"), None, Some("there")];
-    let narrow = is_made::<i32>(rt.alloc(), slots.as_slice());
-    let wide = is_made::<i64>(rt.alloc(), slots.as_slice());
-    assert!(rt; narrow & wide & is_made::<Tiny>(rt.alloc(), slots.as_slice()));
+    let narrow = is_stored::<i32>(rt.alloc(), slots.as_slice());
+    let wide = is_stored::<i64>(rt.alloc(), slots.as_slice());
+    assert!(rt; narrow & wide & is_stored::<Tiny>(rt.alloc(), slots.as_slice()));
 }
 
 /// Whether offsets over bytes give these texts.
@@ -75,14 +76,18 @@ fn first_cut<O: Offset>(alloc: Global, cases: &[Cut]) -> usize {
     cases.len()
 }
 
+/// Whether all give these texts.
+fn are_cut<O: Offset>(alloc: Global, cases: &[Cut]) -> bool {
+    first_cut::<O>(alloc, cases) == cases.len()
+}
+
 #[test]
 fn each_slot_is_text_by_itself(rt: HostRuntime) {
     let (narrow, wide) = (
-        first_cut::<i32>(rt.alloc(), CUTS),
-        first_cut::<i64>(rt.alloc(), CUTS),
+        are_cut::<i32>(rt.alloc(), CUTS),
+        are_cut::<i64>(rt.alloc(), CUTS),
     );
-    let tiny = first_cut::<Tiny>(rt.alloc(), CUTS);
-    assert_eq!(rt; [narrow, wide, tiny], [CUTS.len(); 3]);
+    assert!(rt; narrow & wide & are_cut::<Tiny>(rt.alloc(), CUTS));
 }
 
 /// Whether a text that is pushed stands behind a builder's slot.
@@ -91,13 +96,18 @@ fn grows<O: Offset>(builder: &mut MutableUtf8Array<O>) -> bool {
     is_cut & builder.push(Some("b")).is_ok() && builds(builder, [0, 1, 2].as_slice(), b"ab", "none")
 }
 
-/// Whether it does behind that of a thawed array, where other bytes were.
+/// Whether it does behind that of a thawed array.
+fn is_grown<O: Offset>(array: Utf8Array<O>) -> bool {
+    match array.into_mut() {
+        Right(mut builder) => grows(&mut builder),
+        Left(_) => false,
+    }
+}
+
+/// Whether it does where other bytes were.
 fn thaws_and_grows<O: Offset>(alloc: Global) -> bool {
     match own_array::<Utf8, O>(alloc, [0, 1].as_slice(), b"a\xFF", "none") {
-        Ok(array) => match array.into_mut() {
-            Right(mut builder) => grows(&mut builder),
-            Left(_) => false,
-        },
+        Ok(array) => is_grown(array),
         Err(_) => false,
     }
 }
@@ -111,25 +121,35 @@ fn bytes_behind_a_thawed_array_do_not_come_back(rt: HostRuntime) {
     assert!(rt; narrow & wide & thaws_and_grows::<Tiny>(rt.alloc()));
 }
 
-/// Whether a text stands behind two with another byte before them, and the parts are accepted again.
-fn is_again<O: Offset>(builder: MutableUtf8Array<O>) -> bool {
-    let mut builder = builder;
-    let is_pushed = builder.push(Some("c")).is_ok();
-    let is_built = builds(&builder, [1, 2, 3, 4].as_slice(), b"\xFFabc", "none");
-    let (data_type, offsets, values, validity) = builder.into_data();
-    match MutableUtf8Array::<O>::try_new(data_type, offsets, values, validity) {
-        Ok(builder) => {
-            let is_again = builds(&builder, [1, 2, 3, 4].as_slice(), b"\xFFabc", "none");
-            is_pushed & is_built & is_again
-        }
-        Err(_) => false,
-    }
+/// Whether a builder has three texts with another byte before them.
+fn is_behind<O: Offset>(builder: &MutableUtf8Array<O>) -> bool {
+    builds(builder, [1, 2, 3, 4].as_slice(), b"\xFFabc", "none")
 }
 
-/// Whether one of such parts does.
+/// Whether the builder of another's parts has.
+fn is_again<O: Offset>(builder: MutableUtf8Array<O>) -> bool {
+    let (data_type, offsets, values, validity) = builder.into_data();
+    let answer = MutableUtf8Array::<O>::try_new(data_type, offsets, values, validity);
+    is_made(answer, is_behind::<O>)
+}
+
+/// Whether a third text stands behind two.
+fn takes_third<O: Offset>(builder: &mut MutableUtf8Array<O>) -> bool {
+    let is_pushed = builder.push(Some("c")).is_ok();
+    is_pushed & is_behind(builder)
+}
+
+/// Whether it does, and the parts are accepted again.
+fn is_taken<O: Offset>(builder: MutableUtf8Array<O>) -> bool {
+    let mut builder = builder;
+    let is_taken = takes_third(&mut builder);
+    is_taken & is_again(builder)
+}
+
+/// Whether those of a builder of such parts are.
 fn pushes_behind<O: Offset>(alloc: Global) -> bool {
     match own_builder::<Utf8, O>(alloc, [1, 2, 3].as_slice(), b"\xFFab", "none") {
-        Ok(builder) => is_again(builder),
+        Ok(builder) => is_taken(builder),
         Err(_) => false,
     }
 }

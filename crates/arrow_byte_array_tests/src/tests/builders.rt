@@ -24,10 +24,10 @@ fn equals<K: Known, O: Offset>(
 
 /// Whether a builder with a null is compared by its slots alone.
 fn equals_three<K: Known, O: Offset>(alloc: Global) -> Result<bool, Error> {
-    with(
-        MutableByteArray::<K, O>::from(alloc, K::slots(List::Three)),
-        |first| are_told_apart(alloc, first),
-    )
+    match MutableByteArray::<K, O>::from(alloc, K::slots(List::Three)) {
+        Ok(first) => are_told_apart(alloc, &first),
+        Err(refused) => Err(refused),
+    }
 }
 
 #[test]
@@ -52,10 +52,10 @@ fn are_told_apart<K: Known, O: Offset>(
 
 /// Whether a builder of nulls equals one whose nulls store bytes.
 fn equals_nulls<K: Known, O: Offset>(alloc: Global) -> Result<bool, Error> {
-    with(
-        MutableByteArray::<K, O>::from(alloc, K::slots(List::Nulls)),
-        |first| equals(alloc, first, "000"),
-    )
+    match MutableByteArray::<K, O>::from(alloc, K::slots(List::Nulls)) {
+        Ok(first) => equals(alloc, &first, "000"),
+        Err(refused) => Err(refused),
+    }
 }
 
 #[test]

@@ -161,10 +161,10 @@ fn extends<O: Offset>(
     slots: &[Option<&[u8]>],
     items: &[&[u8]],
 ) -> Result<bool, Error> {
-    with(
-        MutableBinaryArray::<O>::new(alloc),
-        |builder| is_extended(builder, slots, items),
-    )
+    match MutableBinaryArray::<O>::new(alloc) {
+        Ok(mut builder) => is_extended(&mut builder, slots, items),
+        Err(refused) => Err(refused),
+    }
 }
 
 /// Whether a builder without nulls takes them.
@@ -178,10 +178,10 @@ fn are_extended<O: Offset>(
 
 /// Whether a new one does.
 fn extends_values<O: Offset>(alloc: Global, items: &[&[u8]]) -> Result<bool, Error> {
-    with(
-        MutableBinaryValuesArray::<O>::new(alloc),
-        |builder| are_extended(builder, items),
-    )
+    match MutableBinaryValuesArray::<O>::new(alloc) {
+        Ok(mut builder) => are_extended(&mut builder, items),
+        Err(refused) => Err(refused),
+    }
 }
 
 /// Whether all of them take borrowed items.

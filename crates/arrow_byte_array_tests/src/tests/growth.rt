@@ -15,7 +15,10 @@ fn pushes<K: Known, O: Offset>(builder: &mut MutableByteArray<K, O>) -> Result<b
 
 /// Whether those of a new builder are.
 fn pushes_to_new<K: Known, O: Offset>(alloc: Global) -> Result<bool, Error> {
-    with(MutableByteArray::<K, O>::new(alloc), pushes::<K, O>)
+    match MutableByteArray::<K, O>::new(alloc) {
+        Ok(mut builder) => pushes(&mut builder),
+        Err(refused) => Err(refused),
+    }
 }
 
 #[test]
@@ -58,10 +61,10 @@ fn pops_all<K: Known, O: Offset>(builder: &mut MutableByteArray<K, O>) -> Result
 
 /// Whether those of a builder of three slots are.
 fn pops_three<K: Known, O: Offset>(alloc: Global) -> Result<bool, Error> {
-    with(
-        MutableByteArray::<K, O>::from(alloc, K::slots(List::Three)),
-        pops_all::<K, O>,
-    )
+    match MutableByteArray::<K, O>::from(alloc, K::slots(List::Three)) {
+        Ok(mut builder) => pops_all(&mut builder),
+        Err(refused) => Err(refused),
+    }
 }
 
 #[test]
@@ -83,10 +86,10 @@ fn pops_stored<K: Known, O: Offset>(builder: &mut MutableByteArray<K, O>) -> Res
 /// Whether a null that stores bytes is popped as a null, and takes its bytes with it.
 fn pops_bytes<K: Known, O: Offset>(alloc: Global) -> Result<bool, Error> {
     let (data_type, offsets) = (K::data_type(O::IS_LARGE), [1, 2, 3].as_slice());
-    with(
-        builder_of::<K, O>(alloc, data_type, offsets, b"\xFFyz", "10"),
-        pops_stored::<K, O>,
-    )
+    match builder_of::<K, O>(alloc, data_type, offsets, b"\xFFyz", "10") {
+        Ok(mut builder) => pops_stored(&mut builder),
+        Err(refused) => Err(refused),
+    }
 }
 
 #[test]
@@ -118,7 +121,10 @@ fn extends_by_slots<K: Known, O: Offset>(
 
 /// Whether a builder of no slot does.
 fn extends_default<K: Known, O: Offset>(alloc: Global) -> Result<bool, Error> {
-    with(MutableByteArray::<K, O>::default(alloc), extends::<K, O>)
+    match MutableByteArray::<K, O>::default(alloc) {
+        Ok(mut builder) => extends(&mut builder),
+        Err(refused) => Err(refused),
+    }
 }
 
 #[test]
@@ -165,10 +171,10 @@ fn rooms<K: Known, O: Offset>(builder: &mut MutableByteArray<K, O>) -> Result<bo
 
 /// Whether those of a new builder are.
 fn rooms_in_room<K: Known, O: Offset>(alloc: Global) -> Result<bool, Error> {
-    with(
-        MutableByteArray::<K, O>::with_capacities(alloc, 40, 400),
-        rooms::<K, O>,
-    )
+    match MutableByteArray::<K, O>::with_capacities(alloc, 40, 400) {
+        Ok(mut builder) => rooms(&mut builder),
+        Err(refused) => Err(refused),
+    }
 }
 
 #[test]
@@ -212,15 +218,18 @@ fn parts_from<K: Known, O: Offset>(
 /// Whether a copy of a builder lives on its own.
 fn copies<K: Known, O: Offset>(builder: &mut MutableByteArray<K, O>) -> Result<bool, Error> {
     K::push(builder, Some("ab"))?;
-    with(builder.clone(), |copy| parts_from(builder, copy))
+    match builder.clone() {
+        Ok(copy) => parts_from(builder, &copy),
+        Err(refused) => Err(refused),
+    }
 }
 
 /// Whether a copy of a builder with room does.
 fn copies_room<K: Known, O: Offset>(alloc: Global) -> Result<bool, Error> {
-    with(
-        MutableByteArray::<K, O>::with_capacities(alloc, 2, 8),
-        copies::<K, O>,
-    )
+    match MutableByteArray::<K, O>::with_capacities(alloc, 2, 8) {
+        Ok(mut builder) => copies(&mut builder),
+        Err(refused) => Err(refused),
+    }
 }
 
 #[test]
@@ -235,15 +244,15 @@ fn copies_are_on_their_own(rt: HostRuntime) -> Result<(), Fail> {
 
 /// Whether the copy of a builder with a null has the same slots, bytes and marks.
 fn copies_three<K: Known, O: Offset>(alloc: Global) -> Result<bool, Error> {
-    with(
-        MutableByteArray::<K, O>::from(alloc, K::slots(List::Three)),
-        |builder| built(
+    match MutableByteArray::<K, O>::from(alloc, K::slots(List::Three)) {
+        Ok(builder) => built(
             builder.clone(),
             THREE.as_slice(),
             "éthere".as_bytes(),
             "101",
         ),
-    )
+        Err(refused) => Err(refused),
+    }
 }
 
 #[test]

@@ -79,7 +79,10 @@ fn drops<K: Known, O: Offset>(array: &mut ByteArray<K, O>) -> bool {
 
 /// Whether that of slots between other bytes is.
 fn drops_mask<K: Known, O: Offset>(alloc: Global) -> Result<bool, Error> {
-    with(around::<K, O>(alloc), |array| Ok(drops(array)))
+    match around::<K, O>(alloc) {
+        Ok(mut array) => Ok(drops(&mut array)),
+        Err(refused) => Err(refused),
+    }
 }
 
 #[test]
@@ -165,10 +168,10 @@ fn changes<K: Known, O: Offset>(builder: &mut MutableByteArray<K, O>) -> bool {
 
 /// Whether that of a builder with a null is.
 fn changes_mask<K: Known, O: Offset>(alloc: Global) -> Result<bool, Error> {
-    with(
-        MutableByteArray::<K, O>::from(alloc, K::slots(List::Three)),
-        |builder| Ok(changes(builder)),
-    )
+    match MutableByteArray::<K, O>::from(alloc, K::slots(List::Three)) {
+        Ok(mut builder) => Ok(changes(&mut builder)),
+        Err(refused) => Err(refused),
+    }
 }
 
 #[test]

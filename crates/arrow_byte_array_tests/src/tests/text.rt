@@ -148,10 +148,10 @@ fn extends<O: Offset>(
     slots: &[Option<&str>],
     items: &[&str],
 ) -> Result<bool, Error> {
-    with(
-        MutableUtf8Array::<O>::new(alloc),
-        |builder| is_extended(builder, slots, items),
-    )
+    match MutableUtf8Array::<O>::new(alloc) {
+        Ok(mut builder) => is_extended(&mut builder, slots, items),
+        Err(refused) => Err(refused),
+    }
 }
 
 /// Whether a builder without nulls takes them.
@@ -165,10 +165,10 @@ fn are_extended<O: Offset>(
 
 /// Whether a new one does.
 fn extends_values<O: Offset>(alloc: Global, items: &[&str]) -> Result<bool, Error> {
-    with(
-        MutableUtf8ValuesArray::<O>::new(alloc),
-        |builder| are_extended(builder, items),
-    )
+    match MutableUtf8ValuesArray::<O>::new(alloc) {
+        Ok(mut builder) => are_extended(&mut builder, items),
+        Err(refused) => Err(refused),
+    }
 }
 
 /// Whether all of them take borrowed items.

@@ -33,10 +33,10 @@ fn pops_both<K: Known, O: Offset>(
 
 /// Whether they are onto a new builder.
 fn pops_new<K: Known, O: Offset>(alloc: Global) -> Result<bool, Error> {
-    with(
-        MutableByteValuesArray::<K, O>::new(alloc),
-        pops_both::<K, O>,
-    )
+    match MutableByteValuesArray::<K, O>::new(alloc) {
+        Ok(mut builder) => pops_both(&mut builder),
+        Err(refused) => Err(refused),
+    }
 }
 
 #[test]
@@ -71,10 +71,10 @@ fn rooms<K: Known, O: Offset>(builder: &mut MutableByteValuesArray<K, O>) -> Res
 
 /// Whether those of a new builder are.
 fn rooms_in_room<K: Known, O: Offset>(alloc: Global) -> Result<bool, Error> {
-    with(
-        MutableByteValuesArray::<K, O>::with_capacities(alloc, 40, 400),
-        rooms::<K, O>,
-    )
+    match MutableByteValuesArray::<K, O>::with_capacities(alloc, 40, 400) {
+        Ok(mut builder) => rooms(&mut builder),
+        Err(refused) => Err(refused),
+    }
 }
 
 #[test]
@@ -107,14 +107,10 @@ fn room_for_items_is_given(rt: HostRuntime) -> Result<(), Fail> {
 
 /// Whether the copy of a builder has the same items.
 fn copies<K: Known, O: Offset>(alloc: Global) -> Result<bool, Error> {
-    let answer = MutableByteValuesArray::<K, O>::from_iter(
-        alloc,
-        K::items(List::Three).iter().copied(),
-    );
-    with(
-        answer,
-        |builder| held(builder.clone(), THREE.as_slice(), "éthere".as_bytes()),
-    )
+    match MutableByteValuesArray::<K, O>::from_iter(alloc, K::items(List::Three).iter().copied()) {
+        Ok(builder) => held(builder.clone(), THREE.as_slice(), "éthere".as_bytes()),
+        Err(refused) => Err(refused),
+    }
 }
 
 #[test]
@@ -136,10 +132,10 @@ fn extends<K: Known, O: Offset>(builder: &mut MutableByteValuesArray<K, O>) -> R
 
 /// Whether a builder of no item does.
 fn extends_default<K: Known, O: Offset>(alloc: Global) -> Result<bool, Error> {
-    with(
-        MutableByteValuesArray::<K, O>::default(alloc),
-        extends::<K, O>,
-    )
+    match MutableByteValuesArray::<K, O>::default(alloc) {
+        Ok(mut builder) => extends(&mut builder),
+        Err(refused) => Err(refused),
+    }
 }
 
 #[test]
@@ -174,15 +170,18 @@ fn joins_to<K: Known, O: Offset>(
     alloc: Global,
     builder: &mut MutableByteValuesArray<K, O>,
 ) -> Result<bool, Error> {
-    with(behind::<K, O>(alloc), |other| joins(builder, other))
+    match behind::<K, O>(alloc) {
+        Ok(other) => joins(builder, &other),
+        Err(refused) => Err(refused),
+    }
 }
 
 /// Whether they do behind an item of a new builder.
 fn joins_rest<K: Known, O: Offset>(alloc: Global) -> Result<bool, Error> {
-    with(
-        MutableByteValuesArray::<K, O>::with_capacities(alloc, 1, 1),
-        |builder| joins_to(alloc, builder),
-    )
+    match MutableByteValuesArray::<K, O>::with_capacities(alloc, 1, 1) {
+        Ok(mut builder) => joins_to(alloc, &mut builder),
+        Err(refused) => Err(refused),
+    }
 }
 
 #[test]
