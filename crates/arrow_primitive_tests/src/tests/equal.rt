@@ -35,14 +35,14 @@ fn nulls_are_equal_whatever_they_store(rt: HostRuntime) -> Result<(), Fail> {
 }
 
 /// Writes over the first value of a builder that has one.
-fn write_first(builder: &mut MutablePrimitiveArray<i32>, value: i32) {
+fn write_first(builder: &mut MutablePrimitiveArray<i64>, value: i64) {
     if builder.len() > 0 {
         builder.values_mut_slice()[0] = value;
     }
 }
 
 /// Whether what is written to the values of a builder is there.
-fn is_written(values: Vec<i32>) -> bool {
+fn is_written(values: Vec<i64>) -> bool {
     let mut builder = MutablePrimitiveArray::from_vec(values);
     write_first(&mut builder, 7);
     builds(&builder, [7, 2, 3].as_slice(), "none")
