@@ -202,14 +202,10 @@ impl<O: Offset> Offsets<O> {
         ensures err { IfErr result (λ e. MatchGrowth e (O.most < last_of self.old + length) (last_of self.old + length ≤ O.most) × (self.new ≡ self.old)) }
     {
         let last = self.last().to_usize();
-        let Some(end) = last.checked_add(length) else {
+        if length > O::max().to_usize() - last {
             return Err(Error::Overflow);
-        };
-        let Some(end) = O::from_usize(end) else {
-            return Err(Error::Overflow);
-        };
-        self.offsets.reserve(1)?;
-        self.offsets.push_reserved(end);
+        }
+        self.offsets.push(O::from_as_usize(last + length))?;
         Ok(())
     }
 
@@ -223,9 +219,11 @@ impl<O: Offset> Offsets<O> {
         ensures ok { OnOk result (self.new ≡ self.old ++ last_of self.old ∷ []) }
         ensures err { IfErr result (λ e. (e ≡ Error.OutOfMemory) × (self.new ≡ self.old)) }
     {
-        let last = *self.last();
-        self.offsets.push(last)?;
-        Ok(())
+        match self.try_push_usize(0) {
+            Ok(()) => Ok(()),
+            // The end of an empty slot is never too great.
+            Err(_) => Err(Error::OutOfMemory),
+        }
     }
 
     /// Appends the slots of offsets that are kept as values, as [`Offsets::try_extend_from_self`].
@@ -237,10 +235,7 @@ impl<O: Offset> Offsets<O> {
     {
         let last = self.last().to_usize();
         let added = number_at(other, other.len() - 1) - number_at(other, 0);
-        let Some(end) = last.checked_add(added) else {
-            return Err(Error::Overflow);
-        };
-        if O::from_usize(end).is_none() {
+        if added > O::max().to_usize() - last {
             return Err(Error::Overflow);
         }
         append_moved(&mut self.offsets, other, last)?;

@@ -56,17 +56,16 @@ impl<O: Offset> Offsets<O> {
         ensures ok { OnOk result ((last_of self.old + length item.now ≤ O.most) × (self.new ≡ self.old ++ (last_of self.old + length item.now) ∷ []) × (values.new.items ≡ values.old.items ++ item.now)) }
         ensures err { IfErr result (λ e. MatchGrowth e (O.most < last_of self.old + length item.now) (last_of self.old + length item.now ≤ O.most) × (self.new ≡ self.old) × (values.new.items ≡ values.old.items)) }
     {
-        let last = self.last().to_usize();
-        if item.len() > O::max().to_usize() - last {
-            return Err(Error::Overflow);
+        let before = self.len_proxy();
+        self.try_push_usize(item.len())?;
+        match append_bytes(values, item) {
+            Ok(()) => Ok(()),
+            Err(_) => {
+                // The end that was pushed goes back: no item stands before it.
+                self.truncate(before);
+                Err(Error::OutOfMemory)
+            }
         }
-        self.offsets.push(O::from_as_usize(last + item.len()))?;
-        if append_bytes(values, item).is_err() {
-            // The end that was pushed goes back: no item stands before it.
-            self.offsets.truncate(self.offsets.len() - 1);
-            return Err(Error::OutOfMemory);
-        }
-        Ok(())
     }
 
     /// Appends the items that offsets cut out of bytes, as [`Offsets::try_extend_items`].
