@@ -98,20 +98,20 @@ const FAULTS: &[Fault] = &[
     ("none", true, "made", "made"),
 ];
 
-/// The place of the first of them of which something else is told; their number where none is.
-fn first_fault(alloc: Global, cases: &[Fault]) -> usize {
-    for (place, (mask, is_own, array, builder)) in cases.iter().enumerate() {
+/// Whether this is told of all of them.
+fn are_told(alloc: Global, cases: &[Fault]) -> bool {
+    for (mask, is_own, array, builder) in cases {
         let told = tells(array_of(alloc, *is_own, *mask)) == *array;
         if !(told & (tells(builder_of(alloc, *is_own, *mask)) == *builder)) {
-            return place;
+            return false;
         }
     }
-    cases.len()
+    true
 }
 
 #[test]
 fn the_mask_is_tested_before_the_type(rt: HostRuntime) {
-    assert!(rt; first_fault(rt.alloc(), FAULTS) == FAULTS.len());
+    assert!(rt; are_told(rt.alloc(), FAULTS));
 }
 
 /// The array of the parts of an array.
@@ -155,18 +155,18 @@ const AGAIN: &[(&str, &str, &str)] = &[
     ("110", "10", "11"),
 ];
 
-/// The place of the first of them that are others; their number where none is.
-fn first_again(alloc: Global, cases: &[(&str, &str, &str)]) -> usize {
-    for (place, (mask, last, first)) in cases.iter().enumerate() {
+/// Whether all of them are these.
+fn are_again(alloc: Global, cases: &[(&str, &str, &str)]) -> bool {
+    for (mask, last, first) in cases {
         let is_cut = made(again(alloc, *mask, true), "01", *last);
         if !(is_cut & made(again(alloc, *mask, false), "10", *first)) {
-            return place;
+            return false;
         }
     }
-    cases.len()
+    true
 }
 
 #[test]
 fn parts_that_are_taken_out_are_accepted_again(rt: HostRuntime) {
-    assert!(rt; first_again(rt.alloc(), AGAIN) == AGAIN.len());
+    assert!(rt; are_again(rt.alloc(), AGAIN));
 }

@@ -172,20 +172,20 @@ const JOINS: &[(Pieces, Pieces, Pieces)] = &[
     ),
 ];
 
-/// The place of the first of them of which something else comes; their number where none does.
-fn first_join<K: ByteKind, O: Offset>(alloc: Global, cases: &[(Pieces, Pieces, Pieces)]) -> usize {
-    for (place, (first, second, all)) in cases.iter().enumerate() {
+/// Whether these come of all of them.
+fn each_joins<K: ByteKind, O: Offset>(alloc: Global, cases: &[(Pieces, Pieces, Pieces)]) -> bool {
+    for (first, second, all) in cases {
         if !joins::<K, O>(alloc, *first, *second, *all) {
-            return place;
+            return false;
         }
     }
-    cases.len()
+    true
 }
 
 /// Whether all of them come over both widths of offsets.
 fn all_join<K: ByteKind>(alloc: Global, cases: &[(Pieces, Pieces, Pieces)]) -> bool {
-    let narrow = first_join::<K, i32>(alloc, cases) == cases.len();
-    narrow & (first_join::<K, i64>(alloc, cases) == cases.len())
+    let narrow = each_joins::<K, i32>(alloc, cases);
+    narrow & each_joins::<K, i64>(alloc, cases)
 }
 
 #[test]
@@ -221,20 +221,20 @@ const THAWS: &[(Pieces, Pieces)] = &[
     ((&[0], b"\xFF", "none"), (&[0], b"", "none")),
 ];
 
-/// The place of the first of them that are thawed to something else; their number where none are.
-fn first_thaw<K: ByteKind, O: Offset>(alloc: Global, cases: &[(Pieces, Pieces)]) -> usize {
-    for (place, (array, builder)) in cases.iter().enumerate() {
+/// Whether all of them are thawed to these.
+fn each_thaws<K: ByteKind, O: Offset>(alloc: Global, cases: &[(Pieces, Pieces)]) -> bool {
+    for (array, builder) in cases {
         if !thaws::<K, O>(alloc, *array, *builder) {
-            return place;
+            return false;
         }
     }
-    cases.len()
+    true
 }
 
 /// Whether all of them are over both widths of offsets.
 fn all_thaw<K: ByteKind>(alloc: Global, cases: &[(Pieces, Pieces)]) -> bool {
-    let narrow = first_thaw::<K, i32>(alloc, cases) == cases.len();
-    narrow & (first_thaw::<K, i64>(alloc, cases) == cases.len())
+    let narrow = each_thaws::<K, i32>(alloc, cases);
+    narrow & each_thaws::<K, i64>(alloc, cases)
 }
 
 #[test]

@@ -5,7 +5,7 @@ use arrow_boolean::{BooleanArray, MutableBooleanArray};
 use arrow_byte_array::{ByteArray, MutableByteArray, MutableByteValuesArray};
 use arrow_bytes::{Binary, ByteItem, ByteKind, ItemError, Utf8};
 use arrow_primitive::{MutablePrimitiveArray, PrimitiveArray};
-use arrow_testing::{are_offsets, is_made, is_mask, tells};
+use arrow_testing::{are_offsets, is_made, is_mask, seen};
 use arrow_types::error::Error;
 use arrow_types::offset::Offset;
 use arrow_utf8::Utf8Array;
@@ -89,20 +89,19 @@ fn lying<'a, T: Copy>(items: &'a [T], lie: Lie) -> Liar<'a, T> {
 }
 
 /// Whether all items were taken, or memory was wanting where no memory holds as many as were told.
-fn is_taken(taken: Taken, lie: Lie) -> bool {
-    let (told, are_all) = taken;
-    let is_past_memory = lie.tells_least & !lie.tells_most;
-    ((told == "made") & are_all) | ((told == "out of memory") & is_past_memory)
+fn is_taken(answer: Result<bool, Error>, lie: Lie) -> bool {
+    match answer {
+        Ok(are_all) => are_all,
+        Err(Error::OutOfMemory) => lie.tells_least & !lie.tells_most,
+        Err(_) => false,
+    }
 }
 
-const NUMBERS: [i64; 3] = [1, 0, 3];
+const NUMBERS: &[i64] = &[1, 0, 3];
 
-const SLOTS: [Option<i64>; 3] = [Some(1), None, Some(3)];
+const SLOTS: &[Option<i64>] = &[Some(1), None, Some(3)];
 
-/// What is told where a new builder takes an iterator, and whether all of it came.
-type Taken = (&'static str, bool);
-
-/// The calls by which a builder takes one, the last of which takes values and not slots.
+/// The calls by which a builder takes an iterator, the last of which takes values and not slots.
 #[derive(Clone, Copy)]
 enum Extension {
     Extend,
@@ -116,50 +115,65 @@ const EXTENSIONS: &[Extension] = &[
     Extension::ExtendValues,
 ];
 
-/// What is told where a builder takes numbers by a call.
-fn extend_by(builder: &mut MutablePrimitiveArray<i64>, lie: Lie, call: Extension) -> &'static str {
-    let (slots, numbers) = (SLOTS, NUMBERS);
-    tells(match call {
-        Extension::Extend => builder.extend(lying(slots.as_slice(), lie)),
-        Extension::TryExtend => builder.try_extend(lying(slots.as_slice(), lie)),
-        Extension::ExtendValues => builder.extend_values(lying(numbers.as_slice(), lie)),
-    })
+/// Whether a builder stores the three numbers.
+fn builder_stores(builder: &MutablePrimitiveArray<i64>) -> bool {
+    builder.values().as_slice() == NUMBERS
 }
 
-/// Whether a new builder takes them.
-fn extends(alloc: Global, lie: Lie, call: Extension) -> Taken {
+/// Whether an array does.
+fn array_stores(array: &PrimitiveArray<i64>) -> bool {
+    array.values().as_slice() == NUMBERS
+}
+
+/// Has a builder take them by a call.
+fn extend_by(
+    builder: &mut MutablePrimitiveArray<i64>,
+    lie: Lie,
+    call: Extension,
+) -> Result<(), Error> {
+    match call {
+        Extension::Extend => builder.extend(lying(SLOTS, lie)),
+        Extension::TryExtend => builder.try_extend(lying(SLOTS, lie)),
+        Extension::ExtendValues => builder.extend_values(lying(NUMBERS, lie)),
+    }
+}
+
+/// Whether a builder takes them.
+fn takes(
+    builder: &mut MutablePrimitiveArray<i64>,
+    lie: Lie,
+    call: Extension,
+) -> Result<bool, Error> {
+    extend_by(builder, lie, call)?;
+    Ok(builder_stores(builder))
+}
+
+/// Whether a new one does.
+fn extends(alloc: Global, lie: Lie, call: Extension) -> Result<bool, Error> {
     let mut builder = MutablePrimitiveArray::new(alloc);
-    let told = extend_by(&mut builder, lie, call);
-    (told, builder.values().as_slice() == NUMBERS.as_slice())
+    takes(&mut builder, lie, call)
 }
 
 /// Whether a builder is made of them.
-fn builds(alloc: Global, lie: Lie) -> Taken {
-    let slots = SLOTS;
-    match MutablePrimitiveArray::from_iter(alloc, lying(slots.as_slice(), lie)) {
-        Ok(builder) => ("made", builder.values().as_slice() == NUMBERS.as_slice()),
-        Err(refused) => (tells(Err::<(), Error>(refused)), false),
-    }
-}
-
-/// Whether an array was made of them.
-fn is_array(answer: Result<PrimitiveArray<i64>, Error>) -> Taken {
-    match answer {
-        Ok(array) => ("made", array.values().as_slice() == NUMBERS.as_slice()),
-        Err(refused) => (tells(Err::<(), Error>(refused)), false),
-    }
+fn builds(alloc: Global, lie: Lie) -> Result<bool, Error> {
+    let answer = MutablePrimitiveArray::from_iter(alloc, lying(SLOTS, lie));
+    seen(answer, builder_stores)
 }
 
 /// Whether an array is made of slots.
-fn makes(alloc: Global, lie: Lie) -> Taken {
-    let slots = SLOTS;
-    is_array(PrimitiveArray::from_iter(alloc, lying(slots.as_slice(), lie)))
+fn makes(alloc: Global, lie: Lie) -> Result<bool, Error> {
+    seen(
+        PrimitiveArray::from_iter(alloc, lying(SLOTS, lie)),
+        array_stores,
+    )
 }
 
 /// Whether one is made of values.
-fn makes_of_values(alloc: Global, lie: Lie) -> Taken {
-    let numbers = NUMBERS;
-    is_array(PrimitiveArray::from_values(alloc, lying(numbers.as_slice(), lie)))
+fn makes_of_values(alloc: Global, lie: Lie) -> Result<bool, Error> {
+    seen(
+        PrimitiveArray::from_values(alloc, lying(NUMBERS, lie)),
+        array_stores,
+    )
 }
 
 /// Whether a builder takes the three numbers of an iterator by each call.
@@ -190,25 +204,47 @@ fn numbers_are_taken_from_an_iterator_that_lies(rt: HostRuntime) {
     assert!(rt; take_numbers(rt.alloc(), LIES));
 }
 
-const MARKS: [bool; 3] = [true, false, true];
+const MARKS: &[bool] = &[true, false, true];
 
-const MARK_SLOTS: [Option<bool>; 3] = [Some(true), None, Some(true)];
+const MARK_SLOTS: &[Option<bool>] = &[Some(true), None, Some(true)];
 
-/// What is told where a builder takes truth values by a call.
-fn extend_marks_by(builder: &mut MutableBooleanArray, lie: Lie, call: Extension) -> &'static str {
-    let (slots, marks) = (MARK_SLOTS, MARKS);
-    tells(match call {
-        Extension::Extend => builder.extend(lying(slots.as_slice(), lie)),
-        Extension::TryExtend => builder.try_extend(lying(slots.as_slice(), lie)),
-        Extension::ExtendValues => builder.extend_values(lying(marks.as_slice(), lie)),
-    })
+/// Whether a builder stores the three truth values.
+fn builder_marks(builder: &MutableBooleanArray) -> bool {
+    is_mask(Some(builder.values_iter()), "101")
 }
 
-/// Whether a new builder takes them.
-fn extends_marks(alloc: Global, lie: Lie, call: Extension) -> Taken {
+/// Whether an array does.
+fn array_marks(array: &BooleanArray) -> bool {
+    is_mask(Some(array.values_iter()), "101")
+}
+
+/// Has a builder take them by a call.
+fn extend_marks_by(
+    builder: &mut MutableBooleanArray,
+    lie: Lie,
+    call: Extension,
+) -> Result<(), Error> {
+    match call {
+        Extension::Extend => builder.extend(lying(MARK_SLOTS, lie)),
+        Extension::TryExtend => builder.try_extend(lying(MARK_SLOTS, lie)),
+        Extension::ExtendValues => builder.extend_values(lying(MARKS, lie)),
+    }
+}
+
+/// Whether a builder takes them.
+fn takes_marks(
+    builder: &mut MutableBooleanArray,
+    lie: Lie,
+    call: Extension,
+) -> Result<bool, Error> {
+    extend_marks_by(builder, lie, call)?;
+    Ok(builder_marks(builder))
+}
+
+/// Whether a new one does.
+fn extends_marks(alloc: Global, lie: Lie, call: Extension) -> Result<bool, Error> {
     let mut builder = MutableBooleanArray::new(alloc);
-    let told = extend_marks_by(&mut builder, lie, call);
-    (told, is_mask(Some(builder.values_iter()), "101"))
+    takes_marks(&mut builder, lie, call)
 }
 
 /// Whether it takes the three truth values of an iterator by each call.
@@ -222,21 +258,19 @@ fn extend_marks(alloc: Global, lie: Lie, calls: &[Extension]) -> bool {
 }
 
 /// Whether a builder is made of them.
-fn builds_marks(alloc: Global, lie: Lie) -> Taken {
-    let slots = MARK_SLOTS;
-    match MutableBooleanArray::from_iter(alloc, lying(slots.as_slice(), lie)) {
-        Ok(builder) => ("made", is_mask(Some(builder.values_iter()), "101")),
-        Err(refused) => (tells(Err::<(), Error>(refused)), false),
-    }
+fn builds_marks(alloc: Global, lie: Lie) -> Result<bool, Error> {
+    seen(
+        MutableBooleanArray::from_iter(alloc, lying(MARK_SLOTS, lie)),
+        builder_marks,
+    )
 }
 
 /// Whether an array is.
-fn makes_marks(alloc: Global, lie: Lie) -> Taken {
-    let slots = MARK_SLOTS;
-    match BooleanArray::from_iter(alloc, lying(slots.as_slice(), lie)) {
-        Ok(array) => ("made", is_mask(Some(array.values_iter()), "101")),
-        Err(refused) => (tells(Err::<(), Error>(refused)), false),
-    }
+fn makes_marks(alloc: Global, lie: Lie) -> Result<bool, Error> {
+    seen(
+        BooleanArray::from_iter(alloc, lying(MARK_SLOTS, lie)),
+        array_marks,
+    )
 }
 
 /// Whether all of these take the three truth values of each iterator.
@@ -261,23 +295,39 @@ fn are_all<O: Offset>(offsets: &[O]) -> bool {
     are_offsets(offsets, [0, 2, 2, 7].as_slice())
 }
 
+/// Whether a builder has these.
+fn builder_has<K: ByteKind>(builder: &MutableByteArray<K, i32>) -> bool {
+    are_all(builder.offsets().as_slice())
+}
+
+/// Whether an array has.
+fn array_has<K: ByteKind>(array: &ByteArray<K, i32>) -> bool {
+    are_all(array.offsets().buffer().as_slice())
+}
+
+/// Whether a builder without nulls has.
+fn values_have<K: ByteKind>(builder: &MutableByteValuesArray<K, i32>) -> bool {
+    are_all(builder.offsets().as_slice())
+}
+
 /// Whether a builder takes items.
 fn takes_items<K: ByteKind, X: ByteItem<K> + ItemError<Error = Error>>(
     builder: &mut MutableByteArray<K, i32>,
     items: Liar<'_, X>,
-) -> Taken {
-    let told = tells(builder.extend_values(items));
-    (told, are_all(builder.offsets().as_slice()))
+) -> Result<bool, Error> {
+    builder.extend_values(items)?;
+    Ok(builder_has(builder))
 }
 
 /// Whether a new one does.
 fn extends_items<K: ByteKind, X: ByteItem<K> + ItemError<Error = Error>>(
     alloc: Global,
-    items: Liar<'_, X>,
-) -> Taken {
+    items: &[X],
+    lie: Lie,
+) -> Result<bool, Error> {
     match MutableByteArray::<K, i32>::new(alloc) {
-        Ok(mut builder) => takes_items(&mut builder, items),
-        Err(_) => ("no memory", false),
+        Ok(mut builder) => takes_items(&mut builder, lying(items, lie)),
+        Err(_) => Ok(false),
     }
 }
 
@@ -286,48 +336,25 @@ fn takes_slots<K: ByteKind, X: ByteItem<K> + ItemError<Error = Error>>(
     builder: &mut MutableByteArray<K, i32>,
     slots: Liar<'_, Option<X>>,
     tries: bool,
-) -> Taken {
-    let told = tells(if tries {
-        builder.try_extend(slots)
+) -> Result<bool, Error> {
+    if tries {
+        builder.try_extend(slots)?;
     } else {
-        builder.extend(slots)
-    });
-    (told, are_all(builder.offsets().as_slice()))
+        builder.extend(slots)?;
+    }
+    Ok(builder_has(builder))
 }
 
 /// Whether a new one does.
 fn extends_slots<K: ByteKind, X: ByteItem<K> + ItemError<Error = Error>>(
     alloc: Global,
-    slots: Liar<'_, Option<X>>,
+    slots: &[Option<X>],
+    lie: Lie,
     tries: bool,
-) -> Taken {
+) -> Result<bool, Error> {
     match MutableByteArray::<K, i32>::new(alloc) {
-        Ok(mut builder) => takes_slots(&mut builder, slots, tries),
-        Err(_) => ("no memory", false),
-    }
-}
-
-/// Whether a builder was made of them.
-fn is_builder<K: ByteKind>(answer: Result<MutableByteArray<K, i32>, Error>) -> Taken {
-    match answer {
-        Ok(builder) => ("made", are_all(builder.offsets().as_slice())),
-        Err(refused) => (tells(Err::<(), Error>(refused)), false),
-    }
-}
-
-/// Whether an array was.
-fn is_bytes<K: ByteKind>(answer: Result<ByteArray<K, i32>, Error>) -> Taken {
-    match answer {
-        Ok(array) => ("made", are_all(array.offsets().buffer().as_slice())),
-        Err(refused) => (tells(Err::<(), Error>(refused)), false),
-    }
-}
-
-/// Whether a builder without nulls was.
-fn is_values<K: ByteKind>(answer: Result<MutableByteValuesArray<K, i32>, Error>) -> Taken {
-    match answer {
-        Ok(builder) => ("made", are_all(builder.offsets().as_slice())),
-        Err(refused) => (tells(Err::<(), Error>(refused)), false),
+        Ok(mut builder) => takes_slots(&mut builder, lying(slots, lie), tries),
+        Err(_) => Ok(false),
     }
 }
 
@@ -336,24 +363,25 @@ fn takes_values<K: ByteKind, X: ByteItem<K> + ItemError<Error = Error>>(
     builder: &mut MutableByteValuesArray<K, i32>,
     items: Liar<'_, X>,
     tries: bool,
-) -> Taken {
-    let told = tells(if tries {
-        builder.try_extend(items)
+) -> Result<bool, Error> {
+    if tries {
+        builder.try_extend(items)?;
     } else {
-        builder.extend(items)
-    });
-    (told, are_all(builder.offsets().as_slice()))
+        builder.extend(items)?;
+    }
+    Ok(values_have(builder))
 }
 
 /// Whether a new one does.
-fn extends_new_values<K: ByteKind, X: ByteItem<K> + ItemError<Error = Error>>(
+fn extends_values<K: ByteKind, X: ByteItem<K> + ItemError<Error = Error>>(
     alloc: Global,
-    items: Liar<'_, X>,
+    items: &[X],
+    lie: Lie,
     tries: bool,
-) -> Taken {
+) -> Result<bool, Error> {
     match MutableByteValuesArray::<K, i32>::new(alloc) {
-        Ok(mut builder) => takes_values(&mut builder, items, tries),
-        Err(_) => ("no memory", false),
+        Ok(mut builder) => takes_values(&mut builder, lying(items, lie), tries),
+        Err(_) => Ok(false),
     }
 }
 
@@ -364,12 +392,11 @@ fn take_slots<K: ByteKind, X: ByteItem<K> + ItemError<Error = Error>>(
     lie: Lie,
 ) -> bool {
     let builder = MutableByteArray::<K, i32>::from_iter(alloc, lying(slots, lie));
-    let is_builder = is_taken(is_builder(builder), lie);
+    let is_built = is_taken(seen(builder, builder_has::<K>), lie);
     let array = ByteArray::<K, i32>::from_iter(alloc, lying(slots, lie));
-    let is_array = is_taken(is_bytes(array), lie);
-    let extended = extends_slots::<K, X>(alloc, lying(slots, lie), false);
-    let tried = extends_slots::<K, X>(alloc, lying(slots, lie), true);
-    is_builder & is_array & is_taken(extended, lie) & is_taken(tried, lie)
+    let is_made = is_taken(seen(array, array_has::<K>), lie);
+    let is_extended = is_taken(extends_slots::<K, X>(alloc, slots, lie, false), lie);
+    is_built & is_made & is_extended & is_taken(extends_slots::<K, X>(alloc, slots, lie, true), lie)
 }
 
 /// Whether values are.
@@ -379,10 +406,10 @@ fn take_items<K: ByteKind, X: ByteItem<K> + ItemError<Error = Error>>(
     lie: Lie,
 ) -> bool {
     let builder = MutableByteArray::<K, i32>::from_iter_values(alloc, lying(items, lie));
-    let is_builder = is_taken(is_builder(builder), lie);
+    let is_built = is_taken(seen(builder, builder_has::<K>), lie);
     let array = ByteArray::<K, i32>::from_iter_values(alloc, lying(items, lie));
-    let is_array = is_taken(is_bytes(array), lie);
-    is_builder & is_array & is_taken(extends_items::<K, X>(alloc, lying(items, lie)), lie)
+    let is_made = is_taken(seen(array, array_has::<K>), lie);
+    is_built & is_made & is_taken(extends_items::<K, X>(alloc, items, lie), lie)
 }
 
 /// Whether values without nulls are.
@@ -392,12 +419,14 @@ fn take_values<K: ByteKind, X: ByteItem<K> + ItemError<Error = Error>>(
     lie: Lie,
 ) -> bool {
     let first = MutableByteValuesArray::<K, i32>::from_iter(alloc, lying(items, lie));
-    let is_first = is_taken(is_values(first), lie);
+    let is_first = is_taken(seen(first, values_have::<K>), lie);
     let second = MutableByteValuesArray::<K, i32>::try_from_iter(alloc, lying(items, lie));
-    let is_second = is_taken(is_values(second), lie);
-    let extended = extends_new_values::<K, X>(alloc, lying(items, lie), false);
-    let tried = extends_new_values::<K, X>(alloc, lying(items, lie), true);
-    is_first & is_second & is_taken(extended, lie) & is_taken(tried, lie)
+    let is_second = is_taken(seen(second, values_have::<K>), lie);
+    let is_extended = is_taken(extends_values::<K, X>(alloc, items, lie, false), lie);
+    is_first
+        & is_second
+        & is_extended
+        & is_taken(extends_values::<K, X>(alloc, items, lie, true), lie)
 }
 
 /// Whether all of these take the three items of each iterator.

@@ -28,19 +28,19 @@ const FITS: &[(&[u8], usize, &str)] = &[
     (&[0xFF, 0x01], 17, PAST),
 ];
 
-/// The place of the first of them of which something else is told; their number where none is.
-fn first_told(alloc: Global, cases: &[(&[u8], usize, &'static str)]) -> usize {
-    for (place, (bytes, length, answer)) in cases.iter().enumerate() {
+/// Whether this is told of all of them.
+fn are_told(alloc: Global, cases: &[(&[u8], usize, &'static str)]) -> bool {
+    for (bytes, length, answer) in cases {
         if told(alloc, *bytes, *length) != [*answer; 2] {
-            return place;
+            return false;
         }
     }
-    cases.len()
+    true
 }
 
 #[test]
 fn marks_fit_in_their_bytes(rt: HostRuntime) {
-    assert!(rt; first_told(rt.alloc(), FITS) == FITS.len());
+    assert!(rt; are_told(rt.alloc(), FITS));
 }
 
 /// The first marks of bytes, a mark that is pushed behind them, all of them then, and how many are clear.
@@ -69,17 +69,17 @@ const PUSHED: &[Pushed<'static>] = &[
     (&[], 0, true, "1", 0),
 ];
 
-/// The place of the first case in which they are others; the number of cases where there is none.
-fn first_pushed(alloc: Global, cases: &[Pushed<'static>]) -> usize {
-    for (place, case) in cases.iter().enumerate() {
+/// Whether all of them are these in each case.
+fn are_pushed(alloc: Global, cases: &[Pushed<'static>]) -> bool {
+    for case in cases {
         if !is_pushed(alloc, *case) {
-            return place;
+            return false;
         }
     }
-    cases.len()
+    true
 }
 
 #[test]
 fn bits_behind_the_marks_are_not_shown(rt: HostRuntime) {
-    assert!(rt; first_pushed(rt.alloc(), PUSHED) == PUSHED.len());
+    assert!(rt; are_pushed(rt.alloc(), PUSHED));
 }

@@ -2,6 +2,7 @@
 use crate::Tiny;
 use arrow_memory::offset::Offsets;
 use arrow_testing::{are_offsets, offsets_of, tells};
+use arrow_types::error::Error;
 use arrow_types::offset::Offset;
 use std::alloc::Global;
 
@@ -33,19 +34,19 @@ const FAULTS: &[(&[i32], &str)] = &[
     (&[0, i32::MAX], "made"),
 ];
 
-/// The place of the first of them of which something else is told; their number where none is.
-fn first_fault(alloc: Global, cases: &[(&[i32], &str)]) -> usize {
-    for (place, (offsets, answer)) in cases.iter().enumerate() {
+/// Whether this is told of all of them.
+fn are_told(alloc: Global, cases: &[(&[i32], &str)]) -> bool {
+    for (offsets, answer) in cases {
         if told::<i32>(alloc, *offsets) != *answer {
-            return place;
+            return false;
         }
     }
-    cases.len()
+    true
 }
 
 #[test]
 fn the_first_fault_is_told(rt: HostRuntime) {
-    assert!(rt; first_fault(rt.alloc(), FAULTS) == FAULTS.len());
+    assert!(rt; are_told(rt.alloc(), FAULTS));
 }
 
 /// What is told of two raw offsets of a narrow type, where each is one.
@@ -67,19 +68,19 @@ const NARROW: &[(i8, i8, &str)] = &[
     (i8::MAX, 0, "not an offset"),
 ];
 
-/// The place of the first of them of which something else is told; their number where none is.
-fn first_narrow(alloc: Global, cases: &[(i8, i8, &str)]) -> usize {
-    for (place, (first, second, answer)) in cases.iter().enumerate() {
+/// Whether this is told of all of them.
+fn are_told_of_two(alloc: Global, cases: &[(i8, i8, &str)]) -> bool {
+    for (first, second, answer) in cases {
         if told_of_two(alloc, *first, *second) != *answer {
-            return place;
+            return false;
         }
     }
-    cases.len()
+    true
 }
 
 #[test]
 fn a_narrow_type_is_told_the_same(rt: HostRuntime) {
-    assert!(rt; first_narrow(rt.alloc(), NARROW) == NARROW.len());
+    assert!(rt; are_told_of_two(rt.alloc(), NARROW));
 }
 
 /// Where the last slot of two offsets begins so far before the greatest number, and how many bytes come then.
@@ -96,9 +97,9 @@ const ENDS: &[(usize, usize, &str)] = &[
 ];
 
 /// Two offsets, the last of which lies so far before the greatest number.
-fn before_the_end<O: Offset>(alloc: Global, before: usize) -> Option<Offsets<O>> {
+fn before_the_end<O: Offset>(alloc: Global, before: usize) -> Result<Offsets<O>, Error> {
     let end = O::max().to_usize().saturating_sub(before);
-    offsets_of(alloc, [0, end].as_slice()).ok()
+    offsets_of(alloc, [0, end].as_slice())
 }
 
 /// Whether these are offsets, and either the first two of them, if a growth was refused, or three.
@@ -112,59 +113,76 @@ fn are_left<O: Offset>(offsets: &Offsets<O>, told: &str, before: usize, length: 
 }
 
 /// Whether this is told of a slot that is pushed, and a refusal leaves the offsets.
+fn takes<O: Offset>(offsets: &mut Offsets<O>, before: usize, length: usize, answer: &str) -> bool {
+    let told = tells(offsets.try_push_usize(length));
+    told == answer && are_left(offsets, told, before, length)
+}
+
+/// Whether it is, and they are left, of two such offsets.
 fn pushes<O: Offset>(alloc: Global, before: usize, length: usize, answer: &str) -> bool {
     match before_the_end::<O>(alloc, before) {
-        Some(mut offsets) => {
-            let told = tells(offsets.try_push_usize(length));
-            told == answer && are_left(&offsets, told, before, length)
-        }
-        None => false,
+        Ok(mut offsets) => takes(&mut offsets, before, length, answer),
+        Err(_) => false,
     }
 }
 
-/// The place of the first case that is told otherwise of a type of offsets; the number of cases where none is.
-fn first_push<O: Offset>(alloc: Global, cases: &[(usize, usize, &str)]) -> usize {
-    for (place, (before, length, answer)) in cases.iter().enumerate() {
+/// Whether this is told in all cases, of slots that are pushed to offsets of a type.
+fn each_pushes<O: Offset>(alloc: Global, cases: &[(usize, usize, &str)]) -> bool {
+    for (before, length, answer) in cases {
         if !pushes::<O>(alloc, *before, *length, *answer) {
-            return place;
+            return false;
         }
     }
-    cases.len()
+    true
 }
 
 #[test]
 fn slots_end_at_the_greatest_offset(rt: HostRuntime) {
-    let found = [
-        first_push::<i32>(rt.alloc(), ENDS),
-        first_push::<i64>(rt.alloc(), ENDS),
-        first_push::<Tiny>(rt.alloc(), ENDS),
-    ];
-    assert!(rt; found == [ENDS.len(); 3]);
+    let narrow = each_pushes::<i32>(rt.alloc(), ENDS);
+    let wide = each_pushes::<i64>(rt.alloc(), ENDS);
+    assert!(rt; narrow & wide & each_pushes::<Tiny>(rt.alloc(), ENDS));
 }
 
-/// Whether this is told of another's slot of so many bytes, which lies behind others, and a refusal leaves the offsets.
+/// What is told of another's slot of so many bytes, which lies behind others.
+fn told_of_other<O: Offset>(
+    offsets: &mut Offsets<O>,
+    alloc: Global,
+    length: usize,
+) -> &'static str {
+    match offsets_of::<O>(alloc, [5, length.saturating_add(5)].as_slice()) {
+        Ok(other) => tells(offsets.try_extend_from_self(&other)),
+        Err(_) => "no memory",
+    }
+}
+
+/// Whether this is told of such a slot, and a refusal leaves the offsets.
+fn takes_other<O: Offset>(
+    alloc: Global,
+    offsets: &mut Offsets<O>,
+    before: usize,
+    length: usize,
+    answer: &str,
+) -> bool {
+    let told = told_of_other(offsets, alloc, length);
+    told == answer && are_left(offsets, told, before, length)
+}
+
+/// Whether it is, and they are left, of two such offsets.
 fn joins<O: Offset>(alloc: Global, before: usize, length: usize, answer: &str) -> bool {
-    let numbers = [5, length.saturating_add(5)];
-    match (
-        before_the_end::<O>(alloc, before),
-        offsets_of::<O>(alloc, numbers.as_slice()),
-    ) {
-        (Some(mut offsets), Ok(other)) => {
-            let told = tells(offsets.try_extend_from_self(&other));
-            told == answer && are_left(&offsets, told, before, length)
-        }
-        _ => false,
+    match before_the_end::<O>(alloc, before) {
+        Ok(mut offsets) => takes_other(alloc, &mut offsets, before, length, answer),
+        Err(_) => false,
     }
 }
 
-/// The place of the first case that is told otherwise of a type of offsets; the number of cases where none is.
-fn first_join<O: Offset>(alloc: Global, cases: &[(usize, usize, &str)]) -> usize {
-    for (place, (before, length, answer)) in cases.iter().enumerate() {
+/// Whether this is told in all cases of a type of offsets.
+fn each_joins<O: Offset>(alloc: Global, cases: &[(usize, usize, &str)]) -> bool {
+    for (before, length, answer) in cases {
         if !joins::<O>(alloc, *before, *length, *answer) {
-            return place;
+            return false;
         }
     }
-    cases.len()
+    true
 }
 
 /// Those of a slot that offsets of each type can have.
@@ -179,10 +197,7 @@ const JOINS: &[(usize, usize, &str)] = &[
 
 #[test]
 fn slots_of_other_offsets_end_there_too(rt: HostRuntime) {
-    let found = [
-        first_join::<i32>(rt.alloc(), JOINS),
-        first_join::<i64>(rt.alloc(), JOINS),
-        first_join::<Tiny>(rt.alloc(), JOINS),
-    ];
-    assert!(rt; found == [JOINS.len(); 3]);
+    let narrow = each_joins::<i32>(rt.alloc(), JOINS);
+    let wide = each_joins::<i64>(rt.alloc(), JOINS);
+    assert!(rt; narrow & wide & each_joins::<Tiny>(rt.alloc(), JOINS));
 }

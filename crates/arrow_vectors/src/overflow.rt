@@ -278,20 +278,19 @@ const BYTES_THAT_END: &[Bytes] = &[
     ),
 ];
 
-/// The place of the first case that is told otherwise; the number of cases where none is.
-fn first_end<K: Pushes>(alloc: Global, cases: &[(&[Option<K::Item>], &[K::Item], Told)]) -> usize {
-    for (place, (slots, items, wanted)) in cases.iter().enumerate() {
+/// Whether this is told in all cases.
+fn each_ends<K: Pushes>(alloc: Global, cases: &[(&[Option<K::Item>], &[K::Item], Told)]) -> bool {
+    for (slots, items, wanted) in cases {
         if !ends::<K>(alloc, *slots, *items, *wanted) {
-            return place;
+            return false;
         }
     }
-    cases.len()
+    true
 }
 
 #[test]
 fn bytes_end_at_the_greatest_offset(rt: HostRuntime) {
-    let place = first_end::<Binary>(rt.alloc(), BYTES_THAT_END);
-    assert!(rt; place == BYTES_THAT_END.len());
+    assert!(rt; each_ends::<Binary>(rt.alloc(), BYTES_THAT_END));
 }
 
 const SIXTY_OF_TEXT: &str = "€€€€€€€€€€€€€€€€€€€€";
@@ -327,8 +326,7 @@ const TEXTS_THAT_END: &[Texts] = &[
 
 #[test]
 fn texts_end_at_the_greatest_offset(rt: HostRuntime) {
-    let place = first_end::<Utf8>(rt.alloc(), TEXTS_THAT_END);
-    assert!(rt; place == TEXTS_THAT_END.len());
+    assert!(rt; each_ends::<Utf8>(rt.alloc(), TEXTS_THAT_END));
 }
 
 /// Bytes that are pushed one after the other, what is told of them, and the offsets then.
@@ -340,28 +338,28 @@ const PUSHES: &[(&[u8], &str, &[usize])] = &[
     (&[7], "overflow", &[0, 60, 100, 100]),
 ];
 
-/// The place of the first of them of which something else is told, or comes; their number where none does.
-fn first_push(builder: &mut MutableBinaryArray<Tiny>, cases: &[(&[u8], &str, &[usize])]) -> usize {
-    for (place, (item, answer, offsets)) in cases.iter().enumerate() {
+/// Whether this is told of all of them, and comes.
+fn each_pushes(builder: &mut MutableBinaryArray<Tiny>, cases: &[(&[u8], &str, &[usize])]) -> bool {
+    for (item, answer, offsets) in cases {
         let told = tells(builder.push(Some(*item))) == *answer;
         if !(told & are_offsets(builder.offsets().as_slice(), *offsets)) {
-            return place;
+            return false;
         }
     }
-    cases.len()
+    true
 }
 
 /// That of a new builder.
-fn pushed(alloc: Global, cases: &[(&[u8], &str, &[usize])]) -> usize {
+fn pushed(alloc: Global, cases: &[(&[u8], &str, &[usize])]) -> bool {
     match MutableBinaryArray::new(alloc) {
-        Ok(mut builder) => first_push(&mut builder, cases),
-        Err(_) => 0,
+        Ok(mut builder) => each_pushes(&mut builder, cases),
+        Err(_) => false,
     }
 }
 
 #[test]
 fn bytes_that_are_refused_leave_the_builder(rt: HostRuntime) {
-    assert!(rt; pushed(rt.alloc(), PUSHES) == PUSHES.len());
+    assert!(rt; pushed(rt.alloc(), PUSHES));
 }
 
 const NINETY_NINE: &str =
@@ -479,19 +477,19 @@ const JOINS: &[(Slots, Slots, &str, Slots)] = &[
     ),
 ];
 
-/// The place of the first of them that go otherwise; their number where none do.
-fn first_join(alloc: Global, cases: &[(Slots, Slots, &str, Slots)]) -> usize {
-    for (place, (first, second, answer, all)) in cases.iter().enumerate() {
+/// Whether all of them go so.
+fn each_joins(alloc: Global, cases: &[(Slots, Slots, &str, Slots)]) -> bool {
+    for (first, second, answer, all) in cases {
         if !joins(alloc, *first, *second, *answer, *all) {
-            return place;
+            return false;
         }
     }
-    cases.len()
+    true
 }
 
 #[test]
 fn slots_of_another_builder_end_there_too(rt: HostRuntime) {
-    assert!(rt; first_join(rt.alloc(), JOINS) == JOINS.len());
+    assert!(rt; each_joins(rt.alloc(), JOINS));
 }
 
 /// Whether items behind forty bytes before the first slot end where those do.

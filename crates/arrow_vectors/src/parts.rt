@@ -117,24 +117,24 @@ fn are_builders<K: ByteKind>(alloc: Global, words: Words, case: Case) -> bool {
         && is_values::<K, Tiny>(alloc, words, case)
 }
 
-/// The place of the first case of which something else is told of arrays; the number of cases where none is.
-fn first_array<K: ByteKind>(alloc: Global, words: Words, cases: &[Case]) -> usize {
-    for (place, case) in cases.iter().enumerate() {
+/// Whether all of this is told of arrays.
+fn are_arrays_told<K: ByteKind>(alloc: Global, words: Words, cases: &[Case]) -> bool {
+    for case in cases {
         if !are_arrays::<K>(alloc, words, *case) {
-            return place;
+            return false;
         }
     }
-    cases.len()
+    true
 }
 
-/// The place of the first case of which something else is told of builders; the number of cases where none is.
-fn first_builder<K: ByteKind>(alloc: Global, words: Words, cases: &[Case]) -> usize {
-    for (place, case) in cases.iter().enumerate() {
+/// Whether all of this is told of builders.
+fn are_builders_told<K: ByteKind>(alloc: Global, words: Words, cases: &[Case]) -> bool {
+    for case in cases {
         if !are_builders::<K>(alloc, words, *case) {
-            return place;
+            return false;
         }
     }
-    cases.len()
+    true
 }
 
 /// What is told of arrays of either kind: the last offset lies past the bytes; or else the mask has another number of
@@ -156,15 +156,10 @@ const ARRAYS: &[Case] = &[
     ("own", &[1, 3], b"\x09\x09\x09", "none", MADE),
 ];
 
-/// Whether all of this is told of arrays.
-fn are_told<K: ByteKind>(alloc: Global, words: Words, cases: &[Case]) -> bool {
-    first_array::<K>(alloc, words, cases) == cases.len()
-}
-
 #[test]
 fn arrays_are_refused_by_their_first_fault(rt: HostRuntime) {
-    let are_bytes = are_told::<Binary>(rt.alloc(), BYTES, ARRAYS);
-    assert!(rt; are_bytes & are_told::<Utf8>(rt.alloc(), TEXT, ARRAYS));
+    let are_bytes = are_arrays_told::<Binary>(rt.alloc(), BYTES, ARRAYS);
+    assert!(rt; are_bytes & are_arrays_told::<Utf8>(rt.alloc(), TEXT, ARRAYS));
 }
 
 /// What is told of builders of either kind: the last offset is not the number of bytes; or else the type is another; or
@@ -185,15 +180,10 @@ const BUILDERS: &[Case] = &[
     ("own", &[3], b"\x09\x09\x09", "none", MADE),
 ];
 
-/// Whether all of this is told of builders.
-fn builders_are_told<K: ByteKind>(alloc: Global, words: Words, cases: &[Case]) -> bool {
-    first_builder::<K>(alloc, words, cases) == cases.len()
-}
-
 #[test]
 fn builders_are_refused_by_their_first_fault(rt: HostRuntime) {
-    let are_bytes = builders_are_told::<Binary>(rt.alloc(), BYTES, BUILDERS);
-    assert!(rt; are_bytes & builders_are_told::<Utf8>(rt.alloc(), TEXT, BUILDERS));
+    let are_bytes = are_builders_told::<Binary>(rt.alloc(), BYTES, BUILDERS);
+    assert!(rt; are_bytes & are_builders_told::<Utf8>(rt.alloc(), TEXT, BUILDERS));
 }
 
 /// What is told of arrays of text beside that: behind the bytes' end, and before the mask, that a slot is no text.
@@ -214,7 +204,7 @@ const TEXT_ARRAYS: &[Case] = &[
 
 #[test]
 fn arrays_of_text_are_refused_by_their_first_fault(rt: HostRuntime) {
-    assert!(rt; are_told::<Utf8>(rt.alloc(), TEXT, TEXT_ARRAYS));
+    assert!(rt; are_arrays_told::<Utf8>(rt.alloc(), TEXT, TEXT_ARRAYS));
 }
 
 /// What is told of builders of text beside that: behind the bytes' end, and before the type, that a slot is no text.
@@ -235,7 +225,7 @@ const TEXT_BUILDERS: &[Case] = &[
 
 #[test]
 fn builders_of_text_are_refused_by_their_first_fault(rt: HostRuntime) {
-    assert!(rt; builders_are_told::<Utf8>(rt.alloc(), TEXT, TEXT_BUILDERS));
+    assert!(rt; are_builders_told::<Utf8>(rt.alloc(), TEXT, TEXT_BUILDERS));
 }
 
 /// An extension around a type.
@@ -244,39 +234,52 @@ fn extension(alloc: Global, inner: DataType) -> Result<DataType, Error> {
     Ok(DataType::Extension(name, Box::new(alloc, inner)?, None))
 }
 
-/// Whether an array holds the type that it is given.
-fn keeps_type<K: ByteKind, O: Offset>(alloc: Global, given: DataType, photo: &DataType) -> bool {
-    match array_of::<K, O>(alloc, given, [0, 0].as_slice(), &[], "none") {
-        Ok(array) => array.data_type() == photo,
-        Err(_) => false,
+/// Whether a type is that extension around the own type of a kind.
+fn is_extension<K: ByteKind, O: Offset>(data_type: &DataType) -> bool {
+    match data_type {
+        DataType::Extension(name, inner, None) => {
+            name.as_str() == "photo" && **inner == K::default_type(O::IS_LARGE)
+        }
+        _ => false,
     }
+}
+
+/// Whether an array of that type holds it.
+fn holds_extension<K: ByteKind, O: Offset>(array: &ByteArray<K, O>) -> bool {
+    is_extension::<K, O>(array.data_type())
 }
 
 /// Whether a builder does.
-fn builder_keeps_type<K: ByteKind, O: Offset>(
-    alloc: Global,
-    given: DataType,
-    photo: &DataType,
-) -> bool {
-    match builder_of::<K, O>(alloc, given, [0].as_slice(), &[], "none") {
-        Ok(builder) => builder.data_type() == photo,
+fn builder_holds_extension<K: ByteKind, O: Offset>(builder: &MutableByteArray<K, O>) -> bool {
+    is_extension::<K, O>(builder.data_type())
+}
+
+/// Whether an array that is made of it does.
+fn keeps_type<K: ByteKind, O: Offset>(alloc: Global) -> bool {
+    match extension(alloc, K::default_type(O::IS_LARGE)) {
+        Ok(given) => is_made(
+            array_of::<K, O>(alloc, given, [0, 0].as_slice(), &[], "none"),
+            holds_extension::<K, O>,
+        ),
         Err(_) => false,
     }
 }
 
-/// Whether both hold an extension around their own type.
-fn keep_types<K: ByteKind, O: Offset>(alloc: Global) -> Result<bool, Error> {
-    let photo = extension(alloc, K::default_type(O::IS_LARGE))?;
-    let given = extension(alloc, K::default_type(O::IS_LARGE))?;
-    let is_kept = keeps_type::<K, O>(alloc, given, &photo);
-    let given = extension(alloc, K::default_type(O::IS_LARGE))?;
-    Ok(is_kept & builder_keeps_type::<K, O>(alloc, given, &photo))
+/// Whether a builder that is does.
+fn builder_keeps_type<K: ByteKind, O: Offset>(alloc: Global) -> bool {
+    match extension(alloc, K::default_type(O::IS_LARGE)) {
+        Ok(given) => is_made(
+            builder_of::<K, O>(alloc, given, [0].as_slice(), &[], "none"),
+            builder_holds_extension::<K, O>,
+        ),
+        Err(_) => false,
+    }
 }
 
 /// Whether both do over both widths of offsets.
 fn keep_all<K: ByteKind>(alloc: Global) -> bool {
-    let is_narrow = keep_types::<K, i32>(alloc) == Ok(true);
-    is_narrow & (keep_types::<K, i64>(alloc) == Ok(true))
+    let are_arrays = keeps_type::<K, i32>(alloc) & keeps_type::<K, i64>(alloc);
+    are_arrays & builder_keeps_type::<K, i32>(alloc) & builder_keeps_type::<K, i64>(alloc)
 }
 
 #[test]
@@ -323,23 +326,23 @@ const SLICES: &[(usize, usize, &[usize], &str)] = &[
     (3, 0, &[5], ""),
 ];
 
-/// The place of the first of them whose parts make something else; their number where none do.
-fn first_slice<K: ByteKind, O: Offset>(
+/// Whether all of their parts make these.
+fn each_again<K: ByteKind, O: Offset>(
     alloc: Global,
     cases: &[(usize, usize, &[usize], &str)],
-) -> usize {
-    for (number, (place, count, offsets, mask)) in cases.iter().enumerate() {
+) -> bool {
+    for (place, count, offsets, mask) in cases {
         if !arrays_again::<K, O>(alloc, *place, *count, *offsets, *mask) {
-            return number;
+            return false;
         }
     }
-    cases.len()
+    true
 }
 
 /// Whether all are accepted again over both widths of offsets.
 fn are_again<K: ByteKind>(alloc: Global, cases: &[(usize, usize, &[usize], &str)]) -> bool {
-    let narrow = first_slice::<K, i32>(alloc, cases) == cases.len();
-    narrow & (first_slice::<K, i64>(alloc, cases) == cases.len())
+    let narrow = each_again::<K, i32>(alloc, cases);
+    narrow & each_again::<K, i64>(alloc, cases)
 }
 
 #[test]

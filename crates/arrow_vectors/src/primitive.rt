@@ -85,20 +85,20 @@ const PACKED: &[(&[Option<i32>], u8)] = &[
     (&[Some(1), Some(2), Some(3)], 0b111),
 ];
 
-/// The place of the first of them whose byte is another; their number where none is.
-fn first_packed(alloc: Global, cases: &[(&[Option<i32>], u8)]) -> usize {
-    for (place, (slots, byte)) in cases.iter().enumerate() {
+/// Whether all of them have this byte.
+fn are_packed(alloc: Global, cases: &[(&[Option<i32>], u8)]) -> bool {
+    for (slots, byte) in cases {
         match packed(alloc, *slots) {
             Some(bytes) if bytes.as_slice() == [*byte].as_slice() => {}
-            _ => return place,
+            _ => return false,
         }
     }
-    cases.len()
+    true
 }
 
 #[test]
 fn marks_are_packed_from_the_lowest_bit_on(rt: HostRuntime) {
-    assert!(rt; first_packed(rt.alloc(), PACKED) == PACKED.len());
+    assert!(rt; are_packed(rt.alloc(), PACKED));
 }
 
 /// Whether an array of so many nulls stores these values, under these marks.
@@ -116,27 +116,46 @@ fn an_array_of_no_null_holds_a_mask_of_nulls(rt: HostRuntime) {
     assert!(rt; is_none & is_null(rt.alloc(), 3, [0, 0, 0].as_slice(), "000"));
 }
 
-/// A slot more, and then so many more, to what was thawed.
+/// The builder of a thawed array; another refusal where it is not thawed.
+fn thawed(array: PrimitiveArray<i32>) -> Result<MutablePrimitiveArray<i32>, Error> {
+    match array.into_mut() {
+        Right(builder) => Ok(builder),
+        Left(_) => Err(Error::OutOfSpec("shared")),
+    }
+}
+
+/// Appends a slot, and then so many more.
 fn grow(
+    builder: &mut MutablePrimitiveArray<i32>,
+    slot: Option<i32>,
+    count: usize,
+) -> Result<(), Error> {
+    builder.push(slot)?;
+    builder.extend_constant(count, Some(9))
+}
+
+/// The array of a builder with so many slots more.
+fn frozen_grown(
     builder: MutablePrimitiveArray<i32>,
     slot: Option<i32>,
     count: usize,
 ) -> Result<PrimitiveArray<i32>, Error> {
     let mut builder = builder;
-    builder.push(slot)?;
-    builder.extend_constant(count, Some(9))?;
-    builder.freeze()
+    match grow(&mut builder, slot, count) {
+        Ok(()) => builder.freeze(),
+        Err(refused) => Err(refused),
+    }
 }
 
-/// The array of a thawed array with so many slots more; another refusal where it is not thawed.
+/// The array of a thawed array with so many slots more.
 fn grown(
     array: PrimitiveArray<i32>,
     slot: Option<i32>,
     count: usize,
 ) -> Result<PrimitiveArray<i32>, Error> {
-    match array.into_mut() {
-        Right(builder) => grow(builder, slot, count),
-        Left(_) => Err(Error::OutOfSpec("shared")),
+    match thawed(array) {
+        Ok(builder) => frozen_grown(builder, slot, count),
+        Err(refused) => Err(refused),
     }
 }
 
@@ -145,25 +164,45 @@ fn frozen(alloc: Global) -> Result<PrimitiveArray<i32>, Error> {
     MutablePrimitiveArray::from_vec([1, 2, 3].to_vec(alloc)?).freeze()
 }
 
-/// Whether a frozen builder is thawed, grows by a slot, is frozen, is thawed again, and grows by 256.
-fn grows_twice(alloc: Global) -> Result<bool, Error> {
-    let once = grown(frozen(alloc)?, Some(5), 0)?;
-    let is_grown = shows(&once, [1, 2, 3, 5].as_slice(), "none");
-    let twice = grown(once, Some(9), 255)?;
-    Ok(is_grown & (twice.len() == 260))
+/// That array, thawed and with a slot more.
+fn grown_once(alloc: Global) -> Result<PrimitiveArray<i32>, Error> {
+    match frozen(alloc) {
+        Ok(array) => grown(array, Some(5), 0),
+        Err(refused) => Err(refused),
+    }
+}
+
+/// Whether an array stores four values, is thawed again, and grows by 256.
+fn grows_again(array: PrimitiveArray<i32>) -> bool {
+    let is_grown = shows(&array, [1, 2, 3, 5].as_slice(), "none");
+    match grown(array, Some(9), 255) {
+        Ok(all) => is_grown & (all.len() == 260),
+        Err(_) => false,
+    }
+}
+
+/// Whether that array does.
+fn grows_twice(alloc: Global) -> bool {
+    match grown_once(alloc) {
+        Ok(array) => grows_again(array),
+        Err(_) => false,
+    }
 }
 
 #[test]
 fn a_frozen_builder_is_thawed_and_grows(rt: HostRuntime) {
-    assert!(rt; grows_twice(rt.alloc()) == Ok(true));
+    assert!(rt; grows_twice(rt.alloc()));
 }
 
-/// Whether an array is thawed, and stores these values under these marks then.
-fn is_thawed(array: PrimitiveArray<i32>, values: &[i32], mask: &str) -> bool {
-    match array.into_mut() {
-        Right(builder) => builds(&builder, values, mask),
-        Left(_) => false,
-    }
+/// Whether an array is thawed once the other owner is gone, and stores these values under these marks then.
+fn is_thawed_alone(
+    first: PrimitiveArray<i32>,
+    second: PrimitiveArray<i32>,
+    values: &[i32],
+    mask: &str,
+) -> bool {
+    drop(first);
+    built(thawed(second), values, mask)
 }
 
 /// Whether the second of two owners is not thawed while the first lives, both are as before, and it is thawed then.
@@ -173,21 +212,27 @@ fn are_apart(
     values: &[i32],
     mask: &str,
 ) -> bool {
-    let Left(second) = second.into_mut() else {
-        return false;
-    };
-    let are_as_before = shows(&first, values, mask) && shows(&second, values, mask);
-    drop(first);
-    are_as_before && is_thawed(second, values, mask)
+    match second.into_mut() {
+        Left(second) => {
+            let are_as_before = shows(&first, values, mask) & shows(&second, values, mask);
+            are_as_before & is_thawed_alone(first, second, values, mask)
+        }
+        Right(_) => false,
+    }
 }
 
 /// Whether an array and its clone are so.
-fn shares(alloc: Global, slots: &[Option<i32>], values: &[i32], mask: &str) -> bool {
-    let Ok(first) = PrimitiveArray::from(alloc, slots) else {
-        return false;
-    };
+fn is_shared(first: PrimitiveArray<i32>, values: &[i32], mask: &str) -> bool {
     match first.clone() {
         Ok(second) => are_apart(first, second, values, mask),
+        Err(_) => false,
+    }
+}
+
+/// Whether those of these slots are.
+fn shares(alloc: Global, slots: &[Option<i32>], values: &[i32], mask: &str) -> bool {
+    match PrimitiveArray::from(alloc, slots) {
+        Ok(first) => is_shared(first, values, mask),
         Err(_) => false,
     }
 }
@@ -200,13 +245,21 @@ fn a_clone_is_not_thawed_while_the_first_lives(rt: HostRuntime) {
     assert!(rt; are_values & are_slots);
 }
 
-/// A builder of these slots, which are pushed one by one.
-fn pushed(alloc: Global, slots: &[Option<i32>]) -> Result<MutablePrimitiveArray<i32>, Error> {
-    let mut builder = MutablePrimitiveArray::new(alloc);
+/// Pushes slots one by one.
+fn push_each(builder: &mut MutablePrimitiveArray<i32>, slots: &[Option<i32>]) -> Result<(), Error> {
     for slot in slots {
         builder.push(*slot)?;
     }
-    Ok(builder)
+    Ok(())
+}
+
+/// A builder of these slots, which are pushed one by one.
+fn pushed(alloc: Global, slots: &[Option<i32>]) -> Result<MutablePrimitiveArray<i32>, Error> {
+    let mut builder = MutablePrimitiveArray::new(alloc);
+    match push_each(&mut builder, slots) {
+        Ok(()) => Ok(builder),
+        Err(refused) => Err(refused),
+    }
 }
 
 /// Whether a builder stores these values, under these marks, once another's slots came.
@@ -265,19 +318,19 @@ const JOINS: &[Join] = &[
     (&[], &[], &[], "none"),
 ];
 
-/// The place of the first of them that store something else; their number where none do.
-fn first_join(alloc: Global, cases: &[Join]) -> usize {
-    for (place, (first, second, values, mask)) in cases.iter().enumerate() {
+/// Whether all of them store this.
+fn each_joins(alloc: Global, cases: &[Join]) -> bool {
+    for (first, second, values, mask) in cases {
         if !joins(alloc, *first, *second, *values, *mask) {
-            return place;
+            return false;
         }
     }
-    cases.len()
+    true
 }
 
 #[test]
 fn slots_behind_others_keep_their_marks(rt: HostRuntime) {
-    assert!(rt; first_join(rt.alloc(), JOINS) == JOINS.len());
+    assert!(rt; each_joins(rt.alloc(), JOINS));
 }
 
 /// The slots of an array from a place on, so many of them; the array as it is where there are fewer.
@@ -322,19 +375,19 @@ const CUTS: &[Cut] = &[
     (NULLS, (5, 0), (0, 0), &[], ""),
 ];
 
-/// The place of the first of them that leave something else; their number where none do.
-fn first_cut(alloc: Global, cases: &[Cut]) -> usize {
-    for (place, (slots, first, second, values, mask)) in cases.iter().enumerate() {
+/// Whether all of them leave this.
+fn are_cut(alloc: Global, cases: &[Cut]) -> bool {
+    for (slots, first, second, values, mask) in cases {
         if !made(cut_twice(alloc, *slots, *first, *second), *values, *mask) {
-            return place;
+            return false;
         }
     }
-    cases.len()
+    true
 }
 
 #[test]
 fn places_of_a_slice_of_a_slice_are_added(rt: HostRuntime) {
-    assert!(rt; first_cut(rt.alloc(), CUTS) == CUTS.len());
+    assert!(rt; are_cut(rt.alloc(), CUTS));
 }
 
 const UNFIT: &str = "validity mask length must match the number of values";
@@ -388,21 +441,20 @@ const FAULTS: &[(&str, bool, &str)] = &[
     ("none", true, "made"),
 ];
 
-/// The place of the first of them of which something else is told, of an array or of a builder; their number where
-/// none is.
-fn first_fault(alloc: Global, cases: &[(&str, bool, &str)]) -> usize {
-    for (place, (mask, is_own, answer)) in cases.iter().enumerate() {
+/// Whether this is told of all of them, of an array and of a builder.
+fn are_told(alloc: Global, cases: &[(&str, bool, &str)]) -> bool {
+    for (mask, is_own, answer) in cases {
         let told = tells(array_of(alloc, *is_own, *mask)) == *answer;
         if !(told & (tells(builder_of(alloc, *is_own, *mask)) == *answer)) {
-            return place;
+            return false;
         }
     }
-    cases.len()
+    true
 }
 
 #[test]
 fn the_mask_is_tested_before_the_type(rt: HostRuntime) {
-    assert!(rt; first_fault(rt.alloc(), FAULTS) == FAULTS.len());
+    assert!(rt; are_told(rt.alloc(), FAULTS));
 }
 
 /// The array of the parts of a cut array.
@@ -412,21 +464,28 @@ fn array_again(alloc: Global, mask: &str) -> Result<PrimitiveArray<i32>, Error> 
     PrimitiveArray::try_new(data_type, values, validity)
 }
 
-/// The builder of the parts of a thawed array, whose last slot was popped.
+/// The builder of the parts of a builder, whose last slot was popped.
+fn popped_again(builder: MutablePrimitiveArray<i32>) -> Result<MutablePrimitiveArray<i32>, Error> {
+    let mut builder = builder;
+    builder.pop();
+    let (data_type, values, validity) = builder.into_inner();
+    MutablePrimitiveArray::try_new(data_type, values, validity)
+}
+
+/// The builder of those of a thawed array.
 fn builder_again(array: PrimitiveArray<i32>) -> Result<MutablePrimitiveArray<i32>, Error> {
-    match array.into_mut() {
-        Right(mut builder) => {
-            builder.pop();
-            let (data_type, values, validity) = builder.into_inner();
-            MutablePrimitiveArray::try_new(data_type, values, validity)
-        }
-        Left(_) => Err(Error::OutOfSpec("shared")),
+    match thawed(array) {
+        Ok(builder) => popped_again(builder),
+        Err(refused) => Err(refused),
     }
 }
 
 /// The builder of those of an array of three values.
 fn thawed_again(alloc: Global, mask: &str) -> Result<MutablePrimitiveArray<i32>, Error> {
-    builder_again(array_of(alloc, true, mask)?)
+    match array_of(alloc, true, mask) {
+        Ok(array) => builder_again(array),
+        Err(refused) => Err(refused),
+    }
 }
 
 /// Marks of three values, and those of the last two and of the first two.
@@ -436,18 +495,18 @@ const AGAIN: &[(&str, &str, &str)] = &[
     ("110", "10", "11"),
 ];
 
-/// The place of the first of them that are others; their number where none is.
-fn first_again(alloc: Global, cases: &[(&str, &str, &str)]) -> usize {
-    for (place, (mask, last, first)) in cases.iter().enumerate() {
+/// Whether all of them are these.
+fn are_again(alloc: Global, cases: &[(&str, &str, &str)]) -> bool {
+    for (mask, last, first) in cases {
         let is_cut = made(array_again(alloc, *mask), [2, 3].as_slice(), *last);
         if !(is_cut & built(thawed_again(alloc, *mask), [1, 2].as_slice(), *first)) {
-            return place;
+            return false;
         }
     }
-    cases.len()
+    true
 }
 
 #[test]
 fn parts_that_are_taken_out_are_accepted_again(rt: HostRuntime) {
-    assert!(rt; first_again(rt.alloc(), AGAIN) == AGAIN.len());
+    assert!(rt; are_again(rt.alloc(), AGAIN));
 }

@@ -50,17 +50,20 @@ pub(crate) fn holds<K: ByteKind, O: Offset>(
     builder.values().as_slice() == bytes && are_offsets(builder.offsets().as_slice(), offsets)
 }
 
-/// Such offsets, bytes and marks.
-fn frozen<O: Offset>(
+/// Such bytes.
+fn frozen_bytes(alloc: Global, bytes: &[u8]) -> Result<Buffer<u8>, Error> {
+    Ok(Buffer::from_vec(bytes.to_vec(alloc)?)?)
+}
+
+/// Such bytes and marks.
+fn frozen_rest(
     alloc: Global,
-    offsets: &[usize],
     bytes: &[u8],
     mask: &str,
-) -> Result<(OffsetsBuffer<O>, Buffer<u8>, Option<Bitmap>), Error> {
-    let values = Buffer::from_vec(bytes.to_vec(alloc)?)?;
-    let offsets = frozen_offsets(alloc, offsets)?;
-    match frozen_mask(alloc, mask) {
-        Ok(validity) => Ok((offsets, values, validity)),
+) -> Result<(Buffer<u8>, Option<Bitmap>), Error> {
+    let validity = frozen_mask(alloc, mask)?;
+    match frozen_bytes(alloc, bytes) {
+        Ok(values) => Ok((values, validity)),
         Err(refused) => Err(refused),
     }
 }
@@ -73,10 +76,9 @@ pub(crate) fn array_of<K: ByteKind, O: Offset>(
     bytes: &[u8],
     mask: &str,
 ) -> Result<ByteArray<K, O>, Error> {
-    match frozen(alloc, offsets, bytes, mask) {
-        Ok((offsets, values, validity)) => {
-            ByteArray::try_new(data_type, offsets, values, validity)
-        }
+    let offsets = frozen_offsets(alloc, offsets)?;
+    match frozen_rest(alloc, bytes, mask) {
+        Ok((values, validity)) => ByteArray::try_new(data_type, offsets, values, validity),
         Err(refused) => Err(refused),
     }
 }
@@ -120,7 +122,10 @@ pub(crate) fn values_of<K: ByteKind, O: Offset>(
     bytes: &[u8],
 ) -> Result<MutableByteValuesArray<K, O>, Error> {
     let values = bytes.to_vec(alloc)?;
-    MutableByteValuesArray::try_new(data_type, offsets_of(alloc, offsets)?, values)
+    match offsets_of(alloc, offsets) {
+        Ok(offsets) => MutableByteValuesArray::try_new(data_type, offsets, values),
+        Err(refused) => Err(refused),
+    }
 }
 
 /// The array of such parts, of its kind's own type.

@@ -66,19 +66,14 @@ const CUTS: &[Cut] = &[
     (&[0], b"", &[]),
 ];
 
-/// The place of the first of them that give other texts; their number where none do.
-fn first_cut<O: Offset>(alloc: Global, cases: &[Cut]) -> usize {
-    for (place, (offsets, bytes, texts)) in cases.iter().enumerate() {
+/// Whether all of them give these texts.
+fn are_cut<O: Offset>(alloc: Global, cases: &[Cut]) -> bool {
+    for (offsets, bytes, texts) in cases {
         if !is_cut::<O>(alloc, *offsets, *bytes, *texts) {
-            return place;
+            return false;
         }
     }
-    cases.len()
-}
-
-/// Whether all give these texts.
-fn are_cut<O: Offset>(alloc: Global, cases: &[Cut]) -> bool {
-    first_cut::<O>(alloc, cases) == cases.len()
+    true
 }
 
 #[test]
