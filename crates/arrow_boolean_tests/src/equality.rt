@@ -1,43 +1,90 @@
 use arrow_boolean::MutableBooleanArray;
 use arrow_memory::bitmap::MutableBitmap;
-use arrow_testing::told;
+use arrow_testing::{all_told, growing_mask, told};
 use arrow_types::data_type::DataType;
 use arrow_types::error::Error;
 use std::alloc::Global;
 use std::test::Fail;
 
-/// Whether a builder of true and null equals one of these values, the second of which is null.
-fn equals(alloc: Global, second: &[bool]) -> Result<bool, Error> {
-    let pushed = MutableBooleanArray::from(alloc, [Some(true), None].as_slice())?;
-    let values = MutableBitmap::from_slice(alloc, second)?;
-    let mask = MutableBitmap::from_slice(alloc, [true, false].as_slice())?;
-    let given = MutableBooleanArray::try_new(DataType::Boolean, values, Some(mask))?;
-    Ok(pushed == given)
+/// A builder of these values under marks.
+fn valued(
+    values: Result<MutableBitmap, Error>,
+    mask: Option<MutableBitmap>,
+) -> Result<MutableBooleanArray, Error> {
+    match values {
+        Ok(values) => MutableBooleanArray::try_new(DataType::Boolean, values, mask),
+        Err(refused) => Err(refused),
+    }
+}
+
+/// A builder of these two values, the second of which is null.
+fn under_null(alloc: Global, values: &[bool]) -> Result<MutableBooleanArray, Error> {
+    match growing_mask(alloc, "10") {
+        Ok(mask) => valued(MutableBitmap::from_slice(alloc, values), mask),
+        Err(refused) => Err(refused),
+    }
+}
+
+/// Whether a builder equals the other.
+fn equals(
+    builder: &MutableBooleanArray,
+    other: Result<MutableBooleanArray, Error>,
+) -> Result<bool, Error> {
+    match other {
+        Ok(other) => Ok(*builder == other),
+        Err(refused) => Err(refused),
+    }
+}
+
+/// Whether a builder of true and null equals one whose null stores true.
+fn equals_under_null(alloc: Global) -> Result<bool, Error> {
+    match MutableBooleanArray::from(alloc, [Some(true), None].as_slice()) {
+        Ok(pushed) => equals(&pushed, under_null(alloc, [true, true].as_slice())),
+        Err(refused) => Err(refused),
+    }
 }
 
 #[test]
 fn values_under_nulls_are_not_compared(rt: HostRuntime) -> Result<(), Fail> {
-    told(equals(rt.alloc(), [true, true].as_slice()))
+    told(equals_under_null(rt.alloc()))
 }
 
-/// A builder of nine slots, which are true but for the last; a null where there is no value.
+/// Nine slots, which are true but for the last.
+fn slots(last: Option<bool>) -> [Option<bool>; 9] {
+    let mut slots = [Some(true); 9];
+    slots[8] = last;
+    slots
+}
+
+/// A builder of them; a null where there is no value.
 fn nine(alloc: Global, last: Option<bool>) -> Result<MutableBooleanArray, Error> {
     let mut builder = MutableBooleanArray::new(alloc);
-    for _ in 0..8 {
-        builder.push(Some(true))?;
+    match builder.extend(slots(last).into_iter()) {
+        Ok(()) => Ok(builder),
+        Err(refused) => Err(refused),
     }
-    builder.push(last)?;
-    Ok(builder)
 }
 
-/// Whether slots past the eighth are compared too, and whether they are null.
-fn compares_the_ninth(alloc: Global) -> Result<bool, Error> {
-    let (set, clear) = (nine(alloc, Some(true))?, nine(alloc, Some(false))?);
-    let null = nine(alloc, None)?;
-    Ok(set == nine(alloc, Some(true))? && set != clear && clear != null && null != clear)
+/// Whether two of them are equal, or are not.
+fn compares(
+    alloc: Global,
+    first: Option<bool>,
+    second: Option<bool>,
+    wanted: bool,
+) -> Result<bool, Error> {
+    match nine(alloc, first) {
+        Ok(builder) => Ok(equals(&builder, nine(alloc, second))? == wanted),
+        Err(refused) => Err(refused),
+    }
 }
 
+/// Slots past the eighth are compared too, and whether they are null.
 #[test]
 fn slots_of_a_second_byte_are_compared(rt: HostRuntime) -> Result<(), Fail> {
-    told(compares_the_ninth(rt.alloc()))
+    all_told(&[
+        compares(rt.alloc(), Some(true), Some(true), true),
+        compares(rt.alloc(), Some(true), Some(false), false),
+        compares(rt.alloc(), Some(false), None, false),
+        compares(rt.alloc(), None, Some(false), false),
+    ])
 }
