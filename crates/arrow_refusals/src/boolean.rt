@@ -1,22 +1,38 @@
 //! Boolean arrays and their builders. Stored values and marks are texts of '1' and '0'.
 ghost use Rattle.std.specs.Prelude.{◌≡◌, length};
 
+use crate::again::{
+    Copied, EXTENSIONS, Extending, Extension, Growing, Making, Shows, all_extended, all_grown,
+    all_made, copy_of,
+};
 use arrow_boolean::{BooleanArray, MutableBooleanArray};
 use arrow_memory::bitmap::{Bitmap, MutableBitmap};
-use arrow_testing::{after, is_mask, tells, told};
+use arrow_testing::{after, all_told, is_mask, tells, told};
 use arrow_types::data_type::DataType;
 use arrow_types::error::Error;
 use std::alloc::Global;
 use std::cell::Cell;
 use std::test::Fail;
 
+/// Stored values, and marks, or `none`.
+pub(crate) type Stored = (&'static str, &'static str);
+
 /// Whether an array stores these values, under these marks.
-fn shows(array: &BooleanArray, values: &str, mask: &str) -> bool {
+fn stores(array: &BooleanArray, values: &str, mask: &str) -> bool {
     let marks = match array.validity() {
         Some(marks) => Some(marks.iter()),
         None => None,
     };
-    is_mask(Some(array.values_iter()), values) && is_mask(marks, mask)
+    is_mask(Some(array.values_iter()), values) & is_mask(marks, mask)
+}
+
+impl Shows for BooleanArray {
+    type Wanted = Stored;
+
+    fn shows(&self, wanted: &Stored) -> bool {
+        let (values, mask) = *wanted;
+        stores(self, values, mask)
+    }
 }
 
 /// Whether a builder stores these values, under these marks.
@@ -25,17 +41,32 @@ fn builds(builder: &MutableBooleanArray, values: &str, mask: &str) -> bool {
         Some(marks) => Some(marks.iter()),
         None => None,
     };
-    is_mask(Some(builder.values_iter()), values) && is_mask(marks, mask)
+    is_mask(Some(builder.values_iter()), values) & is_mask(marks, mask)
 }
 
-/// A builder of a true slot, without a mask.
-fn one(alloc: Global) -> Result<MutableBooleanArray, Error> {
-    MutableBooleanArray::from_slice(alloc, [true].as_slice())
+impl Shows for MutableBooleanArray {
+    type Wanted = Stored;
+
+    fn shows(&self, wanted: &Stored) -> bool {
+        let (values, mask) = *wanted;
+        builds(self, values, mask)
+    }
+}
+
+impl Copied for BooleanArray {
+    fn copy(&self) -> Result<BooleanArray, Error> {
+        self.clone()
+    }
+}
+
+impl Copied for MutableBooleanArray {
+    fn copy(&self) -> Result<MutableBooleanArray, Error> {
+        self.clone()
+    }
 }
 
 /// The calls by which a builder grows by all or nothing, or gets room, or loses it.
-#[derive(Clone, Copy)]
-enum Growth {
+pub(crate) enum Growth {
     Push,
     PushOfANull,
     TryPush,
@@ -54,149 +85,96 @@ fn replace(builder: &mut MutableBooleanArray) -> Result<(), Error> {
     builder.set(0, None)
 }
 
-/// Calls it, of a builder of a true slot; another has a false slot and a null.
-fn grow(
-    builder: &mut MutableBooleanArray,
-    other: &MutableBooleanArray,
-    call: Growth,
-) -> Result<(), Error> {
-    match call {
-        Growth::Push => builder.push(Some(true)),
-        Growth::PushOfANull => builder.push(None),
-        Growth::TryPush => builder.try_push(None),
-        Growth::PushNull => builder.push_null(),
-        Growth::TryExtendFromSelf => builder.try_extend_from_self(other),
-        Growth::Set => replace(builder),
-        Growth::Reserve => builder.reserve(1000),
-        Growth::ShrinkToFit => builder.shrink_to_fit(),
+// A small one is of a true slot, without a mask, and the other of a false slot and a null.
+impl Growing for MutableBooleanArray {
+    type Call = Growth;
+
+    fn small(alloc: Global) -> Result<MutableBooleanArray, Error> {
+        MutableBooleanArray::from_slice(alloc, [true].as_slice())
+    }
+
+    fn is_small(&self) -> bool {
+        builds(self, "1", "none")
+    }
+
+    fn other(alloc: Global) -> Result<MutableBooleanArray, Error> {
+        MutableBooleanArray::from(alloc, [Some(false), None].as_slice())
+    }
+
+    fn grow(&mut self, other: &MutableBooleanArray, call: &Growth) -> Result<(), Error> {
+        match call {
+            Growth::Push => self.push(Some(true)),
+            Growth::PushOfANull => self.push(None),
+            Growth::TryPush => self.try_push(None),
+            Growth::PushNull => self.push_null(),
+            Growth::TryExtendFromSelf => self.try_extend_from_self(other),
+            Growth::Set => replace(self),
+            Growth::Reserve => self.reserve(1000),
+            Growth::ShrinkToFit => self.shrink_to_fit(),
+        }
     }
 }
 
-/// Each of the calls, and what the builder of a true slot stores after it, under which marks.
-const GROWTHS: &[(Growth, &str, &str)] = &[
-    (Growth::Push, "11", "none"),
-    (Growth::PushOfANull, "10", "10"),
-    (Growth::TryPush, "10", "10"),
-    (Growth::PushNull, "10", "10"),
-    (Growth::TryExtendFromSelf, "100", "110"),
-    (Growth::Set, "0", "0"),
-    (Growth::Reserve, "1", "none"),
-    (Growth::ShrinkToFit, "1", "none"),
+/// Each of the calls, and what the builder stores after it.
+const GROWTHS: &[(Growth, Stored)] = &[
+    (Growth::Push, ("11", "none")),
+    (Growth::PushOfANull, ("10", "10")),
+    (Growth::TryPush, ("10", "10")),
+    (Growth::PushNull, ("10", "10")),
+    (Growth::TryExtendFromSelf, ("100", "110")),
+    (Growth::Set, ("0", "0")),
+    (Growth::Reserve, ("1", "none")),
+    (Growth::ShrinkToFit, ("1", "none")),
 ];
 
-/// Whether a builder of a true slot has grown, or, where that is refused, is as before, and grows by the same call.
-fn grows(
-    builder: &mut MutableBooleanArray,
-    other: &MutableBooleanArray,
-    call: Growth,
-    values: &str,
-    mask: &str,
-) -> Result<bool, Error> {
-    match grow(builder, other, call) {
-        Ok(()) => Ok(builds(builder, values, mask)),
-        Err(refused) => {
-            let is_left = builds(builder, "1", "none");
-            let is_grown = grow(builder, other, call).is_ok();
-            after(refused, is_left & is_grown & builds(builder, values, mask))
+/// The slots that extend a builder.
+const SLOTS: [Option<bool>; 3] = [Some(true), None, Some(true)];
+
+impl Extending for MutableBooleanArray {
+    fn extend_by(&mut self, call: Extension) -> Result<(), Error> {
+        match call {
+            Extension::Extend => self.extend(SLOTS.into_iter()),
+            Extension::TryExtend => self.try_extend(SLOTS.into_iter()),
+            Extension::ExtendValues => self.extend_values([true, false, true].into_iter()),
         }
     }
-}
 
-/// Whether new ones have by each call.
-fn each_grown(
-    alloc: Global,
-    other: &MutableBooleanArray,
-    calls: &[(Growth, &str, &str)],
-) -> Result<bool, Error> {
-    for (call, values, mask) in calls {
-        if !grows(&mut one(alloc)?, other, *call, *values, *mask)? {
-            return Ok(false);
-        }
+    fn is_begun(&self, call: Extension) -> bool {
+        let count = self.len();
+        let stored = "1101".get(..count).unwrap_or("too many");
+        let mask = match call {
+            Extension::ExtendValues => "none",
+            _ if count <= 2 => "none",
+            _ => stored,
+        };
+        (1 <= count) & builds(self, stored, mask)
     }
-    Ok(true)
-}
 
-/// Whether they have beside a builder of a false slot and a null.
-fn all_grown(alloc: Global) -> Result<bool, Error> {
-    let other = MutableBooleanArray::from(alloc, [Some(false), None].as_slice())?;
-    each_grown(alloc, &other, GROWTHS)
+    fn is_whole(&self) -> bool {
+        self.len() == 4
+    }
+
+    fn end(&self) -> usize {
+        self.len()
+    }
+
+    fn is_behind(&self, end: usize) -> bool {
+        let mut values = self.values_iter();
+        for _ in 0..end {
+            if values.next().is_none() {
+                return false;
+            }
+        }
+        is_mask(Some(values), "101")
+    }
 }
 
 #[test]
 fn growths(rt: HostRuntime) -> Result<(), Fail> {
-    told(all_grown(rt.alloc()))
-}
-
-/// The calls by which a builder grows by what an iterator gives, as far as there is memory.
-#[derive(Clone, Copy)]
-enum Extension {
-    Extend,
-    TryExtend,
-    ExtendValues,
-}
-
-/// Calls it.
-fn extend_by(builder: &mut MutableBooleanArray, call: Extension) -> Result<(), Error> {
-    let slots = [Some(true), None, Some(true)];
-    match call {
-        Extension::Extend => builder.extend(slots.into_iter()),
-        Extension::TryExtend => builder.try_extend(slots.into_iter()),
-        Extension::ExtendValues => builder.extend_values([true, false, true].into_iter()),
-    }
-}
-
-/// Whether the first slots of an extended builder of a true slot are there, and no others.
-fn is_begun(builder: &MutableBooleanArray, call: Extension) -> bool {
-    let count = builder.len();
-    let mask = match call {
-        Extension::ExtendValues => "none",
-        _ if count <= 2 => "none",
-        _ => "1101".get(..count).unwrap_or("too many"),
-    };
-    1 <= count && builds(builder, "1101".get(..count).unwrap_or("too many"), mask)
-}
-
-/// Whether so many slots are followed by those that came behind.
-fn is_behind(builder: &MutableBooleanArray, count: usize) -> bool {
-    let mut values = builder.values_iter();
-    for _ in 0..count {
-        if values.next().is_none() {
-            return false;
-        }
-    }
-    is_mask(Some(values), "101")
-}
-
-/// Whether a builder of a true slot is extended, or, where that is refused, by a beginning, and then by the same call.
-fn extends(builder: &mut MutableBooleanArray, call: Extension) -> Result<bool, Error> {
-    match extend_by(builder, call) {
-        Ok(()) => Ok(builder.len() == 4 && is_begun(builder, call)),
-        Err(refused) => {
-            let (is_left, count) = (is_begun(builder, call), builder.len());
-            let is_extended = extend_by(builder, call).is_ok();
-            after(refused, is_left & is_extended && is_behind(builder, count))
-        }
-    }
-}
-
-/// Whether new ones are by each call.
-fn all_extended(alloc: Global, calls: &[Extension]) -> Result<bool, Error> {
-    for call in calls {
-        if !extends(&mut one(alloc)?, *call)? {
-            return Ok(false);
-        }
-    }
-    Ok(true)
-}
-
-#[test]
-fn extensions(rt: HostRuntime) -> Result<(), Fail> {
-    let calls = [
-        Extension::Extend,
-        Extension::TryExtend,
-        Extension::ExtendValues,
-    ];
-    told(all_extended(rt.alloc(), calls.as_slice()))
+    all_told(&[
+        all_grown::<MutableBooleanArray>(rt.alloc(), GROWTHS),
+        all_extended::<MutableBooleanArray>(rt.alloc(), EXTENSIONS),
+    ])
 }
 
 /// Clears the first of some marks, and notes that it ran.
@@ -210,42 +188,52 @@ fn cleared(mut marks: MutableBitmap, ran: &Cell<bool>) -> MutableBitmap
     marks
 }
 
-/// Whether values are changed, or, where that is refused, are as before, and the closure did not run.
-fn changes(array: &mut BooleanArray) -> Result<bool, Error> {
+/// Clears the first value; tells whether that was done, and whether the closure ran.
+fn clear(array: &mut BooleanArray) -> (Result<(), Error>, bool) {
     let ran = Cell::new(false);
-    match array.apply_values_mut(|values| cleared(values, &ran)) {
-        Err(refused) => {
-            let is_left = !ran.get() && is_left(array);
-            let is_changed = array
-                .apply_values_mut(|values| cleared(values, &ran))
-                .is_ok();
-            after(refused, is_left & is_changed && shows(array, "00", "10"))
-        }
-        Ok(()) => Ok(ran.get() && shows(array, "00", "10")),
-    }
+    let answer = array.apply_values_mut(|values| cleared(values, &ran));
+    (answer, ran.get())
 }
 
 /// Whether an array of a true slot and a null is as it was.
 fn is_left(array: &BooleanArray) -> bool {
-    shows(array, "10", "10")
+    stores(array, "10", "10")
+}
+
+/// Whether values are changed, or, where that is refused, are as before, and the closure did not run.
+fn changes(array: &mut BooleanArray) -> Result<bool, Error> {
+    match clear(array) {
+        (Ok(()), ran) => Ok(ran & stores(array, "00", "10")),
+        (Err(refused), ran) => {
+            let is_left = is_left(array) & !ran;
+            let is_changed = clear(array).0.is_ok();
+            after(refused, is_left & is_changed & stores(array, "00", "10"))
+        }
+    }
 }
 
 /// Whether those of a clone are.
 fn changes_clone(array: &BooleanArray) -> Result<bool, Error> {
-    changes(&mut array.clone()?)
+    match array.clone() {
+        Ok(mut clone) => changes(&mut clone),
+        Err(refused) => Err(refused),
+    }
 }
 
 /// Whether those of a clone are, and the array is as it was.
 fn changes_alone(array: &BooleanArray) -> Result<bool, Error> {
     match changes_clone(array) {
         Err(refused) => after(refused, is_left(array)),
-        Ok(is_changed) => Ok(is_changed && is_left(array)),
+        Ok(is_changed) => Ok(is_changed & is_left(array)),
     }
 }
 
 /// The same of a new array.
 fn changed(alloc: Global) -> Result<bool, Error> {
-    changes_alone(&BooleanArray::from(alloc, [Some(true), None].as_slice())?)
+    match BooleanArray::from(alloc, PAIR.as_slice()) {
+        Ok(array) => changes_alone(&array),
+        Err(refused) => Err(refused),
+    }
 }
 
 #[test]
@@ -254,8 +242,7 @@ fn apply_values_mut(rt: HostRuntime) -> Result<(), Fail> {
 }
 
 /// The calls that make an array of truth values.
-#[derive(Clone, Copy)]
-enum Made {
+pub(crate) enum Made {
     FromSlice,
     From,
     FromIter,
@@ -266,82 +253,72 @@ enum Made {
     Clone,
 }
 
-/// A builder of a true slot and a null.
-fn pair(alloc: Global) -> Result<MutableBooleanArray, Error> {
-    MutableBooleanArray::from(alloc, [Some(true), None].as_slice())
-}
+/// A true slot and a null.
+const PAIR: [Option<bool>; 2] = [Some(true), None];
 
-/// Whether an array with other values is another, and the first is as it was.
-fn with_values(alloc: Global) -> Result<BooleanArray, Error> {
-    let array = BooleanArray::from(alloc, [Some(false), None].as_slice())?;
-    let values = Bitmap::from_slice(alloc, [true, false].as_slice())?;
+/// An array with other values, where they are as many.
+fn valued(array: BooleanArray, values: Bitmap) -> Result<BooleanArray, Error> {
     if array.len() != values.len() {
         return Ok(array);
     }
     array.with_values(values)
 }
 
-/// The array that it makes.
-fn array(alloc: Global, call: Made) -> Result<BooleanArray, Error> {
-    match call {
-        Made::FromSlice => BooleanArray::from_slice(alloc, [true, false].as_slice()),
-        Made::From => BooleanArray::from(alloc, [Some(true), None].as_slice()),
-        Made::FromIter => BooleanArray::from_iter(alloc, [Some(true), None].into_iter()),
-        Made::NewEmpty => BooleanArray::new_empty(alloc, DataType::Boolean),
-        Made::NewNull => BooleanArray::new_null(alloc, DataType::Boolean, 2),
-        Made::WithValues => with_values(alloc),
-        Made::Freeze => pair(alloc)?.freeze(),
-        Made::Clone => BooleanArray::from(alloc, [Some(true), None].as_slice())?.clone(),
-    }
-}
-
-/// Whether an array was made that stores these values, under these marks.
-pub(crate) fn shown(
-    answer: Result<BooleanArray, Error>,
-    values: &str,
-    mask: &str,
-) -> Result<bool, Error> {
-    match answer {
-        Ok(array) => Ok(shows(&array, values, mask)),
+/// An array of a false slot and a null with other values.
+fn with_values(alloc: Global, values: Bitmap) -> Result<BooleanArray, Error> {
+    match BooleanArray::from(alloc, [Some(false), None].as_slice()) {
+        Ok(array) => valued(array, values),
         Err(refused) => Err(refused),
     }
 }
 
-/// Each of the calls, and what the array stores, under which marks.
-const MADE: &[(Made, &str, &str)] = &[
-    (Made::FromSlice, "10", "none"),
-    (Made::From, "10", "10"),
-    (Made::FromIter, "10", "10"),
-    (Made::NewEmpty, "", "none"),
-    (Made::NewNull, "00", "00"),
-    (Made::WithValues, "10", "10"),
-    (Made::Freeze, "10", "10"),
-    (Made::Clone, "10", "10"),
-];
+/// The same of new values.
+fn with_new_values(alloc: Global) -> Result<BooleanArray, Error> {
+    match Bitmap::from_slice(alloc, [true, false].as_slice()) {
+        Ok(values) => with_values(alloc, values),
+        Err(refused) => Err(refused),
+    }
+}
 
-/// Whether arrays are made, or, where that is refused, by the same call once more.
-fn all_made(alloc: Global, calls: &[(Made, &str, &str)]) -> Result<bool, Error> {
-    for (call, values, mask) in calls {
-        match shown(array(alloc, *call), *values, *mask) {
-            Ok(true) => (),
-            Ok(false) => return Ok(false),
-            Err(refused) => {
-                let is_made = shown(array(alloc, *call), *values, *mask) == Ok(true);
-                return after(refused, is_made);
-            }
+/// The array of a builder.
+fn freeze(builder: Result<MutableBooleanArray, Error>) -> Result<BooleanArray, Error> {
+    match builder {
+        Ok(builder) => builder.freeze(),
+        Err(refused) => Err(refused),
+    }
+}
+
+impl Making for BooleanArray {
+    type Maker = Made;
+
+    fn make(alloc: Global, call: &Made) -> Result<BooleanArray, Error> {
+        match call {
+            Made::FromSlice => BooleanArray::from_slice(alloc, [true, false].as_slice()),
+            Made::From => BooleanArray::from(alloc, PAIR.as_slice()),
+            Made::FromIter => BooleanArray::from_iter(alloc, PAIR.into_iter()),
+            Made::NewEmpty => BooleanArray::new_empty(alloc, DataType::Boolean),
+            Made::NewNull => BooleanArray::new_null(alloc, DataType::Boolean, 2),
+            Made::WithValues => with_new_values(alloc),
+            Made::Freeze => freeze(MutableBooleanArray::from(alloc, PAIR.as_slice())),
+            Made::Clone => copy_of(BooleanArray::from(alloc, PAIR.as_slice())),
         }
     }
-    Ok(true)
 }
 
-#[test]
-fn arrays(rt: HostRuntime) -> Result<(), Fail> {
-    told(all_made(rt.alloc(), MADE))
-}
+/// Each of the calls, and what the array stores.
+const MADE: &[(Made, Stored)] = &[
+    (Made::FromSlice, ("10", "none")),
+    (Made::From, ("10", "10")),
+    (Made::FromIter, ("10", "10")),
+    (Made::NewEmpty, ("", "none")),
+    (Made::NewNull, ("00", "00")),
+    (Made::WithValues, ("10", "10")),
+    (Made::Freeze, ("10", "10")),
+    (Made::Clone, ("10", "10")),
+];
 
 /// The calls that make a builder of truth values.
-#[derive(Clone, Copy)]
-enum Built {
+pub(crate) enum Built {
     WithCapacity,
     FromSlice,
     From,
@@ -349,52 +326,35 @@ enum Built {
     Clone,
 }
 
-/// The builder that it makes.
-fn builder(alloc: Global, call: Built) -> Result<MutableBooleanArray, Error> {
-    match call {
-        Built::WithCapacity => MutableBooleanArray::with_capacity(alloc, 100),
-        Built::FromSlice => MutableBooleanArray::from_slice(alloc, [true, false].as_slice()),
-        Built::From => pair(alloc),
-        Built::FromIter => MutableBooleanArray::from_iter(alloc, [Some(true), None].into_iter()),
-        Built::Clone => pair(alloc)?.clone(),
-    }
-}
+impl Making for MutableBooleanArray {
+    type Maker = Built;
 
-/// Whether it stores these values, under these marks.
-fn is_built(alloc: Global, call: Built, values: &str, mask: &str) -> Result<bool, Error> {
-    match builder(alloc, call) {
-        Ok(builder) => Ok(builds(&builder, values, mask)),
-        Err(refused) => Err(refused),
-    }
-}
-
-/// Each of the calls, and what the builder stores, under which marks.
-const BUILT: &[(Built, &str, &str)] = &[
-    (Built::WithCapacity, "", "none"),
-    (Built::FromSlice, "10", "none"),
-    (Built::From, "10", "10"),
-    (Built::FromIter, "10", "10"),
-    (Built::Clone, "10", "10"),
-];
-
-/// Whether builders are made, or, where that is refused, by the same call once more.
-fn all_built(alloc: Global, calls: &[(Built, &str, &str)]) -> Result<bool, Error> {
-    for (call, values, mask) in calls {
-        match is_built(alloc, *call, *values, *mask) {
-            Ok(true) => (),
-            Ok(false) => return Ok(false),
-            Err(refused) => {
-                let is_built = is_built(alloc, *call, *values, *mask) == Ok(true);
-                return after(refused, is_built);
-            }
+    fn make(alloc: Global, call: &Built) -> Result<MutableBooleanArray, Error> {
+        match call {
+            Built::WithCapacity => MutableBooleanArray::with_capacity(alloc, 100),
+            Built::FromSlice => MutableBooleanArray::from_slice(alloc, [true, false].as_slice()),
+            Built::From => MutableBooleanArray::from(alloc, PAIR.as_slice()),
+            Built::FromIter => MutableBooleanArray::from_iter(alloc, PAIR.into_iter()),
+            Built::Clone => copy_of(MutableBooleanArray::from(alloc, PAIR.as_slice())),
         }
     }
-    Ok(true)
 }
 
+/// Each of the calls, and what the builder stores.
+const BUILT: &[(Built, Stored)] = &[
+    (Built::WithCapacity, ("", "none")),
+    (Built::FromSlice, ("10", "none")),
+    (Built::From, ("10", "10")),
+    (Built::FromIter, ("10", "10")),
+    (Built::Clone, ("10", "10")),
+];
+
 #[test]
-fn builders(rt: HostRuntime) -> Result<(), Fail> {
-    told(all_built(rt.alloc(), BUILT))
+fn makers(rt: HostRuntime) -> Result<(), Fail> {
+    all_told(&[
+        all_made::<BooleanArray>(rt.alloc(), MADE),
+        all_made::<MutableBooleanArray>(rt.alloc(), BUILT),
+    ])
 }
 
 /// More slots than any memory holds.

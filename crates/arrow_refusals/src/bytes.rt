@@ -1,9 +1,13 @@
 //! Arrays and builders of bytes and of text. What both have in common is asked of either kind; items are written as texts,
 //! whose bytes are an item of each.
+use crate::again::{
+    Copied, EXTENSIONS, Extending, Extension, Growing, Making, Shows, all_extended, all_grown,
+    all_made, copy_of,
+};
 use arrow_binary::{MutableBinaryArray, MutableBinaryValuesArray};
 use arrow_byte_array::{ByteArray, MutableByteArray, MutableByteValuesArray};
 use arrow_bytes::{Binary, ByteItem, ByteKind, ItemError, Utf8};
-use arrow_testing::{after, are_offsets, is_mask, tells, told};
+use arrow_testing::{all_told, are_offsets, is_mask, tells};
 use arrow_types::error::Error;
 use arrow_types::offset::Offset;
 use arrow_utf8::{MutableUtf8Array, MutableUtf8ValuesArray};
@@ -11,7 +15,7 @@ use std::alloc::Global;
 use std::test::Fail;
 
 /// The calls that are written for each kind, and its lists of three: in generic code no array of items can be made.
-trait Known: ByteKind {
+pub(crate) trait Known: ByteKind {
     /// What lends an item.
     type Item: ByteItem<Self> + ItemError<Error = Error>;
 
@@ -133,15 +137,21 @@ impl Known for Utf8 {
     }
 }
 
-/// Whether an array has these offsets over these bytes, and these marks.
-fn shows<K: ByteKind, O: Offset>(array: &ByteArray<K, O>, wanted: (&[usize], &str, &str)) -> bool {
-    let (offsets, text, mask) = wanted;
-    let marks = match array.validity() {
-        Some(marks) => Some(marks.iter()),
-        None => None,
-    };
-    let is_text = array.values().as_slice() == text.as_bytes() && is_mask(marks, mask);
-    is_text && are_offsets(array.offsets().buffer().as_slice(), offsets)
+/// Offsets, bytes and marks.
+pub(crate) type Pieces = (&'static [usize], &'static str, &'static str);
+
+impl<K: ByteKind, O: Offset> Shows for ByteArray<K, O> {
+    type Wanted = Pieces;
+
+    fn shows(&self, wanted: &Pieces) -> bool {
+        let (offsets, text, mask) = *wanted;
+        let marks = match self.validity() {
+            Some(marks) => Some(marks.iter()),
+            None => None,
+        };
+        let is_text = (self.values().as_slice() == text.as_bytes()) & is_mask(marks, mask);
+        is_text & are_offsets(self.offsets().buffer().as_slice(), offsets)
+    }
 }
 
 /// Whether a builder has these offsets over these bytes, and these marks.
@@ -154,8 +164,16 @@ fn builds<K: ByteKind, O: Offset>(
         Some(marks) => Some(marks.iter()),
         None => None,
     };
-    let is_text = builder.values().as_slice() == text.as_bytes() && is_mask(marks, mask);
-    is_text && are_offsets(builder.offsets().as_slice(), offsets)
+    let is_text = (builder.values().as_slice() == text.as_bytes()) & is_mask(marks, mask);
+    is_text & are_offsets(builder.offsets().as_slice(), offsets)
+}
+
+impl<K: ByteKind, O: Offset> Shows for MutableByteArray<K, O> {
+    type Wanted = Pieces;
+
+    fn shows(&self, wanted: &Pieces) -> bool {
+        builds(self, *wanted)
+    }
 }
 
 /// Whether a builder without nulls has these offsets over these bytes.
@@ -164,16 +182,41 @@ fn holds<K: ByteKind, O: Offset>(
     wanted: (&[usize], &str, &str),
 ) -> bool {
     let (offsets, text, _) = wanted;
-    builder.values().as_slice() == text.as_bytes()
-        && are_offsets(builder.offsets().as_slice(), offsets)
+    let is_text = builder.values().as_slice() == text.as_bytes();
+    is_text & are_offsets(builder.offsets().as_slice(), offsets)
+}
+
+impl<K: ByteKind, O: Offset> Shows for MutableByteValuesArray<K, O> {
+    type Wanted = Pieces;
+
+    fn shows(&self, wanted: &Pieces) -> bool {
+        holds(self, *wanted)
+    }
+}
+
+impl<K: ByteKind, O: Offset> Copied for ByteArray<K, O> {
+    fn copy(&self) -> Result<ByteArray<K, O>, Error> {
+        self.clone()
+    }
+}
+
+impl<K: ByteKind, O: Offset> Copied for MutableByteArray<K, O> {
+    fn copy(&self) -> Result<MutableByteArray<K, O>, Error> {
+        self.clone()
+    }
+}
+
+impl<K: ByteKind, O: Offset> Copied for MutableByteValuesArray<K, O> {
+    fn copy(&self) -> Result<MutableByteValuesArray<K, O>, Error> {
+        self.clone()
+    }
 }
 
 /// More bytes than a builder of one slot has room for.
 const LONG: &str = "bcdefghijklmnopqrstuvwxyz0123456789é";
 
 /// The calls by which a builder changes wholly or not at all.
-#[derive(Clone, Copy)]
-enum Growth {
+pub(crate) enum Growth {
     Push,
     PushOfANull,
     TryPush,
@@ -183,9 +226,6 @@ enum Growth {
     ShrinkToFit,
     Pop,
 }
-
-/// Offsets, bytes and marks.
-pub(crate) type Pieces = (&'static [usize], &'static str, &'static str);
 
 /// Each of the calls, and what a builder of one slot has after it.
 const GROWTHS: &[(Growth, Pieces)] = &[
@@ -208,225 +248,71 @@ const GROWTHS: &[(Growth, Pieces)] = &[
     (Growth::Pop, (&[0], "", "none")),
 ];
 
-/// Removes the last slot, and is refused where it isn't this.
-fn pop<K: Known, O: Offset>(builder: &mut MutableByteArray<K, O>, text: &str) -> Result<(), Error> {
-    match builder.pop() {
+/// What is answered to the removal of the last item, which has to be this.
+fn popped<K: Known>(answer: Result<Option<K::Owned>, Error>, text: &str) -> Result<(), Error> {
+    match answer {
         Ok(Some(item)) if K::is(&item, text) => Ok(()),
         Ok(_) => Err(Error::OutOfSpec("another item")),
         Err(refused) => Err(refused),
     }
 }
 
-/// Calls it, of a builder of one slot; another has three.
-fn grow<K: Known, O: Offset>(
-    builder: &mut MutableByteArray<K, O>,
-    other: &MutableByteArray<K, O>,
-    call: Growth,
-) -> Result<(), Error> {
-    match call {
-        Growth::Push => K::push(builder, Some(LONG), false),
-        Growth::PushOfANull => K::push(builder, None, false),
-        Growth::TryPush => K::push(builder, Some(LONG), true),
-        Growth::PushNull => builder.push_null(),
-        Growth::TryExtendFromSelf => builder.try_extend_from_self(other),
-        Growth::Reserve => builder.reserve(100, 1000),
-        Growth::ShrinkToFit => builder.shrink_to_fit(),
-        Growth::Pop => pop(builder, "a"),
+// A small one has a slot of one byte, without a mask, and the other three slots.
+impl<K: Known, O: Offset> Growing for MutableByteArray<K, O> {
+    type Call = Growth;
+
+    fn small(alloc: Global) -> Result<MutableByteArray<K, O>, Error> {
+        MutableByteArray::<K, O>::from_iter_values(alloc, K::one().iter().copied())
     }
-}
 
-/// Whether a builder of one slot is as before a growth that was refused, and changes by the same call.
-fn grows_again<K: Known, O: Offset>(
-    builder: &mut MutableByteArray<K, O>,
-    other: &MutableByteArray<K, O>,
-    call: Growth,
-    wanted: Pieces,
-) -> bool {
-    let is_left = builds(builder, (&[0, 1], "a", "none"));
-    let is_grown = grow(builder, other, call).is_ok();
-    is_left & is_grown & builds(builder, wanted)
-}
-
-/// Whether it has changed, or does so by the same call where that is refused.
-fn grows<K: Known, O: Offset>(
-    builder: &mut MutableByteArray<K, O>,
-    other: &MutableByteArray<K, O>,
-    call: Growth,
-    wanted: Pieces,
-) -> Result<bool, Error> {
-    match grow(builder, other, call) {
-        Ok(()) => Ok(builds(builder, wanted)),
-        Err(refused) => after(refused, grows_again(builder, other, call, wanted)),
+    fn is_small(&self) -> bool {
+        builds(self, (&[0, 1], "a", "none"))
     }
-}
 
-/// Whether a new one has.
-fn grown<K: Known, O: Offset>(
-    alloc: Global,
-    other: &MutableByteArray<K, O>,
-    call: Growth,
-    wanted: Pieces,
-) -> Result<bool, Error> {
-    match MutableByteArray::<K, O>::from_iter_values(alloc, K::one().iter().copied()) {
-        Ok(mut builder) => grows(&mut builder, other, call, wanted),
-        Err(refused) => Err(refused),
+    fn other(alloc: Global) -> Result<MutableByteArray<K, O>, Error> {
+        MutableByteArray::<K, O>::from(alloc, K::slots())
     }
-}
 
-/// Whether new ones have by each call, beside a builder of three slots.
-fn each_grown<K: Known, O: Offset>(
-    alloc: Global,
-    other: &MutableByteArray<K, O>,
-    calls: &[(Growth, Pieces)],
-) -> Result<bool, Error> {
-    for (call, wanted) in calls {
-        if !grown(alloc, other, *call, *wanted)? {
-            return Ok(false);
+    fn grow(&mut self, other: &MutableByteArray<K, O>, call: &Growth) -> Result<(), Error> {
+        match call {
+            Growth::Push => K::push(self, Some(LONG), false),
+            Growth::PushOfANull => K::push(self, None, false),
+            Growth::TryPush => K::push(self, Some(LONG), true),
+            Growth::PushNull => self.push_null(),
+            Growth::TryExtendFromSelf => self.try_extend_from_self(other),
+            Growth::Reserve => self.reserve(100, 1000),
+            Growth::ShrinkToFit => self.shrink_to_fit(),
+            Growth::Pop => popped::<K>(self.pop(), "a"),
         }
     }
-    Ok(true)
 }
 
-/// The same beside a new one.
-fn all_grown<K: Known, O: Offset>(alloc: Global) -> Result<bool, Error> {
-    match MutableByteArray::<K, O>::from(alloc, K::slots()) {
-        Ok(other) => each_grown(alloc, &other, GROWTHS),
-        Err(refused) => Err(refused),
+// A small one has an item of one byte, and the other three items.
+impl<K: Known, O: Offset> Growing for MutableByteValuesArray<K, O> {
+    type Call = Growth;
+
+    fn small(alloc: Global) -> Result<MutableByteValuesArray<K, O>, Error> {
+        MutableByteValuesArray::<K, O>::from_iter(alloc, K::one().iter().copied())
     }
-}
 
-#[test]
-fn growths(rt: HostRuntime) -> Result<(), Fail> {
-    told(all_grown::<Binary, i32>(rt.alloc()))
-}
-
-#[test]
-fn text_growths(rt: HostRuntime) -> Result<(), Fail> {
-    told(all_grown::<Utf8, i64>(rt.alloc()))
-}
-
-/// Removes the last item, and is refused where it isn't this.
-fn pop_item<K: Known, O: Offset>(
-    builder: &mut MutableByteValuesArray<K, O>,
-    text: &str,
-) -> Result<(), Error> {
-    match builder.pop() {
-        Ok(Some(item)) if K::is(&item, text) => Ok(()),
-        Ok(_) => Err(Error::OutOfSpec("another item")),
-        Err(refused) => Err(refused),
+    fn is_small(&self) -> bool {
+        holds(self, (&[0, 1], "a", "none"))
     }
-}
 
-/// Calls it, of a builder without nulls of one item; another has three.
-fn grow_items<K: Known, O: Offset>(
-    builder: &mut MutableByteValuesArray<K, O>,
-    other: &MutableByteValuesArray<K, O>,
-    call: Growth,
-) -> Result<(), Error> {
-    match call {
-        Growth::Push => K::push_item(builder, LONG, false),
-        Growth::TryPush => K::push_item(builder, LONG, true),
-        Growth::PushOfANull | Growth::PushNull => builder.push_null(),
-        Growth::TryExtendFromSelf => builder.try_extend_from_self(other),
-        Growth::Reserve => builder.reserve(100, 1000),
-        Growth::ShrinkToFit => builder.shrink_to_fit(),
-        Growth::Pop => pop_item(builder, "a"),
+    fn other(alloc: Global) -> Result<MutableByteValuesArray<K, O>, Error> {
+        MutableByteValuesArray::<K, O>::from_iter(alloc, K::items().iter().copied())
     }
-}
 
-/// Whether a builder of one item is as before a growth that was refused, and changes by the same call.
-fn grows_by_items_again<K: Known, O: Offset>(
-    builder: &mut MutableByteValuesArray<K, O>,
-    other: &MutableByteValuesArray<K, O>,
-    call: Growth,
-    wanted: Pieces,
-) -> bool {
-    let is_left = holds(builder, (&[0, 1], "a", "none"));
-    let is_grown = grow_items(builder, other, call).is_ok();
-    is_left & is_grown & holds(builder, wanted)
-}
-
-/// Whether it has changed, or does so by the same call where that is refused.
-fn grows_by_items<K: Known, O: Offset>(
-    builder: &mut MutableByteValuesArray<K, O>,
-    other: &MutableByteValuesArray<K, O>,
-    call: Growth,
-    wanted: Pieces,
-) -> Result<bool, Error> {
-    match grow_items(builder, other, call) {
-        Ok(()) => Ok(holds(builder, wanted)),
-        Err(refused) => after(refused, grows_by_items_again(builder, other, call, wanted)),
-    }
-}
-
-/// Whether a new one has.
-fn grown_by_items<K: Known, O: Offset>(
-    alloc: Global,
-    other: &MutableByteValuesArray<K, O>,
-    call: Growth,
-    wanted: Pieces,
-) -> Result<bool, Error> {
-    match MutableByteValuesArray::<K, O>::from_iter(alloc, K::one().iter().copied()) {
-        Ok(mut builder) => grows_by_items(&mut builder, other, call, wanted),
-        Err(refused) => Err(refused),
-    }
-}
-
-/// Whether new ones have by each call, beside a builder of three items.
-fn each_grown_by_items<K: Known, O: Offset>(
-    alloc: Global,
-    other: &MutableByteValuesArray<K, O>,
-    calls: &[(Growth, Pieces)],
-) -> Result<bool, Error> {
-    for (call, wanted) in calls {
-        if !grown_by_items(alloc, other, *call, *wanted)? {
-            return Ok(false);
+    fn grow(&mut self, other: &MutableByteValuesArray<K, O>, call: &Growth) -> Result<(), Error> {
+        match call {
+            Growth::Push => K::push_item(self, LONG, false),
+            Growth::TryPush => K::push_item(self, LONG, true),
+            Growth::PushOfANull | Growth::PushNull => self.push_null(),
+            Growth::TryExtendFromSelf => self.try_extend_from_self(other),
+            Growth::Reserve => self.reserve(100, 1000),
+            Growth::ShrinkToFit => self.shrink_to_fit(),
+            Growth::Pop => popped::<K>(self.pop(), "a"),
         }
-    }
-    Ok(true)
-}
-
-/// The same beside a new one.
-fn all_grown_by_items<K: Known, O: Offset>(alloc: Global) -> Result<bool, Error> {
-    match MutableByteValuesArray::<K, O>::from_iter(alloc, K::items().iter().copied()) {
-        Ok(other) => each_grown_by_items(alloc, &other, GROWTHS),
-        Err(refused) => Err(refused),
-    }
-}
-
-#[test]
-fn growths_by_items(rt: HostRuntime) -> Result<(), Fail> {
-    told(all_grown_by_items::<Binary, i32>(rt.alloc()))
-}
-
-#[test]
-fn text_growths_by_items(rt: HostRuntime) -> Result<(), Fail> {
-    told(all_grown_by_items::<Utf8, i64>(rt.alloc()))
-}
-
-/// The calls by which a builder grows by what an iterator gives, as far as there is memory.
-#[derive(Clone, Copy)]
-enum Extension {
-    Extend,
-    TryExtend,
-    ExtendValues,
-}
-
-const EXTENSIONS: &[Extension] = &[
-    Extension::Extend,
-    Extension::TryExtend,
-    Extension::ExtendValues,
-];
-
-/// Calls it.
-fn extend_by<K: Known, O: Offset>(
-    builder: &mut MutableByteArray<K, O>,
-    call: Extension,
-) -> Result<(), Error> {
-    match call {
-        Extension::Extend => builder.extend(K::slots().iter().copied()),
-        Extension::TryExtend => builder.try_extend(K::slots().iter().copied()),
-        Extension::ExtendValues => builder.extend_values(K::items().iter().copied()),
     }
 }
 
@@ -443,128 +329,64 @@ fn begun<'a>(call: Extension, count: usize) -> (&'a [usize], &'a str, &'a str) {
     (offsets, "aéthere".get(..end).unwrap_or("too many"), mask)
 }
 
-/// Whether the first slots of an extended builder of one slot are there, and no others.
-fn is_begun<K: Known, O: Offset>(builder: &MutableByteArray<K, O>, call: Extension) -> bool {
-    let count = builder.len();
-    (1 <= count) & builds(builder, begun(call, count))
-}
-
-/// Whether a builder of one slot was extended by a beginning where that is refused, and then is by the same call.
-fn extends_again<K: Known, O: Offset>(
-    builder: &mut MutableByteArray<K, O>,
-    call: Extension,
-) -> bool {
-    let (is_left, end) = (is_begun(builder, call), builder.values().len());
-    let is_extended = extend_by(builder, call).is_ok();
-    let is_behind = builder.values().as_slice().get(end..) == Some("éthere".as_bytes());
-    is_left & is_extended & is_behind
-}
-
-/// Whether it is extended, or is by the same call where that is refused.
-fn extends<K: Known, O: Offset>(
-    builder: &mut MutableByteArray<K, O>,
-    call: Extension,
-) -> Result<bool, Error> {
-    match extend_by(builder, call) {
-        Ok(()) => Ok(builds(builder, begun(call, 4))),
-        Err(refused) => after(refused, extends_again(builder, call)),
-    }
-}
-
-/// Whether a new one is.
-fn extended<K: Known, O: Offset>(alloc: Global, call: Extension) -> Result<bool, Error> {
-    match MutableByteArray::<K, O>::from_iter_values(alloc, K::one().iter().copied()) {
-        Ok(mut builder) => extends(&mut builder, call),
-        Err(refused) => Err(refused),
-    }
-}
-
-/// Whether new ones are by each call.
-fn all_extended<K: Known, O: Offset>(alloc: Global, calls: &[Extension]) -> Result<bool, Error> {
-    for call in calls {
-        if !extended::<K, O>(alloc, *call)? {
-            return Ok(false);
+impl<K: Known, O: Offset> Extending for MutableByteArray<K, O> {
+    fn extend_by(&mut self, call: Extension) -> Result<(), Error> {
+        match call {
+            Extension::Extend => self.extend(K::slots().iter().copied()),
+            Extension::TryExtend => self.try_extend(K::slots().iter().copied()),
+            Extension::ExtendValues => self.extend_values(K::items().iter().copied()),
         }
     }
-    Ok(true)
-}
 
-#[test]
-fn extensions(rt: HostRuntime) -> Result<(), Fail> {
-    told(all_extended::<Binary, i32>(rt.alloc(), EXTENSIONS))
-}
+    fn is_begun(&self, call: Extension) -> bool {
+        let count = self.len();
+        (1 <= count) & builds(self, begun(call, count))
+    }
 
-#[test]
-fn text_extensions(rt: HostRuntime) -> Result<(), Fail> {
-    told(all_extended::<Utf8, i64>(rt.alloc(), EXTENSIONS))
-}
+    fn is_whole(&self) -> bool {
+        self.len() == 4
+    }
 
-/// Calls it, of a builder without nulls.
-fn extend_items<K: Known, O: Offset>(
-    builder: &mut MutableByteValuesArray<K, O>,
-    tries: bool,
-) -> Result<(), Error> {
-    if tries {
-        builder.try_extend(K::items().iter().copied())
-    } else {
-        builder.extend(K::items().iter().copied())
+    fn end(&self) -> usize {
+        self.values().len()
+    }
+
+    fn is_behind(&self, end: usize) -> bool {
+        self.values().as_slice().get(end..) == Some("éthere".as_bytes())
     }
 }
 
-/// Whether a builder of one item was extended by a beginning where that is refused, and then is by the same call.
-fn extends_by_items_again<K: Known, O: Offset>(
-    builder: &mut MutableByteValuesArray<K, O>,
-    tries: bool,
-) -> bool {
-    let (count, end) = (builder.len(), builder.values().len());
-    let is_left = (1 <= count) & holds(builder, begun(Extension::ExtendValues, count));
-    let is_extended = extend_items(builder, tries).is_ok();
-    let is_behind = builder.values().as_slice().get(end..) == Some("éthere".as_bytes());
-    is_left & is_extended & is_behind
-}
+// Without nulls an iterator's items are all that there is to be extended by.
+impl<K: Known, O: Offset> Extending for MutableByteValuesArray<K, O> {
+    fn extend_by(&mut self, call: Extension) -> Result<(), Error> {
+        match call {
+            Extension::TryExtend => self.try_extend(K::items().iter().copied()),
+            _ => self.extend(K::items().iter().copied()),
+        }
+    }
 
-/// Whether it is extended, or is by the same call where that is refused.
-fn extends_by_items<K: Known, O: Offset>(
-    builder: &mut MutableByteValuesArray<K, O>,
-    tries: bool,
-) -> Result<bool, Error> {
-    match extend_items(builder, tries) {
-        Ok(()) => Ok(holds(builder, begun(Extension::ExtendValues, 4))),
-        Err(refused) => after(refused, extends_by_items_again(builder, tries)),
+    fn is_begun(&self, _call: Extension) -> bool {
+        let count = self.len();
+        (1 <= count) & holds(self, begun(Extension::ExtendValues, count))
+    }
+
+    fn is_whole(&self) -> bool {
+        self.len() == 4
+    }
+
+    fn end(&self) -> usize {
+        self.values().len()
+    }
+
+    fn is_behind(&self, end: usize) -> bool {
+        self.values().as_slice().get(end..) == Some("éthere".as_bytes())
     }
 }
 
-/// Whether a new one is, by `extend` or by `try_extend`.
-fn extended_by_items<K: Known, O: Offset>(alloc: Global, tries: bool) -> Result<bool, Error> {
-    match MutableByteValuesArray::<K, O>::from_iter(alloc, K::one().iter().copied()) {
-        Ok(mut builder) => extends_by_items(&mut builder, tries),
-        Err(refused) => Err(refused),
-    }
-}
-
-#[test]
-fn extensions_by_items(rt: HostRuntime) -> Result<(), Fail> {
-    told(extended_by_items::<Binary, i32>(rt.alloc(), false))?;
-    told(extended_by_items::<Binary, i32>(rt.alloc(), true))
-}
-
-#[test]
-fn text_extensions_by_items(rt: HostRuntime) -> Result<(), Fail> {
-    told(extended_by_items::<Utf8, i64>(rt.alloc(), false))?;
-    told(extended_by_items::<Utf8, i64>(rt.alloc(), true))
-}
-
-/// The calls that make an array, a builder, or one without nulls.
+/// The calls that make an array, a builder, or one without nulls. Some of them make nothing of some kind; then `New` is
+/// called.
 #[derive(Clone, Copy)]
-enum Made {
-    Array(Maker),
-    Builder(Maker),
-    Values(Maker),
-}
-
-/// Such a call. Some of them make nothing of some kind; then `New` is called.
-#[derive(Clone, Copy)]
-enum Maker {
+pub(crate) enum Maker {
     New,
     Default,
     WithCapacity,
@@ -580,18 +402,8 @@ enum Maker {
     Clone,
 }
 
-/// The clone of an array.
-fn cloned<K: ByteKind, O: Offset>(
-    array: Result<ByteArray<K, O>, Error>,
-) -> Result<ByteArray<K, O>, Error> {
-    match array {
-        Ok(array) => array.clone(),
-        Err(refused) => Err(refused),
-    }
-}
-
 /// The array of a builder.
-fn frozen<K: ByteKind, O: Offset>(
+fn freeze<K: ByteKind, O: Offset>(
     builder: Result<MutableByteArray<K, O>, Error>,
 ) -> Result<ByteArray<K, O>, Error> {
     match builder {
@@ -601,7 +413,7 @@ fn frozen<K: ByteKind, O: Offset>(
 }
 
 /// The array of a builder without nulls.
-fn frozen_items<K: ByteKind, O: Offset>(
+fn freeze_items<K: ByteKind, O: Offset>(
     builder: Result<MutableByteValuesArray<K, O>, Error>,
 ) -> Result<ByteArray<K, O>, Error> {
     match builder {
@@ -610,127 +422,74 @@ fn frozen_items<K: ByteKind, O: Offset>(
     }
 }
 
-/// The array that it makes.
-fn array<K: Known, O: Offset>(alloc: Global, call: Maker) -> Result<ByteArray<K, O>, Error> {
-    let (slots, items) = (K::slots(), K::items());
-    match call {
-        Maker::FromSlice => ByteArray::<K, O>::from_slice(alloc, items),
-        Maker::From => ByteArray::<K, O>::from(alloc, slots),
-        Maker::FromIter => ByteArray::<K, O>::from_iter(alloc, slots.iter().copied()),
-        Maker::FromIterValues => ByteArray::<K, O>::from_iter_values(alloc, items.iter().copied()),
-        Maker::NewNull => ByteArray::new_null(alloc, K::default_type(O::IS_LARGE), 2),
-        Maker::Default => ByteArray::default(alloc),
-        Maker::Freeze => frozen(MutableByteArray::<K, O>::from(alloc, slots)),
-        Maker::FreezeOfItems => frozen_items(MutableByteValuesArray::<K, O>::from_iter(
-            alloc,
-            items.iter().copied(),
-        )),
-        Maker::Clone => cloned(ByteArray::<K, O>::from(alloc, slots)),
-        _ => ByteArray::new_empty(alloc, K::default_type(O::IS_LARGE)),
-    }
-}
+impl<K: Known, O: Offset> Making for ByteArray<K, O> {
+    type Maker = Maker;
 
-/// Whether an array was made that has these offsets, bytes and marks.
-pub(crate) fn shown<K: ByteKind, O: Offset>(
-    answer: Result<ByteArray<K, O>, Error>,
-    wanted: Pieces,
-) -> Result<bool, Error> {
-    match answer {
-        Ok(array) => Ok(shows(&array, wanted)),
-        Err(refused) => Err(refused),
-    }
-}
-
-/// The copy of a builder.
-fn copied<K: ByteKind, O: Offset>(
-    builder: Result<MutableByteArray<K, O>, Error>,
-) -> Result<MutableByteArray<K, O>, Error> {
-    match builder {
-        Ok(builder) => builder.clone(),
-        Err(refused) => Err(refused),
-    }
-}
-
-/// The builder that it makes.
-fn builder<K: Known, O: Offset>(
-    alloc: Global,
-    call: Maker,
-) -> Result<MutableByteArray<K, O>, Error> {
-    let (slots, items) = (K::slots(), K::items());
-    match call {
-        Maker::Default => MutableByteArray::default(alloc),
-        Maker::WithCapacity => MutableByteArray::with_capacity(alloc, 3),
-        Maker::WithCapacities => MutableByteArray::with_capacities(alloc, 3, 6),
-        Maker::From => MutableByteArray::<K, O>::from(alloc, slots),
-        Maker::FromIter => MutableByteArray::<K, O>::from_iter(alloc, slots.iter().copied()),
-        Maker::FromIterValues => {
-            MutableByteArray::<K, O>::from_iter_values(alloc, items.iter().copied())
+    fn make(alloc: Global, call: &Maker) -> Result<ByteArray<K, O>, Error> {
+        let (slots, items) = (K::slots(), K::items());
+        match call {
+            Maker::FromSlice => ByteArray::<K, O>::from_slice(alloc, items),
+            Maker::From => ByteArray::<K, O>::from(alloc, slots),
+            Maker::FromIter => ByteArray::<K, O>::from_iter(alloc, slots.iter().copied()),
+            Maker::FromIterValues => ByteArray::<K, O>::from_iter_values(
+                alloc,
+                items.iter().copied(),
+            ),
+            Maker::NewNull => ByteArray::new_null(alloc, K::default_type(O::IS_LARGE), 2),
+            Maker::Default => ByteArray::default(alloc),
+            Maker::Freeze => freeze(MutableByteArray::<K, O>::from(alloc, slots)),
+            Maker::FreezeOfItems => freeze_items(MutableByteValuesArray::<K, O>::from_iter(
+                alloc,
+                items.iter().copied(),
+            )),
+            Maker::Clone => copy_of(ByteArray::<K, O>::from(alloc, slots)),
+            _ => ByteArray::new_empty(alloc, K::default_type(O::IS_LARGE)),
         }
-        Maker::Clone => copied(MutableByteArray::<K, O>::from(alloc, slots)),
-        _ => MutableByteArray::new(alloc),
     }
 }
 
-/// Whether a builder was.
-fn built<K: ByteKind, O: Offset>(
-    answer: Result<MutableByteArray<K, O>, Error>,
-    wanted: Pieces,
-) -> Result<bool, Error> {
-    match answer {
-        Ok(builder) => Ok(builds(&builder, wanted)),
-        Err(refused) => Err(refused),
-    }
-}
+impl<K: Known, O: Offset> Making for MutableByteArray<K, O> {
+    type Maker = Maker;
 
-/// The copy of a builder without nulls.
-fn copied_items<K: ByteKind, O: Offset>(
-    builder: Result<MutableByteValuesArray<K, O>, Error>,
-) -> Result<MutableByteValuesArray<K, O>, Error> {
-    match builder {
-        Ok(builder) => builder.clone(),
-        Err(refused) => Err(refused),
-    }
-}
-
-/// The builder without nulls that it makes.
-fn values<K: Known, O: Offset>(
-    alloc: Global,
-    call: Maker,
-) -> Result<MutableByteValuesArray<K, O>, Error> {
-    let items = K::items();
-    match call {
-        Maker::Default => MutableByteValuesArray::default(alloc),
-        Maker::WithCapacity => MutableByteValuesArray::with_capacity(alloc, 3),
-        Maker::WithCapacities => MutableByteValuesArray::with_capacities(alloc, 3, 6),
-        Maker::FromIter => MutableByteValuesArray::<K, O>::from_iter(alloc, items.iter().copied()),
-        Maker::TryFromIter => {
-            MutableByteValuesArray::<K, O>::try_from_iter(alloc, items.iter().copied())
+    fn make(alloc: Global, call: &Maker) -> Result<MutableByteArray<K, O>, Error> {
+        let (slots, items) = (K::slots(), K::items());
+        match call {
+            Maker::Default => MutableByteArray::default(alloc),
+            Maker::WithCapacity => MutableByteArray::with_capacity(alloc, 3),
+            Maker::WithCapacities => MutableByteArray::with_capacities(alloc, 3, 6),
+            Maker::From => MutableByteArray::<K, O>::from(alloc, slots),
+            Maker::FromIter => MutableByteArray::<K, O>::from_iter(alloc, slots.iter().copied()),
+            Maker::FromIterValues => {
+                MutableByteArray::<K, O>::from_iter_values(alloc, items.iter().copied())
+            }
+            Maker::Clone => copy_of(MutableByteArray::<K, O>::from(alloc, slots)),
+            _ => MutableByteArray::new(alloc),
         }
-        Maker::Clone => copied_items(MutableByteValuesArray::<K, O>::from_iter(
-            alloc,
-            items.iter().copied(),
-        )),
-        _ => MutableByteValuesArray::new(alloc),
     }
 }
 
-/// Whether a builder without nulls was that has these offsets and bytes.
-fn held<K: ByteKind, O: Offset>(
-    answer: Result<MutableByteValuesArray<K, O>, Error>,
-    wanted: Pieces,
-) -> Result<bool, Error> {
-    match answer {
-        Ok(builder) => Ok(holds(&builder, wanted)),
-        Err(refused) => Err(refused),
-    }
-}
+impl<K: Known, O: Offset> Making for MutableByteValuesArray<K, O> {
+    type Maker = Maker;
 
-/// Whether what a call makes has these offsets, bytes and marks.
-fn is_made<K: Known, O: Offset>(alloc: Global, call: Made, wanted: Pieces) -> Result<bool, Error> {
-    match call {
-        Made::Array(call) => shown(array::<K, O>(alloc, call), wanted),
-        Made::Builder(call) => built(builder::<K, O>(alloc, call), wanted),
-        Made::Values(call) => held(values::<K, O>(alloc, call), wanted),
+    fn make(alloc: Global, call: &Maker) -> Result<MutableByteValuesArray<K, O>, Error> {
+        let items = K::items();
+        match call {
+            Maker::Default => MutableByteValuesArray::default(alloc),
+            Maker::WithCapacity => MutableByteValuesArray::with_capacity(alloc, 3),
+            Maker::WithCapacities => MutableByteValuesArray::with_capacities(alloc, 3, 6),
+            Maker::FromIter => MutableByteValuesArray::<K, O>::from_iter(
+                alloc,
+                items.iter().copied(),
+            ),
+            Maker::TryFromIter => {
+                MutableByteValuesArray::<K, O>::try_from_iter(alloc, items.iter().copied())
+            }
+            Maker::Clone => copy_of(MutableByteValuesArray::<K, O>::from_iter(
+                alloc,
+                items.iter().copied(),
+            )),
+            _ => MutableByteValuesArray::new(alloc),
+        }
     }
 }
 
@@ -743,57 +502,56 @@ const SLOTS: Pieces = (&[0, 2, 2, 7], "éthere", "101");
 
 const ITEMS: Pieces = (&[0, 2, 2, 7], "éthere", "none");
 
-/// Each of the calls, and what it makes.
-const MADE: &[(Made, Pieces)] = &[
-    (Made::Array(Maker::FromSlice), ITEMS),
-    (Made::Array(Maker::From), SLOTS),
-    (Made::Array(Maker::FromIter), SLOTS),
-    (Made::Array(Maker::FromIterValues), ITEMS),
-    (Made::Array(Maker::New), NOTHING),
-    (Made::Array(Maker::NewNull), NULLS),
-    (Made::Array(Maker::Default), NOTHING),
-    (Made::Array(Maker::Freeze), SLOTS),
-    (Made::Array(Maker::FreezeOfItems), ITEMS),
-    (Made::Array(Maker::Clone), SLOTS),
-    (Made::Builder(Maker::New), NOTHING),
-    (Made::Builder(Maker::Default), NOTHING),
-    (Made::Builder(Maker::WithCapacity), NOTHING),
-    (Made::Builder(Maker::WithCapacities), NOTHING),
-    (Made::Builder(Maker::From), SLOTS),
-    (Made::Builder(Maker::FromIter), SLOTS),
-    (Made::Builder(Maker::FromIterValues), ITEMS),
-    (Made::Builder(Maker::Clone), SLOTS),
-    (Made::Values(Maker::New), NOTHING),
-    (Made::Values(Maker::Default), NOTHING),
-    (Made::Values(Maker::WithCapacity), NOTHING),
-    (Made::Values(Maker::WithCapacities), NOTHING),
-    (Made::Values(Maker::FromIter), ITEMS),
-    (Made::Values(Maker::TryFromIter), ITEMS),
-    (Made::Values(Maker::Clone), ITEMS),
+/// The calls that make an array, and what they make.
+const ARRAYS: &[(Maker, Pieces)] = &[
+    (Maker::FromSlice, ITEMS),
+    (Maker::From, SLOTS),
+    (Maker::FromIter, SLOTS),
+    (Maker::FromIterValues, ITEMS),
+    (Maker::New, NOTHING),
+    (Maker::NewNull, NULLS),
+    (Maker::Default, NOTHING),
+    (Maker::Freeze, SLOTS),
+    (Maker::FreezeOfItems, ITEMS),
+    (Maker::Clone, SLOTS),
 ];
 
-/// Whether each makes it, or, where that is refused, makes it by the same call once more.
-fn all_made<K: Known, O: Offset>(alloc: Global, calls: &[(Made, Pieces)]) -> Result<bool, Error> {
-    for (call, wanted) in calls {
-        match is_made::<K, O>(alloc, *call, *wanted) {
-            Ok(true) => (),
-            Ok(false) => return Ok(false),
-            Err(refused) => {
-                return after(refused, is_made::<K, O>(alloc, *call, *wanted) == Ok(true));
-            }
-        }
-    }
-    Ok(true)
+/// Those that make a builder.
+const BUILDERS: &[(Maker, Pieces)] = &[
+    (Maker::New, NOTHING),
+    (Maker::Default, NOTHING),
+    (Maker::WithCapacity, NOTHING),
+    (Maker::WithCapacities, NOTHING),
+    (Maker::From, SLOTS),
+    (Maker::FromIter, SLOTS),
+    (Maker::FromIterValues, ITEMS),
+    (Maker::Clone, SLOTS),
+];
+
+/// Those that make a builder without nulls.
+const VALUES: &[(Maker, Pieces)] = &[
+    (Maker::New, NOTHING),
+    (Maker::Default, NOTHING),
+    (Maker::WithCapacity, NOTHING),
+    (Maker::WithCapacities, NOTHING),
+    (Maker::FromIter, ITEMS),
+    (Maker::TryFromIter, ITEMS),
+    (Maker::Clone, ITEMS),
+];
+
+/// What makers make of a kind over a width of offsets.
+fn made<K: Known, O: Offset>(alloc: Global) -> [Result<bool, Error>; 3] {
+    [
+        all_made::<ByteArray<K, O>>(alloc, ARRAYS),
+        all_made::<MutableByteArray<K, O>>(alloc, BUILDERS),
+        all_made::<MutableByteValuesArray<K, O>>(alloc, VALUES),
+    ]
 }
 
 #[test]
 fn makers(rt: HostRuntime) -> Result<(), Fail> {
-    told(all_made::<Binary, i32>(rt.alloc(), MADE))
-}
-
-#[test]
-fn text_makers(rt: HostRuntime) -> Result<(), Fail> {
-    told(all_made::<Utf8, i64>(rt.alloc(), MADE))
+    all_told(&made::<Binary, i32>(rt.alloc()))?;
+    all_told(&made::<Utf8, i64>(rt.alloc()))
 }
 
 /// Whether three items of two bytes are appended, for which no memory is asked.
@@ -816,21 +574,28 @@ fn fits<K: Known, O: Offset>(builder: &mut MutableByteArray<K, O>) -> Result<boo
 
 /// Whether they are in a new builder, or in one with room.
 fn fits_room<K: Known, O: Offset>(alloc: Global, call: Maker) -> Result<bool, Error> {
-    match builder::<K, O>(alloc, call) {
+    match MutableByteArray::<K, O>::make(alloc, &call) {
         Ok(mut builder) => fits(&mut builder),
         Err(refused) => Err(refused),
     }
 }
 
-/// Whichever allocation is refused, it is none of those pushes that is.
-#[test]
-fn room_that_was_given(rt: HostRuntime) -> Result<(), Fail> {
-    told(fits_room::<Binary, i32>(rt.alloc(), Maker::New))
+/// Whether builders of a kind over a width of offsets grow, and are given room, where whichever allocation is refused, it is
+/// none of the pushes into that room that is.
+fn grown<K: Known, O: Offset>(alloc: Global, call: Maker) -> [Result<bool, Error>; 5] {
+    [
+        all_grown::<MutableByteArray<K, O>>(alloc, GROWTHS),
+        all_grown::<MutableByteValuesArray<K, O>>(alloc, GROWTHS),
+        all_extended::<MutableByteArray<K, O>>(alloc, EXTENSIONS),
+        all_extended::<MutableByteValuesArray<K, O>>(alloc, EXTENSIONS),
+        fits_room::<K, O>(alloc, call),
+    ]
 }
 
 #[test]
-fn text_room_that_was_given(rt: HostRuntime) -> Result<(), Fail> {
-    told(fits_room::<Utf8, i64>(rt.alloc(), Maker::WithCapacities))
+fn growths(rt: HostRuntime) -> Result<(), Fail> {
+    all_told(&grown::<Binary, i32>(rt.alloc(), Maker::New))?;
+    all_told(&grown::<Utf8, i64>(rt.alloc(), Maker::WithCapacities))
 }
 
 /// What is told of more slots, or more bytes, than any memory holds.

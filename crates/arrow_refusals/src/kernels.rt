@@ -1,7 +1,7 @@
 //! Kernels. Each makes of an array of three slots, the second of which is null, one of a null and the last, or the same
 //! three over other offsets, and over their own again.
+use crate::again::shown;
 use crate::bytes::Pieces;
-use crate::{boolean, bytes, primitive};
 use arrow_binary::BinaryArray;
 use arrow_boolean::BooleanArray;
 use arrow_kernels::{
@@ -46,7 +46,10 @@ fn numbers(
 /// Whether it does.
 fn are_numbers(alloc: Global, filter: &BooleanArray, act: Act) -> Result<bool, Error> {
     match PrimitiveArray::from(alloc, [Some(7), None, Some(9)].as_slice()) {
-        Ok(array) => primitive::shown(numbers(alloc, &array, filter, act), &[0, 9], "01"),
+        Ok(array) => shown(
+            numbers(alloc, &array, filter, act),
+            &([0, 9].as_slice(), "01"),
+        ),
         Err(refused) => Err(refused),
     }
 }
@@ -68,7 +71,7 @@ fn truths(
 /// Whether it does.
 fn are_truths(alloc: Global, filter: &BooleanArray, act: Act) -> Result<bool, Error> {
     match BooleanArray::from(alloc, [Some(true), None, Some(true)].as_slice()) {
-        Ok(array) => boolean::shown(truths(alloc, &array, filter, act), "01", "01"),
+        Ok(array) => shown(truths(alloc, &array, filter, act), &("01", "01")),
         Err(refused) => Err(refused),
     }
 }
@@ -105,7 +108,7 @@ fn are_items(
 ) -> Result<bool, Error> {
     let slots: &[Option<&[u8]>] = &[Some(b"ab"), None, Some(b"cde")];
     match BinaryArray::from(alloc, slots) {
-        Ok(array) => bytes::shown(items(alloc, &array, filter, act), wanted),
+        Ok(array) => shown(items(alloc, &array, filter, act), &wanted),
         Err(refused) => Err(refused),
     }
 }
@@ -141,7 +144,7 @@ fn are_texts(
     wanted: Pieces,
 ) -> Result<bool, Error> {
     match Utf8Array::from(alloc, [Some("ab"), None, Some("cde")].as_slice()) {
-        Ok(array) => bytes::shown(texts(alloc, &array, filter, act), wanted),
+        Ok(array) => shown(texts(alloc, &array, filter, act), &wanted),
         Err(refused) => Err(refused),
     }
 }

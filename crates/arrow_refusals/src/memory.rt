@@ -1,13 +1,61 @@
 //! Bit maps and buffers.
 ghost use Rattle.std.specs.Prelude.{◌≡◌, length};
 
+use crate::again::{Copied, Growing, Making, Shows, all_grown, all_made, copy_of};
 use arrow_memory::bitmap::{Bitmap, BitmapIter, MutableBitmap};
 use arrow_memory::buffer::Buffer;
-use arrow_testing::{after, told};
+use arrow_testing::{after, all_told, is_mask, told};
 use arrow_types::error::Error;
 use std::alloc::Global;
 use std::cell::Cell;
 use std::test::Fail;
+
+/// Marks, as a text of '1' and '0', and how many of them are clear.
+type Marks = (&'static str, usize);
+
+impl Shows for MutableBitmap {
+    type Wanted = Marks;
+
+    fn shows(&self, wanted: &Marks) -> bool {
+        let (text, clear) = *wanted;
+        is_mask(Some(self.iter()), text) & (self.unset_bits() == clear)
+    }
+}
+
+impl Shows for Bitmap {
+    type Wanted = Marks;
+
+    fn shows(&self, wanted: &Marks) -> bool {
+        let (text, clear) = *wanted;
+        is_mask(Some(self.iter()), text) & (self.unset_bits() == clear)
+    }
+}
+
+impl Shows for Buffer<i64> {
+    type Wanted = &'static [i64];
+
+    fn shows(&self, wanted: &&'static [i64]) -> bool {
+        self.as_slice() == *wanted
+    }
+}
+
+impl Copied for MutableBitmap {
+    fn copy(&self) -> Result<MutableBitmap, Error> {
+        self.clone()
+    }
+}
+
+impl Copied for Bitmap {
+    fn copy(&self) -> Result<Bitmap, Error> {
+        self.clone()
+    }
+}
+
+impl Copied for Buffer<i64> {
+    fn copy(&self) -> Result<Buffer<i64>, Error> {
+        self.clone()
+    }
+}
 
 /// Whether so many marks are given, of which every third is set, the first one too.
 fn gives_thirds(mut marks: BitmapIter<'_>, count: usize) -> bool {
@@ -20,122 +68,102 @@ fn gives_thirds(mut marks: BitmapIter<'_>, count: usize) -> bool {
 }
 
 /// Whether a refused push leaves the marks, and the next try succeeds.
-fn pushed(alloc: Global) -> Result<bool, Error> {
-    let mut marks = MutableBitmap::new(alloc);
+fn pushes(marks: &mut MutableBitmap) -> Result<bool, Error> {
     for index in 0..600 {
         if let Err(refused) = marks.push(index % 3 == 0) {
             let is_left = gives_thirds(marks.iter(), index);
-            marks.push(true)?;
-            return after(refused, is_left);
+            return after(refused, marks.push(true).is_ok() & is_left);
         }
     }
     Ok(gives_thirds(marks.iter(), 600))
 }
 
-#[test]
-fn push(rt: HostRuntime) -> Result<(), Fail> {
-    told(pushed(rt.alloc()))
-}
+/// How many marks each extension finds, and by how many it extends them.
+const EXTENSIONS: &[(usize, usize)] = &[(0, 5), (5, 100), (105, 1000)];
 
 /// Whether a refused extension leaves the marks, and the next try succeeds.
-fn extended(alloc: Global) -> Result<bool, Error> {
-    let mut marks = MutableBitmap::new(alloc);
-    for (length, count) in [(0, 5), (5, 100), (105, 1000)] {
-        if let Err(refused) = marks.extend_constant(count, true) {
-            let is_left = marks.len() == length && marks.unset_bits() == 0;
-            marks.extend_constant(count, true)?;
-            return after(refused, is_left);
+fn extends(marks: &mut MutableBitmap, calls: &[(usize, usize)]) -> Result<bool, Error> {
+    for (length, count) in calls {
+        if let Err(refused) = marks.extend_constant(*count, true) {
+            let is_left = (marks.len() == *length) & (marks.unset_bits() == 0);
+            return after(
+                refused,
+                marks.extend_constant(*count, true).is_ok() & is_left,
+            );
         }
     }
-    Ok(marks.len() == 1105 && marks.unset_bits() == 0)
-}
-
-#[test]
-fn extend_constant(rt: HostRuntime) -> Result<(), Fail> {
-    told(extended(rt.alloc()))
+    Ok((marks.len() == 1105) & (marks.unset_bits() == 0))
 }
 
 /// The calls by which marks come from others, or room is made, or given back.
-#[derive(Clone, Copy)]
-enum Growth {
+pub(crate) enum Growth {
     ExtendFromBitmap,
     Reserve,
     ShrinkToFit,
 }
 
-/// Calls it, of one set mark; the others are a hundred clear ones.
-fn grow(marks: &mut MutableBitmap, others: &MutableBitmap, call: Growth) -> Result<(), Error> {
-    match call {
-        Growth::ExtendFromBitmap => marks.extend_from_bitmap(others),
-        Growth::Reserve => marks.reserve(1000),
-        Growth::ShrinkToFit => marks.shrink_to_fit(),
+// A small one has one set mark, and the other a hundred clear ones.
+impl Growing for MutableBitmap {
+    type Call = Growth;
+
+    fn small(alloc: Global) -> Result<MutableBitmap, Error> {
+        MutableBitmap::from_slice(alloc, [true].as_slice())
+    }
+
+    fn is_small(&self) -> bool {
+        gives_thirds(self.iter(), 1)
+    }
+
+    fn other(alloc: Global) -> Result<MutableBitmap, Error> {
+        MutableBitmap::from_slice(alloc, [false; 100].as_slice())
+    }
+
+    fn grow(&mut self, other: &MutableBitmap, call: &Growth) -> Result<(), Error> {
+        match call {
+            Growth::ExtendFromBitmap => self.extend_from_bitmap(other),
+            Growth::Reserve => self.reserve(1000),
+            Growth::ShrinkToFit => self.shrink_to_fit(),
+        }
     }
 }
 
-/// Each of the calls, how many marks there are after it, and how many of them are clear.
-const GROWTHS: &[(Growth, (usize, usize))] = &[
-    (Growth::ExtendFromBitmap, (101, 100)),
-    (Growth::Reserve, (1, 0)),
-    (Growth::ShrinkToFit, (1, 0)),
+/// Each of the calls, and the marks after it.
+const GROWTHS: &[(Growth, Marks)] = &[
+    (
+        Growth::ExtendFromBitmap,
+        (
+            "10000000000000000000000000000000000000000000000000000000000000000000000000000000000000000000000000000",
+            100,
+        ),
+    ),
+    (Growth::Reserve, ("1", 0)),
+    (Growth::ShrinkToFit, ("1", 0)),
 ];
 
-/// Whether one set mark has others behind it then, or, where that is refused, is as before, and has by the same call.
-fn grows(
-    marks: &mut MutableBitmap,
-    others: &MutableBitmap,
-    call: Growth,
-    wanted: (usize, usize),
-) -> Result<bool, Error> {
-    match grow(marks, others, call) {
-        Ok(()) => Ok((marks.len(), marks.unset_bits()) == wanted),
-        Err(refused) => {
-            let is_left = gives_thirds(marks.iter(), 1);
-            let is_grown = grow(marks, others, call).is_ok();
-            let is_right = (marks.len(), marks.unset_bits()) == wanted;
-            after(refused, is_left & is_grown & is_right)
-        }
-    }
+/// Whether so many clear marks are refused behind one, and that one is left.
+fn are_refused(marks: &mut MutableBitmap, count: usize) -> bool {
+    let answer = marks.extend_constant(count, false);
+    matches!(answer, Err(Error::OutOfMemory)) & gives_thirds(marks.iter(), 1)
 }
 
-/// Whether new ones have by each call.
-fn each_grown(
-    alloc: Global,
-    others: &MutableBitmap,
-    calls: &[(Growth, (usize, usize))],
-) -> Result<bool, Error> {
-    for (call, wanted) in calls {
-        let mut marks = MutableBitmap::from_slice(alloc, [true].as_slice())?;
-        if !grows(&mut marks, others, *call, *wanted)? {
-            return Ok(false);
-        }
+/// Whether more than `usize::MAX` marks are, and as many as are counted but not held.
+fn are_too_many(alloc: Global) -> Result<bool, Error> {
+    match MutableBitmap::small(alloc) {
+        Ok(mut marks) => Ok(
+            are_refused(&mut marks, usize::MAX) & are_refused(&mut marks, usize::MAX - 8),
+        ),
+        Err(refused) => Err(refused),
     }
-    Ok(true)
-}
-
-/// Whether they have with a hundred clear marks behind them.
-fn all_grown(alloc: Global) -> Result<bool, Error> {
-    let others = MutableBitmap::from_slice(alloc, [false; 100].as_slice())?;
-    each_grown(alloc, &others, GROWTHS)
 }
 
 #[test]
 fn growths(rt: HostRuntime) -> Result<(), Fail> {
-    told(all_grown(rt.alloc()))
-}
-
-/// Whether so many clear marks are refused behind one, and that one is left.
-fn is_too_many(alloc: Global, count: usize) -> Result<bool, Error> {
-    let mut marks = MutableBitmap::new(alloc);
-    marks.push(true)?;
-    let answer = marks.extend_constant(count, false);
-    Ok(matches!(answer, Err(Error::OutOfMemory)) && gives_thirds(marks.iter(), 1))
-}
-
-/// More than `usize::MAX` marks, and as many as are counted but not held.
-#[test]
-fn marks_that_no_memory_holds(rt: HostRuntime) -> Result<(), Fail> {
-    told(is_too_many(rt.alloc(), usize::MAX))?;
-    told(is_too_many(rt.alloc(), usize::MAX - 8))
+    all_told(&[
+        pushes(&mut MutableBitmap::new(rt.alloc())),
+        extends(&mut MutableBitmap::new(rt.alloc()), EXTENSIONS),
+        all_grown::<MutableBitmap>(rt.alloc(), GROWTHS),
+        are_too_many(rt.alloc()),
+    ])
 }
 
 /// Clears the first mark, and notes that it ran.
@@ -149,24 +177,39 @@ fn cleared(mut marks: MutableBitmap, ran: &Cell<bool>) -> MutableBitmap
     marks
 }
 
+/// Clears the first mark; tells whether that was done, and whether the closure ran.
+fn clear(marks: &mut Bitmap) -> (Result<(), Error>, bool) {
+    let ran = Cell::new(false);
+    let answer = marks.apply_mut(|marks| cleared(marks, &ran));
+    (answer, ran.get())
+}
+
 /// Whether a set mark is cleared, or, where that is refused, is as before, and the closure did not run.
 fn changes(marks: &mut Bitmap) -> Result<bool, Error> {
-    let ran = Cell::new(false);
-    match marks.apply_mut(|marks| cleared(marks, &ran)) {
-        Err(refused) => {
-            let is_left = !ran.get() && gives_thirds(marks.iter(), 1);
-            let is_changed = marks.apply_mut(|marks| cleared(marks, &ran)).is_ok();
-            after(refused, is_left & is_changed && marks.unset_bits() == 1)
+    match clear(marks) {
+        (Ok(()), ran) => Ok(ran & (marks.unset_bits() == 1)),
+        (Err(refused), ran) => {
+            let is_left = gives_thirds(marks.iter(), 1) & !ran;
+            let is_changed = clear(marks).0.is_ok();
+            after(refused, is_left & is_changed & (marks.unset_bits() == 1))
         }
-        Ok(()) => Ok(ran.get() && marks.unset_bits() == 1),
     }
 }
 
-/// Whether one that is shared is so, and the other bit map is as before.
+/// Whether that of a clone is, and the bit map is as before.
+fn changes_clone(first: &Bitmap) -> Result<bool, Error> {
+    match first.clone() {
+        Ok(mut second) => Ok(changes(&mut second)? & gives_thirds(first.iter(), 1)),
+        Err(refused) => Err(refused),
+    }
+}
+
+/// The same of a new one.
 fn changed(alloc: Global) -> Result<bool, Error> {
-    let first = Bitmap::from_slice(alloc, [true].as_slice())?;
-    let is_changed = changes(&mut first.clone()?)?;
-    Ok(is_changed && gives_thirds(first.iter(), 1))
+    match Bitmap::from_slice(alloc, [true].as_slice()) {
+        Ok(marks) => changes_clone(&marks),
+        Err(refused) => Err(refused),
+    }
 }
 
 #[test]
@@ -174,54 +217,49 @@ fn apply_mut(rt: HostRuntime) -> Result<(), Fail> {
     told(changed(rt.alloc()))
 }
 
-/// The copy of marks.
-fn copied(marks: Result<MutableBitmap, Error>) -> Result<MutableBitmap, Error> {
-    match marks {
-        Ok(marks) => marks.clone(),
-        Err(refused) => Err(refused),
-    }
-}
-
-/// The calls that make marks, which can change or can't, or a buffer.
-#[derive(Clone, Copy)]
-enum Made {
+/// The calls that make marks which can change.
+pub(crate) enum Made {
     WithCapacity,
     FromSlice,
     Copy,
+}
+
+/// Three marks, the first of which is set.
+const THREE: [bool; 3] = [true, false, false];
+
+impl Making for MutableBitmap {
+    type Maker = Made;
+
+    fn make(alloc: Global, call: &Made) -> Result<MutableBitmap, Error> {
+        match call {
+            Made::WithCapacity => MutableBitmap::with_capacity(alloc, 100),
+            Made::FromSlice => MutableBitmap::from_slice(alloc, THREE.as_slice()),
+            Made::Copy => copy_of(MutableBitmap::from_slice(alloc, THREE.as_slice())),
+        }
+    }
+}
+
+/// Each of the calls, and the marks that it makes.
+const MADE: &[(Made, Marks)] = &[
+    (Made::WithCapacity, ("", 0)),
+    (Made::FromSlice, ("100", 2)),
+    (Made::Copy, ("100", 2)),
+];
+
+/// The calls that make marks which don't change.
+pub(crate) enum Frozen {
     New,
     Default,
     TryNew,
-    FrozenFromSlice,
+    FromSlice,
     NewZeroed,
     Freeze,
     FreezeCounted,
     Clone,
-    Buffer,
-    BufferDefault,
-    BufferFromVec,
-    BufferClone,
-}
-
-/// The marks that it makes, which can change.
-fn marks(alloc: Global, call: Made) -> Result<MutableBitmap, Error> {
-    let marks = [true, false, false];
-    match call {
-        Made::WithCapacity => MutableBitmap::with_capacity(alloc, 100),
-        Made::Copy => copied(MutableBitmap::from_slice(alloc, marks.as_slice())),
-        _ => MutableBitmap::from_slice(alloc, marks.as_slice()),
-    }
-}
-
-/// Whether they are so many, of which every third is set, the first one too.
-fn are_marks(alloc: Global, call: Made, count: usize) -> Result<bool, Error> {
-    match marks(alloc, call) {
-        Ok(marks) => Ok(gives_thirds(marks.iter(), count)),
-        Err(refused) => Err(refused),
-    }
 }
 
 /// Marks that are frozen, with the count of the clear ones where one is asked for.
-fn frozen(marks: Result<MutableBitmap, Error>, counts: bool) -> Result<Bitmap, Error> {
+fn freeze(marks: Result<MutableBitmap, Error>, counts: bool) -> Result<Bitmap, Error> {
     match marks {
         Ok(marks) => {
             let unset = marks.unset_bits();
@@ -235,114 +273,88 @@ fn frozen(marks: Result<MutableBitmap, Error>, counts: bool) -> Result<Bitmap, E
     }
 }
 
-/// The clone of marks that don't change.
-fn cloned(marks: Result<Bitmap, Error>) -> Result<Bitmap, Error> {
-    match marks {
-        Ok(marks) => marks.clone(),
-        Err(refused) => Err(refused),
+/// The first three marks of a byte.
+fn packed(alloc: Global, byte: u8) -> Result<Bitmap, Error> {
+    match [byte].to_vec(alloc) {
+        Ok(bytes) => Bitmap::try_new(bytes, 3),
+        Err(refused) => Err(Error::from(refused)),
     }
 }
 
-/// The marks that it makes, which don't change.
-fn bitmap(alloc: Global, call: Made) -> Result<Bitmap, Error> {
-    let marks = [true, false, false];
-    match call {
-        Made::New => Bitmap::new(alloc),
-        Made::Default => Bitmap::default(alloc),
-        Made::TryNew => Bitmap::try_new([0b11111001].to_vec(alloc)?, 3),
-        Made::NewZeroed => Bitmap::new_zeroed(alloc, 3),
-        Made::Freeze => frozen(MutableBitmap::from_slice(alloc, marks.as_slice()), false),
-        Made::FreezeCounted => frozen(MutableBitmap::from_slice(alloc, marks.as_slice()), true),
-        Made::Clone => cloned(Bitmap::from_slice(alloc, marks.as_slice())),
-        _ => Bitmap::from_slice(alloc, marks.as_slice()),
+impl Making for Bitmap {
+    type Maker = Frozen;
+
+    fn make(alloc: Global, call: &Frozen) -> Result<Bitmap, Error> {
+        match call {
+            Frozen::New => Bitmap::new(alloc),
+            Frozen::Default => Bitmap::default(alloc),
+            Frozen::TryNew => packed(alloc, 0b11111001),
+            Frozen::FromSlice => Bitmap::from_slice(alloc, THREE.as_slice()),
+            Frozen::NewZeroed => Bitmap::new_zeroed(alloc, 3),
+            Frozen::Freeze => freeze(MutableBitmap::from_slice(alloc, THREE.as_slice()), false),
+            Frozen::FreezeCounted => freeze(
+                MutableBitmap::from_slice(alloc, THREE.as_slice()),
+                true,
+            ),
+            Frozen::Clone => copy_of(Bitmap::from_slice(alloc, THREE.as_slice())),
+        }
     }
 }
 
-/// Whether they are so many, of which every third is set, the first one too, or none is.
-fn are_frozen(alloc: Global, call: Made, count: usize) -> Result<bool, Error> {
-    match bitmap(alloc, call) {
-        Ok(marks) => Ok(match call {
-            Made::NewZeroed => (marks.len(), marks.unset_bits()) == (count, count),
-            _ => gives_thirds(marks.iter(), count) & (marks.unset_bits() == count / 3 * 2),
-        }),
-        Err(refused) => Err(refused),
-    }
-}
+/// Each of the calls, and the marks that it makes.
+const FROZEN: &[(Frozen, Marks)] = &[
+    (Frozen::New, ("", 0)),
+    (Frozen::Default, ("", 0)),
+    (Frozen::TryNew, ("100", 2)),
+    (Frozen::FromSlice, ("100", 2)),
+    (Frozen::NewZeroed, ("000", 3)),
+    (Frozen::Freeze, ("100", 2)),
+    (Frozen::FreezeCounted, ("100", 2)),
+    (Frozen::Clone, ("100", 2)),
+];
 
-/// The clone of a buffer.
-fn cloned_buffer(values: Result<Buffer<i64>, Error>) -> Result<Buffer<i64>, Error> {
-    match values {
-        Ok(values) => values.clone(),
-        Err(refused) => Err(refused),
-    }
+/// The calls that make a buffer.
+pub(crate) enum Buffered {
+    New,
+    Default,
+    FromVec,
+    Clone,
 }
 
 /// The buffer of two values.
 fn two(alloc: Global) -> Result<Buffer<i64>, Error> {
-    Buffer::from_vec([7, 8].to_vec(alloc)?)
-}
-
-/// The buffer that it makes.
-fn buffer(alloc: Global, call: Made) -> Result<Buffer<i64>, Error> {
-    match call {
-        Made::Buffer => Buffer::new(alloc),
-        Made::BufferDefault => Buffer::default(alloc),
-        Made::BufferClone => cloned_buffer(two(alloc)),
-        _ => two(alloc),
+    match [7, 8].to_vec(alloc) {
+        Ok(values) => Buffer::from_vec(values),
+        Err(refused) => Err(Error::from(refused)),
     }
 }
 
-/// Whether it has the first of two values, so many of them.
-fn is_buffer(alloc: Global, call: Made, count: usize) -> Result<bool, Error> {
-    match buffer(alloc, call) {
-        Ok(values) => Ok([7, 8].as_slice().get(..count) == Some(values.as_slice())),
-        Err(refused) => Err(refused),
-    }
-}
+impl Making for Buffer<i64> {
+    type Maker = Buffered;
 
-/// Whether a call makes so many marks, or values.
-fn is_made(alloc: Global, call: Made, count: usize) -> Result<bool, Error> {
-    match call {
-        Made::WithCapacity | Made::FromSlice | Made::Copy => are_marks(alloc, call, count),
-        Made::Buffer | Made::BufferDefault | Made::BufferFromVec | Made::BufferClone => {
-            is_buffer(alloc, call, count)
+    fn make(alloc: Global, call: &Buffered) -> Result<Buffer<i64>, Error> {
+        match call {
+            Buffered::New => Buffer::new(alloc),
+            Buffered::Default => Buffer::default(alloc),
+            Buffered::FromVec => two(alloc),
+            Buffered::Clone => copy_of(two(alloc)),
         }
-        _ => are_frozen(alloc, call, count),
     }
 }
 
-/// Each of the calls, and how many marks, or values, it makes.
-const MADE: &[(Made, usize)] = &[
-    (Made::WithCapacity, 0),
-    (Made::FromSlice, 3),
-    (Made::Copy, 3),
-    (Made::New, 0),
-    (Made::Default, 0),
-    (Made::TryNew, 3),
-    (Made::FrozenFromSlice, 3),
-    (Made::NewZeroed, 3),
-    (Made::Freeze, 3),
-    (Made::FreezeCounted, 3),
-    (Made::Clone, 3),
-    (Made::Buffer, 0),
-    (Made::BufferDefault, 0),
-    (Made::BufferFromVec, 2),
-    (Made::BufferClone, 2),
+/// Each of the calls, and the values of the buffer that it makes.
+const BUFFERS: &[(Buffered, &'static [i64])] = &[
+    (Buffered::New, &[]),
+    (Buffered::Default, &[]),
+    (Buffered::FromVec, &[7, 8]),
+    (Buffered::Clone, &[7, 8]),
 ];
-
-/// Whether each makes them, or, where that is refused, makes them by the same call once more.
-fn all_made(alloc: Global, calls: &[(Made, usize)]) -> Result<bool, Error> {
-    for (call, count) in calls {
-        match is_made(alloc, *call, *count) {
-            Ok(true) => (),
-            Ok(false) => return Ok(false),
-            Err(refused) => return after(refused, is_made(alloc, *call, *count) == Ok(true)),
-        }
-    }
-    Ok(true)
-}
 
 #[test]
 fn makers(rt: HostRuntime) -> Result<(), Fail> {
-    told(all_made(rt.alloc(), MADE))
+    all_told(&[
+        all_made::<MutableBitmap>(rt.alloc(), MADE),
+        all_made::<Bitmap>(rt.alloc(), FROZEN),
+        all_made::<Buffer<i64>>(rt.alloc(), BUFFERS),
+    ])
 }

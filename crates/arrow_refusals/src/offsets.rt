@@ -1,35 +1,76 @@
 //! Offsets.
+use crate::again::{Copied, Growing, Making, Shows, all_grown, all_made, copy_of};
 use arrow_memory::offset::{Offsets, OffsetsBuffer};
-use arrow_testing::{after, are_offsets, told};
+use arrow_testing::{after, all_told, are_offsets, tells};
 use arrow_types::error::Error;
 use arrow_types::offset::Offset;
 use std::alloc::Global;
 use std::test::Fail;
 
+/// Offsets, and for how many slots there is room at least.
+type Roomy = (&'static [usize], usize);
+
+impl Shows for Offsets<i32> {
+    type Wanted = Roomy;
+
+    fn shows(&self, wanted: &Roomy) -> bool {
+        let (numbers, room) = *wanted;
+        are_offsets(self.as_slice(), numbers) & (room <= self.capacity())
+    }
+}
+
+impl Shows for OffsetsBuffer<i32> {
+    type Wanted = &'static [usize];
+
+    fn shows(&self, wanted: &&'static [usize]) -> bool {
+        are_offsets(self.buffer().as_slice(), *wanted)
+    }
+}
+
+impl Copied for Offsets<i32> {
+    fn copy(&self) -> Result<Offsets<i32>, Error> {
+        self.clone()
+    }
+}
+
+impl Copied for OffsetsBuffer<i32> {
+    fn copy(&self) -> Result<OffsetsBuffer<i32>, Error> {
+        self.clone()
+    }
+}
+
 /// Offsets of 32 bits.
 fn narrow(alloc: Global, list: &[i32]) -> Result<Offsets<i32>, Error> {
-    Offsets::try_from_vec(list.to_vec(alloc)?)
+    match list.to_vec(alloc) {
+        Ok(offsets) => Offsets::try_from_vec(offsets),
+        Err(refused) => Err(Error::from(refused)),
+    }
 }
 
 /// Whether so many slots are refused.
-fn most(alloc: Global, count: usize) -> Result<bool, Error> {
-    let mut offsets = narrow(alloc, [1, 3].as_slice())?;
+fn refuses(offsets: &mut Offsets<i32>, count: usize) -> bool {
     let is_refused = matches!(offsets.reserve(count), Err(Error::OutOfMemory));
-    Ok(is_refused && offsets.as_slice() == [1, 3].as_slice())
+    is_refused & offsets.is_small()
 }
 
-/// Room that no memory holds is always refused.
-#[test]
-fn most_offsets(rt: HostRuntime) -> Result<(), Fail> {
-    let zeroed = Offsets::<i32>::new_zeroed(rt.alloc(), usize::MAX).is_err();
-    let roomy = Offsets::<i64>::with_capacity(rt.alloc(), usize::MAX - 1).is_err();
-    assert!(rt; zeroed && roomy);
-    told(most(rt.alloc(), usize::MAX))
+/// Whether they are of new offsets.
+fn most(alloc: Global, count: usize) -> Result<bool, Error> {
+    match Offsets::small(alloc) {
+        Ok(mut offsets) => Ok(refuses(&mut offsets, count)),
+        Err(refused) => Err(refused),
+    }
+}
+
+/// What is told of new offsets that no memory holds.
+fn too_many(alloc: Global) -> [&'static str; 2] {
+    [
+        tells(Offsets::<i32>::new_zeroed(alloc, usize::MAX)),
+        tells(Offsets::<i64>::with_capacity(alloc, usize::MAX - 1)),
+    ]
 }
 
 /// The calls by which offsets grow by all or nothing, or get room, or lose it.
-#[derive(Clone, Copy)]
-enum Growth {
+pub(crate) enum Growth {
     TryPushUsize,
     PushEmpty,
     TryExtendFromSelf,
@@ -37,72 +78,41 @@ enum Growth {
     ShrinkToFit,
 }
 
-/// Calls it, of offsets 0 and 2; others are 3, 4 and 7.
-fn grow(offsets: &mut Offsets<i32>, other: &Offsets<i32>, call: Growth) -> Result<(), Error> {
-    match call {
-        Growth::TryPushUsize => offsets.try_push_usize(1),
-        Growth::PushEmpty => offsets.push_empty(),
-        Growth::TryExtendFromSelf => offsets.try_extend_from_self(other),
-        Growth::Reserve => offsets.reserve(100),
-        Growth::ShrinkToFit => offsets.shrink_to_fit(),
-    }
-}
+// Small ones are 0 and 2, and the others 3, 4 and 7.
+impl Growing for Offsets<i32> {
+    type Call = Growth;
 
-/// Whether offsets 0 and 2 have grown to these, or, where that is refused, are as before, and grow by the same call.
-fn grows(
-    offsets: &mut Offsets<i32>,
-    other: &Offsets<i32>,
-    call: Growth,
-    wanted: &[usize],
-) -> Result<bool, Error> {
-    match grow(offsets, other, call) {
-        Ok(()) => Ok(are_offsets(offsets.as_slice(), wanted)),
-        Err(refused) => {
-            let is_left = are_offsets(offsets.as_slice(), [0, 2].as_slice());
-            let is_grown = grow(offsets, other, call).is_ok();
-            after(
-                refused,
-                is_left & is_grown & are_offsets(offsets.as_slice(), wanted),
-            )
+    fn small(alloc: Global) -> Result<Offsets<i32>, Error> {
+        narrow(alloc, [0, 2].as_slice())
+    }
+
+    fn is_small(&self) -> bool {
+        are_offsets(self.as_slice(), [0, 2].as_slice())
+    }
+
+    fn other(alloc: Global) -> Result<Offsets<i32>, Error> {
+        narrow(alloc, [3, 4, 7].as_slice())
+    }
+
+    fn grow(&mut self, other: &Offsets<i32>, call: &Growth) -> Result<(), Error> {
+        match call {
+            Growth::TryPushUsize => self.try_push_usize(1),
+            Growth::PushEmpty => self.push_empty(),
+            Growth::TryExtendFromSelf => self.try_extend_from_self(other),
+            Growth::Reserve => self.reserve(100),
+            Growth::ShrinkToFit => self.shrink_to_fit(),
         }
-    }
-}
-
-/// Whether new ones have.
-fn grown(alloc: Global, call: Growth, wanted: &[usize]) -> Result<bool, Error> {
-    match (
-        narrow(alloc, [0, 2].as_slice()),
-        narrow(alloc, [3, 4, 7].as_slice()),
-    ) {
-        (Ok(mut offsets), Ok(other)) => grows(&mut offsets, &other, call, wanted),
-        (Err(refused), _) => Err(refused),
-        (_, Err(refused)) => Err(refused),
     }
 }
 
 /// Each of the calls, and the offsets after it.
-const GROWTHS: &[(Growth, &[usize])] = &[
-    (Growth::TryPushUsize, &[0, 2, 3]),
-    (Growth::PushEmpty, &[0, 2, 2]),
-    (Growth::TryExtendFromSelf, &[0, 2, 3, 6]),
-    (Growth::Reserve, &[0, 2]),
-    (Growth::ShrinkToFit, &[0, 2]),
+const GROWTHS: &[(Growth, Roomy)] = &[
+    (Growth::TryPushUsize, (&[0, 2, 3], 0)),
+    (Growth::PushEmpty, (&[0, 2, 2], 0)),
+    (Growth::TryExtendFromSelf, (&[0, 2, 3, 6], 0)),
+    (Growth::Reserve, (&[0, 2], 0)),
+    (Growth::ShrinkToFit, (&[0, 2], 0)),
 ];
-
-/// Whether new ones have by each of these.
-fn all_grown(alloc: Global, calls: &[(Growth, &[usize])]) -> Result<bool, Error> {
-    for (call, wanted) in calls {
-        if !grown(alloc, *call, *wanted)? {
-            return Ok(false);
-        }
-    }
-    Ok(true)
-}
-
-#[test]
-fn growths(rt: HostRuntime) -> Result<(), Fail> {
-    told(all_grown(rt.alloc(), GROWTHS))
-}
 
 /// The calls by which offsets and values grow together.
 #[derive(Clone, Copy)]
@@ -127,14 +137,16 @@ fn grow_items(
     }
 }
 
-/// Whether offsets and values are what it makes of offsets 0 and 2 and the bytes `ab`.
+/// Whether offsets and values are these.
+fn are_items(offsets: &Offsets<i32>, values: &[u8], numbers: &[usize], bytes: &[u8]) -> bool {
+    are_offsets(offsets.as_slice(), numbers) & (values == bytes)
+}
+
+/// Whether they are what a call makes of offsets 0 and 2 and the bytes `ab`.
 fn are_grown(offsets: &Offsets<i32>, values: &[u8], call: Items) -> bool {
     match call {
-        Items::TryPushItem => offsets.as_slice() == [0, 2, 3].as_slice()
-            && values == b"abc".as_slice(),
-        Items::TryExtendItems => {
-            offsets.as_slice() == [0, 2, 3, 6].as_slice() && values == b"abdefg".as_slice()
-        }
+        Items::TryPushItem => are_items(offsets, values, [0, 2, 3].as_slice(), b"abc"),
+        Items::TryExtendItems => are_items(offsets, values, [0, 2, 3, 6].as_slice(), b"abdefg"),
     }
 }
 
@@ -148,40 +160,59 @@ fn grows_items(
     match grow_items(offsets, values, other, call) {
         Ok(()) => Ok(are_grown(offsets, values, call)),
         Err(refused) => {
-            let is_left = offsets.as_slice() == [0, 2].as_slice()
-                && values.as_slice() == b"ab".as_slice();
+            let is_left = are_items(offsets, values, [0, 2].as_slice(), b"ab");
             let is_grown = grow_items(offsets, values, other, call).is_ok();
             after(
                 refused,
-                is_left & is_grown && are_grown(offsets, values, call),
+                is_left & is_grown & are_grown(offsets, values, call),
             )
         }
     }
 }
 
-/// Whether new ones have by each of the two calls.
-fn items_grown(alloc: Global, call: Items) -> Result<bool, Error> {
-    match (
-        narrow(alloc, [0, 2].as_slice()),
-        b"ab".to_vec(alloc),
-        narrow(alloc, [3, 4, 7].as_slice()),
-    ) {
-        (Ok(mut offsets), Ok(mut values), Ok(other)) => {
-            grows_items(&mut offsets, &mut values, &other, call)
-        }
-        _ => Err(Error::OutOfMemory),
+/// Whether new values have with them.
+fn values_grown(
+    alloc: Global,
+    offsets: &mut Offsets<i32>,
+    other: &Offsets<i32>,
+    call: Items,
+) -> Result<bool, Error> {
+    match b"ab".to_vec(alloc) {
+        Ok(mut values) => grows_items(offsets, &mut values, other, call),
+        Err(refused) => Err(Error::from(refused)),
     }
 }
 
+/// Whether new offsets have.
+fn items_grown(alloc: Global, other: &Offsets<i32>, call: Items) -> Result<bool, Error> {
+    match Offsets::small(alloc) {
+        Ok(mut offsets) => values_grown(alloc, &mut offsets, other, call),
+        Err(refused) => Err(refused),
+    }
+}
+
+/// Whether they have by one of the two calls, beside new other ones.
+fn all_items_grown(alloc: Global, call: Items) -> Result<bool, Error> {
+    match Offsets::other(alloc) {
+        Ok(other) => items_grown(alloc, &other, call),
+        Err(refused) => Err(refused),
+    }
+}
+
+/// Room that no memory holds is always refused.
 #[test]
-fn growths_of_items(rt: HostRuntime) -> Result<(), Fail> {
-    told(items_grown(rt.alloc(), Items::TryPushItem))?;
-    told(items_grown(rt.alloc(), Items::TryExtendItems))
+fn growths(rt: HostRuntime) -> Result<(), Fail> {
+    all_told(&[
+        all_grown::<Offsets<i32>>(rt.alloc(), GROWTHS),
+        all_items_grown(rt.alloc(), Items::TryPushItem),
+        all_items_grown(rt.alloc(), Items::TryExtendItems),
+        most(rt.alloc(), usize::MAX),
+        Ok(too_many(rt.alloc()) == ["out of memory"; 2]),
+    ])
 }
 
 /// The calls that make offsets.
-#[derive(Clone, Copy)]
-enum Made {
+pub(crate) enum Made {
     New,
     Default,
     NewZeroed,
@@ -189,56 +220,31 @@ enum Made {
     Clone,
 }
 
-/// The offsets that it makes.
-fn offsets(alloc: Global, call: Made) -> Result<Offsets<i32>, Error> {
-    match call {
-        Made::New => Offsets::new(alloc),
-        Made::Default => Offsets::default(alloc),
-        Made::NewZeroed => Offsets::new_zeroed(alloc, 2),
-        Made::WithCapacity => Offsets::with_capacity(alloc, 3),
-        Made::Clone => narrow(alloc, [0, 2].as_slice())?.clone(),
-    }
-}
+impl Making for Offsets<i32> {
+    type Maker = Made;
 
-/// Whether they are these, with so much room.
-fn are_made(alloc: Global, call: Made, wanted: &[usize], room: usize) -> Result<bool, Error> {
-    match offsets(alloc, call) {
-        Ok(made) => Ok((room <= made.capacity()) & are_offsets(made.as_slice(), wanted)),
-        Err(refused) => Err(refused),
-    }
-}
-
-/// Each of the calls, the offsets that it makes, and for how many slots there is room at least.
-const MADE: &[(Made, &[usize], usize)] = &[
-    (Made::New, &[0], 0),
-    (Made::Default, &[0], 0),
-    (Made::NewZeroed, &[0, 0, 0], 2),
-    (Made::WithCapacity, &[0], 3),
-    (Made::Clone, &[0, 2], 1),
-];
-
-/// Whether offsets are made by each, or, where that is refused, by the same call once more.
-fn all_made(alloc: Global, calls: &[(Made, &[usize], usize)]) -> Result<bool, Error> {
-    for (call, wanted, room) in calls {
-        match are_made(alloc, *call, *wanted, *room) {
-            Ok(true) => (),
-            Ok(false) => return Ok(false),
-            Err(refused) => {
-                return after(refused, are_made(alloc, *call, *wanted, *room) == Ok(true));
-            }
+    fn make(alloc: Global, call: &Made) -> Result<Offsets<i32>, Error> {
+        match call {
+            Made::New => Offsets::new(alloc),
+            Made::Default => Offsets::default(alloc),
+            Made::NewZeroed => Offsets::new_zeroed(alloc, 2),
+            Made::WithCapacity => Offsets::with_capacity(alloc, 3),
+            Made::Clone => copy_of(Offsets::small(alloc)),
         }
     }
-    Ok(true)
 }
 
-#[test]
-fn makers(rt: HostRuntime) -> Result<(), Fail> {
-    told(all_made(rt.alloc(), MADE))
-}
+/// Each of the calls, and the offsets that it makes.
+const MADE: &[(Made, Roomy)] = &[
+    (Made::New, (&[0], 0)),
+    (Made::Default, (&[0], 0)),
+    (Made::NewZeroed, (&[0, 0, 0], 2)),
+    (Made::WithCapacity, (&[0], 3)),
+    (Made::Clone, (&[0, 2], 1)),
+];
 
 /// The calls that make frozen offsets.
-#[derive(Clone, Copy)]
-enum Frozen {
+pub(crate) enum Frozen {
     New,
     Default,
     Freeze,
@@ -246,15 +252,6 @@ enum Frozen {
     Widen,
     Narrow,
 }
-
-const FROZEN: &[Frozen] = &[
-    Frozen::New,
-    Frozen::Default,
-    Frozen::Freeze,
-    Frozen::Clone,
-    Frozen::Widen,
-    Frozen::Narrow,
-];
 
 /// Others over wide offsets.
 fn widened(offsets: Result<OffsetsBuffer<i32>, Error>) -> Result<OffsetsBuffer<i64>, Error> {
@@ -273,54 +270,42 @@ fn narrowed(offsets: Result<OffsetsBuffer<i64>, Error>) -> Result<OffsetsBuffer<
 }
 
 /// Growing ones frozen.
-fn frozen_offsets(offsets: Result<Offsets<i32>, Error>) -> Result<OffsetsBuffer<i32>, Error> {
+fn freeze(offsets: Result<Offsets<i32>, Error>) -> Result<OffsetsBuffer<i32>, Error> {
     match offsets {
         Ok(offsets) => offsets.freeze(),
         Err(refused) => Err(refused),
     }
 }
 
-/// Others once more.
-fn cloned(offsets: Result<OffsetsBuffer<i32>, Error>) -> Result<OffsetsBuffer<i32>, Error> {
-    match offsets {
-        Ok(offsets) => offsets.clone(),
-        Err(refused) => Err(refused),
-    }
-}
+impl Making for OffsetsBuffer<i32> {
+    type Maker = Frozen;
 
-/// The frozen offsets that it makes.
-fn buffer_of(alloc: Global, call: Frozen) -> Result<OffsetsBuffer<i32>, Error> {
-    match call {
-        Frozen::New => OffsetsBuffer::new(alloc),
-        Frozen::Default => OffsetsBuffer::default(alloc),
-        Frozen::Freeze => frozen_offsets(narrow(alloc, [0].as_slice())),
-        Frozen::Clone => cloned(OffsetsBuffer::new(alloc)),
-        Frozen::Widen => narrowed(widened(OffsetsBuffer::new(alloc))),
-        Frozen::Narrow => narrowed(OffsetsBuffer::new(alloc)),
-    }
-}
-
-/// Whether they are one zero.
-fn are_frozen(alloc: Global, call: Frozen) -> Result<bool, Error> {
-    match buffer_of(alloc, call) {
-        Ok(offsets) => Ok(are_offsets(offsets.buffer().as_slice(), [0].as_slice())),
-        Err(refused) => Err(refused),
-    }
-}
-
-/// Whether frozen offsets are made by each, or, where that is refused, by the same call once more.
-fn all_frozen(alloc: Global, calls: &[Frozen]) -> Result<bool, Error> {
-    for call in calls {
-        match are_frozen(alloc, *call) {
-            Ok(true) => (),
-            Ok(false) => return Ok(false),
-            Err(refused) => return after(refused, are_frozen(alloc, *call) == Ok(true)),
+    fn make(alloc: Global, call: &Frozen) -> Result<OffsetsBuffer<i32>, Error> {
+        match call {
+            Frozen::New => OffsetsBuffer::new(alloc),
+            Frozen::Default => OffsetsBuffer::default(alloc),
+            Frozen::Freeze => freeze(narrow(alloc, [0].as_slice())),
+            Frozen::Clone => copy_of(OffsetsBuffer::new(alloc)),
+            Frozen::Widen => narrowed(widened(OffsetsBuffer::new(alloc))),
+            Frozen::Narrow => narrowed(OffsetsBuffer::new(alloc)),
         }
     }
-    Ok(true)
 }
 
+/// Each of the calls, and the offsets that it makes.
+const FROZEN: &[(Frozen, &'static [usize])] = &[
+    (Frozen::New, &[0]),
+    (Frozen::Default, &[0]),
+    (Frozen::Freeze, &[0]),
+    (Frozen::Clone, &[0]),
+    (Frozen::Widen, &[0]),
+    (Frozen::Narrow, &[0]),
+];
+
 #[test]
-fn makers_of_frozen_ones(rt: HostRuntime) -> Result<(), Fail> {
-    told(all_frozen(rt.alloc(), FROZEN))
+fn makers(rt: HostRuntime) -> Result<(), Fail> {
+    all_told(&[
+        all_made::<Offsets<i32>>(rt.alloc(), MADE),
+        all_made::<OffsetsBuffer<i32>>(rt.alloc(), FROZEN),
+    ])
 }

@@ -1,18 +1,29 @@
 //! Primitive arrays and their builders.
+use crate::again::{
+    Copied, EXTENSIONS, Extending, Extension, Growing, Making, Shows, all_extended, all_grown,
+    all_made, copy_of,
+};
 use arrow_primitive::{MutablePrimitiveArray, PrimitiveArray};
-use arrow_testing::{after, is_mask, told};
+use arrow_testing::{all_told, is_mask, told};
 use arrow_types::data_type::DataType;
 use arrow_types::error::Error;
 use std::alloc::Global;
 use std::test::Fail;
 
-/// Whether an array stores these values, under these marks.
-fn shows(array: &PrimitiveArray<i64>, values: &[i64], mask: &str) -> bool {
-    let marks = match array.validity() {
-        Some(marks) => Some(marks.iter()),
-        None => None,
-    };
-    array.values().as_slice() == values && is_mask(marks, mask)
+/// Stored values, and marks, as a text of '1' and '0', or `none`.
+pub(crate) type Stored = (&'static [i64], &'static str);
+
+impl Shows for PrimitiveArray<i64> {
+    type Wanted = Stored;
+
+    fn shows(&self, wanted: &Stored) -> bool {
+        let (values, mask) = *wanted;
+        let marks = match self.validity() {
+            Some(marks) => Some(marks.iter()),
+            None => None,
+        };
+        (self.values().as_slice() == values) & is_mask(marks, mask)
+    }
 }
 
 /// Whether a builder stores these values, under these marks.
@@ -21,22 +32,35 @@ fn builds(builder: &MutablePrimitiveArray<i64>, values: &[i64], mask: &str) -> b
         Some(marks) => Some(marks.iter()),
         None => None,
     };
-    builder.values().as_slice() == values && is_mask(marks, mask)
+    (builder.values().as_slice() == values) & is_mask(marks, mask)
 }
 
-/// A builder of a value, without a mask.
-fn seven(alloc: Global) -> Result<MutablePrimitiveArray<i64>, Error> {
-    Ok(MutablePrimitiveArray::from_vec([7].to_vec(alloc)?))
+/// What a builder stores, its marks, and for how many slots it has room at least.
+type Roomy = (&'static [i64], &'static str, usize);
+
+impl Shows for MutablePrimitiveArray<i64> {
+    type Wanted = Roomy;
+
+    fn shows(&self, wanted: &Roomy) -> bool {
+        let (values, mask, room) = *wanted;
+        (room <= self.capacity()) & builds(self, values, mask)
+    }
 }
 
-/// Whether a builder is of a value still, without a mask.
-fn is_seven(builder: &MutablePrimitiveArray<i64>) -> bool {
-    builds(builder, [7].as_slice(), "none")
+impl Copied for PrimitiveArray<i64> {
+    fn copy(&self) -> Result<PrimitiveArray<i64>, Error> {
+        self.clone()
+    }
+}
+
+impl Copied for MutablePrimitiveArray<i64> {
+    fn copy(&self) -> Result<MutablePrimitiveArray<i64>, Error> {
+        self.clone()
+    }
 }
 
 /// The calls by which a builder grows by all or nothing, or gets room, or loses it.
-#[derive(Clone, Copy)]
-enum Growth {
+pub(crate) enum Growth {
     Push,
     PushOfANull,
     TryPush,
@@ -58,148 +82,91 @@ fn replace(builder: &mut MutablePrimitiveArray<i64>) -> Result<(), Error> {
     builder.set(0, None)
 }
 
-/// Calls it, of a builder of a value; another is of a null.
-fn grow(
-    builder: &mut MutablePrimitiveArray<i64>,
-    other: &MutablePrimitiveArray<i64>,
-    call: Growth,
-) -> Result<(), Error> {
-    match call {
-        Growth::Push => builder.push(Some(8)),
-        Growth::PushOfANull => builder.push(None),
-        Growth::TryPush => builder.try_push(None),
-        Growth::PushNull => builder.push_null(),
-        Growth::ExtendConstant => builder.extend_constant(2, Some(8)),
-        Growth::ExtendConstantByNulls => builder.extend_constant(2, None),
-        Growth::ExtendFromSlice => builder.extend_from_slice([8, 9].as_slice()),
-        Growth::TryExtendFromSelf => builder.try_extend_from_self(other),
-        Growth::Set => replace(builder),
-        Growth::Reserve => builder.reserve(100),
-        Growth::ShrinkToFit => builder.shrink_to_fit(),
+// A small one is of a value, without a mask, and the other of a null.
+impl Growing for MutablePrimitiveArray<i64> {
+    type Call = Growth;
+
+    fn small(alloc: Global) -> Result<MutablePrimitiveArray<i64>, Error> {
+        MutablePrimitiveArray::from_slice(alloc, [7].as_slice())
+    }
+
+    fn is_small(&self) -> bool {
+        builds(self, [7].as_slice(), "none")
+    }
+
+    fn other(alloc: Global) -> Result<MutablePrimitiveArray<i64>, Error> {
+        MutablePrimitiveArray::from(alloc, [None].as_slice())
+    }
+
+    fn grow(&mut self, other: &MutablePrimitiveArray<i64>, call: &Growth) -> Result<(), Error> {
+        match call {
+            Growth::Push => self.push(Some(8)),
+            Growth::PushOfANull => self.push(None),
+            Growth::TryPush => self.try_push(None),
+            Growth::PushNull => self.push_null(),
+            Growth::ExtendConstant => self.extend_constant(2, Some(8)),
+            Growth::ExtendConstantByNulls => self.extend_constant(2, None),
+            Growth::ExtendFromSlice => self.extend_from_slice([8, 9].as_slice()),
+            Growth::TryExtendFromSelf => self.try_extend_from_self(other),
+            Growth::Set => replace(self),
+            Growth::Reserve => self.reserve(100),
+            Growth::ShrinkToFit => self.shrink_to_fit(),
+        }
     }
 }
 
-/// Each of the calls, and what the builder of a value stores after it, under which marks.
-const GROWTHS: &[(Growth, &[i64], &str)] = &[
-    (Growth::Push, &[7, 8], "none"),
-    (Growth::PushOfANull, &[7, 0], "10"),
-    (Growth::TryPush, &[7, 0], "10"),
-    (Growth::PushNull, &[7, 0], "10"),
-    (Growth::ExtendConstant, &[7, 8, 8], "none"),
-    (Growth::ExtendConstantByNulls, &[7, 0, 0], "100"),
-    (Growth::ExtendFromSlice, &[7, 8, 9], "none"),
-    (Growth::TryExtendFromSelf, &[7, 0], "10"),
-    (Growth::Set, &[0], "0"),
-    (Growth::Reserve, &[7], "none"),
-    (Growth::ShrinkToFit, &[7], "none"),
+/// Each of the calls, and what the builder stores after it.
+const GROWTHS: &[(Growth, Roomy)] = &[
+    (Growth::Push, (&[7, 8], "none", 0)),
+    (Growth::PushOfANull, (&[7, 0], "10", 0)),
+    (Growth::TryPush, (&[7, 0], "10", 0)),
+    (Growth::PushNull, (&[7, 0], "10", 0)),
+    (Growth::ExtendConstant, (&[7, 8, 8], "none", 0)),
+    (Growth::ExtendConstantByNulls, (&[7, 0, 0], "100", 0)),
+    (Growth::ExtendFromSlice, (&[7, 8, 9], "none", 0)),
+    (Growth::TryExtendFromSelf, (&[7, 0], "10", 0)),
+    (Growth::Set, (&[0], "0", 0)),
+    (Growth::Reserve, (&[7], "none", 101)),
+    (Growth::ShrinkToFit, (&[7], "none", 0)),
 ];
 
-/// Whether a builder of a value has grown, or, where that is refused, is as before, and grows by the same call.
-fn grows(
-    builder: &mut MutablePrimitiveArray<i64>,
-    other: &MutablePrimitiveArray<i64>,
-    call: Growth,
-    values: &[i64],
-    mask: &str,
-) -> Result<bool, Error> {
-    match grow(builder, other, call) {
-        Ok(()) => Ok(builds(builder, values, mask)),
-        Err(refused) => {
-            let is_left = is_seven(builder);
-            let is_grown = grow(builder, other, call).is_ok();
-            after(refused, is_left & is_grown & builds(builder, values, mask))
+/// The slots that extend a builder, and their values.
+const SLOTS: [Option<i64>; 5] = [Some(1), None, Some(3), Some(4), Some(5)];
+
+const VALUES: [i64; 5] = [1, 0, 3, 4, 5];
+
+impl Extending for MutablePrimitiveArray<i64> {
+    fn extend_by(&mut self, call: Extension) -> Result<(), Error> {
+        match call {
+            Extension::Extend => self.extend(SLOTS.into_iter()),
+            Extension::TryExtend => self.try_extend(SLOTS.into_iter()),
+            Extension::ExtendValues => self.extend_values(VALUES.into_iter()),
         }
     }
-}
 
-/// Whether new ones have by each call.
-fn each_grown(
-    alloc: Global,
-    other: &MutablePrimitiveArray<i64>,
-    calls: &[(Growth, &[i64], &str)],
-) -> Result<bool, Error> {
-    for (call, values, mask) in calls {
-        if !grows(&mut seven(alloc)?, other, *call, *values, *mask)? {
-            return Ok(false);
-        }
+    fn is_begun(&self, call: Extension) -> bool {
+        let count = self.len();
+        let mask = match call {
+            Extension::ExtendValues => "none",
+            _ if count <= 2 => "none",
+            _ => "110111".get(..count).unwrap_or("too many"),
+        };
+        let values = [7, 1, 0, 3, 4, 5];
+        let stored = values.as_slice().get(..count).unwrap_or(&[]);
+        (1 <= count) & builds(self, stored, mask)
     }
-    Ok(true)
-}
 
-/// Whether they have beside a builder of a null.
-fn all_grown(alloc: Global) -> Result<bool, Error> {
-    let null = MutablePrimitiveArray::from(alloc, [None].as_slice())?;
-    each_grown(alloc, &null, GROWTHS)
-}
-
-#[test]
-fn growths(rt: HostRuntime) -> Result<(), Fail> {
-    told(all_grown(rt.alloc()))
-}
-
-/// The calls by which a builder grows by what an iterator gives, as far as there is memory.
-#[derive(Clone, Copy)]
-enum Extension {
-    Extend,
-    TryExtend,
-    ExtendValues,
-}
-
-/// Calls it.
-fn extend_by(builder: &mut MutablePrimitiveArray<i64>, call: Extension) -> Result<(), Error> {
-    let slots = [Some(1), None, Some(3), Some(4), Some(5)];
-    match call {
-        Extension::Extend => builder.extend(slots.into_iter()),
-        Extension::TryExtend => builder.try_extend(slots.into_iter()),
-        Extension::ExtendValues => builder.extend_values([1, 0, 3, 4, 5].into_iter()),
+    fn is_whole(&self) -> bool {
+        self.len() == 6
     }
-}
 
-/// Whether the first slots of an extended builder of a value are there, and no others.
-fn is_begun(builder: &MutablePrimitiveArray<i64>, call: Extension) -> bool {
-    let (values, marks) = ([7, 1, 0, 3, 4, 5], "110111");
-    let count = builder.len();
-    let mask = match call {
-        Extension::ExtendValues => "none",
-        _ if count <= 2 => "none",
-        _ => marks.get(..count).unwrap_or("too many"),
-    };
-    let stored = values.as_slice().get(..count).unwrap_or(&[]);
-    1 <= count && builds(builder, stored, mask)
-}
-
-/// Whether a builder of a value is extended, or, where that is refused, by a beginning, and then by the same call.
-fn extends(builder: &mut MutablePrimitiveArray<i64>, call: Extension) -> Result<bool, Error> {
-    match extend_by(builder, call) {
-        Ok(()) => Ok(builder.len() == 6 && is_begun(builder, call)),
-        Err(refused) => {
-            let (is_left, count) = (is_begun(builder, call), builder.len());
-            let is_extended = extend_by(builder, call).is_ok();
-            let behind = builder.values().as_slice().get(count..);
-            let is_behind = behind == Some([1, 0, 3, 4, 5].as_slice());
-            after(refused, is_left & is_extended & is_behind)
-        }
+    fn end(&self) -> usize {
+        self.len()
     }
-}
 
-/// Whether new ones are by each call.
-fn all_extended(alloc: Global, calls: &[Extension]) -> Result<bool, Error> {
-    for call in calls {
-        if !extends(&mut seven(alloc)?, *call)? {
-            return Ok(false);
-        }
+    fn is_behind(&self, end: usize) -> bool {
+        self.values().as_slice().get(end..) == Some(VALUES.as_slice())
     }
-    Ok(true)
-}
-
-#[test]
-fn extensions(rt: HostRuntime) -> Result<(), Fail> {
-    let calls = [
-        Extension::Extend,
-        Extension::TryExtend,
-        Extension::ExtendValues,
-    ];
-    told(all_extended(rt.alloc(), calls.as_slice()))
 }
 
 /// Whether so many slots more are refused, of a null or of a value.
@@ -207,32 +174,37 @@ fn refuses(builder: &mut MutablePrimitiveArray<i64>, count: usize, slot: Option<
     builder.extend_constant(count, slot) == Err(Error::OutOfMemory)
 }
 
+/// Whether both are, and room for them.
+fn refuses_all(builder: &mut MutablePrimitiveArray<i64>, count: usize) -> bool {
+    let are_refused = refuses(builder, count, None) & refuses(builder, count, Some(1));
+    are_refused & (builder.reserve(count) == Err(Error::OutOfMemory))
+}
+
 /// Whether more slots than can be counted or held are refused behind one, and that one is left.
 fn are_too_many(builder: &mut MutablePrimitiveArray<i64>) -> bool {
-    for count in [usize::MAX, usize::MAX - 8] {
-        if !refuses(builder, count, None) || !refuses(builder, count, Some(1)) {
-            return false;
-        }
-        if builder.reserve(count) != Err(Error::OutOfMemory) {
-            return false;
-        }
-    }
-    is_seven(builder)
+    let are_refused = refuses_all(builder, usize::MAX) & refuses_all(builder, usize::MAX - 8);
+    are_refused & builder.is_small()
 }
 
 /// The same of a new builder.
 fn refused(alloc: Global) -> Result<bool, Error> {
-    Ok(are_too_many(&mut seven(alloc)?))
+    match MutablePrimitiveArray::small(alloc) {
+        Ok(mut builder) => Ok(are_too_many(&mut builder)),
+        Err(refused) => Err(refused),
+    }
 }
 
 #[test]
-fn slots_that_no_memory_holds(rt: HostRuntime) -> Result<(), Fail> {
-    told(refused(rt.alloc()))
+fn growths(rt: HostRuntime) -> Result<(), Fail> {
+    all_told(&[
+        all_grown::<MutablePrimitiveArray<i64>>(rt.alloc(), GROWTHS),
+        all_extended::<MutablePrimitiveArray<i64>>(rt.alloc(), EXTENSIONS),
+        refused(rt.alloc()),
+    ])
 }
 
 /// The calls that make an array.
-#[derive(Clone, Copy)]
-enum Made {
+pub(crate) enum Made {
     FromVec,
     FromSlice,
     From,
@@ -245,76 +217,62 @@ enum Made {
     Clone,
 }
 
-/// A builder of a value and a null.
-fn pair(alloc: Global) -> Result<MutablePrimitiveArray<i64>, Error> {
-    MutablePrimitiveArray::from(alloc, [Some(7), None].as_slice())
-}
+/// A value and a null.
+const PAIR: [Option<i64>; 2] = [Some(7), None];
 
-/// The array that it makes.
-fn array(alloc: Global, call: Made) -> Result<PrimitiveArray<i64>, Error> {
-    match call {
-        Made::FromVec => PrimitiveArray::from_vec([7, 0].to_vec(alloc)?),
-        Made::FromSlice => PrimitiveArray::from_slice(alloc, [7, 0].as_slice()),
-        Made::From => PrimitiveArray::from(alloc, [Some(7), None].as_slice()),
-        Made::FromIter => PrimitiveArray::from_iter(alloc, [Some(7), None].into_iter()),
-        Made::FromValues => PrimitiveArray::from_values(alloc, [7, 0].into_iter()),
-        Made::NewEmpty => PrimitiveArray::new_empty(alloc, DataType::Int64),
-        Made::NewNull => PrimitiveArray::new_null(alloc, DataType::Int64, 2),
-        Made::Default => PrimitiveArray::default(alloc),
-        Made::Freeze => pair(alloc)?.freeze(),
-        Made::Clone => PrimitiveArray::from(alloc, [Some(7), None].as_slice())?.clone(),
+/// The array of two values, or the builder.
+fn valued(alloc: Global) -> Result<PrimitiveArray<i64>, Error> {
+    match [7, 0].to_vec(alloc) {
+        Ok(values) => PrimitiveArray::from_vec(values),
+        Err(refused) => Err(Error::from(refused)),
     }
 }
 
-/// Whether an array was made that stores these values, under these marks.
-pub(crate) fn shown(
-    answer: Result<PrimitiveArray<i64>, Error>,
-    values: &[i64],
-    mask: &str,
-) -> Result<bool, Error> {
-    match answer {
-        Ok(array) => Ok(shows(&array, values, mask)),
+/// The array of a builder.
+fn freeze(
+    builder: Result<MutablePrimitiveArray<i64>, Error>,
+) -> Result<PrimitiveArray<i64>, Error> {
+    match builder {
+        Ok(builder) => builder.freeze(),
         Err(refused) => Err(refused),
     }
 }
 
-/// Each of the calls, and what the array stores, under which marks.
-const MADE: &[(Made, &[i64], &str)] = &[
-    (Made::FromVec, &[7, 0], "none"),
-    (Made::FromSlice, &[7, 0], "none"),
-    (Made::From, &[7, 0], "10"),
-    (Made::FromIter, &[7, 0], "10"),
-    (Made::FromValues, &[7, 0], "none"),
-    (Made::NewEmpty, &[], "none"),
-    (Made::NewNull, &[0, 0], "00"),
-    (Made::Default, &[], "none"),
-    (Made::Freeze, &[7, 0], "10"),
-    (Made::Clone, &[7, 0], "10"),
-];
+impl Making for PrimitiveArray<i64> {
+    type Maker = Made;
 
-/// Whether arrays are made, or, where that is refused, by the same call once more.
-fn all_made(alloc: Global, calls: &[(Made, &[i64], &str)]) -> Result<bool, Error> {
-    for (call, values, mask) in calls {
-        match shown(array(alloc, *call), *values, *mask) {
-            Ok(true) => (),
-            Ok(false) => return Ok(false),
-            Err(refused) => {
-                let is_made = shown(array(alloc, *call), *values, *mask) == Ok(true);
-                return after(refused, is_made);
-            }
+    fn make(alloc: Global, call: &Made) -> Result<PrimitiveArray<i64>, Error> {
+        match call {
+            Made::FromVec => valued(alloc),
+            Made::FromSlice => PrimitiveArray::from_slice(alloc, [7, 0].as_slice()),
+            Made::From => PrimitiveArray::from(alloc, PAIR.as_slice()),
+            Made::FromIter => PrimitiveArray::from_iter(alloc, PAIR.into_iter()),
+            Made::FromValues => PrimitiveArray::from_values(alloc, [7, 0].into_iter()),
+            Made::NewEmpty => PrimitiveArray::new_empty(alloc, DataType::Int64),
+            Made::NewNull => PrimitiveArray::new_null(alloc, DataType::Int64, 2),
+            Made::Default => PrimitiveArray::default(alloc),
+            Made::Freeze => freeze(MutablePrimitiveArray::from(alloc, PAIR.as_slice())),
+            Made::Clone => copy_of(PrimitiveArray::from(alloc, PAIR.as_slice())),
         }
     }
-    Ok(true)
 }
 
-#[test]
-fn arrays(rt: HostRuntime) -> Result<(), Fail> {
-    told(all_made(rt.alloc(), MADE))
-}
+/// Each of the calls, and what the array stores.
+const MADE: &[(Made, Stored)] = &[
+    (Made::FromVec, (&[7, 0], "none")),
+    (Made::FromSlice, (&[7, 0], "none")),
+    (Made::From, (&[7, 0], "10")),
+    (Made::FromIter, (&[7, 0], "10")),
+    (Made::FromValues, (&[7, 0], "none")),
+    (Made::NewEmpty, (&[], "none")),
+    (Made::NewNull, (&[0, 0], "00")),
+    (Made::Default, (&[], "none")),
+    (Made::Freeze, (&[7, 0], "10")),
+    (Made::Clone, (&[7, 0], "10")),
+];
 
 /// The calls that make a builder.
-#[derive(Clone, Copy)]
-enum Built {
+pub(crate) enum Built {
     WithCapacity,
     WithCapacityFrom,
     FromSlice,
@@ -323,62 +281,39 @@ enum Built {
     Clone,
 }
 
-/// The builder that it makes.
-fn builder(alloc: Global, call: Built) -> Result<MutablePrimitiveArray<i64>, Error> {
-    match call {
-        Built::WithCapacity => MutablePrimitiveArray::with_capacity(alloc, 3),
-        Built::WithCapacityFrom => {
-            MutablePrimitiveArray::with_capacity_from(alloc, 3, DataType::Date64)
+impl Making for MutablePrimitiveArray<i64> {
+    type Maker = Built;
+
+    fn make(alloc: Global, call: &Built) -> Result<MutablePrimitiveArray<i64>, Error> {
+        match call {
+            Built::WithCapacity => MutablePrimitiveArray::with_capacity(alloc, 3),
+            Built::WithCapacityFrom => {
+                MutablePrimitiveArray::with_capacity_from(alloc, 3, DataType::Date64)
+            }
+            Built::FromSlice => MutablePrimitiveArray::from_slice(alloc, [7, 0].as_slice()),
+            Built::From => MutablePrimitiveArray::from(alloc, PAIR.as_slice()),
+            Built::FromIter => MutablePrimitiveArray::from_iter(alloc, PAIR.into_iter()),
+            Built::Clone => copy_of(MutablePrimitiveArray::from(alloc, PAIR.as_slice())),
         }
-        Built::FromSlice => MutablePrimitiveArray::from_slice(alloc, [7, 0].as_slice()),
-        Built::From => pair(alloc),
-        Built::FromIter => MutablePrimitiveArray::from_iter(alloc, [Some(7), None].into_iter()),
-        Built::Clone => pair(alloc)?.clone(),
     }
 }
 
-/// Whether it stores these values, under these marks, with so much room.
-fn is_built(
-    alloc: Global,
-    call: Built,
-    values: &[i64],
-    mask: &str,
-    room: usize,
-) -> Result<bool, Error> {
-    match builder(alloc, call) {
-        Ok(builder) => Ok((room <= builder.capacity()) & builds(&builder, values, mask)),
-        Err(refused) => Err(refused),
-    }
-}
-
-/// Each of the calls, what the builder stores, under which marks, and how much room it has at least.
-const BUILT: &[(Built, &[i64], &str, usize)] = &[
-    (Built::WithCapacity, &[], "none", 3),
-    (Built::WithCapacityFrom, &[], "none", 3),
-    (Built::FromSlice, &[7, 0], "none", 2),
-    (Built::From, &[7, 0], "10", 2),
-    (Built::FromIter, &[7, 0], "10", 2),
-    (Built::Clone, &[7, 0], "10", 2),
+/// Each of the calls, and what the builder stores.
+const BUILT: &[(Built, Roomy)] = &[
+    (Built::WithCapacity, (&[], "none", 3)),
+    (Built::WithCapacityFrom, (&[], "none", 3)),
+    (Built::FromSlice, (&[7, 0], "none", 2)),
+    (Built::From, (&[7, 0], "10", 2)),
+    (Built::FromIter, (&[7, 0], "10", 2)),
+    (Built::Clone, (&[7, 0], "10", 2)),
 ];
 
-/// Whether builders are made, or, where that is refused, by the same call once more.
-fn all_built(alloc: Global, calls: &[(Built, &[i64], &str, usize)]) -> Result<bool, Error> {
-    for (call, values, mask, room) in calls {
-        match is_built(alloc, *call, *values, *mask, *room) {
-            Ok(true) => (),
-            Ok(false) => return Ok(false),
-            Err(refused) => {
-                let is_built = is_built(alloc, *call, *values, *mask, *room) == Ok(true);
-                return after(refused, is_built);
-            }
-        }
-    }
-    Ok(true)
-}
-
 #[test]
-fn builders(rt: HostRuntime) -> Result<(), Fail> {
-    told(all_built(rt.alloc(), BUILT))
+fn makers(rt: HostRuntime) -> Result<(), Fail> {
+    all_told(&[
+        all_made::<PrimitiveArray<i64>>(rt.alloc(), MADE),
+        all_made::<MutablePrimitiveArray<i64>>(rt.alloc(), BUILT),
+    ])
 }
 
 /// Whether three values are appended, for which no memory is asked.
@@ -400,7 +335,10 @@ fn fits(builder: &mut MutablePrimitiveArray<i64>) -> Result<bool, Error> {
 
 /// Whether they are in a new builder with room.
 fn fits_room(alloc: Global) -> Result<bool, Error> {
-    fits(&mut MutablePrimitiveArray::with_capacity(alloc, 3)?)
+    match MutablePrimitiveArray::with_capacity(alloc, 3) {
+        Ok(mut builder) => fits(&mut builder),
+        Err(refused) => Err(refused),
+    }
 }
 
 /// Whichever allocation is refused, it is none of those pushes that is.

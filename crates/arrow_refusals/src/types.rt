@@ -1,5 +1,5 @@
 //! Data types that hold memory.
-use arrow_testing::{after, told};
+use arrow_testing::{after, all_told};
 use arrow_types::data_type::DataType;
 use arrow_types::error::Error;
 use arrow_types::units::TimeUnit;
@@ -8,7 +8,10 @@ use std::test::Fail;
 
 /// Whether a clone is equal to its original.
 fn is_equal(original: &DataType) -> Result<bool, Error> {
-    Ok(original.clone()? == *original)
+    match original.clone() {
+        Ok(clone) => Ok(clone == *original),
+        Err(refused) => Err(Error::from(refused)),
+    }
 }
 
 /// Whether a clone is, or, where it is refused, one by the same call once more.
@@ -19,15 +22,20 @@ fn is_cloned(original: &DataType) -> Result<bool, Error> {
     }
 }
 
-/// Whether that of a type with a zone is.
-fn zone(alloc: Global) -> Result<bool, Error> {
-    let zone = String::from_str(alloc, "UTC")?;
-    is_cloned(&DataType::Timestamp(TimeUnit::Second, Some(zone)))
+/// Whether that of a type that was made is.
+fn cloned(original: Result<DataType, Error>) -> Result<bool, Error> {
+    match original {
+        Ok(original) => is_cloned(&original),
+        Err(refused) => Err(refused),
+    }
 }
 
-#[test]
-fn clone_of_a_zone(rt: HostRuntime) -> Result<(), Fail> {
-    told(zone(rt.alloc()))
+/// A type with a zone.
+fn zone(alloc: Global) -> Result<DataType, Error> {
+    match String::from_str(alloc, "UTC") {
+        Ok(zone) => Ok(DataType::Timestamp(TimeUnit::Second, Some(zone))),
+        Err(refused) => Err(Error::from(refused)),
+    }
 }
 
 /// An extension around a type.
@@ -36,24 +44,27 @@ fn around(alloc: Global, inner: DataType, metadata: Option<String>) -> Result<Da
     Ok(DataType::Extension(String::from_str(alloc, "ages")?, inner, metadata))
 }
 
-/// Whether that of an extension of an extension is.
-fn extensions(alloc: Global) -> Result<bool, Error> {
-    let inner = around(alloc, DataType::Int32, None)?;
-    is_cloned(&around(alloc, inner, None)?)
+/// An extension of an extension.
+fn nested(alloc: Global) -> Result<DataType, Error> {
+    match around(alloc, DataType::Int32, None) {
+        Ok(inner) => around(alloc, inner, None),
+        Err(refused) => Err(refused),
+    }
+}
+
+/// An extension with metadata.
+fn described(alloc: Global) -> Result<DataType, Error> {
+    match String::from_str(alloc, "whole") {
+        Ok(whole) => around(alloc, DataType::Int32, Some(whole)),
+        Err(refused) => Err(Error::from(refused)),
+    }
 }
 
 #[test]
-fn clone_of_extensions(rt: HostRuntime) -> Result<(), Fail> {
-    told(extensions(rt.alloc()))
-}
-
-/// Whether that of an extension with metadata is.
-fn metadata(alloc: Global) -> Result<bool, Error> {
-    let whole = String::from_str(alloc, "whole")?;
-    is_cloned(&around(alloc, DataType::Int32, Some(whole))?)
-}
-
-#[test]
-fn clone_of_metadata(rt: HostRuntime) -> Result<(), Fail> {
-    told(metadata(rt.alloc()))
+fn clones(rt: HostRuntime) -> Result<(), Fail> {
+    all_told(&[
+        cloned(zone(rt.alloc())),
+        cloned(nested(rt.alloc())),
+        cloned(described(rt.alloc())),
+    ])
 }
