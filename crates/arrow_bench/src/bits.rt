@@ -5,15 +5,31 @@ use crate::{place, told};
 use arrow_memory::bitmap::{Bitmap, MutableBitmap};
 use std::alloc::Global;
 
-/// The marks of a pattern, one byte each, so many times over.
-fn marks(alloc: Global, pattern: &[u8], times: usize) -> Option<MutableBitmap> {
-    let mut out = MutableBitmap::new(alloc);
+#[inline(always)]
+fn push_all(out: &mut MutableBitmap, pattern: &[u8], times: usize) -> Option<()> {
     for _ in 0..times {
         for mark in pattern {
             out.push(*mark != 0).ok()?;
         }
     }
-    Some(out)
+    Some(())
+}
+
+/// The marks of a pattern, one byte each, so many times over.
+fn marks(alloc: Global, pattern: &[u8], times: usize) -> Option<MutableBitmap> {
+    let mut out = MutableBitmap::new(alloc);
+    match push_all(&mut out, pattern, times) {
+        Some(()) => Some(out),
+        None => None,
+    }
+}
+
+/// The frozen ones.
+fn frozen(alloc: Global, pattern: &[u8], times: usize) -> Option<Bitmap> {
+    match marks(alloc, pattern, times) {
+        Some(marks) => marks.freeze().ok(),
+        None => None,
+    }
 }
 
 /// The number of marks, and one of them.
@@ -23,11 +39,18 @@ fn probe(out: &MutableBitmap, round: usize) -> u64 {
     (rows as u64).wrapping_add(if at < rows { u64::from(out.get(at)) } else { 0 })
 }
 
+#[inline(always)]
+fn push_once(alloc: Global, pattern: &[u8], times: usize, round: usize) -> Option<u64> {
+    match marks(alloc, pattern, times) {
+        Some(out) => Some(probe(&out, round)),
+        None => None,
+    }
+}
+
 fn push(alloc: Global, pattern: &[u8], times: usize, rounds: usize) -> Option<u64> {
     let mut sum = 0u64;
     for round in 0..rounds {
-        let out = marks(alloc, pattern, times)?;
-        sum = sum.wrapping_add(probe(&out, round));
+        sum = sum.wrapping_add(push_once(alloc, pattern, times, round)?);
     }
     Some(sum)
 }
@@ -42,14 +65,27 @@ pub extern "C" fn rattle_flat_bits_push(
     told(push(alloc, pattern, times, rounds))
 }
 
+#[inline(always)]
+fn extend_all(out: &mut MutableBitmap, piece: usize, times: usize) -> Option<()> {
+    for time in 0..times {
+        out.extend_constant(piece, time % 2 == 0).ok()?;
+    }
+    Some(())
+}
+
+#[inline(always)]
+fn extend_once(alloc: Global, piece: usize, times: usize, round: usize) -> Option<u64> {
+    let mut out = MutableBitmap::new(alloc);
+    match extend_all(&mut out, piece, times) {
+        Some(()) => Some(probe(&out, round)),
+        None => None,
+    }
+}
+
 fn extend(alloc: Global, piece: usize, times: usize, rounds: usize) -> Option<u64> {
     let mut sum = 0u64;
     for round in 0..rounds {
-        let mut out = MutableBitmap::new(alloc);
-        for time in 0..times {
-            out.extend_constant(piece, time % 2 == 0).ok()?;
-        }
-        sum = sum.wrapping_add(probe(&out, round));
+        sum = sum.wrapping_add(extend_once(alloc, piece, times, round)?);
     }
     Some(sum)
 }
@@ -70,13 +106,19 @@ fn unset_of(bitmap: &MutableBitmap, start: usize) -> usize {
     start.wrapping_add(bitmap.unset_bits())
 }
 
-fn unset(alloc: Global, pattern: &[u8], times: usize, rounds: usize) -> Option<u64> {
-    let bitmap = marks(alloc, pattern, times)?;
+fn unset_all(bitmap: &MutableBitmap, rounds: usize) -> u64 {
     let mut sum = 0usize;
     for _ in 0..rounds {
-        sum = unset_of(&bitmap, sum);
+        sum = unset_of(bitmap, sum);
     }
-    Some(sum as u64)
+    sum as u64
+}
+
+fn unset(alloc: Global, pattern: &[u8], times: usize, rounds: usize) -> Option<u64> {
+    match marks(alloc, pattern, times) {
+        Some(bitmap) => Some(unset_all(&bitmap, rounds)),
+        None => None,
+    }
 }
 
 #[unsafe(no_mangle)]
@@ -89,15 +131,35 @@ pub extern "C" fn rattle_flat_bits_unset(
     told(unset(alloc, pattern, times, rounds))
 }
 
-fn freeze_unset(alloc: Global, pattern: &[u8], times: usize, rounds: usize) -> Option<u64> {
-    let mut bitmap = marks(alloc, pattern, times)?;
-    let mut sum = 0usize;
+#[inline(always)]
+fn thawed(frozen: Bitmap) -> (usize, Option<MutableBitmap>) {
+    let unset = frozen.unset_bits();
+    (unset, frozen.into_mut().right())
+}
+
+#[inline(always)]
+fn freeze_once(bitmap: MutableBitmap) -> (usize, Option<MutableBitmap>) {
+    match bitmap.freeze() {
+        Ok(frozen) => thawed(frozen),
+        Err(_) => (0, None),
+    }
+}
+
+fn freeze_all(bitmap: MutableBitmap, rounds: usize) -> Option<u64> {
+    let (mut kept, mut sum) = (bitmap, 0usize);
     for _ in 0..rounds {
-        let frozen = bitmap.freeze().ok()?;
-        sum = sum.wrapping_add(frozen.unset_bits());
-        bitmap = frozen.into_mut().right()?;
+        let (unset, thawed) = freeze_once(kept);
+        sum = sum.wrapping_add(unset);
+        kept = thawed?;
     }
     Some(sum as u64)
+}
+
+fn freeze_unset(alloc: Global, pattern: &[u8], times: usize, rounds: usize) -> Option<u64> {
+    match marks(alloc, pattern, times) {
+        Some(bitmap) => freeze_all(bitmap, rounds),
+        None => None,
+    }
 }
 
 // sum: unset_bits after freeze; then into_mut, which gives the bits of the next round
@@ -120,13 +182,19 @@ fn set_by_iter(bitmap: &Bitmap, start: u64) -> u64 {
     sum
 }
 
-fn iter(alloc: Global, pattern: &[u8], times: usize, rounds: usize) -> Option<u64> {
-    let bitmap = marks(alloc, pattern, times)?.freeze().ok()?;
+fn iter_all(bitmap: &Bitmap, rounds: usize) -> u64 {
     let mut sum = 0u64;
     for _ in 0..rounds {
-        sum = set_by_iter(&bitmap, sum);
+        sum = set_by_iter(bitmap, sum);
     }
-    Some(sum)
+    sum
+}
+
+fn iter(alloc: Global, pattern: &[u8], times: usize, rounds: usize) -> Option<u64> {
+    match frozen(alloc, pattern, times) {
+        Some(bitmap) => Some(iter_all(&bitmap, rounds)),
+        None => None,
+    }
 }
 
 #[unsafe(no_mangle)]
@@ -148,13 +216,19 @@ fn set_by_get_bit(bitmap: &Bitmap, start: u64) -> u64 {
     sum
 }
 
-fn get_bit(alloc: Global, pattern: &[u8], times: usize, rounds: usize) -> Option<u64> {
-    let bitmap = marks(alloc, pattern, times)?.freeze().ok()?;
+fn get_bit_all(bitmap: &Bitmap, rounds: usize) -> u64 {
     let mut sum = 0u64;
     for _ in 0..rounds {
-        sum = set_by_get_bit(&bitmap, sum);
+        sum = set_by_get_bit(bitmap, sum);
     }
-    Some(sum)
+    sum
+}
+
+fn get_bit(alloc: Global, pattern: &[u8], times: usize, rounds: usize) -> Option<u64> {
+    match frozen(alloc, pattern, times) {
+        Some(bitmap) => Some(get_bit_all(&bitmap, rounds)),
+        None => None,
+    }
 }
 
 // sum: the set bits of the frozen bitmap (made once), by get_bit(i)
@@ -177,13 +251,19 @@ fn set_by_get(bitmap: &MutableBitmap, start: u64) -> u64 {
     sum
 }
 
-fn get(alloc: Global, pattern: &[u8], times: usize, rounds: usize) -> Option<u64> {
-    let bitmap = marks(alloc, pattern, times)?;
+fn get_all(bitmap: &MutableBitmap, rounds: usize) -> u64 {
     let mut sum = 0u64;
     for _ in 0..rounds {
-        sum = set_by_get(&bitmap, sum);
+        sum = set_by_get(bitmap, sum);
     }
-    Some(sum)
+    sum
+}
+
+fn get(alloc: Global, pattern: &[u8], times: usize, rounds: usize) -> Option<u64> {
+    match marks(alloc, pattern, times) {
+        Some(bitmap) => Some(get_all(&bitmap, rounds)),
+        None => None,
+    }
 }
 
 // the same of the builder, by get(i)
@@ -207,17 +287,23 @@ fn set_all(bitmap: &mut MutableBitmap, pattern: &[u8], clear: u8)
     }
 }
 
-fn set(alloc: Global, pattern: &[u8], rounds: usize) -> Option<u64> {
-    let mut bitmap = MutableBitmap::new(alloc);
-    bitmap.extend_constant(pattern.len(), false).ok()?;
+fn set_each(bitmap: &mut MutableBitmap, pattern: &[u8], rounds: usize) -> u64 {
     let mut sum = 0u64;
     for round in 0..rounds {
         if bitmap.len() == pattern.len() {
-            set_all(&mut bitmap, pattern, (round % 2) as u8);
+            set_all(bitmap, pattern, (round % 2) as u8);
         }
-        sum = sum.wrapping_add(probe(&bitmap, round));
+        sum = sum.wrapping_add(probe(bitmap, round));
     }
-    Some(sum)
+    sum
+}
+
+fn set(alloc: Global, pattern: &[u8], rounds: usize) -> Option<u64> {
+    let mut bitmap = MutableBitmap::new(alloc);
+    match bitmap.extend_constant(pattern.len(), false) {
+        Ok(()) => Some(set_each(&mut bitmap, pattern, rounds)),
+        Err(_) => None,
+    }
 }
 
 // a bitmap of the pattern (made once): set(i, pattern[i] != round % 2) for each; the probe

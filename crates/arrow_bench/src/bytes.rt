@@ -33,19 +33,47 @@ pub(crate) fn marks(alloc: Global, valid: &[u8]) -> Option<Option<MutableBitmap>
         return Some(None);
     }
     let mut marks = MutableBitmap::new(alloc);
+    match push_marks(&mut marks, valid) {
+        Some(()) => Some(Some(marks)),
+        None => None,
+    }
+}
+
+fn push_marks(marks: &mut MutableBitmap, valid: &[u8]) -> Option<()> {
     for mark in valid {
         marks.push(*mark != 0).ok()?;
     }
-    Some(Some(marks))
+    Some(())
+}
+
+fn push_lengths(offsets: &mut Offsets<i32>, bytes: usize, item: usize) -> Option<()> {
+    for _ in 0..bytes.checked_div(item)? {
+        offsets.try_push_usize(item).ok()?;
+    }
+    Some(())
 }
 
 /// The offsets of items of so many bytes.
 pub(crate) fn even_offsets(alloc: Global, bytes: usize, item: usize) -> Option<Offsets<i32>> {
-    let mut offsets = Offsets::new(alloc).ok()?;
-    for _ in 0..bytes.checked_div(item)? {
-        offsets.try_push_usize(item).ok()?;
+    match Offsets::new(alloc) {
+        Ok(mut offsets) => match push_lengths(&mut offsets, bytes, item) {
+            Some(()) => Some(offsets),
+            None => None,
+        },
+        Err(_) => None,
     }
-    Some(offsets)
+}
+
+/// A builder of such items, as parts, under marks that were made.
+fn of_marks(
+    alloc: Global,
+    data: &[u8],
+    item: usize,
+    marks: Option<MutableBitmap>,
+) -> Option<MutableBinaryArray<i32>> {
+    let offsets = even_offsets(alloc, data.len(), item)?;
+    let all = data.to_vec(alloc).ok()?;
+    MutableBinaryArray::try_new(DataType::Binary, offsets, all, marks).ok()
 }
 
 /// A builder of items of so many bytes and marks, as parts; a null stores its item too.
@@ -55,10 +83,10 @@ fn of_parts(
     item: usize,
     valid: &[u8],
 ) -> Option<MutableBinaryArray<i32>> {
-    let offsets = even_offsets(alloc, data.len(), item)?;
-    let mut all = Vec::new(alloc);
-    all.extend_from_slice(data).ok()?;
-    MutableBinaryArray::try_new(DataType::Binary, offsets, all, marks(alloc, valid)?).ok()
+    match marks(alloc, valid) {
+        Some(marks) => of_marks(alloc, data, item, marks),
+        None => None,
+    }
 }
 
 /// The marks of one time over the data.
@@ -107,7 +135,49 @@ fn push_marked(
     Some(())
 }
 
+fn probe_pushed(out: &MutableBinaryArray<i32>, pushed: Option<()>, round: usize) -> Option<u64> {
+    match pushed {
+        Some(()) => Some(probe_builder(out, round)),
+        None => None,
+    }
+}
+
 // Of the two each has a builder of its own, so that its loop is small enough for the compiler to follow.
+#[inline(always)]
+fn push_all_once(
+    alloc: Global,
+    data: &[u8],
+    item: usize,
+    times: usize,
+    round: usize,
+) -> Option<u64> {
+    match MutableBinaryArray::<i32>::new(alloc) {
+        Ok(mut out) => {
+            let pushed = push_all(&mut out, data, item, times);
+            probe_pushed(&out, pushed, round)
+        }
+        Err(_) => None,
+    }
+}
+
+#[inline(always)]
+fn push_marked_once(
+    alloc: Global,
+    data: &[u8],
+    item: usize,
+    times: usize,
+    valid: &[u8],
+    round: usize,
+) -> Option<u64> {
+    match MutableBinaryArray::<i32>::new(alloc) {
+        Ok(mut out) => {
+            let pushed = push_marked(&mut out, data, item, times, valid);
+            probe_pushed(&out, pushed, round)
+        }
+        Err(_) => None,
+    }
+}
+
 fn push_once(
     alloc: Global,
     data: &[u8],
@@ -117,13 +187,9 @@ fn push_once(
     round: usize,
 ) -> Option<u64> {
     if valid.is_empty() {
-        let mut out = MutableBinaryArray::<i32>::new(alloc).ok()?;
-        let pushed = push_all(&mut out, data, item, times);
-        pushed.map(|_| probe_builder(&out, round))
+        push_all_once(alloc, data, item, times, round)
     } else {
-        let mut out = MutableBinaryArray::<i32>::new(alloc).ok()?;
-        let pushed = push_marked(&mut out, data, item, times, valid);
-        pushed.map(|_| probe_builder(&out, round))
+        push_marked_once(alloc, data, item, times, valid, round)
     }
 }
 
@@ -154,6 +220,41 @@ pub extern "C" fn rattle_flat_bin_push(
     told(push(alloc, data, item, times, valid, rounds))
 }
 
+#[inline(always)]
+fn push_values_all(
+    out: &mut MutableBinaryValuesArray<i32>,
+    data: &[u8],
+    item: usize,
+    times: usize,
+) -> Option<()> {
+    if item == 0 {
+        return None;
+    }
+    for _ in 0..times {
+        for part in data.chunks_exact(item) {
+            out.push(part).ok()?;
+        }
+    }
+    Some(())
+}
+
+#[inline(always)]
+fn push_values_once(
+    alloc: Global,
+    data: &[u8],
+    item: usize,
+    times: usize,
+    round: usize,
+) -> Option<u64> {
+    match MutableBinaryValuesArray::<i32>::new(alloc) {
+        Ok(mut out) => match push_values_all(&mut out, data, item, times) {
+            Some(()) => Some(probe(out.offsets().as_slice(), out.values(), round)),
+            None => None,
+        },
+        Err(_) => None,
+    }
+}
+
 fn push_values(
     alloc: Global,
     data: &[u8],
@@ -161,18 +262,9 @@ fn push_values(
     times: usize,
     rounds: usize,
 ) -> Option<u64> {
-    if item == 0 {
-        return None;
-    }
     let mut sum = 0u64;
     for round in 0..rounds {
-        let mut out = MutableBinaryValuesArray::<i32>::new(alloc).ok()?;
-        for _ in 0..times {
-            for part in data.chunks_exact(item) {
-                out.push(part).ok()?;
-            }
-        }
-        sum = sum.wrapping_add(probe(out.offsets().as_slice(), out.values(), round));
+        sum = sum.wrapping_add(push_values_once(alloc, data, item, times, round)?);
     }
     Some(sum)
 }
@@ -188,18 +280,38 @@ pub extern "C" fn rattle_flat_vbin_push(
     told(push_values(alloc, data, item, times, rounds))
 }
 
-fn extend(alloc: Global, data: &[u8], item: usize, times: usize, rounds: usize) -> Option<u64> {
+#[inline(always)]
+fn extend_all(
+    out: &mut MutableBinaryArray<i32>,
+    data: &[u8],
+    item: usize,
+    times: usize,
+) -> Option<()> {
     if item == 0 {
         return None;
     }
+    for _ in 0..times {
+        out.extend(data.chunks_exact(item).map(|part| Some(part)))
+            .ok()?;
+    }
+    Some(())
+}
+
+#[inline(always)]
+fn extend_once(alloc: Global, data: &[u8], item: usize, times: usize, round: usize) -> Option<u64> {
+    match MutableBinaryArray::<i32>::new(alloc) {
+        Ok(mut out) => {
+            let extended = extend_all(&mut out, data, item, times);
+            probe_pushed(&out, extended, round)
+        }
+        Err(_) => None,
+    }
+}
+
+fn extend(alloc: Global, data: &[u8], item: usize, times: usize, rounds: usize) -> Option<u64> {
     let mut sum = 0u64;
     for round in 0..rounds {
-        let mut out = MutableBinaryArray::<i32>::new(alloc).ok()?;
-        for _ in 0..times {
-            out.extend(data.chunks_exact(item).map(|part| Some(part)))
-                .ok()?;
-        }
-        sum = sum.wrapping_add(probe_builder(&out, round));
+        sum = sum.wrapping_add(extend_once(alloc, data, item, times, round)?);
     }
     Some(sum)
 }
@@ -215,6 +327,39 @@ pub extern "C" fn rattle_flat_bin_extend(
     told(extend(alloc, data, item, times, rounds))
 }
 
+#[inline(always)]
+fn extend_values_all(
+    out: &mut MutableBinaryArray<i32>,
+    data: &[u8],
+    item: usize,
+    times: usize,
+) -> Option<()> {
+    if item == 0 {
+        return None;
+    }
+    for _ in 0..times {
+        out.extend_values(data.chunks_exact(item)).ok()?;
+    }
+    Some(())
+}
+
+#[inline(always)]
+fn extend_values_once(
+    alloc: Global,
+    data: &[u8],
+    item: usize,
+    times: usize,
+    round: usize,
+) -> Option<u64> {
+    match MutableBinaryArray::<i32>::new(alloc) {
+        Ok(mut out) => {
+            let extended = extend_values_all(&mut out, data, item, times);
+            probe_pushed(&out, extended, round)
+        }
+        Err(_) => None,
+    }
+}
+
 fn extend_values(
     alloc: Global,
     data: &[u8],
@@ -222,16 +367,9 @@ fn extend_values(
     times: usize,
     rounds: usize,
 ) -> Option<u64> {
-    if item == 0 {
-        return None;
-    }
     let mut sum = 0u64;
     for round in 0..rounds {
-        let mut out = MutableBinaryArray::<i32>::new(alloc).ok()?;
-        for _ in 0..times {
-            out.extend_values(data.chunks_exact(item)).ok()?;
-        }
-        sum = sum.wrapping_add(probe_builder(&out, round));
+        sum = sum.wrapping_add(extend_values_once(alloc, data, item, times, round)?);
     }
     Some(sum)
 }
@@ -247,6 +385,29 @@ pub extern "C" fn rattle_flat_bin_extend_values(
     told(extend_values(alloc, data, item, times, rounds))
 }
 
+fn extend_twice(out: &mut MutableBinaryArray<i32>, big: &MutableBinaryArray<i32>) -> Option<()> {
+    out.try_extend_from_self(big).ok()?;
+    out.try_extend_from_self(big).ok()
+}
+
+fn extend_self_once(alloc: Global, big: &MutableBinaryArray<i32>, round: usize) -> Option<u64> {
+    match MutableBinaryArray::<i32>::new(alloc) {
+        Ok(mut out) => {
+            let extended = extend_twice(&mut out, big);
+            probe_pushed(&out, extended, round)
+        }
+        Err(_) => None,
+    }
+}
+
+fn extend_self_each(alloc: Global, big: &MutableBinaryArray<i32>, rounds: usize) -> Option<u64> {
+    let mut sum = 0u64;
+    for round in 0..rounds {
+        sum = sum.wrapping_add(extend_self_once(alloc, big, round)?);
+    }
+    Some(sum)
+}
+
 fn extend_self(
     alloc: Global,
     data: &[u8],
@@ -254,15 +415,10 @@ fn extend_self(
     valid: &[u8],
     rounds: usize,
 ) -> Option<u64> {
-    let big = of_parts(alloc, data, item, valid)?;
-    let mut sum = 0u64;
-    for round in 0..rounds {
-        let mut out = MutableBinaryArray::<i32>::new(alloc).ok()?;
-        out.try_extend_from_self(&big).ok()?;
-        out.try_extend_from_self(&big).ok()?;
-        sum = sum.wrapping_add(probe_builder(&out, round));
+    match of_parts(alloc, data, item, valid) {
+        Some(big) => extend_self_each(alloc, &big, rounds),
+        None => None,
     }
-    Some(sum)
 }
 
 #[unsafe(no_mangle)]
@@ -281,6 +437,36 @@ fn probe_array(array: &BinaryArray<i32>, round: usize) -> u64 {
     probe(offsets, array.values().as_slice(), round)
 }
 
+#[inline(always)]
+fn thaw(array: BinaryArray<i32>, round: usize) -> (u64, Option<MutableBinaryArray<i32>>) {
+    let probed = probe_array(&array, round);
+    match array.into_mut() {
+        Right(thawed) => (probed, Some(thawed)),
+        Left(_) => (probed, None),
+    }
+}
+
+#[inline(always)]
+fn freeze_thaw_once(
+    builder: MutableBinaryArray<i32>,
+    round: usize,
+) -> (u64, Option<MutableBinaryArray<i32>>) {
+    match builder.freeze() {
+        Ok(array) => thaw(array, round),
+        Err(_) => (0, None),
+    }
+}
+
+fn freeze_thaw_each(builder: MutableBinaryArray<i32>, rounds: usize) -> Option<u64> {
+    let (mut kept, mut sum) = (builder, 0u64);
+    for round in 0..rounds {
+        let (probed, thawed) = freeze_thaw_once(kept, round);
+        sum = sum.wrapping_add(probed);
+        kept = thawed?;
+    }
+    Some(sum)
+}
+
 fn freeze_thaw(
     alloc: Global,
     data: &[u8],
@@ -288,17 +474,10 @@ fn freeze_thaw(
     valid: &[u8],
     rounds: usize,
 ) -> Option<u64> {
-    let mut kept = of_parts(alloc, data, item, valid)?;
-    let mut sum = 0u64;
-    for round in 0..rounds {
-        let array = kept.freeze().ok()?;
-        sum = sum.wrapping_add(probe_array(&array, round));
-        kept = match array.into_mut() {
-            Right(thawed) => thawed,
-            Left(_) => return None,
-        };
+    match of_parts(alloc, data, item, valid) {
+        Some(builder) => freeze_thaw_each(builder, rounds),
+        None => None,
     }
-    Some(sum)
 }
 
 #[unsafe(no_mangle)]

@@ -1,27 +1,33 @@
 //! Kernels over arrays, which are made once.
-use crate::bytes::{marks, probe};
-use crate::text::parts;
-use crate::told;
-use crate::whole::{of_parts, probe_array};
+use crate::bytes::marks;
+use crate::whole::{array_of_parts, probe_array};
+use crate::{text, told};
 use arrow_boolean::BooleanArray;
 use arrow_kernels::{filter_primitive, filter_utf8, take_primitive, take_utf8};
+use arrow_memory::bitmap::Bitmap;
 use arrow_primitive::PrimitiveArray;
 use arrow_types::data_type::DataType;
 use arrow_utf8::Utf8Array;
 use std::alloc::Global;
 
-/// The filter of marks, one byte each. It has no mask.
-fn filter(alloc: Global, bits: &[u8]) -> Option<BooleanArray> {
-    let values = match marks(alloc, bits)? {
-        Some(values) => values.freeze().ok()?,
-        None => return None,
-    };
-    BooleanArray::try_new(DataType::Boolean, values, None).ok()
+/// The mask of marks, one byte each; none where there are none.
+fn mask(alloc: Global, valid: &[u8]) -> Option<Option<Bitmap>> {
+    match marks(alloc, valid) {
+        Some(Some(marks)) => match marks.freeze() {
+            Ok(mask) => Some(Some(mask)),
+            Err(_) => None,
+        },
+        Some(None) => Some(None),
+        None => None,
+    }
 }
 
-/// The array of values with their marks, one byte each; a null stores its value too.
-fn values_array(alloc: Global, values: &[i64], valid: &[u8]) -> Option<PrimitiveArray<i64>> {
-    of_parts(alloc, values, valid)?.freeze().ok()
+/// The filter of marks, one byte each. It has no mask.
+fn filter(alloc: Global, bits: &[u8]) -> Option<BooleanArray> {
+    match mask(alloc, bits)? {
+        Some(values) => BooleanArray::try_new(DataType::Boolean, values, None).ok(),
+        None => None,
+    }
 }
 
 /// The array of texts with their marks, one byte each; a null stores its text too.
@@ -31,17 +37,51 @@ fn texts_array(
     offsets: &[i32],
     valid: &[u8],
 ) -> Option<Utf8Array<i32>> {
-    let (offsets, bytes) = parts(alloc, data, offsets)?;
-    let mask = match marks(alloc, valid)? {
-        Some(mask) => Some(mask.freeze().ok()?),
+    match mask(alloc, valid) {
+        Some(mask) => text::array(alloc, data, offsets, mask),
         None => None,
-    };
-    Utf8Array::try_new(DataType::Utf8, offsets, bytes, mask).ok()
+    }
 }
 
-fn probe_texts(array: &Utf8Array<i32>, round: usize) -> u64 {
-    let offsets = array.offsets().buffer().as_slice();
-    probe(offsets, array.values().as_slice(), round)
+#[inline(always)]
+fn filter_values_once(
+    alloc: Global,
+    array: &PrimitiveArray<i64>,
+    filter: &BooleanArray,
+    round: usize,
+) -> Option<u64> {
+    if filter.len() != array.len() {
+        return None;
+    }
+    match filter_primitive(alloc, array, filter) {
+        Ok(kept) => Some(probe_array(&kept, round)),
+        Err(_) => None,
+    }
+}
+
+fn filter_values_each(
+    alloc: Global,
+    array: &PrimitiveArray<i64>,
+    filter: &BooleanArray,
+    rounds: usize,
+) -> Option<u64> {
+    let mut sum = 0u64;
+    for round in 0..rounds {
+        sum = sum.wrapping_add(filter_values_once(alloc, array, filter, round)?);
+    }
+    Some(sum)
+}
+
+fn filter_values_of(
+    alloc: Global,
+    array: &PrimitiveArray<i64>,
+    bits: &[u8],
+    rounds: usize,
+) -> Option<u64> {
+    match filter(alloc, bits) {
+        Some(filter) => filter_values_each(alloc, array, &filter, rounds),
+        None => None,
+    }
 }
 
 fn filter_values(
@@ -51,17 +91,10 @@ fn filter_values(
     bits: &[u8],
     rounds: usize,
 ) -> Option<u64> {
-    let array = values_array(alloc, values, valid)?;
-    let filter = filter(alloc, bits)?;
-    if filter.len() != array.len() {
-        return None;
+    match array_of_parts(alloc, values, valid) {
+        Some(array) => filter_values_of(alloc, &array, bits, rounds),
+        None => None,
     }
-    let mut sum = 0u64;
-    for round in 0..rounds {
-        let kept = filter_primitive(alloc, &array, &filter).ok()?;
-        sum = sum.wrapping_add(probe_array(&kept, round));
-    }
-    Some(sum)
 }
 
 // filter by the frozen boolean array of `marks`, which has no mask
@@ -76,17 +109,40 @@ pub extern "C" fn rattle_flat_filter_prim(
     told(filter_values(alloc, values, valid, marks, rounds))
 }
 
-fn filter_texts(alloc: Global, array: &Utf8Array<i32>, bits: &[u8], rounds: usize) -> Option<u64> {
-    let filter = filter(alloc, bits)?;
+#[inline(always)]
+fn filter_texts_once(
+    alloc: Global,
+    array: &Utf8Array<i32>,
+    filter: &BooleanArray,
+    round: usize,
+) -> Option<u64> {
     if filter.len() != array.len() {
         return None;
     }
+    match filter_utf8(alloc, array, filter) {
+        Ok(kept) => Some(text::probe_array(&kept, round)),
+        Err(_) => None,
+    }
+}
+
+fn filter_texts_each(
+    alloc: Global,
+    array: &Utf8Array<i32>,
+    filter: &BooleanArray,
+    rounds: usize,
+) -> Option<u64> {
     let mut sum = 0u64;
     for round in 0..rounds {
-        let kept = filter_utf8(alloc, array, &filter).ok()?;
-        sum = sum.wrapping_add(probe_texts(&kept, round));
+        sum = sum.wrapping_add(filter_texts_once(alloc, array, filter, round)?);
     }
     Some(sum)
+}
+
+fn filter_texts(alloc: Global, array: &Utf8Array<i32>, bits: &[u8], rounds: usize) -> Option<u64> {
+    match filter(alloc, bits) {
+        Some(filter) => filter_texts_each(alloc, array, &filter, rounds),
+        None => None,
+    }
 }
 
 #[unsafe(no_mangle)]
@@ -104,6 +160,32 @@ pub extern "C" fn rattle_flat_filter_utf8(
     }
 }
 
+#[inline(always)]
+fn take_values_once(
+    alloc: Global,
+    array: &PrimitiveArray<i64>,
+    keys: &[i64],
+    round: usize,
+) -> Option<u64> {
+    match take_primitive(alloc, array, keys) {
+        Ok(taken) => Some(probe_array(&taken, round)),
+        Err(_) => None,
+    }
+}
+
+fn take_values_each(
+    alloc: Global,
+    array: &PrimitiveArray<i64>,
+    keys: &[i64],
+    rounds: usize,
+) -> Option<u64> {
+    let mut sum = 0u64;
+    for round in 0..rounds {
+        sum = sum.wrapping_add(take_values_once(alloc, array, keys, round)?);
+    }
+    Some(sum)
+}
+
 fn take_values(
     alloc: Global,
     values: &[i64],
@@ -111,13 +193,10 @@ fn take_values(
     keys: &[i64],
     rounds: usize,
 ) -> Option<u64> {
-    let array = values_array(alloc, values, valid)?;
-    let mut sum = 0u64;
-    for round in 0..rounds {
-        let taken = take_primitive(alloc, &array, keys).ok()?;
-        sum = sum.wrapping_add(probe_array(&taken, round));
+    match array_of_parts(alloc, values, valid) {
+        Some(array) => take_values_each(alloc, &array, keys, rounds),
+        None => None,
     }
-    Some(sum)
 }
 
 // take; every key is below the number of rows
@@ -132,11 +211,23 @@ pub extern "C" fn rattle_flat_take_prim(
     told(take_values(alloc, values, valid, keys, rounds))
 }
 
+#[inline(always)]
+fn take_texts_once(
+    alloc: Global,
+    array: &Utf8Array<i32>,
+    keys: &[i64],
+    round: usize,
+) -> Option<u64> {
+    match take_utf8(alloc, array, keys) {
+        Ok(taken) => Some(text::probe_array(&taken, round)),
+        Err(_) => None,
+    }
+}
+
 fn take_texts(alloc: Global, array: &Utf8Array<i32>, keys: &[i64], rounds: usize) -> Option<u64> {
     let mut sum = 0u64;
     for round in 0..rounds {
-        let taken = take_utf8(alloc, array, keys).ok()?;
-        sum = sum.wrapping_add(probe_texts(&taken, round));
+        sum = sum.wrapping_add(take_texts_once(alloc, array, keys, round)?);
     }
     Some(sum)
 }

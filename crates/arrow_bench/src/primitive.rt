@@ -3,6 +3,25 @@ use crate::{place, told};
 use arrow_primitive::{MutablePrimitiveArray, PrimitiveArray};
 use std::alloc::Global;
 
+// The loops stand in functions of their own, which own nothing, since that is cheaper to prove, and are inlined, so that the
+// compiler sees each with the builder that it fills.
+#[inline(always)]
+pub(crate) fn push_all(out: &mut MutablePrimitiveArray<i64>, values: &[i64]) -> Option<()> {
+    for value in values {
+        out.push(Some(*value)).ok()?;
+    }
+    Some(())
+}
+
+/// As `push_all`, where the values with a clear mark are null.
+#[inline(always)]
+fn push_marked(out: &mut MutablePrimitiveArray<i64>, values: &[i64], valid: &[u8]) -> Option<()> {
+    for (value, mark) in values.iter().zip(valid) {
+        out.push(if *mark != 0 { Some(*value) } else { None }).ok()?;
+    }
+    Some(())
+}
+
 /// A builder of values with their marks, one byte each; no marks: no null.
 pub(crate) fn builder(
     alloc: Global,
@@ -10,21 +29,23 @@ pub(crate) fn builder(
     valid: &[u8],
 ) -> Option<MutablePrimitiveArray<i64>> {
     let mut out = MutablePrimitiveArray::new(alloc);
-    if valid.is_empty() {
-        for value in values {
-            out.push(Some(*value)).ok()?;
-        }
+    let pushed = if valid.is_empty() {
+        push_all(&mut out, values)
     } else {
-        for (value, mark) in values.iter().zip(valid) {
-            out.push(if *mark != 0 { Some(*value) } else { None }).ok()?;
-        }
+        push_marked(&mut out, values, valid)
+    };
+    match pushed {
+        Some(()) => Some(out),
+        None => None,
     }
-    Some(out)
 }
 
 /// The frozen array of the same.
 pub(crate) fn array(alloc: Global, values: &[i64], valid: &[u8]) -> Option<PrimitiveArray<i64>> {
-    builder(alloc, values, valid)?.freeze().ok()
+    match builder(alloc, values, valid) {
+        Some(out) => out.freeze().ok(),
+        None => None,
+    }
 }
 
 /// The number of rows and the value that is stored in one of them.
@@ -36,11 +57,18 @@ pub(crate) fn probe(out: &MutablePrimitiveArray<i64>, round: usize) -> u64 {
     }
 }
 
+#[inline(always)]
+fn push_once(alloc: Global, values: &[i64], valid: &[u8], round: usize) -> Option<u64> {
+    match builder(alloc, values, valid) {
+        Some(out) => Some(probe(&out, round)),
+        None => None,
+    }
+}
+
 fn push(alloc: Global, values: &[i64], valid: &[u8], rounds: usize) -> Option<u64> {
     let mut sum = 0u64;
     for round in 0..rounds {
-        let out = builder(alloc, values, valid)?;
-        sum = sum.wrapping_add(probe(&out, round));
+        sum = sum.wrapping_add(push_once(alloc, values, valid, round)?);
     }
     Some(sum)
 }
@@ -55,14 +83,27 @@ pub extern "C" fn rattle_flat_prim_push(
     told(push(alloc, values, valid, rounds))
 }
 
+#[inline(always)]
+fn push_all_null(out: &mut MutablePrimitiveArray<i64>, count: usize) -> Option<()> {
+    for _ in 0..count {
+        out.push_null().ok()?;
+    }
+    Some(())
+}
+
+#[inline(always)]
+fn push_nulls_once(alloc: Global, count: usize, round: usize) -> Option<u64> {
+    let mut out = MutablePrimitiveArray::<i64>::new(alloc);
+    match push_all_null(&mut out, count) {
+        Some(()) => Some(probe(&out, round)),
+        None => None,
+    }
+}
+
 fn push_nulls(alloc: Global, count: usize, rounds: usize) -> Option<u64> {
     let mut sum = 0u64;
     for round in 0..rounds {
-        let mut out = MutablePrimitiveArray::<i64>::new(alloc);
-        for _ in 0..count {
-            out.push_null().ok()?;
-        }
-        sum = sum.wrapping_add(probe(&out, round));
+        sum = sum.wrapping_add(push_nulls_once(alloc, count, round)?);
     }
     Some(sum)
 }
@@ -73,21 +114,36 @@ pub extern "C" fn rattle_flat_prim_push_null(alloc: Global, count: usize, rounds
     told(push_nulls(alloc, count, rounds))
 }
 
-fn push_pop(alloc: Global, values: &[i64], valid: &[u8], rounds: usize) -> Option<u64> {
+#[inline(always)]
+fn pop_all(out: &mut MutablePrimitiveArray<i64>, count: usize, start: u64) -> u64 {
+    let mut sum = start;
+    for _ in 0..count {
+        if let Some(value) = out.pop() {
+            sum = sum.wrapping_add(value.cast_unsigned());
+        }
+    }
+    sum
+}
+
+#[inline(always)]
+fn push_pop_all(
+    out: &mut MutablePrimitiveArray<i64>,
+    values: &[i64],
+    valid: &[u8],
+    rounds: usize,
+) -> Option<u64> {
     let mut sum = 0u64;
-    let mut out = MutablePrimitiveArray::<i64>::new(alloc);
     for round in 0..rounds {
-        for (value, mark) in values.iter().zip(valid) {
-            out.push(if *mark != 0 { Some(*value) } else { None }).ok()?;
-        }
-        for _ in 0..values.len() {
-            if let Some(value) = out.pop() {
-                sum = sum.wrapping_add(value.cast_unsigned());
-            }
-        }
+        push_marked(out, values, valid)?;
+        sum = pop_all(out, values.len(), sum);
         sum = sum.wrapping_add((out.len() as u64).wrapping_add(round as u64));
     }
     Some(sum)
+}
+
+fn push_pop(alloc: Global, values: &[i64], valid: &[u8], rounds: usize) -> Option<u64> {
+    let mut out = MutablePrimitiveArray::<i64>::new(alloc);
+    push_pop_all(&mut out, values, valid, rounds)
 }
 
 // one builder: a push of each and then a pop of each. sum: what the pops gave and the round
@@ -101,11 +157,18 @@ pub extern "C" fn rattle_flat_prim_push_pop(
     told(push_pop(alloc, values, valid, rounds))
 }
 
+#[inline(always)]
+fn push_freeze_once(alloc: Global, values: &[i64], valid: &[u8]) -> Option<u64> {
+    match array(alloc, values, valid) {
+        Some(out) => Some(out.null_count() as u64),
+        None => None,
+    }
+}
+
 fn push_freeze(alloc: Global, values: &[i64], valid: &[u8], rounds: usize) -> Option<u64> {
     let mut sum = 0u64;
     for _ in 0..rounds {
-        let out = array(alloc, values, valid)?;
-        sum = sum.wrapping_add(out.null_count() as u64);
+        sum = sum.wrapping_add(push_freeze_once(alloc, values, valid)?);
     }
     Some(sum)
 }

@@ -16,13 +16,19 @@ fn by_iter(array: &PrimitiveArray<i64>, start: i64) -> i64 {
     sum
 }
 
-fn iter_sum(alloc: Global, values: &[i64], valid: &[u8], rounds: usize) -> Option<u64> {
-    let array = array(alloc, values, valid)?;
+fn iter_all(array: &PrimitiveArray<i64>, rounds: usize) -> u64 {
     let mut sum = 0i64;
     for _ in 0..rounds {
-        sum = by_iter(&array, sum);
+        sum = by_iter(array, sum);
     }
-    Some(sum.cast_unsigned())
+    sum.cast_unsigned()
+}
+
+fn iter_sum(alloc: Global, values: &[i64], valid: &[u8], rounds: usize) -> Option<u64> {
+    match array(alloc, values, valid) {
+        Some(array) => Some(iter_all(&array, rounds)),
+        None => None,
+    }
 }
 
 #[unsafe(no_mangle)]
@@ -46,13 +52,19 @@ fn by_builder_iter(array: &MutablePrimitiveArray<i64>, start: i64) -> i64 {
     sum
 }
 
-fn builder_iter_sum(alloc: Global, values: &[i64], valid: &[u8], rounds: usize) -> Option<u64> {
-    let array = builder(alloc, values, valid)?;
+fn builder_iter_all(array: &MutablePrimitiveArray<i64>, rounds: usize) -> u64 {
     let mut sum = 0i64;
     for _ in 0..rounds {
-        sum = by_builder_iter(&array, sum);
+        sum = by_builder_iter(array, sum);
     }
-    Some(sum.cast_unsigned())
+    sum.cast_unsigned()
+}
+
+fn builder_iter_sum(alloc: Global, values: &[i64], valid: &[u8], rounds: usize) -> Option<u64> {
+    match builder(alloc, values, valid) {
+        Some(array) => Some(builder_iter_all(&array, rounds)),
+        None => None,
+    }
 }
 
 // as prim_iter_sum, of the builder
@@ -75,13 +87,19 @@ fn by_values(array: &PrimitiveArray<i64>, start: i64) -> i64 {
     sum
 }
 
-fn values_sum(alloc: Global, values: &[i64], rounds: usize) -> Option<u64> {
-    let array = array(alloc, values, &[])?;
+fn values_all(array: &PrimitiveArray<i64>, rounds: usize) -> u64 {
     let mut sum = 0i64;
     for _ in 0..rounds {
-        sum = by_values(&array, sum);
+        sum = by_values(array, sum);
     }
-    Some(sum.cast_unsigned())
+    sum.cast_unsigned()
+}
+
+fn values_sum(alloc: Global, values: &[i64], rounds: usize) -> Option<u64> {
+    match array(alloc, values, &[]) {
+        Some(array) => Some(values_all(&array, rounds)),
+        None => None,
+    }
 }
 
 #[unsafe(no_mangle)]
@@ -98,13 +116,19 @@ fn by_value(array: &PrimitiveArray<i64>, start: i64) -> i64 {
     sum
 }
 
-fn value_sum(alloc: Global, values: &[i64], rounds: usize) -> Option<u64> {
-    let array = array(alloc, values, &[])?;
+fn value_all(array: &PrimitiveArray<i64>, rounds: usize) -> u64 {
     let mut sum = 0i64;
     for _ in 0..rounds {
-        sum = by_value(&array, sum);
+        sum = by_value(array, sum);
     }
-    Some(sum.cast_unsigned())
+    sum.cast_unsigned()
+}
+
+fn value_sum(alloc: Global, values: &[i64], rounds: usize) -> Option<u64> {
+    match array(alloc, values, &[]) {
+        Some(array) => Some(value_all(&array, rounds)),
+        None => None,
+    }
 }
 
 #[unsafe(no_mangle)]
@@ -123,13 +147,19 @@ fn by_get(array: &PrimitiveArray<i64>, start: i64) -> i64 {
     sum
 }
 
-fn get_sum(alloc: Global, values: &[i64], valid: &[u8], rounds: usize) -> Option<u64> {
-    let array = array(alloc, values, valid)?;
+fn get_all(array: &PrimitiveArray<i64>, rounds: usize) -> u64 {
     let mut sum = 0i64;
     for _ in 0..rounds {
-        sum = by_get(&array, sum);
+        sum = by_get(array, sum);
     }
-    Some(sum.cast_unsigned())
+    sum.cast_unsigned()
+}
+
+fn get_sum(alloc: Global, values: &[i64], valid: &[u8], rounds: usize) -> Option<u64> {
+    match array(alloc, values, valid) {
+        Some(array) => Some(get_all(&array, rounds)),
+        None => None,
+    }
 }
 
 #[unsafe(no_mangle)]
@@ -147,13 +177,19 @@ fn nulls(array: &PrimitiveArray<i64>, start: usize) -> usize {
     start.wrapping_add(array.null_count())
 }
 
-fn null_count(alloc: Global, values: &[i64], valid: &[u8], rounds: usize) -> Option<u64> {
-    let array = array(alloc, values, valid)?;
+fn nulls_all(array: &PrimitiveArray<i64>, rounds: usize) -> u64 {
     let mut sum = 0usize;
     for _ in 0..rounds {
-        sum = nulls(&array, sum);
+        sum = nulls(array, sum);
     }
-    Some(sum as u64)
+    sum as u64
+}
+
+fn null_count(alloc: Global, values: &[i64], valid: &[u8], rounds: usize) -> Option<u64> {
+    match array(alloc, values, valid) {
+        Some(array) => Some(nulls_all(&array, rounds)),
+        None => None,
+    }
 }
 
 // sum: null_count of a frozen array (made once)
