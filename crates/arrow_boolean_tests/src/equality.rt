@@ -25,13 +25,14 @@ fn under_null(alloc: Global, values: &[bool]) -> Result<MutableBooleanArray, Err
     }
 }
 
-/// Whether a builder equals the other.
-fn equals(
+/// Whether a builder equals the other, or does not.
+fn compares(
     builder: &MutableBooleanArray,
     other: Result<MutableBooleanArray, Error>,
+    wanted: bool,
 ) -> Result<bool, Error> {
     match other {
-        Ok(other) => Ok(*builder == other),
+        Ok(other) => Ok((*builder == other) == wanted),
         Err(refused) => Err(refused),
     }
 }
@@ -39,7 +40,7 @@ fn equals(
 /// Whether a builder of true and null equals one whose null stores true.
 fn equals_under_null(alloc: Global) -> Result<bool, Error> {
     match MutableBooleanArray::from(alloc, [Some(true), None].as_slice()) {
-        Ok(pushed) => equals(&pushed, under_null(alloc, [true, true].as_slice())),
+        Ok(pushed) => compares(&pushed, under_null(alloc, [true, true].as_slice()), true),
         Err(refused) => Err(refused),
     }
 }
@@ -66,14 +67,14 @@ fn nine(alloc: Global, last: Option<bool>) -> Result<MutableBooleanArray, Error>
 }
 
 /// Whether two of them are equal, or are not.
-fn compares(
+fn compares_nine(
     alloc: Global,
     first: Option<bool>,
     second: Option<bool>,
     wanted: bool,
 ) -> Result<bool, Error> {
     match nine(alloc, first) {
-        Ok(builder) => Ok(equals(&builder, nine(alloc, second))? == wanted),
+        Ok(builder) => compares(&builder, nine(alloc, second), wanted),
         Err(refused) => Err(refused),
     }
 }
@@ -82,9 +83,9 @@ fn compares(
 #[test]
 fn slots_of_a_second_byte_are_compared(rt: HostRuntime) -> Result<(), Fail> {
     all_told(&[
-        compares(rt.alloc(), Some(true), Some(true), true),
-        compares(rt.alloc(), Some(true), Some(false), false),
-        compares(rt.alloc(), Some(false), None, false),
-        compares(rt.alloc(), None, Some(false), false),
+        compares_nine(rt.alloc(), Some(true), Some(true), true),
+        compares_nine(rt.alloc(), Some(true), Some(false), false),
+        compares_nine(rt.alloc(), Some(false), None, false),
+        compares_nine(rt.alloc(), None, Some(false), false),
     ])
 }

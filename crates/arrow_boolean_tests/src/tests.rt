@@ -153,33 +153,39 @@ fn arrays_have_a_mask_for_nulls(rt: HostRuntime) -> Result<(), Fail> {
     ])
 }
 
-/// Whether the values of an array are reversed.
-fn reverses(array: &mut BooleanArray) -> Result<bool, Error> {
-    array.apply_values_mut(reversed)?;
-    Ok(is(array, "f_t", "001", true))
+/// Whether the values of a clone are reversed, and the first keeps its own.
+fn reverses(second: &mut BooleanArray, first: &BooleanArray) -> Result<bool, Error> {
+    second.apply_values_mut(reversed)?;
+    Ok(is(second, "f_t", "001", true) & is(first, "t_f", "100", true))
 }
 
-/// Whether those of a clone are, and the first keeps its own.
+/// The same of a new clone.
 fn reverses_clone(first: &BooleanArray) -> Result<bool, Error> {
     match first.clone() {
-        Ok(mut second) => Ok(reverses(&mut second)? & is(first, "t_f", "100", true)),
+        Ok(mut second) => reverses(&mut second, first),
         Err(refused) => Err(refused),
     }
+}
+
+/// Whether an array is thawed.
+fn thaws(array: BooleanArray) -> bool {
+    array.into_mut().is_right()
 }
 
 /// Whether a clone of an array is left as it is.
 fn is_shared(first: &BooleanArray) -> Result<bool, Error> {
     match first.clone() {
-        Ok(second) => Ok(second.into_mut().is_left()),
+        Ok(second) => Ok(!thaws(second)),
         Err(refused) => Err(refused),
     }
 }
 
 /// Whether that is so while its clone lives, and it is thawed once none does.
 fn is_thawed(first: BooleanArray) -> Result<bool, Error> {
-    let shared = is_shared(&first);
-    let is_alone = first.into_mut().is_right();
-    Ok(shared? & is_alone)
+    match is_shared(&first) {
+        Ok(is_shared) => Ok(thaws(first) & is_shared),
+        Err(refused) => Err(refused),
+    }
 }
 
 /// Whether both hold of a new array.
@@ -219,14 +225,19 @@ fn grows_from_room(alloc: Global) -> Result<bool, Error> {
     }
 }
 
-/// Whether a builder grows by many slots, and is copied.
-fn extends(builder: &mut MutableBooleanArray) -> Result<bool, Error> {
-    builder.extend_values([true, false].into_iter())?;
-    builder.try_extend([None].into_iter())?;
+/// Whether the copy of a builder has the slots that it was extended by.
+fn is_copied(builder: &MutableBooleanArray) -> Result<bool, Error> {
     match builder.clone() {
         Ok(copy) => Ok(is_built(&copy, "tf_", "100", true)),
         Err(refused) => Err(refused),
     }
+}
+
+/// Whether a builder grows by many slots, and is copied.
+fn extends(builder: &mut MutableBooleanArray) -> Result<bool, Error> {
+    builder.extend_values([true, false].into_iter())?;
+    builder.try_extend([None].into_iter())?;
+    is_copied(builder)
 }
 
 /// Whether slots behind others are these.
