@@ -1,7 +1,8 @@
 //! Kernels. Each makes of an array of three slots, the second of which is null, one of a null and the last, or the same
 //! three over other offsets, and over their own again.
-use crate::again::shown;
+use crate::again::{Shows, shown};
 use crate::bytes::Pieces;
+use crate::{boolean, primitive};
 use arrow_binary::BinaryArray;
 use arrow_boolean::BooleanArray;
 use arrow_kernels::{
@@ -29,50 +30,45 @@ const KEYS: &[i64] = &[1, 2];
 /// What a filter of another length than the array is answered.
 const UNFIT: Error = Error::OutOfSpec("another length");
 
-/// What a kernel makes of numbers.
-fn numbers(
-    alloc: Global,
-    array: &PrimitiveArray<i64>,
-    filter: &BooleanArray,
-    act: Act,
-) -> Result<PrimitiveArray<i64>, Error> {
-    match act {
-        Act::Filter if filter.len() == array.len() => filter_primitive(alloc, array, filter),
-        Act::Take => take_primitive(alloc, array, KEYS),
-        _ => Err(UNFIT),
+/// Arrays that kernels make others of.
+trait Acted: Shows + Sized {
+    /// One of three slots, the second of which is null.
+    fn three(alloc: Global) -> Result<Self, Error>;
+
+    /// What a kernel makes of it.
+    fn acted(&self, alloc: Global, filter: &BooleanArray, act: Act) -> Result<Self, Error>;
+}
+
+impl Acted for PrimitiveArray<i64> {
+    fn three(alloc: Global) -> Result<PrimitiveArray<i64>, Error> {
+        PrimitiveArray::from(alloc, [Some(7), None, Some(9)].as_slice())
+    }
+
+    fn acted(
+        &self,
+        alloc: Global,
+        filter: &BooleanArray,
+        act: Act,
+    ) -> Result<PrimitiveArray<i64>, Error> {
+        match act {
+            Act::Filter if filter.len() == self.len() => filter_primitive(alloc, self, filter),
+            Act::Take => take_primitive(alloc, self, KEYS),
+            _ => Err(UNFIT),
+        }
     }
 }
 
-/// Whether it does.
-fn are_numbers(alloc: Global, filter: &BooleanArray, act: Act) -> Result<bool, Error> {
-    match PrimitiveArray::from(alloc, [Some(7), None, Some(9)].as_slice()) {
-        Ok(array) => shown(
-            numbers(alloc, &array, filter, act),
-            &([0, 9].as_slice(), "01"),
-        ),
-        Err(refused) => Err(refused),
+impl Acted for BooleanArray {
+    fn three(alloc: Global) -> Result<BooleanArray, Error> {
+        BooleanArray::from(alloc, [Some(true), None, Some(true)].as_slice())
     }
-}
 
-/// What a kernel makes of truth values.
-fn truths(
-    alloc: Global,
-    array: &BooleanArray,
-    filter: &BooleanArray,
-    act: Act,
-) -> Result<BooleanArray, Error> {
-    match act {
-        Act::Filter if filter.len() == array.len() => filter_boolean(alloc, array, filter),
-        Act::Take => take_boolean(alloc, array, KEYS),
-        _ => Err(UNFIT),
-    }
-}
-
-/// Whether it does.
-fn are_truths(alloc: Global, filter: &BooleanArray, act: Act) -> Result<bool, Error> {
-    match BooleanArray::from(alloc, [Some(true), None, Some(true)].as_slice()) {
-        Ok(array) => shown(truths(alloc, &array, filter, act), &("01", "01")),
-        Err(refused) => Err(refused),
+    fn acted(&self, alloc: Global, filter: &BooleanArray, act: Act) -> Result<BooleanArray, Error> {
+        match act {
+            Act::Filter if filter.len() == self.len() => filter_boolean(alloc, self, filter),
+            Act::Take => take_boolean(alloc, self, KEYS),
+            _ => Err(UNFIT),
+        }
     }
 }
 
@@ -84,32 +80,24 @@ fn narrowed(wide: Result<BinaryArray<i64>, Error>) -> Result<BinaryArray<i32>, E
     }
 }
 
-/// What a kernel makes of bytes.
-fn items(
-    alloc: Global,
-    array: &BinaryArray<i32>,
-    filter: &BooleanArray,
-    act: Act,
-) -> Result<BinaryArray<i32>, Error> {
-    match act {
-        Act::Filter if filter.len() == array.len() => filter_binary(alloc, array, filter),
-        Act::Take => take_binary(alloc, array, KEYS),
-        Act::Resize => narrowed(widen_binary(array)),
-        _ => Err(UNFIT),
+impl Acted for BinaryArray<i32> {
+    fn three(alloc: Global) -> Result<BinaryArray<i32>, Error> {
+        let slots: &[Option<&[u8]>] = &[Some(b"ab"), None, Some(b"cde")];
+        BinaryArray::from(alloc, slots)
     }
-}
 
-/// Whether it does.
-fn are_items(
-    alloc: Global,
-    filter: &BooleanArray,
-    act: Act,
-    wanted: Pieces,
-) -> Result<bool, Error> {
-    let slots: &[Option<&[u8]>] = &[Some(b"ab"), None, Some(b"cde")];
-    match BinaryArray::from(alloc, slots) {
-        Ok(array) => shown(items(alloc, &array, filter, act), &wanted),
-        Err(refused) => Err(refused),
+    fn acted(
+        &self,
+        alloc: Global,
+        filter: &BooleanArray,
+        act: Act,
+    ) -> Result<BinaryArray<i32>, Error> {
+        match act {
+            Act::Filter if filter.len() == self.len() => filter_binary(alloc, self, filter),
+            Act::Take => take_binary(alloc, self, KEYS),
+            Act::Resize => narrowed(widen_binary(self)),
+            _ => Err(UNFIT),
+        }
     }
 }
 
@@ -121,89 +109,82 @@ fn narrowed_text(wide: Result<Utf8Array<i64>, Error>) -> Result<Utf8Array<i32>, 
     }
 }
 
-/// What a kernel makes of text.
-fn texts(
-    alloc: Global,
-    array: &Utf8Array<i32>,
-    filter: &BooleanArray,
-    act: Act,
-) -> Result<Utf8Array<i32>, Error> {
-    match act {
-        Act::Filter if filter.len() == array.len() => filter_utf8(alloc, array, filter),
-        Act::Take => take_utf8(alloc, array, KEYS),
-        Act::Resize => narrowed_text(widen_utf8(array)),
-        _ => Err(UNFIT),
+impl Acted for Utf8Array<i32> {
+    fn three(alloc: Global) -> Result<Utf8Array<i32>, Error> {
+        Utf8Array::from(alloc, [Some("ab"), None, Some("cde")].as_slice())
+    }
+
+    fn acted(
+        &self,
+        alloc: Global,
+        filter: &BooleanArray,
+        act: Act,
+    ) -> Result<Utf8Array<i32>, Error> {
+        match act {
+            Act::Filter if filter.len() == self.len() => filter_utf8(alloc, self, filter),
+            Act::Take => take_utf8(alloc, self, KEYS),
+            Act::Resize => narrowed_text(widen_utf8(self)),
+            _ => Err(UNFIT),
+        }
     }
 }
 
-/// Whether it does.
-fn are_texts(
+/// Whether a kernel makes what it should of a new array.
+fn acts<V: Acted>(
     alloc: Global,
     filter: &BooleanArray,
     act: Act,
-    wanted: Pieces,
+    wanted: &V::Wanted,
 ) -> Result<bool, Error> {
-    match Utf8Array::from(alloc, [Some("ab"), None, Some("cde")].as_slice()) {
-        Ok(array) => shown(texts(alloc, &array, filter, act), &wanted),
+    match V::three(alloc) {
+        Ok(array) => shown(array.acted(alloc, filter, act), wanted),
         Err(refused) => Err(refused),
     }
 }
 
-/// A kernel of numbers, truth values, bytes or text.
-#[derive(Clone, Copy)]
-enum Kernel {
-    Primitive(Act),
-    Boolean(Act),
-    Binary(Act),
-    Utf8(Act),
-}
-
-/// The last two of three slots, and all of them.
-const LAST: Pieces = (&[0, 0, 3], "cde", "01");
-
-const ALL: Pieces = (&[0, 2, 2, 5], "abcde", "101");
-
-/// Whether a kernel makes what it should.
-fn is_made(alloc: Global, filter: &BooleanArray, kernel: Kernel) -> Result<bool, Error> {
-    match kernel {
-        Kernel::Primitive(act) => are_numbers(alloc, filter, act),
-        Kernel::Boolean(act) => are_truths(alloc, filter, act),
-        Kernel::Binary(Act::Resize) => are_items(alloc, filter, Act::Resize, ALL),
-        Kernel::Binary(act) => are_items(alloc, filter, act, LAST),
-        Kernel::Utf8(Act::Resize) => are_texts(alloc, filter, Act::Resize, ALL),
-        Kernel::Utf8(act) => are_texts(alloc, filter, act, LAST),
-    }
-}
-
 /// Whether each does, or, where memory is refused, does by the same call once more.
-fn each_made(alloc: Global, filter: &BooleanArray, kernels: &[Kernel]) -> Result<bool, Error> {
-    for kernel in kernels {
-        match is_made(alloc, filter, *kernel) {
+fn all_act<V: Acted>(
+    alloc: Global,
+    filter: &BooleanArray,
+    cases: &[(Act, V::Wanted)],
+) -> Result<bool, Error> {
+    for (act, wanted) in cases {
+        match acts::<V>(alloc, filter, *act, wanted) {
             Ok(true) => (),
             Ok(false) => return Ok(false),
-            Err(refused) => return after(refused, is_made(alloc, filter, *kernel) == Ok(true)),
+            Err(refused) => {
+                return after(refused, acts::<V>(alloc, filter, *act, wanted) == Ok(true));
+            }
         }
     }
     Ok(true)
 }
 
-const KERNELS: &[Kernel] = &[
-    Kernel::Primitive(Act::Filter),
-    Kernel::Primitive(Act::Take),
-    Kernel::Boolean(Act::Filter),
-    Kernel::Boolean(Act::Take),
-    Kernel::Binary(Act::Filter),
-    Kernel::Binary(Act::Take),
-    Kernel::Binary(Act::Resize),
-    Kernel::Utf8(Act::Filter),
-    Kernel::Utf8(Act::Take),
-    Kernel::Utf8(Act::Resize),
+const NUMBERS: &[(Act, primitive::Stored)] = &[
+    (Act::Filter, (&[0, 9], "01")),
+    (Act::Take, (&[0, 9], "01")),
 ];
+
+const TRUTHS: &[(Act, boolean::Stored)] = &[(Act::Filter, ("01", "01")), (Act::Take, ("01", "01"))];
+
+const ITEMS: &[(Act, Pieces)] = &[
+    (Act::Filter, (&[0, 0, 3], "cde", "01")),
+    (Act::Take, (&[0, 0, 3], "cde", "01")),
+    (Act::Resize, (&[0, 2, 2, 5], "abcde", "101")),
+];
+
+/// Whether all do of arrays of each kind.
+fn each_acts(alloc: Global, filter: &BooleanArray) -> Result<bool, Error> {
+    let numbers = all_act::<PrimitiveArray<i64>>(alloc, filter, NUMBERS)?;
+    let truths = all_act::<BooleanArray>(alloc, filter, TRUTHS)?;
+    let items = all_act::<BinaryArray<i32>>(alloc, filter, ITEMS)?;
+    Ok(all_act::<Utf8Array<i32>>(alloc, filter, ITEMS)? & numbers & truths & items)
+}
 
 /// Whether they do with a filter that asks for the last two slots.
 fn all_made(alloc: Global) -> Result<bool, Error> {
     match BooleanArray::from(alloc, [Some(false), Some(true), Some(true)].as_slice()) {
-        Ok(filter) => each_made(alloc, &filter, KERNELS),
+        Ok(filter) => each_acts(alloc, &filter),
         Err(refused) => Err(refused),
     }
 }

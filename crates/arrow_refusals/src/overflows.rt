@@ -10,21 +10,21 @@ use std::alloc::Global;
 use std::test::Fail;
 
 /// Whether a slot of forty-one bytes is told as an overflow behind one of sixty, for which there is room.
-fn are_past(offsets: &mut Offsets<Tiny>, other: &Offsets<Tiny>) -> Result<bool, Error> {
-    offsets.try_push_usize(60)?;
+fn are_past(offsets: &mut Offsets<Tiny>, other: &Offsets<Tiny>) -> bool {
+    let is_full = offsets.try_push_usize(60).is_ok();
     let room = offsets.capacity();
     let pushed = tells(offsets.try_push_usize(41));
     let joined = tells(offsets.try_extend_from_self(other));
     let are_left = are_offsets(offsets.as_slice(), [0, 60].as_slice());
     let is_left = are_left & (offsets.capacity() == room);
-    Ok(is_left & ([pushed, joined] == ["overflow"; 2]))
+    is_full & is_left & ([pushed, joined] == ["overflow"; 2])
 }
 
 /// Whether that of new offsets is; the others have room for a slot.
 fn are_past_new(alloc: Global, other: &mut Offsets<Tiny>) -> Result<bool, Error> {
-    other.try_push_usize(41)?;
+    let is_full = other.try_push_usize(41).is_ok();
     match Offsets::with_capacity(alloc, 1) {
-        Ok(mut offsets) => are_past(&mut offsets, other),
+        Ok(mut offsets) => Ok(are_past(&mut offsets, other) & is_full),
         Err(refused) => Err(refused),
     }
 }
@@ -56,13 +56,13 @@ fn room<K: ByteKind>(builder: &MutableByteArray<K, Tiny>) -> [usize; 3] {
 fn is_past<K: Known>(
     builder: &mut MutableByteArray<K, Tiny>,
     other: &MutableByteArray<K, Tiny>,
-) -> Result<bool, Error> {
-    K::push(builder, Some(SIXTY), false)?;
+) -> bool {
+    let is_full = K::push(builder, Some(SIXTY), false).is_ok();
     let before = room(builder);
     let pushed = tells(K::push(builder, Some(FORTY_ONE), false));
     let joined = tells(builder.try_extend_from_self(other));
     let is_left = (room(builder) == before) & (builder.values().len() == 60);
-    Ok(is_left & ([pushed, joined] == ["overflow"; 2]))
+    is_full & is_left & ([pushed, joined] == ["overflow"; 2])
 }
 
 /// Whether those of a new builder are; the other has room for forty-one bytes.
@@ -70,9 +70,9 @@ fn is_past_new<K: Known>(
     alloc: Global,
     other: &mut MutableByteArray<K, Tiny>,
 ) -> Result<bool, Error> {
-    K::push(other, Some(FORTY_ONE), false)?;
+    let is_full = K::push(other, Some(FORTY_ONE), false).is_ok();
     match MutableByteArray::<K, Tiny>::with_capacities(alloc, 1, 60) {
-        Ok(mut builder) => is_past(&mut builder, other),
+        Ok(mut builder) => Ok(is_past(&mut builder, other) & is_full),
         Err(refused) => Err(refused),
     }
 }
