@@ -5,13 +5,13 @@ use arrow_byte_array::ByteArray;
 use arrow_bytes::{Binary, ByteKind, Utf8};
 use arrow_kernels::{filter_binary, filter_utf8, take_binary, take_utf8};
 use arrow_memory::buffer::Buffer;
-use arrow_memory::offset::{Offsets, OffsetsBuffer};
-use arrow_testing::{Tiny, are_offsets};
+use arrow_memory::offset::OffsetsBuffer;
+use arrow_testing::{Tiny, are_offsets, frozen_offsets};
 use arrow_types::offset::Offset;
 use arrow_utf8::Utf8Array;
 
 /// Offsets, bytes and marks.
-pub(super) type Written<'a> = (&'a [usize], &'a [u8], &'a str);
+pub(super) type Written = (&'static [usize], &'static [u8], &'static str);
 
 /// A kind of items, and its kernels, one of which is called where a filter is as long as an array.
 trait Known: ByteKind {
@@ -72,230 +72,209 @@ impl Known for Utf8 {
     }
 }
 
-/// Frozen offsets of these numbers.
-fn offsets_of<O: Offset>(alloc: Global, numbers: &[usize]) -> Result<OffsetsBuffer<O>, Error> {
-    let mut offsets = Vec::new(alloc);
-    for number in numbers {
-        let Some(offset) = O::from_usize(*number) else {
-            return Err(Error::Overflow);
-        };
-        offsets.push(offset)?;
+/// The buffer of these bytes.
+fn buffer_of(alloc: Global, bytes: &[u8]) -> Result<Buffer<u8>, Error> {
+    match bytes.to_vec(alloc) {
+        Ok(bytes) => Buffer::from_vec(bytes),
+        Err(refused) => Err(Error::from(refused)),
     }
-    Offsets::try_from_vec(offsets)?.freeze()
+}
+
+/// The array of items under a mask.
+fn masked<K: ByteKind, O: Offset>(
+    offsets: OffsetsBuffer<O>,
+    bytes: Result<Buffer<u8>, Error>,
+    mask: Option<Bitmap>,
+) -> Result<ByteArray<K, O>, Error> {
+    match bytes {
+        Ok(bytes) => ByteArray::try_new(K::default_type(O::IS_LARGE), offsets, bytes, mask),
+        Err(refused) => Err(refused),
+    }
+}
+
+/// The array of items between offsets that were made, under a mask.
+fn between<K: ByteKind, O: Offset>(
+    offsets: Result<OffsetsBuffer<O>, Error>,
+    bytes: Result<Buffer<u8>, Error>,
+    mask: Option<Bitmap>,
+) -> Result<ByteArray<K, O>, Error> {
+    match offsets {
+        Ok(offsets) => masked(offsets, bytes, mask),
+        Err(refused) => Err(refused),
+    }
 }
 
 /// The array of such parts.
 pub(super) fn array_of<K: ByteKind, O: Offset>(
     alloc: Global,
-    given: Written<'_>,
+    given: Written,
 ) -> Result<ByteArray<K, O>, Error> {
-    let validity = mask(alloc, given.2)?;
-    let values = Buffer::from_vec(given.1.to_vec(alloc)?)?;
-    let data_type = K::default_type(O::IS_LARGE);
-    ByteArray::try_new(data_type, offsets_of(alloc, given.0)?, values, validity)
+    let (offsets, bytes, text) = given;
+    match frozen_mask(alloc, text) {
+        Ok(mask) => between(
+            frozen_offsets(alloc, offsets),
+            buffer_of(alloc, bytes),
+            mask,
+        ),
+        Err(refused) => Err(refused),
+    }
 }
 
 /// Whether an array has these offsets, bytes and marks.
-pub(super) fn shows<K: ByteKind, O: Offset>(array: &ByteArray<K, O>, wanted: Written<'_>) -> bool {
+pub(super) fn shows<K: ByteKind, O: Offset>(array: &ByteArray<K, O>, wanted: Written) -> bool {
+    let (offsets, bytes, text) = wanted;
     let marks = match array.validity() {
         Some(marks) => Some(marks.iter()),
         None => None,
     };
-    let are_bytes = array.values().as_slice() == wanted.1 && is_mask(marks, wanted.2);
+    let are_bytes = (array.values().as_slice() == bytes) & is_mask(marks, text);
     let is_type = *array.data_type() == K::default_type(O::IS_LARGE);
-    are_bytes && is_type && are_offsets(array.offsets().buffer().as_slice(), wanted.0)
+    are_bytes & is_type & are_offsets(array.offsets().buffer().as_slice(), offsets)
 }
 
-/// Whether an array was made that has these offsets, bytes and marks.
-fn made<K: ByteKind, O: Offset>(
-    answer: Result<ByteArray<K, O>, Error>,
-    wanted: Written<'_>,
-) -> Result<bool, Error> {
-    match answer {
-        Ok(array) => Ok(shows(&array, wanted)),
-        Err(refused) => Err(refused),
+// One is written as its offsets, bytes and mask.
+impl<K: Known, O: Offset> Chosen for ByteArray<K, O> {
+    type Written = Written;
+
+    type Key = i64;
+
+    fn of(alloc: Global, written: &Written) -> Result<ByteArray<K, O>, Error> {
+        array_of(alloc, *written)
+    }
+
+    fn is(&self, written: &Written) -> bool {
+        shows(self, *written)
+    }
+
+    fn filtered(
+        &self,
+        alloc: Global,
+        filter: &BooleanArray,
+    ) -> Option<Result<ByteArray<K, O>, Error>> {
+        K::filter(alloc, self, filter)
+    }
+
+    fn taken(&self, alloc: Global, keys: &[i64]) -> Result<ByteArray<K, O>, Error> {
+        K::take(alloc, self, keys)
     }
 }
 
-/// Whether a filter leaves these.
-fn leaves<K: Known, O: Offset>(
-    alloc: Global,
-    array: &ByteArray<K, O>,
-    filter: &BooleanArray,
-    wanted: Written<'_>,
-) -> Result<bool, Error> {
-    match K::filter(alloc, array, filter) {
-        Some(answer) => made(answer, wanted),
-        None => Ok(false),
-    }
-}
+/// Items of one, no and two bytes, the second of which is null, with bytes around them.
+const ITEMS: Written = (&[2, 3, 3, 5], &[9, 9, 1, 4, 4, 8], "101");
 
-/// Whether a filter of such parts leaves these.
-fn filters<K: Known, O: Offset>(
-    alloc: Global,
-    given: Written<'_>,
-    text: &str,
-    wanted: Written<'_>,
-) -> Result<bool, Error> {
-    match (array_of::<K, O>(alloc, given), filter_of(alloc, text)) {
-        (Ok(array), Ok(filter)) => leaves(alloc, &array, &filter, wanted),
-        (Err(refused), _) => Err(refused),
-        (_, Err(refused)) => Err(refused),
-    }
-}
+/// What filters leave of them.
+const FILTERS: &[(Written, Filter, Written)] = &[
+    (ITEMS, ("tft", true), (&[0, 1, 3], &[1, 4, 4], "none")),
+    (ITEMS, ("ftt", true), (&[0, 0, 2], &[4, 4], "01")),
+    (ITEMS, ("t__", true), (&[0, 1], &[1], "none")),
+    (ITEMS, ("fff", true), (&[0], &[], "none")),
+];
 
-/// Whether keys take these of such parts.
-fn takes<K: Known, O: Offset>(
-    alloc: Global,
-    given: Written<'_>,
-    keys: &[i64],
-    wanted: Written<'_>,
-) -> Result<bool, Error> {
-    match array_of::<K, O>(alloc, given) {
-        Ok(array) => made(K::take(alloc, &array, keys), wanted),
-        Err(refused) => Err(refused),
-    }
-}
+/// What keys take of them, and of a null that stores a letter.
+const TAKES: &[(Written, &[i64], Written)] = &[
+    (ITEMS, &[2, 2, 0], (&[0, 2, 4, 5], &[4, 4, 4, 4, 1], "none")),
+    ((&[0, 1, 2], b"ab", "01"), &[0], (&[0, 1], b"a", "0")),
+];
 
-/// What is told of keys.
-fn tells_keys<K: Known, O: Offset>(
-    alloc: Global,
-    given: Written<'_>,
-    keys: &[i64],
-) -> Result<&'static str, Error> {
-    match array_of::<K, O>(alloc, given) {
-        Ok(array) => Ok(tells(K::take(alloc, &array, keys))),
-        Err(refused) => Err(refused),
-    }
-}
-
-/// Bytes around three items.
-const AROUND: [u8; 6] = [9, 9, 1, 4, 4, 8];
-
-/// Where these items end: of one, no and two bytes.
-const ENDS: [usize; 4] = [2, 3, 3, 5];
-
-/// Filters of items of one, no and two bytes, the second of which is null, with bytes around them.
-fn filters_items<K: Known, O: Offset>(alloc: Global) -> Result<bool, Error> {
-    let given = (ENDS.as_slice(), AROUND.as_slice(), "101");
-    let ends = [0, 1, 3];
-    let both = (ends.as_slice(), [1, 4, 4].as_slice(), "none");
-    let last = ([0, 0, 2].as_slice(), [4, 4].as_slice(), "01");
-    let first = ([0, 1].as_slice(), [1].as_slice(), "none");
-    let none = ([0].as_slice(), [].as_slice(), "none");
-    Ok(
-        filters::<K, O>(alloc, given, "tft", both)?
-            & filters::<K, O>(alloc, given, "ftt", last)?
-            & filters::<K, O>(alloc, given, "t__", first)?
-            & filters::<K, O>(alloc, given, "fff", none)?,
-    )
+/// Whether both hold over a width of offsets.
+fn chosen<K: Known, O: Offset>(alloc: Global) -> Result<bool, Error> {
+    let are_left = all_filter::<ByteArray<K, O>>(alloc, FILTERS)?;
+    Ok(all_take::<ByteArray<K, O>>(alloc, TAKES)? & are_left)
 }
 
 #[test]
-fn items_that_are_asked_for_are_left(rt: HostRuntime) -> Result<(), Fail> {
+fn items_are_chosen(rt: HostRuntime) -> Result<(), Fail> {
     all_told(&[
-        filters_items::<Binary, i32>(rt.alloc()),
-        filters_items::<Binary, i64>(rt.alloc()),
-        filters_items::<Binary, Tiny>(rt.alloc()),
-        filters_items::<Utf8, i32>(rt.alloc()),
-        filters_items::<Utf8, i64>(rt.alloc()),
-        filters_items::<Utf8, Tiny>(rt.alloc()),
+        chosen::<Binary, i32>(rt.alloc()),
+        chosen::<Binary, i64>(rt.alloc()),
+        chosen::<Binary, Tiny>(rt.alloc()),
+        chosen::<Utf8, i32>(rt.alloc()),
+        chosen::<Utf8, i64>(rt.alloc()),
+        chosen::<Utf8, Tiny>(rt.alloc()),
     ])
 }
 
-/// What keys take of the same items, and of a null that stores a letter.
-fn takes_items<K: Known, O: Offset>(alloc: Global) -> Result<bool, Error> {
-    let given = (ENDS.as_slice(), AROUND.as_slice(), "101");
-    let wanted = ([0, 2, 4, 5].as_slice(), [4, 4, 4, 4, 1].as_slice(), "none");
-    let letters = ([0, 1, 2].as_slice(), b"ab".as_slice(), "01");
-    let null = ([0, 1].as_slice(), b"a".as_slice(), "0");
-    Ok(
-        takes::<K, O>(alloc, given, [2, 2, 0].as_slice(), wanted)?
-            & takes::<K, O>(alloc, letters, [0].as_slice(), null)?,
-    )
-}
+/// Seventy items of one byte each.
+const SEVENTY: Written = (
+    &[
+        0, 1, 2, 3, 4, 5, 6, 7, 8, 9, 10, 11, 12, 13, 14, 15, 16, 17, 18, 19, 20, 21, 22, 23, 24,
+        25, 26, 27, 28, 29, 30, 31, 32, 33, 34, 35, 36, 37, 38, 39, 40, 41, 42, 43, 44, 45, 46, 47,
+        48, 49, 50, 51, 52, 53, 54, 55, 56, 57, 58, 59, 60, 61, 62, 63, 64, 65, 66, 67, 68, 69, 70,
+    ],
+    b"abcdefghijabcdefghijabcdefghijabcdefghijabcdefghijabcdefghijabcdefghij",
+    "none",
+);
 
-#[test]
-fn items_at_keys_are_taken(rt: HostRuntime) -> Result<(), Fail> {
-    all_told(&[
-        takes_items::<Binary, i32>(rt.alloc()),
-        takes_items::<Binary, i64>(rt.alloc()),
-        takes_items::<Binary, Tiny>(rt.alloc()),
-        takes_items::<Utf8, i32>(rt.alloc()),
-        takes_items::<Utf8, i64>(rt.alloc()),
-        takes_items::<Utf8, Tiny>(rt.alloc()),
-    ])
-}
+/// Of them a filter leaves items that stand by themselves, and items that stand in runs, over the border of a word.
+const WORDS: &[(Written, Filter, Written)] = &[
+    (
+        SEVENTY,
+        (
+            "tftftftftftftftftftftftftftftftftftftftftftftftftftftftftftftftftftftf",
+            true,
+        ),
+        (
+            &[
+                0, 1, 2, 3, 4, 5, 6, 7, 8, 9, 10, 11, 12, 13, 14, 15, 16, 17, 18, 19, 20, 21, 22,
+                23, 24, 25, 26, 27, 28, 29, 30, 31, 32, 33, 34, 35,
+            ],
+            b"acegiacegiacegiacegiacegiacegiacegi",
+            "none",
+        ),
+    ),
+    (
+        SEVENTY,
+        (
+            "ttttttttttfffffffffffffffffffffffffffffffffffffffffffffffffffffffttttt",
+            true,
+        ),
+        (
+            &[0, 1, 2, 3, 4, 5, 6, 7, 8, 9, 10, 11, 12, 13, 14, 15],
+            b"abcdefghijfghij",
+            "none",
+        ),
+    ),
+];
 
-/// The offsets of so many items of one byte.
-fn ends_of(alloc: Global, count: usize) -> Result<Vec<usize>, Error> {
-    let mut ends = Vec::new(alloc);
-    for end in 0..count {
-        ends.push(end)?;
-    }
-    ends.push(count)?;
-    Ok(ends)
-}
-
-/// Whether of seventy items of one byte each a filter leaves these.
-fn filters_seventy<K: Known>(alloc: Global, text: &str, kept: &str) -> Result<bool, Error> {
-    let bytes = b"abcdefghijabcdefghijabcdefghijabcdefghijabcdefghijabcdefghijabcdefghij";
-    let (all, left) = (ends_of(alloc, bytes.len())?, ends_of(alloc, kept.len())?);
-    let given = (all.as_slice(), bytes.as_slice(), "none");
-    let wanted = (left.as_slice(), kept.as_bytes(), "none");
-    filters::<K, Tiny>(alloc, given, text, wanted)
-}
-
-/// Whether a filter leaves items that stand by themselves, and items that stand in runs, over the border of a word.
-fn filters_words<K: Known>(alloc: Global) -> Result<bool, Error> {
-    let apart = "tftftftftftftftftftftftftftftftftftftftftftftftftftftftftftftftftftftf";
-    let runs = "ttttttttttfffffffffffffffffffffffffffffffffffffffffffffffffffffffttttt";
-    Ok(
-        filters_seventy::<K>(alloc, apart, "acegiacegiacegiacegiacegiacegiacegi")?
-            & filters_seventy::<K>(alloc, runs, "abcdefghijfghij")?,
-    )
-}
-
-#[test]
-fn items_are_left_over_the_border_of_a_word(rt: HostRuntime) -> Result<(), Fail> {
-    all_told(&[
-        filters_words::<Binary>(rt.alloc()),
-        filters_words::<Utf8>(rt.alloc()),
-    ])
-}
-
-/// Whether keys into one item of forty bytes, over offsets that end at a hundred, are told so.
-fn forty<K: Known>(alloc: Global, keys: &[i64], wanted: &str) -> Result<bool, Error> {
-    let bytes = [b'x'; 40];
-    let given = ([0, 40].as_slice(), bytes.as_slice(), "none");
-    Ok(tells_keys::<K, Tiny>(alloc, given, keys)? == wanted)
-}
-
-/// The same of bytes and of text.
-fn of_both(alloc: Global, keys: &[i64], wanted: &str) -> Result<bool, Error> {
-    Ok(forty::<Binary>(alloc, keys, wanted)? && forty::<Utf8>(alloc, keys, wanted)?)
-}
+/// One item of forty bytes, over offsets that end at a hundred.
+const FORTY: Written = (
+    &[0, 40],
+    b"xxxxxxxxxxxxxxxxxxxxxxxxxxxxxxxxxxxxxxxx",
+    "none",
+);
 
 /// That item twice.
-fn twice<K: Known>(alloc: Global) -> Result<bool, Error> {
-    let (bytes, more) = ([b'x'; 40], [b'x'; 80]);
-    let given = ([0, 40].as_slice(), bytes.as_slice(), "none");
-    let wanted = ([0, 40, 80].as_slice(), more.as_slice(), "none");
-    takes::<K, Tiny>(alloc, given, [0, 0].as_slice(), wanted)
+const TWICE: &[(Written, &[i64], Written)] = &[(
+    FORTY,
+    &[0, 0],
+    (
+        &[0, 40, 80],
+        b"xxxxxxxxxxxxxxxxxxxxxxxxxxxxxxxxxxxxxxxxxxxxxxxxxxxxxxxxxxxxxxxxxxxxxxxxxxxxxxxx",
+        "none",
+    ),
+)];
+
+/// Items past the greatest offset overflow, and keys astray are told before that.
+const ENDS: &[(Written, &[i64], &str)] = &[
+    (FORTY, &[0, 0, 0], "overflow"),
+    (FORTY, &[0, 0], "made"),
+    (FORTY, &[0, 0, 0, 1], TOO_GREAT),
+    (FORTY, &[0, 0, 0, -1], NO_INDEX),
+];
+
+/// Whether all of these hold of a kind.
+fn ends<K: Known>(alloc: Global) -> [Result<bool, Error>; 3] {
+    [
+        all_filter::<ByteArray<K, Tiny>>(alloc, WORDS),
+        all_take::<ByteArray<K, Tiny>>(alloc, TWICE),
+        all_tell::<ByteArray<K, Tiny>>(alloc, ENDS),
+    ]
 }
 
 #[test]
-fn items_past_the_greatest_offset_overflow(rt: HostRuntime) -> Result<(), Fail> {
-    let alloc = rt.alloc();
-    told(of_both(alloc, [0, 0, 0].as_slice(), "overflow"))?;
-    told(of_both(alloc, [0, 0].as_slice(), "made"))?;
-    told(twice::<Binary>(alloc))?;
-    told(twice::<Utf8>(alloc))
-}
-
-#[test]
-fn keys_are_told_before_overflow(rt: HostRuntime) -> Result<(), Fail> {
-    let alloc = rt.alloc();
-    told(of_both(alloc, [0, 0, 0, 1].as_slice(), TOO_GREAT))?;
-    told(of_both(alloc, [0, 0, 0, -1].as_slice(), NO_INDEX))
+fn items_are_chosen_over_borders_and_up_to_the_greatest_offset(
+    rt: HostRuntime,
+) -> Result<(), Fail> {
+    all_told(&ends::<Binary>(rt.alloc()))?;
+    all_told(&ends::<Utf8>(rt.alloc()))
 }

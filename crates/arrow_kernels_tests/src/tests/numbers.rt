@@ -4,230 +4,221 @@ use arrow_kernels::{filter_primitive, take_primitive};
 use arrow_memory::buffer::Buffer;
 use arrow_primitive::PrimitiveArray;
 
-/// The array of such parts.
-fn array_of(alloc: Global, values: &[i64], text: &str) -> Result<PrimitiveArray<i64>, Error> {
-    let validity = mask(alloc, text)?;
-    let values = Buffer::from_vec(values.to_vec(alloc)?)?;
-    PrimitiveArray::try_new(DataType::Date64, values, validity)
+/// The buffer of these values.
+fn buffer_of(alloc: Global, values: &[i64]) -> Result<Buffer<i64>, Error> {
+    match values.to_vec(alloc) {
+        Ok(values) => Buffer::from_vec(values),
+        Err(refused) => Err(Error::from(refused)),
+    }
 }
 
-/// Whether an array has these stored values and marks, and the type of the one that it was made of.
-fn shows(array: &PrimitiveArray<i64>, values: &[i64], text: &str) -> bool {
-    let marks = match array.validity() {
-        Some(marks) => Some(marks.iter()),
-        None => None,
-    };
-    array.values().as_slice() == values
-        && is_mask(marks, text)
-        && *array.data_type() == DataType::Date64
-}
-
-/// Whether an array was made that has these stored values and marks.
-fn made(
-    answer: Result<PrimitiveArray<i64>, Error>,
-    values: &[i64],
-    text: &str,
-) -> Result<bool, Error> {
-    match answer {
-        Ok(array) => Ok(shows(&array, values, text)),
+/// The array of values under a mask.
+fn masked(
+    values: Result<Buffer<i64>, Error>,
+    mask: Option<Bitmap>,
+) -> Result<PrimitiveArray<i64>, Error> {
+    match values {
+        Ok(values) => PrimitiveArray::try_new(DataType::Date64, values, mask),
         Err(refused) => Err(refused),
     }
 }
 
-/// Whether a filter leaves these.
-fn leaves(
-    alloc: Global,
-    array: &PrimitiveArray<i64>,
-    filter: &BooleanArray,
-    values: &[i64],
-    text: &str,
-) -> Result<bool, Error> {
-    if filter.len() != array.len() {
-        return Ok(false);
-    }
-    made(filter_primitive(alloc, array, filter), values, text)
+/// Whether an array has these marks, and the type of the one that it was made of.
+fn is_masked(array: &PrimitiveArray<i64>, text: &str) -> bool {
+    let marks = match array.validity() {
+        Some(marks) => Some(marks.iter()),
+        None => None,
+    };
+    is_mask(marks, text) & (*array.data_type() == DataType::Date64)
 }
 
-/// Whether a filter of values under a mask leaves these.
-fn filters(
-    alloc: Global,
-    given: (&[i64], &str),
-    filter: Result<BooleanArray, Error>,
-    wanted: (&[i64], &str),
-) -> Result<bool, Error> {
-    match (array_of(alloc, given.0, given.1), filter) {
-        (Ok(array), Ok(filter)) => leaves(alloc, &array, &filter, wanted.0, wanted.1),
-        (Err(refused), _) => Err(refused),
-        (_, Err(refused)) => Err(refused),
+// One is written as its stored values and its mask.
+impl Chosen for PrimitiveArray<i64> {
+    type Written = (&'static [i64], &'static str);
+
+    type Key = i64;
+
+    fn of(
+        alloc: Global,
+        written: &(&'static [i64], &'static str),
+    ) -> Result<PrimitiveArray<i64>, Error> {
+        let (values, text) = *written;
+        match frozen_mask(alloc, text) {
+            Ok(mask) => masked(buffer_of(alloc, values), mask),
+            Err(refused) => Err(refused),
+        }
+    }
+
+    fn is(&self, written: &(&'static [i64], &'static str)) -> bool {
+        let (values, text) = *written;
+        (self.values().as_slice() == values) & is_masked(self, text)
+    }
+
+    fn filtered(
+        &self,
+        alloc: Global,
+        filter: &BooleanArray,
+    ) -> Option<Result<PrimitiveArray<i64>, Error>> {
+        if filter.len() != self.len() {
+            return None;
+        }
+        Some(filter_primitive(alloc, self, filter))
+    }
+
+    fn taken(&self, alloc: Global, keys: &[i64]) -> Result<PrimitiveArray<i64>, Error> {
+        take_primitive(alloc, self, keys)
     }
 }
+
+/// Numbers as values and a mask.
+type Numbers = (&'static [i64], &'static str);
 
 /// One, a null that stores nothing, and ten.
-const ONE_NULL_TEN: [i64; 3] = [1, 0, 10];
+const ONE_NULL_TEN: Numbers = (&[1, 0, 10], "101");
+
+/// Rows that are asked for are left. A null of a filter asks for none, and a mask that no row needs is dropped.
+const FILTERS: &[(Numbers, Filter, Numbers)] = &[
+    (ONE_NULL_TEN, ("t_t", true), (&[1, 10], "none")),
+    (ONE_NULL_TEN, ("ftt", true), (&[0, 10], "01")),
+    (ONE_NULL_TEN, ("ttf", false), (&[1, 0], "10")),
+    (ONE_NULL_TEN, ("fff", false), (&[], "none")),
+    (ONE_NULL_TEN, ("ttt", false), ONE_NULL_TEN),
+    ((&[1, 2], "none"), ("t_", true), (&[1], "none")),
+    ((&[1, 2], "11"), ("tt", false), (&[1, 2], "none")),
+];
+
+/// Rows at keys are taken.
+const TAKES: &[(Numbers, &[i64], Numbers)] = &[
+    (ONE_NULL_TEN, &[2, 1, 1], (&[10, 0, 0], "100")),
+    (ONE_NULL_TEN, &[2, 2], (&[10, 10], "none")),
+    (ONE_NULL_TEN, &[], (&[], "none")),
+];
+
+/// The first key astray is told.
+const ASTRAY: &[(Numbers, &[i64], &str)] = &[
+    (ONE_NULL_TEN, &[3], TOO_GREAT),
+    (ONE_NULL_TEN, &[0, -1, 9], NO_INDEX),
+    (ONE_NULL_TEN, &[0, 9, -1], TOO_GREAT),
+];
 
 #[test]
-fn rows_that_are_asked_for_are_left(rt: HostRuntime) -> Result<(), Fail> {
-    let alloc = rt.alloc();
-    let given = (ONE_NULL_TEN.as_slice(), "101");
-    told(filters(
-        alloc,
-        given,
-        filter_of(alloc, "t_t"),
-        ([1, 10].as_slice(), "none"),
-    ))?;
-    told(filters(
-        alloc,
-        given,
-        filter_of(alloc, "ftt"),
-        ([0, 10].as_slice(), "01"),
-    ))?;
-    told(filters(
-        alloc,
-        given,
-        bare_filter(alloc, "ttf"),
-        ([1, 0].as_slice(), "10"),
-    ))?;
-    told(filters(
-        alloc,
-        given,
-        bare_filter(alloc, "fff"),
-        ([].as_slice(), "none"),
-    ))?;
-    told(filters(alloc, given, bare_filter(alloc, "ttt"), (given.0, "101")))
-}
-
-#[test]
-fn null_of_a_filter_asks_for_no_row(rt: HostRuntime) -> Result<(), Fail> {
-    let alloc = rt.alloc();
-    let given = ([1, 2].as_slice(), "none");
-    told(filters(
-        alloc,
-        given,
-        filter_of(alloc, "t_"),
-        ([1].as_slice(), "none"),
-    ))
-}
-
-#[test]
-fn mask_that_no_row_needs_is_dropped(rt: HostRuntime) -> Result<(), Fail> {
-    let alloc = rt.alloc();
-    let given = ([1, 2].as_slice(), "11");
-    told(filters(
-        alloc,
-        given,
-        bare_filter(alloc, "tt"),
-        ([1, 2].as_slice(), "none"),
-    ))
+fn numbers_are_chosen(rt: HostRuntime) -> Result<(), Fail> {
+    all_told(&[
+        all_filter::<PrimitiveArray<i64>>(rt.alloc(), FILTERS),
+        all_take::<PrimitiveArray<i64>>(rt.alloc(), TAKES),
+        all_tell::<PrimitiveArray<i64>>(rt.alloc(), ASTRAY),
+    ])
 }
 
 /// Long arrays: each number below this one.
 const MANY: usize = 300;
 
-/// The numbers below a bound that leave this rest, for each rest whether it is wanted, in order.
-fn many(alloc: Global, rests: &[bool]) -> Result<Vec<i64>, Error> {
-    let mut values = Vec::new(alloc);
-    for value in 0..MANY {
-        for (rest, is_wanted) in rests.iter().enumerate() {
-            if *is_wanted && value % rests.len() == rest {
-                values.push(value as i64)?;
-            }
-        }
+/// Whether a number is asked for by what it leaves, for each rest whether it is wanted, in order.
+fn is_asked(rests: &[bool], number: usize) -> bool {
+    if rests.is_empty() {
+        return false;
     }
-    Ok(values)
+    rests[number % rests.len()]
 }
 
-/// A filter as long that asks for numbers by what they leave.
-fn many_asked(alloc: Global, rests: &[bool]) -> Result<BooleanArray, Error> {
-    let mut marks = Vec::new(alloc);
-    for value in 0..MANY {
-        let mut is_asked = false;
-        for (rest, is_wanted) in rests.iter().enumerate() {
-            if value % rests.len() == rest {
-                is_asked = *is_wanted;
-            }
-        }
-        marks.push(is_asked)?;
+/// Appends all of them.
+fn push_many(values: &mut Vec<i64>) -> Result<(), Error> {
+    for number in 0..MANY {
+        values.push(number as i64)?;
     }
-    BooleanArray::try_new(DataType::Boolean, Bitmap::from_slice(alloc, &marks)?, None)
+    Ok(())
+}
+
+/// The array of all.
+fn many(alloc: Global) -> Result<PrimitiveArray<i64>, Error> {
+    let mut values = Vec::new(alloc);
+    match push_many(&mut values) {
+        Ok(()) => masked(Buffer::from_vec(values), None),
+        Err(refused) => Err(refused),
+    }
+}
+
+/// Appends the marks of a filter as long that asks for numbers by what they leave.
+fn push_asked(marks: &mut MutableBitmap, rests: &[bool]) -> Result<(), Error> {
+    for number in 0..MANY {
+        marks.push(is_asked(rests, number))?;
+    }
+    Ok(())
+}
+
+/// That filter.
+fn many_asked(alloc: Global, rests: &[bool]) -> Result<BooleanArray, Error> {
+    let mut marks = MutableBitmap::new(alloc);
+    match push_asked(&mut marks, rests) {
+        Ok(()) => bare_filter(marks.freeze()),
+        Err(refused) => Err(refused),
+    }
+}
+
+/// Whether values are the numbers that are asked for.
+fn are_asked(values: &[i64], rests: &[bool]) -> bool {
+    let mut count = 0usize;
+    for number in 0..MANY {
+        if is_asked(rests, number) {
+            if values.get(count) != Some(&(number as i64)) {
+                return false;
+            }
+            count = count.saturating_add(1);
+        }
+    }
+    count == values.len()
+}
+
+/// Whether an array of them was made.
+fn made_many(answer: Result<PrimitiveArray<i64>, Error>, rests: &[bool]) -> Result<bool, Error> {
+    match answer {
+        Ok(array) => Ok(are_asked(array.values().as_slice(), rests) & is_masked(&array, "none")),
+        Err(refused) => Err(refused),
+    }
 }
 
 /// Whether a long filter leaves the numbers that it asks for.
-fn filters_many(alloc: Global, rests: &[bool]) -> Result<bool, Error> {
-    let all = many(alloc, [true].as_slice())?;
-    let wanted = many(alloc, rests)?;
-    filters(
-        alloc,
-        (&all, "none"),
-        many_asked(alloc, rests),
-        (&wanted, "none"),
-    )
+fn leaves_many(alloc: Global, array: &PrimitiveArray<i64>, rests: &[bool]) -> Result<bool, Error> {
+    match many_asked(alloc, rests) {
+        Ok(filter) => match array.filtered(alloc, &filter) {
+            Some(answer) => made_many(answer, rests),
+            None => Ok(false),
+        },
+        Err(refused) => Err(refused),
+    }
+}
+
+/// Which rests are asked for.
+const RESTS: &[&[bool]] = &[
+    &[true, false],
+    &[false, false, true],
+    &[true, true, true, true, true, true, false],
+    &[
+        false, false, false, false, false, false, false, false, false, true,
+    ],
+    &[true],
+    &[false],
+];
+
+/// Whether filters by each of them do.
+fn all_leave(alloc: Global, array: &PrimitiveArray<i64>, cases: &[&[bool]]) -> Result<bool, Error> {
+    for rests in cases {
+        if !leaves_many(alloc, array, *rests)? {
+            return Ok(false);
+        }
+    }
+    Ok(true)
+}
+
+/// Whether they do of a new array.
+fn all_leave_many(alloc: Global) -> Result<bool, Error> {
+    match many(alloc) {
+        Ok(array) => all_leave(alloc, &array, RESTS),
+        Err(refused) => Err(refused),
+    }
 }
 
 #[test]
 fn long_filters_leave_what_they_ask_for(rt: HostRuntime) -> Result<(), Fail> {
-    let alloc = rt.alloc();
-    told(filters_many(alloc, [true, false].as_slice()))?;
-    told(filters_many(alloc, [false, false, true].as_slice()))?;
-    told(filters_many(
-        alloc,
-        [true, true, true, true, true, true, false].as_slice(),
-    ))?;
-    told(filters_many(
-        alloc,
-        [
-            false, false, false, false, false, false, false, false, false, true,
-        ]
-        .as_slice(),
-    ))?;
-    told(filters_many(alloc, [true].as_slice()))?;
-    told(filters_many(alloc, [false].as_slice()))
-}
-
-/// Whether keys take these.
-fn takes(
-    alloc: Global,
-    given: (&[i64], &str),
-    keys: &[i64],
-    wanted: (&[i64], &str),
-) -> Result<bool, Error> {
-    match array_of(alloc, given.0, given.1) {
-        Ok(array) => made(take_primitive(alloc, &array, keys), wanted.0, wanted.1),
-        Err(refused) => Err(refused),
-    }
-}
-
-#[test]
-fn rows_at_keys_are_taken(rt: HostRuntime) -> Result<(), Fail> {
-    let alloc = rt.alloc();
-    let given = (ONE_NULL_TEN.as_slice(), "101");
-    told(takes(
-        alloc,
-        given,
-        [2, 1, 1].as_slice(),
-        ([10, 0, 0].as_slice(), "100"),
-    ))?;
-    told(takes(
-        alloc,
-        given,
-        [2, 2].as_slice(),
-        ([10, 10].as_slice(), "none"),
-    ))?;
-    told(takes(alloc, given, [].as_slice(), ([].as_slice(), "none")))
-}
-
-/// What is told of keys.
-fn tells_keys(alloc: Global, keys: &[i64]) -> Result<&'static str, Error> {
-    match array_of(alloc, ONE_NULL_TEN.as_slice(), "101") {
-        Ok(array) => Ok(tells(take_primitive(alloc, &array, keys))),
-        Err(refused) => Err(refused),
-    }
-}
-
-#[test]
-fn first_key_astray_is_told(rt: HostRuntime) -> Result<(), Fail> {
-    let alloc = rt.alloc();
-    assert!(rt; tells_keys(alloc, [3].as_slice())? == TOO_GREAT);
-    assert!(rt; tells_keys(alloc, [0, -1, 9].as_slice())? == NO_INDEX);
-    assert!(rt; tells_keys(alloc, [0, 9, -1].as_slice())? == TOO_GREAT);
-    Ok(())
+    told(all_leave_many(rt.alloc()))
 }

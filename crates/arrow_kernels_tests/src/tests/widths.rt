@@ -5,8 +5,6 @@ use arrow_binary::BinaryArray;
 use arrow_byte_array::ByteArray;
 use arrow_bytes::{Binary, ByteKind, Utf8};
 use arrow_kernels::{narrow_binary, narrow_utf8, widen_binary, widen_utf8};
-use arrow_memory::buffer::Buffer;
-use arrow_testing::frozen_offsets;
 use arrow_utf8::Utf8Array;
 
 /// A kind of items, and its kernels.
@@ -38,62 +36,96 @@ impl Resized for Utf8 {
     }
 }
 
-/// Whether an array has these offsets, bytes and marks over wide offsets, and over narrow ones again.
-fn stays<K: Resized>(array: &ByteArray<K, i32>, wanted: Written<'_>) -> Result<bool, Error> {
-    let wide = K::widen(array)?;
-    let is_wide = shows(&wide, wanted);
-    let narrow = K::narrow(&wide)?;
-    Ok(is_wide && shows(&narrow, wanted))
+/// Whether an array has these offsets, bytes and marks over narrow offsets again.
+fn narrows<K: Resized>(wide: &ByteArray<K, i64>, wanted: Written) -> Result<bool, Error> {
+    match K::narrow(wide) {
+        Ok(narrow) => Ok(shows(&narrow, wanted) & shows(wide, wanted)),
+        Err(refused) => Err(refused),
+    }
 }
 
-/// The same of an array of such parts, of which only the slots from a place on are kept.
+/// Whether it has them over wide offsets, and over narrow ones again.
+fn stays<K: Resized>(array: &ByteArray<K, i32>, wanted: Written) -> Result<bool, Error> {
+    match K::widen(array) {
+        Ok(wide) => narrows(&wide, wanted),
+        Err(refused) => Err(refused),
+    }
+}
+
+/// The same of the slots of an array from a place on.
 fn rest_stays<K: Resized>(
-    alloc: Global,
-    given: Written<'_>,
+    array: &mut ByteArray<K, i32>,
     place: usize,
-    wanted: Written<'_>,
+    wanted: Written,
 ) -> Result<bool, Error> {
-    let mut array = array_of::<K, i32>(alloc, given)?;
     let count = array.len();
     if place <= count {
         array.slice(place, count - place);
     }
-    stays(&array, wanted)
+    stays(array, wanted)
 }
 
-#[test]
-fn bytes_of_a_slice(rt: HostRuntime) -> Result<(), Fail> {
-    let bytes = [9, 9, 1, 4, 4, 8].as_slice();
-    let given = ([2, 3, 3, 5].as_slice(), bytes, "101");
-    let wanted = ([3, 3, 5].as_slice(), bytes, "01");
-    told(rest_stays::<Binary>(rt.alloc(), given, 1, wanted))
+/// The same of an array that was made.
+fn made_stays<K: Resized>(
+    array: Result<ByteArray<K, i32>, Error>,
+    place: usize,
+    wanted: Written,
+) -> Result<bool, Error> {
+    match array {
+        Ok(mut array) => rest_stays(&mut array, place, wanted),
+        Err(refused) => Err(refused),
+    }
 }
 
-#[test]
-fn texts(rt: HostRuntime) -> Result<(), Fail> {
-    let given = ([0, 2, 2, 7].as_slice(), b"hithere".as_slice(), "101");
-    told(rest_stays::<Utf8>(rt.alloc(), given, 0, given))
+/// Items with bytes around them, and what of them the last two are.
+const ITEMS: Written = (&[2, 3, 3, 5], &[9, 9, 1, 4, 4, 8], "101");
+
+const LAST: Written = (&[3, 3, 5], &[9, 9, 1, 4, 4, 8], "01");
+
+/// Two texts, around a null.
+const TEXTS: Written = (&[0, 2, 2, 7], b"hithere", "101");
+
+/// No slots.
+const NOTHING: Written = (&[1], b"ab", "none");
+
+/// Texts of one byte each.
+const LETTERS: Written = (&[0, 1, 2], b"ab", "none");
+
+/// A type of a name over `Utf8`.
+fn named(alloc: Global, inner: Box<DataType>) -> Result<DataType, Error> {
+    match String::from_str(alloc, "name") {
+        Ok(name) => Ok(DataType::Extension(name, inner, None)),
+        Err(refused) => Err(Error::from(refused)),
+    }
 }
 
-#[test]
-fn no_slots(rt: HostRuntime) -> Result<(), Fail> {
-    let given = ([1].as_slice(), b"ab".as_slice(), "none");
-    told(rest_stays::<Binary>(rt.alloc(), given, 0, given))?;
-    told(rest_stays::<Utf8>(rt.alloc(), given, 0, given))
+/// An array of text of another type.
+fn of_type(array: Utf8Array<i32>, data_type: DataType) -> Result<Utf8Array<i32>, Error> {
+    let (_, offsets, values, mask) = array.into_inner();
+    Utf8Array::try_new(data_type, offsets, values, mask)
 }
 
-/// An array of text, whose type is one of a name over `Utf8`.
-fn named(alloc: Global) -> Result<Utf8Array<i32>, Error> {
-    let name = String::from_str(alloc, "name")?;
-    let data_type = DataType::Extension(name, Box::new(alloc, DataType::Utf8)?, None);
-    let values = Buffer::from_vec(b"ab".as_slice().to_vec(alloc)?)?;
-    Utf8Array::try_new(data_type, frozen_offsets(alloc, &[0, 1, 2])?, values, None)
+/// An array of letters, of such a type.
+fn letters(alloc: Global, data_type: DataType) -> Result<Utf8Array<i32>, Error> {
+    match array_of::<Utf8, i32>(alloc, LETTERS) {
+        Ok(array) => of_type(array, data_type),
+        Err(refused) => Err(refused),
+    }
+}
+
+/// An array of letters, whose type is one of a name over `Utf8`.
+fn named_letters(alloc: Global) -> Result<Utf8Array<i32>, Error> {
+    letters(alloc, named(alloc, Box::new(alloc, DataType::Utf8)?)?)
 }
 
 /// The type is the other width's default, whatever it was.
 #[test]
-fn types(rt: HostRuntime) -> Result<(), Fail> {
-    let given = ([0, 1, 2].as_slice(), b"ab".as_slice(), "none");
-    let array = named(rt.alloc())?;
-    told(stays(&array, given))
+fn widths(rt: HostRuntime) -> Result<(), Fail> {
+    all_told(&[
+        made_stays::<Binary>(array_of(rt.alloc(), ITEMS), 1, LAST),
+        made_stays::<Utf8>(array_of(rt.alloc(), TEXTS), 0, TEXTS),
+        made_stays::<Binary>(array_of(rt.alloc(), NOTHING), 0, NOTHING),
+        made_stays::<Utf8>(array_of(rt.alloc(), NOTHING), 0, NOTHING),
+        made_stays::<Utf8>(named_letters(rt.alloc()), 0, LETTERS),
+    ])
 }
