@@ -5,7 +5,7 @@
 use arrow_boolean::BooleanArray;
 use arrow_kernels::{filter_utf8, take_utf8};
 use arrow_memory::buffer::Buffer;
-use arrow_memory::offset::Offsets;
+use arrow_memory::offset::{Offsets, OffsetsBuffer};
 use arrow_types::data_type::DataType;
 use arrow_types::error::Error;
 use arrow_utf8::{MutableUtf8Array, Utf8Array};
@@ -60,27 +60,42 @@ fn append(names: Utf8Array<i32>, name: &str) -> Result<Utf8Array<i32>, Error> {
     }
 }
 
-/// A clone has the same memory as the original, and keeps it when it is sliced. What is done to one is never seen in
-/// the other.
-fn share(rt: &impl Print, names: &Utf8Array<i32>) -> anyhow::Result<()> {
-    let mut copy = names.clone()?;
+/// A clone that is sliced, and whose nulls are told as what they store.
+fn read_part(rt: &impl Print, copy: Utf8Array<i32>) -> io::Result<()> {
+    let mut copy = copy;
     copy.set_validity(None);
     if 2 <= copy.len() {
         copy.slice(0, 2);
     }
-    read(rt, "copy, sliced and without nulls", &copy)?;
+    read(rt, "copy, sliced and without nulls", &copy)
+}
+
+/// A clone has the same memory as the original, and keeps it when it is sliced. What is done to one is never seen in
+/// the other.
+fn share(rt: &impl Print, names: &Utf8Array<i32>) -> anyhow::Result<()> {
+    read_part(rt, names.clone()?)?;
     read(rt, "original", names)?;
     Ok(())
+}
+
+/// Offsets of two slots of one byte each, made of numbers.
+fn cut(alloc: Global) -> Result<OffsetsBuffer<i32>, Error> {
+    Offsets::try_from_vec([0, 1, 2].to_vec(alloc)?)?.freeze()
 }
 
 /// Text from elsewhere comes as parts, which are refused where a slot is not UTF-8 by itself. These bytes are, and the
 /// offsets cut them within their one character.
 fn accept(alloc: Global) -> Result<Utf8Array<i32>, Error> {
     let bytes = Buffer::from_vec("é".as_bytes().to_vec(alloc)?)?;
-    let mut offsets = Offsets::new(alloc)?;
-    offsets.try_push_usize(1)?;
-    offsets.try_push_usize(1)?;
-    Utf8Array::try_new(DataType::Utf8, offsets.freeze()?, bytes, None)
+    Utf8Array::try_new(DataType::Utf8, cut(alloc)?, bytes, None)
+}
+
+/// Why parts are refused is told.
+fn refuse(rt: &impl Print, alloc: Global) -> io::Result<()> {
+    match accept(alloc) {
+        Ok(_) => Ok(()),
+        Err(error) => println!(rt; "refused: {error}"),
+    }
 }
 
 /// A filter has as many slots as the array, and the slots stay at which it is true. That it has as many is tested here,
@@ -96,21 +111,30 @@ fn keep(
     filter_utf8(alloc, names, filter)
 }
 
-/// Filters by truth values, of which a null asks for no slot, and takes by keys, in their order.
-fn choose(rt: &impl Print, alloc: Global, names: &Utf8Array<i32>) -> anyhow::Result<()> {
+/// Filters by truth values, of which a null asks for no slot.
+fn filter(rt: &impl Print, alloc: Global, names: &Utf8Array<i32>) -> anyhow::Result<()> {
     let filter = BooleanArray::from(alloc, &[Some(true), Some(true), None, Some(true)])?;
     read(rt, "kept", &keep(alloc, names, &filter)?)?;
+    Ok(())
+}
+
+/// Takes by keys, in their order.
+fn take(rt: &impl Print, alloc: Global, names: &Utf8Array<i32>) -> anyhow::Result<()> {
     read(rt, "taken", &take_utf8(alloc, names, &[3, 0])?)?;
     Ok(())
+}
+
+/// All that is done with an array.
+fn show(rt: &impl Print, alloc: Global, names: &Utf8Array<i32>) -> anyhow::Result<()> {
+    read_ends(rt, names)?;
+    share(rt, names)?;
+    refuse(rt, alloc)?;
+    filter(rt, alloc, names)?;
+    take(rt, alloc, names)
 }
 
 fn main(rt: HostRuntime) -> anyhow::Result<()> {
     let alloc = rt.alloc();
     let names = append(build(alloc)?, "Bo")?;
-    read_ends(&rt, &names)?;
-    share(&rt, &names)?;
-    if let Err(error) = accept(alloc) {
-        println!(rt; "refused: {error}")?;
-    }
-    choose(&rt, alloc, &names)
+    show(&rt, alloc, &names)
 }
