@@ -13,11 +13,13 @@ ghost use Rattle.arrow_types.specs.Types.{default_logical_type};
 
 use crate::make::{empty_entry, is_array};
 use arrow_entry::{Entry, Item, Kind, Reply};
+use arrow_finding::extended::Extend;
+use arrow_finding::kinds::OfBuilder;
+use arrow_finding::whole::frozen;
 use arrow_memory::bitmap::MutableBitmap;
 use arrow_primitive::MutablePrimitiveArray;
-use arrow_rows::entry::{EntryRow, MakesEntry, OfBuilder};
-use arrow_rows::extended::{Extend, ExtendValues, items_fit, slots_fit};
-use arrow_rows::whole::{frozen, put};
+use arrow_rows::entry::{EntryRow, MakesEntry, put};
+use arrow_rows::extended::{ExtendValues, items_fit, slots_fit};
 use arrow_types::error::Error;
 use arrow_types::native_type::NativeType;
 use arrow_types::offset::Offset;

@@ -17,11 +17,11 @@ use arrow_bytes::{Binary, ByteKind, Utf8};
 use arrow_check::cost::TextCost;
 use arrow_entry::{Bits, Entry, Kind, Parts, Raw, Reply};
 use arrow_primitive::{MutablePrimitiveArray, PrimitiveArray};
+use arrow_rows::entry::put;
 use arrow_rows::taken::{
     bitmap_taken, buffer_taken, growing_bitmap_taken, growing_head_taken, growing_pieces_taken,
     head_taken, pieces_taken, vector_taken,
 };
-use arrow_rows::whole::put;
 use arrow_types::data_type::DataType;
 use arrow_types::error::Error;
 use arrow_types::native_type::NativeType;

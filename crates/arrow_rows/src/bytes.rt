@@ -5,9 +5,8 @@ ghost use Rattle.arrow_entry.specs.Entry.{types};
 ghost use Rattle.arrow_entry.specs.Request.{Ask};
 ghost use Rattle.arrow_entry.specs.Step.{Does};
 
-use crate::entry::EntryRow;
+use arrow_entry::Reply;
 use arrow_entry::kinds::pieces::Pieces;
-use arrow_entry::{Entry, Reply};
 use arrow_types::error::Error;
 use arrow_types::native_type::NativeType;
 use arrow_types::offset::Offset;
@@ -21,30 +20,6 @@ pub trait ReadsPieces<T: NativeType, O: Offset> {
     /// Reads an array or a builder.
     fn read<K: Pieces<T>>(&self, alloc: Global, kept: &K) -> Reply<T>
         ensures { Does (types T.zero T.PRIMITIVE O.most O.IS_LARGE) (K.value kept.now) (asked self.now) (told result) (Some (K.value kept.now)) };
-}
-
-/// The row of a command that reads an array or a builder of bytes or text.
-#[derive(Drop)]
-pub struct OfPieces<R>(pub R);
-
-impl<T: NativeType, O: Offset, R: ReadsPieces<T, O> + Drop> EntryRow<T, O> for OfPieces<R> {
-    ghost use Rattle.arrow_entry.specs.Entry.{types};
-    ghost use Rattle.arrow_entry.specs.Kind.{is_pieces};
-    ghost use Rattle.arrow_entry.specs.Step.{Does_to};
-
-    ghost means = { λ command. Does_to (types T.zero T.PRIMITIVE O.most O.IS_LARGE) is_pieces (R.asked command.0) };
-
-    fn run(self, alloc: Global, entry: &mut Option<Entry<T, O>>) -> Reply<T> {
-        match entry {
-            Some(Entry::Binary(kept)) => self.0.read(alloc, kept),
-            Some(Entry::Utf8(kept)) => self.0.read(alloc, kept),
-            Some(Entry::MutableBinary(kept)) => self.0.read(alloc, kept),
-            Some(Entry::MutableUtf8(kept)) => self.0.read(alloc, kept),
-            Some(Entry::BinaryValues(kept)) => self.0.read(alloc, kept),
-            Some(Entry::Utf8Values(kept)) => self.0.read(alloc, kept),
-            _ => Reply::NotMet,
-        }
-    }
 }
 
 /// All bytes, those before the first slot and behind the last too.

@@ -1,13 +1,12 @@
 //! Commands that make an array of some rows of another, and put it into an empty entry.
 ghost use Rattle.std.specs.Prelude.{◌≡◌, None, Option, Some, map, option_map, MatchOption};
 ghost use Rattle.arrow_entry.specs.Answer.{told};
-ghost use Rattle.arrow_entry.specs.Chosen.{array_in};
 ghost use Rattle.arrow_entry.specs.Entry.{State, Value, value_of};
 ghost use Rattle.arrow_entry.specs.Outcome.{EntryBy, answer_of, entry_of};
-ghost use Rattle.arrow_entry.specs.Row.{Row, given};
+ghost use Rattle.arrow_entry.specs.Row.{Row};
 ghost use Rattle.arrow_entry.specs.Step.{AtEntry, Puts, entry_at};
 
-use crate::whole::put;
+use crate::entry::put;
 use arrow_entry::kinds::chosen::Chosen;
 use arrow_entry::{Entry, Reply};
 use arrow_types::native_type::NativeType;
@@ -87,21 +86,4 @@ pub trait Choice<T: NativeType, O: Offset> {
     /// Chooses rows of an array, or answers why not.
     fn of<K: Chosen<T, O>>(&self, alloc: Global, array: &K) -> Result<Entry<T, O>, Reply<T>>
         ensures { EntryBy result (means self.now (K.value array.now)) };
-}
-
-/// Chooses rows of what an entry holds, where that is an array.
-pub fn chosen<T: NativeType, O: Offset, C: Choice<T, O>>(
-    alloc: Global,
-    entry: &Entry<T, O>,
-    choice: &C,
-) -> Result<Entry<T, O>, Reply<T>>
-    ensures { EntryBy result (given None (array_in (Some (value_of entry.now))) (C.means choice.now)) }
-{
-    match entry {
-        Entry::Primitive(array) => choice.of(alloc, array),
-        Entry::Boolean(array) => choice.of(alloc, array),
-        Entry::Binary(array) => choice.of(alloc, array),
-        Entry::Utf8(array) => choice.of(alloc, array),
-        _ => Err(Reply::NotMet),
-    }
 }

@@ -1,5 +1,5 @@
-//! How a command finds in an entry the kind that it is for: one function for each group of kinds, whatever the command.
-ghost use Rattle.std.specs.Prelude.{Option, Some, option_map};
+//! What a command is: to an entry, to an empty one, and to a value of any kind, to an array or to a builder.
+ghost use Rattle.std.specs.Prelude.{◌≡◌, Option, Some, option_map};
 ghost use Rattle.arrow_entry.specs.Answer.{told};
 ghost use Rattle.arrow_entry.specs.Entry.{Value, types, value_of};
 ghost use Rattle.arrow_entry.specs.Kind.{Shape};
@@ -7,7 +7,6 @@ ghost use Rattle.arrow_entry.specs.Request.{Ask, Source};
 ghost use Rattle.arrow_entry.specs.Row.{Row};
 ghost use Rattle.arrow_entry.specs.Step.{Does, Makes};
 
-use crate::whole::put;
 use arrow_entry::kinds::frozen::Frozen;
 use arrow_entry::kinds::growing::Growing;
 use arrow_entry::kinds::shown::Shown;
@@ -15,6 +14,7 @@ use arrow_entry::{Entry, Reply};
 use arrow_types::native_type::NativeType;
 use arrow_types::offset::Offset;
 use std::alloc::Global;
+use std::mem::replace;
 
 /// A row: what a command does to an entry.
 pub trait EntryRow<T: NativeType, O: Offset> {
@@ -24,6 +24,13 @@ pub trait EntryRow<T: NativeType, O: Offset> {
     /// Does it. What is answered is allocated by `alloc`.
     fn run(self, alloc: Global, entry: &mut Option<Entry<T, O>>) -> Reply<T>
         ensures { means self (option_map value_of entry.old) (told result) (option_map value_of entry.new) };
+}
+
+/// Puts something in the place of what is in an entry.
+pub fn put<T: NativeType, O: Offset>(entry: &mut Option<Entry<T, O>>, kept: Option<Entry<T, O>>)
+    ensures { entry.new ≡ kept }
+{
+    drop(replace(entry, kept));
 }
 
 /// A command that makes a value in an empty entry.
@@ -69,34 +76,6 @@ pub trait Reads<T: NativeType, O: Offset> {
         ensures { Does (types T.zero T.PRIMITIVE O.most O.IS_LARGE) (K.value kept.now) (asked self.now) (told result) (Some (K.value kept.now)) };
 }
 
-/// The row of a command that reads an entry of any kind.
-#[derive(Drop)]
-pub struct OfAny<R>(pub R);
-
-impl<T: NativeType, O: Offset, R: Reads<T, O> + Drop> EntryRow<T, O> for OfAny<R> {
-    ghost use Rattle.arrow_entry.specs.Entry.{types};
-    ghost use Rattle.arrow_entry.specs.Kind.{any_kind};
-    ghost use Rattle.arrow_entry.specs.Step.{Does_to};
-
-    ghost means = { λ command. Does_to (types T.zero T.PRIMITIVE O.most O.IS_LARGE) any_kind (R.asked command.0) };
-
-    fn run(self, alloc: Global, entry: &mut Option<Entry<T, O>>) -> Reply<T> {
-        match entry {
-            Some(Entry::Primitive(kept)) => self.0.read(alloc, kept),
-            Some(Entry::Boolean(kept)) => self.0.read(alloc, kept),
-            Some(Entry::Binary(kept)) => self.0.read(alloc, kept),
-            Some(Entry::Utf8(kept)) => self.0.read(alloc, kept),
-            Some(Entry::MutablePrimitive(kept)) => self.0.read(alloc, kept),
-            Some(Entry::MutableBoolean(kept)) => self.0.read(alloc, kept),
-            Some(Entry::MutableBinary(kept)) => self.0.read(alloc, kept),
-            Some(Entry::MutableUtf8(kept)) => self.0.read(alloc, kept),
-            Some(Entry::BinaryValues(kept)) => self.0.read(alloc, kept),
-            Some(Entry::Utf8Values(kept)) => self.0.read(alloc, kept),
-            None => Reply::NotMet,
-        }
-    }
-}
-
 /// A command on an array.
 pub trait ChangesFrozen<T: NativeType, O: Offset> {
     /// What is asked.
@@ -107,28 +86,6 @@ pub trait ChangesFrozen<T: NativeType, O: Offset> {
         ensures { Does (types T.zero T.PRIMITIVE O.most O.IS_LARGE) (K.value kept.old) (asked self.now) (told result) (Some (K.value kept.new)) };
 }
 
-/// The row of a command on an array.
-#[derive(Drop)]
-pub struct OfFrozen<R>(pub R);
-
-impl<T: NativeType, O: Offset, R: ChangesFrozen<T, O> + Drop> EntryRow<T, O> for OfFrozen<R> {
-    ghost use Rattle.arrow_entry.specs.Entry.{types};
-    ghost use Rattle.arrow_entry.specs.Kind.{is_frozen};
-    ghost use Rattle.arrow_entry.specs.Step.{Does_to};
-
-    ghost means = { λ command. Does_to (types T.zero T.PRIMITIVE O.most O.IS_LARGE) is_frozen (R.asked command.0) };
-
-    fn run(self, alloc: Global, entry: &mut Option<Entry<T, O>>) -> Reply<T> {
-        match entry {
-            Some(Entry::Primitive(kept)) => self.0.change(alloc, kept),
-            Some(Entry::Boolean(kept)) => self.0.change(alloc, kept),
-            Some(Entry::Binary(kept)) => self.0.change(alloc, kept),
-            Some(Entry::Utf8(kept)) => self.0.change(alloc, kept),
-            _ => Reply::NotMet,
-        }
-    }
-}
-
 /// A command on a builder.
 pub trait ChangesBuilder<T: NativeType, O: Offset> {
     /// What is asked.
@@ -137,28 +94,4 @@ pub trait ChangesBuilder<T: NativeType, O: Offset> {
     /// Does it to a builder.
     fn change<K: Growing<T, O>>(&self, alloc: Global, kept: &mut K) -> Reply<T>
         ensures { Does (types T.zero T.PRIMITIVE O.most O.IS_LARGE) (K.value kept.old) (asked self.now) (told result) (Some (K.value kept.new)) };
-}
-
-/// The row of a command on a builder.
-#[derive(Drop)]
-pub struct OfBuilder<R>(pub R);
-
-impl<T: NativeType, O: Offset, R: ChangesBuilder<T, O> + Drop> EntryRow<T, O> for OfBuilder<R> {
-    ghost use Rattle.arrow_entry.specs.Entry.{types};
-    ghost use Rattle.arrow_entry.specs.Kind.{is_builder};
-    ghost use Rattle.arrow_entry.specs.Step.{Does_to};
-
-    ghost means = { λ command. Does_to (types T.zero T.PRIMITIVE O.most O.IS_LARGE) is_builder (R.asked command.0) };
-
-    fn run(self, alloc: Global, entry: &mut Option<Entry<T, O>>) -> Reply<T> {
-        match entry {
-            Some(Entry::MutablePrimitive(kept)) => self.0.change(alloc, kept),
-            Some(Entry::MutableBoolean(kept)) => self.0.change(alloc, kept),
-            Some(Entry::MutableBinary(kept)) => self.0.change(alloc, kept),
-            Some(Entry::MutableUtf8(kept)) => self.0.change(alloc, kept),
-            Some(Entry::BinaryValues(kept)) => self.0.change(alloc, kept),
-            Some(Entry::Utf8Values(kept)) => self.0.change(alloc, kept),
-            _ => Reply::NotMet,
-        }
-    }
 }

@@ -1,5 +1,5 @@
-//! How commands find the entries that they name, and what each of them does there. Those that make a value in an empty
-//! entry, and those that write over what slots store, stand in crates of their own above.
+//! What commands do to an entry and to a value, whichever kind it is, and how that is a step of the table; copies of raw
+//! vectors. How a command finds the kind that it is for stands in a crate above, as do most commands for some kinds alone.
 #![tactic(auto)]
 
 pub mod builder;
@@ -9,12 +9,10 @@ pub mod entry;
 pub mod extended;
 pub mod filter;
 pub mod frozen;
+pub mod indexes;
 pub mod mask;
 pub mod read;
-pub mod slots;
+pub mod retyped;
 pub mod table;
 pub mod take;
 pub mod taken;
-pub mod two;
-pub mod whole;
-pub mod widths;

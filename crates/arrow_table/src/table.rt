@@ -9,9 +9,9 @@ ghost use Rattle.arrow_entry.specs.Run.{AppendsRun, CostsAtMost};
 ghost use Rattle.arrow_entry.specs.Step.{IsStep, entry_at};
 
 use crate::sequence::{Steps, run_all};
-use crate::step::step;
 use crate::{Command, Entry, Kind, Reply};
 use arrow_check::cost::TextCost;
+use arrow_step::step::step;
 use arrow_types::error::Error;
 use arrow_types::native_type::NativeType;
 use arrow_types::offset::Offset;

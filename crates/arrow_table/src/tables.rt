@@ -6,8 +6,8 @@ ghost use Rattle.arrow_entry.specs.Run.{CostsAtMost};
 
 use crate::sequence::{Steps, run_all};
 use crate::{BothCommand, Reply, Table};
+use arrow_pairing::widths::{Narrow, Widen};
 use arrow_rows::chosen::put_at;
-use arrow_rows::widths::{Narrow, Widen};
 use arrow_types::error::Error;
 use arrow_types::native_type::NativeType;
 use std::alloc::Global;

@@ -1,0 +1,18 @@
+use Rattle.std.proofs.Common.{◌<◌, length, map, option_map, slice_set, ap, arith}
+use Rattle.arrow_entry.specs.Answer.{told}
+use Rattle.arrow_entry.specs.Entry.{value_of}
+use Rattle.arrow_entry.specs.Step.{other_at}
+use Rattle.arrow_rows.proofs.Steps.{at-row, got, others-stay, set-twice}
+use Rattle.arrow_pairing.proofs.two.at_with.Goals as goal
+
+pub returns : goal.returns
+returns g c =
+    let entries = c.args.entries.now.items in
+    let e = c.args.e in
+    let within : e < length entries = omega arith in
+    let others = others-stay (option_map value_of) entries e c.args.f c.take-kept.new.self (ap (option_map value_of) c.take-kept.ensures.after) in
+    at-row (option_map value_of) (g.R.PairRow.means (other_at (map (option_map value_of) entries) e c.args.f))
+    entries (slice_set (slice_set entries e c.take-kept.new.self) e c.put.new.entry) e c.index_mut.result.now c.put.new.entry (told c.with_entry-reply.result)
+    (got entries e c.index_mut.result.now c.index_mut.result.now within c.index_mut.ensures.value)
+    (set-twice entries e c.take-kept.new.self c.put.new.entry)
+    (rw (← others, ← c.take-kept.ensures.value, c.put.ensures) c.with_entry-reply.ensures)

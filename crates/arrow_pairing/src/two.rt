@@ -1,0 +1,263 @@
+//! Commands on two entries.
+ghost use Rattle.std.specs.Prelude.{◌≡◌, ◌↔◌, Option, Some, IfErr, IfOk, IsTrue, map, option_map};
+ghost use Rattle.arrow_column.specs.Column.{slots_of};
+ghost use Rattle.arrow_entry.specs.Answer.{told};
+ghost use Rattle.arrow_entry.specs.Entry.{Value, boolean_value, native_value, piece_value, types, value_of};
+ghost use Rattle.arrow_entry.specs.Kind.{same_kind, with_nulls};
+ghost use Rattle.arrow_entry.specs.Row.{Row};
+ghost use Rattle.arrow_entry.specs.Step.{AtEntry, Compares_to, Joins, entry_at, other_at};
+
+use arrow_binary::{MutableBinaryArray, MutableBinaryValuesArray};
+use arrow_boolean::MutableBooleanArray;
+use arrow_byte_array::MutableByteArray;
+use arrow_bytes::{Binary, ByteKind, Utf8};
+use arrow_entry::kinds::growing::Growing;
+use arrow_entry::kinds::kept::Kept;
+use arrow_entry::{Entry, Reply};
+use arrow_primitive::MutablePrimitiveArray;
+use arrow_rows::entry::put;
+use arrow_types::error::Error;
+use arrow_types::native_type::NativeType;
+use arrow_types::offset::Offset;
+use arrow_utf8::{MutableUtf8Array, MutableUtf8ValuesArray};
+
+/// What a command does to an entry with what another one holds.
+pub trait PairRow<T: NativeType, O: Offset> {
+    /// Which answer may come of what the other holds and of what was there, and what is then there.
+    ghost means: { Option (Value T) → Option (Value T) → Row T };
+
+    /// Does it.
+    fn run(self, entry: &mut Option<Entry<T, O>>, other: &Option<Entry<T, O>>) -> Reply<T>
+        ensures { means (option_map value_of other.now) (option_map value_of entry.old) (told result) (option_map value_of entry.new) };
+}
+
+/// Does a command to an entry with what stands at a place of the table; past it nothing does.
+fn with_entry<T: NativeType, O: Offset, R: PairRow<T, O> + Drop>(
+    entry: &mut Option<Entry<T, O>>,
+    entries: &Vec<Option<Entry<T, O>>>,
+    f: usize,
+    row: R,
+) -> Reply<T>
+    ensures { R.means (entry_at (map (option_map value_of) entries.now.items) f) (option_map value_of entry.old) (told result) (option_map value_of entry.new) }
+{
+    if f >= entries.len() {
+        return row.run(entry, &None);
+    }
+    row.run(entry, &entries[f])
+}
+
+/// Does a command to the entry of this number, with what another one holds; past the table it is not met.
+pub fn at_with<T: NativeType, O: Offset, R: PairRow<T, O> + Drop>(
+    entries: &mut Vec<Option<Entry<T, O>>>,
+    e: usize,
+    f: usize,
+    row: R,
+) -> Reply<T>
+    ensures { AtEntry (map (option_map value_of) entries.old.items) e (R.means (other_at (map (option_map value_of) entries.old.items) e f)) (told result) (map (option_map value_of) entries.new.items) }
+{
+    if e >= entries.len() {
+        return Reply::NotMet;
+    }
+    let mut kept = entries[e].take();
+    let reply = with_entry(&mut kept, entries, f, row);
+    put(&mut entries[e], kept);
+    reply
+}
+
+/// The same array or builder once more.
+fn cloned<T: NativeType, O: Offset>(entry: &Entry<T, O>) -> Result<Entry<T, O>, Error>
+    ensures ok { IfOk result (λ copy. value_of copy ≡ value_of entry.now) }
+    ensures err { IfErr result (λ e. e ≡ Error.OutOfMemory) }
+{
+    match entry {
+        Entry::Primitive(kept) => Ok(Entry::Primitive(Kept::<T>::copy(kept)?)),
+        Entry::Boolean(kept) => Ok(Entry::Boolean(Kept::<T>::copy(kept)?)),
+        Entry::Binary(kept) => Ok(Entry::Binary(Kept::<T>::copy(kept)?)),
+        Entry::Utf8(kept) => Ok(Entry::Utf8(Kept::<T>::copy(kept)?)),
+        Entry::MutablePrimitive(kept) => Ok(Entry::MutablePrimitive(Kept::<T>::copy(kept)?)),
+        Entry::MutableBoolean(kept) => Ok(Entry::MutableBoolean(Kept::<T>::copy(kept)?)),
+        Entry::MutableBinary(kept) => Ok(Entry::MutableBinary(Kept::<T>::copy(kept)?)),
+        Entry::MutableUtf8(kept) => Ok(Entry::MutableUtf8(Kept::<T>::copy(kept)?)),
+        Entry::BinaryValues(kept) => Ok(Entry::BinaryValues(Kept::<T>::copy(kept)?)),
+        Entry::Utf8Values(kept) => Ok(Entry::Utf8Values(Kept::<T>::copy(kept)?)),
+    }
+}
+
+/// Puts a clone of what the other holds into an empty entry.
+#[derive(Drop)]
+pub struct CloneFrom;
+
+impl<T: NativeType, O: Offset> PairRow<T, O> for CloneFrom {
+    ghost use Rattle.arrow_entry.specs.Entry.{types};
+    ghost use Rattle.arrow_entry.specs.Step.{Clones};
+
+    ghost means = { Clones (types T.zero T.PRIMITIVE O.most O.IS_LARGE) };
+
+    fn run(self, entry: &mut Option<Entry<T, O>>, other: &Option<Entry<T, O>>) -> Reply<T> {
+        let Some(source) = other else {
+            return Reply::NotMet;
+        };
+        if entry.is_some() {
+            return Reply::NotMet;
+        }
+        match cloned(source) {
+            Ok(copy) => {
+                put(entry, Some(copy));
+                Reply::Done
+            }
+            Err(_) => Reply::Refused(Error::OutOfMemory),
+        }
+    }
+}
+
+/// Appends another builder's rows.
+fn joined<T: NativeType, O: Offset, K: Growing<T, O>>(kept: &mut K, other: &K) -> Reply<T>
+    requires { IsTrue (same_kind (K.value kept.old).shape (K.value other.now).shape) }
+    ensures { Joins (types T.zero T.PRIMITIVE O.most O.IS_LARGE) (K.value kept.old) (K.value other.now) (told result) (Some (K.value kept.new)) }
+{
+    match kept.join(other) {
+        Ok(()) => Reply::Done,
+        Err(Error::Overflow) => Reply::Refused(Error::Overflow),
+        Err(_) => Reply::Refused(Error::OutOfMemory),
+    }
+}
+
+/// Appends the rows of a builder of the same kind.
+#[derive(Drop)]
+pub struct ExtendFrom;
+
+impl<T: NativeType, O: Offset> PairRow<T, O> for ExtendFrom {
+    ghost use Rattle.arrow_entry.specs.Entry.{types};
+    ghost use Rattle.arrow_entry.specs.Step.{Joins_to};
+
+    ghost means = { Joins_to (types T.zero T.PRIMITIVE O.most O.IS_LARGE) };
+
+    fn run(self, entry: &mut Option<Entry<T, O>>, other: &Option<Entry<T, O>>) -> Reply<T> {
+        match entry {
+            Some(Entry::MutablePrimitive(kept)) => match other {
+                Some(Entry::MutablePrimitive(other)) => joined::<T, O, MutablePrimitiveArray<T>>(
+                    kept, other,
+                ),
+                _ => Reply::NotMet,
+            },
+            Some(Entry::MutableBoolean(kept)) => match other {
+                Some(Entry::MutableBoolean(other)) => joined::<T, O, MutableBooleanArray>(
+                    kept, other,
+                ),
+                _ => Reply::NotMet,
+            },
+            Some(Entry::MutableBinary(kept)) => match other {
+                Some(Entry::MutableBinary(other)) => joined::<T, O, MutableBinaryArray<O>>(
+                    kept, other,
+                ),
+                _ => Reply::NotMet,
+            },
+            Some(Entry::MutableUtf8(kept)) => match other {
+                Some(Entry::MutableUtf8(other)) => joined::<T, O, MutableUtf8Array<O>>(kept, other),
+                _ => Reply::NotMet,
+            },
+            Some(Entry::BinaryValues(kept)) => match other {
+                Some(Entry::BinaryValues(other)) => joined::<T, O, MutableBinaryValuesArray<O>>(
+                    kept, other,
+                ),
+                _ => Reply::NotMet,
+            },
+            Some(Entry::Utf8Values(kept)) => match other {
+                Some(Entry::Utf8Values(other)) => joined::<T, O, MutableUtf8ValuesArray<O>>(
+                    kept, other,
+                ),
+                _ => Reply::NotMet,
+            },
+            _ => Reply::NotMet,
+        }
+    }
+}
+
+/// Whether two builders of native values have the same slots.
+#[tactic(auto, using(arrow_entry::proofs::Rules::seen_slots))]
+fn same_values<T: NativeType>(
+    first: &MutablePrimitiveArray<T>,
+    second: &MutablePrimitiveArray<T>,
+) -> bool
+    ensures { IsTrue result ↔ slots_of (native_value with_nulls first.now).column ≡ slots_of (native_value with_nulls second.now).column }
+{
+    *first == *second
+}
+
+/// Whether two builders of truth values have the same slots.
+fn same_bits<T: NativeType>(first: &MutableBooleanArray, second: &MutableBooleanArray) -> bool
+    ensures { IsTrue result ↔ slots_of (boolean_value {T = T} with_nulls first.now).column ≡ slots_of (boolean_value {T = T} with_nulls second.now).column }
+{
+    *first == *second
+}
+
+/// Whether two builders of bytes, or of texts, have the same slots.
+#[tactic(auto, using(arrow_entry::proofs::Rules::seen_slots))]
+fn same_pieces<T: NativeType, K: ByteKind, O: Offset>(
+    first: &MutableByteArray<K, O>,
+    second: &MutableByteArray<K, O>,
+) -> bool
+    ensures { IsTrue result ↔ slots_of (piece_value {T = T} with_nulls K.is_text first.now).column ≡ slots_of (piece_value {T = T} with_nulls K.is_text second.now).column }
+{
+    *first == *second
+}
+
+/// Whether two builders with nulls of one kind have the same slots.
+fn compared<T: NativeType, O: Offset>(
+    first: &Option<Entry<T, O>>,
+    second: &Option<Entry<T, O>>,
+) -> Reply<T>
+    ensures { Compares_to (types T.zero T.PRIMITIVE O.most O.IS_LARGE) (option_map value_of second.now) (option_map value_of first.now) (told result) (option_map value_of first.now) }
+{
+    match first {
+        Some(Entry::MutablePrimitive(first)) => match second {
+            Some(Entry::MutablePrimitive(second)) => Reply::Flag(same_values(first, second)),
+            _ => Reply::NotMet,
+        },
+        Some(Entry::MutableBoolean(first)) => match second {
+            Some(Entry::MutableBoolean(second)) => Reply::Flag(same_bits::<T>(first, second)),
+            _ => Reply::NotMet,
+        },
+        Some(Entry::MutableBinary(first)) => match second {
+            Some(Entry::MutableBinary(second)) => Reply::Flag(same_pieces::<T, Binary, O>(
+                first, second,
+            )),
+            _ => Reply::NotMet,
+        },
+        Some(Entry::MutableUtf8(first)) => match second {
+            Some(Entry::MutableUtf8(second)) => Reply::Flag(same_pieces::<T, Utf8, O>(
+                first, second,
+            )),
+            _ => Reply::NotMet,
+        },
+        _ => Reply::NotMet,
+    }
+}
+
+/// The same with what stands at a place of the table; past it nothing does.
+fn compared_with<T: NativeType, O: Offset>(
+    first: &Option<Entry<T, O>>,
+    entries: &Vec<Option<Entry<T, O>>>,
+    f: usize,
+) -> Reply<T>
+    ensures { Compares_to (types T.zero T.PRIMITIVE O.most O.IS_LARGE) (entry_at (map (option_map value_of) entries.now.items) f) (option_map value_of first.now) (told result) (option_map value_of first.now) }
+{
+    if f >= entries.len() {
+        return compared(first, &None);
+    }
+    compared(first, &entries[f])
+}
+
+/// Whether the builders with nulls in two entries are of one kind and have the same slots.
+pub fn equal<T: NativeType, O: Offset>(
+    entries: &Vec<Option<Entry<T, O>>>,
+    e: usize,
+    f: usize,
+) -> Reply<T>
+    ensures { AtEntry (map (option_map value_of) entries.now.items) e (Compares_to (types T.zero T.PRIMITIVE O.most O.IS_LARGE) (entry_at (map (option_map value_of) entries.now.items) f)) (told result) (map (option_map value_of) entries.now.items) }
+{
+    if e >= entries.len() {
+        return Reply::NotMet;
+    }
+    compared_with(&entries[e], entries, f)
+}
