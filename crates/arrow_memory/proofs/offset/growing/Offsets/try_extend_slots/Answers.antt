@@ -1,6 +1,6 @@
-use Rattle.std.proofs.Common.{◌≡◌, ◌+◌, ◌-◌, take, drop, length, ap, ◌∙◌, arith}
-use Rattle.arrow_memory.specs.Offsets.{last_of, numbers_of}
-use Rattle.arrow_memory.proofs.OffsetLemmas.{length-numbers, keeps-piece, last-piece, numbers-piece}
+use Rattle.std.proofs.Common.{◌≡◌, ◌+◌, ◌-◌, take, drop, ap, ◌∙◌, arith}
+use Rattle.arrow_memory.specs.Offsets.{numbers_of}
+use Rattle.arrow_memory.proofs.OffsetLemmas.{keeps-piece, last-piece, numbers-piece}
 use Rattle.arrow_memory.proofs.offset.growing.Offsets.try_extend_slots.Goals as goal
 
 pub try_extend_cut-requires-clause-keeps : goal.try_extend_cut-requires-clause-keeps
