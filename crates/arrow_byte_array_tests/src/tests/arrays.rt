@@ -1,40 +1,128 @@
-//! Arrays that are read and cut.
-use super::*;
+//! Arrays: how they are made, read, cut, masked, shared and thawed.
+ghost use Rattle.std.specs.Prelude.{◌≡◌, length};
 
-/// Whether the slots of these are read one by one.
-fn reads<K: Known, O: Offset>(array: &ByteArray<K, O>) -> bool {
-    if array.len() != 3 || array.null_count() != 1 {
+use super::*;
+use arrow_bytes::ByteKind;
+
+/// How an array is made.
+pub(super) enum Maker {
+    From(List),
+    FromIter(List),
+    FromSlice(List),
+    FromIterValues(List),
+    NewEmpty,
+    Default,
+    NewNull(usize),
+    Parts(Pieces),
+    /// Of a builder.
+    Freeze(builders::Maker),
+    /// Of one without nulls.
+    FreezeValues(values::Maker),
+}
+
+/// What is asked of an array, or done to it where it lies.
+pub(super) enum Step {
+    Shows(Pieces),
+    NullCount(usize),
+    /// The place of a slot, what it stores, and whether it is null.
+    Reads(usize, &'static [u8], bool),
+    Lends,
+    SetMask(&'static [bool]),
+    DropMask,
+    KeepMask,
+    CloneIsNotThawed(Pieces),
+}
+
+/// What an array becomes.
+pub(super) enum Change {
+    /// So many slots from a place on.
+    Cut(usize, usize),
+    /// Those, and then the slots of them from the second on, as many as there are.
+    CutTwice(usize, usize, usize, usize),
+    WithoutMask,
+    /// The array of its own parts without the mask.
+    PartsWithoutMask,
+    /// So many slots from a place on, which are not thawed.
+    CutIsNotThawed(usize, usize),
+}
+
+/// The array of a builder.
+fn freeze<K: ByteKind, O: Offset>(
+    builder: Result<MutableByteArray<K, O>, Error>,
+) -> Result<ByteArray<K, O>, Error> {
+    match builder {
+        Ok(builder) => builder.freeze(),
+        Err(refused) => Err(refused),
+    }
+}
+
+/// The array of a builder without nulls.
+fn freeze_values<K: ByteKind, O: Offset>(
+    builder: Result<MutableByteValuesArray<K, O>, Error>,
+) -> Result<ByteArray<K, O>, Error> {
+    match builder {
+        Ok(builder) => builder.freeze(),
+        Err(refused) => Err(refused),
+    }
+}
+
+/// Whether a slot stores this item, and is null or not.
+fn reads<K: Known, O: Offset>(
+    array: &ByteArray<K, O>,
+    place: usize,
+    item: &[u8],
+    is_null: bool,
+) -> bool {
+    if array.len() <= place {
         return false;
     }
-    array.is_valid(0) && array.is_null(1) && !array.is_valid(1) && !array.is_null(2)
+    let is_marked = (array.is_null(place) == is_null) & (array.is_valid(place) != is_null);
+    is_marked & K::reads(array, place, item, is_null)
 }
 
-/// Whether the slots of these, and the items that they store, are read one by one.
-fn reads_items<K: Known, O: Offset>(array: &ByteArray<K, O>) -> bool {
-    let slots = [Some("\x01"), None, Some("\x04\x04")];
-    K::gets(array, slots.as_slice()) && K::stores(array, ["\x01", "", "\x04\x04"].as_slice())
+/// Replaces the mask by these marks, where they are as many as there are slots.
+fn take_marks<K: ByteKind, O: Offset>(array: &mut ByteArray<K, O>, marks: Bitmap) -> bool {
+    if array.len() != marks.len() {
+        return false;
+    }
+    array.set_validity(Some(marks));
+    true
 }
 
-/// Whether those between other bytes are.
-fn reads_around<K: Known, O: Offset>(alloc: Global) -> Result<bool, Error> {
-    seen(
-        around::<K, O>(alloc),
-        |array| reads(array) && reads_items(array) && is_type::<K, O>(array.data_type()),
-    )
+/// Replaces it by those that were made.
+fn set_mask<K: ByteKind, O: Offset>(
+    array: &mut ByteArray<K, O>,
+    marks: Result<Bitmap, Error>,
+) -> bool {
+    match marks {
+        Ok(marks) => take_marks(array, marks),
+        Err(_) => false,
+    }
 }
 
-#[test]
-fn slots_lie_between_other_bytes(rt: HostRuntime) -> Result<(), Fail> {
-    all_told(&[
-        reads_around::<Binary, i32>(rt.alloc()),
-        reads_around::<Binary, i64>(rt.alloc()),
-        reads_around::<Utf8, i32>(rt.alloc()),
-        reads_around::<Utf8, i64>(rt.alloc()),
-    ])
+/// Marks as they are.
+fn same(marks: Bitmap) -> Bitmap
+    ensures { length result ≡ length marks }
+{
+    marks
+}
+
+/// Leaves the marks of a mask as they are, where one is held.
+fn keep_mask<K: ByteKind, O: Offset>(array: &mut ByteArray<K, O>) -> bool {
+    array.apply_validity(same);
+    true
+}
+
+/// Whether a clone is not thawed while the first array lives, and both are as before.
+pub(super) fn is_shared<K: Known, O: Offset>(first: &ByteArray<K, O>, wanted: Pieces) -> bool {
+    match first.clone() {
+        Ok(copy) => shown(left(copy.into_mut()), wanted) & first.shows(wanted),
+        Err(_) => false,
+    }
 }
 
 /// The slots of an array from a place on; all of them where there are fewer.
-pub(super) fn cut_off<K: ByteKind, O: Offset>(
+fn cut_off<K: ByteKind, O: Offset>(
     array: ByteArray<K, O>,
     offset: usize,
     len: usize,
@@ -45,27 +133,282 @@ pub(super) fn cut_off<K: ByteKind, O: Offset>(
     array.sliced(offset, len)
 }
 
-/// Whether the first two slots of these are cut off by value, and then the rest.
-fn cuts_off<K: ByteKind, O: Offset>(array: ByteArray<K, O>) -> bool {
-    let one = cut_off(array, 2, 1);
-    let is_left = shows(&one, [3, 5].as_slice(), AROUND.as_slice(), "1");
-    is_left & shows(&cut_off(one, 1, 0), [5].as_slice(), AROUND.as_slice(), "")
+/// The array of another's parts without its mask.
+fn unmasked<K: ByteKind, O: Offset>(array: ByteArray<K, O>) -> ByteArray<K, O> {
+    let (data_type, offsets, values, _) = array.into_inner();
+    ByteArray::new(data_type, offsets, values, None)
 }
 
-/// Whether those of slots between other bytes are.
-fn cuts_by_value<K: Known, O: Offset>(alloc: Global) -> Result<bool, Error> {
-    match around::<K, O>(alloc) {
-        Ok(array) => Ok(cuts_off(array)),
-        Err(refused) => Err(refused),
+impl<K: Known, O: Offset> Shows for ByteArray<K, O> {
+    fn shows(&self, wanted: Pieces) -> bool {
+        let (offsets, bytes, mask) = wanted;
+        let are_bytes = (self.values().as_slice() == bytes) & has_marks(self.validity(), mask);
+        let is_whole = is_type::<K, O>(self.data_type())
+            & (self.len() == offsets.len().saturating_sub(1));
+        are_bytes & is_whole & are_offsets(self.offsets().buffer().as_slice(), offsets)
     }
 }
 
+impl<K: Known, O: Offset> Asked for ByteArray<K, O> {
+    type Maker = Maker;
+
+    type Step = Step;
+
+    fn make(alloc: Global, maker: &Maker) -> Result<ByteArray<K, O>, Error> {
+        match maker {
+            Maker::From(list) => ByteArray::<K, O>::from(alloc, K::slots(*list)),
+            Maker::FromIter(list) => {
+                ByteArray::<K, O>::from_iter(alloc, K::slots(*list).iter().copied())
+            }
+            Maker::FromSlice(list) => ByteArray::<K, O>::from_slice(alloc, K::items(*list)),
+            Maker::FromIterValues(list) => {
+                ByteArray::<K, O>::from_iter_values(alloc, K::items(*list).iter().copied())
+            }
+            Maker::NewEmpty => {
+                ByteArray::new_empty(alloc, ByteArray::<K, O>::default_data_type())
+            }
+            Maker::Default => ByteArray::default(alloc),
+            Maker::NewNull(count) => {
+                ByteArray::new_null(alloc, ByteArray::<K, O>::default_data_type(), *count)
+            }
+            Maker::Parts(parts) => array_of(alloc, *parts),
+            Maker::Freeze(builder) => freeze(MutableByteArray::make(alloc, builder)),
+            Maker::FreezeValues(builder) => {
+                freeze_values(MutableByteValuesArray::make(alloc, builder))
+            }
+        }
+    }
+
+    fn goes(&mut self, alloc: Global, step: &Step) -> bool {
+        match step {
+            Step::Shows(wanted) => self.shows(*wanted),
+            Step::NullCount(count) => self.null_count() == *count,
+            Step::Reads(place, item, is_null) => reads(self, *place, *item, *is_null),
+            Step::Lends => K::lends(self),
+            Step::SetMask(marks) => set_mask(self, Bitmap::from_slice(alloc, *marks)),
+            Step::DropMask => {
+                self.set_validity(None);
+                true
+            }
+            Step::KeepMask => keep_mask(self),
+            Step::CloneIsNotThawed(wanted) => is_shared(self, *wanted),
+        }
+    }
+}
+
+impl<K: Known, O: Offset> Turned for ByteArray<K, O> {
+    type Change = Change;
+
+    fn turn(self, change: &Change) -> Result<ByteArray<K, O>, Error> {
+        match change {
+            Change::Cut(place, count) => Ok(cut_off(self, *place, *count)),
+            Change::CutTwice(place, count, next, left) => {
+                Ok(cut_off(cut_off(self, *place, *count), *next, *left))
+            }
+            Change::WithoutMask => Ok(self.with_validity(None)),
+            Change::PartsWithoutMask => Ok(unmasked(self)),
+            Change::CutIsNotThawed(place, count) => left(cut_off(self, *place, *count).into_mut()),
+        }
+    }
+}
+
+/// How an array is made, what it has, and what is asked of it then.
+type Case = (Maker, Pieces, &'static [Step]);
+
+/// Whether all cases go as they should of a kind over both widths of offsets.
+fn arrays_of_kind<K: Known>(alloc: Global, cases: &[Case]) -> bool {
+    let is_narrow = all_asked::<ByteArray<K, i32>>(alloc, cases);
+    is_narrow & all_asked::<ByteArray<K, i64>>(alloc, cases)
+}
+
+/// Whether they do of both kinds.
+fn arrays(alloc: Global, cases: &[Case]) -> bool {
+    arrays_of_kind::<Binary>(alloc, cases) & arrays_of_kind::<Utf8>(alloc, cases)
+}
+
+/// Arrays of slots have these, from a slice and from an iterator; those of items, and of slots none of which is null, hold
+/// no mask; those of no slot and of nulls store no byte, and nulls have a mask.
+const MADE: &[Case] = &[
+    (Maker::From(List::Three), SLOTS, &[]),
+    (Maker::FromIter(List::Three), SLOTS, &[]),
+    (Maker::From(List::One), (&[0, 1], b"x", "none"), &[]),
+    (Maker::FromSlice(List::Three), ITEMS, &[]),
+    (Maker::FromIterValues(List::Three), ITEMS, &[]),
+    (Maker::NewEmpty, NOTHING, &[]),
+    (Maker::Default, NOTHING, &[]),
+    (Maker::NewNull(0), (&[0], b"", ""), &[]),
+    (Maker::NewNull(3), (&[0, 0, 0, 0], b"", "000"), &[]),
+];
+
 #[test]
-fn slices_by_value_keep_all_bytes(rt: HostRuntime) -> Result<(), Fail> {
-    all_told(&[
-        cuts_by_value::<Binary, i32>(rt.alloc()),
-        cuts_by_value::<Binary, i64>(rt.alloc()),
-        cuts_by_value::<Utf8, i32>(rt.alloc()),
-        cuts_by_value::<Utf8, i64>(rt.alloc()),
-    ])
+fn arrays_are_offsets_bytes_and_marks_where_there_are_nulls(rt: HostRuntime) {
+    assert!(rt; arrays(rt.alloc(), MADE));
+}
+
+/// Builders of items have no mask, and that of a builder of slots is dropped where it has no null.
+const FROZEN: &[Case] = &[
+    (
+        Maker::Freeze(builders::Maker::FromIterValues(List::Three)),
+        ITEMS,
+        &[],
+    ),
+    (
+        Maker::FreezeValues(values::Maker::FromIter(List::Three)),
+        ITEMS,
+        &[],
+    ),
+    (
+        Maker::Freeze(builders::Maker::Parts((&[0, 1, 1], b"x", "11"))),
+        (&[0, 1, 1], b"x", "none"),
+        &[],
+    ),
+    (
+        Maker::Freeze(builders::Maker::Parts((&[0, 1, 1], b"x", "10"))),
+        (&[0, 1, 1], b"x", "10"),
+        &[],
+    ),
+    (
+        Maker::Freeze(builders::Maker::Parts((&[0, 1, 1], b"x", "none"))),
+        (&[0, 1, 1], b"x", "none"),
+        &[],
+    ),
+];
+
+#[test]
+fn freeze_drops_a_mask_without_nulls(rt: HostRuntime) {
+    assert!(rt; arrays(rt.alloc(), FROZEN));
+}
+
+/// Items of one, no and two bytes, the second of which is null, with bytes around them that are no text.
+const AROUND: Pieces = (&[2, 3, 3, 5], b"\xFF\xFF\x01\x04\x04\xC3", "101");
+
+/// The slots of these are read one by one, and lent in order.
+const READ: &[Case] = &[(
+    Maker::Parts(AROUND),
+    AROUND,
+    &[
+        Step::NullCount(1),
+        Step::Reads(0, b"\x01", false),
+        Step::Reads(1, b"", true),
+        Step::Reads(2, b"\x04\x04", false),
+        Step::Lends,
+    ],
+)];
+
+#[test]
+fn slots_lie_between_other_bytes(rt: HostRuntime) {
+    assert!(rt; arrays(rt.alloc(), READ));
+}
+
+/// These without a mask.
+const AROUND_UNMASKED: Pieces = (&[2, 3, 3, 5], b"\xFF\xFF\x01\x04\x04\xC3", "none");
+
+/// These under another mask.
+const AROUND_REMASKED: Pieces = (&[2, 3, 3, 5], b"\xFF\xFF\x01\x04\x04\xC3", "011");
+
+/// An array's mask is replaced, or dropped where it lies, and the bytes of its slots stay, which a null does not show. One
+/// that is not held is not changed.
+const MASKED: &[Case] = &[
+    (
+        Maker::Parts(AROUND),
+        AROUND,
+        &[
+            Step::SetMask(&[false, true, true]),
+            Step::KeepMask,
+            Step::Shows(AROUND_REMASKED),
+            Step::Reads(0, b"\x01", true),
+            Step::Reads(1, b"", false),
+            Step::Reads(2, b"\x04\x04", false),
+        ],
+    ),
+    (
+        Maker::Parts(AROUND),
+        AROUND,
+        &[
+            Step::DropMask,
+            Step::Shows(AROUND_UNMASKED),
+            Step::Reads(0, b"\x01", false),
+            Step::Reads(1, b"", false),
+            Step::Reads(2, b"\x04\x04", false),
+            Step::KeepMask,
+            Step::Shows(AROUND_UNMASKED),
+        ],
+    ),
+];
+
+#[test]
+fn masks_of_arrays_are_replaced_and_dropped(rt: HostRuntime) {
+    assert!(rt; arrays(rt.alloc(), MASKED));
+}
+
+/// A clone is not thawed while the first array lives.
+const SHARED: &[Case] = &[(
+    Maker::From(List::Three),
+    SLOTS,
+    &[Step::CloneIsNotThawed(SLOTS)],
+)];
+
+#[test]
+fn shared_arrays_are_not_thawed(rt: HostRuntime) {
+    assert!(rt; arrays(rt.alloc(), SHARED));
+}
+
+/// How an array is made, what is asked of it, what it becomes, and what that has.
+type Turn = (Maker, &'static [Step], Change, Pieces);
+
+/// Whether all of them become these, of a kind over both widths of offsets.
+fn arrays_of_kind_turn<K: Known>(alloc: Global, cases: &[Turn]) -> bool {
+    let is_narrow = all_turned::<ByteArray<K, i32>>(alloc, cases);
+    is_narrow & all_turned::<ByteArray<K, i64>>(alloc, cases)
+}
+
+/// Whether they do of both kinds.
+fn arrays_turn(alloc: Global, cases: &[Turn]) -> bool {
+    arrays_of_kind_turn::<Binary>(alloc, cases) & arrays_of_kind_turn::<Utf8>(alloc, cases)
+}
+
+/// The first two slots are cut off by value, and then the rest. Parts that are known to fit are taken as they are.
+const TURNS: &[Turn] = &[
+    (
+        Maker::Parts(AROUND),
+        &[],
+        Change::Cut(2, 1),
+        (&[3, 5], b"\xFF\xFF\x01\x04\x04\xC3", "1"),
+    ),
+    (
+        Maker::Parts(AROUND),
+        &[],
+        Change::CutTwice(2, 1, 1, 0),
+        (&[5], b"\xFF\xFF\x01\x04\x04\xC3", ""),
+    ),
+    (
+        Maker::Parts(AROUND),
+        &[Step::SetMask(&[false, true, true]), Step::KeepMask],
+        Change::WithoutMask,
+        AROUND_UNMASKED,
+    ),
+    (
+        Maker::Parts(AROUND),
+        &[],
+        Change::PartsWithoutMask,
+        AROUND_UNMASKED,
+    ),
+];
+
+#[test]
+fn all_bytes_stay_in_slices_and_under_other_masks(rt: HostRuntime) {
+    assert!(rt; arrays_turn(rt.alloc(), TURNS));
+}
+
+/// An array that does not show its first slot.
+const CUT: &[Turn] = &[(
+    Maker::FromSlice(List::Three),
+    &[],
+    Change::CutIsNotThawed(1, 1),
+    (&[2, 2], b"\xC3\xA9there", "none"),
+)];
+
+#[test]
+fn slices_are_not_thawed(rt: HostRuntime) {
+    assert!(rt; arrays_turn(rt.alloc(), CUT));
 }

@@ -1,52 +1,41 @@
 //! Builders without nulls.
 use super::*;
+use arrow_bytes::ByteKind;
 
-/// Whether items that are pushed are there, an empty one for a null.
-fn pushes<K: Known, O: Offset>(builder: &mut MutableByteValuesArray<K, O>) -> Result<bool, Error> {
-    K::push_item(builder, "\x01")?;
-    K::try_push_item(builder, "é")?;
-    let is_pushed = K::values_store(builder, ["\x01", "é"].as_slice());
-    builder.push_null()?;
-    Ok(is_pushed && holds(builder, [0, 1, 3, 3].as_slice(), "\x01é".as_bytes()))
+/// How a builder is made.
+pub(super) enum Maker {
+    New,
+    Default,
+    WithCapacity(usize),
+    WithCapacities(usize, usize),
+    FromIter(List),
+    TryFromIter(List),
+    /// Of the items `a` and `bc`.
+    FromTwo,
+    Clone(List),
 }
 
-/// Whether the item that is popped has the bytes of this text.
-fn pops<K: Known, O: Offset>(
-    builder: &mut MutableByteValuesArray<K, O>,
-    text: &str,
-) -> Result<bool, Error> {
-    match builder.pop() {
-        Ok(Some(item)) => Ok(K::is(&item, text)),
-        Ok(None) => Ok(false),
-        Err(refused) => Err(refused),
-    }
-}
-
-/// Whether items are pushed, and popped again.
-fn pops_both<K: Known, O: Offset>(
-    builder: &mut MutableByteValuesArray<K, O>,
-) -> Result<bool, Error> {
-    let is_pushed = pushes(builder)?;
-    let is_popped = pops(builder, "")? & pops(builder, "é")?;
-    Ok(is_pushed & is_popped && holds(builder, [0, 1].as_slice(), b"\x01"))
-}
-
-/// Whether they are onto a new builder.
-fn pops_new<K: Known, O: Offset>(alloc: Global) -> Result<bool, Error> {
-    match MutableByteValuesArray::<K, O>::new(alloc) {
-        Ok(mut builder) => pops_both(&mut builder),
-        Err(refused) => Err(refused),
-    }
-}
-
-#[test]
-fn nulls_are_empty_items(rt: HostRuntime) -> Result<(), Fail> {
-    all_told(&[
-        pops_new::<Binary, i32>(rt.alloc()),
-        pops_new::<Binary, i64>(rt.alloc()),
-        pops_new::<Utf8, i32>(rt.alloc()),
-        pops_new::<Utf8, i64>(rt.alloc()),
-    ])
+/// What is asked of a builder, or done to it where it lies.
+pub(super) enum Step {
+    Shows(Pieces),
+    /// The place of an item, and its bytes.
+    Stores(usize, &'static [u8]),
+    Lends,
+    Push(&'static str),
+    TryPush(&'static str),
+    PushNull,
+    /// The item that is popped.
+    Pop(&'static str),
+    Extend(List),
+    TryExtend(List),
+    ExtendBorrowed,
+    /// The parts of another builder, whose items come.
+    ExtendFrom(Pieces),
+    /// So many items and bytes for which there is room, or for which there is less.
+    HasRoom(usize, usize),
+    LacksRoom(usize, usize),
+    Reserve(usize, usize),
+    ShrinkToFit,
 }
 
 /// Whether there is room for so many items and so many bytes, each in its own place.
@@ -55,196 +44,225 @@ fn has_room<K: ByteKind, O: Offset>(
     items: usize,
     bytes: usize,
 ) -> bool {
-    items <= builder.capacity() && bytes <= builder.values().capacity()
+    (items <= builder.capacity()) & (bytes <= builder.values().capacity())
 }
 
-/// Whether room for forty items and four hundred bytes is there, then for more, and is given back, and items stay.
-fn rooms<K: Known, O: Offset>(builder: &mut MutableByteValuesArray<K, O>) -> Result<bool, Error> {
-    let is_given = has_room(builder, 40, 400);
-    K::push_item(builder, "ab")?;
-    builder.reserve(100, 1000)?;
-    let is_more = has_room(builder, 101, 1002);
-    builder.shrink_to_fit()?;
-    let is_back = builder.capacity() < 40 && builder.values().capacity() < 400;
-    Ok(is_given & is_more & is_back && holds(builder, [0, 2].as_slice(), b"ab"))
+/// Whether there is less room than for so many items, and less than for so many bytes.
+fn lacks_room<K: ByteKind, O: Offset>(
+    builder: &MutableByteValuesArray<K, O>,
+    items: usize,
+    bytes: usize,
+) -> bool {
+    (builder.capacity() < items) & (builder.values().capacity() < bytes)
 }
 
-/// Whether those of a new builder are.
-fn rooms_in_room<K: Known, O: Offset>(alloc: Global) -> Result<bool, Error> {
-    match MutableByteValuesArray::<K, O>::with_capacities(alloc, 40, 400) {
-        Ok(mut builder) => rooms(&mut builder),
-        Err(refused) => Err(refused),
+impl<K: Known, O: Offset> Shows for MutableByteValuesArray<K, O> {
+    fn shows(&self, wanted: Pieces) -> bool {
+        let (offsets, bytes, mask) = wanted;
+        let is_whole = is_type::<K, O>(self.data_type())
+            & (self.len() == offsets.len().saturating_sub(1));
+        let are_bytes = (self.values().as_slice() == bytes) & (mask == "none");
+        are_bytes & is_whole & are_offsets(self.offsets().as_slice(), offsets)
     }
 }
 
-#[test]
-fn room_is_made_and_given_back(rt: HostRuntime) -> Result<(), Fail> {
-    all_told(&[
-        rooms_in_room::<Binary, i32>(rt.alloc()),
-        rooms_in_room::<Binary, i64>(rt.alloc()),
-        rooms_in_room::<Utf8, i32>(rt.alloc()),
-        rooms_in_room::<Utf8, i64>(rt.alloc()),
-    ])
-}
+// Another's items come, which stay there.
+impl<K: Known, O: Offset> Paired for MutableByteValuesArray<K, O> {
+    type Question = Pieces;
 
-/// Whether a new builder has the room for items that it is given.
-fn has_capacity<K: Known, O: Offset>(alloc: Global) -> Result<bool, Error> {
-    seen(
-        MutableByteValuesArray::<K, O>::with_capacity(alloc, 40),
-        |builder| has_room(builder, 40, 0),
-    )
-}
+    fn copy(&self) -> Result<MutableByteValuesArray<K, O>, Error> {
+        self.clone()
+    }
 
-#[test]
-fn room_for_items_is_given(rt: HostRuntime) -> Result<(), Fail> {
-    all_told(&[
-        has_capacity::<Binary, i32>(rt.alloc()),
-        has_capacity::<Binary, i64>(rt.alloc()),
-        has_capacity::<Utf8, i32>(rt.alloc()),
-        has_capacity::<Utf8, i64>(rt.alloc()),
-    ])
-}
-
-/// Whether the copy of a builder has the same items.
-fn copies<K: Known, O: Offset>(alloc: Global) -> Result<bool, Error> {
-    match MutableByteValuesArray::<K, O>::from_iter(alloc, K::items(List::Three).iter().copied()) {
-        Ok(builder) => held(builder.clone(), THREE.as_slice(), "éthere".as_bytes()),
-        Err(refused) => Err(refused),
+    fn is_right(&mut self, other: &MutableByteValuesArray<K, O>, question: &Pieces) -> bool {
+        let is_taken = self.try_extend_from_self(other).is_ok();
+        is_taken & other.shows(*question)
     }
 }
 
-#[test]
-fn copies_have_the_same_items(rt: HostRuntime) -> Result<(), Fail> {
-    all_told(&[
-        copies::<Binary, i32>(rt.alloc()),
-        copies::<Binary, i64>(rt.alloc()),
-        copies::<Utf8, i32>(rt.alloc()),
-        copies::<Utf8, i64>(rt.alloc()),
-    ])
-}
-
-/// Whether a builder grows by many items.
-fn extends<K: Known, O: Offset>(builder: &mut MutableByteValuesArray<K, O>) -> Result<bool, Error> {
-    builder.extend(K::items(List::First).iter().copied())?;
-    builder.try_extend(K::items(List::Second).iter().copied())?;
-    Ok(holds(builder, [0, 1, 3, 3, 4].as_slice(), "aéd".as_bytes()))
-}
-
-/// Whether a builder of no item does.
-fn extends_default<K: Known, O: Offset>(alloc: Global) -> Result<bool, Error> {
-    match MutableByteValuesArray::<K, O>::default(alloc) {
-        Ok(mut builder) => extends(&mut builder),
-        Err(refused) => Err(refused),
-    }
-}
-
-#[test]
-fn builders_grow_by_many(rt: HostRuntime) -> Result<(), Fail> {
-    all_told(&[
-        extends_default::<Binary, i32>(rt.alloc()),
-        extends_default::<Binary, i64>(rt.alloc()),
-        extends_default::<Utf8, i32>(rt.alloc()),
-        extends_default::<Utf8, i64>(rt.alloc()),
-    ])
-}
-
-/// A builder whose item lies behind a byte.
-fn behind<K: Known, O: Offset>(alloc: Global) -> Result<MutableByteValuesArray<K, O>, Error> {
-    let data_type = K::data_type(O::IS_LARGE);
-    values_of(alloc, data_type, [1, 2].as_slice(), b"\xFFz")
-}
-
-/// Whether only the bytes of another's items come behind these.
-fn joins<K: Known, O: Offset>(
+/// Appends items, makes room, or gives it back.
+fn grow<K: Known, O: Offset>(
     builder: &mut MutableByteValuesArray<K, O>,
-    other: &MutableByteValuesArray<K, O>,
-) -> Result<bool, Error> {
-    K::push_item(builder, "x")?;
-    builder.try_extend_from_self(other)?;
-    let is_left = holds(other, [1, 2].as_slice(), b"\xFFz");
-    Ok(is_left && holds(builder, [0, 1, 2].as_slice(), b"xz"))
+    step: &Step,
+) -> Result<(), Error> {
+    match step {
+        Step::Push(item) => K::push_item(builder, *item, false),
+        Step::TryPush(item) => K::push_item(builder, *item, true),
+        Step::PushNull => builder.push_null(),
+        Step::Reserve(items, bytes) => builder.reserve(*items, *bytes),
+        Step::ShrinkToFit => builder.shrink_to_fit(),
+        _ => grow_by_many(builder, step),
+    }
 }
 
-/// Whether they do where another byte lies before the other's.
-fn joins_to<K: Known, O: Offset>(
-    alloc: Global,
+/// Appends items of a list.
+fn grow_by_many<K: Known, O: Offset>(
     builder: &mut MutableByteValuesArray<K, O>,
-) -> Result<bool, Error> {
-    match behind::<K, O>(alloc) {
-        Ok(other) => joins(builder, &other),
-        Err(refused) => Err(refused),
+    step: &Step,
+) -> Result<(), Error> {
+    match step {
+        Step::Extend(list) => builder.extend(K::items(*list).iter().copied()),
+        Step::TryExtend(list) => builder.try_extend(K::items(*list).iter().copied()),
+        Step::ExtendBorrowed => K::extend_items_borrowed(builder),
+        _ => Err(Error::OutOfSpec("no growth")),
     }
 }
 
-/// Whether they do behind an item of a new builder.
-fn joins_rest<K: Known, O: Offset>(alloc: Global) -> Result<bool, Error> {
-    match MutableByteValuesArray::<K, O>::with_capacities(alloc, 1, 1) {
-        Ok(mut builder) => joins_to(alloc, &mut builder),
-        Err(refused) => Err(refused),
+impl<K: Known, O: Offset> Asked for MutableByteValuesArray<K, O> {
+    type Maker = Maker;
+
+    type Step = Step;
+
+    fn make(alloc: Global, maker: &Maker) -> Result<MutableByteValuesArray<K, O>, Error> {
+        match maker {
+            Maker::New => MutableByteValuesArray::new(alloc),
+            Maker::Default => MutableByteValuesArray::default(alloc),
+            Maker::WithCapacity(items) => MutableByteValuesArray::with_capacity(alloc, *items),
+            Maker::WithCapacities(items, bytes) => {
+                MutableByteValuesArray::with_capacities(alloc, *items, *bytes)
+            }
+            Maker::FromIter(list) => {
+                MutableByteValuesArray::<K, O>::from_iter(alloc, K::items(*list).iter().copied())
+            }
+            Maker::TryFromIter(list) => MutableByteValuesArray::<K, O>::try_from_iter(
+                alloc,
+                K::items(*list).iter().copied(),
+            ),
+            Maker::FromTwo => K::values_from_two(alloc),
+            Maker::Clone(list) => copy_of(MutableByteValuesArray::<K, O>::from_iter(
+                alloc,
+                K::items(*list).iter().copied(),
+            )),
+        }
+    }
+
+    fn goes(&mut self, alloc: Global, step: &Step) -> bool {
+        match step {
+            Step::Shows(wanted) => self.shows(*wanted),
+            Step::Stores(place, item) => K::values_store(self, *place, *item),
+            Step::Lends => K::values_lend(self),
+            Step::HasRoom(items, bytes) => has_room(self, *items, *bytes),
+            Step::LacksRoom(items, bytes) => lacks_room(self, *items, *bytes),
+            Step::Pop(item) => popped::<K>(self.pop(), Some(*item)),
+            Step::ExtendFrom(parts) => is_right_beside(self, values_of(alloc, *parts), parts),
+            _ => grow(self, step).is_ok(),
+        }
     }
 }
+
+/// How a builder is made, what it has, and what is asked of it then.
+type Case = (Maker, Pieces, &'static [Step]);
+
+/// Whether all cases go as they should of a kind over both widths of offsets.
+fn values_of_kind<K: Known>(alloc: Global, cases: &[Case]) -> bool {
+    let is_narrow = all_asked::<MutableByteValuesArray<K, i32>>(alloc, cases);
+    is_narrow & all_asked::<MutableByteValuesArray<K, i64>>(alloc, cases)
+}
+
+/// Whether they do of both kinds.
+fn values(alloc: Global, cases: &[Case]) -> bool {
+    values_of_kind::<Binary>(alloc, cases) & values_of_kind::<Utf8>(alloc, cases)
+}
+
+/// New builders have no item, and builders of items have these, and so have their copies.
+const MADE: &[Case] = &[
+    (Maker::New, NOTHING, &[]),
+    (Maker::Default, NOTHING, &[]),
+    (Maker::WithCapacity(9), NOTHING, &[]),
+    (Maker::WithCapacities(9, 99), NOTHING, &[]),
+    (Maker::FromIter(List::Three), ITEMS, &[]),
+    (Maker::TryFromIter(List::Three), ITEMS, &[]),
+    (Maker::Clone(List::Three), ITEMS, &[]),
+];
 
 #[test]
-fn builders_grow_by_one_another(rt: HostRuntime) -> Result<(), Fail> {
-    all_told(&[
-        joins_rest::<Binary, i32>(rt.alloc()),
-        joins_rest::<Binary, i64>(rt.alloc()),
-        joins_rest::<Utf8, i32>(rt.alloc()),
-        joins_rest::<Utf8, i64>(rt.alloc()),
-    ])
+fn builders_are_offsets_and_bytes(rt: HostRuntime) {
+    assert!(rt; values(rt.alloc(), MADE));
 }
 
-/// Whether items are frozen without a mask.
-fn freezes<K: Known, O: Offset>(alloc: Global) -> Result<bool, Error> {
-    match MutableByteValuesArray::<K, O>::from_iter(alloc, K::items(List::Three).iter().copied()) {
-        Ok(builder) => made(
-            builder.freeze(),
-            THREE.as_slice(),
-            "éthere".as_bytes(),
-            "none",
-        ),
-        Err(refused) => Err(refused),
-    }
-}
-
-#[test]
-fn items_are_frozen(rt: HostRuntime) -> Result<(), Fail> {
-    all_told(&[
-        freezes::<Binary, i32>(rt.alloc()),
-        freezes::<Binary, i64>(rt.alloc()),
-        freezes::<Utf8, i32>(rt.alloc()),
-        freezes::<Utf8, i64>(rt.alloc()),
-    ])
-}
-
-/// Whether a builder with nulls has these items, and holds no mask until a null comes.
-fn takes<K: Known, O: Offset>(builder: &mut MutableByteArray<K, O>) -> Result<bool, Error> {
-    let bytes = "éthere".as_bytes();
-    let is_taken = builds(builder, THREE.as_slice(), bytes, "none");
-    K::push(builder, None)?;
-    Ok(is_taken && builds(builder, [0, 2, 2, 7, 7].as_slice(), bytes, "1110"))
-}
-
-/// Whether the builder with nulls that is made of one without does.
-fn becomes<K: Known, O: Offset>(items: MutableByteValuesArray<K, O>) -> Result<bool, Error> {
-    let mut builder: MutableByteArray<K, O> = items.into();
-    takes(&mut builder)
-}
-
-/// Whether items become those of a builder with nulls.
-fn becomes_slots<K: Known, O: Offset>(alloc: Global) -> Result<bool, Error> {
-    match MutableByteValuesArray::<K, O>::from_iter(alloc, K::items(List::Three).iter().copied()) {
-        Ok(builder) => becomes(builder),
-        Err(refused) => Err(refused),
-    }
-}
+/// Items that are pushed are there, an empty one for a null, and popped are the last of them.
+const PUSHED: &[Case] = &[(
+    Maker::New,
+    NOTHING,
+    &[
+        Step::Push("\x01"),
+        Step::TryPush("é"),
+        Step::Shows((&[0, 1, 3], b"\x01\xC3\xA9", "none")),
+        Step::Stores(0, b"\x01"),
+        Step::Stores(1, b"\xC3\xA9"),
+        Step::PushNull,
+        Step::Shows((&[0, 1, 3, 3], b"\x01\xC3\xA9", "none")),
+        Step::Pop(""),
+        Step::Pop("é"),
+        Step::Shows((&[0, 1], b"\x01", "none")),
+    ],
+)];
 
 #[test]
-fn items_become_slots(rt: HostRuntime) -> Result<(), Fail> {
-    all_told(&[
-        becomes_slots::<Binary, i32>(rt.alloc()),
-        becomes_slots::<Binary, i64>(rt.alloc()),
-        becomes_slots::<Utf8, i32>(rt.alloc()),
-        becomes_slots::<Utf8, i64>(rt.alloc()),
-    ])
+fn nulls_are_empty_items(rt: HostRuntime) {
+    assert!(rt; values(rt.alloc(), PUSHED));
+}
+
+/// Room for items and bytes is there, then for more, and is given back, and items stay.
+const ROOMY: &[Case] = &[
+    (
+        Maker::WithCapacities(40, 400),
+        NOTHING,
+        &[
+            Step::HasRoom(40, 400),
+            Step::Push("ab"),
+            Step::Reserve(100, 1000),
+            Step::HasRoom(101, 1002),
+            Step::ShrinkToFit,
+            Step::LacksRoom(40, 400),
+            Step::Shows((&[0, 2], b"ab", "none")),
+        ],
+    ),
+    (Maker::WithCapacity(40), NOTHING, &[Step::HasRoom(40, 0)]),
+];
+
+#[test]
+fn room_is_made_and_given_back(rt: HostRuntime) {
+    assert!(rt; values(rt.alloc(), ROOMY));
+}
+
+/// A builder grows by many items; those that an iterator gives may be borrowed twice over, and of those of another builder
+/// only their own bytes come.
+const EXTENDED: &[Case] = &[
+    (
+        Maker::Default,
+        NOTHING,
+        &[
+            Step::Extend(List::First),
+            Step::TryExtend(List::Second),
+            Step::Shows((&[0, 1, 3, 3, 4], b"a\xC3\xA9d", "none")),
+        ],
+    ),
+    (
+        Maker::New,
+        NOTHING,
+        &[Step::ExtendBorrowed, Step::Shows(ITEMS)],
+    ),
+    (
+        Maker::WithCapacities(1, 1),
+        NOTHING,
+        &[
+            Step::Push("x"),
+            Step::ExtendFrom((&[1, 2], b"\xFFz", "none")),
+            Step::Shows((&[0, 1, 2], b"xz", "none")),
+        ],
+    ),
+];
+
+#[test]
+fn builders_grow_by_many(rt: HostRuntime) {
+    assert!(rt; values(rt.alloc(), EXTENDED));
+}
+
+/// What a builder lends.
+const LENT: &[Case] = &[(Maker::FromTwo, (&[0, 1, 3], b"abc", "none"), &[Step::Lends])];
+
+#[test]
+fn items_come_in_order_and_from_both_ends(rt: HostRuntime) {
+    assert!(rt; values(rt.alloc(), LENT));
 }
