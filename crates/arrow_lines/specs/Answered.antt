@@ -1,5 +1,5 @@
 -- What the program's commands ask, and what a table answers to them.
-use Rattle.std.specs.Prelude.{◌≡◌, List, ◌++◌, ℕ, ℤ, pos, Bool, not, IsTrue, replicate, Option, None, is_some, option_map, string_bytes}
+use Rattle.std.specs.Prelude.{◌≡◌, List, [], ◌∷◌, ◌++◌, ℕ, ℤ, pos, Bool, not, IsTrue, replicate, Option, None, is_some, option_map, string_bytes}
 use Rattle.std.specs.Option.{option_to_list}
 use Rattle.arrow_check.specs.Reading.{no_cost}
 use Rattle.arrow_types.specs.declared.primitive_type.PrimitiveType.TheVariants.{Int64}
@@ -28,6 +28,10 @@ AddsAnswers commands old new before after =
 -- the same of what the program holds
 abbrev pub Adds : List (BothRequest ℤ) → Answering → Answering → Type 0
 Adds commands old new = AddsAnswers commands old.tables new.tables (string_bytes old.text) (string_bytes new.text)
+
+-- the text grew by an answer, and the tables stay
+abbrev pub Tells : Answer ℤ → Answering → Answering → Type 0
+Tells answer old new = (new.tables ≡ old.tables) × (string_bytes new.text ≡ string_bytes old.text ++ text_of (answer ∷ []))
 
 -- what is asked comes to: it was run and answered, where it is anything
 abbrev pub AnswersAsked : Option (BothRequest ℤ) → Answering → Answering → Bool → Type 0

@@ -1,5 +1,5 @@
 -- What each line of the program's input asks.
-use Rattle.std.specs.Prelude.{◌≡◌, ℕ, ◌+◌, Bool, not, ◌&&◌, codes, if◌then◌else◌, List, [], ◌∷◌, ◌++◌, ℤ, pos, false, Option, Some, None, option_and_then, option_map, bytes_eq, is_some, filter, filter_map, length, position}
+use Rattle.std.specs.Prelude.{◌≡◌, ℕ, ◌+◌, Bool, not, ◌&&◌, ◌||◌, ◌==◌, nat_le, codes, if◌then◌else◌, List, [], ◌∷◌, ◌++◌, ℤ, pos, false, Option, Some, None, option_and_then, option_map, bytes_eq, is_some, filter, filter_map, length, position}
 use Rattle.arrow_types.specs.declared.primitive_type.PrimitiveType.TheVariants.{Int64}
 use Rattle.arrow_entry.specs.Both.{BothRequest, narrow, wide, widen, narrow_to, narrow_types, wide_types}
 use Rattle.arrow_entry.specs.Entry.{Types, default_type}
@@ -8,7 +8,7 @@ use Rattle.arrow_entry.specs.Request as ask
 use Rattle.arrow_entry.specs.Request.{Request, make, at, clone_from, extend_from, equal, filter_from, take_from, check_indexes}
 use Rattle.arrow_words.specs.Fields.{kind_of, type_of, item_of, slot_of, mask_of, packed_mask_in, turn_of, change_in, raw_in}
 use Rattle.arrow_words.specs.Readers.{Reader, beside, only, each, ◌▸◌, next, reads}
-use Rattle.arrow_words.specs.Words.{lines_of, words_of, is_passed_over, is_printable, number_of, integer_of, offset_of}
+use Rattle.arrow_words.specs.Words.{line_feed, lines_of, space, words_of, is_passed_over, is_printable, number_of, integer_of, offset_of}
 
 -- a line of the program: its name, and what the words behind the name ask
 abbrev pub Line : Type 0
@@ -125,6 +125,10 @@ both_of (name ∷ words) =
     if bytes_eq name (codes "widen") then widened words else (
     if bytes_eq name (codes "narrow") then narrowed words else
     option_map narrow (request_among narrow_lines name words)))
+
+-- a byte that lines may have, or the line feed behind one
+abbrev pub is_of_lines : ℕ → Bool
+is_of_lines b = (nat_le space b && nat_le b 126) || b == line_feed
 
 -- what a line asks, where it is a command
 abbrev pub request_in : List ℕ → Option (BothRequest ℤ)

@@ -1,9 +1,11 @@
 //! What commands are run on, and what is answered to them.
-ghost use Rattle.std.specs.Prelude.{Some, map, OnOk, IfOk};
-ghost use Rattle.arrow_entry.specs.Both.{both_asked};
-ghost use Rattle.arrow_lines.specs.Answered.{Adds, AnswersAsked};
+ghost use Rattle.std.specs.Prelude.{◌≡◌, true, IfOk, Some};
+ghost use Rattle.arrow_entry.specs.Answer.{done, told};
+ghost use Rattle.arrow_entry.specs.Both.{narrow, narrow_to, wide, widen};
+ghost use Rattle.arrow_entry.specs.Request.{asked};
+ghost use Rattle.arrow_lines.specs.Answered.{AnswersAsked, Tells};
 
-use arrow_table::{BothCommand, Reply, Tables, run_both};
+use arrow_table::{Command, Reply, Tables};
 use arrow_words::print::push_replies;
 use std::alloc::AllocError;
 use std::slice::from_ref;
@@ -13,29 +15,75 @@ use std::slice::from_ref;
 pub struct Answering {
     /// The tables.
     pub tables: Tables<i64>,
-    /// Replies that have no text yet. The list is kept, to be used again.
-    pub replies: Vec<Reply<i64>>,
     /// The text.
     pub text: String,
 }
 
 impl Answering {
-    /// Runs commands, and appends their replies to the text.
-    fn answer_all(&mut self, commands: &[BothCommand<i64>]) -> Result<(), AllocError>
-        ensures { OnOk result (Adds (map both_asked commands.now) self.old self.new) }
+    /// Runs a command on the narrow table, and appends its reply to the text. It is one, so the answer is true.
+    #[inline(always)]
+    pub fn answer_narrow(&mut self, command: Command<i64, i32>) -> Result<bool, AllocError>
+        ensures { IfOk result (AnswersAsked (Some (narrow (asked (λ offset. offset) command))) self.old self.new) }
     {
-        self.replies.clear();
-        if run_both(&mut self.tables, commands, &mut self.replies) < commands.len() {
-            return Err(AllocError);
-        }
-        push_replies(&mut self.text, &self.replies)
+        let alloc = *self.text.allocator();
+        let reply = self.tables.on_narrow(alloc, &command);
+        self.tell(reply)
     }
 
-    /// Runs a command, and appends its reply to the text. It is one, so the answer is true.
+    /// The same on the wide table.
     #[inline(always)]
-    pub fn answer(&mut self, command: BothCommand<i64>) -> Result<bool, AllocError>
-        ensures { IfOk result (AnswersAsked (Some (both_asked command)) self.old self.new) }
+    pub fn answer_wide(&mut self, command: Command<i64, i64>) -> Result<bool, AllocError>
+        ensures { IfOk result (AnswersAsked (Some (wide (asked (λ offset. offset) command))) self.old self.new) }
     {
-        self.answer_all(from_ref(&command)).map(|()| true)
+        let alloc = *self.text.allocator();
+        let reply = self.tables.on_wide(alloc, &command);
+        self.tell(reply)
+    }
+
+    /// The same of the array of a narrow entry, which is put into a wide one.
+    pub fn answer_widen(&mut self, e: usize, f: usize) -> Result<bool, AllocError>
+        ensures { IfOk result (AnswersAsked (Some (widen e f)) self.old self.new) }
+    {
+        let alloc = *self.text.allocator();
+        let reply = self.tables.widen(alloc, e, f);
+        self.tell(reply)
+    }
+
+    /// The same of the array of a wide entry, which is put into a narrow one.
+    pub fn answer_narrow_to(&mut self, e: usize, f: usize) -> Result<bool, AllocError>
+        ensures { IfOk result (AnswersAsked (Some (narrow_to e f)) self.old self.new) }
+    {
+        let alloc = *self.text.allocator();
+        let reply = self.tables.narrow_to(alloc, e, f);
+        self.tell(reply)
+    }
+
+    /// Appends the reply to a command, which was run, to the text. It is one, so the answer is true.
+    #[inline(always)]
+    fn tell(&mut self, reply: Reply<i64>) -> Result<bool, AllocError>
+        ensures { IfOk result (λ good. (true ≡ good) × Tells (told reply) self.old self.new) }
+    {
+        match reply {
+            Reply::Done => self.tell_done(),
+            other => self.tell_other(other),
+        }
+    }
+
+    /// The same of the reply that most commands have. It is told where the command is run, with no call.
+    #[inline(always)]
+    fn tell_done(&mut self) -> Result<bool, AllocError>
+        ensures { IfOk result (λ good. (true ≡ good) × Tells done self.old self.new) }
+    {
+        self.text.push_str("ok\n")?;
+        Ok(true)
+    }
+
+    /// The same of any reply.
+    #[inline(never)]
+    fn tell_other(&mut self, reply: Reply<i64>) -> Result<bool, AllocError>
+        ensures { IfOk result (λ good. (true ≡ good) × Tells (told reply) self.old self.new) }
+    {
+        push_replies(&mut self.text, from_ref(&reply))?;
+        Ok(true)
     }
 }

@@ -1,6 +1,6 @@
 //! The commands that words ask for.
 ghost use Rattle.std.specs.Prelude.{◌≡◌, ℤ, ℕ, IfOk, List, Option, Some, map, option_map};
-ghost use Rattle.arrow_entry.specs.Both.{BothRequest, both_asked};
+ghost use Rattle.arrow_entry.specs.Both.{BothRequest};
 ghost use Rattle.arrow_entry.specs.Request.{Request, asked};
 ghost use Rattle.arrow_lines.specs.Answered.{AnswersAsked};
 ghost use Rattle.arrow_words.specs.Readers.{each};
@@ -15,7 +15,7 @@ mod telling;
 mod turning;
 
 use crate::answering::Answering;
-use arrow_table::{BothCommand, Command};
+use arrow_table::Command;
 use arrow_types::offset::Offset;
 use arrow_words::readers::Words;
 pub(crate) use both::run_words;
@@ -32,9 +32,9 @@ pub(crate) trait Width: Offset {
     /// What a request of a table of this width is of two tables.
     ghost side: { Request ℤ → BothRequest ℤ };
 
-    /// A command on the table of this width, of two.
-    fn on_side(command: Command<i64, Self>) -> BothCommand<i64>
-        ensures { both_asked result ≡ side (asked Self.number command) };
+    /// Runs a command on the table of this width, of two, and appends its reply to the text.
+    fn answer(answering: &mut Answering, command: Command<i64, Self>) -> Answered
+        ensures { IfOk result (AnswersAsked (Some (side (asked Self.number command))) answering.old answering.new) };
 
     /// The offsets that words write; `None` where one of them writes none.
     fn starts_of(alloc: Global, words: &[u8]) -> Result<Option<Vec<Self>>, AllocError>
@@ -42,7 +42,9 @@ pub(crate) trait Width: Offset {
 }
 
 impl Width for i32 {
-    ghost use Rattle.arrow_entry.specs.Both.{both_asked, narrow};
+    ghost use Rattle.std.specs.Prelude.{IfOk, Some};
+    ghost use Rattle.arrow_entry.specs.Both.{narrow};
+    ghost use Rattle.arrow_lines.specs.Answered.{AnswersAsked};
     ghost use Rattle.arrow_entry.specs.Request.{asked};
     ghost use Rattle.arrow_words.specs.Words.{offset_of};
 
@@ -51,10 +53,10 @@ impl Width for i32 {
     ghost side = { narrow };
 
     #[inline(always)]
-    fn on_side(command: Command<i64, i32>) -> BothCommand<i64>
-        ensures { both_asked result ≡ narrow (asked (λ offset. offset) command) }
+    fn answer(answering: &mut Answering, command: Command<i64, i32>) -> Answered
+        ensures { IfOk result (AnswersAsked (Some (narrow (asked (λ offset. offset) command))) answering.old answering.new) }
     {
-        BothCommand::Narrow(command)
+        answering.answer_narrow(command)
     }
 
     fn starts_of(alloc: Global, words: &[u8]) -> Result<Option<Vec<i32>>, AllocError> {
@@ -63,7 +65,9 @@ impl Width for i32 {
 }
 
 impl Width for i64 {
-    ghost use Rattle.arrow_entry.specs.Both.{both_asked, wide};
+    ghost use Rattle.std.specs.Prelude.{IfOk, Some};
+    ghost use Rattle.arrow_entry.specs.Both.{wide};
+    ghost use Rattle.arrow_lines.specs.Answered.{AnswersAsked};
     ghost use Rattle.arrow_entry.specs.Request.{asked};
     ghost use Rattle.arrow_words.specs.Words.{integer_of};
 
@@ -72,10 +76,10 @@ impl Width for i64 {
     ghost side = { wide };
 
     #[inline(always)]
-    fn on_side(command: Command<i64, i64>) -> BothCommand<i64>
-        ensures { both_asked result ≡ wide (asked (λ offset. offset) command) }
+    fn answer(answering: &mut Answering, command: Command<i64, i64>) -> Answered
+        ensures { IfOk result (AnswersAsked (Some (wide (asked (λ offset. offset) command))) answering.old answering.new) }
     {
-        BothCommand::Wide(command)
+        answering.answer_wide(command)
     }
 
     fn starts_of(alloc: Global, words: &[u8]) -> Result<Option<Vec<i64>>, AllocError> {
@@ -88,7 +92,7 @@ impl Width for i64 {
 fn answer<O: Width>(answering: &mut Answering, command: Command<i64, O>) -> Answered
     ensures { IfOk result (AnswersAsked (Some (O.side (asked O.number command))) answering.old answering.new) }
 {
-    answering.answer(O::on_side(command))
+    O::answer(answering, command)
 }
 
 /// Offsets, up to the last word.

@@ -1,13 +1,13 @@
 -- Lemmas on reading one line after the other.
 use Rattle.std.proofs.Common.{◌≡◌, ℕ, suc, ◌+◌, Bool, true, false, cond, nat_lt, List, [], ◌∷◌, ◌++◌, length, refl, sym, ap, ◌∙◌, append_assoc, append-nil, arith, Option, Some, None, ℤ}
 use Rattle.std.proofs.lemmas.Bool.{ltb-true, ltb-false, lt-ltb, le-ltb}
-use Rattle.std.specs.Prelude.{position, filter_map, option_map, MatchOption}
-use Rattle.std.specs.List.{position_or_len, cons_option}
+use Rattle.std.specs.Prelude.{◌&&◌, position, filter_map, option_map, IsTrue, MatchOption}
+use Rattle.std.specs.List.{list_all, position_or_len, cons_option}
 use Rattle.std.specs.Option.{option_to_list}
 use denote.Ref.{Bor}
 use Rattle.arrow_entry.specs.Both.{BothRequest}
 use Rattle.arrow_lines.specs.Lines.{Reading, requests, bad_line, reading_at, commands_of, is_bad, asked_in}
-use Rattle.arrow_words.specs.Words.{lines_of}
+use Rattle.arrow_words.specs.Words.{is_printable, lines_of}
 
 -- the lines of what follows, where there is any
 abbrev pub lines_after : Option (Bor (List ℕ)) → List (List ℕ)
@@ -75,3 +75,11 @@ reads_all n before = ap requests (append-nil before)
 pub lines_cut : (text line : List ℕ) (after : Option (Bor (List ℕ))) → MatchOption after (lines_of text ≡ line ∷ []) (λ rest. lines_of text ≡ line ∷ lines_of rest.now) → lines_of text ≡ line ∷ lines_after after
 lines_cut text line None e = e
 lines_cut text line (Some rest) e = e
+
+-- lines that have only bytes that words may have, and spaces: the first, and those behind it
+pub all_printable_cut : (line : List ℕ) (rest : List (List ℕ)) → IsTrue (list_all is_printable (line ∷ rest)) → IsTrue (is_printable line) × IsTrue (list_all is_printable rest)
+all_printable_cut line rest h = both (is_printable line) (list_all is_printable rest) h
+  where
+    both : (a b : Bool) → IsTrue (a && b) → IsTrue a × IsTrue b
+    both true b h = (refl, h)
+    both false b h = absurd (cc h)

@@ -7,9 +7,9 @@ use crate::counted::Counted;
 use crate::device::{Fault, read_all, send};
 use crate::outcome::Outcome;
 use arrow_lines::answering::Answering;
-use arrow_lines::parse::answer_line;
+use arrow_lines::parse::{all_printable, answer_known};
 use arrow_table::Tables;
-use arrow_words::words::cut;
+use arrow_words::words::cut_line;
 use std::alloc::{AllocError, Global};
 use std::io::{Read, Write};
 
@@ -41,18 +41,14 @@ fn run_lines(alloc: Global, input: &[u8]) -> Result<String, InputError>
     ensures { Answers input.now result }
 {
     let tables = Tables::new(alloc, ENTRIES).map_err(|_| InputError::Memory)?;
-    let replies = Vec::new(alloc);
     let text = String::new(alloc);
-    let mut answering = Answering {
-        tables,
-        replies,
-        text,
-    };
+    let mut answering = Answering { tables, text };
+    let printable = all_printable(input);
     let mut number = 1;
     let mut rest = Some(input);
     while let Some(lines) = rest {
-        let (line, after) = cut(b'\n', lines);
-        if !answer_line(alloc, &mut answering, line)? {
+        let (line, after) = cut_line(lines);
+        if !answer_known(alloc, &mut answering, line, printable)? {
             return Err(InputError::BadLine(number));
         }
         number += 1;

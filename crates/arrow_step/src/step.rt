@@ -40,6 +40,7 @@ use arrow_writing::write::Write;
 use std::alloc::Global;
 
 /// Does a command that is not about raw parts. What is answered is allocated by `alloc`.
+#[inline(always)]
 fn change<T: NativeType, O: Offset>(
     alloc: Global,
     entries: &mut Vec<Option<Entry<T, O>>>,
@@ -117,6 +118,7 @@ fn change<T: NativeType, O: Offset>(
 }
 
 /// The entry and the parts of a command about raw parts.
+#[inline(always)]
 fn parts_of<T: NativeType, O: Offset>(command: &Command<T, O>) -> Option<(usize, &Parts<T, O>)>
     ensures { MatchOption result (is_parts (asked O.number command.now) ≡ false) (λ p. asked O.number command.now ≡ make p.0 (shape p.1.now.kind) (parts (logical_type p.1.now.data_type) (given_by O.number p.1.now.raw) (option_map packed_bits p.1.now.mask))) }
 {
@@ -144,6 +146,7 @@ fn parts_at<T: NativeType, O: Offset>(
 }
 
 /// Does one command. What is answered is allocated by `alloc`.
+#[inline(always)]
 pub fn step<T: NativeType, O: Offset>(
     alloc: Global,
     entries: &mut Vec<Option<Entry<T, O>>>,

@@ -91,6 +91,7 @@ impl<T: NativeType, O: Offset> Steps<T> for Table<T, O> {
 
     ghost steps_to = { λ old command reply new. IsStep (types T.zero T.PRIMITIVE O.most O.IS_LARGE) old (asked O.number command) (told reply) new × CostsAtMost (asked O.number command ∷ []) old.cost new.cost };
 
+    #[inline(always)]
     fn step(&mut self, alloc: Global, command: &Command<T, O>) -> Reply<T> {
         step(alloc, &mut self.entries, &mut self.cost, command)
     }

@@ -1,11 +1,13 @@
 //! Two tables, one of each width of offsets, and the run of a list of commands on them.
-ghost use Rattle.std.specs.Prelude.{◌≡◌, ◌<◌, ◌≤◌, length, map, replicate, take, vec_capacity, vec_len, IfErr, IfOk, None};
+ghost use Rattle.std.specs.Prelude.{◌≡◌, ◌<◌, ◌≤◌, ◌∷◌, [], length, map, replicate, take, vec_capacity, vec_len, IfErr, IfOk, None};
 ghost use Rattle.arrow_check.specs.Reading.{no_cost};
-ghost use Rattle.arrow_entry.specs.Both.{AppendsBothRun, both_asked, narrow_of, wide_of};
+ghost use Rattle.arrow_entry.specs.Answer.{told};
+ghost use Rattle.arrow_entry.specs.Both.{AppendsBothRun, IsBothStep, both_asked, narrow, narrow_of, narrow_to, wide, wide_of, widen};
+ghost use Rattle.arrow_entry.specs.Request.{asked};
 ghost use Rattle.arrow_entry.specs.Run.{CostsAtMost};
 
 use crate::sequence::{Steps, run_all};
-use crate::{BothCommand, Reply, Table};
+use crate::{BothCommand, Command, Reply, Table};
 use arrow_pairing::widths::{Narrow, Widen};
 use arrow_rows::chosen::put_at;
 use arrow_types::error::Error;
@@ -55,6 +57,40 @@ impl<T: NativeType> Tables<T> {
         ensures { result.now ≡ self.now.wide }
     {
         &self.wide
+    }
+
+    /// Does a command on the narrow table, and answers. What is answered is allocated by `alloc`.
+    #[inline(always)]
+    pub fn on_narrow(&mut self, alloc: Global, command: &Command<T, i32>) -> Reply<T>
+        ensures step { IsBothStep T.zero T.PRIMITIVE self.old (narrow (asked (λ offset. offset) command.now)) (told result) self.new }
+        ensures costs { CostsAtMost (asked (λ offset. offset) command.now ∷ []) self.old.narrow.cost self.new.narrow.cost }
+    {
+        self.narrow.step(alloc, command)
+    }
+
+    /// Does a command on the wide table, and answers. What is answered is allocated by `alloc`.
+    #[inline(always)]
+    pub fn on_wide(&mut self, alloc: Global, command: &Command<T, i64>) -> Reply<T>
+        ensures step { IsBothStep T.zero T.PRIMITIVE self.old (wide (asked (λ offset. offset) command.now)) (told result) self.new }
+        ensures costs { CostsAtMost (asked (λ offset. offset) command.now ∷ []) self.old.wide.cost self.new.wide.cost }
+    {
+        self.wide.step(alloc, command)
+    }
+
+    /// Puts the array of items of a narrow entry, over wide offsets, into a wide entry, which is empty, and answers.
+    pub fn widen(&mut self, alloc: Global, e: usize, f: usize) -> Reply<T>
+        ensures { IsBothStep T.zero T.PRIMITIVE self.old (widen e f) (told result) self.new }
+    {
+        let row = Widen(&self.narrow.entries, e);
+        put_at(alloc, &mut self.wide.entries, f, row)
+    }
+
+    /// Puts the array of items of a wide entry, over narrow offsets, into a narrow entry, which is empty, and answers.
+    pub fn narrow_to(&mut self, alloc: Global, e: usize, f: usize) -> Reply<T>
+        ensures { IsBothStep T.zero T.PRIMITIVE self.old (narrow_to e f) (told result) self.new }
+    {
+        let row = Narrow(&self.wide.entries, e);
+        put_at(alloc, &mut self.narrow.entries, f, row)
     }
 }
 

@@ -1,7 +1,9 @@
+pub mod Digits
 pub mod Each
 pub mod Joined
 pub mod Names
 pub mod NumberLemmas
 pub mod Packing
 pub mod Pieces
+pub mod Places
 pub mod Texts

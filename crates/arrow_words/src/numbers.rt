@@ -3,16 +3,19 @@ ghost use Rattle.std.specs.Prelude.{◌≡◌, ◌^◌};
 ghost use Rattle.arrow_words.specs.Words.{number_of, with_digit, positive, negative, integer_of, offset_of};
 
 /// A number with one more digit at its end, or nothing for a byte that is no digit and past the
-/// greatest `usize`.
+/// greatest `usize`. Far below that nothing can overflow, which spares most numbers the wide product.
+#[inline(always)]
 fn with_digit(number: usize, byte: u8) -> Option<usize>
     ensures { result ≡ with_digit number byte }
 {
     if byte < b'0' || b'9' < byte {
         return None;
     }
-    number
-        .checked_mul(10)?
-        .checked_add(usize::from(byte - b'0'))
+    let digit = usize::from(byte - b'0');
+    if number < 1 << 60 {
+        return Some(number * 10 + digit);
+    }
+    number.checked_mul(10)?.checked_add(digit)
 }
 
 /// The number that one or more digits write, below 2 to the power 64. Zeros may lead it.

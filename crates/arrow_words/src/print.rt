@@ -1,8 +1,8 @@
 //! The text of replies.
-ghost use Rattle.std.specs.Prelude.{◌≡◌, ◌∷◌, ◌++◌, ℕ, List, codes, decimal, map, flat_map, OnOk, string_bytes};
+ghost use Rattle.std.specs.Prelude.{◌≡◌, ◌∷◌, ◌++◌, ◌<◌, ℕ, List, codes, decimal, map, flat_map, slice_index, OnOk, string_bytes};
 ghost use Rattle.std.specs.Fmt.{signed_decimal};
 ghost use Rattle.std.specs.List.{join_with_byte};
-ghost use Rattle.hex.specs.Hex.{encode_lower};
+ghost use Rattle.hex.specs.Hex.{encode_lower, lower_digits};
 ghost use Rattle.arrow_types.specs.Types.{logical_type};
 ghost use Rattle.arrow_entry.specs.Answer.{told};
 ghost use Rattle.arrow_entry.specs.Item.{stored_item, stored_slot};
@@ -31,18 +31,33 @@ fn push_value(text: &mut String, number: i64) -> Result<(), AllocError>
     push_number(text, number)
 }
 
+/// The hexadecimal digit that is worth so much.
+fn digit(worth: u8) -> char
+    requires { worth < 16 }
+    ensures value { result ≡ slice_index lower_digits worth }
+    ensures ascii { result < 128 }
+{
+    let digits = b"0123456789abcdef";
+    char::from(digits[usize::from(worth)])
+}
+
 /// The digits of bytes.
 fn push_hex(text: &mut String, bytes: &[u8]) -> Result<(), AllocError>
     ensures { OnOk result (string_bytes text.new ≡ string_bytes text.old ++ encode_lower bytes.now) }
 {
-    let digits = hex::encode(*text.allocator(), bytes)?;
-    text.push_str(&digits)
+    for byte in bytes {
+        text.push(digit(*byte / 16))?;
+        text.push(digit(*byte % 16))?;
+    }
+    Ok(())
 }
 
-fn push_bytes(text: &mut String, letter: &str, bytes: &[u8]) -> Result<(), AllocError>
-    ensures { OnOk result (string_bytes text.new ≡ string_bytes text.old ++ (letter.now ++ encode_lower bytes.now)) }
+/// A letter and the digits of bytes.
+fn push_bytes(text: &mut String, letter: char, bytes: &[u8]) -> Result<(), AllocError>
+    requires { letter < 128 }
+    ensures { OnOk result (string_bytes text.new ≡ string_bytes text.old ++ (letter ∷ encode_lower bytes.now)) }
 {
-    text.push_str(letter)?;
+    text.push(letter)?;
     push_hex(text, bytes)
 }
 
@@ -53,8 +68,8 @@ fn push_item(text: &mut String, item: &Item<i64>) -> Result<(), AllocError>
         Item::Value(number) => push_value(text, *number),
         Item::Bit(false) => text.push_str("b0"),
         Item::Bit(true) => text.push_str("b1"),
-        Item::Bytes(bytes) => push_bytes(text, "x", bytes),
-        Item::Text(word) => push_bytes(text, "t", word.as_bytes()),
+        Item::Bytes(bytes) => push_bytes(text, 'x', bytes),
+        Item::Text(word) => push_bytes(text, 't', word.as_bytes()),
     }
 }
 

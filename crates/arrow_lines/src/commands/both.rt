@@ -8,13 +8,13 @@ ghost use Rattle.arrow_entry.specs.Both.{narrow, wide};
 use crate::answering::Answering;
 use crate::commands::Answered;
 use crate::commands::by_length::run_named;
-use arrow_table::BothCommand;
 use arrow_words::readers::{Only, Words};
 use arrow_words::words::{is, next_word};
 use std::alloc::Global;
 
 /// `wide` and the words of a command
 #[tactic(auto, unfolding(crate::specs::Lines::request_of, crate::specs::Lines::wide_lines))]
+#[inline(never)]
 fn run_wide(alloc: Global, answering: &mut Answering, words: &[u8]) -> Answered
     ensures { IfOk result (AnswersAsked (option_map wide (request_of wide_lines (words_of words.now))) answering.old answering.new) }
 {
@@ -25,27 +25,30 @@ fn run_wide(alloc: Global, answering: &mut Answering, words: &[u8]) -> Answered
 }
 
 /// `widen E F`
+#[inline(never)]
 fn run_widen(alloc: Global, answering: &mut Answering, words: &[u8]) -> Answered
     ensures { IfOk result (AnswersAsked (widened (words_of words.now)) answering.old answering.new) }
 {
     match <(usize, Only<usize>)>::of_words(alloc, words)? {
-        Some((entry, Only(made))) => answering.answer(BothCommand::Widen(entry, made)),
+        Some((entry, Only(made))) => answering.answer_widen(entry, made),
         None => Ok(false),
     }
 }
 
 /// `narrow E F`
+#[inline(never)]
 fn run_narrow(alloc: Global, answering: &mut Answering, words: &[u8]) -> Answered
     ensures { IfOk result (AnswersAsked (narrowed (words_of words.now)) answering.old answering.new) }
 {
     match <(usize, Only<usize>)>::of_words(alloc, words)? {
-        Some((entry, Only(made))) => answering.answer(BothCommand::NarrowTo(entry, made)),
+        Some((entry, Only(made))) => answering.answer_narrow_to(entry, made),
         None => Ok(false),
     }
 }
 
 /// The command of this name on the narrow table, about what the words say.
 #[tactic(auto, unfolding(crate::specs::Lines::narrow_lines))]
+#[inline(always)]
 fn run_named_narrow(alloc: Global, answering: &mut Answering, name: &[u8], words: &[u8]) -> Answered
     ensures { IfOk result (AnswersNamed narrow narrow_lines name.now (words_of words.now) answering.old answering.new) }
 {
@@ -54,6 +57,7 @@ fn run_named_narrow(alloc: Global, answering: &mut Answering, name: &[u8], words
 
 /// The command that words ask for. It is run, and answered.
 #[tactic(auto, unfolding(crate::specs::Lines::both_of))]
+#[inline(always)]
 pub(crate) fn run_words(alloc: Global, answering: &mut Answering, words: &[u8]) -> Answered
     ensures { IfOk result (AnswersAsked (both_of (words_of words.now)) answering.old answering.new) }
 {

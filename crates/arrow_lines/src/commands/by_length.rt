@@ -211,6 +211,7 @@ fn by_more<O: Width>(
 }
 
 /// The command of this name on the table of a width, about what the words say. It is run, and answered.
+#[inline(always)]
 pub(crate) fn run_named<O: Width>(
     alloc: Global,
     answering: &mut Answering,
