@@ -310,64 +310,74 @@ fn values_have<K: ByteKind>(builder: &MutableByteValuesArray<K, i32>) -> bool {
     are_all(builder.offsets().as_slice())
 }
 
-/// Whether a builder takes items.
-fn takes_items<K: ByteKind, X: ByteItem<K> + ItemError<Error = Error>>(
+/// Has a builder take slots, or items, by a call.
+fn extend_bytes_by<K: ByteKind, X: ByteItem<K> + ItemError<Error = Error>>(
     builder: &mut MutableByteArray<K, i32>,
-    items: Liar<'_, X>,
-) -> Result<bool, Error> {
-    builder.extend_values(items)?;
-    Ok(builder_has(builder))
-}
-
-/// Whether a new one does.
-fn extends_items<K: ByteKind, X: ByteItem<K> + ItemError<Error = Error>>(
-    alloc: Global,
+    slots: &[Option<X>],
     items: &[X],
     lie: Lie,
-) -> Result<bool, Error> {
-    match MutableByteArray::<K, i32>::new(alloc) {
-        Ok(mut builder) => takes_items(&mut builder, lying(items, lie)),
-        Err(_) => Ok(false),
+    call: Extension,
+) -> Result<(), Error> {
+    match call {
+        Extension::Extend => builder.extend(lying(slots, lie)),
+        Extension::TryExtend => builder.try_extend(lying(slots, lie)),
+        Extension::ExtendValues => builder.extend_values(lying(items, lie)),
     }
 }
 
-/// Whether a builder takes slots, by `extend` or by `try_extend`.
-fn takes_slots<K: ByteKind, X: ByteItem<K> + ItemError<Error = Error>>(
+/// Whether a builder takes them.
+fn takes_bytes<K: ByteKind, X: ByteItem<K> + ItemError<Error = Error>>(
     builder: &mut MutableByteArray<K, i32>,
-    slots: Liar<'_, Option<X>>,
-    tries: bool,
+    slots: &[Option<X>],
+    items: &[X],
+    lie: Lie,
+    call: Extension,
 ) -> Result<bool, Error> {
-    if tries {
-        builder.try_extend(slots)?;
-    } else {
-        builder.extend(slots)?;
-    }
+    extend_bytes_by::<K, X>(builder, slots, items, lie, call)?;
     Ok(builder_has(builder))
 }
 
 /// Whether a new one does.
-fn extends_slots<K: ByteKind, X: ByteItem<K> + ItemError<Error = Error>>(
+fn extends_bytes<K: ByteKind, X: ByteItem<K> + ItemError<Error = Error>>(
     alloc: Global,
     slots: &[Option<X>],
+    items: &[X],
     lie: Lie,
-    tries: bool,
+    call: Extension,
 ) -> Result<bool, Error> {
     match MutableByteArray::<K, i32>::new(alloc) {
-        Ok(mut builder) => takes_slots(&mut builder, lying(slots, lie), tries),
+        Ok(mut builder) => takes_bytes::<K, X>(&mut builder, slots, items, lie, call),
         Err(_) => Ok(false),
     }
+}
+
+/// Whether it takes the three slots, or items, of an iterator by each call.
+fn extend_bytes<K: ByteKind, X: ByteItem<K> + ItemError<Error = Error>>(
+    alloc: Global,
+    slots: &[Option<X>],
+    items: &[X],
+    lie: Lie,
+    calls: &[Extension],
+) -> bool {
+    for call in calls {
+        if !is_taken(extends_bytes::<K, X>(alloc, slots, items, lie, *call), lie) {
+            return false;
+        }
+    }
+    true
 }
 
 /// Whether a builder without nulls takes items, by `extend` or by `try_extend`.
 fn takes_values<K: ByteKind, X: ByteItem<K> + ItemError<Error = Error>>(
     builder: &mut MutableByteValuesArray<K, i32>,
-    items: Liar<'_, X>,
+    items: &[X],
+    lie: Lie,
     tries: bool,
 ) -> Result<bool, Error> {
     if tries {
-        builder.try_extend(items)?;
+        builder.try_extend(lying(items, lie))?;
     } else {
-        builder.extend(items)?;
+        builder.extend(lying(items, lie))?;
     }
     Ok(values_have(builder))
 }
@@ -380,12 +390,12 @@ fn extends_values<K: ByteKind, X: ByteItem<K> + ItemError<Error = Error>>(
     tries: bool,
 ) -> Result<bool, Error> {
     match MutableByteValuesArray::<K, i32>::new(alloc) {
-        Ok(mut builder) => takes_values(&mut builder, lying(items, lie), tries),
+        Ok(mut builder) => takes_values::<K, X>(&mut builder, items, lie, tries),
         Err(_) => Ok(false),
     }
 }
 
-/// Whether values with nulls are made and extended of three items by an iterator that lies so.
+/// Whether values with nulls are made of three slots by an iterator that lies so.
 fn take_slots<K: ByteKind, X: ByteItem<K> + ItemError<Error = Error>>(
     alloc: Global,
     slots: &[Option<X>],
@@ -394,9 +404,7 @@ fn take_slots<K: ByteKind, X: ByteItem<K> + ItemError<Error = Error>>(
     let builder = MutableByteArray::<K, i32>::from_iter(alloc, lying(slots, lie));
     let is_built = is_taken(seen(builder, builder_has::<K>), lie);
     let array = ByteArray::<K, i32>::from_iter(alloc, lying(slots, lie));
-    let is_made = is_taken(seen(array, array_has::<K>), lie);
-    let is_extended = is_taken(extends_slots::<K, X>(alloc, slots, lie, false), lie);
-    is_built & is_made & is_extended & is_taken(extends_slots::<K, X>(alloc, slots, lie, true), lie)
+    is_built & is_taken(seen(array, array_has::<K>), lie)
 }
 
 /// Whether values are.
@@ -408,8 +416,7 @@ fn take_items<K: ByteKind, X: ByteItem<K> + ItemError<Error = Error>>(
     let builder = MutableByteArray::<K, i32>::from_iter_values(alloc, lying(items, lie));
     let is_built = is_taken(seen(builder, builder_has::<K>), lie);
     let array = ByteArray::<K, i32>::from_iter_values(alloc, lying(items, lie));
-    let is_made = is_taken(seen(array, array_has::<K>), lie);
-    is_built & is_made & is_taken(extends_items::<K, X>(alloc, items, lie), lie)
+    is_built & is_taken(seen(array, array_has::<K>), lie)
 }
 
 /// Whether values without nulls are.
@@ -439,7 +446,9 @@ fn take_bytes<K: ByteKind, X: ByteItem<K> + ItemError<Error = Error>>(
     for lie in lies {
         let are_slots = take_slots::<K, X>(alloc, slots, *lie);
         let are_items = take_items::<K, X>(alloc, items, *lie);
-        if !(are_slots & are_items & take_values::<K, X>(alloc, items, *lie)) {
+        let are_values = take_values::<K, X>(alloc, items, *lie);
+        let are_made = are_slots & are_items & are_values;
+        if !(are_made & extend_bytes::<K, X>(alloc, slots, items, *lie, EXTENSIONS)) {
             return false;
         }
     }

@@ -12,7 +12,7 @@
 //! | whether room that was asked for is there | `room` |
 //! | what an iterator does that lies of its length, or is asked for more than there is | `iterators` |
 //! | which keys point at an item | `keys` |
-//! | what a table of arrays answers to such commands | `table` |
+//! | what a table of arrays answers to items past the greatest offset; other hostile commands are scripts of `arrow_table_tests` | `table` |
 #![tactic(auto)]
 
 #[cfg(test)]

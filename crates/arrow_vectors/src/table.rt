@@ -1,76 +1,9 @@
-//! What a table of arrays answers to hostile commands.
+//! What a table of arrays answers to items past the greatest offset. What else it answers to hostile commands stands, as
+//! scripts, in `arrow_table_tests`.
 use crate::Tiny;
 use arrow_table::{Command, Item, Kind, Reply, Table, run};
-use arrow_testing::passes;
-use arrow_types::data_type::DataType;
 use arrow_types::error::Error;
-use arrow_types::offset::Offset;
 use std::alloc::{AllocError, Global};
-
-/// What a reply is, and the number where it is one.
-fn told(reply: &Reply<i64>) -> (&'static str, usize) {
-    match reply {
-        Reply::Done => ("done", 0),
-        Reply::NotMet => ("not met", 0),
-        Reply::Number(number) => ("number", *number),
-        Reply::Refused(Error::Overflow) => ("overflow", 0),
-        _ => ("something else", 0),
-    }
-}
-
-/// What a table answers to a command.
-fn answer<O: Offset>(
-    alloc: Global,
-    table: &mut Table<i64, O>,
-    command: Command<i64, O>,
-) -> (&'static str, usize) {
-    let (commands, mut replies) = ([command], Vec::new(alloc));
-    run(table, &commands, &mut replies);
-    match replies.first() {
-        Some(reply) => told(reply),
-        None => ("nothing", 0),
-    }
-}
-
-/// Whether a slice past the last of so many slots is none, and changes nothing.
-fn is_no_slice(
-    alloc: Global,
-    table: &mut Table<i64, i32>,
-    place: usize,
-    count: usize,
-    slots: usize,
-) -> bool {
-    let sliced = answer(alloc, table, Command::Slice(0, place, count));
-    let length = answer(alloc, table, Command::Len(0));
-    (sliced == ("not met", 0)) & (length == ("number", slots))
-}
-
-/// Whether slices of an array of a null are none unless they lie in it.
-fn slices(alloc: Global, table: &mut Table<i64, i32>) -> bool {
-    let made = answer(
-        alloc,
-        table,
-        Command::NewNull(0, Kind::Primitive, DataType::Int64, 1),
-    );
-    let is_none = is_no_slice(alloc, table, usize::MAX, 2, 1)
-        & is_no_slice(alloc, table, 1, usize::MAX, 1)
-        & is_no_slice(alloc, table, 2, 0, 1);
-    let empty = answer(alloc, table, Command::Slice(0, 1, 0));
-    (made == ("done", 0)) & is_none & (empty == ("done", 0))
-}
-
-/// Whether those of a new table are.
-fn slices_new(alloc: Global) -> bool {
-    passes(
-        Table::<i64, i32>::new(alloc, 1),
-        |table| slices(alloc, table),
-    )
-}
-
-#[test]
-fn a_slice_past_the_last_slot_is_none(rt: HostRuntime) {
-    assert!(rt; slices_new(rt.alloc()));
-}
 
 /// So many bytes.
 fn bytes(alloc: Global, count: usize) -> Result<Vec<u8>, AllocError> {
@@ -90,12 +23,23 @@ fn items(alloc: Global, counts: &[usize]) -> Result<Vec<Item<i64>>, AllocError> 
     Ok(items)
 }
 
-/// Whether items past the greatest offset are refused, and those before them are kept.
+/// Whether items past the greatest offset are refused, and the two before them are kept.
 fn extends(alloc: Global, table: &mut Table<i64, Tiny>, items: Vec<Item<i64>>) -> bool {
-    let made = answer(alloc, table, Command::New(0, Kind::BinaryValues));
-    let extended = answer(alloc, table, Command::ExtendValues(0, items));
-    let length = answer(alloc, table, Command::Len(0));
-    (made == ("done", 0)) & (extended == ("overflow", 0)) & (length == ("number", 2))
+    let commands = [
+        Command::New(0, Kind::BinaryValues),
+        Command::ExtendValues(0, items),
+        Command::Len(0),
+    ];
+    let mut replies = Vec::new(alloc);
+    run(table, &commands, &mut replies);
+    matches!(
+        replies.as_slice(),
+        [
+            Reply::Done,
+            Reply::Refused(Error::Overflow),
+            Reply::Number(2)
+        ]
+    )
 }
 
 /// Whether items of fifty, fifty and one bytes are.
