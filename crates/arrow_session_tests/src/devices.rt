@@ -99,81 +99,100 @@ fn is_written(
         writes: 0,
     };
     let (outcome, faults) = session_to(alloc, input, writer);
-    outcome == wanted.outcome
-        && faults == wanted.faults
-        && flushes == wanted.flushes
-        && taken.as_slice() == wanted.text.as_bytes()
+    let are_counted = (faults == wanted.faults) & (flushes == wanted.flushes);
+    are_counted & (outcome == wanted.outcome) & (taken.as_slice() == wanted.text.as_bytes())
+}
+
+/// Inputs, how the second write fails, whether each flush does, and what the session comes to.
+const WRITERS: &[(&str, ErrorKind, bool, Wanted)] = &[
+    (
+        FIRST_RUN,
+        ErrorKind::Interrupted,
+        false,
+        Wanted {
+            outcome: Outcome::Done,
+            faults: 1,
+            flushes: 1,
+            text: FIRST_REPLIES,
+        },
+    ),
+    (
+        FIRST_RUN,
+        ErrorKind::Other,
+        false,
+        Wanted {
+            outcome: Outcome::Device,
+            faults: 1,
+            flushes: 0,
+            text: "ok\n",
+        },
+    ),
+    (
+        "new 0 prim",
+        ErrorKind::Other,
+        false,
+        Wanted {
+            outcome: Outcome::Done,
+            faults: 0,
+            flushes: 1,
+            text: "ok\n",
+        },
+    ),
+    (
+        "new 0 prim",
+        ErrorKind::Other,
+        true,
+        Wanted {
+            outcome: Outcome::Device,
+            faults: 1,
+            flushes: 1,
+            text: "ok\n",
+        },
+    ),
+    (
+        "# no replies\n",
+        ErrorKind::Other,
+        false,
+        Wanted {
+            outcome: Outcome::Done,
+            faults: 0,
+            flushes: 1,
+            text: "",
+        },
+    ),
+    (
+        "# no replies\n",
+        ErrorKind::Other,
+        true,
+        Wanted {
+            outcome: Outcome::Device,
+            faults: 1,
+            flushes: 1,
+            text: "",
+        },
+    ),
+];
+
+/// The place of the first of them that comes to something else; their number where none does.
+fn first_writer(alloc: Global, cases: &[(&str, ErrorKind, bool, Wanted)]) -> usize {
+    for (place, (input, kind, flush_fails, wanted)) in cases.iter().enumerate() {
+        let failure = Failure {
+            number: 2,
+            kind: *kind,
+        };
+        if !is_written(alloc, *input, failure, *flush_fails, wanted) {
+            return place;
+        }
+    }
+    cases.len()
 }
 
 /// A write that was interrupted is tried again, and any other failure ends the session. A session flushes once, also
 /// where it has no replies, and a flush that failed is a fault.
 #[test]
 fn failing_writers(rt: HostRuntime) {
-    for (input, kind, flush_fails, outcome, faults, flushes, text) in [
-        (
-            FIRST_RUN,
-            ErrorKind::Interrupted,
-            false,
-            Outcome::Done,
-            1,
-            1,
-            FIRST_REPLIES,
-        ),
-        (
-            FIRST_RUN,
-            ErrorKind::Other,
-            false,
-            Outcome::Device,
-            1,
-            0,
-            "ok\n",
-        ),
-        (
-            "new 0 prim",
-            ErrorKind::Other,
-            false,
-            Outcome::Done,
-            0,
-            1,
-            "ok\n",
-        ),
-        (
-            "new 0 prim",
-            ErrorKind::Other,
-            true,
-            Outcome::Device,
-            1,
-            1,
-            "ok\n",
-        ),
-        (
-            "# no replies\n",
-            ErrorKind::Other,
-            false,
-            Outcome::Done,
-            0,
-            1,
-            "",
-        ),
-        (
-            "# no replies\n",
-            ErrorKind::Other,
-            true,
-            Outcome::Device,
-            1,
-            1,
-            "",
-        ),
-    ] {
-        let wanted = Wanted {
-            outcome,
-            faults,
-            flushes,
-            text,
-        };
-        let failure = Failure { number: 2, kind };
-        assert!(rt; is_written(rt.alloc(), input, failure, flush_fails, &wanted));
-    }
+    let place = first_writer(rt.alloc(), WRITERS);
+    assert!(rt; place == WRITERS.len());
 }
 
 /// What a session over the first run comes to where one write fails, in a way that ends it or is tried again: what was
@@ -210,30 +229,43 @@ fn first_write(alloc: Global, kind: ErrorKind, is_end: bool) -> usize {
 
 #[test]
 fn each_write_may_fail(rt: HostRuntime) {
-    assert_eq!(rt; first_write(rt.alloc(), ErrorKind::Other, true), 18);
-    assert_eq!(rt; first_write(rt.alloc(), ErrorKind::BrokenPipe, true), 18);
-    assert_eq!(rt; first_write(rt.alloc(), ErrorKind::Interrupted, false), 18);
+    let first = [
+        first_write(rt.alloc(), ErrorKind::Other, true),
+        first_write(rt.alloc(), ErrorKind::BrokenPipe, true),
+        first_write(rt.alloc(), ErrorKind::Interrupted, false),
+    ];
+    assert!(rt; first == [18; 3]);
 }
 
-/// Whether a session over the first run, of which one read fails so, ends so and writes this.
-fn is_read(alloc: Global, failure: Failure, wanted: Outcome, text: &str) -> bool {
-    let mut written = Vec::new(alloc);
-    let mut output = Counted::new(&mut written);
+/// How a session over the first run ends that writes behind these bytes, and of which one read fails so, and how many
+/// faults the reader had.
+fn session_from(alloc: Global, failure: Failure, written: &mut Vec<u8>) -> (Outcome, u64) {
     let mut input = Counted::new(Reader {
         bytes: FIRST_RUN.as_bytes(),
         failure,
         reads: 0,
     });
-    let outcome = session(alloc, &mut input, &mut output);
-    drop(output);
-    outcome == wanted && input.count() == 1 && written.as_slice() == text.as_bytes()
+    let outcome = session(alloc, &mut input, &mut Counted::new(written));
+    (outcome, input.count())
+}
+
+/// Whether it ends by the device, or is done, and writes this.
+fn is_read(alloc: Global, failure: Failure, is_end: bool, text: &str) -> bool {
+    let mut written = Vec::new(alloc);
+    let (outcome, faults) = session_from(alloc, failure, &mut written);
+    let is_ended = match outcome {
+        Outcome::Device => is_end,
+        Outcome::Done => !is_end,
+        _ => false,
+    };
+    is_ended & (faults == 1) & (written.as_slice() == text.as_bytes())
 }
 
 /// The first of the sixteen reads of the first run, the last of which finds its end, after whose failure a session ends
 /// otherwise or writes something else; 17 where there is none.
-fn first_read(alloc: Global, kind: ErrorKind, wanted: Outcome, text: &str) -> usize {
+fn first_read(alloc: Global, kind: ErrorKind, is_end: bool, text: &str) -> usize {
     for number in 1..17 {
-        if !is_read(alloc, Failure { number, kind }, wanted, text) {
+        if !is_read(alloc, Failure { number, kind }, is_end, text) {
             return number;
         }
     }
@@ -243,13 +275,12 @@ fn first_read(alloc: Global, kind: ErrorKind, wanted: Outcome, text: &str) -> us
 /// A read that was interrupted is tried again, and any other failure ends the session, whichever read it is.
 #[test]
 fn each_read_may_fail(rt: HostRuntime) {
-    for (kind, outcome, text) in [
-        (ErrorKind::Interrupted, Outcome::Done, FIRST_REPLIES),
-        (ErrorKind::Other, Outcome::Device, ""),
-        (ErrorKind::BrokenPipe, Outcome::Device, ""),
-    ] {
-        assert_eq!(rt; first_read(rt.alloc(), kind, outcome, text), 17);
-    }
+    let first = [
+        first_read(rt.alloc(), ErrorKind::Interrupted, false, FIRST_REPLIES),
+        first_read(rt.alloc(), ErrorKind::Other, true, ""),
+        first_read(rt.alloc(), ErrorKind::BrokenPipe, true, ""),
+    ];
+    assert!(rt; first == [17; 3]);
 }
 
 /// How a session over the first run ends on a writer into memory of this size, and how many faults the writer had.

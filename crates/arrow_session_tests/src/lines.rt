@@ -1,15 +1,12 @@
 //! Which lines are no commands.
-use arrow_session::counted::Counted;
+use crate::sessions::session_of;
 use arrow_session::outcome::Outcome;
-use arrow_session::session::session;
 use std::alloc::Global;
 
 /// How a session over an input ends, and whether it writes nothing.
 fn end_of(alloc: Global, input: &[u8]) -> (Outcome, bool) {
     let mut written = Vec::new(alloc);
-    let mut writer = Counted::new(&mut written);
-    let outcome = session(alloc, &mut Counted::new(input), &mut writer);
-    drop(writer);
+    let outcome = session_of(alloc, input, &mut written);
     (outcome, written.is_empty())
 }
 
@@ -160,22 +157,43 @@ len 0 \u{e9}
 \t
 \0";
 
+/// The first of the lines of a text that is a command, where there is one.
+fn first_command<'a>(alloc: Global, lines: &'a str) -> Option<&'a str> {
+    for line in lines.split('\n') {
+        if !is_bad_from(alloc, line.as_bytes(), 1) {
+            return Some(line);
+        }
+    }
+    None
+}
+
 #[test]
 fn no_commands(rt: HostRuntime) {
-    for line in NO_COMMANDS.split('\n') {
-        assert!(rt; is_bad_from(rt.alloc(), line.as_bytes(), 1));
+    let first = first_command(rt.alloc(), NO_COMMANDS);
+    assert!(rt; first == None);
+}
+
+/// Inputs, and the numbers of their first lines that are no commands, or 0.
+const COUNTED: &[(&str, usize)] = &[
+    ("", 0),
+    ("\n\n", 0),
+    ("# any \u{e9}\tbyte\n   \n#", 0),
+    ("\n# one\n  \nlen 0\nlen\n", 5),
+    ("len 0\nlen\nlen", 2),
+];
+
+/// The place of the first of them that has another number; their number where none has.
+fn first_counted(alloc: Global, cases: &[(&str, usize)]) -> usize {
+    for (place, (input, number)) in cases.iter().enumerate() {
+        if !is_bad_from(alloc, input.as_bytes(), *number) {
+            return place;
+        }
     }
+    cases.len()
 }
 
 #[test]
 fn lines_are_counted(rt: HostRuntime) {
-    for (input, number) in [
-        ("", 0),
-        ("\n\n", 0),
-        ("# any \u{e9}\tbyte\n   \n#", 0),
-        ("\n# one\n  \nlen 0\nlen\n", 5),
-        ("len 0\nlen\nlen", 2),
-    ] {
-        assert!(rt; is_bad_from(rt.alloc(), input.as_bytes(), number));
-    }
+    let place = first_counted(rt.alloc(), COUNTED);
+    assert!(rt; place == COUNTED.len());
 }

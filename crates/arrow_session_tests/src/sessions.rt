@@ -2,8 +2,7 @@
 use arrow_session::counted::Counted;
 use arrow_session::outcome::Outcome;
 use arrow_session::session::session;
-use std::alloc::{AllocError, Global};
-use std::test::Fail;
+use std::alloc::Global;
 
 /// A builder that is filled, popped, frozen, sliced and looked at.
 pub(crate) const FIRST_RUN: &str =
@@ -21,42 +20,64 @@ const EACH_COMMAND: &str =
 const EACH_REPLY: &str =
     "ok\n[]\n0\nnot met\nnot met\nnot met\nnot met\nnot met\nnot met\nnot met\nnot met\nnot met\nok\nnot met\n_\nok\nok\nok\nok\nok\nnot met\nnot met\n[v-7 v0 v9223372036854775807 v-9223372036854775808 _]\n5\nok\nv-9223372036854775808\n_\nnot met\nnot met\nnot met\nnot met\nok\n[v0]\nnot met\n";
 
+/// How a session over an input ends that writes behind these bytes.
+pub(crate) fn session_of(alloc: Global, input: &[u8], written: &mut Vec<u8>) -> Outcome {
+    session(alloc, &mut Counted::new(input), &mut Counted::new(written))
+}
+
 /// Whether a session over an input ends with this status and writes this.
 fn is_ended(alloc: Global, input: &str, status: u8, output: &str) -> bool {
     let mut written = Vec::new(alloc);
-    let mut writer = Counted::new(&mut written);
-    let outcome = session(alloc, &mut Counted::new(input.as_bytes()), &mut writer);
-    drop(writer);
-    outcome.status() == status && written.as_slice() == output.as_bytes()
+    let outcome = session_of(alloc, input.as_bytes(), &mut written);
+    (outcome.status() == status) & (written.as_slice() == output.as_bytes())
+}
+
+/// Inputs, and the status and the output of a session over each.
+const SESSIONS: &[(&str, u8, &str)] = &[
+    (FIRST_RUN, 0, FIRST_REPLIES),
+    (EACH_COMMAND, 0, EACH_REPLY),
+    ("new 0 mprim\npush 0 1\n", 2, ""),
+    ("", 0, ""),
+    ("# nothing is asked\n\n   ", 0, ""),
+];
+
+/// The place of the first of them that ends otherwise; their number where none does.
+fn first_session(alloc: Global, cases: &[(&str, u8, &str)]) -> usize {
+    for (place, (input, status, output)) in cases.iter().enumerate() {
+        if !is_ended(alloc, *input, *status, *output) {
+            return place;
+        }
+    }
+    cases.len()
 }
 
 #[test]
 fn status_and_output(rt: HostRuntime) {
-    for (input, status, output) in [
-        (FIRST_RUN, 0, FIRST_REPLIES),
-        (EACH_COMMAND, 0, EACH_REPLY),
-        ("new 0 mprim\npush 0 1\n", 2, ""),
-        ("", 0, ""),
-        ("# nothing is asked\n\n   ", 0, ""),
-    ] {
-        assert!(rt; is_ended(rt.alloc(), input, status, output));
-    }
+    let place = first_session(rt.alloc(), SESSIONS);
+    assert!(rt; place == SESSIONS.len());
 }
 
 /// Whether an outcome has this status and says this.
-fn is_said(alloc: Global, outcome: Outcome, status: u8, words: &str) -> Result<bool, AllocError> {
-    Ok(outcome.status() == status && outcome.to_string(alloc)?.as_str() == words)
+fn is_said(alloc: Global, outcome: Outcome, status: u8, words: &str) -> bool {
+    let is_status = outcome.status() == status;
+    match outcome.to_string(alloc) {
+        Ok(said) => is_status & (said.as_str() == words),
+        Err(_) => false,
+    }
+}
+
+/// Whether each outcome has its status and says its words.
+fn are_said(alloc: Global) -> [bool; 4] {
+    [
+        is_said(alloc, Outcome::Done, 0, ""),
+        is_said(alloc, Outcome::BadLine(2), 2, "line 2: not a command"),
+        is_said(alloc, Outcome::Device, 1, "device fault"),
+        is_said(alloc, Outcome::Memory, 1, "out of memory"),
+    ]
 }
 
 #[test]
-fn status_and_words(rt: HostRuntime) -> Result<(), Fail> {
-    for (outcome, status, words) in [
-        (Outcome::Done, 0, ""),
-        (Outcome::BadLine(2), 2, "line 2: not a command"),
-        (Outcome::Device, 1, "device fault"),
-        (Outcome::Memory, 1, "out of memory"),
-    ] {
-        assert!(rt; is_said(rt.alloc(), outcome, status, words)?);
-    }
-    Ok(())
+fn status_and_words(rt: HostRuntime) {
+    let are_said = are_said(rt.alloc());
+    assert!(rt; are_said == [true; 4]);
 }

@@ -173,8 +173,5 @@ list 6 -> []
 
 #[test]
 fn clones_and_cuts(rt: HostRuntime) -> Result<(), Fail> {
-    both_answer(rt.alloc(), NUMBERS)?;
-    both_answer(rt.alloc(), BITS)?;
-    both_answer(rt.alloc(), BYTES)?;
-    both_answer(rt.alloc(), TEXTS)
+    both_answer(rt.alloc(), &[NUMBERS, BITS, BYTES, TEXTS])
 }

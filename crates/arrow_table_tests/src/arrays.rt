@@ -217,9 +217,5 @@ thaw 0 -> not met
 
 #[test]
 fn arrays_answer(rt: HostRuntime) -> Result<(), Fail> {
-    both_answer(rt.alloc(), MADE)?;
-    both_answer(rt.alloc(), TOLD)?;
-    both_answer(rt.alloc(), CHANGED)?;
-    both_answer(rt.alloc(), VALUES)?;
-    both_answer(rt.alloc(), THAWED)
+    both_answer(rt.alloc(), &[MADE, TOLD, CHANGED, VALUES, THAWED])
 }

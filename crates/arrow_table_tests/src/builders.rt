@@ -316,12 +316,10 @@ equal 3 5 -> not met
 
 #[test]
 fn builders_answer(rt: HostRuntime) -> Result<(), Fail> {
-    both_answer(rt.alloc(), PUSHED)?;
-    both_answer(rt.alloc(), EXTENDED)?;
-    both_answer(rt.alloc(), JOINED)?;
-    both_answer(rt.alloc(), CHANGED)?;
-    both_answer(rt.alloc(), FROZEN)?;
-    both_answer(rt.alloc(), EQUAL)
+    both_answer(
+        rt.alloc(),
+        &[PUSHED, EXTENDED, JOINED, CHANGED, FROZEN, EQUAL],
+    )
 }
 
 /// Arrays and builders of slots, and of items, which hold no mask but those of native slots while they grow.
@@ -396,6 +394,5 @@ list 1 -> [ta]
 
 #[test]
 fn slots_and_items(rt: HostRuntime) -> Result<(), Fail> {
-    both_answer(rt.alloc(), FILLED)?;
-    both_answer(rt.alloc(), ITEMS)
+    both_answer(rt.alloc(), &[FILLED, ITEMS])
 }

@@ -183,8 +183,5 @@ len 6 -> not met
 
 #[test]
 fn rows_are_chosen(rt: HostRuntime) -> Result<(), Fail> {
-    both_answer(rt.alloc(), PIECES)?;
-    both_answer(rt.alloc(), VALUES)?;
-    both_answer(rt.alloc(), ENDS)?;
-    both_answer(rt.alloc(), UNMET)
+    both_answer(rt.alloc(), &[PIECES, VALUES, ENDS, UNMET])
 }

@@ -1,5 +1,5 @@
 //! Tables over offsets whose greatest number is 100: what would pass it is refused, and what is before it stays.
-use crate::script::answers;
+use crate::script::all_answer;
 use arrow_testing::Tiny;
 use std::test::Fail;
 
@@ -116,18 +116,6 @@ len 6 -> 101
 ";
 
 #[test]
-fn choices_end(rt: HostRuntime) -> Result<(), Fail> {
-    answers::<i64, Tiny>(rt.alloc(), CHOICES)
-}
-
-#[test]
 fn offsets_end(rt: HostRuntime) -> Result<(), Fail> {
-    answers::<i64, Tiny>(rt.alloc(), PUSHES)?;
-    answers::<i64, Tiny>(rt.alloc(), EXTENSIONS)?;
-    answers::<i64, Tiny>(rt.alloc(), JOINS)
-}
-
-#[test]
-fn makers_end(rt: HostRuntime) -> Result<(), Fail> {
-    answers::<i64, Tiny>(rt.alloc(), MAKERS)
+    all_answer::<i64, Tiny>(rt.alloc(), &[PUSHES, EXTENSIONS, JOINS, MAKERS, CHOICES])
 }

@@ -120,10 +120,6 @@ parts 0 bin bytes - pieces . -9223372036854775808 -> refused: the first offset m
 
 #[test]
 fn parts_are_tested(rt: HostRuntime) -> Result<(), Fail> {
-    both_answer(rt.alloc(), FIXED)?;
-    both_answer(rt.alloc(), ARRAYS)?;
-    both_answer(rt.alloc(), BUILDERS)?;
-    both_answer(rt.alloc(), UNMET)?;
-    both_answer(rt.alloc(), ENDS)?;
-    answers::<days_ms, i64>(rt.alloc(), WIDE_ENDS)
+    both_answer(rt.alloc(), &[FIXED, ARRAYS, BUILDERS, UNMET, ENDS])?;
+    answers::<days_ms, i64>(rt.alloc(), 8, WIDE_ENDS)
 }

@@ -1,6 +1,9 @@
 //! Worked examples, and runs as such.
 use crate::script::{both_answer, wrong_on};
 use arrow_table::{Kind, Table};
+use arrow_testing::all_told;
+use arrow_types::error::Error;
+use std::alloc::Global;
 use std::test::Fail;
 
 /// A clone is thawed only once no one else has its parts, and no one sees what is then done to it; an array that shares
@@ -42,11 +45,6 @@ bytes 7 -> x68697468657265
 offsets 7 -> [0 2 2 7]
 held 7 -> true
 ";
-
-#[test]
-fn first_examples(rt: HostRuntime) -> Result<(), Fail> {
-    both_answer(rt.alloc(), FIRST)
-}
 
 /// Builders that are frozen, thawed and grown; cuts of cuts, and of nothing; a cut whose end no number tells; nulls that
 /// are none; keys.
@@ -149,13 +147,6 @@ parts 3 bin bytes - pieces 0a0b0b 0 1 3 -> ok
 turns 3 b b f -> [x0b0b x0a _]
 ";
 
-#[test]
-fn worked_examples(rt: HostRuntime) -> Result<(), Fail> {
-    both_answer(rt.alloc(), NUMBERS)?;
-    both_answer(rt.alloc(), BYTES)?;
-    both_answer(rt.alloc(), TURNS)
-}
-
 /// Parts of text that are refused leave the entry empty.
 const CUT_TEXT: &str = "
 parts 0 utf8 text - pieces c3a9c3a8 0 1 4 -> refused: every text between two offsets must be UTF-8
@@ -163,8 +154,8 @@ len 0 -> not met
 ";
 
 #[test]
-fn cut_text(rt: HostRuntime) -> Result<(), Fail> {
-    both_answer(rt.alloc(), CUT_TEXT)
+fn worked_examples(rt: HostRuntime) -> Result<(), Fail> {
+    both_answer(rt.alloc(), &[FIRST, NUMBERS, BYTES, TURNS, CUT_TEXT])
 }
 
 /// One entry of each kind.
@@ -181,6 +172,20 @@ new 8 vbin -> ok
 new 9 vutf8 -> ok
 ";
 
+/// Their kinds.
+const EACH: &[Kind] = &[
+    Kind::Primitive,
+    Kind::Boolean,
+    Kind::Binary,
+    Kind::Utf8,
+    Kind::MutablePrimitive,
+    Kind::MutableBoolean,
+    Kind::MutableBinary,
+    Kind::MutableUtf8,
+    Kind::BinaryValues,
+    Kind::Utf8Values,
+];
+
 /// Whether a table's entries are of these kinds, and those past them of none.
 fn are_kinds(table: &Table<i64, i32>, kinds: &[Kind]) -> bool {
     for i in 0..kinds.len() {
@@ -191,28 +196,19 @@ fn are_kinds(table: &Table<i64, i32>, kinds: &[Kind]) -> bool {
     table.kind(kinds.len()).is_none() && table.kind(usize::MAX).is_none()
 }
 
-#[test]
-fn kinds_are_told(rt: HostRuntime) -> Result<(), Fail> {
-    let mut table = Table::<i64, i32>::new(rt.alloc(), 11)?;
-    let is_empty = table.len() == 11 && are_kinds(&table, &[]);
-    let wrong = wrong_on(rt.alloc(), &mut table, KINDS)?;
-    let are_told = are_kinds(
-        &table,
-        &[
-            Kind::Primitive,
-            Kind::Boolean,
-            Kind::Binary,
-            Kind::Utf8,
-            Kind::MutablePrimitive,
-            Kind::MutableBoolean,
-            Kind::MutableBinary,
-            Kind::MutableUtf8,
-            Kind::BinaryValues,
-            Kind::Utf8Values,
-        ],
-    );
-    assert!(rt; is_empty && wrong.is_none() && are_told);
-    Ok(())
+/// Whether a table of eleven entries tells no kinds, and then those.
+fn tells_kinds(alloc: Global, table: &mut Table<i64, i32>) -> Result<bool, Error> {
+    let is_empty = (table.len() == 11) & are_kinds(table, &[]);
+    let wrong = wrong_on(alloc, table, KINDS)?;
+    Ok(is_empty & wrong.is_none() & are_kinds(table, EACH))
+}
+
+/// Whether a new one does.
+fn new_tells_kinds(alloc: Global) -> Result<bool, Error> {
+    match Table::<i64, i32>::new(alloc, 11) {
+        Ok(mut table) => tells_kinds(alloc, &mut table),
+        Err(refused) => Err(Error::from(refused)),
+    }
 }
 
 /// A table without entries meets no command but that on keys.
@@ -225,10 +221,21 @@ equal 0 0 -> not met
 indexes 1 0 -> ok
 ";
 
+/// Whether it does, and stays without.
+fn meets_nothing(alloc: Global, table: &mut Table<i64, i32>) -> Result<bool, Error> {
+    let wrong = wrong_on(alloc, table, NOTHING)?;
+    Ok(wrong.is_none() & (table.len() == 0))
+}
+
+/// Whether a new one does.
+fn new_meets_nothing(alloc: Global) -> Result<bool, Error> {
+    match Table::<i64, i32>::new(alloc, 0) {
+        Ok(mut table) => meets_nothing(alloc, &mut table),
+        Err(refused) => Err(Error::from(refused)),
+    }
+}
+
 #[test]
-fn no_entries(rt: HostRuntime) -> Result<(), Fail> {
-    let mut table = Table::<i64, i32>::new(rt.alloc(), 0)?;
-    let wrong = wrong_on(rt.alloc(), &mut table, NOTHING)?;
-    assert!(rt; wrong.is_none() && table.len() == 0);
-    Ok(())
+fn entries_are_told(rt: HostRuntime) -> Result<(), Fail> {
+    all_told(&[new_tells_kinds(rt.alloc()), new_meets_nothing(rt.alloc())])
 }

@@ -20,18 +20,18 @@ pub(crate) use samples::{Sample, Width};
 use std::alloc::Global;
 use std::test::Fail;
 
-/// The commands of a script.
-fn commands_of<T: Sample, O: Width>(
+/// Appends the commands of a script.
+fn push_commands<T: Sample, O: Width>(
     alloc: Global,
+    commands: &mut Vec<Command<T, O>>,
     script: &str,
-) -> Result<Vec<Command<T, O>>, Error> {
-    let mut commands = Vec::new(alloc);
+) -> Result<(), Error> {
     for line in script.lines() {
         if let Some((asked, _)) = line.split_once(" -> ") {
             commands.push(command(alloc, asked)?)?;
         }
     }
-    Ok(commands)
+    Ok(())
 }
 
 /// The first line of a script whose answer is another than the one that came, where there is one.
@@ -51,38 +51,68 @@ fn wrong_among<'a, T: Sample, O: Width>(
     Ok(None)
 }
 
-/// The first line of a script that a table answers otherwise, where there is one; all commands are one run.
-pub(crate) fn wrong_on<'a, T: Sample, O: Width>(
+/// The first line of a script that a table answers otherwise, where there is one, once it has run its commands.
+fn wrong_of<'a, T: Sample, O: Width>(
     alloc: Global,
     table: &mut Table<T, O>,
+    commands: &[Command<T, O>],
     script: &'a str,
 ) -> Result<Option<&'a str>, Error> {
-    let commands = commands_of::<T, O>(alloc, script)?;
     let mut replies = Vec::new(alloc);
-    let done = run(table, &commands, &mut replies);
-    if done < commands.len() {
+    if run(table, commands, &mut replies) < commands.len() {
         return Ok(Some("not all commands were done"));
     }
     wrong_among::<T, O>(alloc, script, &replies)
 }
 
-/// The same of a new table of eight entries.
-fn wrong_line<T: Sample, O: Width>(alloc: Global, script: &str) -> Result<Option<&str>, Error> {
-    let mut table = Table::<T, O>::new(alloc, 8)?;
-    wrong_on(alloc, &mut table, script)
+/// The same of the script's commands; all are one run.
+pub(crate) fn wrong_on<'a, T: Sample, O: Width>(
+    alloc: Global,
+    table: &mut Table<T, O>,
+    script: &'a str,
+) -> Result<Option<&'a str>, Error> {
+    let mut commands = Vec::new(alloc);
+    match push_commands::<T, O>(alloc, &mut commands, script) {
+        Ok(()) => wrong_of(alloc, table, &commands, script),
+        Err(unreadable) => Err(unreadable),
+    }
 }
 
-/// Fails where a new table answers some line of a script otherwise.
-pub(crate) fn answers<T: Sample, O: Width>(alloc: Global, script: &str) -> Result<(), Fail> {
-    match wrong_line::<T, O>(alloc, script) {
+/// The same of a new table of so many entries.
+fn wrong_line<T: Sample, O: Width>(
+    alloc: Global,
+    entries: usize,
+    script: &str,
+) -> Result<Option<&str>, Error> {
+    match Table::<T, O>::new(alloc, entries) {
+        Ok(mut table) => wrong_on(alloc, &mut table, script),
+        Err(refused) => Err(Error::from(refused)),
+    }
+}
+
+/// Fails where a new table of so many entries answers some line of a script otherwise.
+pub(crate) fn answers<T: Sample, O: Width>(
+    alloc: Global,
+    entries: usize,
+    script: &str,
+) -> Result<(), Fail> {
+    match wrong_line::<T, O>(alloc, entries, script) {
         Ok(None) => Ok(()),
         Ok(Some(line)) => Err(Fail::new(line)),
         Err(refused) => Err(Fail::from(refused)),
     }
 }
 
-/// The same of a table of numbers over narrow offsets, and of one of pairs of numbers over wide ones.
-pub(crate) fn both_answer(alloc: Global, script: &str) -> Result<(), Fail> {
-    answers::<i64, i32>(alloc, script)?;
-    answers::<days_ms, i64>(alloc, script)
+/// The same of tables of eight entries and each of these scripts.
+pub(crate) fn all_answer<T: Sample, O: Width>(alloc: Global, scripts: &[&str]) -> Result<(), Fail> {
+    for script in scripts {
+        answers::<T, O>(alloc, 8, *script)?;
+    }
+    Ok(())
+}
+
+/// The same of tables of numbers over narrow offsets, and of tables of pairs of numbers over wide ones.
+pub(crate) fn both_answer(alloc: Global, scripts: &[&str]) -> Result<(), Fail> {
+    all_answer::<i64, i32>(alloc, scripts)?;
+    all_answer::<days_ms, i64>(alloc, scripts)
 }

@@ -1,6 +1,7 @@
 //! Parts of text, and what their test costs.
 use crate::script::{Width, both_answer, wrong_on};
 use arrow_table::{Command, Kind, Parts, Raw, Reply, Table, run};
+use arrow_testing::all_told;
 use arrow_types::data_type::DataType;
 use arrow_types::error::Error;
 use std::alloc::Global;
@@ -41,59 +42,84 @@ value 6 2 -> tc
 
 #[test]
 fn texts_by_themselves(rt: HostRuntime) -> Result<(), Fail> {
-    both_answer(rt.alloc(), TEXTS)
+    both_answer(rt.alloc(), &[TEXTS])
 }
 
-/// So many texts of two bytes, of one character each, as parts.
-fn accents<O: Width>(alloc: Global, e: usize, count: usize) -> Result<Command<i64, O>, Error> {
-    let mut offsets = Vec::new(alloc);
-    let mut bytes = Vec::new(alloc);
-    let mut end = Some(0);
-    for _ in 0..count {
-        bytes.extend_from_slice(&[0xC3, 0xA9])?;
-    }
-    for _ in 0..=count {
-        match end {
-            Some(number) => match O::of(number) {
-                Some(offset) => offsets.push(offset)?,
-                None => return Err(Error::Overflow),
-            },
-            None => return Err(Error::Overflow),
+/// The bytes of a hundred texts of one character of two bytes.
+const HUNDRED: &str =
+    "éééééééééééééééééééééééééééééééééééééééééééééééééééééééééééééééééééééééééééééééééééééééééééééééééééé";
+
+/// Appends the offsets of a hundred texts of two bytes.
+fn push_ends<O: Width>(offsets: &mut Vec<O>) -> Result<(), Error> {
+    for end in 0..201 {
+        if end % 2 == 0 {
+            offsets.push(O::of(end).ok_or(Error::Overflow)?)?;
         }
-        end = number_behind(end);
     }
-    Ok(Command::Parts(
-        e,
-        Parts {
-            kind: Kind::Utf8,
-            data_type: if O::IS_LARGE {
-                DataType::LargeUtf8
-            } else {
-                DataType::Utf8
-            },
-            raw: Raw::Pieces(offsets, bytes),
-            mask: None,
+    Ok(())
+}
+
+/// Those offsets.
+fn hundred_ends<O: Width>(alloc: Global) -> Result<Vec<O>, Error> {
+    let mut offsets = Vec::new(alloc);
+    match push_ends(&mut offsets) {
+        Ok(()) => Ok(offsets),
+        Err(refused) => Err(refused),
+    }
+}
+
+/// Parts of text.
+fn parts_of<O: Width>(offsets: Vec<O>, bytes: Vec<u8>) -> Parts<i64, O> {
+    Parts {
+        kind: Kind::Utf8,
+        data_type: if O::IS_LARGE {
+            DataType::LargeUtf8
+        } else {
+            DataType::Utf8
         },
-    ))
+        raw: Raw::Pieces(offsets, bytes),
+        mask: None,
+    }
 }
 
-/// Two more, where there is such a number.
-fn number_behind(number: Option<i64>) -> Option<i64> {
-    number?.checked_add(2)
+/// A hundred texts of one character of two bytes, as parts.
+fn hundred<O: Width>(alloc: Global, e: usize, offsets: Vec<O>) -> Result<Command<i64, O>, Error> {
+    match HUNDRED.as_bytes().to_vec(alloc) {
+        Ok(bytes) => Ok(Command::Parts(e, parts_of(offsets, bytes))),
+        Err(refused) => Err(Error::from(refused)),
+    }
 }
 
-/// Whether a table accepts a hundred texts.
-fn takes_many<O: Width>(alloc: Global, table: &mut Table<i64, O>, e: usize) -> Result<bool, Error> {
-    let commands = [accents(alloc, e, 100)?];
+/// The same of new offsets.
+fn accents<O: Width>(alloc: Global, e: usize) -> Result<Command<i64, O>, Error> {
+    match hundred_ends(alloc) {
+        Ok(offsets) => hundred(alloc, e, offsets),
+        Err(refused) => Err(refused),
+    }
+}
+
+/// Whether a table does a command.
+fn does<O: Width>(alloc: Global, table: &mut Table<i64, O>, command: Command<i64, O>) -> bool {
     let mut replies = Vec::new(alloc);
-    let done = run(table, &commands, &mut replies);
-    Ok(done == 1 && matches!(replies.as_slice(), [Reply::Done]))
+    let done = run(table, &[command], &mut replies);
+    (done == 1) & matches!(replies.as_slice(), [Reply::Done])
 }
 
-/// Whether tests cost so many tests whether bytes are ASCII, so many whether they are UTF-8, and so many looks.
-fn is_cost<O: Width>(table: &Table<i64, O>, ascii: u64, whole: u64, looks: u64) -> bool {
+/// Whether it accepts a hundred texts.
+fn takes_many<O: Width>(alloc: Global, table: &mut Table<i64, O>, e: usize) -> Result<bool, Error> {
+    match accents(alloc, e) {
+        Ok(command) => Ok(does(alloc, table, command)),
+        Err(refused) => Err(refused),
+    }
+}
+
+/// How many tests whether bytes are ASCII, how many whether they are UTF-8, and how many looks.
+type Cost = [u64; 3];
+
+/// Whether tests have cost so much.
+fn is_cost<O: Width>(table: &Table<i64, O>, wanted: Cost) -> bool {
     let cost = table.text_cost();
-    cost.ascii_tests() == ascii && cost.whole_tests() == whole && cost.bytes_looked() == looks
+    [cost.ascii_tests(), cost.whole_tests(), cost.bytes_looked()] == wanted
 }
 
 /// Whether a table answers a script, and its tests then have cost so much in all.
@@ -101,40 +127,49 @@ fn costs<O: Width>(
     alloc: Global,
     table: &mut Table<i64, O>,
     script: &str,
-    ascii: u64,
-    whole: u64,
-    looks: u64,
+    wanted: Cost,
 ) -> Result<bool, Error> {
     let wrong = wrong_on(alloc, table, script)?;
-    Ok(wrong.is_none() && is_cost(table, ascii, whole, looks))
+    Ok(wrong.is_none() & is_cost(table, wanted))
 }
 
-/// Whether what tests cost is told: a window of ASCII is not looked at further, and of any other the offsets between two
-/// slots are, but for those at its end; what is refused before the test costs nothing.
-fn is_counted<O: Width>(alloc: Global, table: &mut Table<i64, O>) -> Result<bool, Error> {
-    let ascii = "parts 0 utf8 text - pieces 616263 0 1 2 3 -> ok";
-    let at_end = "parts 1 utf8 text - pieces f09f9880 0 4 4 -> ok";
-    let inside =
-        "parts 2 utf8 text - pieces c3a9 1 2 -> refused: every text between two offsets must be UTF-8";
-    let nothing = "parts 2 utf8 text - pieces c3a9 1 1 -> ok";
-    let past =
-        "parts 3 utf8 text - pieces . 5 -> refused: offsets must not exceed the values length";
-    let split =
-        "parts 3 utf8 text - pieces c3a9c3a8 0 1 4 -> refused: every text between two offsets must be UTF-8";
-    Ok(
-        is_cost(table, 0, 0, 0)
-            && costs(alloc, table, ascii, 1, 0, 0)?
-            && costs(alloc, table, at_end, 2, 1, 0)?
-            && costs(alloc, table, inside, 3, 2, 0)?
-            && costs(alloc, table, nothing, 4, 2, 0)?
-            && costs(alloc, table, past, 4, 2, 0)?
-            && costs(alloc, table, split, 5, 3, 1)?,
-    )
+/// What tests have cost after each of these: a window of ASCII is not looked at further, and of any other the offsets between
+/// two slots are, but for those at its end; what is refused before the test costs nothing.
+const COSTS: &[(&str, Cost)] = &[
+    ("", [0, 0, 0]),
+    ("parts 0 utf8 text - pieces 616263 0 1 2 3 -> ok", [1, 0, 0]),
+    ("parts 1 utf8 text - pieces f09f9880 0 4 4 -> ok", [2, 1, 0]),
+    (
+        "parts 2 utf8 text - pieces c3a9 1 2 -> refused: every text between two offsets must be UTF-8",
+        [3, 2, 0],
+    ),
+    ("parts 2 utf8 text - pieces c3a9 1 1 -> ok", [4, 2, 0]),
+    (
+        "parts 3 utf8 text - pieces . 5 -> refused: offsets must not exceed the values length",
+        [4, 2, 0],
+    ),
+    (
+        "parts 3 utf8 text - pieces c3a9c3a8 0 1 4 -> refused: every text between two offsets must be UTF-8",
+        [5, 3, 1],
+    ),
+];
+
+/// Whether they are told so.
+fn are_counted<O: Width>(
+    alloc: Global,
+    table: &mut Table<i64, O>,
+    cases: &[(&str, Cost)],
+) -> Result<bool, Error> {
+    for (script, wanted) in cases {
+        if !costs(alloc, table, *script, *wanted)? {
+            return Ok(false);
+        }
+    }
+    Ok(true)
 }
 
-/// Whether a hundred texts are tested at once, and again when they come again; and what is not text is never tested.
-fn is_counted_of_many<O: Width>(alloc: Global, table: &mut Table<i64, O>) -> Result<bool, Error> {
-    let others = "
+/// What is not text, or is no new text, is never tested.
+const OTHERS: &str = "
 parts 2 bin bytes - pieces c3a9c3a8 0 1 4 -> ok
 parts 3 utf8 text - pieces 61 1 0 -> refused: offsets must never fall
 parts 3 utf8 text 01/9 pieces 61 0 1 -> refused: the bits must fit in the bytes
@@ -148,25 +183,32 @@ thaw 3 -> right
 push 3 té -> ok
 freeze 3 -> ok
 ";
-    let is_first = takes_many(alloc, table, 0)? && is_cost(table, 1, 1, 99);
-    let is_second = takes_many(alloc, table, 1)? && is_cost(table, 2, 2, 198);
-    Ok(is_first && is_second && costs(alloc, table, others, 2, 2, 198)?)
+
+/// Whether a hundred texts are tested at once, and again when they come again; and others are not.
+fn are_counted_once<O: Width>(alloc: Global, table: &mut Table<i64, O>) -> Result<bool, Error> {
+    let is_first = takes_many(alloc, table, 0)? & is_cost(table, [1, 1, 99]);
+    let is_second = takes_many(alloc, table, 1)? & is_cost(table, [2, 2, 198]);
+    Ok(is_first & is_second & costs(alloc, table, OTHERS, [2, 2, 198])?)
 }
 
-/// Fails where what a table's tests cost is told otherwise.
-fn costs_are_told<O: Width>(alloc: Global) -> Result<(), Fail> {
-    let mut few = Table::<i64, O>::new(alloc, 4)?;
-    let mut many = Table::<i64, O>::new(alloc, 4)?;
-    let is_told = is_counted(alloc, &mut few)? && is_counted_of_many(alloc, &mut many)?;
-    if is_told {
-        Ok(())
-    } else {
-        Err(Fail::new("other costs are told"))
+/// Whether few texts, or a hundred, are counted so on a new table.
+fn is_counted<O: Width>(alloc: Global, is_few: bool) -> Result<bool, Error> {
+    match Table::<i64, O>::new(alloc, 4) {
+        Ok(mut table) => if is_few {
+            are_counted(alloc, &mut table, COSTS)
+        } else {
+            are_counted_once(alloc, &mut table)
+        },
+        Err(refused) => Err(Error::from(refused)),
     }
 }
 
 #[test]
 fn texts_are_tested_once(rt: HostRuntime) -> Result<(), Fail> {
-    costs_are_told::<i32>(rt.alloc())?;
-    costs_are_told::<i64>(rt.alloc())
+    all_told(&[
+        is_counted::<i32>(rt.alloc(), true),
+        is_counted::<i32>(rt.alloc(), false),
+        is_counted::<i64>(rt.alloc(), true),
+        is_counted::<i64>(rt.alloc(), false),
+    ])
 }

@@ -293,10 +293,8 @@ type 1 -> boolean
 
 #[test]
 fn conditions_fail(rt: HostRuntime) -> Result<(), Fail> {
-    both_answer(rt.alloc(), MISSING)?;
-    both_answer(rt.alloc(), WRONG_KIND)?;
-    both_answer(rt.alloc(), WRONG_BUILDER)?;
-    both_answer(rt.alloc(), UNFIT)?;
-    both_answer(rt.alloc(), PAST)?;
-    both_answer(rt.alloc(), UNMADE)
+    both_answer(
+        rt.alloc(),
+        &[MISSING, WRONG_KIND, WRONG_BUILDER, UNFIT, PAST, UNMADE],
+    )
 }

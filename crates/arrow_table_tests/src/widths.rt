@@ -6,13 +6,26 @@ use arrow_types::error::Error;
 use std::alloc::Global;
 use std::test::Fail;
 
-/// A text, a null and a text.
+/// Appends a text.
+fn push_text(alloc: Global, slots: &mut Vec<Option<Item<i64>>>, text: &str) -> Result<(), Error> {
+    slots.push(Some(Item::Text(String::from_str(alloc, text)?)))?;
+    Ok(())
+}
+
+/// Appends a text, a null and a text.
+fn push_slots(alloc: Global, slots: &mut Vec<Option<Item<i64>>>) -> Result<(), Error> {
+    push_text(alloc, slots, "hi")?;
+    slots.push(None)?;
+    push_text(alloc, slots, "there")
+}
+
+/// Those slots.
 fn slots(alloc: Global) -> Result<Vec<Option<Item<i64>>>, Error> {
     let mut slots = Vec::new(alloc);
-    slots.push(Some(Item::Text(String::from_str(alloc, "hi")?)))?;
-    slots.push(None)?;
-    slots.push(Some(Item::Text(String::from_str(alloc, "there")?)))?;
-    Ok(slots)
+    match push_slots(alloc, &mut slots) {
+        Ok(()) => Ok(slots),
+        Err(refused) => Err(refused),
+    }
 }
 
 /// Whether this may be the reply to the command at a place of those below.
@@ -60,14 +73,100 @@ fn goes(tables: &mut Tables<i64>, alloc: Global, slots: Vec<Option<Item<i64>>>) 
     done == 11 && are_right(&replies) && is_untested
 }
 
-/// Whether it does between two tables of four entries, and what then stands in them.
-fn goes_there_and_back(alloc: Global) -> Result<bool, Error> {
-    let slots = slots(alloc)?;
-    let mut tables = Tables::new(alloc, 4)?;
-    let is_gone = goes(&mut tables, alloc, slots);
+/// Whether it does, and what then stands in the tables, which have four entries.
+fn goes_and_stays(alloc: Global, tables: &mut Tables<i64>, slots: Vec<Option<Item<i64>>>) -> bool {
+    let is_gone = goes(tables, alloc, slots);
     let is_narrow = matches!(tables.narrow().kind(1), Some(Kind::Utf8));
-    let is_empty = tables.narrow().kind(0).is_none() && tables.narrow().len() == 4;
-    Ok(is_gone && is_narrow && is_empty && matches!(tables.wide().kind(0), Some(Kind::Utf8)))
+    let is_wide = matches!(tables.wide().kind(0), Some(Kind::Utf8));
+    let is_empty = tables.narrow().kind(0).is_none() & (tables.narrow().len() == 4);
+    is_gone & is_narrow & is_wide & is_empty
+}
+
+/// The same of slots that were made.
+fn goes_of_slots(
+    alloc: Global,
+    tables: &mut Tables<i64>,
+    slots: Result<Vec<Option<Item<i64>>>, Error>,
+) -> Result<bool, Error> {
+    match slots {
+        Ok(slots) => Ok(goes_and_stays(alloc, tables, slots)),
+        Err(refused) => Err(refused),
+    }
+}
+
+/// The same of new tables.
+fn goes_there_and_back(alloc: Global) -> Result<bool, Error> {
+    match Tables::new(alloc, 4) {
+        Ok(mut tables) => goes_of_slots(alloc, &mut tables, slots(alloc)),
+        Err(refused) => Err(Error::from(refused)),
+    }
+}
+
+/// What a reply is.
+fn named(reply: Reply<i64>) -> &'static str {
+    match reply {
+        Reply::Done => "done",
+        Reply::NotMet => "not met",
+        Reply::Number(0) => "none",
+        Reply::Typed(DataType::Binary) => "binary",
+        _ => "something else",
+    }
+}
+
+/// What one step of the narrow table answers.
+fn narrow(alloc: Global, tables: &mut Tables<i64>, command: &Command<i64, i32>) -> &'static str {
+    named(tables.on_narrow(alloc, command))
+}
+
+/// What one of the wide table does.
+fn wide(alloc: Global, tables: &mut Tables<i64>, command: &Command<i64, i64>) -> &'static str {
+    named(tables.on_wide(alloc, command))
+}
+
+/// What is answered where the array of a narrow entry goes to a wide one.
+fn widened(alloc: Global, tables: &mut Tables<i64>, e: usize, f: usize) -> &'static str {
+    named(tables.widen(alloc, e, f))
+}
+
+/// What is answered where it goes the other way.
+fn narrowed(alloc: Global, tables: &mut Tables<i64>, e: usize, f: usize) -> &'static str {
+    named(tables.narrow_to(alloc, e, f))
+}
+
+/// Whether a builder on either side is made and frozen, step by step.
+fn are_frozen(alloc: Global, tables: &mut Tables<i64>) -> bool {
+    let made = [
+        narrow(alloc, tables, &Command::New(0, Kind::MutableBinary)),
+        wide(alloc, tables, &Command::New(1, Kind::MutableBinary)),
+        widened(alloc, tables, 0, 0),
+        narrow(alloc, tables, &Command::Freeze(0)),
+        wide(alloc, tables, &Command::Freeze(1)),
+    ];
+    made == ["done", "done", "not met", "done", "done"]
+}
+
+/// Whether they are, and the array of either side goes to the other.
+fn steps(alloc: Global, tables: &mut Tables<i64>) -> bool {
+    let are_frozen = are_frozen(alloc, tables);
+    let gone = [widened(alloc, tables, 0, 0), narrowed(alloc, tables, 1, 1)];
+    let seen = [
+        wide(alloc, tables, &Command::Len(0)),
+        narrow(alloc, tables, &Command::TypeOf(1)),
+    ];
+    are_frozen & (gone == ["done", "done"]) & (seen == ["none", "binary"])
+}
+
+/// The same of new tables.
+fn steps_of_new(alloc: Global) -> Result<bool, Error> {
+    match Tables::new(alloc, 2) {
+        Ok(mut tables) => Ok(steps(alloc, &mut tables)),
+        Err(refused) => Err(Error::from(refused)),
+    }
+}
+
+#[test]
+fn steps_are_taken_one_by_one(rt: HostRuntime) -> Result<(), Fail> {
+    told(steps_of_new(rt.alloc()))
 }
 
 #[test]

@@ -4,7 +4,8 @@ use crate::script::changes::change;
 use crate::script::lists::{items, raw, slots};
 use crate::script::samples::{Sample, Width};
 use crate::script::words::{kind_in, mask_in, number, type_in, word};
-use arrow_table::{Command, Kind, Parts};
+use arrow_table::{Bits, Command, Kind, Parts, Raw};
+use arrow_types::data_type::DataType;
 use arrow_types::error::Error;
 use std::alloc::Global;
 use std::str::SplitWhitespace;
@@ -51,6 +52,38 @@ fn making<T: Sample, O: Width>(
     }
 }
 
+/// Raw parts of a type that was read.
+fn typed_parts<T: Sample, O: Width>(
+    kind: Kind,
+    data_type: DataType,
+    raw: Raw<T, O>,
+    mask: Result<Option<Bits>, Error>,
+) -> Result<Parts<T, O>, Error> {
+    match mask {
+        Ok(mask) => Ok(Parts {
+            kind,
+            data_type,
+            raw,
+            mask,
+        }),
+        Err(unreadable) => Err(unreadable),
+    }
+}
+
+/// Raw parts of stored values that were read.
+fn raw_parts<T: Sample, O: Width>(
+    alloc: Global,
+    kind: Kind,
+    named: &str,
+    raw: Raw<T, O>,
+    marks: &str,
+) -> Result<Parts<T, O>, Error> {
+    match type_in::<T, O>(alloc, named) {
+        Ok(data_type) => typed_parts(kind, data_type, raw, mask_in(alloc, marks)),
+        Err(unreadable) => Err(unreadable),
+    }
+}
+
 /// Raw parts: a type, a mask, and the stored values.
 fn parts<T: Sample, O: Width>(
     alloc: Global,
@@ -59,14 +92,10 @@ fn parts<T: Sample, O: Width>(
 ) -> Result<Parts<T, O>, Error> {
     let named = word(&mut words)?;
     let marks = word(&mut words)?;
-    let raw = raw(alloc, words)?;
-    let mask = mask_in(alloc, marks)?;
-    Ok(Parts {
-        kind,
-        data_type: type_in::<T, O>(alloc, named)?,
-        raw,
-        mask,
-    })
+    match raw(alloc, words) {
+        Ok(raw) => raw_parts(alloc, kind, named, raw, marks),
+        Err(unreadable) => Err(unreadable),
+    }
 }
 
 /// A command about which nothing is said but the entry.
