@@ -3,45 +3,38 @@ use arrow_session::counted::Counted;
 use arrow_session::outcome::Outcome;
 use arrow_session::session::session;
 use arrow_table::{Command, Item, Kind, Reply, Table, run};
+use arrow_testing::all_told;
 use arrow_types::error::Error;
 use std::alloc::Global;
 use std::test::Fail;
 
-/// A session says that memory was refused and has written nothing, or a reply says it of its own command.
-#[test]
-fn session_of_commands(rt: HostRuntime) -> Result<(), Fail> {
-    let mut room = [0; 29];
-    let outcome = session(
-        rt.alloc(),
-        &mut Counted::new("new 0 mprim\npush 0 v1\nlen 0".as_bytes()),
-        &mut Counted::new(room.as_mut_slice()),
-    );
-    let is_refused = match outcome {
-        Outcome::Memory => room == [0; 29],
-        Outcome::Done => room == *b"ok\nrefused: out of memory\n0\n\0",
-        _ => false,
-    };
-    if is_refused {
-        return Err(Fail::from("refused"));
-    }
-    assert!(rt; outcome == Outcome::Done && room.starts_with(b"ok\nok\n1\n\0"));
-    Ok(())
+/// How a session over these lines ends, which writes into this room.
+fn session_into(alloc: Global, lines: &str, room: &mut [u8]) -> Outcome {
+    session(
+        alloc,
+        &mut Counted::new(lines.as_bytes()),
+        &mut Counted::new(room),
+    )
 }
 
-/// The first bad line is named, unless memory is refused before it is found.
-#[test]
-fn session_of_a_bad_line(rt: HostRuntime) -> Result<(), Fail> {
-    let mut room = [0; 1];
-    let outcome = session(
-        rt.alloc(),
-        &mut Counted::new("len 0\n\nlen".as_bytes()),
-        &mut Counted::new(room.as_mut_slice()),
-    );
-    if outcome == Outcome::Memory && room == [0; 1] {
-        return Err(Fail::from("refused"));
+/// Whether a session says that memory was refused and has written nothing, or a reply says it of its own command.
+fn replies(alloc: Global) -> Result<bool, Error> {
+    let mut room = [0; 29];
+    let lines = "new 0 mprim\npush 0 v1\nlen 0";
+    match session_into(alloc, lines, room.as_mut_slice()) {
+        Outcome::Memory if room == [0; 29] => Err(Error::OutOfMemory),
+        Outcome::Done if room == *b"ok\nrefused: out of memory\n0\n\0" => Err(Error::OutOfMemory),
+        outcome => Ok((outcome == Outcome::Done) & room.starts_with(b"ok\nok\n1\n\0")),
     }
-    assert!(rt; outcome == Outcome::BadLine(3) && room == [0; 1]);
-    Ok(())
+}
+
+/// Whether the first bad line is named, unless memory is refused before it is found.
+fn names_line(alloc: Global) -> Result<bool, Error> {
+    let mut room = [0; 1];
+    match session_into(alloc, "len 0\n\nlen", room.as_mut_slice()) {
+        Outcome::Memory if room == [0; 1] => Err(Error::OutOfMemory),
+        outcome => Ok((outcome == Outcome::BadLine(3)) & (room == [0; 1])),
+    }
 }
 
 /// Whether a reply may come, where any growth may be refused; follows the length of the entry.
@@ -71,24 +64,27 @@ fn all_may_come(commands: &[Command<i64, i32>], replies: &[Reply<i64>]) -> bool 
     true
 }
 
-/// Whether the replies say what was done, whichever growth was refused, where a second run does the rest; and whether
-/// a growth was.
+/// Whether the replies say what was done, whichever growth was refused, where a second run does the rest.
 fn ends(
     table: &mut Table<i64, i32>,
     commands: &[Command<i64, i32>],
-    alloc: Global,
-) -> (bool, bool) {
-    let mut replies = Vec::new(alloc);
-    let done = run(table, commands, &mut replies);
-    let rest = run(table, &commands[done..], &mut replies);
-    let is_all = done.saturating_add(rest) == commands.len() && replies.len() == commands.len();
-    let is_refused = rest > 0 || replies.iter().any(|it| matches!(it, Reply::Refused(_)));
-    (is_all && all_may_come(commands, &replies), is_refused)
+    replies: &mut Vec<Reply<i64>>,
+) -> Result<bool, Error> {
+    let done = run(table, commands, replies);
+    let rest = run(table, &commands[done..], replies);
+    let is_all = (done.saturating_add(rest) == commands.len()) & (replies.len() == commands.len());
+    if !is_all || !all_may_come(commands, replies) {
+        return Ok(false);
+    }
+    if rest > 0 || replies.iter().any(|it| matches!(it, Reply::Refused(_))) {
+        return Err(Error::OutOfMemory);
+    }
+    Ok(true)
 }
 
-/// The same of a builder that is filled and frozen, in a table of one entry; nothing where memory is refused for that.
-fn ends_of_commands(alloc: Global) -> Option<(bool, bool)> {
-    let commands = [
+/// A builder is filled and frozen.
+fn commands() -> [Command<i64, i32>; 7] {
+    [
         Command::New(0, Kind::MutablePrimitive),
         Command::Push(0, Some(Item::Value(1))),
         Command::Len(0),
@@ -96,17 +92,27 @@ fn ends_of_commands(alloc: Global) -> Option<(bool, bool)> {
         Command::Len(0),
         Command::Freeze(0),
         Command::Len(0),
-    ];
-    let mut table = Table::<i64, i32>::new(alloc, 1).ok()?;
-    Some(ends(&mut table, &commands, alloc))
+    ]
+}
+
+/// Whether they do of these commands.
+fn ends_on(alloc: Global, table: &mut Table<i64, i32>) -> Result<bool, Error> {
+    ends(table, &commands(), &mut Vec::new(alloc))
+}
+
+/// Whether they do on a table of one entry.
+fn ends_of_commands(alloc: Global) -> Result<bool, Error> {
+    match Table::<i64, i32>::new(alloc, 1) {
+        Ok(mut table) => ends_on(alloc, &mut table),
+        Err(_) => Err(Error::OutOfMemory),
+    }
 }
 
 #[test]
-fn run_of_commands(rt: HostRuntime) -> Result<(), Fail> {
-    let (is_right, is_refused) = ends_of_commands(rt.alloc()).unwrap_or((true, true));
-    assert!(rt; is_right);
-    if is_refused {
-        return Err(Fail::from("refused"));
-    }
-    Ok(())
+fn sessions_and_runs(rt: HostRuntime) -> Result<(), Fail> {
+    all_told(&[
+        replies(rt.alloc()),
+        names_line(rt.alloc()),
+        ends_of_commands(rt.alloc()),
+    ])
 }
