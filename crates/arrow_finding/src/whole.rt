@@ -30,7 +30,7 @@ impl<T: NativeType, O: Offset> EntryRow<T, O> for Empty {
         if entry.is_none() {
             return Reply::NotMet;
         }
-        put(entry, None);
+        *entry = None;
         Reply::Done
     }
 }

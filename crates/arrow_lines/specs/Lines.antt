@@ -1,5 +1,5 @@
 -- What each line of the program's input asks.
-use Rattle.std.specs.Prelude.{◌≡◌, ℕ, ◌+◌, Bool, not, ◌&&◌, ◌||◌, ◌==◌, nat_le, codes, if◌then◌else◌, List, [], ◌∷◌, ◌++◌, ℤ, pos, false, Option, Some, None, option_and_then, option_map, bytes_eq, is_some, filter, filter_map, length, position}
+use Rattle.std.specs.Prelude.{ℕ, ◌+◌, Bool, not, ◌&&◌, ◌||◌, ◌==◌, nat_le, codes, if◌then◌else◌, List, [], ◌∷◌, ◌++◌, ℤ, pos, Option, Some, None, option_and_then, option_map, bytes_eq, is_some, filter, filter_map, length, position}
 use Rattle.arrow_types.specs.declared.primitive_type.PrimitiveType.TheVariants.{Int64}
 use Rattle.arrow_entry.specs.Both.{BothRequest, narrow, wide, widen, narrow_to, narrow_types, wide_types}
 use Rattle.arrow_entry.specs.Entry.{Types, default_type}

@@ -2,10 +2,12 @@
 ghost use Rattle.std.specs.Prelude.{◌≡◌, true, IfOk, Some};
 ghost use Rattle.arrow_entry.specs.Answer.{done, told};
 ghost use Rattle.arrow_entry.specs.Both.{narrow, narrow_to, wide, widen};
-ghost use Rattle.arrow_entry.specs.Request.{asked};
+ghost use Rattle.arrow_entry.specs.Item.{stored_slot};
+ghost use Rattle.arrow_entry.specs.Request.{all_slots, asked, at, push};
 ghost use Rattle.arrow_lines.specs.Answered.{AnswersAsked, Tells};
 
-use arrow_table::{Command, Reply, Tables};
+use arrow_listing::entry::push_listed;
+use arrow_table::{Command, Item, Reply, Tables};
 use arrow_words::print::push_replies;
 use std::alloc::AllocError;
 use std::slice::from_ref;
@@ -38,6 +40,43 @@ impl Answering {
         let alloc = *self.text.allocator();
         let reply = self.tables.on_wide(alloc, &command);
         self.tell(reply)
+    }
+
+    /// Appends a slot to the builder in a narrow entry, and the reply to the text. It is a command, so the answer is true.
+    pub fn push_narrow(&mut self, e: usize, slot: &Option<Item<i64>>) -> Result<bool, AllocError>
+        ensures { IfOk result (AnswersAsked (Some (narrow (at e (push (stored_slot slot.now))))) self.old self.new) }
+    {
+        let alloc = *self.text.allocator();
+        let reply = self.tables.push_narrow(alloc, e, slot);
+        self.tell(reply)
+    }
+
+    /// The same of a wide entry.
+    pub fn push_wide(&mut self, e: usize, slot: &Option<Item<i64>>) -> Result<bool, AllocError>
+        ensures { IfOk result (AnswersAsked (Some (wide (at e (push (stored_slot slot.now))))) self.old self.new) }
+    {
+        let alloc = *self.text.allocator();
+        let reply = self.tables.push_wide(alloc, e, slot);
+        self.tell(reply)
+    }
+
+    /// Appends the text of all slots of a narrow entry, which is what the command that answers them tells. They are written from
+    /// where they lie.
+    pub fn list_narrow(&mut self, e: usize) -> Result<bool, AllocError>
+        ensures { IfOk result (AnswersAsked (Some (narrow (at e all_slots))) self.old self.new) }
+    {
+        let held = self.tables.narrow().slots_at(e);
+        push_listed(&mut self.text, held)?;
+        Ok(true)
+    }
+
+    /// The same of a wide entry.
+    pub fn list_wide(&mut self, e: usize) -> Result<bool, AllocError>
+        ensures { IfOk result (AnswersAsked (Some (wide (at e all_slots))) self.old self.new) }
+    {
+        let held = self.tables.wide().slots_at(e);
+        push_listed(&mut self.text, held)?;
+        Ok(true)
     }
 
     /// The same of the array of a narrow entry, which is put into a wide one.

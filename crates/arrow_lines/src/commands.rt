@@ -1,7 +1,8 @@
 //! The commands that words ask for.
 ghost use Rattle.std.specs.Prelude.{◌≡◌, ℤ, ℕ, IfOk, List, Option, Some, map, option_map};
 ghost use Rattle.arrow_entry.specs.Both.{BothRequest};
-ghost use Rattle.arrow_entry.specs.Request.{Request, asked};
+ghost use Rattle.arrow_entry.specs.Item.{stored_slot};
+ghost use Rattle.arrow_entry.specs.Request.{Request, all_slots, asked, at, push};
 ghost use Rattle.arrow_lines.specs.Answered.{AnswersAsked};
 ghost use Rattle.arrow_words.specs.Readers.{each};
 ghost use Rattle.arrow_words.specs.Words.{words_of};
@@ -15,7 +16,7 @@ mod telling;
 mod turning;
 
 use crate::answering::Answering;
-use arrow_table::Command;
+use arrow_table::{Command, Item};
 use arrow_types::offset::Offset;
 use arrow_words::readers::Words;
 pub(crate) use both::run_words;
@@ -35,6 +36,14 @@ pub(crate) trait Width: Offset {
     /// Runs a command on the table of this width, of two, and appends its reply to the text.
     fn answer(answering: &mut Answering, command: Command<i64, Self>) -> Answered
         ensures { IfOk result (AnswersAsked (Some (side (asked Self.number command))) answering.old answering.new) };
+
+    /// Appends the text of all slots of an entry of the table of this width.
+    fn list(answering: &mut Answering, e: usize) -> Answered
+        ensures { IfOk result (AnswersAsked (Some (side (at e all_slots))) answering.old answering.new) };
+
+    /// Appends a slot to the builder in an entry of the table of this width, and the reply to the text.
+    fn push(answering: &mut Answering, e: usize, slot: &Option<Item<i64>>) -> Answered
+        ensures { IfOk result (AnswersAsked (Some (side (at e (push (stored_slot slot.now))))) answering.old answering.new) };
 
     /// The offsets that words write; `None` where one of them writes none.
     fn starts_of(alloc: Global, words: &[u8]) -> Result<Option<Vec<Self>>, AllocError>
@@ -59,6 +68,14 @@ impl Width for i32 {
         answering.answer_narrow(command)
     }
 
+    fn list(answering: &mut Answering, e: usize) -> Answered {
+        answering.list_narrow(e)
+    }
+
+    fn push(answering: &mut Answering, e: usize, slot: &Option<Item<i64>>) -> Answered {
+        answering.push_narrow(e, slot)
+    }
+
     fn starts_of(alloc: Global, words: &[u8]) -> Result<Option<Vec<i32>>, AllocError> {
         Vec::<i32>::of_words(alloc, words)
     }
@@ -80,6 +97,14 @@ impl Width for i64 {
         ensures { IfOk result (AnswersAsked (Some (wide (asked (λ offset. offset) command))) answering.old answering.new) }
     {
         answering.answer_wide(command)
+    }
+
+    fn list(answering: &mut Answering, e: usize) -> Answered {
+        answering.list_wide(e)
+    }
+
+    fn push(answering: &mut Answering, e: usize, slot: &Option<Item<i64>>) -> Answered {
+        answering.push_wide(e, slot)
     }
 
     fn starts_of(alloc: Global, words: &[u8]) -> Result<Option<Vec<i64>>, AllocError> {

@@ -5,7 +5,7 @@ ghost use Rattle.arrow_entry.specs.Answer.{told};
 ghost use Rattle.arrow_entry.specs.Entry.{Value, boolean_value, native_value, piece_value, types, value_of};
 ghost use Rattle.arrow_entry.specs.Kind.{same_kind, with_nulls};
 ghost use Rattle.arrow_entry.specs.Row.{Row};
-ghost use Rattle.arrow_entry.specs.Step.{AtEntry, Compares_to, Joins, entry_at, other_at};
+ghost use Rattle.arrow_entry.specs.Step.{AtEntry, Clones, Compares_to, Joins, entry_at, other_at};
 
 use arrow_binary::{MutableBinaryArray, MutableBinaryValuesArray};
 use arrow_boolean::MutableBooleanArray;
@@ -15,11 +15,13 @@ use arrow_entry::kinds::growing::Growing;
 use arrow_entry::kinds::kept::Kept;
 use arrow_entry::{Entry, Reply};
 use arrow_primitive::MutablePrimitiveArray;
+use arrow_rows::chosen::{Chooses, held_at, put_at};
 use arrow_rows::entry::put;
 use arrow_types::error::Error;
 use arrow_types::native_type::NativeType;
 use arrow_types::offset::Offset;
 use arrow_utf8::{MutableUtf8Array, MutableUtf8ValuesArray};
+use std::alloc::Global;
 
 /// What a command does to an entry with what another one holds.
 pub trait PairRow<T: NativeType, O: Offset> {
@@ -83,31 +85,43 @@ fn cloned<T: NativeType, O: Offset>(entry: &Entry<T, O>) -> Result<Entry<T, O>, 
     }
 }
 
-/// Puts a clone of what the other holds into an empty entry.
+/// A clone of what the entry of this number holds.
 #[derive(Drop)]
-pub struct CloneFrom;
+struct CloneOf(usize);
 
-impl<T: NativeType, O: Offset> PairRow<T, O> for CloneFrom {
-    ghost use Rattle.arrow_entry.specs.Entry.{types};
-    ghost use Rattle.arrow_entry.specs.Step.{Clones};
+impl<T: NativeType, O: Offset> Chooses<T, O> for CloneOf {
+    ghost use Rattle.std.specs.Prelude.{None};
+    ghost use Rattle.arrow_entry.specs.Row.{given, leaves, memory};
+    ghost use Rattle.arrow_entry.specs.Step.{entry_at};
 
-    ghost means = { Clones (types T.zero T.PRIMITIVE O.most O.IS_LARGE) };
+    ghost means = { λ command state. given None (entry_at state command.0) (λ v. memory None (leaves v)) };
 
-    fn run(self, entry: &mut Option<Entry<T, O>>, other: &Option<Entry<T, O>>) -> Reply<T> {
-        let Some(source) = other else {
-            return Reply::NotMet;
+    fn make(
+        self,
+        _alloc: Global,
+        entries: &Vec<Option<Entry<T, O>>>,
+    ) -> Result<Entry<T, O>, Reply<T>> {
+        let Some(source) = held_at(entries, self.0) else {
+            return Err(Reply::NotMet);
         };
-        if entry.is_some() {
-            return Reply::NotMet;
-        }
         match cloned(source) {
-            Ok(copy) => {
-                put(entry, Some(copy));
-                Reply::Done
-            }
-            Err(_) => Reply::Refused(Error::OutOfMemory),
+            Ok(copy) => Ok(copy),
+            Err(_) => Err(Reply::Refused(Error::OutOfMemory)),
         }
     }
+}
+
+/// Puts a clone of what another entry holds into the entry of this number, which has to be empty; past the table it is not
+/// met. The entry is written where it lies, so that what an entry takes, some two hundred bytes, is moved but once.
+pub fn clone_at<T: NativeType, O: Offset>(
+    alloc: Global,
+    entries: &mut Vec<Option<Entry<T, O>>>,
+    e: usize,
+    f: usize,
+) -> Reply<T>
+    ensures { AtEntry (map (option_map value_of) entries.old.items) e (Clones (types T.zero T.PRIMITIVE O.most O.IS_LARGE) (other_at (map (option_map value_of) entries.old.items) e f)) (told result) (map (option_map value_of) entries.new.items) }
+{
+    put_at(alloc, entries, e, CloneOf(f))
 }
 
 /// Appends another builder's rows.

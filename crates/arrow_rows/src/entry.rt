@@ -14,7 +14,6 @@ use arrow_entry::{Entry, Reply};
 use arrow_types::native_type::NativeType;
 use arrow_types::offset::Offset;
 use std::alloc::Global;
-use std::mem::replace;
 
 /// A row: what a command does to an entry.
 pub trait EntryRow<T: NativeType, O: Offset> {
@@ -30,7 +29,7 @@ pub trait EntryRow<T: NativeType, O: Offset> {
 pub fn put<T: NativeType, O: Offset>(entry: &mut Option<Entry<T, O>>, kept: Option<Entry<T, O>>)
     ensures { entry.new ≡ kept }
 {
-    drop(replace(entry, kept));
+    *entry = kept;
 }
 
 /// A command that makes a value in an empty entry.

@@ -19,7 +19,7 @@ use arrow_making::filled::{FromItems, FromSlots};
 use arrow_making::make::{New, NewNull};
 use arrow_making::parts::parts;
 use arrow_pairing::chosen::{Filter, Take};
-use arrow_pairing::two::{CloneFrom, ExtendFrom, at_with, equal};
+use arrow_pairing::two::{ExtendFrom, at_with, clone_at, equal};
 use arrow_rows::builder::{Pop, Push, PushNull, Reserve, Shrink};
 use arrow_rows::bytes::{Bytes, Offsets};
 use arrow_rows::chosen::put_at;
@@ -85,7 +85,7 @@ fn change<T: NativeType, O: Offset>(
         Command::Bytes(e) => at(alloc, entries, *e, OfPieces(Bytes)),
         Command::Offsets(e) => at(alloc, entries, *e, OfPieces(Offsets)),
         Command::Slice(e, offset, len) => at(alloc, entries, *e, OfFrozen(Slice(*offset, *len))),
-        Command::Clone(e, f) => at_with(entries, *f, *e, CloneFrom),
+        Command::Clone(e, f) => clone_at(alloc, entries, *f, *e),
         Command::Drop(e) => at(alloc, entries, *e, Empty),
         Command::SetMask(e, mask) => at(alloc, entries, *e, SetMask(mask)),
         Command::ApplyMask(e, change) => at(alloc, entries, *e, ApplyMask(change)),

@@ -1,16 +1,22 @@
 //! A table, and the run of a list of commands on it.
-ghost use Rattle.std.specs.Prelude.{◌≡◌, ◌<◌, ◌≤◌, length, map, replicate, take, vec_capacity, vec_len, IfErr, IfOk, None, option_map};
+ghost use Rattle.std.specs.Prelude.{◌≡◌, ◌<◌, ◌≤◌, length, map, replicate, take, vec_capacity, vec_len, IfErr, IfOk, None, option_copied, option_map};
 ghost use Rattle.arrow_check.specs.Reading.{no_cost};
 ghost use Rattle.arrow_entry.specs.Answer.{told};
 ghost use Rattle.arrow_entry.specs.Entry.{table_of, types};
+ghost use Rattle.arrow_entry.specs.Item.{stored_slot};
 ghost use Rattle.arrow_entry.specs.Kind.{shape};
-ghost use Rattle.arrow_entry.specs.Request.{asked};
+ghost use Rattle.arrow_entry.specs.Request.{all_slots, asked, at, push};
 ghost use Rattle.arrow_entry.specs.Run.{AppendsRun, CostsAtMost};
 ghost use Rattle.arrow_entry.specs.Step.{IsStep, entry_at};
+ghost use Rattle.arrow_finding.specs.Listed.{listed};
 
 use crate::sequence::{Steps, run_all};
-use crate::{Command, Entry, Kind, Reply};
+use crate::{Command, Entry, Item, Kind, Reply};
 use arrow_check::cost::TextCost;
+use arrow_finding::kinds::OfBuilder;
+use arrow_finding::slots::slots_at;
+use arrow_rows::builder::Push;
+use arrow_rows::table::at;
 use arrow_step::step::step;
 use arrow_types::error::Error;
 use arrow_types::native_type::NativeType;
@@ -69,6 +75,23 @@ impl<T: NativeType, O: Offset> Table<T, O> {
             Some(entry) => Some(entry.kind()),
             None => None,
         }
+    }
+
+    /// What an entry holds, lent to a caller who reads the slots where they lie. That tells what the command `Slots` tells,
+    /// which copies them; `None` where that command is not met.
+    #[inline(always)]
+    pub fn slots_at(&self, i: usize) -> Option<&Entry<T, O>>
+        ensures { IsStep (types T.zero T.PRIMITIVE O.most O.IS_LARGE) self.now (at i all_slots) (listed (option_copied result)) self.now }
+    {
+        slots_at(&self.entries, i)
+    }
+
+    /// Does the command that appends a slot to the builder in an entry, and answers, with no command made for it.
+    #[inline(always)]
+    pub fn push_at(&mut self, alloc: Global, i: usize, slot: &Option<Item<T>>) -> Reply<T>
+        ensures { IsStep (types T.zero T.PRIMITIVE O.most O.IS_LARGE) self.old (at i (push (stored_slot slot.now))) (told result) self.new }
+    {
+        at(alloc, &mut self.entries, i, OfBuilder(Push(slot)))
     }
 
     /// What the table's tests of text cost so far.

@@ -3,11 +3,12 @@ ghost use Rattle.std.specs.Prelude.{◌≡◌, ◌<◌, ◌≤◌, ◌∷◌, []
 ghost use Rattle.arrow_check.specs.Reading.{no_cost};
 ghost use Rattle.arrow_entry.specs.Answer.{told};
 ghost use Rattle.arrow_entry.specs.Both.{AppendsBothRun, IsBothStep, both_asked, narrow, narrow_of, narrow_to, wide, wide_of, widen};
-ghost use Rattle.arrow_entry.specs.Request.{asked};
+ghost use Rattle.arrow_entry.specs.Item.{stored_slot};
+ghost use Rattle.arrow_entry.specs.Request.{asked, at, push};
 ghost use Rattle.arrow_entry.specs.Run.{CostsAtMost};
 
 use crate::sequence::{Steps, run_all};
-use crate::{BothCommand, Command, Reply, Table};
+use crate::{BothCommand, Command, Item, Reply, Table};
 use arrow_pairing::widths::{Narrow, Widen};
 use arrow_rows::chosen::put_at;
 use arrow_types::error::Error;
@@ -75,6 +76,22 @@ impl<T: NativeType> Tables<T> {
         ensures costs { CostsAtMost (asked (λ offset. offset) command.now ∷ []) self.old.wide.cost self.new.wide.cost }
     {
         self.wide.step(alloc, command)
+    }
+
+    /// Appends a slot to the builder in a narrow entry, as the command for it does, and answers.
+    #[inline(always)]
+    pub fn push_narrow(&mut self, alloc: Global, e: usize, slot: &Option<Item<T>>) -> Reply<T>
+        ensures { IsBothStep T.zero T.PRIMITIVE self.old (narrow (at e (push (stored_slot slot.now)))) (told result) self.new }
+    {
+        self.narrow.push_at(alloc, e, slot)
+    }
+
+    /// The same of a wide entry.
+    #[inline(always)]
+    pub fn push_wide(&mut self, alloc: Global, e: usize, slot: &Option<Item<T>>) -> Reply<T>
+        ensures { IsBothStep T.zero T.PRIMITIVE self.old (wide (at e (push (stored_slot slot.now)))) (told result) self.new }
+    {
+        self.wide.push_at(alloc, e, slot)
     }
 
     /// Puts the array of items of a narrow entry, over wide offsets, into a wide entry, which is empty, and answers.

@@ -186,14 +186,29 @@ const EACH: &[Kind] = &[
     Kind::Utf8Values,
 ];
 
-/// Whether a table's entries are of these kinds, and those past them of none.
+/// The kind of what a table lends of an entry.
+fn lent_kind(table: &Table<i64, i32>, i: usize) -> Option<Kind> {
+    match table.slots_at(i) {
+        Some(entry) => Some(entry.kind()),
+        None => None,
+    }
+}
+
+/// Whether a table's entries are of these kinds, those that it lends too, and those past them of none.
 fn are_kinds(table: &Table<i64, i32>, kinds: &[Kind]) -> bool {
     for i in 0..kinds.len() {
-        if table.kind(i) != Some(kinds[i]) {
+        let kind = Some(kinds[i]);
+        if (table.kind(i) != kind) | (lent_kind(table, i) != kind) {
             return false;
         }
     }
-    table.kind(kinds.len()).is_none() && table.kind(usize::MAX).is_none()
+    let past = [kinds.len(), usize::MAX];
+    for i in past {
+        if table.kind(i).is_some() | lent_kind(table, i).is_some() {
+            return false;
+        }
+    }
+    true
 }
 
 /// Whether a table of eleven entries tells no kinds, and then those.

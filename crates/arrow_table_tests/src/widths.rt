@@ -108,6 +108,7 @@ fn named(reply: Reply<i64>) -> &'static str {
         Reply::Done => "done",
         Reply::NotMet => "not met",
         Reply::Number(0) => "none",
+        Reply::Number(2) => "two",
         Reply::Typed(DataType::Binary) => "binary",
         _ => "something else",
     }
@@ -164,9 +165,43 @@ fn steps_of_new(alloc: Global) -> Result<bool, Error> {
     }
 }
 
+/// What is answered where a slot is pushed to the first entry of either side, with no command made for it.
+fn pushed(alloc: Global, tables: &mut Tables<i64>, slot: &Option<Item<i64>>) -> [&'static str; 2] {
+    [
+        named(tables.push_narrow(alloc, 0, slot)),
+        named(tables.push_wide(alloc, 0, slot)),
+    ]
+}
+
+/// Whether a value and a null are pushed to a builder on the wide side, and to no entry that holds none.
+fn pushes(alloc: Global, tables: &mut Tables<i64>) -> bool {
+    let missing = pushed(alloc, tables, &None);
+    let made = wide(alloc, tables, &Command::New(0, Kind::MutablePrimitive));
+    let values = pushed(alloc, tables, &Some(Item::Value(7)));
+    let nulls = pushed(alloc, tables, &None);
+    let count = wide(alloc, tables, &Command::Len(0));
+    (missing == ["not met", "not met"])
+        & (values == ["not met", "done"])
+        & (nulls == ["not met", "done"])
+        & ([made, count] == ["done", "two"])
+}
+
+/// The same of new tables.
+fn pushes_of_new(alloc: Global) -> Result<bool, Error> {
+    match Tables::new(alloc, 1) {
+        Ok(mut tables) => Ok(pushes(alloc, &mut tables)),
+        Err(refused) => Err(Error::from(refused)),
+    }
+}
+
 #[test]
 fn steps_are_taken_one_by_one(rt: HostRuntime) -> Result<(), Fail> {
     told(steps_of_new(rt.alloc()))
+}
+
+#[test]
+fn slots_are_pushed_with_no_command(rt: HostRuntime) -> Result<(), Fail> {
+    told(pushes_of_new(rt.alloc()))
 }
 
 #[test]

@@ -1,6 +1,7 @@
 //! What the arrays and their builders do with good input and with hostile input: tables of cases, with parts, calls and
 //! answers, for a reader who asks what happens if. All of it is with ample memory; what is answered where memory is refused
-//! stands in `arrow_refusals`.
+//! stands in `arrow_refusals`. What a table of arrays answers to hostile commands, items past the greatest offset among them,
+//! stands as scripts in `arrow_table_tests`.
 //!
 //! | asks | module |
 //! |---|---|
@@ -12,7 +13,6 @@
 //! | whether room that was asked for is there | `room` |
 //! | what an iterator does that lies of its length, or is asked for more than there is | `iterators` |
 //! | which keys point at an item | `keys` |
-//! | what a table of arrays answers to items past the greatest offset; other hostile commands are scripts of `arrow_table_tests` | `table` |
 #![tactic(auto)]
 
 #[cfg(test)]
@@ -37,8 +37,6 @@ mod primitive;
 mod raw;
 #[cfg(test)]
 mod room;
-#[cfg(test)]
-mod table;
 #[cfg(test)]
 mod text;
 

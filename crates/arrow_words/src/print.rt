@@ -1,5 +1,5 @@
 //! The text of replies.
-ghost use Rattle.std.specs.Prelude.{◌≡◌, ◌∷◌, ◌++◌, ◌<◌, ℕ, List, codes, decimal, map, flat_map, slice_index, OnOk, string_bytes};
+ghost use Rattle.std.specs.Prelude.{◌≡◌, ◌∷◌, ◌++◌, ◌<◌, if◌then◌else◌, ℕ, List, codes, decimal, map, flat_map, slice_index, OnOk, string_bytes};
 ghost use Rattle.std.specs.Fmt.{signed_decimal};
 ghost use Rattle.std.specs.List.{join_with_byte};
 ghost use Rattle.hex.specs.Hex.{encode_lower, lower_digits};
@@ -24,7 +24,7 @@ fn push_number<I: Integer>(text: &mut String, number: I) -> Result<(), AllocErro
 }
 
 /// A letter and the digits of a number.
-fn push_value(text: &mut String, number: i64) -> Result<(), AllocError>
+pub fn push_value(text: &mut String, number: i64) -> Result<(), AllocError>
     ensures { OnOk result (string_bytes text.new ≡ string_bytes text.old ++ (codes "v" ++ signed_decimal number)) }
 {
     text.push_str("v")?;
@@ -53,7 +53,7 @@ fn push_hex(text: &mut String, bytes: &[u8]) -> Result<(), AllocError>
 }
 
 /// A letter and the digits of bytes.
-fn push_bytes(text: &mut String, letter: char, bytes: &[u8]) -> Result<(), AllocError>
+pub fn push_bytes(text: &mut String, letter: char, bytes: &[u8]) -> Result<(), AllocError>
     requires { letter < 128 }
     ensures { OnOk result (string_bytes text.new ≡ string_bytes text.old ++ (letter ∷ encode_lower bytes.now)) }
 {
@@ -61,13 +61,19 @@ fn push_bytes(text: &mut String, letter: char, bytes: &[u8]) -> Result<(), Alloc
     push_hex(text, bytes)
 }
 
+/// The text of a truth value.
+pub fn push_bit(text: &mut String, bit: bool) -> Result<(), AllocError>
+    ensures { OnOk result (string_bytes text.new ≡ string_bytes text.old ++ (if bit then codes "b1" else codes "b0")) }
+{
+    text.push_str(if bit { "b1" } else { "b0" })
+}
+
 fn push_item(text: &mut String, item: &Item<i64>) -> Result<(), AllocError>
     ensures { OnOk result (string_bytes text.new ≡ string_bytes text.old ++ item_text (stored_item item.now)) }
 {
     match item {
         Item::Value(number) => push_value(text, *number),
-        Item::Bit(false) => text.push_str("b0"),
-        Item::Bit(true) => text.push_str("b1"),
+        Item::Bit(bit) => push_bit(text, *bit),
         Item::Bytes(bytes) => push_bytes(text, 'x', bytes),
         Item::Text(word) => push_bytes(text, 't', word.as_bytes()),
     }

@@ -71,11 +71,14 @@ impl<A: Word> Words for Only<A> {
     ghost reader = { only A.said };
 
     fn of_words(alloc: Global, words: &[u8]) -> Result<Option<Self>, AllocError> {
-        let Some((word, rest)) = next::<A>(alloc, words)? else {
+        let Some((word, rest)) = next_word(words) else {
             return Ok(None);
         };
-        match end(rest) {
-            Some(()) => Ok(Some(Only(word))),
+        if end(rest).is_none() {
+            return Ok(None);
+        }
+        match A::of_word(alloc, word)? {
+            Some(said) => Ok(Some(Only(said))),
             None => Ok(None),
         }
     }
@@ -90,11 +93,14 @@ impl<A: Word, B: Words> Words for (A, B) {
     ghost reader = { A.said ▸ B.reader };
 
     fn of_words(alloc: Global, words: &[u8]) -> Result<Option<Self>, AllocError> {
-        let Some((word, rest)) = next::<A>(alloc, words)? else {
+        let Some((word, rest)) = next_word(words) else {
+            return Ok(None);
+        };
+        let Some(said) = A::of_word(alloc, word)? else {
             return Ok(None);
         };
         match B::of_words(alloc, rest)? {
-            Some(others) => Ok(Some((word, others))),
+            Some(others) => Ok(Some((said, others))),
             None => Ok(None),
         }
     }

@@ -1,4 +1,5 @@
-//! The lines of one table by their names. Those of one length stand together, so that few are compared.
+//! The lines of one table by their names. Those of one length stand together, so that few are compared, and first those that
+//! are asked most.
 #![tactic(auto, unfolding(crate::specs::Lines::making, crate::specs::Lines::telling, crate::specs::Lines::changing, crate::specs::Lines::growing, crate::specs::Lines::turning, crate::specs::Lines::request_among))]
 
 ghost use Rattle.std.specs.Prelude.{◌==◌, nat_le, nat_lt, pos, IfOk};
@@ -38,20 +39,20 @@ fn by_three<O: Width>(
 ) -> Answered
     ensures { IfOk result (AnswersNamed O.side (of_length (λ n. nat_le n 3) (lines (types (pos 0) Int64 O.most O.IS_LARGE) O.offset)) name.now (words_of words.now) answering.old answering.new) }
 {
-    if is(name, b"new") {
-        return run_new::<O>(alloc, answering, words);
+    if is(name, b"get") {
+        return run_get::<O>(alloc, answering, words);
     }
     if is(name, b"len") {
         return run_len::<O>(alloc, answering, words);
-    }
-    if is(name, b"get") {
-        return run_get::<O>(alloc, answering, words);
     }
     if is(name, b"set") {
         return run_set::<O>(alloc, answering, words);
     }
     if is(name, b"pop") {
         return run_pop::<O>(alloc, answering, words);
+    }
+    if is(name, b"new") {
+        return run_new::<O>(alloc, answering, words);
     }
     if is(name, b"to") {
         return run_to::<O>(alloc, answering, words);
@@ -68,11 +69,17 @@ fn by_four<O: Width>(
 ) -> Answered
     ensures { IfOk result (AnswersNamed O.side (of_length (λ n. n == 4) (lines (types (pos 0) Int64 O.most O.IS_LARGE) O.offset)) name.now (words_of words.now) answering.old answering.new) }
 {
-    if is(name, b"null") {
-        return run_null::<O>(alloc, answering, words);
+    if is(name, b"push") {
+        return run_push::<O>(alloc, answering, words);
     }
     if is(name, b"list") {
         return run_list::<O>(alloc, answering, words);
+    }
+    if is(name, b"drop") {
+        return run_drop::<O>(alloc, answering, words);
+    }
+    if is(name, b"null") {
+        return run_null::<O>(alloc, answering, words);
     }
     if is(name, b"type") {
         return run_type::<O>(alloc, answering, words);
@@ -80,14 +87,8 @@ fn by_four<O: Width>(
     if is(name, b"held") {
         return run_held::<O>(alloc, answering, words);
     }
-    if is(name, b"drop") {
-        return run_drop::<O>(alloc, answering, words);
-    }
     if is(name, b"mask") {
         return run_mask::<O>(alloc, answering, words);
-    }
-    if is(name, b"push") {
-        return run_push::<O>(alloc, answering, words);
     }
     if is(name, b"self") {
         return run_self::<O>(alloc, answering, words);
@@ -110,17 +111,23 @@ fn by_five<O: Width>(
 ) -> Answered
     ensures { IfOk result (AnswersNamed O.side (of_length (λ n. n == 5) (lines (types (pos 0) Int64 O.most O.IS_LARGE) O.offset)) name.now (words_of words.now) answering.old answering.new) }
 {
-    if is(name, b"parts") {
-        return run_parts::<O>(alloc, answering, words);
+    if is(name, b"value") {
+        return run_value::<O>(alloc, answering, words);
+    }
+    if is(name, b"slice") {
+        return run_slice::<O>(alloc, answering, words);
+    }
+    if is(name, b"clone") {
+        return run_clone::<O>(alloc, answering, words);
     }
     if is(name, b"slots") {
         return run_slots::<O>(alloc, answering, words);
     }
+    if is(name, b"parts") {
+        return run_parts::<O>(alloc, answering, words);
+    }
     if is(name, b"items") {
         return run_items::<O>(alloc, answering, words);
-    }
-    if is(name, b"value") {
-        return run_value::<O>(alloc, answering, words);
     }
     if is(name, b"nulls") {
         return run_nulls::<O>(alloc, answering, words);
@@ -130,12 +137,6 @@ fn by_five<O: Width>(
     }
     if is(name, b"bytes") {
         return run_bytes::<O>(alloc, answering, words);
-    }
-    if is(name, b"slice") {
-        return run_slice::<O>(alloc, answering, words);
-    }
-    if is(name, b"clone") {
-        return run_clone::<O>(alloc, answering, words);
     }
     if is(name, b"write") {
         return run_write::<O>(alloc, answering, words);
@@ -183,17 +184,17 @@ fn by_more<O: Width>(
     if is(name, b"offsets") {
         return run_offsets::<O>(alloc, answering, words);
     }
-    if is(name, b"applymask") {
-        return run_apply_mask::<O>(alloc, answering, words);
-    }
-    if is(name, b"applyvalues") {
-        return run_apply_values::<O>(alloc, answering, words);
-    }
     if is(name, b"pushnull") {
         return run_push_null::<O>(alloc, answering, words);
     }
     if is(name, b"extendvalues") {
         return run_extend_values::<O>(alloc, answering, words);
+    }
+    if is(name, b"applymask") {
+        return run_apply_mask::<O>(alloc, answering, words);
+    }
+    if is(name, b"applyvalues") {
+        return run_apply_values::<O>(alloc, answering, words);
     }
     if is(name, b"constant") {
         return run_constant::<O>(alloc, answering, words);

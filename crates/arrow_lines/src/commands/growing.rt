@@ -9,15 +9,25 @@ ghost use Rattle.arrow_words.specs.Words.{words_of};
 use crate::answering::Answering;
 use crate::commands::{Answered, Width, answer};
 use arrow_table::{Command, Item};
-use arrow_words::readers::{Only, Words};
+use arrow_words::readers::{Only, Word, Words, next};
+use arrow_words::words::next_word;
 use std::alloc::Global;
 
-/// `push E SLOT`
+/// `push E SLOT`. Its words are read one by one, so that the slot is moved no more than once.
 pub(crate) fn run_push<O: Width>(alloc: Global, answering: &mut Answering, words: &[u8]) -> Answered
     ensures { IfOk result (AnswersNamed O.side growing (codes "push") (words_of words.now) answering.old answering.new) }
 {
-    match <(usize, Only<Option<Item<i64>>>)>::of_words(alloc, words)? {
-        Some((entry, Only(slot))) => answer::<O>(answering, Command::Push(entry, slot)),
+    let Some((entry, words)) = next::<usize>(alloc, words)? else {
+        return Ok(false);
+    };
+    let Some((word, rest)) = next_word(words) else {
+        return Ok(false);
+    };
+    if next_word(rest).is_some() {
+        return Ok(false);
+    }
+    match <Option<Item<i64>>>::of_word(alloc, word)? {
+        Some(slot) => O::push(answering, entry, &slot),
         None => Ok(false),
     }
 }

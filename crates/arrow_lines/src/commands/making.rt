@@ -125,19 +125,26 @@ fn pieces_parts<O: Width>(
 ) -> Answered
     ensures { IfOk result (AnswersAsked (option_map O.side (parts_of O.offset entry (shape kind) (pieces false) (words_of words.now))) answering.old answering.new) }
 {
-    match <(DataType, (Option<Bits>, (Vec<u8>, Starts<O>)))>::of_words(alloc, words)? {
-        Some((data_type, (mask, (bytes, Starts(starts))))) => {
-            let raw = Raw::Pieces(starts, bytes);
-            let parts = Parts {
-                kind,
-                data_type,
-                raw,
-                mask,
-            };
-            answer::<O>(answering, Command::Parts(entry, parts))
-        }
-        None => Ok(false),
-    }
+    let Some((data_type, words)) = next::<DataType>(alloc, words)? else {
+        return Ok(false);
+    };
+    let Some((mask, words)) = next::<Option<Bits>>(alloc, words)? else {
+        return Ok(false);
+    };
+    let Some((bytes, words)) = next::<Vec<u8>>(alloc, words)? else {
+        return Ok(false);
+    };
+    let Some(Starts(starts)) = <Starts<O>>::of_words(alloc, words)? else {
+        return Ok(false);
+    };
+    let raw = Raw::Pieces(starts, bytes);
+    let parts = Parts {
+        kind,
+        data_type,
+        raw,
+        mask,
+    };
+    answer::<O>(answering, Command::Parts(entry, parts))
 }
 
 /// The rest of such a line, whose form goes by the kind.

@@ -79,7 +79,7 @@ pub(crate) fn run_list<O: Width>(alloc: Global, answering: &mut Answering, words
     ensures { IfOk result (AnswersNamed O.side telling (codes "list") (words_of words.now) answering.old answering.new) }
 {
     match <Only<usize>>::of_words(alloc, words)? {
-        Some(Only(entry)) => answer::<O>(answering, Command::Slots(entry)),
+        Some(Only(entry)) => O::list(answering, entry),
         None => Ok(false),
     }
 }
