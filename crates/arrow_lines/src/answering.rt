@@ -28,8 +28,10 @@ impl Answering {
         ensures { IfOk result (AnswersAsked (Some (narrow (asked (λ offset. offset) command))) self.old self.new) }
     {
         let alloc = *self.text.allocator();
-        let reply = self.tables.on_narrow(alloc, &command);
-        self.tell(reply)
+        match self.tables.on_narrow(alloc, &command) {
+            Reply::Done => self.tell_done(),
+            other => self.tell_other(other),
+        }
     }
 
     /// The same on the wide table.
@@ -38,8 +40,10 @@ impl Answering {
         ensures { IfOk result (AnswersAsked (Some (wide (asked (λ offset. offset) command))) self.old self.new) }
     {
         let alloc = *self.text.allocator();
-        let reply = self.tables.on_wide(alloc, &command);
-        self.tell(reply)
+        match self.tables.on_wide(alloc, &command) {
+            Reply::Done => self.tell_done(),
+            other => self.tell_other(other),
+        }
     }
 
     /// Appends a slot to the builder in a narrow entry, and the reply to the text. It is a command, so the answer is true.
@@ -47,8 +51,10 @@ impl Answering {
         ensures { IfOk result (AnswersAsked (Some (narrow (at e (push (stored_slot slot.now))))) self.old self.new) }
     {
         let alloc = *self.text.allocator();
-        let reply = self.tables.push_narrow(alloc, e, slot);
-        self.tell(reply)
+        match self.tables.push_narrow(alloc, e, slot) {
+            Reply::Done => self.tell_done(),
+            other => self.tell_other(other),
+        }
     }
 
     /// The same of a wide entry.
@@ -56,8 +62,10 @@ impl Answering {
         ensures { IfOk result (AnswersAsked (Some (wide (at e (push (stored_slot slot.now))))) self.old self.new) }
     {
         let alloc = *self.text.allocator();
-        let reply = self.tables.push_wide(alloc, e, slot);
-        self.tell(reply)
+        match self.tables.push_wide(alloc, e, slot) {
+            Reply::Done => self.tell_done(),
+            other => self.tell_other(other),
+        }
     }
 
     /// Appends the text of all slots of a narrow entry, which is what the command that answers them tells. They are written from
