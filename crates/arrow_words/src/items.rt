@@ -24,19 +24,10 @@ fn bytes_in(alloc: Global, digits: &[u8]) -> Result<Option<Vec<u8>>, AllocError>
     }
 }
 
-fn is_text(bytes: &[u8]) -> bool
-    ensures { result ≡ is_utf8 bytes.now }
-{
-    simdutf8::is_utf8(bytes)
-}
-
 /// Bytes as a text, where they are UTF-8.
 fn text_of(bytes: Vec<u8>) -> Option<String>
     ensures { option_map string_bytes result ≡ (if is_utf8 bytes.items then Some bytes.items else None) }
 {
-    if !is_text(&bytes) {
-        return None;
-    }
     String::from_utf8(bytes).ok()
 }
 
