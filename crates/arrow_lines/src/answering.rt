@@ -28,10 +28,8 @@ impl Answering {
         ensures { IfOk result (AnswersAsked (Some (narrow (asked (λ offset. offset) command))) self.old self.new) }
     {
         let alloc = *self.text.allocator();
-        match self.tables.on_narrow(alloc, &command) {
-            Reply::Done => self.tell_done(),
-            other => self.tell_other(other),
-        }
+        let reply = self.tables.on_narrow(alloc, &command);
+        self.tell(reply)
     }
 
     /// The same on the wide table.
@@ -40,10 +38,8 @@ impl Answering {
         ensures { IfOk result (AnswersAsked (Some (wide (asked (λ offset. offset) command))) self.old self.new) }
     {
         let alloc = *self.text.allocator();
-        match self.tables.on_wide(alloc, &command) {
-            Reply::Done => self.tell_done(),
-            other => self.tell_other(other),
-        }
+        let reply = self.tables.on_wide(alloc, &command);
+        self.tell(reply)
     }
 
     /// Appends a slot to the builder in a narrow entry, and the reply to the text. It is a command, so the answer is true.
@@ -51,10 +47,8 @@ impl Answering {
         ensures { IfOk result (AnswersAsked (Some (narrow (at e (push (stored_slot slot.now))))) self.old self.new) }
     {
         let alloc = *self.text.allocator();
-        match self.tables.push_narrow(alloc, e, slot) {
-            Reply::Done => self.tell_done(),
-            other => self.tell_other(other),
-        }
+        let reply = self.tables.push_narrow(alloc, e, slot);
+        self.tell(reply)
     }
 
     /// The same of a wide entry.
@@ -62,10 +56,8 @@ impl Answering {
         ensures { IfOk result (AnswersAsked (Some (wide (at e (push (stored_slot slot.now))))) self.old self.new) }
     {
         let alloc = *self.text.allocator();
-        match self.tables.push_wide(alloc, e, slot) {
-            Reply::Done => self.tell_done(),
-            other => self.tell_other(other),
-        }
+        let reply = self.tables.push_wide(alloc, e, slot);
+        self.tell(reply)
     }
 
     /// Appends the text of all slots of a narrow entry, which is what the command that answers them tells. They are written from
@@ -87,7 +79,7 @@ impl Answering {
         Ok(true)
     }
 
-    /// The same of the array of a narrow entry, which is put into a wide one.
+    /// Puts the array of a narrow entry into a wide one, and appends the reply to the text. It is a command, so the answer is true.
     pub fn answer_widen(&mut self, e: usize, f: usize) -> Result<bool, AllocError>
         ensures { IfOk result (AnswersAsked (Some (widen e f)) self.old self.new) }
     {
