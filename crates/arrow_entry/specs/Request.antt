@@ -5,6 +5,7 @@ use Rattle.arrow_entry.specs.declared.item.Turn.{Turn}
 use Rattle.arrow_entry.specs.declared.command.Command.{Command}
 use Rattle.arrow_entry.specs.declared.command.Command.TheVariants as command
 use Rattle.arrow_entry.specs.declared.command.Bits.{Bits}
+use Rattle.arrow_entry.specs.declared.command.Parts.{Parts}
 use Rattle.arrow_entry.specs.declared.command.Raw.{Raw}
 use Rattle.arrow_entry.specs.declared.command.Raw.TheVariants as raw
 use Rattle.arrow_entry.specs.Kind.{Shape, shape}
@@ -64,11 +65,18 @@ module _ {T O : Type 0} (number : O → ℤ) where
   given_by (raw.Bits bits) = packed (packed_bits bits)
   given_by (raw.Pieces starts given_bytes) = cut_pieces (map number starts.items) given_bytes.items
 
+  -- what raw parts are the source of, and what is asked of them
+  abbrev pub source_of : Parts T O → Source T
+  source_of p = parts (logical_type p.data_type) (given_by p.raw) (option_map packed_bits p.mask)
+
+  abbrev pub parts_asked : ℕ → Parts T O → Request T
+  parts_asked e p = make e (shape p.kind) (source_of p)
+
   -- what a command asks
   abbrev pub asked : Command T O → Request T
   asked (command.New e kind) = make e (shape kind) nothing
   asked (command.NewNull e kind t n) = make e (shape kind) (nulls (logical_type t) n)
-  asked (command.Parts e p) = make e (shape p.kind) (parts (logical_type p.data_type) (given_by p.raw) (option_map packed_bits p.mask))
+  asked (command.Parts e p) = parts_asked e p
   asked (command.FromSlots e kind xs) = make e (shape kind) (slots (map stored_slot xs.items))
   asked (command.FromItems e kind xs) = make e (shape kind) (items (map stored_item xs.items))
   asked (command.Len e) = at e len

@@ -1,13 +1,11 @@
 //! Commands that answer what slots show, or store.
-ghost use Rattle.std.specs.Prelude.{◌≡◌, IfOk, Some, map, option_copied, option_map};
+ghost use Rattle.std.specs.Prelude.{◌≡◌, IfOk, Some, map};
 ghost use Rattle.arrow_column.specs.Column.{slots_of};
 ghost use Rattle.arrow_entry.specs.Answer.{told};
-ghost use Rattle.arrow_entry.specs.Entry.{types, value_of};
+ghost use Rattle.arrow_entry.specs.Entry.{types};
 ghost use Rattle.arrow_entry.specs.Item.{stored_slot};
-ghost use Rattle.arrow_entry.specs.Kind.{any_kind};
 ghost use Rattle.arrow_entry.specs.Request as ask;
-ghost use Rattle.arrow_entry.specs.Step.{AtEntry, Does, Does_to};
-ghost use Rattle.arrow_finding.specs.Listed.{listed};
+ghost use Rattle.arrow_entry.specs.Step.{Does};
 
 use arrow_binary::{BinaryArray, MutableBinaryValuesArray};
 use arrow_boolean::BooleanArray;
@@ -100,20 +98,6 @@ impl<T: NativeType, O: Offset> Reads<T, O> for Slots {
             Err(_) => Reply::Refused(Error::OutOfMemory),
         }
     }
-}
-
-/// What the entry of this number holds, lent to a caller who reads the slots where they lie: that is what the command that
-/// answers all of them does, which copies them. Where there is nothing that command is not met.
-pub fn slots_at<T: NativeType, O: Offset>(
-    entries: &Vec<Option<Entry<T, O>>>,
-    e: usize,
-) -> Option<&Entry<T, O>>
-    ensures { let state : _ = map (option_map value_of) entries.now.items in AtEntry state e (Does_to (types T.zero T.PRIMITIVE O.most O.IS_LARGE) any_kind ask.all_slots) (listed (option_copied result)) state }
-{
-    if e >= entries.len() {
-        return None;
-    }
-    entries[e].as_ref()
 }
 
 /// What the turns of one fresh iterator over what the slots store give.

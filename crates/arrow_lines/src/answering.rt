@@ -3,11 +3,11 @@ ghost use Rattle.std.specs.Prelude.{◌≡◌, true, IfOk, Some};
 ghost use Rattle.arrow_entry.specs.Answer.{done, told};
 ghost use Rattle.arrow_entry.specs.Both.{narrow, narrow_to, wide, widen};
 ghost use Rattle.arrow_entry.specs.Item.{stored_slot};
-ghost use Rattle.arrow_entry.specs.Request.{all_slots, asked, at, push};
+ghost use Rattle.arrow_entry.specs.Request.{all_slots, asked, at, parts_asked, push};
 ghost use Rattle.arrow_lines.specs.Answered.{AnswersAsked, Tells};
 
 use arrow_listing::entry::push_listed;
-use arrow_table::{Command, Item, Reply, Tables};
+use arrow_table::{Command, Item, Parts, Reply, Tables};
 use arrow_words::print::push_replies;
 use std::alloc::AllocError;
 use std::slice::from_ref;
@@ -42,6 +42,22 @@ impl Answering {
         self.tell(reply)
     }
 
+    /// Puts what raw parts make into a narrow entry, and appends the reply to the text. It is a command, so the answer is true.
+    pub fn parts_narrow(&mut self, e: usize, parts: Parts<i64, i32>) -> Result<bool, AllocError>
+        ensures { IfOk result (AnswersAsked (Some (narrow (parts_asked (λ offset. offset) e parts))) self.old self.new) }
+    {
+        let reply = self.tables.parts_narrow(e, parts);
+        self.tell(reply)
+    }
+
+    /// The same of a wide entry.
+    pub fn parts_wide(&mut self, e: usize, parts: Parts<i64, i64>) -> Result<bool, AllocError>
+        ensures { IfOk result (AnswersAsked (Some (wide (parts_asked (λ offset. offset) e parts))) self.old self.new) }
+    {
+        let reply = self.tables.parts_wide(e, parts);
+        self.tell(reply)
+    }
+
     /// Appends a slot to the builder in a narrow entry, and the reply to the text. It is a command, so the answer is true.
     pub fn push_narrow(&mut self, e: usize, slot: &Option<Item<i64>>) -> Result<bool, AllocError>
         ensures { IfOk result (AnswersAsked (Some (narrow (at e (push (stored_slot slot.now))))) self.old self.new) }
@@ -65,7 +81,7 @@ impl Answering {
     pub fn list_narrow(&mut self, e: usize) -> Result<bool, AllocError>
         ensures { IfOk result (AnswersAsked (Some (narrow (at e all_slots))) self.old self.new) }
     {
-        let held = self.tables.narrow().slots_at(e);
+        let held = self.tables.narrow().get(e);
         push_listed(&mut self.text, held)?;
         Ok(true)
     }
@@ -74,7 +90,7 @@ impl Answering {
     pub fn list_wide(&mut self, e: usize) -> Result<bool, AllocError>
         ensures { IfOk result (AnswersAsked (Some (wide (at e all_slots))) self.old self.new) }
     {
-        let held = self.tables.wide().slots_at(e);
+        let held = self.tables.wide().get(e);
         push_listed(&mut self.text, held)?;
         Ok(true)
     }

@@ -2,7 +2,7 @@
 ghost use Rattle.std.specs.Prelude.{◌≡◌, ℤ, ℕ, IfOk, List, Option, Some, map, option_map};
 ghost use Rattle.arrow_entry.specs.Both.{BothRequest};
 ghost use Rattle.arrow_entry.specs.Item.{stored_slot};
-ghost use Rattle.arrow_entry.specs.Request.{Request, all_slots, asked, at, push};
+ghost use Rattle.arrow_entry.specs.Request.{Request, all_slots, asked, at, parts_asked, push};
 ghost use Rattle.arrow_lines.specs.Answered.{AnswersAsked};
 ghost use Rattle.arrow_words.specs.Readers.{each};
 ghost use Rattle.arrow_words.specs.Words.{words_of};
@@ -16,7 +16,7 @@ mod telling;
 mod turning;
 
 use crate::answering::Answering;
-use arrow_table::{Command, Item};
+use arrow_table::{Command, Item, Parts};
 use arrow_types::offset::Offset;
 use arrow_words::readers::Words;
 pub(crate) use both::run_words;
@@ -37,6 +37,10 @@ pub(crate) trait Width: Offset {
     fn answer(answering: &mut Answering, command: Command<i64, Self>) -> Answered
         ensures { IfOk result (AnswersAsked (Some (side (asked Self.number command))) answering.old answering.new) };
 
+    /// Puts what raw parts make into an entry of the table of this width, and appends the reply to the text.
+    fn parts(answering: &mut Answering, e: usize, parts: Parts<i64, Self>) -> Answered
+        ensures { IfOk result (AnswersAsked (Some (side (parts_asked Self.number e parts))) answering.old answering.new) };
+
     /// Appends the text of all slots of an entry of the table of this width.
     fn list(answering: &mut Answering, e: usize) -> Answered
         ensures { IfOk result (AnswersAsked (Some (side (at e all_slots))) answering.old answering.new) };
@@ -54,7 +58,7 @@ impl Width for i32 {
     ghost use Rattle.std.specs.Prelude.{IfOk, Some};
     ghost use Rattle.arrow_entry.specs.Both.{narrow};
     ghost use Rattle.arrow_lines.specs.Answered.{AnswersAsked};
-    ghost use Rattle.arrow_entry.specs.Request.{asked};
+    ghost use Rattle.arrow_entry.specs.Request.{asked, parts_asked};
     ghost use Rattle.arrow_words.specs.Words.{offset_of};
 
     ghost offset = { offset_of };
@@ -66,6 +70,12 @@ impl Width for i32 {
         ensures { IfOk result (AnswersAsked (Some (narrow (asked (λ offset. offset) command))) answering.old answering.new) }
     {
         answering.answer_narrow(command)
+    }
+
+    fn parts(answering: &mut Answering, e: usize, parts: Parts<i64, i32>) -> Answered
+        ensures { IfOk result (AnswersAsked (Some (narrow (parts_asked (λ offset. offset) e parts))) answering.old answering.new) }
+    {
+        answering.parts_narrow(e, parts)
     }
 
     fn list(answering: &mut Answering, e: usize) -> Answered {
@@ -85,7 +95,7 @@ impl Width for i64 {
     ghost use Rattle.std.specs.Prelude.{IfOk, Some};
     ghost use Rattle.arrow_entry.specs.Both.{wide};
     ghost use Rattle.arrow_lines.specs.Answered.{AnswersAsked};
-    ghost use Rattle.arrow_entry.specs.Request.{asked};
+    ghost use Rattle.arrow_entry.specs.Request.{asked, parts_asked};
     ghost use Rattle.arrow_words.specs.Words.{integer_of};
 
     ghost offset = { integer_of };
@@ -97,6 +107,12 @@ impl Width for i64 {
         ensures { IfOk result (AnswersAsked (Some (wide (asked (λ offset. offset) command))) answering.old answering.new) }
     {
         answering.answer_wide(command)
+    }
+
+    fn parts(answering: &mut Answering, e: usize, parts: Parts<i64, i64>) -> Answered
+        ensures { IfOk result (AnswersAsked (Some (wide (parts_asked (λ offset. offset) e parts))) answering.old answering.new) }
+    {
+        answering.parts_wide(e, parts)
     }
 
     fn list(answering: &mut Answering, e: usize) -> Answered {

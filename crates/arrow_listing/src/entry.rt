@@ -2,7 +2,7 @@
 ghost use Rattle.std.specs.Prelude.{◌≡◌, ◌++◌, ◌∷◌, [], OnOk, map, option_copied, string_bytes};
 ghost use Rattle.arrow_column.specs.Column.{slots_of};
 ghost use Rattle.arrow_entry.specs.Entry.{value_of};
-ghost use Rattle.arrow_finding.specs.Listed.{listed};
+ghost use Rattle.arrow_table.specs.Listed.{listed};
 ghost use Rattle.arrow_words.specs.Text.{bracketed, slot_text, text_of};
 
 use crate::slots::push_slots;

@@ -1,3 +1,4 @@
+pub mod Copies
 pub mod FilledLemmas
 pub mod Makes
 pub mod Passes

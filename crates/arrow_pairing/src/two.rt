@@ -1,11 +1,10 @@
 //! Commands on two entries.
-ghost use Rattle.std.specs.Prelude.{◌≡◌, ◌↔◌, Option, Some, IfErr, IfOk, IsTrue, map, option_map};
+ghost use Rattle.std.specs.Prelude.{◌≡◌, ◌↔◌, Some, IfErr, IfOk, IsTrue, map, option_map};
 ghost use Rattle.arrow_column.specs.Column.{slots_of};
 ghost use Rattle.arrow_entry.specs.Answer.{told};
-ghost use Rattle.arrow_entry.specs.Entry.{Value, boolean_value, native_value, piece_value, types, value_of};
+ghost use Rattle.arrow_entry.specs.Entry.{boolean_value, native_value, piece_value, types, value_of};
 ghost use Rattle.arrow_entry.specs.Kind.{same_kind, with_nulls};
-ghost use Rattle.arrow_entry.specs.Row.{Row};
-ghost use Rattle.arrow_entry.specs.Step.{AtEntry, Clones, Compares_to, Joins, entry_at, other_at};
+ghost use Rattle.arrow_entry.specs.Step.{AtEntry, Clones, Compares_to, Joins, Joins_to, entry_at, other_at};
 
 use arrow_binary::{MutableBinaryArray, MutableBinaryValuesArray};
 use arrow_boolean::MutableBooleanArray;
@@ -22,49 +21,6 @@ use arrow_types::native_type::NativeType;
 use arrow_types::offset::Offset;
 use arrow_utf8::{MutableUtf8Array, MutableUtf8ValuesArray};
 use std::alloc::Global;
-
-/// What a command does to an entry with what another one holds.
-pub trait PairRow<T: NativeType, O: Offset> {
-    /// Which answer may come of what the other holds and of what was there, and what is then there.
-    ghost means: { Option (Value T) → Option (Value T) → Row T };
-
-    /// Does it.
-    fn run(self, entry: &mut Option<Entry<T, O>>, other: &Option<Entry<T, O>>) -> Reply<T>
-        ensures { means (option_map value_of other.now) (option_map value_of entry.old) (told result) (option_map value_of entry.new) };
-}
-
-/// Does a command to an entry with what stands at a place of the table; past it nothing does.
-fn with_entry<T: NativeType, O: Offset, R: PairRow<T, O> + Drop>(
-    entry: &mut Option<Entry<T, O>>,
-    entries: &Vec<Option<Entry<T, O>>>,
-    f: usize,
-    row: R,
-) -> Reply<T>
-    ensures { R.means (entry_at (map (option_map value_of) entries.now.items) f) (option_map value_of entry.old) (told result) (option_map value_of entry.new) }
-{
-    if f >= entries.len() {
-        return row.run(entry, &None);
-    }
-    row.run(entry, &entries[f])
-}
-
-/// Does a command to the entry of this number, with what another one holds; past the table it is not met.
-pub fn at_with<T: NativeType, O: Offset, R: PairRow<T, O> + Drop>(
-    entries: &mut Vec<Option<Entry<T, O>>>,
-    e: usize,
-    f: usize,
-    row: R,
-) -> Reply<T>
-    ensures { AtEntry (map (option_map value_of) entries.old.items) e (R.means (other_at (map (option_map value_of) entries.old.items) e f)) (told result) (map (option_map value_of) entries.new.items) }
-{
-    if e >= entries.len() {
-        return Reply::NotMet;
-    }
-    let mut kept = entries[e].take();
-    let reply = with_entry(&mut kept, entries, f, row);
-    put(&mut entries[e], kept);
-    reply
-}
 
 /// The same array or builder once more.
 fn cloned<T: NativeType, O: Offset>(entry: &Entry<T, O>) -> Result<Entry<T, O>, Error>
@@ -137,54 +93,76 @@ fn joined<T: NativeType, O: Offset, K: Growing<T, O>>(kept: &mut K, other: &K) -
 }
 
 /// Appends the rows of a builder of the same kind.
-#[derive(Drop)]
-pub struct ExtendFrom;
-
-impl<T: NativeType, O: Offset> PairRow<T, O> for ExtendFrom {
-    ghost use Rattle.arrow_entry.specs.Entry.{types};
-    ghost use Rattle.arrow_entry.specs.Step.{Joins_to};
-
-    ghost means = { Joins_to (types T.zero T.PRIMITIVE O.most O.IS_LARGE) };
-
-    fn run(self, entry: &mut Option<Entry<T, O>>, other: &Option<Entry<T, O>>) -> Reply<T> {
-        match entry {
-            Some(Entry::MutablePrimitive(kept)) => match other {
-                Some(Entry::MutablePrimitive(other)) => joined::<T, O, MutablePrimitiveArray<T>>(
-                    kept, other,
-                ),
-                _ => Reply::NotMet,
-            },
-            Some(Entry::MutableBoolean(kept)) => match other {
-                Some(Entry::MutableBoolean(other)) => joined::<T, O, MutableBooleanArray>(
-                    kept, other,
-                ),
-                _ => Reply::NotMet,
-            },
-            Some(Entry::MutableBinary(kept)) => match other {
-                Some(Entry::MutableBinary(other)) => joined::<T, O, MutableBinaryArray<O>>(
-                    kept, other,
-                ),
-                _ => Reply::NotMet,
-            },
-            Some(Entry::MutableUtf8(kept)) => match other {
-                Some(Entry::MutableUtf8(other)) => joined::<T, O, MutableUtf8Array<O>>(kept, other),
-                _ => Reply::NotMet,
-            },
-            Some(Entry::BinaryValues(kept)) => match other {
-                Some(Entry::BinaryValues(other)) => joined::<T, O, MutableBinaryValuesArray<O>>(
-                    kept, other,
-                ),
-                _ => Reply::NotMet,
-            },
-            Some(Entry::Utf8Values(kept)) => match other {
-                Some(Entry::Utf8Values(other)) => joined::<T, O, MutableUtf8ValuesArray<O>>(
-                    kept, other,
-                ),
-                _ => Reply::NotMet,
-            },
+fn extended<T: NativeType, O: Offset>(
+    entry: &mut Option<Entry<T, O>>,
+    other: &Option<Entry<T, O>>,
+) -> Reply<T>
+    ensures { Joins_to (types T.zero T.PRIMITIVE O.most O.IS_LARGE) (option_map value_of other.now) (option_map value_of entry.old) (told result) (option_map value_of entry.new) }
+{
+    match entry {
+        Some(Entry::MutablePrimitive(kept)) => match other {
+            Some(Entry::MutablePrimitive(other)) => joined::<T, O, MutablePrimitiveArray<T>>(
+                kept, other,
+            ),
             _ => Reply::NotMet,
-        }
+        },
+        Some(Entry::MutableBoolean(kept)) => match other {
+            Some(Entry::MutableBoolean(other)) => joined::<T, O, MutableBooleanArray>(kept, other),
+            _ => Reply::NotMet,
+        },
+        Some(Entry::MutableBinary(kept)) => match other {
+            Some(Entry::MutableBinary(other)) => joined::<T, O, MutableBinaryArray<O>>(kept, other),
+            _ => Reply::NotMet,
+        },
+        Some(Entry::MutableUtf8(kept)) => match other {
+            Some(Entry::MutableUtf8(other)) => joined::<T, O, MutableUtf8Array<O>>(kept, other),
+            _ => Reply::NotMet,
+        },
+        Some(Entry::BinaryValues(kept)) => match other {
+            Some(Entry::BinaryValues(other)) => joined::<T, O, MutableBinaryValuesArray<O>>(
+                kept, other,
+            ),
+            _ => Reply::NotMet,
+        },
+        Some(Entry::Utf8Values(kept)) => match other {
+            Some(Entry::Utf8Values(other)) => joined::<T, O, MutableUtf8ValuesArray<O>>(
+                kept, other,
+            ),
+            _ => Reply::NotMet,
+        },
+        _ => Reply::NotMet,
     }
+}
+
+/// The same of the builder that stands at a place of the table; past it nothing does.
+fn extended_with<T: NativeType, O: Offset>(
+    entry: &mut Option<Entry<T, O>>,
+    entries: &Vec<Option<Entry<T, O>>>,
+    f: usize,
+) -> Reply<T>
+    ensures { Joins_to (types T.zero T.PRIMITIVE O.most O.IS_LARGE) (entry_at (map (option_map value_of) entries.now.items) f) (option_map value_of entry.old) (told result) (option_map value_of entry.new) }
+{
+    if f >= entries.len() {
+        return extended(entry, &None);
+    }
+    extended(entry, &entries[f])
+}
+
+/// Appends to the builder in the entry of this number the rows of the one in another; past the table it is not met.
+pub fn extend_at<T: NativeType, O: Offset>(
+    entries: &mut Vec<Option<Entry<T, O>>>,
+    e: usize,
+    f: usize,
+) -> Reply<T>
+    ensures { AtEntry (map (option_map value_of) entries.old.items) e (Joins_to (types T.zero T.PRIMITIVE O.most O.IS_LARGE) (other_at (map (option_map value_of) entries.old.items) e f)) (told result) (map (option_map value_of) entries.new.items) }
+{
+    if e >= entries.len() {
+        return Reply::NotMet;
+    }
+    let mut kept = entries[e].take();
+    let reply = extended_with(&mut kept, entries, f);
+    put(&mut entries[e], kept);
+    reply
 }
 
 /// Whether two builders of native values have the same slots.

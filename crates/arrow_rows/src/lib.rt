@@ -1,4 +1,4 @@
-//! What commands do to an entry and to a value, whichever kind it is, and how that is a step of the table; copies of raw
+//! What commands do to an entry and to a value, whichever kind it is, and how that is a step of the table; raw
 //! vectors. How a command finds the kind that it is for stands in a crate above, as do most commands for some kinds alone.
 #![tactic(auto)]
 

@@ -1,10 +1,8 @@
 //! One command.
 ghost use Rattle.std.specs.Prelude.{◌≡◌, ◌∷◌, [], false, map, MatchOption, option_map};
-ghost use Rattle.arrow_types.specs.Types.{logical_type};
 ghost use Rattle.arrow_entry.specs.Answer.{told};
 ghost use Rattle.arrow_entry.specs.Entry.{table_of, types, value_of};
-ghost use Rattle.arrow_entry.specs.Kind.{shape};
-ghost use Rattle.arrow_entry.specs.Request.{asked, given_by, make, packed_bits, parts};
+ghost use Rattle.arrow_entry.specs.Request.{asked, parts_asked};
 ghost use Rattle.arrow_entry.specs.Run.{CostsAtMost, is_parts};
 ghost use Rattle.arrow_entry.specs.Step.{Changes, IsStep};
 
@@ -15,11 +13,12 @@ use arrow_finding::kinds::{OfAny, OfBuilder, OfFrozen, OfPieces};
 use arrow_finding::mask::{ApplyMask, SetMask};
 use arrow_finding::slots::{Slots, Turns, Value};
 use arrow_finding::whole::{Empty, Freeze, Nullable, Thaw};
+use arrow_making::copied::parts_copied;
 use arrow_making::filled::{FromItems, FromSlots};
 use arrow_making::make::{New, NewNull};
 use arrow_making::parts::parts;
 use arrow_pairing::chosen::{Filter, Take};
-use arrow_pairing::two::{ExtendFrom, at_with, clone_at, equal};
+use arrow_pairing::two::{clone_at, equal, extend_at};
 use arrow_rows::builder::{Pop, Push, PushNull, Reserve, Shrink};
 use arrow_rows::bytes::{Bytes, Offsets};
 use arrow_rows::chosen::put_at;
@@ -99,7 +98,7 @@ fn change<T: NativeType, O: Offset>(
         Command::Extend(e, slots) => at(alloc, entries, *e, Extend(slots)),
         Command::ExtendValues(e, items) => at(alloc, entries, *e, OfBuilder(ExtendValues(items))),
         Command::ExtendConstant(e, n, slot) => at(alloc, entries, *e, ExtendConstant(*n, slot)),
-        Command::ExtendFromSelf(e, f) => at_with(entries, *e, *f, ExtendFrom),
+        Command::ExtendFromSelf(e, f) => extend_at(entries, *e, *f),
         Command::Reserve(e, slots, bytes) => {
             at(alloc, entries, *e, OfBuilder(Reserve(*slots, *bytes)))
         }
@@ -120,7 +119,7 @@ fn change<T: NativeType, O: Offset>(
 /// The entry and the parts of a command about raw parts.
 #[inline(always)]
 fn parts_of<T: NativeType, O: Offset>(command: &Command<T, O>) -> Option<(usize, &Parts<T, O>)>
-    ensures { MatchOption result (is_parts (asked O.number command.now) ≡ false) (λ p. asked O.number command.now ≡ make p.0 (shape p.1.now.kind) (parts (logical_type p.1.now.data_type) (given_by O.number p.1.now.raw) (option_map packed_bits p.1.now.mask))) }
+    ensures { MatchOption result (is_parts (asked O.number command.now) ≡ false) (λ p. asked O.number command.now ≡ parts_asked O.number p.0 p.1.now) }
 {
     match command {
         Command::Parts(e, parts) => Some((*e, parts)),
@@ -129,20 +128,38 @@ fn parts_of<T: NativeType, O: Offset>(command: &Command<T, O>) -> Option<(usize,
 }
 
 /// Puts what raw parts make into the entry of this number; past the table it is not met.
-fn parts_at<T: NativeType, O: Offset>(
+#[inline(always)]
+pub fn parts_at<T: NativeType, O: Offset>(
     entries: &mut Vec<Option<Entry<T, O>>>,
     e: usize,
-    given: &Parts<T, O>,
+    given: Parts<T, O>,
     cost: &mut TextCost,
 ) -> Reply<T>
-    ensures step { IsStep (types T.zero T.PRIMITIVE O.most O.IS_LARGE) (table_of entries.old.items cost.old) (make e (shape given.now.kind) (parts (logical_type given.now.data_type) (given_by O.number given.now.raw) (option_map packed_bits given.now.mask))) (told result) (table_of entries.new.items cost.new) }
-    ensures costs { CostsAtMost (make e (shape given.now.kind) (parts (logical_type given.now.data_type) (given_by O.number given.now.raw) (option_map packed_bits given.now.mask)) ∷ []) cost.old cost.new }
+    ensures step { IsStep (types T.zero T.PRIMITIVE O.most O.IS_LARGE) (table_of entries.old.items cost.old) (parts_asked O.number e given) (told result) (table_of entries.new.items cost.new) }
+    ensures costs { CostsAtMost (parts_asked O.number e given ∷ []) cost.old cost.new }
 {
     if e >= entries.len() {
         return Reply::NotMet;
     }
     let entry = &mut entries[e];
     parts(entry, given, cost)
+}
+
+/// The same of raw parts that are lent.
+fn lent_parts_at<T: NativeType, O: Offset>(
+    entries: &mut Vec<Option<Entry<T, O>>>,
+    e: usize,
+    given: &Parts<T, O>,
+    cost: &mut TextCost,
+) -> Reply<T>
+    ensures step { IsStep (types T.zero T.PRIMITIVE O.most O.IS_LARGE) (table_of entries.old.items cost.old) (parts_asked O.number e given.now) (told result) (table_of entries.new.items cost.new) }
+    ensures costs { CostsAtMost (parts_asked O.number e given.now ∷ []) cost.old cost.new }
+{
+    if e >= entries.len() {
+        return Reply::NotMet;
+    }
+    let entry = &mut entries[e];
+    parts_copied(entry, given, cost)
 }
 
 /// Does one command. What is answered is allocated by `alloc`.
@@ -157,7 +174,7 @@ pub fn step<T: NativeType, O: Offset>(
     ensures costs { CostsAtMost (asked O.number command.now ∷ []) cost.old cost.new }
 {
     match parts_of(command) {
-        Some((e, given)) => parts_at(entries, e, given, cost),
+        Some((e, given)) => lent_parts_at(entries, e, given, cost),
         None => change(alloc, entries, command),
     }
 }

@@ -1,23 +1,23 @@
 //! A table, and the run of a list of commands on it.
-ghost use Rattle.std.specs.Prelude.{◌≡◌, ◌<◌, ◌≤◌, length, map, replicate, take, vec_capacity, vec_len, IfErr, IfOk, None, option_copied, option_map};
+ghost use Rattle.std.specs.Prelude.{◌≡◌, ◌<◌, ◌≤◌, ◌∷◌, [], length, map, replicate, take, vec_capacity, vec_len, IfErr, IfOk, MatchOption, None, Some, option_copied, option_map};
 ghost use Rattle.arrow_check.specs.Reading.{no_cost};
 ghost use Rattle.arrow_entry.specs.Answer.{told};
-ghost use Rattle.arrow_entry.specs.Entry.{table_of, types};
+ghost use Rattle.arrow_entry.specs.Entry.{table_of, types, value_of};
 ghost use Rattle.arrow_entry.specs.Item.{stored_slot};
 ghost use Rattle.arrow_entry.specs.Kind.{shape};
-ghost use Rattle.arrow_entry.specs.Request.{all_slots, asked, at, push};
+ghost use Rattle.arrow_entry.specs.Request.{all_slots, asked, at, parts_asked, push};
 ghost use Rattle.arrow_entry.specs.Run.{AppendsRun, CostsAtMost};
 ghost use Rattle.arrow_entry.specs.Step.{IsStep, entry_at};
-ghost use Rattle.arrow_finding.specs.Listed.{listed};
+ghost use Rattle.arrow_table.specs.Listed.{listed};
 
 use crate::sequence::{Steps, run_all};
-use crate::{Command, Entry, Item, Kind, Reply};
+use crate::{Command, Entry, Item, Kind, Parts, Reply};
 use arrow_check::cost::TextCost;
 use arrow_finding::kinds::OfBuilder;
-use arrow_finding::slots::slots_at;
 use arrow_rows::builder::Push;
+use arrow_rows::chosen::held_at;
 use arrow_rows::table::at;
-use arrow_step::step::step;
+use arrow_step::step::{parts_at, step};
 use arrow_types::error::Error;
 use arrow_types::native_type::NativeType;
 use arrow_types::offset::Offset;
@@ -77,13 +77,14 @@ impl<T: NativeType, O: Offset> Table<T, O> {
         }
     }
 
-    /// What an entry holds, lent to a caller who reads the slots where they lie. That tells what the command `Slots` tells,
-    /// which copies them; `None` where that command is not met.
+    /// What an entry holds, lent to a caller who reads it where it lies; `None` where the entry is empty or past the table.
+    /// Its slots are what the command `Slots` tells, which copies them.
     #[inline(always)]
-    pub fn slots_at(&self, i: usize) -> Option<&Entry<T, O>>
-        ensures { IsStep (types T.zero T.PRIMITIVE O.most O.IS_LARGE) self.now (at i all_slots) (listed (option_copied result)) self.now }
+    pub fn get(&self, i: usize) -> Option<&Entry<T, O>>
+        ensures held { MatchOption result (entry_at self.now.entries i ≡ None) (λ entry. entry_at self.now.entries i ≡ Some (value_of entry.now)) }
+        ensures step { IsStep (types T.zero T.PRIMITIVE O.most O.IS_LARGE) self.now (at i all_slots) (listed (option_copied result)) self.now }
     {
-        slots_at(&self.entries, i)
+        held_at(&self.entries, i)
     }
 
     /// Does the command that appends a slot to the builder in an entry, and answers, with no command made for it.
@@ -92,6 +93,15 @@ impl<T: NativeType, O: Offset> Table<T, O> {
         ensures { IsStep (types T.zero T.PRIMITIVE O.most O.IS_LARGE) self.old (at i (push (stored_slot slot.now))) (told result) self.new }
     {
         at(alloc, &mut self.entries, i, OfBuilder(Push(slot)))
+    }
+
+    /// Does the command that puts what raw parts make into an entry, and answers. The parts are taken, not copied.
+    #[inline(always)]
+    pub fn parts_at(&mut self, i: usize, parts: Parts<T, O>) -> Reply<T>
+        ensures step { IsStep (types T.zero T.PRIMITIVE O.most O.IS_LARGE) self.old (parts_asked O.number i parts) (told result) self.new }
+        ensures costs { CostsAtMost (parts_asked O.number i parts ∷ []) self.old.cost self.new.cost }
+    {
+        parts_at(&mut self.entries, i, parts, &mut self.cost)
     }
 
     /// What the table's tests of text cost so far.

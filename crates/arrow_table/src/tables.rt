@@ -4,11 +4,11 @@ ghost use Rattle.arrow_check.specs.Reading.{no_cost};
 ghost use Rattle.arrow_entry.specs.Answer.{told};
 ghost use Rattle.arrow_entry.specs.Both.{AppendsBothRun, IsBothStep, both_asked, narrow, narrow_of, narrow_to, wide, wide_of, widen};
 ghost use Rattle.arrow_entry.specs.Item.{stored_slot};
-ghost use Rattle.arrow_entry.specs.Request.{asked, at, push};
+ghost use Rattle.arrow_entry.specs.Request.{asked, at, parts_asked, push};
 ghost use Rattle.arrow_entry.specs.Run.{CostsAtMost};
 
 use crate::sequence::{Steps, run_all};
-use crate::{BothCommand, Command, Item, Reply, Table};
+use crate::{BothCommand, Command, Item, Parts, Reply, Table};
 use arrow_pairing::widths::{Narrow, Widen};
 use arrow_rows::chosen::put_at;
 use arrow_types::error::Error;
@@ -92,6 +92,24 @@ impl<T: NativeType> Tables<T> {
         ensures { IsBothStep T.zero T.PRIMITIVE self.old (wide (at e (push (stored_slot slot.now)))) (told result) self.new }
     {
         self.wide.push_at(alloc, e, slot)
+    }
+
+    /// Puts what raw parts make into a narrow entry, as the command for it does, and answers. The parts are taken, not copied.
+    #[inline(always)]
+    pub fn parts_narrow(&mut self, e: usize, parts: Parts<T, i32>) -> Reply<T>
+        ensures step { IsBothStep T.zero T.PRIMITIVE self.old (narrow (parts_asked (λ offset. offset) e parts)) (told result) self.new }
+        ensures costs { CostsAtMost (parts_asked (λ offset. offset) e parts ∷ []) self.old.narrow.cost self.new.narrow.cost }
+    {
+        self.narrow.parts_at(e, parts)
+    }
+
+    /// The same of a wide entry.
+    #[inline(always)]
+    pub fn parts_wide(&mut self, e: usize, parts: Parts<T, i64>) -> Reply<T>
+        ensures step { IsBothStep T.zero T.PRIMITIVE self.old (wide (parts_asked (λ offset. offset) e parts)) (told result) self.new }
+        ensures costs { CostsAtMost (parts_asked (λ offset. offset) e parts ∷ []) self.old.wide.cost self.new.wide.cost }
+    {
+        self.wide.parts_at(e, parts)
     }
 
     /// Puts the array of items of a narrow entry, over wide offsets, into a wide entry, which is empty, and answers.

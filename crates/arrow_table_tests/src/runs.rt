@@ -188,7 +188,7 @@ const EACH: &[Kind] = &[
 
 /// The kind of what a table lends of an entry.
 fn lent_kind(table: &Table<i64, i32>, i: usize) -> Option<Kind> {
-    match table.slots_at(i) {
+    match table.get(i) {
         Some(entry) => Some(entry.kind()),
         None => None,
     }

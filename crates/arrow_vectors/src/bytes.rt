@@ -1,9 +1,9 @@
-//! Bytes: what slots and raw parts become, and what slices, thaws, pops and joins leave. What text has in common with bytes
+//! Bytes: what slots and raw parts become, and what slices, thaws and pops leave. What text has in common with bytes
 //! is asked of both kinds.
 use crate::Tiny;
 use crate::raw::{builds, own_array, own_builder, shows};
 use arrow_binary::{BinaryArray, MutableBinaryArray};
-use arrow_byte_array::{ByteArray, MutableByteArray};
+use arrow_byte_array::ByteArray;
 use arrow_bytes::{Binary, ByteKind, Utf8};
 use arrow_testing::passes;
 use arrow_types::offset::Offset;
@@ -90,109 +90,6 @@ fn bytes_before_a_popped_item_stay(rt: HostRuntime) {
 
 /// Offsets, bytes and a mask.
 type Pieces = (&'static [usize], &'static [u8], &'static str);
-
-/// Whether a builder has these offsets, bytes and marks once another's slots came.
-fn takes<K: ByteKind, O: Offset>(
-    builder: &mut MutableByteArray<K, O>,
-    other: &MutableByteArray<K, O>,
-    all: Pieces,
-) -> bool {
-    let is_taken = builder.try_extend_from_self(other).is_ok();
-    is_taken & builds(builder, all.0, all.1, all.2)
-}
-
-/// Whether it has them once those of a builder of such parts came.
-fn takes_parts<K: ByteKind, O: Offset>(
-    alloc: Global,
-    builder: &mut MutableByteArray<K, O>,
-    second: Pieces,
-    all: Pieces,
-) -> bool {
-    match own_builder::<K, O>(alloc, second.0, second.1, second.2) {
-        Ok(other) => takes(builder, &other, all),
-        Err(_) => false,
-    }
-}
-
-/// Whether a builder of such parts has these with another's slots behind its own.
-fn joins<K: ByteKind, O: Offset>(
-    alloc: Global,
-    first: Pieces,
-    second: Pieces,
-    all: Pieces,
-) -> bool {
-    match own_builder::<K, O>(alloc, first.0, first.1, first.2) {
-        Ok(mut builder) => takes_parts(alloc, &mut builder, second, all),
-        Err(_) => false,
-    }
-}
-
-/// The parts of two builders, and those of the first with the slots of the second behind its own: only the bytes of
-/// those come, and where either holds a mask both have marks.
-const JOINS: &[(Pieces, Pieces, Pieces)] = &[
-    (
-        (&[0], b"", "none"),
-        (&[1, 2], b"\x09\x05", "none"),
-        (&[0, 1], b"\x05", "none"),
-    ),
-    (
-        (&[0], b"", "none"),
-        (&[1, 3, 3], b"\xFF\xC3\xA9", "10"),
-        (&[0, 2, 2], b"\xC3\xA9", "10"),
-    ),
-    (
-        (&[1, 2], b"\xFFx", "none"),
-        (&[2, 3], b"\xFF\xFFz", "none"),
-        (&[1, 2, 3], b"\xFFxz", "none"),
-    ),
-    (
-        (&[0, 1], b"x", "0"),
-        (&[1, 2, 2], b"\xFFz", "none"),
-        (&[0, 1, 2, 2], b"xz", "011"),
-    ),
-    (
-        (&[0, 1], b"x", "none"),
-        (&[1, 2, 2], b"\xFFz", "01"),
-        (&[0, 1, 2, 2], b"xz", "101"),
-    ),
-    (
-        (&[0, 1], b"x", "0"),
-        (&[1, 2, 2], b"\xFFz", "10"),
-        (&[0, 1, 2, 2], b"xz", "010"),
-    ),
-    (
-        (&[0, 1], b"x", "none"),
-        (&[3], b"\xFF\xFF\xFF", ""),
-        (&[0, 1], b"x", "1"),
-    ),
-    (
-        (&[0, 1], b"x", "none"),
-        (&[0], b"", "none"),
-        (&[0, 1], b"x", "none"),
-    ),
-];
-
-/// Whether these come of all of them.
-fn each_joins<K: ByteKind, O: Offset>(alloc: Global, cases: &[(Pieces, Pieces, Pieces)]) -> bool {
-    for (first, second, all) in cases {
-        if !joins::<K, O>(alloc, *first, *second, *all) {
-            return false;
-        }
-    }
-    true
-}
-
-/// Whether all of them come over both widths of offsets.
-fn all_join<K: ByteKind>(alloc: Global, cases: &[(Pieces, Pieces, Pieces)]) -> bool {
-    let narrow = each_joins::<K, i32>(alloc, cases);
-    narrow & each_joins::<K, i64>(alloc, cases)
-}
-
-#[test]
-fn only_the_slots_of_another_builder_come(rt: HostRuntime) {
-    let are_bytes = all_join::<Binary>(rt.alloc(), JOINS);
-    assert!(rt; are_bytes & all_join::<Utf8>(rt.alloc(), JOINS));
-}
 
 /// Whether an array is thawed, and has these parts then: no byte is behind its last slot.
 fn is_thawed<K: ByteKind, O: Offset>(array: ByteArray<K, O>, builder: Pieces) -> bool {

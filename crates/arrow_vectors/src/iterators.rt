@@ -97,23 +97,30 @@ fn is_taken(answer: Result<bool, Error>, lie: Lie) -> bool {
     }
 }
 
+/// What takes three items by each of its calls, which are numbered from zero on.
+trait Takes {
+    /// How many calls there are.
+    const CALLS: usize;
+
+    /// Whether all items of an iterator that lies so are there once a call took them.
+    fn takes(alloc: Global, lie: Lie, call: usize) -> Result<bool, Error>;
+}
+
+/// Whether all calls take the items of each iterator.
+fn all_take<X: Takes>(alloc: Global, lies: &[Lie]) -> bool {
+    for lie in lies {
+        for call in 0..X::CALLS {
+            if !is_taken(X::takes(alloc, *lie, call), *lie) {
+                return false;
+            }
+        }
+    }
+    true
+}
+
 const NUMBERS: &[i64] = &[1, 0, 3];
 
 const SLOTS: &[Option<i64>] = &[Some(1), None, Some(3)];
-
-/// The calls by which a builder takes an iterator, the last of which takes values and not slots.
-#[derive(Clone, Copy)]
-enum Extension {
-    Extend,
-    TryExtend,
-    ExtendValues,
-}
-
-const EXTENSIONS: &[Extension] = &[
-    Extension::Extend,
-    Extension::TryExtend,
-    Extension::ExtendValues,
-];
 
 /// Whether a builder stores the three numbers.
 fn builder_stores(builder: &MutablePrimitiveArray<i64>) -> bool {
@@ -125,83 +132,49 @@ fn array_stores(array: &PrimitiveArray<i64>) -> bool {
     array.values().as_slice() == NUMBERS
 }
 
-/// Has a builder take them by a call.
-fn extend_by(
-    builder: &mut MutablePrimitiveArray<i64>,
-    lie: Lie,
-    call: Extension,
-) -> Result<(), Error> {
+/// Has a builder take them.
+fn extend_by(builder: &mut MutablePrimitiveArray<i64>, lie: Lie, call: usize) -> Result<(), Error> {
     match call {
-        Extension::Extend => builder.extend(lying(SLOTS, lie)),
-        Extension::TryExtend => builder.try_extend(lying(SLOTS, lie)),
-        Extension::ExtendValues => builder.extend_values(lying(NUMBERS, lie)),
+        0 => builder.extend(lying(SLOTS, lie)),
+        1 => builder.try_extend(lying(SLOTS, lie)),
+        _ => builder.extend_values(lying(NUMBERS, lie)),
     }
 }
 
-/// Whether a builder takes them.
-fn takes(
-    builder: &mut MutablePrimitiveArray<i64>,
-    lie: Lie,
-    call: Extension,
-) -> Result<bool, Error> {
-    extend_by(builder, lie, call)?;
-    Ok(builder_stores(builder))
-}
-
-/// Whether a new one does.
-fn extends(alloc: Global, lie: Lie, call: Extension) -> Result<bool, Error> {
+/// Whether a new one takes them.
+fn extends(alloc: Global, lie: Lie, call: usize) -> Result<bool, Error> {
     let mut builder = MutablePrimitiveArray::new(alloc);
-    takes(&mut builder, lie, call)
+    match extend_by(&mut builder, lie, call) {
+        Ok(()) => Ok(builder_stores(&builder)),
+        Err(refused) => Err(refused),
+    }
 }
 
-/// Whether a builder is made of them.
-fn builds(alloc: Global, lie: Lie) -> Result<bool, Error> {
-    let answer = MutablePrimitiveArray::from_iter(alloc, lying(SLOTS, lie));
-    seen(answer, builder_stores)
-}
+impl Takes for PrimitiveArray<i64> {
+    const CALLS: usize = 6;
 
-/// Whether an array is made of slots.
-fn makes(alloc: Global, lie: Lie) -> Result<bool, Error> {
-    seen(
-        PrimitiveArray::from_iter(alloc, lying(SLOTS, lie)),
-        array_stores,
-    )
-}
-
-/// Whether one is made of values.
-fn makes_of_values(alloc: Global, lie: Lie) -> Result<bool, Error> {
-    seen(
-        PrimitiveArray::from_values(alloc, lying(NUMBERS, lie)),
-        array_stores,
-    )
-}
-
-/// Whether a builder takes the three numbers of an iterator by each call.
-fn extend_numbers(alloc: Global, lie: Lie, calls: &[Extension]) -> bool {
-    for call in calls {
-        if !is_taken(extends(alloc, lie, *call), lie) {
-            return false;
+    fn takes(alloc: Global, lie: Lie, call: usize) -> Result<bool, Error> {
+        match call {
+            0 | 1 | 2 => extends(alloc, lie, call),
+            3 => seen(
+                MutablePrimitiveArray::from_iter(alloc, lying(SLOTS, lie)),
+                builder_stores,
+            ),
+            4 => seen(
+                PrimitiveArray::from_iter(alloc, lying(SLOTS, lie)),
+                array_stores,
+            ),
+            _ => seen(
+                PrimitiveArray::from_values(alloc, lying(NUMBERS, lie)),
+                array_stores,
+            ),
         }
     }
-    true
-}
-
-/// Whether that and all of these take the three numbers of each iterator.
-fn take_numbers(alloc: Global, lies: &[Lie]) -> bool {
-    for lie in lies {
-        let made = is_taken(makes(alloc, *lie), *lie)
-            & is_taken(makes_of_values(alloc, *lie), *lie);
-        let built = made & is_taken(builds(alloc, *lie), *lie);
-        if !(built & extend_numbers(alloc, *lie, EXTENSIONS)) {
-            return false;
-        }
-    }
-    true
 }
 
 #[test]
 fn numbers_are_taken_from_an_iterator_that_lies(rt: HostRuntime) {
-    assert!(rt; take_numbers(rt.alloc(), LIES));
+    assert!(rt; all_take::<PrimitiveArray<i64>>(rt.alloc(), LIES));
 }
 
 const MARKS: &[bool] = &[true, false, true];
@@ -218,79 +191,84 @@ fn array_marks(array: &BooleanArray) -> bool {
     is_mask(Some(array.values_iter()), "101")
 }
 
-/// Has a builder take them by a call.
-fn extend_marks_by(
-    builder: &mut MutableBooleanArray,
-    lie: Lie,
-    call: Extension,
-) -> Result<(), Error> {
+/// Has a builder take them.
+fn extend_marks_by(builder: &mut MutableBooleanArray, lie: Lie, call: usize) -> Result<(), Error> {
     match call {
-        Extension::Extend => builder.extend(lying(MARK_SLOTS, lie)),
-        Extension::TryExtend => builder.try_extend(lying(MARK_SLOTS, lie)),
-        Extension::ExtendValues => builder.extend_values(lying(MARKS, lie)),
+        0 => builder.extend(lying(MARK_SLOTS, lie)),
+        1 => builder.try_extend(lying(MARK_SLOTS, lie)),
+        _ => builder.extend_values(lying(MARKS, lie)),
     }
 }
 
-/// Whether a builder takes them.
-fn takes_marks(
-    builder: &mut MutableBooleanArray,
-    lie: Lie,
-    call: Extension,
-) -> Result<bool, Error> {
-    extend_marks_by(builder, lie, call)?;
-    Ok(builder_marks(builder))
-}
-
-/// Whether a new one does.
-fn extends_marks(alloc: Global, lie: Lie, call: Extension) -> Result<bool, Error> {
+/// Whether a new one takes them.
+fn extends_marks(alloc: Global, lie: Lie, call: usize) -> Result<bool, Error> {
     let mut builder = MutableBooleanArray::new(alloc);
-    takes_marks(&mut builder, lie, call)
+    match extend_marks_by(&mut builder, lie, call) {
+        Ok(()) => Ok(builder_marks(&builder)),
+        Err(refused) => Err(refused),
+    }
 }
 
-/// Whether it takes the three truth values of an iterator by each call.
-fn extend_marks(alloc: Global, lie: Lie, calls: &[Extension]) -> bool {
-    for call in calls {
-        if !is_taken(extends_marks(alloc, lie, *call), lie) {
-            return false;
+impl Takes for BooleanArray {
+    const CALLS: usize = 5;
+
+    fn takes(alloc: Global, lie: Lie, call: usize) -> Result<bool, Error> {
+        match call {
+            0 | 1 | 2 => extends_marks(alloc, lie, call),
+            3 => seen(
+                MutableBooleanArray::from_iter(alloc, lying(MARK_SLOTS, lie)),
+                builder_marks,
+            ),
+            _ => seen(
+                BooleanArray::from_iter(alloc, lying(MARK_SLOTS, lie)),
+                array_marks,
+            ),
         }
     }
-    true
-}
-
-/// Whether a builder is made of them.
-fn builds_marks(alloc: Global, lie: Lie) -> Result<bool, Error> {
-    seen(
-        MutableBooleanArray::from_iter(alloc, lying(MARK_SLOTS, lie)),
-        builder_marks,
-    )
-}
-
-/// Whether an array is.
-fn makes_marks(alloc: Global, lie: Lie) -> Result<bool, Error> {
-    seen(
-        BooleanArray::from_iter(alloc, lying(MARK_SLOTS, lie)),
-        array_marks,
-    )
-}
-
-/// Whether all of these take the three truth values of each iterator.
-fn take_marks(alloc: Global, lies: &[Lie]) -> bool {
-    for lie in lies {
-        let made = is_taken(builds_marks(alloc, *lie), *lie)
-            & is_taken(makes_marks(alloc, *lie), *lie);
-        if !(made & extend_marks(alloc, *lie, EXTENSIONS)) {
-            return false;
-        }
-    }
-    true
 }
 
 #[test]
 fn truth_values_are_taken_from_an_iterator_that_lies(rt: HostRuntime) {
-    assert!(rt; take_marks(rt.alloc(), LIES));
+    assert!(rt; all_take::<BooleanArray>(rt.alloc(), LIES));
 }
 
-/// Whether offsets are those of three items of two, no and five bytes.
+/// A kind of bytes, and three of its items.
+trait Listed: ByteKind {
+    /// What lends an item.
+    type Item: ByteItem<Self> + ItemError<Error = Error> + 'static;
+
+    /// The items, of two, no and five bytes.
+    fn items() -> &'static [Self::Item];
+
+    /// Slots that show them, but for the second, which is null.
+    fn slots() -> &'static [Option<Self::Item>];
+}
+
+impl Listed for Binary {
+    type Item = &'static [u8];
+
+    fn items() -> &'static [&'static [u8]] {
+        &[b"hi", b"", b"there"]
+    }
+
+    fn slots() -> &'static [Option<&'static [u8]>] {
+        &[Some(b"hi"), None, Some(b"there")]
+    }
+}
+
+impl Listed for Utf8 {
+    type Item = &'static str;
+
+    fn items() -> &'static [&'static str] {
+        &["hi", "", "there"]
+    }
+
+    fn slots() -> &'static [Option<&'static str>] {
+        &[Some("hi"), None, Some("there")]
+    }
+}
+
+/// Whether offsets are those of the three items.
 fn are_all<O: Offset>(offsets: &[O]) -> bool {
     are_offsets(offsets, [0, 2, 2, 7].as_slice())
 }
@@ -310,167 +288,127 @@ fn values_have<K: ByteKind>(builder: &MutableByteValuesArray<K, i32>) -> bool {
     are_all(builder.offsets().as_slice())
 }
 
-/// Has a builder take slots, or items, by a call.
-fn extend_bytes_by<K: ByteKind, X: ByteItem<K> + ItemError<Error = Error>>(
+/// Has a builder take them.
+fn extend_bytes_by<K: Listed>(
     builder: &mut MutableByteArray<K, i32>,
-    slots: &[Option<X>],
-    items: &[X],
     lie: Lie,
-    call: Extension,
+    call: usize,
 ) -> Result<(), Error> {
     match call {
-        Extension::Extend => builder.extend(lying(slots, lie)),
-        Extension::TryExtend => builder.try_extend(lying(slots, lie)),
-        Extension::ExtendValues => builder.extend_values(lying(items, lie)),
+        0 => builder.extend(lying(K::slots(), lie)),
+        1 => builder.try_extend(lying(K::slots(), lie)),
+        _ => builder.extend_values(lying(K::items(), lie)),
     }
 }
 
 /// Whether a builder takes them.
-fn takes_bytes<K: ByteKind, X: ByteItem<K> + ItemError<Error = Error>>(
+fn takes_bytes<K: Listed>(
     builder: &mut MutableByteArray<K, i32>,
-    slots: &[Option<X>],
-    items: &[X],
     lie: Lie,
-    call: Extension,
+    call: usize,
 ) -> Result<bool, Error> {
-    extend_bytes_by::<K, X>(builder, slots, items, lie, call)?;
+    extend_bytes_by::<K>(builder, lie, call)?;
     Ok(builder_has(builder))
 }
 
-/// Whether a new one does.
-fn extends_bytes<K: ByteKind, X: ByteItem<K> + ItemError<Error = Error>>(
-    alloc: Global,
-    slots: &[Option<X>],
-    items: &[X],
-    lie: Lie,
-    call: Extension,
-) -> Result<bool, Error> {
+/// Whether a new one takes them.
+fn extends_bytes<K: Listed>(alloc: Global, lie: Lie, call: usize) -> Result<bool, Error> {
     match MutableByteArray::<K, i32>::new(alloc) {
-        Ok(mut builder) => takes_bytes::<K, X>(&mut builder, slots, items, lie, call),
+        Ok(mut builder) => takes_bytes::<K>(&mut builder, lie, call),
         Err(_) => Ok(false),
     }
 }
 
-/// Whether it takes the three slots, or items, of an iterator by each call.
-fn extend_bytes<K: ByteKind, X: ByteItem<K> + ItemError<Error = Error>>(
-    alloc: Global,
-    slots: &[Option<X>],
-    items: &[X],
-    lie: Lie,
-    calls: &[Extension],
-) -> bool {
-    for call in calls {
-        if !is_taken(extends_bytes::<K, X>(alloc, slots, items, lie, *call), lie) {
-            return false;
-        }
-    }
-    true
-}
-
-/// Whether a builder without nulls takes items, by `extend` or by `try_extend`.
-fn takes_values<K: ByteKind, X: ByteItem<K> + ItemError<Error = Error>>(
+/// Whether a builder without nulls takes them.
+fn takes_values<K: Listed>(
     builder: &mut MutableByteValuesArray<K, i32>,
-    items: &[X],
     lie: Lie,
     tries: bool,
 ) -> Result<bool, Error> {
     if tries {
-        builder.try_extend(lying(items, lie))?;
+        builder.try_extend(lying(K::items(), lie))?;
     } else {
-        builder.extend(lying(items, lie))?;
+        builder.extend(lying(K::items(), lie))?;
     }
     Ok(values_have(builder))
 }
 
 /// Whether a new one does.
-fn extends_values<K: ByteKind, X: ByteItem<K> + ItemError<Error = Error>>(
-    alloc: Global,
-    items: &[X],
-    lie: Lie,
-    tries: bool,
-) -> Result<bool, Error> {
+fn extends_values<K: Listed>(alloc: Global, lie: Lie, tries: bool) -> Result<bool, Error> {
     match MutableByteValuesArray::<K, i32>::new(alloc) {
-        Ok(mut builder) => takes_values::<K, X>(&mut builder, items, lie, tries),
+        Ok(mut builder) => takes_values::<K>(&mut builder, lie, tries),
         Err(_) => Ok(false),
     }
 }
 
-/// Whether values with nulls are made of three slots by an iterator that lies so.
-fn take_slots<K: ByteKind, X: ByteItem<K> + ItemError<Error = Error>>(
-    alloc: Global,
-    slots: &[Option<X>],
-    lie: Lie,
-) -> bool {
-    let builder = MutableByteArray::<K, i32>::from_iter(alloc, lying(slots, lie));
-    let is_built = is_taken(seen(builder, builder_has::<K>), lie);
-    let array = ByteArray::<K, i32>::from_iter(alloc, lying(slots, lie));
-    is_built & is_taken(seen(array, array_has::<K>), lie)
-}
+impl<K: Listed> Takes for MutableByteArray<K, i32> {
+    const CALLS: usize = 5;
 
-/// Whether values are.
-fn take_items<K: ByteKind, X: ByteItem<K> + ItemError<Error = Error>>(
-    alloc: Global,
-    items: &[X],
-    lie: Lie,
-) -> bool {
-    let builder = MutableByteArray::<K, i32>::from_iter_values(alloc, lying(items, lie));
-    let is_built = is_taken(seen(builder, builder_has::<K>), lie);
-    let array = ByteArray::<K, i32>::from_iter_values(alloc, lying(items, lie));
-    is_built & is_taken(seen(array, array_has::<K>), lie)
-}
-
-/// Whether values without nulls are.
-fn take_values<K: ByteKind, X: ByteItem<K> + ItemError<Error = Error>>(
-    alloc: Global,
-    items: &[X],
-    lie: Lie,
-) -> bool {
-    let first = MutableByteValuesArray::<K, i32>::from_iter(alloc, lying(items, lie));
-    let is_first = is_taken(seen(first, values_have::<K>), lie);
-    let second = MutableByteValuesArray::<K, i32>::try_from_iter(alloc, lying(items, lie));
-    let is_second = is_taken(seen(second, values_have::<K>), lie);
-    let is_extended = is_taken(extends_values::<K, X>(alloc, items, lie, false), lie);
-    is_first
-        & is_second
-        & is_extended
-        & is_taken(extends_values::<K, X>(alloc, items, lie, true), lie)
-}
-
-/// Whether all of these take the three items of each iterator.
-fn take_bytes<K: ByteKind, X: ByteItem<K> + ItemError<Error = Error>>(
-    alloc: Global,
-    slots: &[Option<X>],
-    items: &[X],
-    lies: &[Lie],
-) -> bool {
-    for lie in lies {
-        let are_slots = take_slots::<K, X>(alloc, slots, *lie);
-        let are_items = take_items::<K, X>(alloc, items, *lie);
-        let are_values = take_values::<K, X>(alloc, items, *lie);
-        let are_made = are_slots & are_items & are_values;
-        if !(are_made & extend_bytes::<K, X>(alloc, slots, items, *lie, EXTENSIONS)) {
-            return false;
+    fn takes(alloc: Global, lie: Lie, call: usize) -> Result<bool, Error> {
+        match call {
+            0 | 1 | 2 => extends_bytes::<K>(alloc, lie, call),
+            3 => seen(
+                MutableByteArray::<K, i32>::from_iter(alloc, lying(K::slots(), lie)),
+                builder_has::<K>,
+            ),
+            _ => seen(
+                MutableByteArray::<K, i32>::from_iter_values(alloc, lying(K::items(), lie)),
+                builder_has::<K>,
+            ),
         }
     }
-    true
 }
 
-const BYTES: &[&[u8]] = &[b"hi", b"", b"there"];
+impl<K: Listed> Takes for ByteArray<K, i32> {
+    const CALLS: usize = 2;
 
-const BYTE_SLOTS: &[Option<&[u8]>] = &[Some(b"hi"), None, Some(b"there")];
+    fn takes(alloc: Global, lie: Lie, call: usize) -> Result<bool, Error> {
+        match call {
+            0 => seen(
+                ByteArray::<K, i32>::from_iter(alloc, lying(K::slots(), lie)),
+                array_has::<K>,
+            ),
+            _ => seen(
+                ByteArray::<K, i32>::from_iter_values(alloc, lying(K::items(), lie)),
+                array_has::<K>,
+            ),
+        }
+    }
+}
+
+impl<K: Listed> Takes for MutableByteValuesArray<K, i32> {
+    const CALLS: usize = 4;
+
+    fn takes(alloc: Global, lie: Lie, call: usize) -> Result<bool, Error> {
+        match call {
+            0 => seen(
+                MutableByteValuesArray::<K, i32>::from_iter(alloc, lying(K::items(), lie)),
+                values_have::<K>,
+            ),
+            1 => seen(
+                MutableByteValuesArray::<K, i32>::try_from_iter(alloc, lying(K::items(), lie)),
+                values_have::<K>,
+            ),
+            _ => extends_values::<K>(alloc, lie, call == 2),
+        }
+    }
+}
+
+/// Whether an array and both builders of a kind take the items of each iterator.
+fn take_bytes<K: Listed>(alloc: Global, lies: &[Lie]) -> bool {
+    let are_slots = all_take::<MutableByteArray<K, i32>>(alloc, lies);
+    let are_values = all_take::<MutableByteValuesArray<K, i32>>(alloc, lies);
+    are_slots & are_values & all_take::<ByteArray<K, i32>>(alloc, lies)
+}
 
 #[test]
 fn bytes_are_taken_from_an_iterator_that_lies(rt: HostRuntime) {
-    assert!(rt; take_bytes::<Binary, &[u8]>(rt.alloc(), BYTE_SLOTS, BYTES, LIES));
+    assert!(rt; take_bytes::<Binary>(rt.alloc(), LIES));
 }
-
-const TEXTS: &[&str] = &["hi", "", "there"];
-
-const TEXT_SLOTS: &[Option<&str>] = &[Some("hi"), None, Some("there")];
 
 #[test]
 fn texts_are_taken_from_an_iterator_that_lies(rt: HostRuntime) {
-    assert!(rt; take_bytes::<Utf8, &str>(rt.alloc(), TEXT_SLOTS, TEXTS, LIES));
+    assert!(rt; take_bytes::<Utf8>(rt.alloc(), LIES));
 }
 
 /// Whether three texts come from both ends, and then none.

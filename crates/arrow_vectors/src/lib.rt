@@ -7,7 +7,8 @@
 //! |---|---|
 //! | which offsets are taken, and where they end | `offsets` |
 //! | which marks fit in bytes | `masks` |
-//! | what slots and raw parts become, what slices, clones, thaws and joins leave: of numbers, truth values, bytes, text | `primitive`, `boolean`, `bytes`, `text` |
+//! | what slots and raw parts become, what slices, clones and thaws leave: of numbers, truth values, bytes, text | `primitive`, `boolean`, `bytes`, `text` |
+//! | what comes of another builder's slots | `joins` |
 //! | which raw parts of bytes and of text are refused, and which of several faults is told | `parts` |
 //! | what happens past the greatest offset, over a type that ends at 100 | `overflow` |
 //! | whether room that was asked for is there | `room` |
@@ -21,6 +22,8 @@ mod boolean;
 mod bytes;
 #[cfg(test)]
 mod iterators;
+#[cfg(test)]
+mod joins;
 #[cfg(test)]
 mod keys;
 #[cfg(test)]

@@ -1,7 +1,7 @@
 //! Items that end one before the greatest offset, at it, and one past it, over a type of offsets that ends at 100. One past
 //! it is refused as an overflow, and nothing of it is left; of an extension by an iterator the items before it stay.
 use crate::Tiny;
-use crate::raw::{builds, own_builder};
+use crate::raw::own_builder;
 use arrow_binary::{MutableBinaryArray, MutableBinaryValuesArray};
 use arrow_byte_array::{ByteArray, MutableByteArray, MutableByteValuesArray};
 use arrow_bytes::{Binary, ByteItem, ByteKind, ItemError, Utf8};
@@ -243,6 +243,8 @@ const FORTY: &[u8] = &[7; 40];
 
 const FORTY_ONE: &[u8] = &[7; 41];
 
+const SIXTY_ONE: &[u8] = &[7; 61];
+
 /// Three lists of bytes, as slots and as items, and what is told of them.
 type Bytes = (
     &'static [Option<&'static [u8]>],
@@ -385,125 +387,21 @@ fn text_that_is_refused_leaves_the_builder(rt: HostRuntime) {
     assert!(rt; text_pushed(rt.alloc()));
 }
 
-/// So many equal bytes, at most a hundred.
-fn sevens<'a>(count: usize) -> &'a [u8] {
-    const BYTES: &[u8] = &[7; 100];
-    BYTES.get(..count).unwrap_or(&[])
-}
-
-/// Offsets over equal bytes up to the last, and marks.
-type Slots = (&'static [usize], &'static str);
-
-/// The end of the last slot.
-fn end_of(slots: Slots) -> usize {
-    slots.0.last().copied().unwrap_or(0)
-}
-
-/// A builder of such slots.
-fn of(alloc: Global, slots: Slots) -> Result<MutableBinaryArray<Tiny>, Error> {
-    own_builder::<Binary, Tiny>(alloc, slots.0, sevens(end_of(slots)), slots.1)
-}
-
-/// Whether this is told of another's slots, and these are there then.
-fn takes(
-    builder: &mut MutableBinaryArray<Tiny>,
-    other: &MutableBinaryArray<Tiny>,
-    answer: &str,
-    all: Slots,
-) -> bool {
-    let is_told = tells(builder.try_extend_from_self(other)) == answer;
-    is_told & builds(builder, all.0, sevens(end_of(all)), all.1)
-}
-
-/// Whether it is of those of a builder of such slots.
-fn takes_slots(
-    alloc: Global,
-    builder: &mut MutableBinaryArray<Tiny>,
-    second: Slots,
-    answer: &str,
-    all: Slots,
-) -> bool {
-    match of(alloc, second) {
-        Ok(other) => takes(builder, &other, answer, all),
-        Err(_) => false,
-    }
-}
-
-/// Whether it is where the first is a builder of such slots.
-fn joins(alloc: Global, first: Slots, second: Slots, answer: &str, all: Slots) -> bool {
-    match of(alloc, first) {
-        Ok(mut builder) => takes_slots(alloc, &mut builder, second, answer, all),
-        Err(_) => false,
-    }
-}
-
-/// The slots of a builder and of another, what is told of the other's, and what the first has then.
-const JOINS: &[(Slots, Slots, &str, Slots)] = &[
-    (
-        (&[0, 60], "none"),
-        (&[0, 41, 41], "10"),
-        "overflow",
-        (&[0, 60], "none"),
-    ),
-    (
-        (&[0, 60], "none"),
-        (&[0, 40, 40], "10"),
-        "made",
-        (&[0, 60, 100, 100], "110"),
-    ),
-    (
-        (&[0, 60], "none"),
-        (&[30, 70], "none"),
-        "made",
-        (&[0, 60, 100], "none"),
-    ),
-    (
-        (&[0, 60], "none"),
-        (&[30, 71], "none"),
-        "overflow",
-        (&[0, 60], "none"),
-    ),
-    (
-        (&[100], "none"),
-        (&[100, 100], "0"),
-        "made",
-        (&[100, 100], "0"),
-    ),
-    (
-        (&[100], "none"),
-        (&[99, 100], "none"),
-        "overflow",
-        (&[100], "none"),
-    ),
-];
-
-/// Whether all of them go so.
-fn each_joins(alloc: Global, cases: &[(Slots, Slots, &str, Slots)]) -> bool {
-    for (first, second, answer, all) in cases {
-        if !joins(alloc, *first, *second, *answer, *all) {
-            return false;
-        }
-    }
-    true
-}
-
-#[test]
-fn slots_of_another_builder_end_there_too(rt: HostRuntime) {
-    assert!(rt; each_joins(rt.alloc(), JOINS));
-}
-
 /// Whether items behind forty bytes before the first slot end where those do.
 fn goes_on_behind(builder: &mut MutableBinaryArray<Tiny>) -> bool {
-    let past = tells(builder.push(Some(sevens(61))));
+    let past = tells(builder.push(Some(SIXTY_ONE)));
     let is_left = are_offsets(builder.offsets().as_slice(), [40].as_slice());
-    let at_the_end = tells(builder.push(Some(sevens(60))));
+    let at_the_end = tells(builder.push(Some(SIXTY)));
     let is_pushed = are_offsets(builder.offsets().as_slice(), [40, 100].as_slice());
     is_left & is_pushed & ([past, at_the_end] == ["overflow", "made"])
 }
 
 /// Whether they do in a new builder.
 fn pushes_behind(alloc: Global) -> bool {
-    passes(of(alloc, (&[40], "none")), goes_on_behind)
+    passes(
+        own_builder::<Binary, Tiny>(alloc, [40].as_slice(), FORTY, "none"),
+        goes_on_behind,
+    )
 }
 
 #[test]

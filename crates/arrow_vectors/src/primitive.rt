@@ -1,4 +1,4 @@
-//! Numbers: what slots and raw parts become, and what slices, clones, thaws and joins leave.
+//! Numbers: what slots and raw parts become, and what slices, clones and thaws leave.
 use arrow_memory::buffer::Buffer;
 use arrow_primitive::{MutablePrimitiveArray, PrimitiveArray};
 use arrow_testing::{frozen_mask, growing_mask, is_made, is_mask, tells};
@@ -17,7 +17,7 @@ fn shows(array: &PrimitiveArray<i32>, values: &[i32], mask: &str) -> bool {
 }
 
 /// Whether a builder stores these values, under these marks.
-fn builds(builder: &MutablePrimitiveArray<i32>, values: &[i32], mask: &str) -> bool {
+pub(crate) fn builds(builder: &MutablePrimitiveArray<i32>, values: &[i32], mask: &str) -> bool {
     let marks = match builder.validity() {
         Some(marks) => Some(marks.iter()),
         None => None,
@@ -243,94 +243,6 @@ fn a_clone_is_not_thawed_while_the_first_lives(rt: HostRuntime) {
     let are_values = shares(rt.alloc(), values.as_slice(), [1, 2, 3].as_slice(), "none");
     let are_slots = shares(rt.alloc(), null.as_slice(), [1, 0, 3].as_slice(), "101");
     assert!(rt; are_values & are_slots);
-}
-
-/// Pushes slots one by one.
-fn push_each(builder: &mut MutablePrimitiveArray<i32>, slots: &[Option<i32>]) -> Result<(), Error> {
-    for slot in slots {
-        builder.push(*slot)?;
-    }
-    Ok(())
-}
-
-/// A builder of these slots, which are pushed one by one.
-fn pushed(alloc: Global, slots: &[Option<i32>]) -> Result<MutablePrimitiveArray<i32>, Error> {
-    let mut builder = MutablePrimitiveArray::new(alloc);
-    match push_each(&mut builder, slots) {
-        Ok(()) => Ok(builder),
-        Err(refused) => Err(refused),
-    }
-}
-
-/// Whether a builder stores these values, under these marks, once another's slots came.
-fn takes(
-    builder: &mut MutablePrimitiveArray<i32>,
-    other: &MutablePrimitiveArray<i32>,
-    values: &[i32],
-    mask: &str,
-) -> bool {
-    let is_taken = builder.try_extend_from_self(other).is_ok();
-    is_taken & builds(builder, values, mask)
-}
-
-/// Whether it does once a builder's of these slots came.
-fn takes_slots(
-    alloc: Global,
-    builder: &mut MutablePrimitiveArray<i32>,
-    second: &[Option<i32>],
-    values: &[i32],
-    mask: &str,
-) -> bool {
-    match pushed(alloc, second) {
-        Ok(other) => takes(builder, &other, values, mask),
-        Err(_) => false,
-    }
-}
-
-/// Whether a builder of the first slots with the others behind them does.
-fn joins(
-    alloc: Global,
-    first: &[Option<i32>],
-    second: &[Option<i32>],
-    values: &[i32],
-    mask: &str,
-) -> bool {
-    match pushed(alloc, first) {
-        Ok(mut builder) => takes_slots(alloc, &mut builder, second, values, mask),
-        Err(_) => false,
-    }
-}
-
-/// Slots, those behind them, and what both store under which marks.
-type Join = (
-    &'static [Option<i32>],
-    &'static [Option<i32>],
-    &'static [i32],
-    &'static str,
-);
-
-const JOINS: &[Join] = &[
-    (&[None], &[Some(1)], &[0, 1], "01"),
-    (&[Some(1)], &[None], &[1, 0], "10"),
-    (&[Some(1)], &[Some(2)], &[1, 2], "none"),
-    (&[None], &[], &[0], "0"),
-    (&[], &[None, Some(7)], &[0, 7], "01"),
-    (&[], &[], &[], "none"),
-];
-
-/// Whether all of them store this.
-fn each_joins(alloc: Global, cases: &[Join]) -> bool {
-    for (first, second, values, mask) in cases {
-        if !joins(alloc, *first, *second, *values, *mask) {
-            return false;
-        }
-    }
-    true
-}
-
-#[test]
-fn slots_behind_others_keep_their_marks(rt: HostRuntime) {
-    assert!(rt; each_joins(rt.alloc(), JOINS));
 }
 
 /// The slots of an array from a place on, so many of them; the array as it is where there are fewer.

@@ -78,13 +78,16 @@ fn native_parts<O: Width>(
     match <(DataType, (Option<Bits>, Vec<i64>))>::of_words(alloc, words)? {
         Some((data_type, (mask, values))) => {
             let raw = Raw::Values(values);
-            let parts = Parts {
-                kind,
-                data_type,
-                raw,
-                mask,
-            };
-            answer::<O>(answering, Command::Parts(entry, parts))
+            O::parts(
+                answering,
+                entry,
+                Parts {
+                    kind,
+                    data_type,
+                    raw,
+                    mask,
+                },
+            )
         }
         None => Ok(false),
     }
@@ -103,13 +106,16 @@ fn boolean_parts<O: Width>(
     match <(DataType, (Option<Bits>, Only<Bits>))>::of_words(alloc, words)? {
         Some((data_type, (mask, Only(bits)))) => {
             let raw = Raw::Bits(bits);
-            let parts = Parts {
-                kind,
-                data_type,
-                raw,
-                mask,
-            };
-            answer::<O>(answering, Command::Parts(entry, parts))
+            O::parts(
+                answering,
+                entry,
+                Parts {
+                    kind,
+                    data_type,
+                    raw,
+                    mask,
+                },
+            )
         }
         None => Ok(false),
     }
@@ -138,13 +144,16 @@ fn pieces_parts<O: Width>(
         return Ok(false);
     };
     let raw = Raw::Pieces(starts, bytes);
-    let parts = Parts {
-        kind,
-        data_type,
-        raw,
-        mask,
-    };
-    answer::<O>(answering, Command::Parts(entry, parts))
+    O::parts(
+        answering,
+        entry,
+        Parts {
+            kind,
+            data_type,
+            raw,
+            mask,
+        },
+    )
 }
 
 /// The rest of such a line, whose form goes by the kind.

@@ -10,9 +10,9 @@ returns-in-Ok-clause-row g c =
     let made = c.in-Ok in
     let is = c.in-Ok.ensures in
     let tested = c.try_new_counted.ensures in
-    (growing-parts (types g.T.NativeType.zero g.T.NativeType.PRIMITIVE g.O.Offset.most g.O.Offset.IS_LARGE) g.K.ByteKind.is_text (logical_type c.args.data_type.now) (logical_type made.data_type)
-    None None (map g.O.Offset.number c.args.offsets.now.items) c.args.bytes.now.items made.offsets made.bytes.items
-    is.data_type tt refl is.legal is.offsets is.bytes
+    (growing-parts (types g.T.NativeType.zero g.T.NativeType.PRIMITIVE g.O.Offset.most g.O.Offset.IS_LARGE) g.K.ByteKind.is_text (logical_type c.args.data_type) (logical_type c.args.data_type)
+    None None (map g.O.Offset.number c.args.offsets.items) c.args.bytes.items made.offsets c.args.bytes.items
+    refl tt refl is.legal is.offsets refl
     (g.K.ByteKind.layout g.O.Offset.IS_LARGE) g.K.ByteKind.wrong_builder_type c.try_new_counted.result
     values_alone refl refl c.requires (λ at are right _. tested.fit at are right) tested.bounds tested.items tested.data_type (λ _ _ _ not. absurd (not tt)) tested.exact).0
 
@@ -21,8 +21,8 @@ returns-in-Ok-clause-exact g c =
     let made = c.in-Ok in
     let is = c.in-Ok.ensures in
     let tested = c.try_new_counted.ensures in
-    (growing-parts (types g.T.NativeType.zero g.T.NativeType.PRIMITIVE g.O.Offset.most g.O.Offset.IS_LARGE) g.K.ByteKind.is_text (logical_type c.args.data_type.now) (logical_type made.data_type)
-    None None (map g.O.Offset.number c.args.offsets.now.items) c.args.bytes.now.items made.offsets made.bytes.items
-    is.data_type tt refl is.legal is.offsets is.bytes
+    (growing-parts (types g.T.NativeType.zero g.T.NativeType.PRIMITIVE g.O.Offset.most g.O.Offset.IS_LARGE) g.K.ByteKind.is_text (logical_type c.args.data_type) (logical_type c.args.data_type)
+    None None (map g.O.Offset.number c.args.offsets.items) c.args.bytes.items made.offsets c.args.bytes.items
+    refl tt refl is.legal is.offsets refl
     (g.K.ByteKind.layout g.O.Offset.IS_LARGE) g.K.ByteKind.wrong_builder_type c.try_new_counted.result
     values_alone refl refl c.requires (λ at are right _. tested.fit at are right) tested.bounds tested.items tested.data_type (λ _ _ _ not. absurd (not tt)) tested.exact).1

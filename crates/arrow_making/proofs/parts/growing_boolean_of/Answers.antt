@@ -7,10 +7,11 @@ use Rattle.arrow_entry.specs.Request.{packed_bits}
 use Rattle.arrow_making.proofs.Passes.{bits-row}
 use Rattle.arrow_making.proofs.parts.growing_boolean_of.Goals as goal
 
-pub returns-in-Ok-growing_head_taken : goal.returns-in-Ok-growing_head_taken
-returns-in-Ok-growing_head_taken g c =
-    let head = c.in-Ok-growing_head_taken in
-    bits-row (types g.T.NativeType.zero g.T.NativeType.PRIMITIVE g.O.Offset.most g.O.Offset.IS_LARGE) with_nulls (logical_type c.args.data_type.now) (logical_type head.data_type)
-    (option_map packed_bits c.args.mask.now) head.mask head.ensures.data_type head.ensures.fit head.ensures.mask
-    wrong_builder_type (packed_bits c.args.values.now) c.in-Ok.values c.try_new.result refl c.in-Ok.ensures.ok.0 c.in-Ok.ensures.ok.1
+pub returns-in-Ok-growing_mask_taken : goal.returns-in-Ok-growing_mask_taken
+returns-in-Ok-growing_mask_taken g c =
+    let t = logical_type c.args.data_type in
+    let taken = c.in-Ok-growing_mask_taken in
+    bits-row (types g.T.NativeType.zero g.T.NativeType.PRIMITIVE g.O.Offset.most g.O.Offset.IS_LARGE) with_nulls t t
+    (option_map packed_bits c.args.mask) taken.mask refl taken.ensures.fit taken.ensures.mask
+    wrong_builder_type (packed_bits c.args.values) c.in-Ok.values c.try_new.result refl c.in-Ok.ensures.ok.0 c.in-Ok.ensures.ok.1
     c.try_new.ensures.fit c.try_new.ensures.mask c.try_new.ensures.data_type

@@ -11,9 +11,9 @@ returns-in-Ok-clause-row g c =
     let made = c.in-Ok in
     let is = c.in-Ok.ensures in
     let tested = c.try_new_counted.ensures in
-    (growing-parts (types g.T.NativeType.zero g.T.NativeType.PRIMITIVE g.O.Offset.most g.O.Offset.IS_LARGE) g.K.ByteKind.is_text (logical_type c.args.data_type.now) (logical_type made.data_type)
-    (option_map packed_bits c.args.mask.now) made.mask (map g.O.Offset.number c.args.offsets.now.items) c.args.bytes.now.items made.offsets made.bytes.items
-    is.data_type is.fit is.mask is.legal is.offsets is.bytes
+    (growing-parts (types g.T.NativeType.zero g.T.NativeType.PRIMITIVE g.O.Offset.most g.O.Offset.IS_LARGE) g.K.ByteKind.is_text (logical_type c.args.data_type) (logical_type c.args.data_type)
+    (option_map packed_bits c.args.mask) made.mask (map g.O.Offset.number c.args.offsets.items) c.args.bytes.items made.offsets c.args.bytes.items
+    refl is.fit is.mask is.legal is.offsets refl
     (g.K.ByteKind.layout g.O.Offset.IS_LARGE) g.K.ByteKind.wrong_builder_type c.try_new_counted.result
     with_nulls refl refl c.requires tested.fit tested.bounds tested.items tested.data_type tested.mask tested.exact).0
 
@@ -22,8 +22,8 @@ returns-in-Ok-clause-exact g c =
     let made = c.in-Ok in
     let is = c.in-Ok.ensures in
     let tested = c.try_new_counted.ensures in
-    (growing-parts (types g.T.NativeType.zero g.T.NativeType.PRIMITIVE g.O.Offset.most g.O.Offset.IS_LARGE) g.K.ByteKind.is_text (logical_type c.args.data_type.now) (logical_type made.data_type)
-    (option_map packed_bits c.args.mask.now) made.mask (map g.O.Offset.number c.args.offsets.now.items) c.args.bytes.now.items made.offsets made.bytes.items
-    is.data_type is.fit is.mask is.legal is.offsets is.bytes
+    (growing-parts (types g.T.NativeType.zero g.T.NativeType.PRIMITIVE g.O.Offset.most g.O.Offset.IS_LARGE) g.K.ByteKind.is_text (logical_type c.args.data_type) (logical_type c.args.data_type)
+    (option_map packed_bits c.args.mask) made.mask (map g.O.Offset.number c.args.offsets.items) c.args.bytes.items made.offsets c.args.bytes.items
+    refl is.fit is.mask is.legal is.offsets refl
     (g.K.ByteKind.layout g.O.Offset.IS_LARGE) g.K.ByteKind.wrong_builder_type c.try_new_counted.result
     with_nulls refl refl c.requires tested.fit tested.bounds tested.items tested.data_type tested.mask tested.exact).1

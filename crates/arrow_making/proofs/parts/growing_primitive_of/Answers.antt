@@ -1,4 +1,4 @@
-use Rattle.std.proofs.Common.{option_map}
+use Rattle.std.proofs.Common.{option_map, refl}
 use Rattle.arrow_types.specs.Types.{logical_type}
 use Rattle.arrow_entry.specs.Entry.{types}
 use Rattle.arrow_entry.specs.Kind.{with_nulls}
@@ -6,10 +6,11 @@ use Rattle.arrow_entry.specs.Request.{packed_bits}
 use Rattle.arrow_making.proofs.Passes.{values-row}
 use Rattle.arrow_making.proofs.parts.growing_primitive_of.Goals as goal
 
-pub returns-in-Ok-growing_head_taken : goal.returns-in-Ok-growing_head_taken
-returns-in-Ok-growing_head_taken g c =
-    let head = c.in-Ok-growing_head_taken in
-    values-row (types g.T.NativeType.zero g.T.NativeType.PRIMITIVE g.O.Offset.most g.O.Offset.IS_LARGE) with_nulls (logical_type c.args.data_type.now) (logical_type head.data_type)
-    (option_map packed_bits c.args.mask.now) head.mask head.ensures.data_type head.ensures.fit head.ensures.mask
-    c.args.values.now.items c.in-Ok.values.items c.try_new.result c.in-Ok.ensures.ok
+pub returns-in-Ok : goal.returns-in-Ok
+returns-in-Ok g c =
+    let t = logical_type c.args.data_type in
+    let taken = c.in-Ok in
+    values-row (types g.T.NativeType.zero g.T.NativeType.PRIMITIVE g.O.Offset.most g.O.Offset.IS_LARGE) with_nulls t t
+    (option_map packed_bits c.args.mask) taken.mask refl taken.ensures.fit taken.ensures.mask
+    c.args.values.items c.args.values.items c.try_new.result refl
     c.try_new.ensures.fit c.try_new.ensures.mask c.try_new.ensures.data_type

@@ -12,7 +12,7 @@ use Rattle.arrow_step.proofs.step.parts_at.Goals as goal
 
 pub returns-clause-step : goal.returns-clause-step
 returns-clause-step g c =
-    let given = c.args.given.now in
+    let given = c.args.given in
     let source = ask.parts (logical_type given.data_type) (given_by g.O.Offset.number given.raw) (option_map packed_bits given.mask) in
     let within : c.args.e < length c.args.entries.now.items = omega arith in (
       at-row (option_map value_of) (Makes_in (types g.T.NativeType.zero g.T.NativeType.PRIMITIVE g.O.Offset.most g.O.Offset.IS_LARGE) (shape given.kind) source)
@@ -23,5 +23,5 @@ returns-clause-step g c =
 
 pub returns-clause-costs : goal.returns-clause-costs
 returns-clause-costs g c =
-    let given = c.args.given.now in
+    let given = c.args.given in
     most-anywhere 0 c.args.e (shape given.kind) (ask.parts (logical_type given.data_type) (given_by g.O.Offset.number given.raw) (option_map packed_bits given.mask)) c.args.cost.now c.parts.new.cost c.parts.ensures.most

@@ -1,0 +1,34 @@
+-- What an entry that is lent tells is what the command that lists slots answers.
+use Rattle.std.proofs.Common.{◌≡◌, ℕ, option_and_then, slice_get, slice_set, Option, Some, None, MatchOption, option_copied, option_map, Bor, refl, sym, arith}
+use Rattle.arrow_entry.specs.declared.entry.Entry.{Entry}
+use Rattle.arrow_entry.specs.Answer.{Answer, not_met}
+use Rattle.arrow_entry.specs.Entry.{State, Types, Value, value_of}
+use Rattle.arrow_entry.specs.Kind.{any_kind}
+use Rattle.arrow_entry.specs.Request.{all_slots}
+use Rattle.arrow_entry.specs.Step.{AtEntry, Does_to, entry_at}
+use Rattle.arrow_rows.proofs.Steps.{set-same}
+use Rattle.arrow_table.specs.Listed.{listed}
+
+module _ {T O : Type 0} (c : Types T) where
+  -- nothing changes where slots are listed
+  lists : (held : Option (Entry T O)) → Does_to c any_kind all_slots (option_map value_of held) (listed held) (option_map value_of held)
+  lists None = (refl, refl)
+  lists (Some kept) = (refl, refl)
+
+  past : (held : Option (Entry T O)) → None ≡ option_map value_of held → listed held ≡ not_met
+  past None is = refl
+  past (Some kept) is = grind arith
+
+  at-found : (found : Option (Option (Value T))) (state : State T) (e : ℕ) (held : Option (Entry T O)) → slice_get state e ≡ found → option_and_then (λ entry. entry) found ≡ option_map value_of held
+      → MatchOption found ((listed held ≡ not_met) × (state ≡ state)) (λ old. (kept : Option (Value T)) × Does_to c any_kind all_slots old (listed held) kept × (state ≡ slice_set state e kept))
+  at-found None state e held there is = (past held is, refl)
+  at-found (Some old) state e held there is = (old, rw is (lists held), sym (set-same state e old there))
+
+  pub tells : (state : State T) (e : ℕ) (held : Option (Entry T O)) → entry_at state e ≡ option_map value_of held → AtEntry state e (Does_to c any_kind all_slots) (listed held) state
+  tells state e held is = at-found (slice_get state e) state e held refl is
+
+-- what is lent is what stands there
+pub lent : {T O : Type 0} (state : State T) (e : ℕ) (held : Option (Bor (Entry T O))) → MatchOption held (entry_at state e ≡ None) (λ entry. entry_at state e ≡ Some (value_of entry.now))
+    → entry_at state e ≡ option_map value_of (option_copied held)
+lent state e None is = is
+lent state e (Some entry) is = is
