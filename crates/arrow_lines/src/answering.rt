@@ -43,6 +43,7 @@ impl Answering {
     }
 
     /// Puts what raw parts make into a narrow entry, and appends the reply to the text. It is a command, so the answer is true.
+    #[inline(always)]
     pub fn parts_narrow(&mut self, e: usize, parts: Parts<i64, i32>) -> Result<bool, AllocError>
         ensures { IfOk result (AnswersAsked (Some (narrow (parts_asked (λ offset. offset) e parts))) self.old self.new) }
     {
@@ -51,6 +52,7 @@ impl Answering {
     }
 
     /// The same of a wide entry.
+    #[inline(always)]
     pub fn parts_wide(&mut self, e: usize, parts: Parts<i64, i64>) -> Result<bool, AllocError>
         ensures { IfOk result (AnswersAsked (Some (wide (parts_asked (λ offset. offset) e parts))) self.old self.new) }
     {

@@ -72,6 +72,7 @@ impl Width for i32 {
         answering.answer_narrow(command)
     }
 
+    #[inline(always)]
     fn parts(answering: &mut Answering, e: usize, parts: Parts<i64, i32>) -> Answered
         ensures { IfOk result (AnswersAsked (Some (narrow (parts_asked (λ offset. offset) e parts))) answering.old answering.new) }
     {
@@ -109,6 +110,7 @@ impl Width for i64 {
         answering.answer_wide(command)
     }
 
+    #[inline(always)]
     fn parts(answering: &mut Answering, e: usize, parts: Parts<i64, i64>) -> Answered
         ensures { IfOk result (AnswersAsked (Some (wide (parts_asked (λ offset. offset) e parts))) answering.old answering.new) }
     {

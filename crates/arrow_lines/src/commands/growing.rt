@@ -1,19 +1,44 @@
 //! The lines that make a builder grow, or less.
 #![tactic(auto, unfolding(crate::specs::Lines::growing, crate::specs::Lines::request_among))]
 
-ghost use Rattle.std.specs.Prelude.{codes, IfOk};
-ghost use Rattle.arrow_lines.specs.Answered.{AnswersNamed};
+ghost use Rattle.std.specs.Prelude.{codes, option_map, IfOk};
+ghost use Rattle.arrow_entry.specs.Request.{at, push};
+ghost use Rattle.arrow_lines.specs.Answered.{AnswersAsked, AnswersNamed};
 ghost use Rattle.arrow_lines.specs.Lines.{growing};
+ghost use Rattle.arrow_words.specs.Fields.{slot_of};
 ghost use Rattle.arrow_words.specs.Words.{words_of};
 
 use crate::answering::Answering;
 use crate::commands::{Answered, Width, answer};
 use arrow_table::{Command, Item};
 use arrow_words::readers::{Only, Word, Words, next};
-use arrow_words::words::next_word;
-use std::alloc::Global;
+use arrow_words::words::{is, next_word};
+use std::alloc::{AllocError, Global};
 
-/// `push E SLOT`. Its words are read one by one, so that the slot is moved no more than once.
+/// Appends the slot that a word writes to a builder. The slot lies where it was read.
+#[inline(always)]
+fn push_word<O: Width>(
+    alloc: Global,
+    answering: &mut Answering,
+    entry: usize,
+    word: &[u8],
+) -> Answered
+    ensures { IfOk result (AnswersAsked (option_map (λ slot. O.side (at entry (push slot))) (slot_of word.now)) answering.old answering.new) }
+{
+    if is(word, b"_") {
+        return O::push(answering, entry, &None);
+    }
+    let read = <Item<i64>>::of_word(alloc, word);
+    let Ok(slot) = &read else {
+        return Err(AllocError);
+    };
+    if slot.is_none() {
+        return Ok(false);
+    }
+    O::push(answering, entry, slot)
+}
+
+/// `push E SLOT`. Its words are read one by one, so that no slot is moved.
 pub(crate) fn run_push<O: Width>(alloc: Global, answering: &mut Answering, words: &[u8]) -> Answered
     ensures { IfOk result (AnswersNamed O.side growing (codes "push") (words_of words.now) answering.old answering.new) }
 {
@@ -26,10 +51,7 @@ pub(crate) fn run_push<O: Width>(alloc: Global, answering: &mut Answering, words
     if next_word(rest).is_some() {
         return Ok(false);
     }
-    match <Option<Item<i64>>>::of_word(alloc, word)? {
-        Some(slot) => O::push(answering, entry, &slot),
-        None => Ok(false),
-    }
+    push_word::<O>(alloc, answering, entry, word)
 }
 
 /// `pushnull E`

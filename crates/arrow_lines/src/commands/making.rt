@@ -205,11 +205,14 @@ pub(crate) fn run_slots<O: Width>(
 ) -> Answered
     ensures { IfOk result (AnswersNamed O.side (making (types (pos 0) Int64 O.most O.IS_LARGE) O.offset) (codes "slots") (words_of words.now) answering.old answering.new) }
 {
-    match <(usize, (Kind, Vec<Option<Item<i64>>>))>::of_words(alloc, words)? {
-        Some((entry, (kind, slots))) => answer::<O>(
-            answering,
-            Command::FromSlots(entry, kind, slots),
-        ),
+    let Some((entry, words)) = next::<usize>(alloc, words)? else {
+        return Ok(false);
+    };
+    let Some((kind, words)) = next::<Kind>(alloc, words)? else {
+        return Ok(false);
+    };
+    match <Vec<Option<Item<i64>>>>::of_words(alloc, words)? {
+        Some(slots) => answer::<O>(answering, Command::FromSlots(entry, kind, slots)),
         None => Ok(false),
     }
 }
@@ -222,11 +225,14 @@ pub(crate) fn run_items<O: Width>(
 ) -> Answered
     ensures { IfOk result (AnswersNamed O.side (making (types (pos 0) Int64 O.most O.IS_LARGE) O.offset) (codes "items") (words_of words.now) answering.old answering.new) }
 {
-    match <(usize, (Kind, Vec<Item<i64>>))>::of_words(alloc, words)? {
-        Some((entry, (kind, items))) => answer::<O>(
-            answering,
-            Command::FromItems(entry, kind, items),
-        ),
+    let Some((entry, words)) = next::<usize>(alloc, words)? else {
+        return Ok(false);
+    };
+    let Some((kind, words)) = next::<Kind>(alloc, words)? else {
+        return Ok(false);
+    };
+    match <Vec<Item<i64>>>::of_words(alloc, words)? {
+        Some(items) => answer::<O>(answering, Command::FromItems(entry, kind, items)),
         None => Ok(false),
     }
 }
