@@ -5,12 +5,11 @@ use crate::primitive::builds as stores;
 use crate::raw::{builds, own_builder};
 use arrow_binary::MutableBinaryArray;
 use arrow_byte_array::MutableByteArray;
-use arrow_bytes::ByteKind;
+use arrow_bytes::{Binary, ByteKind, Utf8};
 use arrow_primitive::MutablePrimitiveArray;
 use arrow_testing::tells;
 use arrow_types::error::Error;
 use arrow_types::offset::Offset;
-use arrow_utf8::MutableUtf8Array;
 use std::alloc::Global;
 
 /// A builder that is made of parts, takes another's slots, and shows what it has.
@@ -223,12 +222,16 @@ const PIECES: &[(Pieces, Pieces, &str, Pieces)] = &[
     ),
 ];
 
+/// Whether all of them go so over both widths of offsets.
+fn both_join<K: ByteKind>(alloc: Global, cases: &[(Pieces, Pieces, &'static str, Pieces)]) -> bool {
+    let narrow = each_joins::<MutableByteArray<K, i32>>(alloc, cases);
+    narrow & each_joins::<MutableByteArray<K, i64>>(alloc, cases)
+}
+
 #[test]
 fn only_the_slots_of_another_builder_come(rt: HostRuntime) {
-    let narrow = each_joins::<MutableBinaryArray<i32>>(rt.alloc(), PIECES);
-    let are_bytes = narrow & each_joins::<MutableBinaryArray<i64>>(rt.alloc(), PIECES);
-    let narrow = each_joins::<MutableUtf8Array<i32>>(rt.alloc(), PIECES);
-    assert!(rt; are_bytes & narrow & each_joins::<MutableUtf8Array<i64>>(rt.alloc(), PIECES));
+    let are_bytes = both_join::<Binary>(rt.alloc(), PIECES);
+    assert!(rt; are_bytes & both_join::<Utf8>(rt.alloc(), PIECES));
 }
 
 const FORTY: &[u8] = &[7; 40];
