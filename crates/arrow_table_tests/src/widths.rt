@@ -1,8 +1,9 @@
 //! Tables of both widths.
-use arrow_table::{BothCommand, Command, Item, Kind, Reply, Tables, run_both};
+use arrow_table::{BothCommand, Command, Item, Kind, Parts, Raw, Reply, Tables, run_both};
 use arrow_testing::told;
 use arrow_types::data_type::DataType;
 use arrow_types::error::Error;
+use arrow_types::offset::Offset;
 use std::alloc::Global;
 use std::test::Fail;
 
@@ -192,6 +193,57 @@ fn pushes_of_new(alloc: Global) -> Result<bool, Error> {
         Ok(mut tables) => Ok(pushes(alloc, &mut tables)),
         Err(refused) => Err(Error::from(refused)),
     }
+}
+
+/// The raw parts of an array of two numbers.
+fn two<O: Offset>(alloc: Global) -> Result<Parts<i64, O>, Error> {
+    let values = [3, 4].to_vec(alloc)?;
+    Ok(Parts {
+        kind: Kind::Primitive,
+        data_type: DataType::Int64,
+        raw: Raw::Values(values),
+        mask: None,
+    })
+}
+
+/// What is answered where they are put into the first entry of the narrow side.
+fn put_narrow(alloc: Global, tables: &mut Tables<i64>) -> &'static str {
+    match two::<i32>(alloc) {
+        Ok(parts) => named(tables.parts_narrow(0, parts)),
+        Err(_) => "no parts",
+    }
+}
+
+/// The same of the wide side.
+fn put_wide(alloc: Global, tables: &mut Tables<i64>) -> &'static str {
+    match two::<i64>(alloc) {
+        Ok(parts) => named(tables.parts_wide(0, parts)),
+        Err(_) => "no parts",
+    }
+}
+
+/// Whether they are put into the empty entry of either side, and not into a full one.
+fn puts(alloc: Global, tables: &mut Tables<i64>) -> bool {
+    let first = [put_narrow(alloc, tables), put_wide(alloc, tables)];
+    let again = [put_narrow(alloc, tables), put_wide(alloc, tables)];
+    let counts = [
+        narrow(alloc, tables, &Command::Len(0)),
+        wide(alloc, tables, &Command::Len(0)),
+    ];
+    (first == ["done", "done"]) & (again == ["not met", "not met"]) & (counts == ["two", "two"])
+}
+
+/// The same of new tables.
+fn puts_into_new(alloc: Global) -> Result<bool, Error> {
+    match Tables::new(alloc, 1) {
+        Ok(mut tables) => Ok(puts(alloc, &mut tables)),
+        Err(refused) => Err(Error::from(refused)),
+    }
+}
+
+#[test]
+fn parts_are_put_with_no_command(rt: HostRuntime) -> Result<(), Fail> {
+    told(puts_into_new(rt.alloc()))
 }
 
 #[test]
