@@ -1,4 +1,3 @@
-pub mod Copies
 pub mod FilledLemmas
 pub mod Makes
 pub mod Passes

@@ -1,6 +1,7 @@
 //! Builders that take another's slots: what comes of numbers, of bytes and of text, and where the other's items would end past the
 //! greatest offset, over a type of offsets that ends at 100.
 use crate::Tiny;
+use crate::overflow::{FORTY, FORTY_ONE, SIXTY};
 use crate::primitive::builds as stores;
 use crate::raw::{builds, own_builder};
 use arrow_binary::MutableBinaryArray;
@@ -233,12 +234,6 @@ fn only_the_slots_of_another_builder_come(rt: HostRuntime) {
     let are_bytes = both_join::<Binary>(rt.alloc(), PIECES);
     assert!(rt; are_bytes & both_join::<Utf8>(rt.alloc(), PIECES));
 }
-
-const FORTY: &[u8] = &[7; 40];
-
-const FORTY_ONE: &[u8] = &[7; 41];
-
-const SIXTY: &[u8] = &[7; 60];
 
 const SEVENTY: &[u8] = &[7; 70];
 

@@ -233,15 +233,15 @@ fn ends<K: Pushes>(
         && arrays::<K>(alloc, slots, items) == [wanted.0; 4]
 }
 
-const SIXTY: &[u8] = &[7; 60];
+pub(crate) const SIXTY: &[u8] = &[7; 60];
 
 const FIFTY: &[u8] = &[7; 50];
 
 const THIRTY_NINE: &[u8] = &[7; 39];
 
-const FORTY: &[u8] = &[7; 40];
+pub(crate) const FORTY: &[u8] = &[7; 40];
 
-const FORTY_ONE: &[u8] = &[7; 41];
+pub(crate) const FORTY_ONE: &[u8] = &[7; 41];
 
 const SIXTY_ONE: &[u8] = &[7; 61];
 
