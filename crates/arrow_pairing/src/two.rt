@@ -1,5 +1,5 @@
 //! Commands on two entries.
-ghost use Rattle.std.specs.Prelude.{◌≡◌, ◌↔◌, Some, IfErr, IfOk, IsTrue, map, option_map};
+ghost use Rattle.std.specs.Prelude.{◌≡◌, ◌↔◌, Some, IfErr, IfOk, IsTrue, map, option_copied, option_map};
 ghost use Rattle.arrow_column.specs.Column.{slots_of};
 ghost use Rattle.arrow_entry.specs.Answer.{told};
 ghost use Rattle.arrow_entry.specs.Entry.{boolean_value, native_value, piece_value, types, value_of};
@@ -95,9 +95,9 @@ fn joined<T: NativeType, O: Offset, K: Growing<T, O>>(kept: &mut K, other: &K) -
 /// Appends the rows of a builder of the same kind.
 fn extended<T: NativeType, O: Offset>(
     entry: &mut Option<Entry<T, O>>,
-    other: &Option<Entry<T, O>>,
+    other: Option<&Entry<T, O>>,
 ) -> Reply<T>
-    ensures { Joins_to (types T.zero T.PRIMITIVE O.most O.IS_LARGE) (option_map value_of other.now) (option_map value_of entry.old) (told result) (option_map value_of entry.new) }
+    ensures { Joins_to (types T.zero T.PRIMITIVE O.most O.IS_LARGE) (option_map value_of (option_copied other.entry)) (option_map value_of entry.old) (told result) (option_map value_of entry.new) }
 {
     match entry {
         Some(Entry::MutablePrimitive(kept)) => match other {
@@ -134,20 +134,6 @@ fn extended<T: NativeType, O: Offset>(
     }
 }
 
-/// The same of the builder that stands at a place of the table; past it nothing does.
-fn extended_with<T: NativeType, O: Offset>(
-    entry: &mut Option<Entry<T, O>>,
-    entries: &Vec<Option<Entry<T, O>>>,
-    f: usize,
-) -> Reply<T>
-    ensures { Joins_to (types T.zero T.PRIMITIVE O.most O.IS_LARGE) (entry_at (map (option_map value_of) entries.now.items) f) (option_map value_of entry.old) (told result) (option_map value_of entry.new) }
-{
-    if f >= entries.len() {
-        return extended(entry, &None);
-    }
-    extended(entry, &entries[f])
-}
-
 /// Appends to the builder in the entry of this number the rows of the one in another; past the table it is not met.
 pub fn extend_at<T: NativeType, O: Offset>(
     entries: &mut Vec<Option<Entry<T, O>>>,
@@ -160,7 +146,7 @@ pub fn extend_at<T: NativeType, O: Offset>(
         return Reply::NotMet;
     }
     let mut kept = entries[e].take();
-    let reply = extended_with(&mut kept, entries, f);
+    let reply = extended(&mut kept, held_at(entries, f));
     put(&mut entries[e], kept);
     reply
 }
@@ -197,9 +183,9 @@ fn same_pieces<T: NativeType, K: ByteKind, O: Offset>(
 /// Whether two builders with nulls of one kind have the same slots.
 fn compared<T: NativeType, O: Offset>(
     first: &Option<Entry<T, O>>,
-    second: &Option<Entry<T, O>>,
+    second: Option<&Entry<T, O>>,
 ) -> Reply<T>
-    ensures { Compares_to (types T.zero T.PRIMITIVE O.most O.IS_LARGE) (option_map value_of second.now) (option_map value_of first.now) (told result) (option_map value_of first.now) }
+    ensures { Compares_to (types T.zero T.PRIMITIVE O.most O.IS_LARGE) (option_map value_of (option_copied second.entry)) (option_map value_of first.now) (told result) (option_map value_of first.now) }
 {
     match first {
         Some(Entry::MutablePrimitive(first)) => match second {
@@ -226,20 +212,6 @@ fn compared<T: NativeType, O: Offset>(
     }
 }
 
-/// The same with what stands at a place of the table; past it nothing does.
-fn compared_with<T: NativeType, O: Offset>(
-    first: &Option<Entry<T, O>>,
-    entries: &Vec<Option<Entry<T, O>>>,
-    f: usize,
-) -> Reply<T>
-    ensures { Compares_to (types T.zero T.PRIMITIVE O.most O.IS_LARGE) (entry_at (map (option_map value_of) entries.now.items) f) (option_map value_of first.now) (told result) (option_map value_of first.now) }
-{
-    if f >= entries.len() {
-        return compared(first, &None);
-    }
-    compared(first, &entries[f])
-}
-
 /// Whether the builders with nulls in two entries are of one kind and have the same slots.
 pub fn equal<T: NativeType, O: Offset>(
     entries: &Vec<Option<Entry<T, O>>>,
@@ -251,5 +223,5 @@ pub fn equal<T: NativeType, O: Offset>(
     if e >= entries.len() {
         return Reply::NotMet;
     }
-    compared_with(&entries[e], entries, f)
+    compared(&entries[e], held_at(entries, f))
 }

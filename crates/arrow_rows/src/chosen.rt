@@ -1,5 +1,5 @@
 //! Commands that make an array of some rows of another, and put it into an empty entry.
-ghost use Rattle.std.specs.Prelude.{◌≡◌, None, Option, Some, map, option_map, MatchOption};
+ghost use Rattle.std.specs.Prelude.{◌≡◌, None, Option, map, option_copied, option_map};
 ghost use Rattle.arrow_entry.specs.Answer.{told};
 ghost use Rattle.arrow_entry.specs.Entry.{State, Value, value_of};
 ghost use Rattle.arrow_entry.specs.Outcome.{EntryBy, answer_of, entry_of};
@@ -70,7 +70,7 @@ pub fn held_at<T: NativeType, O: Offset>(
     entries: &Vec<Option<Entry<T, O>>>,
     e: usize,
 ) -> Option<&Entry<T, O>>
-    ensures { MatchOption result (entry_at (map (option_map value_of) entries.now.items) e ≡ None) (λ entry. entry_at (map (option_map value_of) entries.now.items) e ≡ Some (value_of entry.now)) }
+    ensures { entry_at (map (option_map value_of) entries.now.items) e ≡ option_map value_of (option_copied result) }
 {
     match entries.get(e)? {
         Some(entry) => Some(entry),

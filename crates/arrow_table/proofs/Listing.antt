@@ -1,5 +1,5 @@
 -- What an entry that is lent tells is what the command that lists slots answers.
-use Rattle.std.proofs.Common.{◌≡◌, ℕ, option_and_then, slice_get, slice_set, Option, Some, None, MatchOption, option_copied, option_map, Bor, refl, sym, arith}
+use Rattle.std.proofs.Common.{◌≡◌, ℕ, option_and_then, slice_get, slice_set, Option, Some, None, MatchOption, option_map, refl, sym, arith}
 use Rattle.arrow_entry.specs.declared.entry.Entry.{Entry}
 use Rattle.arrow_entry.specs.Answer.{Answer, not_met}
 use Rattle.arrow_entry.specs.Entry.{State, Types, Value, value_of}
@@ -26,9 +26,3 @@ module _ {T O : Type 0} (c : Types T) where
 
   pub tells : (state : State T) (e : ℕ) (held : Option (Entry T O)) → entry_at state e ≡ option_map value_of held → AtEntry state e (Does_to c any_kind all_slots) (listed held) state
   tells state e held is = at-found (slice_get state e) state e held refl is
-
--- what is lent is what stands there
-pub lent : {T O : Type 0} (state : State T) (e : ℕ) (held : Option (Bor (Entry T O))) → MatchOption held (entry_at state e ≡ None) (λ entry. entry_at state e ≡ Some (value_of entry.now))
-    → entry_at state e ≡ option_map value_of (option_copied held)
-lent state e None is = is
-lent state e (Some entry) is = is

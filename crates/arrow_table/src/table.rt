@@ -1,5 +1,5 @@
 //! A table, and the run of a list of commands on it.
-ghost use Rattle.std.specs.Prelude.{◌≡◌, ◌<◌, ◌≤◌, ◌∷◌, [], length, map, replicate, take, vec_capacity, vec_len, IfErr, IfOk, MatchOption, None, Some, option_copied, option_map};
+ghost use Rattle.std.specs.Prelude.{◌≡◌, ◌<◌, ◌≤◌, ◌∷◌, [], length, map, replicate, take, vec_capacity, vec_len, IfErr, IfOk, None, option_copied, option_map};
 ghost use Rattle.arrow_check.specs.Reading.{no_cost};
 ghost use Rattle.arrow_entry.specs.Answer.{told};
 ghost use Rattle.arrow_entry.specs.Entry.{table_of, types, value_of};
@@ -81,7 +81,7 @@ impl<T: NativeType, O: Offset> Table<T, O> {
     /// Its slots are what the command `Slots` tells, which copies them.
     #[inline(always)]
     pub fn get(&self, i: usize) -> Option<&Entry<T, O>>
-        ensures held { MatchOption result (entry_at self.now.entries i ≡ None) (λ entry. entry_at self.now.entries i ≡ Some (value_of entry.now)) }
+        ensures held { entry_at self.now.entries i ≡ option_map value_of (option_copied result) }
         ensures step { IsStep (types T.zero T.PRIMITIVE O.most O.IS_LARGE) self.now (at i all_slots) (listed (option_copied result)) self.now }
     {
         held_at(&self.entries, i)

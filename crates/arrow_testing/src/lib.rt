@@ -7,6 +7,7 @@ use arrow_memory::bitmap::{Bitmap, BitmapIter, MutableBitmap};
 use arrow_memory::offset::{Offsets, OffsetsBuffer};
 use arrow_types::error::Error;
 use arrow_types::offset::Offset;
+use either::{Either, Left, Right};
 use std::alloc::Global;
 use std::test::Fail;
 pub use tiny::Tiny;
@@ -70,7 +71,7 @@ pub fn is_made<B: Drop, F: FnOnce(&B) -> bool + Drop>(answer: Result<B, Error>, 
 }
 
 /// What a check says of a value.
-fn is_right<B: Drop, F: FnOnce(&mut B) -> bool>(value: B, check: F) -> bool
+fn is_checked<B: Drop, F: FnOnce(&mut B) -> bool>(value: B, check: F) -> bool
     requires { F.IsAlwaysCallable check }
 {
     let mut value = value;
@@ -82,8 +83,24 @@ pub fn passes<B: Drop, F: FnOnce(&mut B) -> bool + Drop>(answer: Result<B, Error
     requires { F.IsAlwaysCallable check }
 {
     match answer {
-        Ok(value) => is_right(value, check),
+        Ok(value) => is_checked(value, check),
         Err(_) => {
+            drop(check);
+            false
+        }
+    }
+}
+
+/// Whether the right of two values is there, and passes a check: of an array that was to be thawed, the builder.
+pub fn is_right<L: Drop, R: Drop, F: FnOnce(&mut R) -> bool + Drop>(
+    value: Either<L, R>,
+    check: F,
+) -> bool
+    requires { F.IsAlwaysCallable check }
+{
+    match value {
+        Right(value) => is_checked(value, check),
+        Left(_) => {
             drop(check);
             false
         }

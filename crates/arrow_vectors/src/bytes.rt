@@ -5,9 +5,8 @@ use crate::raw::{builds, own_array, own_builder, shows};
 use arrow_binary::{BinaryArray, MutableBinaryArray};
 use arrow_byte_array::ByteArray;
 use arrow_bytes::{Binary, ByteKind, Utf8};
-use arrow_testing::passes;
+use arrow_testing::{is_right, passes};
 use arrow_types::offset::Offset;
-use either::{Left, Right};
 use std::alloc::Global;
 
 /// Whether an array stores these items, in order.
@@ -93,10 +92,10 @@ type Pieces = (&'static [usize], &'static [u8], &'static str);
 
 /// Whether an array is thawed, and has these parts then: no byte is behind its last slot.
 fn is_thawed<K: ByteKind, O: Offset>(array: ByteArray<K, O>, builder: Pieces) -> bool {
-    match array.into_mut() {
-        Right(thawed) => builds(&thawed, builder.0, builder.1, builder.2),
-        Left(_) => false,
-    }
+    is_right(
+        array.into_mut(),
+        |thawed| builds(thawed, builder.0, builder.1, builder.2),
+    )
 }
 
 /// Whether the array of such parts is.

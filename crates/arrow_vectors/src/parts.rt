@@ -26,30 +26,39 @@ const TYPE: &str = "type";
 
 const MADE: &str = "made";
 
-/// What Arrow calls the types of a kind, and what is told of others.
-#[derive(Clone, Copy)]
-struct Words {
-    is_text: bool,
-    array: &'static str,
-    builder: &'static str,
+/// A kind whose types Arrow names, and what is told of others.
+trait TypeNames: ByteKind {
+    const IS_TEXT: bool;
+
+    const ARRAY: &'static str;
+
+    const BUILDER: &'static str;
 }
 
-const BYTES: Words = Words {
-    is_text: false,
-    array: "BinaryArray can only be initialized with DataType::Binary or DataType::LargeBinary",
-    builder: "MutableBinaryValuesArray can only be initialized with DataType::Binary or DataType::LargeBinary",
-};
+impl TypeNames for Binary {
+    const IS_TEXT: bool = false;
 
-const TEXT: Words = Words {
-    is_text: true,
-    array: "Utf8Array can only be initialized with DataType::Utf8 or DataType::LargeUtf8",
-    builder: "MutableUtf8ValuesArray can only be initialized with DataType::Utf8 or DataType::LargeUtf8",
-};
+    const ARRAY: &'static str =
+        "BinaryArray can only be initialized with DataType::Binary or DataType::LargeBinary";
 
-/// The type of a kind that a word stands for, over large offsets or others: `own`, `width` for that over the other
-/// offsets, or that of the other kind.
-fn named(words: Words, word: &str, is_large: bool) -> DataType {
-    let is_text = words.is_text == (word != "kind");
+    const BUILDER: &'static str =
+        "MutableBinaryValuesArray can only be initialized with DataType::Binary or DataType::LargeBinary";
+}
+
+impl TypeNames for Utf8 {
+    const IS_TEXT: bool = true;
+
+    const ARRAY: &'static str =
+        "Utf8Array can only be initialized with DataType::Utf8 or DataType::LargeUtf8";
+
+    const BUILDER: &'static str =
+        "MutableUtf8ValuesArray can only be initialized with DataType::Utf8 or DataType::LargeUtf8";
+}
+
+/// The type of a kind, text or bytes, that a word stands for, over large offsets or others: `own`, `width` for that over the
+/// other offsets, or that of the other kind.
+fn named(is_text: bool, word: &str, is_large: bool) -> DataType {
+    let is_text = is_text == (word != "kind");
     match (is_text, is_large == (word != "width")) {
         (false, false) => DataType::Binary,
         (false, true) => DataType::LargeBinary,
@@ -67,70 +76,65 @@ type Case = (
     &'static str,
 );
 
-/// Whether this is told of the parts of an array.
-fn is_array<K: ByteKind, O: Offset>(alloc: Global, words: Words, case: Case) -> bool {
-    let (word, offsets, bytes, mask, answer) = case;
-    let data_type = named(words, word, O::IS_LARGE);
-    let told = tells(array_of::<K, O>(alloc, data_type, offsets, bytes, mask));
-    told == if answer == TYPE { words.array } else { answer }
+/// What is told of the parts of an array.
+fn told<K: TypeNames, O: Offset>(alloc: Global, case: &Case) -> &'static str {
+    let data_type = named(K::IS_TEXT, case.0, O::IS_LARGE);
+    tells(array_of::<K, O>(alloc, data_type, case.1, case.2, case.3))
 }
 
-/// Whether this is told of the parts of a builder.
-fn is_builder<K: ByteKind, O: Offset>(alloc: Global, words: Words, case: Case) -> bool {
-    let (word, offsets, bytes, mask, answer) = case;
-    let data_type = named(words, word, O::IS_LARGE);
-    let told = tells(builder_of::<K, O>(alloc, data_type, offsets, bytes, mask));
-    told == if answer == TYPE {
-        words.builder
-    } else {
-        answer
-    }
+/// What is told of those of a builder.
+fn builder_told<K: TypeNames, O: Offset>(alloc: Global, case: &Case) -> &'static str {
+    let data_type = named(K::IS_TEXT, case.0, O::IS_LARGE);
+    tells(builder_of::<K, O>(alloc, data_type, case.1, case.2, case.3))
 }
 
-/// Whether this is told of the parts of a builder without nulls, which has no mask.
-fn is_values<K: ByteKind, O: Offset>(alloc: Global, words: Words, case: Case) -> bool {
-    let (word, offsets, bytes, _, answer) = case;
-    let data_type = named(words, word, O::IS_LARGE);
-    let told = tells(values_of::<K, O>(alloc, data_type, offsets, bytes));
-    let wanted = match answer {
-        TYPE => words.builder,
+/// What is told of those of a builder without nulls, which has no mask.
+fn values_told<K: TypeNames, O: Offset>(alloc: Global, case: &Case) -> &'static str {
+    let data_type = named(K::IS_TEXT, case.0, O::IS_LARGE);
+    tells(values_of::<K, O>(alloc, data_type, case.1, case.2))
+}
+
+/// Whether this is told of arrays over each width of offsets, and over a narrow one.
+fn are_arrays<K: TypeNames>(alloc: Global, case: &Case) -> bool {
+    let answer = if case.4 == TYPE { K::ARRAY } else { case.4 };
+    let narrow = told::<K, i32>(alloc, case) == answer;
+    narrow & (told::<K, i64>(alloc, case) == answer) & (told::<K, Tiny>(alloc, case) == answer)
+}
+
+/// Whether it is of builders over each of them.
+fn are_builders<K: TypeNames>(alloc: Global, case: &Case) -> bool {
+    let answer = if case.4 == TYPE { K::BUILDER } else { case.4 };
+    let narrow = builder_told::<K, i32>(alloc, case) == answer;
+    let wide = builder_told::<K, i64>(alloc, case) == answer;
+    narrow & wide & (builder_told::<K, Tiny>(alloc, case) == answer)
+}
+
+/// Whether it is of builders without nulls over each of them, of which no mask is told.
+fn are_values<K: TypeNames>(alloc: Global, case: &Case) -> bool {
+    let answer = match case.4 {
+        TYPE => K::BUILDER,
         BUILDER_MASK => MADE,
-        _ => answer,
+        other => other,
     };
-    told == wanted
-}
-
-/// Whether it is over each width of offsets, and over a narrow one.
-fn are_arrays<K: ByteKind>(alloc: Global, words: Words, case: Case) -> bool {
-    is_array::<K, i32>(alloc, words, case)
-        && is_array::<K, i64>(alloc, words, case)
-        && is_array::<K, Tiny>(alloc, words, case)
-}
-
-/// Whether it is of both builders, over each width of offsets, and over a narrow one.
-fn are_builders<K: ByteKind>(alloc: Global, words: Words, case: Case) -> bool {
-    is_builder::<K, i32>(alloc, words, case)
-        && is_builder::<K, i64>(alloc, words, case)
-        && is_builder::<K, Tiny>(alloc, words, case)
-        && is_values::<K, i32>(alloc, words, case)
-        && is_values::<K, i64>(alloc, words, case)
-        && is_values::<K, Tiny>(alloc, words, case)
+    let narrow = values_told::<K, i32>(alloc, case) == answer;
+    let wide = values_told::<K, i64>(alloc, case) == answer;
+    narrow & wide & (values_told::<K, Tiny>(alloc, case) == answer)
 }
 
 /// Whether all of this is told of arrays.
-fn are_arrays_told<K: ByteKind>(alloc: Global, words: Words, cases: &[Case]) -> bool {
+fn are_arrays_told<K: TypeNames>(alloc: Global, cases: &[Case]) -> bool {
     for case in cases {
-        if !are_arrays::<K>(alloc, words, *case) {
+        if !are_arrays::<K>(alloc, case) {
             return false;
         }
     }
     true
 }
 
-/// Whether all of this is told of builders.
-fn are_builders_told<K: ByteKind>(alloc: Global, words: Words, cases: &[Case]) -> bool {
+/// Whether all of this is told of both builders.
+fn are_builders_told<K: TypeNames>(alloc: Global, cases: &[Case]) -> bool {
     for case in cases {
-        if !are_builders::<K>(alloc, words, *case) {
+        if !(are_builders::<K>(alloc, case) & are_values::<K>(alloc, case)) {
             return false;
         }
     }
@@ -158,8 +162,8 @@ const ARRAYS: &[Case] = &[
 
 #[test]
 fn arrays_are_refused_by_their_first_fault(rt: HostRuntime) {
-    let are_bytes = are_arrays_told::<Binary>(rt.alloc(), BYTES, ARRAYS);
-    assert!(rt; are_bytes & are_arrays_told::<Utf8>(rt.alloc(), TEXT, ARRAYS));
+    let are_bytes = are_arrays_told::<Binary>(rt.alloc(), ARRAYS);
+    assert!(rt; are_bytes & are_arrays_told::<Utf8>(rt.alloc(), ARRAYS));
 }
 
 /// What is told of builders of either kind: the last offset is not the number of bytes; or else the type is another; or
@@ -182,8 +186,8 @@ const BUILDERS: &[Case] = &[
 
 #[test]
 fn builders_are_refused_by_their_first_fault(rt: HostRuntime) {
-    let are_bytes = are_builders_told::<Binary>(rt.alloc(), BYTES, BUILDERS);
-    assert!(rt; are_bytes & are_builders_told::<Utf8>(rt.alloc(), TEXT, BUILDERS));
+    let are_bytes = are_builders_told::<Binary>(rt.alloc(), BUILDERS);
+    assert!(rt; are_bytes & are_builders_told::<Utf8>(rt.alloc(), BUILDERS));
 }
 
 /// What is told of arrays of text beside that: behind the bytes' end, and before the mask, that a slot is no text.
@@ -204,7 +208,7 @@ const TEXT_ARRAYS: &[Case] = &[
 
 #[test]
 fn arrays_of_text_are_refused_by_their_first_fault(rt: HostRuntime) {
-    assert!(rt; are_arrays_told::<Utf8>(rt.alloc(), TEXT, TEXT_ARRAYS));
+    assert!(rt; are_arrays_told::<Utf8>(rt.alloc(), TEXT_ARRAYS));
 }
 
 /// What is told of builders of text beside that: behind the bytes' end, and before the type, that a slot is no text.
@@ -225,7 +229,7 @@ const TEXT_BUILDERS: &[Case] = &[
 
 #[test]
 fn builders_of_text_are_refused_by_their_first_fault(rt: HostRuntime) {
-    assert!(rt; are_builders_told::<Utf8>(rt.alloc(), TEXT, TEXT_BUILDERS));
+    assert!(rt; are_builders_told::<Utf8>(rt.alloc(), TEXT_BUILDERS));
 }
 
 /// An extension around a type.

@@ -2,10 +2,9 @@
 use crate::Tiny;
 use crate::raw::{builds, own_array, own_builder, shows};
 use arrow_bytes::Utf8;
-use arrow_testing::is_made;
+use arrow_testing::{is_made, is_right};
 use arrow_types::offset::Offset;
 use arrow_utf8::{MutableUtf8Array, Utf8Array};
-use either::{Left, Right};
 use std::alloc::Global;
 
 /// Whether an array stores these texts, in order.
@@ -93,10 +92,7 @@ fn grows<O: Offset>(builder: &mut MutableUtf8Array<O>) -> bool {
 
 /// Whether it does behind that of a thawed array.
 fn is_grown<O: Offset>(array: Utf8Array<O>) -> bool {
-    match array.into_mut() {
-        Right(mut builder) => grows(&mut builder),
-        Left(_) => false,
-    }
+    is_right(array.into_mut(), grows::<O>)
 }
 
 /// Whether it does where other bytes were.

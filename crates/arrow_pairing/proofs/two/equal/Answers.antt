@@ -11,5 +11,5 @@ returns g c =
     let e = c.args.e in
     let within : e < length entries = omega arith in
     stays-row (option_map value_of) (Compares_to (types g.T.NativeType.zero g.T.NativeType.PRIMITIVE g.O.Offset.most g.O.Offset.IS_LARGE) (entry_at (map (option_map value_of) entries) c.args.f))
-    entries e c.index.result.now (told c.compared_with.result)
-    (got entries e c.index.result.now c.index.result.now within c.index.ensures) c.compared_with.ensures
+    entries e c.index.result.now (told c.compared.result)
+    (got entries e c.index.result.now c.index.result.now within c.index.ensures) (rw c.held_at.ensures c.compared.ensures)
