@@ -9,7 +9,7 @@ use Rattle.arrow_entry.specs.Entry.{Held}
 use Rattle.arrow_entry.specs.Request.{Request}
 use Rattle.arrow_entry.specs.Run.{Runs}
 use Rattle.arrow_lines.specs.declared.answering.Answering.{Answering}
-use Rattle.arrow_lines.specs.Lines.{Line, request_among, asked_in, is_bad}
+use Rattle.arrow_lines.specs.Lines.{Line, request_among, request_behind, asked_in, is_bad}
 use Rattle.arrow_words.specs.Text.{text_of}
 
 -- the tables that the program begins with
@@ -40,6 +40,10 @@ AnswersAsked given old new good = (is_some given ≡ good) × (IsTrue good → A
 -- the same of what words behind a name ask of one table, among these lines
 abbrev pub AnswersNamed : (Request ℤ → BothRequest ℤ) → List Line → List ℕ → List (List ℕ) → Answering → Answering → Bool → Type 0
 AnswersNamed side rows name words = AnswersAsked (option_map side (request_among rows name words))
+
+-- the same of words behind a name and a number
+abbrev pub AnswersBehind : (Request ℤ → BothRequest ℤ) → List Line → List ℕ → ℕ → List (List ℕ) → Answering → Answering → Bool → Type 0
+AnswersBehind side rows name number words = AnswersAsked (option_map side (request_behind rows name number words))
 
 -- what a line comes to that is good, or is not: it is passed over, or its command was run and answered
 abbrev pub AnswersLine : List ℕ → Answering → Answering → Bool → Type 0

@@ -7,12 +7,13 @@ use Rattle.arrow_entry.specs.Kind.{Shape, Sort, shape}
 use Rattle.arrow_entry.specs.Request as ask
 use Rattle.arrow_entry.specs.Request.{Request, make, at, clone_from, extend_from, equal, filter_from, take_from, check_indexes}
 use Rattle.arrow_words.specs.Fields.{kind_of, type_of, item_of, slot_of, mask_of, packed_mask_in, turn_of, change_in, raw_in}
-use Rattle.arrow_words.specs.Readers.{Reader, beside, only, each, ◌▸◌, next, reads}
+use Rattle.arrow_words.specs.Readers.{Reader, beside, zero, only, each, ◌▸◌, next, reads}
 use Rattle.arrow_words.specs.Words.{line_feed, lines_of, space, words_of, is_passed_over, is_printable, number_of, integer_of, offset_of}
 
--- a line of the program: its name, and what the words behind the name ask
+-- a line of the program: its name, and what the words ask behind the name and a number, with which all lines go on: most often
+-- that of an entry
 abbrev pub Line : Type 0
-Line = List ℕ × Reader (Request ℤ)
+Line = List ℕ × (ℕ → Reader (Request ℤ))
 
 -- the end of a line about raw parts: their type, their mask, and their values by the sort of the kind; an offset is a word
 -- that its width has
@@ -22,68 +23,68 @@ parts_of offset e s sort = reads (type_of ▸ packed_mask_in ▸ raw_in offset s
 -- lines that make a value in an empty entry, over offsets of some width
 unfoldable pub making : Types ℤ → (List ℕ → Option ℤ) → List Line
 making c offset =
-    (codes "new", reads (number_of ▸ only kind_of) (λ (e, kind). make e (shape kind) ask.nothing))
-    ∷ (codes "null", reads (number_of ▸ kind_of ▸ only number_of) (λ (e, (kind, n)). make e (shape kind) (ask.nulls (default_type c (shape kind).sort) n)))
-    ∷ (codes "parts", next number_of (λ e. next kind_of (λ kind. parts_of offset e (shape kind) (shape kind).sort)))
-    ∷ (codes "slots", reads (number_of ▸ kind_of ▸ each slot_of) (λ (e, (kind, slots)). make e (shape kind) (ask.slots slots)))
-    ∷ (codes "items", reads (number_of ▸ kind_of ▸ each item_of) (λ (e, (kind, items)). make e (shape kind) (ask.items items)))
+    (codes "new", λ e. reads (only kind_of) (λ kind. make e (shape kind) ask.nothing))
+    ∷ (codes "null", λ e. reads (kind_of ▸ only number_of) (λ (kind, n). make e (shape kind) (ask.nulls (default_type c (shape kind).sort) n)))
+    ∷ (codes "parts", λ e. next kind_of (λ kind. parts_of offset e (shape kind) (shape kind).sort))
+    ∷ (codes "slots", λ e. reads (kind_of ▸ each slot_of) (λ (kind, slots). make e (shape kind) (ask.slots slots)))
+    ∷ (codes "items", λ e. reads (kind_of ▸ each item_of) (λ (kind, items). make e (shape kind) (ask.items items)))
     ∷ []
 
 -- lines that tell of one
 unfoldable pub telling : List Line
 telling =
-    (codes "len", reads (only number_of) (λ e. at e ask.len))
-    ∷ (codes "value", reads (number_of ▸ only number_of) (λ (e, i). at e (ask.value i)))
-    ∷ (codes "get", reads (number_of ▸ only number_of) (λ (e, i). at e (ask.get i)))
-    ∷ (codes "isnull", reads (number_of ▸ only number_of) (λ (e, i). at e (ask.is_null i)))
-    ∷ (codes "nulls", reads (only number_of) (λ e. at e ask.null_count))
-    ∷ (codes "list", reads (only number_of) (λ e. at e ask.all_slots))
-    ∷ (codes "turns", reads (number_of ▸ each turn_of) (λ (e, turns). at e (ask.turns turns)))
-    ∷ (codes "type", reads (only number_of) (λ e. at e ask.type_of))
-    ∷ (codes "held", reads (only number_of) (λ e. at e ask.held))
-    ∷ (codes "bytes", reads (only number_of) (λ e. at e ask.bytes))
-    ∷ (codes "offsets", reads (only number_of) (λ e. at e ask.offsets))
+    (codes "len", λ e. zero (at e ask.len))
+    ∷ (codes "value", λ e. reads (only number_of) (λ i. at e (ask.value i)))
+    ∷ (codes "get", λ e. reads (only number_of) (λ i. at e (ask.get i)))
+    ∷ (codes "isnull", λ e. reads (only number_of) (λ i. at e (ask.is_null i)))
+    ∷ (codes "nulls", λ e. zero (at e ask.null_count))
+    ∷ (codes "list", λ e. zero (at e ask.all_slots))
+    ∷ (codes "turns", λ e. reads (each turn_of) (λ turns. at e (ask.turns turns)))
+    ∷ (codes "type", λ e. zero (at e ask.type_of))
+    ∷ (codes "held", λ e. zero (at e ask.held))
+    ∷ (codes "bytes", λ e. zero (at e ask.bytes))
+    ∷ (codes "offsets", λ e. zero (at e ask.offsets))
     ∷ []
 
 -- lines that cut, copy and change one
 unfoldable pub changing : List Line
 changing =
-    (codes "slice", reads (number_of ▸ number_of ▸ only number_of) (λ (e, (a, n)). at e (ask.slice a n)))
-    ∷ (codes "clone", reads (number_of ▸ only number_of) (λ (e, f). clone_from f e))
-    ∷ (codes "drop", reads (only number_of) (λ e. at e ask.empty))
-    ∷ (codes "mask", reads (number_of ▸ only mask_of) (λ (e, mask). at e (ask.set_mask mask)))
-    ∷ (codes "applymask", reads (number_of ▸ change_in) (λ (e, change). at e (ask.apply_mask change)))
-    ∷ (codes "values", reads (number_of ▸ each item_of) (λ (e, items). at e (ask.set_values items)))
-    ∷ (codes "applyvalues", reads (number_of ▸ change_in) (λ (e, change). at e (ask.apply_values change)))
-    ∷ (codes "set", reads (number_of ▸ number_of ▸ only slot_of) (λ (e, (i, slot)). at e (ask.set i slot)))
-    ∷ (codes "write", reads (number_of ▸ number_of ▸ only item_of) (λ (e, (i, item)). at e (ask.write i item)))
+    (codes "slice", λ e. reads (number_of ▸ only number_of) (λ (a, n). at e (ask.slice a n)))
+    ∷ (codes "clone", λ e. reads (only number_of) (λ f. clone_from f e))
+    ∷ (codes "drop", λ e. zero (at e ask.empty))
+    ∷ (codes "mask", λ e. reads (only mask_of) (λ mask. at e (ask.set_mask mask)))
+    ∷ (codes "applymask", λ e. reads change_in (λ change. at e (ask.apply_mask change)))
+    ∷ (codes "values", λ e. reads (each item_of) (λ items. at e (ask.set_values items)))
+    ∷ (codes "applyvalues", λ e. reads change_in (λ change. at e (ask.apply_values change)))
+    ∷ (codes "set", λ e. reads (number_of ▸ only slot_of) (λ (i, slot). at e (ask.set i slot)))
+    ∷ (codes "write", λ e. reads (number_of ▸ only item_of) (λ (i, item). at e (ask.write i item)))
     ∷ []
 
 -- lines that make one grow, or less
 unfoldable pub growing : List Line
 growing =
-    (codes "push", reads (number_of ▸ only slot_of) (λ (e, slot). at e (ask.push slot)))
-    ∷ (codes "pushnull", reads (only number_of) (λ e. at e ask.push_null))
-    ∷ (codes "pop", reads (only number_of) (λ e. at e ask.pop))
-    ∷ (codes "extend", reads (number_of ▸ each slot_of) (λ (e, slots). at e (ask.extend slots)))
-    ∷ (codes "extendvalues", reads (number_of ▸ each item_of) (λ (e, items). at e (ask.extend_values items)))
-    ∷ (codes "constant", reads (number_of ▸ number_of ▸ only slot_of) (λ (e, (n, slot)). at e (ask.extend_constant n slot)))
-    ∷ (codes "self", reads (number_of ▸ only number_of) (λ (e, f). extend_from e f))
-    ∷ (codes "reserve", reads (number_of ▸ number_of ▸ only number_of) (λ (e, (n, b)). at e ask.reserve))
-    ∷ (codes "shrink", reads (only number_of) (λ e. at e ask.shrink))
+    (codes "push", λ e. reads (only slot_of) (λ slot. at e (ask.push slot)))
+    ∷ (codes "pushnull", λ e. zero (at e ask.push_null))
+    ∷ (codes "pop", λ e. zero (at e ask.pop))
+    ∷ (codes "extend", λ e. reads (each slot_of) (λ slots. at e (ask.extend slots)))
+    ∷ (codes "extendvalues", λ e. reads (each item_of) (λ items. at e (ask.extend_values items)))
+    ∷ (codes "constant", λ e. reads (number_of ▸ only slot_of) (λ (n, slot). at e (ask.extend_constant n slot)))
+    ∷ (codes "self", λ e. reads (only number_of) (λ f. extend_from e f))
+    ∷ (codes "reserve", λ e. reads (number_of ▸ only number_of) (λ (n, b). at e ask.reserve))
+    ∷ (codes "shrink", λ e. zero (at e ask.shrink))
     ∷ []
 
 -- lines that turn one into another, and lines about two, about three, and about none
 unfoldable pub turning : List Line
 turning =
-    (codes "freeze", reads (only number_of) (λ e. at e ask.freeze))
-    ∷ (codes "thaw", reads (only number_of) (λ e. at e ask.thaw))
-    ∷ (codes "nullable", reads (only number_of) (λ e. at e ask.nullable))
-    ∷ (codes "to", reads (number_of ▸ only type_of) (λ (e, t). at e (ask.to t)))
-    ∷ (codes "equal", reads (number_of ▸ only number_of) (λ (e, f). equal e f))
-    ∷ (codes "filter", reads (number_of ▸ number_of ▸ only number_of) (λ (e, (f, g)). filter_from g e f))
-    ∷ (codes "take", reads (number_of ▸ number_of ▸ each integer_of) (λ (e, (g, keys)). take_from g e keys))
-    ∷ (codes "indexes", reads (number_of ▸ each integer_of) (λ (n, keys). check_indexes keys n))
+    (codes "freeze", λ e. zero (at e ask.freeze))
+    ∷ (codes "thaw", λ e. zero (at e ask.thaw))
+    ∷ (codes "nullable", λ e. zero (at e ask.nullable))
+    ∷ (codes "to", λ e. reads (only type_of) (λ t. at e (ask.to t)))
+    ∷ (codes "equal", λ e. reads (only number_of) (λ f. equal e f))
+    ∷ (codes "filter", λ e. reads (number_of ▸ only number_of) (λ (f, g). filter_from g e f))
+    ∷ (codes "take", λ e. reads (number_of ▸ each integer_of) (λ (g, keys). take_from g e keys))
+    ∷ (codes "indexes", λ n. reads (each integer_of) (λ keys. check_indexes keys n))
     ∷ []
 
 -- all lines of one table; the native values are integers of 64 bits
@@ -101,9 +102,13 @@ wide_lines = lines (wide_types (pos 0) Int64) integer_of
 abbrev pub of_length : (ℕ → Bool) → List Line → List Line
 of_length p = filter (λ row. p (length row.0))
 
--- what words behind a name ask, where one of these lines has the name
+-- what words ask behind a name and a number, where one of these lines has the name
+unfoldable pub request_behind : List Line → List ℕ → ℕ → Reader (Request ℤ)
+request_behind rows name number words = option_and_then (λ reader. reader number words) (beside rows name)
+
+-- what words behind a name ask
 unfoldable pub request_among : List Line → List ℕ → Reader (Request ℤ)
-request_among rows name words = option_and_then (λ reader. reader words) (beside rows name)
+request_among rows name = next number_of (request_behind rows name)
 
 -- what words ask that begin with the name of one of these lines
 unfoldable pub request_of : List Line → Reader (Request ℤ)

@@ -1,9 +1,9 @@
 //! The lines that make a builder grow, or less.
-#![tactic(auto, unfolding(crate::specs::Lines::growing, crate::specs::Lines::request_among))]
+#![tactic(auto, unfolding(crate::specs::Lines::growing, crate::specs::Lines::request_behind))]
 
 ghost use Rattle.std.specs.Prelude.{codes, option_map, IfOk};
 ghost use Rattle.arrow_entry.specs.Request.{at, push};
-ghost use Rattle.arrow_lines.specs.Answered.{AnswersAsked, AnswersNamed};
+ghost use Rattle.arrow_lines.specs.Answered.{AnswersAsked, AnswersBehind};
 ghost use Rattle.arrow_lines.specs.Lines.{growing};
 ghost use Rattle.arrow_words.specs.Fields.{slot_of};
 ghost use Rattle.arrow_words.specs.Words.{words_of};
@@ -11,7 +11,7 @@ ghost use Rattle.arrow_words.specs.Words.{words_of};
 use crate::answering::Answering;
 use crate::commands::{Answered, Width, answer};
 use arrow_table::{Command, Item};
-use arrow_words::readers::{Only, Word, Words, next};
+use arrow_words::readers::{Only, Word, Words};
 use arrow_words::words::{is, next_word};
 use std::alloc::{AllocError, Global};
 
@@ -39,12 +39,14 @@ fn push_word<O: Width>(
 }
 
 /// `push E SLOT`. Its words are read one by one, so that no slot is moved.
-pub(crate) fn run_push<O: Width>(alloc: Global, answering: &mut Answering, words: &[u8]) -> Answered
-    ensures { IfOk result (AnswersNamed O.side growing (codes "push") (words_of words.now) answering.old answering.new) }
+pub(crate) fn run_push<O: Width>(
+    alloc: Global,
+    answering: &mut Answering,
+    entry: usize,
+    words: &[u8],
+) -> Answered
+    ensures { IfOk result (AnswersBehind O.side growing (codes "push") entry (words_of words.now) answering.old answering.new) }
 {
-    let Some((entry, words)) = next::<usize>(alloc, words)? else {
-        return Ok(false);
-    };
     let Some((word, rest)) = next_word(words) else {
         return Ok(false);
     };
@@ -56,38 +58,39 @@ pub(crate) fn run_push<O: Width>(alloc: Global, answering: &mut Answering, words
 
 /// `pushnull E`
 pub(crate) fn run_push_null<O: Width>(
-    alloc: Global,
     answering: &mut Answering,
+    entry: usize,
     words: &[u8],
 ) -> Answered
-    ensures { IfOk result (AnswersNamed O.side growing (codes "pushnull") (words_of words.now) answering.old answering.new) }
+    ensures { IfOk result (AnswersBehind O.side growing (codes "pushnull") entry (words_of words.now) answering.old answering.new) }
 {
-    match <Only<usize>>::of_words(alloc, words)? {
-        Some(Only(entry)) => answer::<O>(answering, Command::PushNull(entry)),
-        None => Ok(false),
+    if next_word(words).is_some() {
+        return Ok(false);
     }
+    answer::<O>(answering, Command::PushNull(entry))
 }
 
 /// `pop E`
-pub(crate) fn run_pop<O: Width>(alloc: Global, answering: &mut Answering, words: &[u8]) -> Answered
-    ensures { IfOk result (AnswersNamed O.side growing (codes "pop") (words_of words.now) answering.old answering.new) }
+pub(crate) fn run_pop<O: Width>(answering: &mut Answering, entry: usize, words: &[u8]) -> Answered
+    ensures { IfOk result (AnswersBehind O.side growing (codes "pop") entry (words_of words.now) answering.old answering.new) }
 {
-    match <Only<usize>>::of_words(alloc, words)? {
-        Some(Only(entry)) => answer::<O>(answering, Command::Pop(entry)),
-        None => Ok(false),
+    if next_word(words).is_some() {
+        return Ok(false);
     }
+    answer::<O>(answering, Command::Pop(entry))
 }
 
 /// `extend E SLOT*`
 pub(crate) fn run_extend<O: Width>(
     alloc: Global,
     answering: &mut Answering,
+    entry: usize,
     words: &[u8],
 ) -> Answered
-    ensures { IfOk result (AnswersNamed O.side growing (codes "extend") (words_of words.now) answering.old answering.new) }
+    ensures { IfOk result (AnswersBehind O.side growing (codes "extend") entry (words_of words.now) answering.old answering.new) }
 {
-    match <(usize, Vec<Option<Item<i64>>>)>::of_words(alloc, words)? {
-        Some((entry, slots)) => answer::<O>(answering, Command::Extend(entry, slots)),
+    match <Vec<Option<Item<i64>>>>::of_words(alloc, words)? {
+        Some(slots) => answer::<O>(answering, Command::Extend(entry, slots)),
         None => Ok(false),
     }
 }
@@ -96,12 +99,13 @@ pub(crate) fn run_extend<O: Width>(
 pub(crate) fn run_extend_values<O: Width>(
     alloc: Global,
     answering: &mut Answering,
+    entry: usize,
     words: &[u8],
 ) -> Answered
-    ensures { IfOk result (AnswersNamed O.side growing (codes "extendvalues") (words_of words.now) answering.old answering.new) }
+    ensures { IfOk result (AnswersBehind O.side growing (codes "extendvalues") entry (words_of words.now) answering.old answering.new) }
 {
-    match <(usize, Vec<Item<i64>>)>::of_words(alloc, words)? {
-        Some((entry, items)) => answer::<O>(answering, Command::ExtendValues(entry, items)),
+    match <Vec<Item<i64>>>::of_words(alloc, words)? {
+        Some(items) => answer::<O>(answering, Command::ExtendValues(entry, items)),
         None => Ok(false),
     }
 }
@@ -110,12 +114,13 @@ pub(crate) fn run_extend_values<O: Width>(
 pub(crate) fn run_constant<O: Width>(
     alloc: Global,
     answering: &mut Answering,
+    entry: usize,
     words: &[u8],
 ) -> Answered
-    ensures { IfOk result (AnswersNamed O.side growing (codes "constant") (words_of words.now) answering.old answering.new) }
+    ensures { IfOk result (AnswersBehind O.side growing (codes "constant") entry (words_of words.now) answering.old answering.new) }
 {
-    match <(usize, (usize, Only<Option<Item<i64>>>))>::of_words(alloc, words)? {
-        Some((entry, (count, Only(slot)))) => answer::<O>(
+    match <(usize, Only<Option<Item<i64>>>)>::of_words(alloc, words)? {
+        Some((count, Only(slot))) => answer::<O>(
             answering,
             Command::ExtendConstant(entry, count, slot),
         ),
@@ -124,11 +129,16 @@ pub(crate) fn run_constant<O: Width>(
 }
 
 /// `self E F`
-pub(crate) fn run_self<O: Width>(alloc: Global, answering: &mut Answering, words: &[u8]) -> Answered
-    ensures { IfOk result (AnswersNamed O.side growing (codes "self") (words_of words.now) answering.old answering.new) }
+pub(crate) fn run_self<O: Width>(
+    alloc: Global,
+    answering: &mut Answering,
+    entry: usize,
+    words: &[u8],
+) -> Answered
+    ensures { IfOk result (AnswersBehind O.side growing (codes "self") entry (words_of words.now) answering.old answering.new) }
 {
-    match <(usize, Only<usize>)>::of_words(alloc, words)? {
-        Some((entry, Only(other))) => answer::<O>(answering, Command::ExtendFromSelf(entry, other)),
+    match <Only<usize>>::of_words(alloc, words)? {
+        Some(Only(other)) => answer::<O>(answering, Command::ExtendFromSelf(entry, other)),
         None => Ok(false),
     }
 }
@@ -137,29 +147,27 @@ pub(crate) fn run_self<O: Width>(alloc: Global, answering: &mut Answering, words
 pub(crate) fn run_reserve<O: Width>(
     alloc: Global,
     answering: &mut Answering,
+    entry: usize,
     words: &[u8],
 ) -> Answered
-    ensures { IfOk result (AnswersNamed O.side growing (codes "reserve") (words_of words.now) answering.old answering.new) }
+    ensures { IfOk result (AnswersBehind O.side growing (codes "reserve") entry (words_of words.now) answering.old answering.new) }
 {
-    match <(usize, (usize, Only<usize>))>::of_words(alloc, words)? {
-        Some((entry, (count, Only(bytes)))) => answer::<O>(
-            answering,
-            Command::Reserve(entry, count, bytes),
-        ),
+    match <(usize, Only<usize>)>::of_words(alloc, words)? {
+        Some((count, Only(bytes))) => answer::<O>(answering, Command::Reserve(entry, count, bytes)),
         None => Ok(false),
     }
 }
 
 /// `shrink E`
 pub(crate) fn run_shrink<O: Width>(
-    alloc: Global,
     answering: &mut Answering,
+    entry: usize,
     words: &[u8],
 ) -> Answered
-    ensures { IfOk result (AnswersNamed O.side growing (codes "shrink") (words_of words.now) answering.old answering.new) }
+    ensures { IfOk result (AnswersBehind O.side growing (codes "shrink") entry (words_of words.now) answering.old answering.new) }
 {
-    match <Only<usize>>::of_words(alloc, words)? {
-        Some(Only(entry)) => answer::<O>(answering, Command::Shrink(entry)),
-        None => Ok(false),
+    if next_word(words).is_some() {
+        return Ok(false);
     }
+    answer::<O>(answering, Command::Shrink(entry))
 }

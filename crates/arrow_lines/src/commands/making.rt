@@ -1,12 +1,12 @@
 //! The lines that make a value in an empty entry.
-#![tactic(auto, unfolding(crate::specs::Lines::making, crate::specs::Lines::request_among))]
+#![tactic(auto, unfolding(crate::specs::Lines::making, crate::specs::Lines::request_behind))]
 
 ghost use Rattle.std.specs.Prelude.{◌≡◌, codes, false, option_map, pos, IfOk};
 ghost use Rattle.arrow_types.specs.Types.{logical_type};
 ghost use Rattle.arrow_types.specs.declared.primitive_type.PrimitiveType.TheVariants.{Int64};
 ghost use Rattle.arrow_entry.specs.Entry.{default_type, types};
 ghost use Rattle.arrow_entry.specs.Kind.{native, boolean, pieces, shape};
-ghost use Rattle.arrow_lines.specs.Answered.{AnswersAsked, AnswersNamed};
+ghost use Rattle.arrow_lines.specs.Answered.{AnswersAsked, AnswersBehind};
 ghost use Rattle.arrow_lines.specs.Lines.{making, parts_of};
 ghost use Rattle.arrow_words.specs.Words.{words_of};
 
@@ -19,11 +19,16 @@ use arrow_words::readers::{Only, Words, next};
 use std::alloc::Global;
 
 /// `new E KIND`
-pub(crate) fn run_new<O: Width>(alloc: Global, answering: &mut Answering, words: &[u8]) -> Answered
-    ensures { IfOk result (AnswersNamed O.side (making (types (pos 0) Int64 O.most O.IS_LARGE) O.offset) (codes "new") (words_of words.now) answering.old answering.new) }
+pub(crate) fn run_new<O: Width>(
+    alloc: Global,
+    answering: &mut Answering,
+    entry: usize,
+    words: &[u8],
+) -> Answered
+    ensures { IfOk result (AnswersBehind O.side (making (types (pos 0) Int64 O.most O.IS_LARGE) O.offset) (codes "new") entry (words_of words.now) answering.old answering.new) }
 {
-    match <(usize, Only<Kind>)>::of_words(alloc, words)? {
-        Some((entry, Only(kind))) => answer::<O>(answering, Command::New(entry, kind)),
+    match <Only<Kind>>::of_words(alloc, words)? {
+        Some(Only(kind)) => answer::<O>(answering, Command::New(entry, kind)),
         None => Ok(false),
     }
 }
@@ -53,11 +58,16 @@ fn default_type<O: Offset>(kind: Kind) -> DataType
 }
 
 /// `null E KIND N`
-pub(crate) fn run_null<O: Width>(alloc: Global, answering: &mut Answering, words: &[u8]) -> Answered
-    ensures { IfOk result (AnswersNamed O.side (making (types (pos 0) Int64 O.most O.IS_LARGE) O.offset) (codes "null") (words_of words.now) answering.old answering.new) }
+pub(crate) fn run_null<O: Width>(
+    alloc: Global,
+    answering: &mut Answering,
+    entry: usize,
+    words: &[u8],
+) -> Answered
+    ensures { IfOk result (AnswersBehind O.side (making (types (pos 0) Int64 O.most O.IS_LARGE) O.offset) (codes "null") entry (words_of words.now) answering.old answering.new) }
 {
-    match <(usize, (Kind, Only<usize>))>::of_words(alloc, words)? {
-        Some((entry, (kind, Only(count)))) => answer::<O>(
+    match <(Kind, Only<usize>)>::of_words(alloc, words)? {
+        Some((kind, Only(count))) => answer::<O>(
             answering,
             Command::NewNull(entry, kind, default_type::<O>(kind), count),
         ),
@@ -184,13 +194,11 @@ fn parts_by_kind<O: Width>(
 pub(crate) fn run_parts<O: Width>(
     alloc: Global,
     answering: &mut Answering,
+    entry: usize,
     words: &[u8],
 ) -> Answered
-    ensures { IfOk result (AnswersNamed O.side (making (types (pos 0) Int64 O.most O.IS_LARGE) O.offset) (codes "parts") (words_of words.now) answering.old answering.new) }
+    ensures { IfOk result (AnswersBehind O.side (making (types (pos 0) Int64 O.most O.IS_LARGE) O.offset) (codes "parts") entry (words_of words.now) answering.old answering.new) }
 {
-    let Some((entry, words)) = next::<usize>(alloc, words)? else {
-        return Ok(false);
-    };
     let Some((kind, words)) = next::<Kind>(alloc, words)? else {
         return Ok(false);
     };
@@ -201,13 +209,11 @@ pub(crate) fn run_parts<O: Width>(
 pub(crate) fn run_slots<O: Width>(
     alloc: Global,
     answering: &mut Answering,
+    entry: usize,
     words: &[u8],
 ) -> Answered
-    ensures { IfOk result (AnswersNamed O.side (making (types (pos 0) Int64 O.most O.IS_LARGE) O.offset) (codes "slots") (words_of words.now) answering.old answering.new) }
+    ensures { IfOk result (AnswersBehind O.side (making (types (pos 0) Int64 O.most O.IS_LARGE) O.offset) (codes "slots") entry (words_of words.now) answering.old answering.new) }
 {
-    let Some((entry, words)) = next::<usize>(alloc, words)? else {
-        return Ok(false);
-    };
     let Some((kind, words)) = next::<Kind>(alloc, words)? else {
         return Ok(false);
     };
@@ -221,13 +227,11 @@ pub(crate) fn run_slots<O: Width>(
 pub(crate) fn run_items<O: Width>(
     alloc: Global,
     answering: &mut Answering,
+    entry: usize,
     words: &[u8],
 ) -> Answered
-    ensures { IfOk result (AnswersNamed O.side (making (types (pos 0) Int64 O.most O.IS_LARGE) O.offset) (codes "items") (words_of words.now) answering.old answering.new) }
+    ensures { IfOk result (AnswersBehind O.side (making (types (pos 0) Int64 O.most O.IS_LARGE) O.offset) (codes "items") entry (words_of words.now) answering.old answering.new) }
 {
-    let Some((entry, words)) = next::<usize>(alloc, words)? else {
-        return Ok(false);
-    };
     let Some((kind, words)) = next::<Kind>(alloc, words)? else {
         return Ok(false);
     };
