@@ -28,10 +28,13 @@ const MADE: &str = "made";
 
 /// A kind whose types Arrow names, and what is told of others.
 trait TypeNames: ByteKind {
+    /// Whether the items are text.
     const IS_TEXT: bool;
 
+    /// What is told of an array of another type.
     const ARRAY: &'static str;
 
+    /// What is told of a builder of another type.
     const BUILDER: &'static str;
 }
 

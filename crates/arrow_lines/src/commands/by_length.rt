@@ -1,5 +1,5 @@
 //! The lines of one table by their names. Those of one length stand together, so that few are compared, and first those that
-//! are asked most.
+//! are asked most. Each is handed the number that stands behind the name, and the words behind that.
 #![tactic(auto, unfolding(crate::specs::Lines::making, crate::specs::Lines::telling, crate::specs::Lines::changing, crate::specs::Lines::growing, crate::specs::Lines::turning, crate::specs::Lines::request_behind))]
 
 ghost use Rattle.std.specs.Prelude.{◌==◌, nat_le, nat_lt, pos, IfOk};
@@ -31,7 +31,7 @@ use arrow_words::readers::next;
 use arrow_words::words::is;
 use std::alloc::Global;
 
-/// The command of this name, of three or fewer letters, behind a number.
+/// The command of this name, of three or fewer letters.
 fn by_three<O: Width>(
     alloc: Global,
     answering: &mut Answering,
