@@ -7,7 +7,6 @@ use arrow_memory::bitmap::{Bitmap, BitmapIter, MutableBitmap};
 use arrow_memory::offset::{Offsets, OffsetsBuffer};
 use arrow_types::error::Error;
 use arrow_types::offset::Offset;
-use either::{Either, Left, Right};
 use std::alloc::Global;
 use std::test::Fail;
 pub use tiny::Tiny;
@@ -46,8 +45,7 @@ pub fn after(refused: Error, is_right: bool) -> Result<bool, Error> {
     if is_right { Err(refused) } else { Ok(false) }
 }
 
-/// Whether a test is true of a value that was made; the refusal where none was. A function that owns an array or a builder
-/// is dear to prove: here the value is of any type.
+/// Whether a test is true of a value that was made; the refusal where none was.
 pub fn seen<B: Drop, F: FnOnce(&B) -> bool + Drop>(
     answer: Result<B, Error>,
     test: F,
@@ -59,50 +57,6 @@ pub fn seen<B: Drop, F: FnOnce(&B) -> bool + Drop>(
         Err(refused) => {
             drop(test);
             Err(refused)
-        }
-    }
-}
-
-/// Whether a value was made of which a test is true.
-pub fn is_made<B: Drop, F: FnOnce(&B) -> bool + Drop>(answer: Result<B, Error>, test: F) -> bool
-    requires { F.IsAlwaysCallable test }
-{
-    seen(answer, test) == Ok(true)
-}
-
-/// What a check says of a value.
-fn is_checked<B: Drop, F: FnOnce(&mut B) -> bool>(value: B, check: F) -> bool
-    requires { F.IsAlwaysCallable check }
-{
-    let mut value = value;
-    check(&mut value)
-}
-
-/// Whether a value was made that passes a check.
-pub fn passes<B: Drop, F: FnOnce(&mut B) -> bool + Drop>(answer: Result<B, Error>, check: F) -> bool
-    requires { F.IsAlwaysCallable check }
-{
-    match answer {
-        Ok(value) => is_checked(value, check),
-        Err(_) => {
-            drop(check);
-            false
-        }
-    }
-}
-
-/// Whether the right of two values is there, and passes a check: of an array that was to be thawed, the builder.
-pub fn is_right<L: Drop, R: Drop, F: FnOnce(&mut R) -> bool + Drop>(
-    value: Either<L, R>,
-    check: F,
-) -> bool
-    requires { F.IsAlwaysCallable check }
-{
-    match value {
-        Right(value) => is_checked(value, check),
-        Left(_) => {
-            drop(check);
-            false
         }
     }
 }

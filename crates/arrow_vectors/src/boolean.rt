@@ -1,11 +1,11 @@
 //! Truth values: what slots and raw parts become. Stored values and marks are texts of '1' and '0'.
 use arrow_boolean::{BooleanArray, MutableBooleanArray};
 use arrow_memory::bitmap::{Bitmap, MutableBitmap};
-use arrow_testing::{frozen_mask, growing_mask, is_made, is_mask, tells};
+use arrow_testing::{frozen_mask, growing_mask, is_mask, tells};
 use arrow_types::data_type::DataType;
 use arrow_types::error::Error;
-use either::{Left, Right};
 use std::alloc::Global;
+use std::process::Abort;
 
 /// Whether an array stores these values, under these marks.
 fn shows(array: &BooleanArray, values: &str, mask: &str) -> bool {
@@ -16,12 +16,11 @@ fn shows(array: &BooleanArray, values: &str, mask: &str) -> bool {
     is_mask(Some(array.values_iter()), values) && is_mask(marks, mask)
 }
 
-/// Whether an array was made that stores these values, under these marks.
-fn made(answer: Result<BooleanArray, Error>, values: &str, mask: &str) -> bool {
-    match answer {
-        Ok(array) => shows(&array, values, mask),
-        Err(_) => false,
-    }
+/// The same of an array that is given away.
+fn stores(array: BooleanArray, values: &str, mask: &str) -> bool {
+    let is_shown = shows(&array, values, mask);
+    drop(array);
+    is_shown
 }
 
 const SLOTS: [Option<bool>; 3] = [Some(true), None, Some(false)];
@@ -33,20 +32,15 @@ fn reads(array: &BooleanArray) -> bool {
     }
     let stored = [array.value(0), array.value(1), array.value(2)];
     let slots = [array.get(0), array.get(1), array.get(2)];
-    stored == [true, false, false] && slots == SLOTS
-}
-
-/// Whether those of an array of these slots are.
-fn is_read(alloc: Global) -> bool {
-    is_made(
-        BooleanArray::from(alloc, SLOTS.as_slice()),
-        |array| reads(array) & shows(array, "100", "101"),
-    )
+    (stored == [true, false, false]) & (slots == SLOTS) & shows(array, "100", "101")
 }
 
 #[test]
 fn a_null_stores_false_under_a_clear_mark(rt: HostRuntime) {
-    assert!(rt; is_read(rt.alloc()));
+    let array = BooleanArray::from(rt.alloc(), SLOTS.as_slice()).expect(&rt, "memory");
+    let is_read = reads(&array);
+    drop(array);
+    assert!(rt; is_read);
 }
 
 const UNFIT: &str = "validity mask length must match the number of values";
@@ -57,30 +51,36 @@ const OTHER_TYPE: &str =
 const OTHER_BUILDER_TYPE: &str =
     "MutableBooleanArray can only be initialized with a DataType whose physical type is Boolean";
 
+/// The array of true, false and true, under a type and a mask.
+fn array_of(
+    alloc: Global,
+    rt: &impl Abort,
+    data_type: DataType,
+    mask: &str,
+) -> Result<BooleanArray, Error> {
+    let values = Bitmap::from_slice(alloc, [true, false, true].as_slice()).expect(rt, "memory");
+    let validity = frozen_mask(alloc, mask).expect(rt, "memory");
+    BooleanArray::try_new(data_type, values, validity)
+}
+
+/// The builder of true, false and true, under a type and a mask.
+fn builder_of(
+    alloc: Global,
+    rt: &impl Abort,
+    data_type: DataType,
+    mask: &str,
+) -> Result<MutableBooleanArray, Error> {
+    let values = MutableBitmap::from_slice(alloc, [true, false, true].as_slice());
+    let validity = growing_mask(alloc, mask).expect(rt, "memory");
+    MutableBooleanArray::try_new(data_type, values.expect(rt, "memory"), validity)
+}
+
 /// The type of truth values, or another.
 fn named(is_own: bool) -> DataType {
     if is_own {
         DataType::Boolean
     } else {
         DataType::Int32
-    }
-}
-
-/// The array of true, false and true, under its own type or another, and a mask.
-fn array_of(alloc: Global, is_own: bool, mask: &str) -> Result<BooleanArray, Error> {
-    let validity = frozen_mask(alloc, mask)?;
-    match Bitmap::from_slice(alloc, [true, false, true].as_slice()) {
-        Ok(values) => BooleanArray::try_new(named(is_own), values, validity),
-        Err(refused) => Err(refused),
-    }
-}
-
-/// The builder of true, false and true, under its own type or another, and a mask.
-fn builder_of(alloc: Global, is_own: bool, mask: &str) -> Result<MutableBooleanArray, Error> {
-    let validity = growing_mask(alloc, mask)?;
-    match MutableBitmap::from_slice(alloc, [true, false, true].as_slice()) {
-        Ok(values) => MutableBooleanArray::try_new(named(is_own), values, validity),
-        Err(refused) => Err(refused),
     }
 }
 
@@ -98,54 +98,30 @@ const FAULTS: &[Fault] = &[
     ("none", true, "made", "made"),
 ];
 
-/// Whether this is told of all of them.
-fn are_told(alloc: Global, cases: &[Fault]) -> bool {
-    for (mask, is_own, array, builder) in cases {
-        let told = tells(array_of(alloc, *is_own, *mask)) == *array;
-        if !(told & (tells(builder_of(alloc, *is_own, *mask)) == *builder)) {
-            return false;
-        }
-    }
-    true
-}
-
 #[test]
 fn the_mask_is_tested_before_the_type(rt: HostRuntime) {
-    assert!(rt; are_told(rt.alloc(), FAULTS));
-}
-
-/// The array of the parts of an array.
-fn taken_again(array: BooleanArray) -> Result<BooleanArray, Error> {
-    let (data_type, values, validity) = array.into_inner();
-    BooleanArray::try_new(data_type, values, validity)
-}
-
-/// The last two of three slots.
-fn cut_off(array: BooleanArray) -> BooleanArray {
-    if array.len() != 3 {
-        return array;
-    }
-    array.sliced(1, 2)
-}
-
-/// The array of a thawed array, from which the last slot was popped.
-fn popped(array: BooleanArray) -> Result<BooleanArray, Error> {
-    match array.into_mut() {
-        Right(mut builder) => {
-            builder.pop();
-            builder.freeze()
-        }
-        Left(_) => Err(Error::OutOfSpec("shared")),
+    for (mask, is_own, of_array, of_builder) in FAULTS {
+        let array = tells(array_of(rt.alloc(), &rt, named(*is_own), *mask));
+        let builder = tells(builder_of(rt.alloc(), &rt, named(*is_own), *mask));
+        assert!(rt; [array, builder] == [*of_array, *of_builder]);
     }
 }
 
-/// The array of the parts of what is left of three slots, of which the first was cut off or the last popped.
-fn again(alloc: Global, mask: &str, is_cut: bool) -> Result<BooleanArray, Error> {
-    let array = array_of(alloc, true, mask)?;
-    if is_cut {
-        return taken_again(cut_off(array));
-    }
-    taken_again(popped(array)?)
+/// The array of the parts of the last two of three slots.
+fn sliced_again(alloc: Global, rt: &impl Abort, mask: &str) -> BooleanArray {
+    let array = array_of(alloc, rt, named(true), mask).expect(rt, "parts that fit");
+    assert!(rt; array.len() == 3);
+    let (data_type, values, validity) = array.sliced(1, 2).into_inner();
+    BooleanArray::try_new(data_type, values, validity).expect(rt, "parts that fit")
+}
+
+/// The array of those of a thawed array, once the last of three slots was popped.
+fn popped_again(alloc: Global, rt: &impl Abort, mask: &str) -> BooleanArray {
+    let array = array_of(alloc, rt, named(true), mask).expect(rt, "parts that fit");
+    let mut builder = array.into_mut().right().expect(rt, "an array alone");
+    builder.pop();
+    let (data_type, values, validity) = builder.freeze().expect(rt, "memory").into_inner();
+    BooleanArray::try_new(data_type, values, validity).expect(rt, "parts that fit")
 }
 
 /// Marks of three slots, and those of the last two and of the first two.
@@ -155,18 +131,10 @@ const AGAIN: &[(&str, &str, &str)] = &[
     ("110", "10", "11"),
 ];
 
-/// Whether all of them are these.
-fn are_again(alloc: Global, cases: &[(&str, &str, &str)]) -> bool {
-    for (mask, last, first) in cases {
-        let is_cut = made(again(alloc, *mask, true), "01", *last);
-        if !(is_cut & made(again(alloc, *mask, false), "10", *first)) {
-            return false;
-        }
-    }
-    true
-}
-
 #[test]
 fn parts_that_are_taken_out_are_accepted_again(rt: HostRuntime) {
-    assert!(rt; are_again(rt.alloc(), AGAIN));
+    for (mask, last, first) in AGAIN {
+        let is_cut = stores(sliced_again(rt.alloc(), &rt, *mask), "01", *last);
+        assert!(rt; is_cut & stores(popped_again(rt.alloc(), &rt, *mask), "10", *first));
+    }
 }

@@ -5,11 +5,12 @@ use arrow_boolean::{BooleanArray, MutableBooleanArray};
 use arrow_byte_array::{ByteArray, MutableByteArray, MutableByteValuesArray};
 use arrow_bytes::{Binary, ByteItem, ByteKind, ItemError, Utf8};
 use arrow_primitive::{MutablePrimitiveArray, PrimitiveArray};
-use arrow_testing::{are_offsets, is_made, is_mask, seen};
+use arrow_testing::{are_offsets, is_mask, seen};
 use arrow_types::error::Error;
 use arrow_types::offset::Offset;
 use arrow_utf8::Utf8Array;
 use std::alloc::Global;
+use std::process::Abort;
 
 /// What an iterator says beside the truth: whether it tells a least number and a greatest number of items, and by how many
 /// these are too large.
@@ -97,25 +98,12 @@ fn is_taken(answer: Result<bool, Error>, lie: Lie) -> bool {
     }
 }
 
-/// What takes three items by each of its calls, which are numbered from zero on.
-trait Takes {
-    /// How many calls there are.
-    const CALLS: usize;
-
-    /// Whether all items of an iterator that lies so are there once a call took them.
-    fn takes(alloc: Global, lie: Lie, call: usize) -> Result<bool, Error>;
-}
-
-/// Whether all calls take the items of each iterator.
-fn all_take<X: Takes>(alloc: Global, lies: &[Lie]) -> bool {
-    for lie in lies {
-        for call in 0..X::CALLS {
-            if !is_taken(X::takes(alloc, *lie, call), *lie) {
-                return false;
-            }
-        }
+/// What is answered where items were to be taken, and whether all are there if they were.
+fn answered(answer: Result<(), Error>, are_all: bool) -> Result<bool, Error> {
+    match answer {
+        Ok(()) => Ok(are_all),
+        Err(refused) => Err(refused),
     }
-    true
 }
 
 const NUMBERS: &[i64] = &[1, 0, 3];
@@ -123,7 +111,7 @@ const NUMBERS: &[i64] = &[1, 0, 3];
 const SLOTS: &[Option<i64>] = &[Some(1), None, Some(3)];
 
 /// Whether a builder stores the three numbers.
-fn builder_stores(builder: &MutablePrimitiveArray<i64>) -> bool {
+fn stores(builder: &MutablePrimitiveArray<i64>) -> bool {
     builder.values().as_slice() == NUMBERS
 }
 
@@ -132,49 +120,44 @@ fn array_stores(array: &PrimitiveArray<i64>) -> bool {
     array.values().as_slice() == NUMBERS
 }
 
-/// Has a builder take them.
-fn extend_by(builder: &mut MutablePrimitiveArray<i64>, lie: Lie, call: usize) -> Result<(), Error> {
-    match call {
+/// Whether a new builder takes them in one of three ways.
+fn extends(alloc: Global, lie: Lie, way: usize) -> bool {
+    let mut builder = MutablePrimitiveArray::new(alloc);
+    let answer = match way {
         0 => builder.extend(lying(SLOTS, lie)),
         1 => builder.try_extend(lying(SLOTS, lie)),
         _ => builder.extend_values(lying(NUMBERS, lie)),
-    }
+    };
+    let are_all = stores(&builder);
+    drop(builder);
+    is_taken(answered(answer, are_all), lie)
 }
 
-/// Whether a new one takes them.
-fn extends(alloc: Global, lie: Lie, call: usize) -> Result<bool, Error> {
-    let mut builder = MutablePrimitiveArray::new(alloc);
-    match extend_by(&mut builder, lie, call) {
-        Ok(()) => Ok(builder_stores(&builder)),
-        Err(refused) => Err(refused),
-    }
-}
-
-impl Takes for PrimitiveArray<i64> {
-    const CALLS: usize = 6;
-
-    fn takes(alloc: Global, lie: Lie, call: usize) -> Result<bool, Error> {
-        match call {
-            0 | 1 | 2 => extends(alloc, lie, call),
-            3 => seen(
-                MutablePrimitiveArray::from_iter(alloc, lying(SLOTS, lie)),
-                builder_stores,
-            ),
-            4 => seen(
-                PrimitiveArray::from_iter(alloc, lying(SLOTS, lie)),
-                array_stores,
-            ),
-            _ => seen(
-                PrimitiveArray::from_values(alloc, lying(NUMBERS, lie)),
-                array_stores,
-            ),
-        }
-    }
+/// Whether all makers of a builder and of an array take them.
+fn makes(alloc: Global, lie: Lie) -> bool {
+    let builder = seen(
+        MutablePrimitiveArray::from_iter(alloc, lying(SLOTS, lie)),
+        stores,
+    );
+    let array = seen(
+        PrimitiveArray::from_iter(alloc, lying(SLOTS, lie)),
+        array_stores,
+    );
+    let values = seen(
+        PrimitiveArray::from_values(alloc, lying(NUMBERS, lie)),
+        array_stores,
+    );
+    is_taken(builder, lie) & is_taken(array, lie) & is_taken(values, lie)
 }
 
 #[test]
 fn numbers_are_taken_from_an_iterator_that_lies(rt: HostRuntime) {
-    assert!(rt; all_take::<PrimitiveArray<i64>>(rt.alloc(), LIES));
+    for lie in LIES {
+        for way in 0..3 {
+            assert!(rt; extends(rt.alloc(), *lie, way));
+        }
+        assert!(rt; makes(rt.alloc(), *lie));
+    }
 }
 
 const MARKS: &[bool] = &[true, false, true];
@@ -182,7 +165,7 @@ const MARKS: &[bool] = &[true, false, true];
 const MARK_SLOTS: &[Option<bool>] = &[Some(true), None, Some(true)];
 
 /// Whether a builder stores the three truth values.
-fn builder_marks(builder: &MutableBooleanArray) -> bool {
+fn marks(builder: &MutableBooleanArray) -> bool {
     is_mask(Some(builder.values_iter()), "101")
 }
 
@@ -191,45 +174,40 @@ fn array_marks(array: &BooleanArray) -> bool {
     is_mask(Some(array.values_iter()), "101")
 }
 
-/// Has a builder take them.
-fn extend_marks_by(builder: &mut MutableBooleanArray, lie: Lie, call: usize) -> Result<(), Error> {
-    match call {
+/// Whether a new builder takes them in one of three ways.
+fn extends_marks(alloc: Global, lie: Lie, way: usize) -> bool {
+    let mut builder = MutableBooleanArray::new(alloc);
+    let answer = match way {
         0 => builder.extend(lying(MARK_SLOTS, lie)),
         1 => builder.try_extend(lying(MARK_SLOTS, lie)),
         _ => builder.extend_values(lying(MARKS, lie)),
-    }
+    };
+    let are_all = marks(&builder);
+    drop(builder);
+    is_taken(answered(answer, are_all), lie)
 }
 
-/// Whether a new one takes them.
-fn extends_marks(alloc: Global, lie: Lie, call: usize) -> Result<bool, Error> {
-    let mut builder = MutableBooleanArray::new(alloc);
-    match extend_marks_by(&mut builder, lie, call) {
-        Ok(()) => Ok(builder_marks(&builder)),
-        Err(refused) => Err(refused),
-    }
-}
-
-impl Takes for BooleanArray {
-    const CALLS: usize = 5;
-
-    fn takes(alloc: Global, lie: Lie, call: usize) -> Result<bool, Error> {
-        match call {
-            0 | 1 | 2 => extends_marks(alloc, lie, call),
-            3 => seen(
-                MutableBooleanArray::from_iter(alloc, lying(MARK_SLOTS, lie)),
-                builder_marks,
-            ),
-            _ => seen(
-                BooleanArray::from_iter(alloc, lying(MARK_SLOTS, lie)),
-                array_marks,
-            ),
-        }
-    }
+/// Whether the makers of a builder and of an array take them.
+fn makes_marks(alloc: Global, lie: Lie) -> bool {
+    let builder = seen(
+        MutableBooleanArray::from_iter(alloc, lying(MARK_SLOTS, lie)),
+        marks,
+    );
+    let array = seen(
+        BooleanArray::from_iter(alloc, lying(MARK_SLOTS, lie)),
+        array_marks,
+    );
+    is_taken(builder, lie) & is_taken(array, lie)
 }
 
 #[test]
 fn truth_values_are_taken_from_an_iterator_that_lies(rt: HostRuntime) {
-    assert!(rt; all_take::<BooleanArray>(rt.alloc(), LIES));
+    for lie in LIES {
+        for way in 0..3 {
+            assert!(rt; extends_marks(rt.alloc(), *lie, way));
+        }
+        assert!(rt; makes_marks(rt.alloc(), *lie));
+    }
 }
 
 /// A kind of bytes, and three of its items.
@@ -269,12 +247,12 @@ impl Listed for Utf8 {
 }
 
 /// Whether offsets are those of the three items.
-fn are_all<O: Offset>(offsets: &[O]) -> bool {
+fn are_all(offsets: &[i32]) -> bool {
     are_offsets(offsets, [0, 2, 2, 7].as_slice())
 }
 
 /// Whether a builder has these.
-fn builder_has<K: ByteKind>(builder: &MutableByteArray<K, i32>) -> bool {
+fn has<K: ByteKind>(builder: &MutableByteArray<K, i32>) -> bool {
     are_all(builder.offsets().as_slice())
 }
 
@@ -288,128 +266,84 @@ fn values_have<K: ByteKind>(builder: &MutableByteValuesArray<K, i32>) -> bool {
     are_all(builder.offsets().as_slice())
 }
 
-/// Has a builder take them.
-fn extend_bytes_by<K: Listed>(
-    builder: &mut MutableByteArray<K, i32>,
-    lie: Lie,
-    call: usize,
-) -> Result<(), Error> {
-    match call {
+/// Whether a new builder takes them in one of three ways.
+fn extends_bytes<K: Listed>(alloc: Global, rt: &impl Abort, lie: Lie, way: usize) -> bool {
+    let mut builder = MutableByteArray::<K, i32>::new(alloc).expect(rt, "memory");
+    let answer = match way {
         0 => builder.extend(lying(K::slots(), lie)),
         1 => builder.try_extend(lying(K::slots(), lie)),
         _ => builder.extend_values(lying(K::items(), lie)),
-    }
+    };
+    let are_all = has(&builder);
+    drop(builder);
+    is_taken(answered(answer, are_all), lie)
 }
 
-/// Whether a builder takes them.
-fn takes_bytes<K: Listed>(
-    builder: &mut MutableByteArray<K, i32>,
-    lie: Lie,
-    call: usize,
-) -> Result<bool, Error> {
-    extend_bytes_by::<K>(builder, lie, call)?;
-    Ok(builder_has(builder))
-}
-
-/// Whether a new one takes them.
-fn extends_bytes<K: Listed>(alloc: Global, lie: Lie, call: usize) -> Result<bool, Error> {
-    match MutableByteArray::<K, i32>::new(alloc) {
-        Ok(mut builder) => takes_bytes::<K>(&mut builder, lie, call),
-        Err(_) => Ok(false),
-    }
-}
-
-/// Whether a builder without nulls takes them.
-fn takes_values<K: Listed>(
-    builder: &mut MutableByteValuesArray<K, i32>,
-    lie: Lie,
-    tries: bool,
-) -> Result<bool, Error> {
-    if tries {
-        builder.try_extend(lying(K::items(), lie))?;
+/// Whether a new builder without nulls takes them, by `try_extend` or by `extend`.
+fn extends_values<K: Listed>(alloc: Global, rt: &impl Abort, lie: Lie, tries: bool) -> bool {
+    let mut builder = MutableByteValuesArray::<K, i32>::new(alloc).expect(rt, "memory");
+    let answer = if tries {
+        builder.try_extend(lying(K::items(), lie))
     } else {
-        builder.extend(lying(K::items(), lie))?;
-    }
-    Ok(values_have(builder))
+        builder.extend(lying(K::items(), lie))
+    };
+    let are_all = values_have(&builder);
+    drop(builder);
+    is_taken(answered(answer, are_all), lie)
 }
 
-/// Whether a new one does.
-fn extends_values<K: Listed>(alloc: Global, lie: Lie, tries: bool) -> Result<bool, Error> {
-    match MutableByteValuesArray::<K, i32>::new(alloc) {
-        Ok(mut builder) => takes_values::<K>(&mut builder, lie, tries),
-        Err(_) => Ok(false),
-    }
+/// Whether the makers of a builder take them.
+fn makes_builders<K: Listed>(alloc: Global, lie: Lie) -> bool {
+    let slots = MutableByteArray::<K, i32>::from_iter(alloc, lying(K::slots(), lie));
+    let is_taken_as_slots = is_taken(seen(slots, has::<K>), lie);
+    let items = MutableByteArray::<K, i32>::from_iter_values(alloc, lying(K::items(), lie));
+    is_taken_as_slots & is_taken(seen(items, has::<K>), lie)
 }
 
-impl<K: Listed> Takes for MutableByteArray<K, i32> {
-    const CALLS: usize = 5;
+/// Whether those of a builder without nulls do.
+fn makes_values<K: Listed>(alloc: Global, lie: Lie) -> bool {
+    let made = MutableByteValuesArray::<K, i32>::from_iter(alloc, lying(K::items(), lie));
+    let is_made = is_taken(seen(made, values_have::<K>), lie);
+    let tried = MutableByteValuesArray::<K, i32>::try_from_iter(alloc, lying(K::items(), lie));
+    is_made & is_taken(seen(tried, values_have::<K>), lie)
+}
 
-    fn takes(alloc: Global, lie: Lie, call: usize) -> Result<bool, Error> {
-        match call {
-            0 | 1 | 2 => extends_bytes::<K>(alloc, lie, call),
-            3 => seen(
-                MutableByteArray::<K, i32>::from_iter(alloc, lying(K::slots(), lie)),
-                builder_has::<K>,
-            ),
-            _ => seen(
-                MutableByteArray::<K, i32>::from_iter_values(alloc, lying(K::items(), lie)),
-                builder_has::<K>,
-            ),
+/// Whether those of an array do.
+fn makes_arrays<K: Listed>(alloc: Global, lie: Lie) -> bool {
+    let slots = ByteArray::<K, i32>::from_iter(alloc, lying(K::slots(), lie));
+    let is_taken_as_slots = is_taken(seen(slots, array_has::<K>), lie);
+    let items = ByteArray::<K, i32>::from_iter_values(alloc, lying(K::items(), lie));
+    is_taken_as_slots & is_taken(seen(items, array_has::<K>), lie)
+}
+
+/// Whether all of them take the items of such an iterator.
+fn takes_bytes<K: Listed>(alloc: Global, rt: &impl Abort, lie: Lie) -> bool {
+    for way in 0..3 {
+        if !extends_bytes::<K>(alloc, rt, lie, way) {
+            return false;
         }
     }
-}
-
-impl<K: Listed> Takes for ByteArray<K, i32> {
-    const CALLS: usize = 2;
-
-    fn takes(alloc: Global, lie: Lie, call: usize) -> Result<bool, Error> {
-        match call {
-            0 => seen(
-                ByteArray::<K, i32>::from_iter(alloc, lying(K::slots(), lie)),
-                array_has::<K>,
-            ),
-            _ => seen(
-                ByteArray::<K, i32>::from_iter_values(alloc, lying(K::items(), lie)),
-                array_has::<K>,
-            ),
-        }
-    }
-}
-
-impl<K: Listed> Takes for MutableByteValuesArray<K, i32> {
-    const CALLS: usize = 4;
-
-    fn takes(alloc: Global, lie: Lie, call: usize) -> Result<bool, Error> {
-        match call {
-            0 => seen(
-                MutableByteValuesArray::<K, i32>::from_iter(alloc, lying(K::items(), lie)),
-                values_have::<K>,
-            ),
-            1 => seen(
-                MutableByteValuesArray::<K, i32>::try_from_iter(alloc, lying(K::items(), lie)),
-                values_have::<K>,
-            ),
-            _ => extends_values::<K>(alloc, lie, call == 2),
-        }
-    }
-}
-
-/// Whether an array and both builders of a kind take the items of each iterator.
-fn take_bytes<K: Listed>(alloc: Global, lies: &[Lie]) -> bool {
-    let are_slots = all_take::<MutableByteArray<K, i32>>(alloc, lies);
-    let are_values = all_take::<MutableByteValuesArray<K, i32>>(alloc, lies);
-    are_slots & are_values & all_take::<ByteArray<K, i32>>(alloc, lies)
+    let are_values = extends_values::<K>(alloc, rt, lie, false)
+        & extends_values::<K>(alloc, rt, lie, true);
+    let are_builders = makes_builders::<K>(alloc, lie) & makes_values::<K>(alloc, lie);
+    are_values & are_builders & makes_arrays::<K>(alloc, lie)
 }
 
 #[test]
 fn bytes_are_taken_from_an_iterator_that_lies(rt: HostRuntime) {
-    assert!(rt; take_bytes::<Binary>(rt.alloc(), LIES));
+    for lie in LIES {
+        assert!(rt; takes_bytes::<Binary>(rt.alloc(), &rt, *lie));
+    }
 }
 
 #[test]
 fn texts_are_taken_from_an_iterator_that_lies(rt: HostRuntime) {
-    assert!(rt; take_bytes::<Utf8>(rt.alloc(), LIES));
+    for lie in LIES {
+        assert!(rt; takes_bytes::<Utf8>(rt.alloc(), &rt, *lie));
+    }
 }
+
+const ITEMS: [&str; 3] = ["10", "20", "30"];
 
 /// Whether three texts come from both ends, and then none.
 fn turns<O: Offset>(array: &Utf8Array<O>) -> bool {
@@ -430,19 +364,15 @@ fn passes<O: Offset>(array: &Utf8Array<O>) -> bool {
 }
 
 /// Whether both hold of an array of three texts.
-fn ends<O: Offset>(alloc: Global, items: &[&'static str]) -> bool {
-    is_made(
-        Utf8Array::<O>::from_slice(alloc, items),
-        |array| turns(array) & passes(array),
-    )
+fn ends<O: Offset>(alloc: Global, rt: &impl Abort) -> bool {
+    let array = Utf8Array::<O>::from_slice(alloc, ITEMS.as_slice()).expect(rt, "memory");
+    let are_all = turns(&array) & passes(&array);
+    drop(array);
+    are_all
 }
 
 #[test]
 fn an_iterator_ends_for_good(rt: HostRuntime) {
-    const ITEMS: &[&str] = &["10", "20", "30"];
-    let (narrow, wide) = (
-        ends::<i32>(rt.alloc(), ITEMS),
-        ends::<i64>(rt.alloc(), ITEMS),
-    );
-    assert!(rt; narrow & wide & ends::<Tiny>(rt.alloc(), ITEMS));
+    let (narrow, wide) = (ends::<i32>(rt.alloc(), &rt), ends::<i64>(rt.alloc(), &rt));
+    assert!(rt; narrow & wide & ends::<Tiny>(rt.alloc(), &rt));
 }

@@ -3,176 +3,82 @@
 use crate::Tiny;
 use crate::overflow::{FORTY, FORTY_ONE, SIXTY};
 use crate::primitive::builds as stores;
-use crate::raw::{builds, own_builder};
-use arrow_binary::MutableBinaryArray;
-use arrow_byte_array::MutableByteArray;
+use crate::raw::{Parts, builds, own_builder};
 use arrow_bytes::{Binary, ByteKind, Utf8};
 use arrow_primitive::MutablePrimitiveArray;
 use arrow_testing::tells;
-use arrow_types::error::Error;
 use arrow_types::offset::Offset;
 use std::alloc::Global;
+use std::process::Abort;
 
-/// A builder that is made of parts, takes another's slots, and shows what it has.
-trait Joins: Drop {
-    /// What it is made of.
-    type Parts: Copy;
-
-    /// The builder of such parts.
-    fn of(alloc: Global, parts: Self::Parts) -> Result<Self, Error>;
-
-    /// Takes another's slots.
-    fn take(&mut self, other: &Self) -> Result<(), Error>;
-
-    /// Whether it has such parts.
-    fn has(&self, parts: Self::Parts) -> bool;
-}
-
-/// Whether this is told of another's slots, and these are there then.
-fn takes<B: Joins>(builder: &mut B, other: &B, answer: &str, all: B::Parts) -> bool {
-    let is_told = tells(builder.take(other)) == answer;
-    is_told & builder.has(all)
-}
-
-/// Whether it is of those of a builder of such parts.
-fn takes_parts<B: Joins>(
-    alloc: Global,
-    builder: &mut B,
-    second: B::Parts,
-    answer: &str,
-    all: B::Parts,
-) -> bool {
-    match B::of(alloc, second) {
-        Ok(other) => takes(builder, &other, answer, all),
-        Err(_) => false,
-    }
-}
-
-/// Whether it is where the first is a builder of such parts.
-fn joins_parts<B: Joins>(
-    alloc: Global,
-    first: B::Parts,
-    second: B::Parts,
-    answer: &str,
-    all: B::Parts,
-) -> bool {
-    match B::of(alloc, first) {
-        Ok(mut builder) => takes_parts(alloc, &mut builder, second, answer, all),
-        Err(_) => false,
-    }
-}
-
-/// Whether all of them go so: the parts of a builder and of another, what is told of the other's slots, and what the first has
-/// then.
-fn each_joins<B: Joins>(
-    alloc: Global,
-    cases: &[(B::Parts, B::Parts, &'static str, B::Parts)],
-) -> bool {
-    for (first, second, answer, all) in cases {
-        if !joins_parts::<B>(alloc, *first, *second, *answer, *all) {
-            return false;
-        }
-    }
-    true
-}
-
-/// Appends slots one by one.
-fn push_each(builder: &mut MutablePrimitiveArray<i32>, slots: &[Option<i32>]) -> Result<(), Error> {
+/// The builder of slots that are pushed one by one.
+fn pushed(alloc: Global, rt: &impl Abort, slots: &[Option<i32>]) -> MutablePrimitiveArray<i32> {
+    let mut builder = MutablePrimitiveArray::new(alloc);
     for slot in slots {
-        builder.push(*slot)?;
+        builder.push(*slot).expect(rt, "memory");
     }
-    Ok(())
+    builder
 }
 
-/// Slots, and what stores them, under which marks.
-type Numbers = (&'static [Option<i32>], &'static [i32], &'static str);
+/// Slots, those behind them, and what stores both, under which marks.
+type Numbers = (
+    &'static [Option<i32>],
+    &'static [Option<i32>],
+    &'static [i32],
+    &'static str,
+);
 
-impl Joins for MutablePrimitiveArray<i32> {
-    type Parts = Numbers;
-
-    fn of(alloc: Global, parts: Numbers) -> Result<Self, Error> {
-        let mut builder = MutablePrimitiveArray::new(alloc);
-        match push_each(&mut builder, parts.0) {
-            Ok(()) => Ok(builder),
-            Err(refused) => Err(refused),
-        }
-    }
-
-    fn take(&mut self, other: &Self) -> Result<(), Error> {
-        self.try_extend_from_self(other)
-    }
-
-    fn has(&self, parts: Numbers) -> bool {
-        stores(self, parts.1, parts.2)
-    }
-}
-
-/// Slots, those behind them, and both.
-const NUMBERS: &[(Numbers, Numbers, &str, Numbers)] = &[
-    (
-        (&[None], &[0], "0"),
-        (&[Some(1)], &[1], "none"),
-        "made",
-        (&[None, Some(1)], &[0, 1], "01"),
-    ),
-    (
-        (&[Some(1)], &[1], "none"),
-        (&[None], &[0], "0"),
-        "made",
-        (&[Some(1), None], &[1, 0], "10"),
-    ),
-    (
-        (&[Some(1)], &[1], "none"),
-        (&[Some(2)], &[2], "none"),
-        "made",
-        (&[Some(1), Some(2)], &[1, 2], "none"),
-    ),
-    (
-        (&[None], &[0], "0"),
-        (&[], &[], "none"),
-        "made",
-        (&[None], &[0], "0"),
-    ),
-    (
-        (&[], &[], "none"),
-        (&[None, Some(7)], &[0, 7], "01"),
-        "made",
-        (&[None, Some(7)], &[0, 7], "01"),
-    ),
-    (
-        (&[], &[], "none"),
-        (&[], &[], "none"),
-        "made",
-        (&[], &[], "none"),
-    ),
+const NUMBERS: &[Numbers] = &[
+    (&[None], &[Some(1)], &[0, 1], "01"),
+    (&[Some(1)], &[None], &[1, 0], "10"),
+    (&[Some(1)], &[Some(2)], &[1, 2], "none"),
+    (&[None], &[], &[0], "0"),
+    (&[], &[None, Some(7)], &[0, 7], "01"),
+    (&[], &[], &[], "none"),
 ];
+
+/// Whether this is stored where slots were taken behind others.
+fn joins(alloc: Global, rt: &impl Abort, case: &Numbers) -> bool {
+    let (first, second, values, mask) = *case;
+    let mut builder = pushed(alloc, rt, first);
+    let other = pushed(alloc, rt, second);
+    builder.try_extend_from_self(&other).expect(rt, "memory");
+    drop(other);
+    let is_joined = stores(&builder, values, mask);
+    drop(builder);
+    is_joined
+}
 
 #[test]
 fn slots_behind_others_keep_their_marks(rt: HostRuntime) {
-    assert!(rt; each_joins::<MutablePrimitiveArray<i32>>(rt.alloc(), NUMBERS));
+    for case in NUMBERS {
+        assert!(rt; joins(rt.alloc(), &rt, case));
+    }
 }
 
-/// Offsets, bytes and a mask.
-type Pieces = (&'static [usize], &'static [u8], &'static str);
+/// The parts of a builder and of another, what is told of the other's slots, and what the first has then.
+type Join = (Parts, Parts, &'static str, Parts);
 
-impl<K: ByteKind, O: Offset> Joins for MutableByteArray<K, O> {
-    type Parts = Pieces;
+/// Whether it goes so.
+fn joins_parts<K: ByteKind, O: Offset>(alloc: Global, rt: &impl Abort, case: &Join) -> bool {
+    let (first, second, answer, all) = *case;
+    let mut builder = own_builder::<K, O>(alloc, rt, first);
+    let other = own_builder::<K, O>(alloc, rt, second);
+    let is_told = tells(builder.try_extend_from_self(&other)) == answer;
+    let is_joined = is_told & builds(&builder, all);
+    drop(other);
+    drop(builder);
+    is_joined
+}
 
-    fn of(alloc: Global, parts: Pieces) -> Result<Self, Error> {
-        own_builder::<K, O>(alloc, parts.0, parts.1, parts.2)
-    }
-
-    fn take(&mut self, other: &Self) -> Result<(), Error> {
-        self.try_extend_from_self(other)
-    }
-
-    fn has(&self, parts: Pieces) -> bool {
-        builds(self, parts.0, parts.1, parts.2)
-    }
+/// Whether it does over both widths of offsets.
+fn both_join<K: ByteKind>(alloc: Global, rt: &impl Abort, case: &Join) -> bool {
+    let is_narrow = joins_parts::<K, i32>(alloc, rt, case);
+    is_narrow & joins_parts::<K, i64>(alloc, rt, case)
 }
 
 /// Only the bytes of the other's slots come, and where either builder holds a mask both have marks.
-const PIECES: &[(Pieces, Pieces, &str, Pieces)] = &[
+const PIECES: &[Join] = &[
     (
         (&[0], b"", "none"),
         (&[1, 2], b"\x09\x05", "none"),
@@ -223,16 +129,12 @@ const PIECES: &[(Pieces, Pieces, &str, Pieces)] = &[
     ),
 ];
 
-/// Whether all of them go so over both widths of offsets.
-fn both_join<K: ByteKind>(alloc: Global, cases: &[(Pieces, Pieces, &'static str, Pieces)]) -> bool {
-    let narrow = each_joins::<MutableByteArray<K, i32>>(alloc, cases);
-    narrow & each_joins::<MutableByteArray<K, i64>>(alloc, cases)
-}
-
 #[test]
 fn only_the_slots_of_another_builder_come(rt: HostRuntime) {
-    let are_bytes = both_join::<Binary>(rt.alloc(), PIECES);
-    assert!(rt; are_bytes & both_join::<Utf8>(rt.alloc(), PIECES));
+    for case in PIECES {
+        let are_bytes = both_join::<Binary>(rt.alloc(), &rt, case);
+        assert!(rt; are_bytes & both_join::<Utf8>(rt.alloc(), &rt, case));
+    }
 }
 
 const SEVENTY: &[u8] = &[7; 70];
@@ -242,7 +144,7 @@ const SEVENTY_ONE: &[u8] = &[7; 71];
 const HUNDRED: &[u8] = &[7; 100];
 
 /// What ends one past the greatest offset is refused, and the builder is as it was.
-const PIECES_THAT_END: &[(Pieces, Pieces, &str, Pieces)] = &[
+const PIECES_THAT_END: &[Join] = &[
     (
         (&[0, 60], SIXTY, "none"),
         (&[0, 41, 41], FORTY_ONE, "10"),
@@ -283,5 +185,7 @@ const PIECES_THAT_END: &[(Pieces, Pieces, &str, Pieces)] = &[
 
 #[test]
 fn slots_of_another_builder_end_there_too(rt: HostRuntime) {
-    assert!(rt; each_joins::<MutableBinaryArray<Tiny>>(rt.alloc(), PIECES_THAT_END));
+    for case in PIECES_THAT_END {
+        assert!(rt; joins_parts::<Binary, Tiny>(rt.alloc(), &rt, case));
+    }
 }

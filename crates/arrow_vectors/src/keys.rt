@@ -18,17 +18,9 @@ const KEYS: &[(&[i64], usize, &str)] = &[
     (&[i64::MIN], usize::MAX, NO_INDEX),
 ];
 
-/// Whether this is told of all of them.
-fn are_told(cases: &[(&[i64], usize, &str)]) -> bool {
-    for (keys, length, answer) in cases {
-        if tells(check_indexes(*keys, *length)) != *answer {
-            return false;
-        }
-    }
-    true
-}
-
 #[test]
 fn the_first_failing_key_tells_the_fault(rt: HostRuntime) {
-    assert!(rt; are_told(KEYS));
+    for (keys, length, answer) in KEYS {
+        assert!(rt; tells(check_indexes(*keys, *length)) == *answer);
+    }
 }

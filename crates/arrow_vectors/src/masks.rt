@@ -2,18 +2,16 @@
 use arrow_memory::bitmap::{Bitmap, MutableBitmap};
 use arrow_testing::{is_mask, tells};
 use std::alloc::Global;
+use std::process::Abort;
 
 const PAST: &str = "the bits must fit in the bytes";
 
 /// What is told of so many marks in bytes: of frozen ones, and of growing ones.
-fn told(alloc: Global, bytes: &[u8], length: usize) -> [&'static str; 2] {
-    match (bytes.to_vec(alloc), bytes.to_vec(alloc)) {
-        (Ok(first), Ok(second)) => [
-            tells(Bitmap::try_new(first, length)),
-            tells(MutableBitmap::try_new(second, length)),
-        ],
-        _ => ["no memory"; 2],
-    }
+fn told(alloc: Global, rt: &impl Abort, bytes: &[u8], length: usize) -> [&'static str; 2] {
+    let frozen = Bitmap::try_new(bytes.to_vec(alloc).expect(rt, "memory"), length);
+    let frozen = tells(frozen);
+    let growing = MutableBitmap::try_new(bytes.to_vec(alloc).expect(rt, "memory"), length);
+    [frozen, tells(growing)]
 }
 
 /// Bytes, how many marks, and what is told of them.
@@ -28,38 +26,15 @@ const FITS: &[(&[u8], usize, &str)] = &[
     (&[0xFF, 0x01], 17, PAST),
 ];
 
-/// Whether this is told of all of them.
-fn are_told(alloc: Global, cases: &[(&[u8], usize, &'static str)]) -> bool {
-    for (bytes, length, answer) in cases {
-        if told(alloc, *bytes, *length) != [*answer; 2] {
-            return false;
-        }
-    }
-    true
-}
-
 #[test]
 fn marks_fit_in_their_bytes(rt: HostRuntime) {
-    assert!(rt; are_told(rt.alloc(), FITS));
+    for (bytes, length, answer) in FITS {
+        assert!(rt; told(rt.alloc(), &rt, *bytes, *length) == [*answer; 2]);
+    }
 }
 
 /// The first marks of bytes, a mark that is pushed behind them, all of them then, and how many are clear.
 type Pushed<'a> = (&'a [u8], usize, bool, &'a str, usize);
-
-/// Whether all of them are these.
-fn is_pushed(alloc: Global, case: Pushed<'_>) -> bool {
-    let (bytes, length, mark, text, clear) = case;
-    let Ok(bytes) = bytes.to_vec(alloc) else {
-        return false;
-    };
-    match MutableBitmap::try_new(bytes, length) {
-        Ok(mut marks) => {
-            let is_there = marks.push(mark).is_ok() & (marks.unset_bits() == clear);
-            is_there & is_mask(Some(marks.iter()), text)
-        }
-        Err(_) => false,
-    }
-}
 
 const PUSHED: &[Pushed<'static>] = &[
     (&[0xFF], 3, false, "1110", 1),
@@ -69,17 +44,31 @@ const PUSHED: &[Pushed<'static>] = &[
     (&[], 0, true, "1", 0),
 ];
 
-/// Whether all of them are these in each case.
-fn are_pushed(alloc: Global, cases: &[Pushed<'static>]) -> bool {
-    for case in cases {
-        if !is_pushed(alloc, *case) {
-            return false;
-        }
-    }
-    true
+/// The first marks of bytes, and one behind them.
+fn pushed(
+    alloc: Global,
+    rt: &impl Abort,
+    bytes: &[u8],
+    length: usize,
+    mark: bool,
+) -> MutableBitmap {
+    let bytes = bytes.to_vec(alloc).expect(rt, "memory");
+    let mut marks = MutableBitmap::try_new(bytes, length).expect(rt, "bits for all marks");
+    marks.push(mark).expect(rt, "memory");
+    marks
+}
+
+/// Whether marks are these, of which so many are clear.
+fn are(marks: MutableBitmap, text: &str, clear: usize) -> bool {
+    let are = is_mask(Some(marks.iter()), text) & (marks.unset_bits() == clear);
+    drop(marks);
+    are
 }
 
 #[test]
 fn bits_behind_the_marks_are_not_shown(rt: HostRuntime) {
-    assert!(rt; are_pushed(rt.alloc(), PUSHED));
+    for (bytes, length, mark, text, clear) in PUSHED {
+        let marks = pushed(rt.alloc(), &rt, *bytes, *length, *mark);
+        assert!(rt; are(marks, *text, *clear));
+    }
 }

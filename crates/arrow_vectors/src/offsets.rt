@@ -2,9 +2,9 @@
 use crate::Tiny;
 use arrow_memory::offset::Offsets;
 use arrow_testing::{are_offsets, offsets_of, tells};
-use arrow_types::error::Error;
 use arrow_types::offset::Offset;
 use std::alloc::Global;
+use std::process::Abort;
 
 const NONE: &str = "offsets must have at least one element";
 
@@ -13,11 +13,8 @@ const NEGATIVE: &str = "the first offset must not be negative";
 const FALLS: &str = "offsets must never fall";
 
 /// What is told of raw offsets.
-fn told<O: Offset>(alloc: Global, offsets: &[O]) -> &'static str {
-    match offsets.to_vec(alloc) {
-        Ok(offsets) => tells(Offsets::try_from_vec(offsets)),
-        Err(_) => "no memory",
-    }
+fn told<O: Offset>(alloc: Global, rt: &impl Abort, offsets: &[O]) -> &'static str {
+    tells(Offsets::try_from_vec(offsets.to_vec(alloc).expect(rt, "memory")))
 }
 
 /// Raw offsets, and what is told of them.
@@ -34,25 +31,17 @@ const FAULTS: &[(&[i32], &str)] = &[
     (&[0, i32::MAX], "made"),
 ];
 
-/// Whether this is told of all of them.
-fn are_told(alloc: Global, cases: &[(&[i32], &str)]) -> bool {
-    for (offsets, answer) in cases {
-        if told::<i32>(alloc, *offsets) != *answer {
-            return false;
-        }
-    }
-    true
-}
-
 #[test]
 fn the_first_fault_is_told(rt: HostRuntime) {
-    assert!(rt; are_told(rt.alloc(), FAULTS));
+    for (offsets, answer) in FAULTS {
+        assert!(rt; told(rt.alloc(), &rt, *offsets) == *answer);
+    }
 }
 
 /// What is told of two raw offsets of a narrow type, where each is one.
-fn told_of_two(alloc: Global, first: i8, second: i8) -> &'static str {
+fn told_of_two(alloc: Global, rt: &impl Abort, first: i8, second: i8) -> &'static str {
     match (Tiny::new(first), Tiny::new(second)) {
-        (Some(first), Some(second)) => told(alloc, [first, second].as_slice()),
+        (Some(first), Some(second)) => told(alloc, rt, [first, second].as_slice()),
         _ => "not an offset",
     }
 }
@@ -68,22 +57,15 @@ const NARROW: &[(i8, i8, &str)] = &[
     (i8::MAX, 0, "not an offset"),
 ];
 
-/// Whether this is told of all of them.
-fn are_told_of_two(alloc: Global, cases: &[(i8, i8, &str)]) -> bool {
-    for (first, second, answer) in cases {
-        if told_of_two(alloc, *first, *second) != *answer {
-            return false;
-        }
-    }
-    true
-}
-
 #[test]
 fn a_narrow_type_is_told_the_same(rt: HostRuntime) {
-    assert!(rt; are_told_of_two(rt.alloc(), NARROW));
+    for (first, second, answer) in NARROW {
+        assert!(rt; told_of_two(rt.alloc(), &rt, *first, *second) == *answer);
+    }
 }
 
-/// Where the last slot of two offsets begins so far before the greatest number, and how many bytes come then.
+/// Where the last of two offsets lies so far before the greatest number, how many bytes a slot behind it has, and what is
+/// told of that.
 const ENDS: &[(usize, usize, &str)] = &[
     (1, 0, "made"),
     (1, 1, "made"),
@@ -96,93 +78,60 @@ const ENDS: &[(usize, usize, &str)] = &[
     (0, usize::MAX - 5, "overflow"),
 ];
 
-/// Two offsets, the last of which lies so far before the greatest number.
-fn before_the_end<O: Offset>(alloc: Global, before: usize) -> Result<Offsets<O>, Error> {
-    let end = O::max().to_usize().saturating_sub(before);
-    offsets_of(alloc, [0, end].as_slice())
+/// What is told of a slot of so many bytes that is pushed, or that comes from other offsets, behind bytes of their own.
+fn told_of_slot<O: Offset>(
+    alloc: Global,
+    rt: &impl Abort,
+    offsets: &mut Offsets<O>,
+    length: usize,
+    is_joined: bool,
+) -> &'static str {
+    if !is_joined {
+        return tells(offsets.try_push_usize(length));
+    }
+    let other = offsets_of(alloc, [5, length.saturating_add(5)].as_slice());
+    let other = other.expect(rt, "two offsets");
+    let told = tells(offsets.try_extend_from_self(&other));
+    drop(other);
+    told
 }
 
-/// Whether these are offsets, and either the first two of them, if a growth was refused, or three.
-fn are_left<O: Offset>(offsets: &Offsets<O>, told: &str, before: usize, length: usize) -> bool {
+/// Whether these are the first two offsets, if the slot was refused, or three.
+fn are_left<O: Offset>(offsets: &[O], answer: &str, last: usize, length: usize) -> bool {
+    if answer == "made" {
+        return are_offsets(offsets, [0, last, last.saturating_add(length)].as_slice());
+    }
+    are_offsets(offsets, [0, last].as_slice())
+}
+
+/// Whether this is told of a slot behind two offsets, and these are left where it is refused.
+fn ends<O: Offset>(
+    alloc: Global,
+    rt: &impl Abort,
+    case: (usize, usize, &str),
+    is_joined: bool,
+) -> bool {
+    let (before, length, answer) = case;
     let last = O::max().to_usize().saturating_sub(before);
-    if told == "made" {
-        let end = last.saturating_add(length);
-        return are_offsets(offsets.as_slice(), [0, last, end].as_slice());
-    }
-    are_offsets(offsets.as_slice(), [0, last].as_slice())
+    let mut offsets = offsets_of::<O>(alloc, [0, last].as_slice()).expect(rt, "two offsets");
+    let told = told_of_slot(alloc, rt, &mut offsets, length, is_joined);
+    let are_left = are_left(offsets.as_slice(), answer, last, length);
+    drop(offsets);
+    are_left & (told == answer)
 }
 
-/// Whether this is told of a slot that is pushed, and a refusal leaves the offsets.
-fn takes<O: Offset>(offsets: &mut Offsets<O>, before: usize, length: usize, answer: &str) -> bool {
-    let told = tells(offsets.try_push_usize(length));
-    told == answer && are_left(offsets, told, before, length)
-}
-
-/// Whether it is, and they are left, of two such offsets.
-fn pushes<O: Offset>(alloc: Global, before: usize, length: usize, answer: &str) -> bool {
-    match before_the_end::<O>(alloc, before) {
-        Ok(mut offsets) => takes(&mut offsets, before, length, answer),
-        Err(_) => false,
-    }
-}
-
-/// Whether this is told in all cases, of slots that are pushed to offsets of a type.
-fn each_pushes<O: Offset>(alloc: Global, cases: &[(usize, usize, &str)]) -> bool {
-    for (before, length, answer) in cases {
-        if !pushes::<O>(alloc, *before, *length, *answer) {
-            return false;
-        }
-    }
-    true
+/// Whether it is over each type of offsets.
+fn all_end(alloc: Global, rt: &impl Abort, case: (usize, usize, &str), is_joined: bool) -> bool {
+    let narrow = ends::<i32>(alloc, rt, case, is_joined);
+    let wide = ends::<i64>(alloc, rt, case, is_joined);
+    narrow & wide & ends::<Tiny>(alloc, rt, case, is_joined)
 }
 
 #[test]
 fn slots_end_at_the_greatest_offset(rt: HostRuntime) {
-    let narrow = each_pushes::<i32>(rt.alloc(), ENDS);
-    let wide = each_pushes::<i64>(rt.alloc(), ENDS);
-    assert!(rt; narrow & wide & each_pushes::<Tiny>(rt.alloc(), ENDS));
-}
-
-/// What is told of another's slot of so many bytes, which lies behind others.
-fn told_of_other<O: Offset>(
-    offsets: &mut Offsets<O>,
-    alloc: Global,
-    length: usize,
-) -> &'static str {
-    match offsets_of::<O>(alloc, [5, length.saturating_add(5)].as_slice()) {
-        Ok(other) => tells(offsets.try_extend_from_self(&other)),
-        Err(_) => "no memory",
+    for case in ENDS {
+        assert!(rt; all_end(rt.alloc(), &rt, *case, false));
     }
-}
-
-/// Whether this is told of such a slot, and a refusal leaves the offsets.
-fn takes_other<O: Offset>(
-    alloc: Global,
-    offsets: &mut Offsets<O>,
-    before: usize,
-    length: usize,
-    answer: &str,
-) -> bool {
-    let told = told_of_other(offsets, alloc, length);
-    told == answer && are_left(offsets, told, before, length)
-}
-
-/// Whether it is, and they are left, of two such offsets.
-fn joins<O: Offset>(alloc: Global, before: usize, length: usize, answer: &str) -> bool {
-    match before_the_end::<O>(alloc, before) {
-        Ok(mut offsets) => takes_other(alloc, &mut offsets, before, length, answer),
-        Err(_) => false,
-    }
-}
-
-/// Whether this is told in all cases of a type of offsets.
-fn each_joins<O: Offset>(alloc: Global, cases: &[(usize, usize, &str)]) -> bool {
-    for (before, length, answer) in cases {
-        if !joins::<O>(alloc, *before, *length, *answer) {
-            return false;
-        }
-    }
-    true
 }
 
 /// Those of a slot that offsets of each type can have.
@@ -197,7 +146,7 @@ const JOINS: &[(usize, usize, &str)] = &[
 
 #[test]
 fn slots_of_other_offsets_end_there_too(rt: HostRuntime) {
-    let narrow = each_joins::<i32>(rt.alloc(), JOINS);
-    let wide = each_joins::<i64>(rt.alloc(), JOINS);
-    assert!(rt; narrow & wide & each_joins::<Tiny>(rt.alloc(), JOINS));
+    for case in JOINS {
+        assert!(rt; all_end(rt.alloc(), &rt, *case, true));
+    }
 }

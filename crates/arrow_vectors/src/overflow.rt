@@ -1,14 +1,15 @@
 //! Items that end one before the greatest offset, at it, and one past it, over a type of offsets that ends at 100. One past
 //! it is refused as an overflow, and nothing of it is left; of an extension by an iterator the items before it stay.
 use crate::Tiny;
-use crate::raw::own_builder;
+use crate::raw::{Parts, own_builder};
 use arrow_binary::{MutableBinaryArray, MutableBinaryValuesArray};
 use arrow_byte_array::{ByteArray, MutableByteArray, MutableByteValuesArray};
 use arrow_bytes::{Binary, ByteItem, ByteKind, ItemError, Utf8};
-use arrow_testing::{are_offsets, passes, tells};
+use arrow_testing::{are_offsets, tells};
 use arrow_types::error::Error;
 use arrow_utf8::{MutableUtf8Array, MutableUtf8ValuesArray};
 use std::alloc::Global;
+use std::process::Abort;
 
 /// The calls that are written for each kind.
 trait Pushes: ByteKind {
@@ -86,22 +87,6 @@ impl Pushes for Utf8 {
     }
 }
 
-/// What is told of items, and how many of them, and how many bytes, are there then.
-type Told = (&'static str, usize, usize);
-
-/// What a builder with nulls tells, and has.
-fn told<K: ByteKind>(builder: &MutableByteArray<K, Tiny>, answer: &'static str) -> Told {
-    (answer, builder.len(), builder.values().len())
-}
-
-/// What a builder without nulls tells, and has.
-fn told_of_items<K: ByteKind>(
-    builder: &MutableByteValuesArray<K, Tiny>,
-    answer: &'static str,
-) -> Told {
-    (answer, builder.len(), builder.values().len())
-}
-
 /// Appends items one by one, until one is refused.
 fn push_each<K: Pushes>(
     builder: &mut MutableByteArray<K, Tiny>,
@@ -114,39 +99,7 @@ fn push_each<K: Pushes>(
     Ok(())
 }
 
-/// What is told of items that are appended to a builder in one of five ways.
-fn grow_by<K: Pushes>(
-    builder: &mut MutableByteArray<K, Tiny>,
-    slots: &[Option<K::Item>],
-    items: &[K::Item],
-    way: usize,
-) -> &'static str {
-    tells(match way {
-        0 => push_each(builder, items, false),
-        1 => push_each(builder, items, true),
-        2 => builder.extend(slots.iter().copied()),
-        3 => builder.try_extend(slots.iter().copied()),
-        _ => builder.extend_values(items.iter().copied()),
-    })
-}
-
-/// What is told where the builder is new, and what it has then.
-fn grow<K: Pushes>(
-    alloc: Global,
-    slots: &[Option<K::Item>],
-    items: &[K::Item],
-    way: usize,
-) -> Told {
-    match MutableByteArray::<K, Tiny>::new(alloc) {
-        Ok(mut builder) => {
-            let answer = grow_by(&mut builder, slots, items, way);
-            told(&builder, answer)
-        }
-        Err(_) => ("no memory", 0, 0),
-    }
-}
-
-/// Appends items one by one, until one is refused.
+/// Appends items to a builder without nulls one by one, until one is refused.
 fn push_each_item<K: Pushes>(
     builder: &mut MutableByteValuesArray<K, Tiny>,
     items: &[K::Item],
@@ -158,29 +111,42 @@ fn push_each_item<K: Pushes>(
     Ok(())
 }
 
-/// What is told of items that are appended to a builder without nulls in one of four ways.
-fn grow_values_by<K: Pushes>(
-    builder: &mut MutableByteValuesArray<K, Tiny>,
+/// What is told of items, and how many of them, and how many bytes, are there then.
+type Told = (&'static str, usize, usize);
+
+/// What is told of items that are appended to a new builder in one of five ways, and what it has then.
+fn grown<K: Pushes>(
+    alloc: Global,
+    rt: &impl Abort,
+    slots: &[Option<K::Item>],
     items: &[K::Item],
     way: usize,
-) -> &'static str {
-    tells(match way {
-        0 => push_each_item(builder, items, false),
-        1 => push_each_item(builder, items, true),
-        2 => builder.extend(items.iter().copied()),
-        _ => builder.try_extend(items.iter().copied()),
-    })
+) -> Told {
+    let mut builder = MutableByteArray::<K, Tiny>::new(alloc).expect(rt, "memory");
+    let answer = match way {
+        0 => push_each(&mut builder, items, false),
+        1 => push_each(&mut builder, items, true),
+        2 => builder.extend(slots.iter().copied()),
+        3 => builder.try_extend(slots.iter().copied()),
+        _ => builder.extend_values(items.iter().copied()),
+    };
+    let told = (tells(answer), builder.len(), builder.values().len());
+    drop(builder);
+    told
 }
 
-/// What is told where the builder is new, and what it has then.
-fn grow_values<K: Pushes>(alloc: Global, items: &[K::Item], way: usize) -> Told {
-    match MutableByteValuesArray::<K, Tiny>::new(alloc) {
-        Ok(mut builder) => {
-            let answer = grow_values_by(&mut builder, items, way);
-            told_of_items(&builder, answer)
-        }
-        Err(_) => ("no memory", 0, 0),
-    }
+/// What is told of items that are appended to a new builder without nulls in one of four ways, and what it has then.
+fn grown_values<K: Pushes>(alloc: Global, rt: &impl Abort, items: &[K::Item], way: usize) -> Told {
+    let mut builder = MutableByteValuesArray::<K, Tiny>::new(alloc).expect(rt, "memory");
+    let answer = match way {
+        0 => push_each_item(&mut builder, items, false),
+        1 => push_each_item(&mut builder, items, true),
+        2 => builder.extend(items.iter().copied()),
+        _ => builder.try_extend(items.iter().copied()),
+    };
+    let told = (tells(answer), builder.len(), builder.values().len());
+    drop(builder);
+    told
 }
 
 /// What each maker of a builder tells of such items.
@@ -215,17 +181,18 @@ fn arrays<K: Pushes>(
 /// Whether this is told of items in every way, and so many items and bytes are there then.
 fn ends<K: Pushes>(
     alloc: Global,
+    rt: &impl Abort,
     slots: &[Option<K::Item>],
     items: &[K::Item],
     wanted: Told,
 ) -> bool {
     for way in 0..5 {
-        if grow::<K>(alloc, slots, items, way) != wanted {
+        if grown::<K>(alloc, rt, slots, items, way) != wanted {
             return false;
         }
     }
     for way in 0..4 {
-        if grow_values::<K>(alloc, items, way) != wanted {
+        if grown_values::<K>(alloc, rt, items, way) != wanted {
             return false;
         }
     }
@@ -280,19 +247,11 @@ const BYTES_THAT_END: &[Bytes] = &[
     ),
 ];
 
-/// Whether this is told in all cases.
-fn each_ends<K: Pushes>(alloc: Global, cases: &[(&[Option<K::Item>], &[K::Item], Told)]) -> bool {
-    for (slots, items, wanted) in cases {
-        if !ends::<K>(alloc, *slots, *items, *wanted) {
-            return false;
-        }
-    }
-    true
-}
-
 #[test]
 fn bytes_end_at_the_greatest_offset(rt: HostRuntime) {
-    assert!(rt; each_ends::<Binary>(rt.alloc(), BYTES_THAT_END));
+    for (slots, items, wanted) in BYTES_THAT_END {
+        assert!(rt; ends::<Binary>(rt.alloc(), &rt, *slots, *items, *wanted));
+    }
 }
 
 const SIXTY_OF_TEXT: &str = "€€€€€€€€€€€€€€€€€€€€";
@@ -328,11 +287,15 @@ const TEXTS_THAT_END: &[Texts] = &[
 
 #[test]
 fn texts_end_at_the_greatest_offset(rt: HostRuntime) {
-    assert!(rt; each_ends::<Utf8>(rt.alloc(), TEXTS_THAT_END));
+    for (slots, items, wanted) in TEXTS_THAT_END {
+        assert!(rt; ends::<Utf8>(rt.alloc(), &rt, *slots, *items, *wanted));
+    }
 }
 
 /// Bytes that are pushed one after the other, what is told of them, and the offsets then.
-const PUSHES: &[(&[u8], &str, &[usize])] = &[
+type Pushed = (&'static [u8], &'static str, &'static [usize]);
+
+const PUSHES: &[Pushed] = &[
     (SIXTY, "made", &[0, 60]),
     (FORTY_ONE, "overflow", &[0, 60]),
     (FORTY, "made", &[0, 60, 100]),
@@ -340,8 +303,11 @@ const PUSHES: &[(&[u8], &str, &[usize])] = &[
     (&[7], "overflow", &[0, 60, 100, 100]),
 ];
 
+/// Those behind forty bytes before the first slot, which count.
+const PUSHES_BEHIND: &[Pushed] = &[(SIXTY_ONE, "overflow", &[40]), (SIXTY, "made", &[40, 100])];
+
 /// Whether this is told of all of them, and comes.
-fn each_pushes(builder: &mut MutableBinaryArray<Tiny>, cases: &[(&[u8], &str, &[usize])]) -> bool {
+fn each_pushes(builder: &mut MutableBinaryArray<Tiny>, cases: &[Pushed]) -> bool {
     for (item, answer, offsets) in cases {
         let told = tells(builder.push(Some(*item))) == *answer;
         if !(told & are_offsets(builder.offsets().as_slice(), *offsets)) {
@@ -351,60 +317,47 @@ fn each_pushes(builder: &mut MutableBinaryArray<Tiny>, cases: &[(&[u8], &str, &[
     true
 }
 
-/// That of a new builder.
-fn pushed(alloc: Global, cases: &[(&[u8], &str, &[usize])]) -> bool {
-    match MutableBinaryArray::new(alloc) {
-        Ok(mut builder) => each_pushes(&mut builder, cases),
-        Err(_) => false,
-    }
+/// Whether it is where a builder is of such parts.
+fn is_pushed(alloc: Global, rt: &impl Abort, parts: Parts, cases: &[Pushed]) -> bool {
+    let mut builder = own_builder::<Binary, Tiny>(alloc, rt, parts);
+    let are_told = each_pushes(&mut builder, cases);
+    drop(builder);
+    are_told
 }
 
 #[test]
 fn bytes_that_are_refused_leave_the_builder(rt: HostRuntime) {
-    assert!(rt; pushed(rt.alloc(), PUSHES));
+    let is_new = is_pushed(rt.alloc(), &rt, (&[0], b"", "none"), PUSHES);
+    assert!(rt; is_new & is_pushed(rt.alloc(), &rt, (&[40], FORTY, "none"), PUSHES_BEHIND));
 }
 
 const NINETY_NINE: &str =
     "aaaaaaaaaaaaaaaaaaaaaaaaaaaaaaaaaaaaaaaaaaaaaaaaaaaaaaaaaaaaaaaaaaaaaaaaaaaaaaaaaaaaaaaaaaaaaaaaaaa";
 
-/// Whether a character that is refused leaves a builder of text, and a shorter one is appended then.
-fn text_goes_on(builder: &mut MutableUtf8Array<Tiny>) -> bool {
-    let first = tells(builder.push(Some(NINETY_NINE)));
-    let past = tells(builder.push(Some("é")));
-    let is_left = are_offsets(builder.offsets().as_slice(), [0, 99].as_slice());
-    let last = tells(builder.push(Some("a")));
-    let is_full = are_offsets(builder.offsets().as_slice(), [0, 99, 100].as_slice());
-    is_left & is_full & ([first, past, last] == ["made", "overflow", "made"])
-}
+/// Texts that are pushed one after the other: a shorter one is appended behind a character that is refused.
+type PushedText = (&'static str, &'static str, &'static [usize]);
 
-/// Whether one that is refused leaves a new builder.
-fn text_pushed(alloc: Global) -> bool {
-    passes(MutableUtf8Array::new(alloc), text_goes_on)
+const TEXT_PUSHES: &[PushedText] = &[
+    (NINETY_NINE, "made", &[0, 99]),
+    ("é", "overflow", &[0, 99]),
+    ("a", "made", &[0, 99, 100]),
+];
+
+/// Whether this is told of all of them, and comes.
+fn each_pushes_text(builder: &mut MutableUtf8Array<Tiny>, cases: &[PushedText]) -> bool {
+    for (item, answer, offsets) in cases {
+        let told = tells(builder.push(Some(*item))) == *answer;
+        if !(told & are_offsets(builder.offsets().as_slice(), *offsets)) {
+            return false;
+        }
+    }
+    true
 }
 
 #[test]
 fn text_that_is_refused_leaves_the_builder(rt: HostRuntime) {
-    assert!(rt; text_pushed(rt.alloc()));
-}
-
-/// Whether items behind forty bytes before the first slot end where those do.
-fn goes_on_behind(builder: &mut MutableBinaryArray<Tiny>) -> bool {
-    let past = tells(builder.push(Some(SIXTY_ONE)));
-    let is_left = are_offsets(builder.offsets().as_slice(), [40].as_slice());
-    let at_the_end = tells(builder.push(Some(SIXTY)));
-    let is_pushed = are_offsets(builder.offsets().as_slice(), [40, 100].as_slice());
-    is_left & is_pushed & ([past, at_the_end] == ["overflow", "made"])
-}
-
-/// Whether they do in a new builder.
-fn pushes_behind(alloc: Global) -> bool {
-    passes(
-        own_builder::<Binary, Tiny>(alloc, [40].as_slice(), FORTY, "none"),
-        goes_on_behind,
-    )
-}
-
-#[test]
-fn bytes_before_the_slots_count(rt: HostRuntime) {
-    assert!(rt; pushes_behind(rt.alloc()));
+    let mut builder = MutableUtf8Array::new(rt.alloc()).expect(&rt, "memory");
+    let are_told = each_pushes_text(&mut builder, TEXT_PUSHES);
+    drop(builder);
+    assert!(rt; are_told);
 }
