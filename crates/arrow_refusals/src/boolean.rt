@@ -215,7 +215,11 @@ fn changes(array: &mut BooleanArray) -> Result<bool, Error> {
 /// Whether those of a clone are.
 fn changes_clone(array: &BooleanArray) -> Result<bool, Error> {
     match array.clone() {
-        Ok(mut clone) => changes(&mut clone),
+        Ok(mut clone) => {
+            let answer = changes(&mut clone);
+            drop(clone);
+            answer
+        }
         Err(refused) => Err(refused),
     }
 }
@@ -231,7 +235,11 @@ fn changes_alone(array: &BooleanArray) -> Result<bool, Error> {
 /// The same of a new array.
 fn changed(alloc: Global) -> Result<bool, Error> {
     match BooleanArray::from(alloc, PAIR.as_slice()) {
-        Ok(array) => changes_alone(&array),
+        Ok(array) => {
+            let answer = changes_alone(&array);
+            drop(array);
+            answer
+        }
         Err(refused) => Err(refused),
     }
 }

@@ -575,7 +575,11 @@ fn fits<K: Known, O: Offset>(builder: &mut MutableByteArray<K, O>) -> Result<boo
 /// Whether they are in a new builder, or in one with room.
 fn fits_room<K: Known, O: Offset>(alloc: Global, call: Maker) -> Result<bool, Error> {
     match MutableByteArray::<K, O>::make(alloc, &call) {
-        Ok(mut builder) => fits(&mut builder),
+        Ok(mut builder) => {
+            let answer = fits(&mut builder);
+            drop(builder);
+            answer
+        }
         Err(refused) => Err(refused),
     }
 }

@@ -75,7 +75,11 @@ impl Acted for BooleanArray {
 /// Narrow bytes of wide ones.
 fn narrowed(wide: Result<BinaryArray<i64>, Error>) -> Result<BinaryArray<i32>, Error> {
     match wide {
-        Ok(wide) => narrow_binary(&wide),
+        Ok(wide) => {
+            let answer = narrow_binary(&wide);
+            drop(wide);
+            answer
+        }
         Err(refused) => Err(refused),
     }
 }
@@ -104,7 +108,11 @@ impl Acted for BinaryArray<i32> {
 /// Narrow text of wide.
 fn narrowed_text(wide: Result<Utf8Array<i64>, Error>) -> Result<Utf8Array<i32>, Error> {
     match wide {
-        Ok(wide) => narrow_utf8(&wide),
+        Ok(wide) => {
+            let answer = narrow_utf8(&wide);
+            drop(wide);
+            answer
+        }
         Err(refused) => Err(refused),
     }
 }
@@ -184,7 +192,11 @@ fn each_acts(alloc: Global, filter: &BooleanArray) -> Result<bool, Error> {
 /// Whether they do with a filter that asks for the last two slots.
 fn all_made(alloc: Global) -> Result<bool, Error> {
     match BooleanArray::from(alloc, [Some(false), Some(true), Some(true)].as_slice()) {
-        Ok(filter) => each_acts(alloc, &filter),
+        Ok(filter) => {
+            let answer = each_acts(alloc, &filter);
+            drop(filter);
+            answer
+        }
         Err(refused) => Err(refused),
     }
 }

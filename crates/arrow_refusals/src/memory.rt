@@ -149,9 +149,12 @@ fn are_refused(marks: &mut MutableBitmap, count: usize) -> bool {
 /// Whether more than `usize::MAX` marks are, and as many as are counted but not held.
 fn are_too_many(alloc: Global) -> Result<bool, Error> {
     match MutableBitmap::small(alloc) {
-        Ok(mut marks) => Ok(
-            are_refused(&mut marks, usize::MAX) & are_refused(&mut marks, usize::MAX - 8),
-        ),
+        Ok(mut marks) => {
+            let are_counted = are_refused(&mut marks, usize::MAX);
+            let are_held = are_refused(&mut marks, usize::MAX - 8);
+            drop(marks);
+            Ok(are_counted & are_held)
+        }
         Err(refused) => Err(refused),
     }
 }
@@ -199,7 +202,11 @@ fn changes(marks: &mut Bitmap) -> Result<bool, Error> {
 /// Whether that of a clone is, and the bit map is as before.
 fn changes_clone(first: &Bitmap) -> Result<bool, Error> {
     match first.clone() {
-        Ok(mut second) => Ok(changes(&mut second)? & gives_thirds(first.iter(), 1)),
+        Ok(mut second) => {
+            let answer = changes(&mut second)? & gives_thirds(first.iter(), 1);
+            drop(second);
+            Ok(answer)
+        }
         Err(refused) => Err(refused),
     }
 }
@@ -207,7 +214,11 @@ fn changes_clone(first: &Bitmap) -> Result<bool, Error> {
 /// The same of a new one.
 fn changed(alloc: Global) -> Result<bool, Error> {
     match Bitmap::from_slice(alloc, [true].as_slice()) {
-        Ok(marks) => changes_clone(&marks),
+        Ok(marks) => {
+            let answer = changes_clone(&marks);
+            drop(marks);
+            answer
+        }
         Err(refused) => Err(refused),
     }
 }

@@ -56,7 +56,11 @@ fn refuses(offsets: &mut Offsets<i32>, count: usize) -> bool {
 /// Whether they are of new offsets.
 fn most(alloc: Global, count: usize) -> Result<bool, Error> {
     match Offsets::small(alloc) {
-        Ok(mut offsets) => Ok(refuses(&mut offsets, count)),
+        Ok(mut offsets) => {
+            let answer = refuses(&mut offsets, count);
+            drop(offsets);
+            Ok(answer)
+        }
         Err(refused) => Err(refused),
     }
 }
@@ -178,7 +182,11 @@ fn values_grown(
     call: Items,
 ) -> Result<bool, Error> {
     match b"ab".to_vec(alloc) {
-        Ok(mut values) => grows_items(offsets, &mut values, other, call),
+        Ok(mut values) => {
+            let answer = grows_items(offsets, &mut values, other, call);
+            drop(values);
+            answer
+        }
         Err(refused) => Err(Error::from(refused)),
     }
 }
@@ -186,7 +194,11 @@ fn values_grown(
 /// Whether new offsets have.
 fn items_grown(alloc: Global, other: &Offsets<i32>, call: Items) -> Result<bool, Error> {
     match Offsets::small(alloc) {
-        Ok(mut offsets) => values_grown(alloc, &mut offsets, other, call),
+        Ok(mut offsets) => {
+            let answer = values_grown(alloc, &mut offsets, other, call);
+            drop(offsets);
+            answer
+        }
         Err(refused) => Err(refused),
     }
 }
@@ -194,7 +206,11 @@ fn items_grown(alloc: Global, other: &Offsets<i32>, call: Items) -> Result<bool,
 /// Whether they have by one of the two calls, beside new other ones.
 fn all_items_grown(alloc: Global, call: Items) -> Result<bool, Error> {
     match Offsets::other(alloc) {
-        Ok(other) => items_grown(alloc, &other, call),
+        Ok(other) => {
+            let answer = items_grown(alloc, &other, call);
+            drop(other);
+            answer
+        }
         Err(refused) => Err(refused),
     }
 }

@@ -24,7 +24,11 @@ fn are_past(offsets: &mut Offsets<Tiny>, other: &Offsets<Tiny>) -> bool {
 fn are_past_new(alloc: Global, other: &mut Offsets<Tiny>) -> Result<bool, Error> {
     let is_full = other.try_push_usize(41).is_ok();
     match Offsets::with_capacity(alloc, 1) {
-        Ok(mut offsets) => Ok(are_past(&mut offsets, other) & is_full),
+        Ok(mut offsets) => {
+            let answer = are_past(&mut offsets, other) & is_full;
+            drop(offsets);
+            Ok(answer)
+        }
         Err(refused) => Err(refused),
     }
 }
@@ -32,7 +36,11 @@ fn are_past_new(alloc: Global, other: &mut Offsets<Tiny>) -> Result<bool, Error>
 /// Whether it is beside new ones.
 fn offsets_are_past(alloc: Global) -> Result<bool, Error> {
     match Offsets::with_capacity(alloc, 1) {
-        Ok(mut other) => are_past_new(alloc, &mut other),
+        Ok(mut other) => {
+            let answer = are_past_new(alloc, &mut other);
+            drop(other);
+            answer
+        }
         Err(refused) => Err(refused),
     }
 }
@@ -72,7 +80,11 @@ fn is_past_new<K: Known>(
 ) -> Result<bool, Error> {
     let is_full = K::push(other, Some(FORTY_ONE), false).is_ok();
     match MutableByteArray::<K, Tiny>::with_capacities(alloc, 1, 60) {
-        Ok(mut builder) => Ok(is_past(&mut builder, other) & is_full),
+        Ok(mut builder) => {
+            let answer = is_past(&mut builder, other) & is_full;
+            drop(builder);
+            Ok(answer)
+        }
         Err(refused) => Err(refused),
     }
 }
@@ -80,7 +92,11 @@ fn is_past_new<K: Known>(
 /// Whether they are beside a new one.
 fn item_is_past<K: Known>(alloc: Global) -> Result<bool, Error> {
     match MutableByteArray::<K, Tiny>::with_capacities(alloc, 1, 41) {
-        Ok(mut other) => is_past_new(alloc, &mut other),
+        Ok(mut other) => {
+            let answer = is_past_new(alloc, &mut other);
+            drop(other);
+            answer
+        }
         Err(refused) => Err(refused),
     }
 }

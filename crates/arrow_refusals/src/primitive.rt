@@ -189,7 +189,11 @@ fn are_too_many(builder: &mut MutablePrimitiveArray<i64>) -> bool {
 /// The same of a new builder.
 fn refused(alloc: Global) -> Result<bool, Error> {
     match MutablePrimitiveArray::small(alloc) {
-        Ok(mut builder) => Ok(are_too_many(&mut builder)),
+        Ok(mut builder) => {
+            let answer = are_too_many(&mut builder);
+            drop(builder);
+            Ok(answer)
+        }
         Err(refused) => Err(refused),
     }
 }
@@ -336,7 +340,11 @@ fn fits(builder: &mut MutablePrimitiveArray<i64>) -> Result<bool, Error> {
 /// Whether they are in a new builder with room.
 fn fits_room(alloc: Global) -> Result<bool, Error> {
     match MutablePrimitiveArray::with_capacity(alloc, 3) {
-        Ok(mut builder) => fits(&mut builder),
+        Ok(mut builder) => {
+            let answer = fits(&mut builder);
+            drop(builder);
+            answer
+        }
         Err(refused) => Err(refused),
     }
 }

@@ -97,13 +97,22 @@ fn commands() -> [Command<i64, i32>; 7] {
 
 /// Whether they do of these commands.
 fn ends_on(alloc: Global, table: &mut Table<i64, i32>) -> Result<bool, Error> {
-    ends(table, &commands(), &mut Vec::new(alloc))
+    let commands = commands();
+    let mut replies = Vec::new(alloc);
+    let answer = ends(table, &commands, &mut replies);
+    drop(replies);
+    drop(commands);
+    answer
 }
 
 /// Whether they do on a table of one entry.
 fn ends_of_commands(alloc: Global) -> Result<bool, Error> {
     match Table::<i64, i32>::new(alloc, 1) {
-        Ok(mut table) => ends_on(alloc, &mut table),
+        Ok(mut table) => {
+            let answer = ends_on(alloc, &mut table);
+            drop(table);
+            answer
+        }
         Err(_) => Err(Error::OutOfMemory),
     }
 }

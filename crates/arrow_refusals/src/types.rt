@@ -9,7 +9,11 @@ use std::test::Fail;
 /// Whether a clone is equal to its original.
 fn is_equal(original: &DataType) -> Result<bool, Error> {
     match original.clone() {
-        Ok(clone) => Ok(clone == *original),
+        Ok(clone) => {
+            let is_equal = clone == *original;
+            drop(clone);
+            Ok(is_equal)
+        }
         Err(refused) => Err(Error::from(refused)),
     }
 }
@@ -25,7 +29,11 @@ fn is_cloned(original: &DataType) -> Result<bool, Error> {
 /// Whether that of a type that was made is.
 fn cloned(original: Result<DataType, Error>) -> Result<bool, Error> {
     match original {
-        Ok(original) => is_cloned(&original),
+        Ok(original) => {
+            let answer = is_cloned(&original);
+            drop(original);
+            answer
+        }
         Err(refused) => Err(refused),
     }
 }

@@ -77,8 +77,11 @@ struct Wanted {
 /// How a session over this input ends on this writer, and how many faults the writer had.
 fn session_to(alloc: Global, input: &str, writer: Writer<'_>) -> (Outcome, u64) {
     let mut output = Counted::new(writer);
-    let outcome = session(alloc, &mut Counted::new(input.as_bytes()), &mut output);
-    (outcome, output.count())
+    let mut input = Counted::new(input.as_bytes());
+    let outcome = session(alloc, &mut input, &mut output);
+    let faults = output.count();
+    drop(output);
+    (outcome, faults)
 }
 
 /// Whether a session of which one write fails so, as each flush may, comes to this.
@@ -100,7 +103,9 @@ fn is_written(
     };
     let (outcome, faults) = session_to(alloc, input, writer);
     let are_counted = (faults == wanted.faults) & (flushes == wanted.flushes);
-    are_counted & (outcome == wanted.outcome) & (taken.as_slice() == wanted.text.as_bytes())
+    let is_taken = taken.as_slice() == wanted.text.as_bytes();
+    drop(taken);
+    are_counted & (outcome == wanted.outcome) & is_taken
 }
 
 /// Inputs, how the second write fails, whether each flush does, and what the session comes to.
@@ -245,8 +250,11 @@ fn session_from(alloc: Global, failure: Failure, written: &mut Vec<u8>) -> (Outc
         failure,
         reads: 0,
     });
-    let outcome = session(alloc, &mut input, &mut Counted::new(written));
-    (outcome, input.count())
+    let mut output = Counted::new(written);
+    let outcome = session(alloc, &mut input, &mut output);
+    let faults = input.count();
+    drop(input);
+    (outcome, faults)
 }
 
 /// Whether it ends by the device, or is done, and writes this.
@@ -258,7 +266,9 @@ fn is_read(alloc: Global, failure: Failure, is_end: bool, text: &str) -> bool {
         Outcome::Done => !is_end,
         _ => false,
     };
-    is_ended & (faults == 1) & (written.as_slice() == text.as_bytes())
+    let is_written = written.as_slice() == text.as_bytes();
+    drop(written);
+    is_ended & (faults == 1) & is_written
 }
 
 /// The first of the sixteen reads of the first run, the last of which finds its end, after whose failure a session ends

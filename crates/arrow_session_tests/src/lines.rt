@@ -7,7 +7,9 @@ use std::alloc::Global;
 fn end_of(alloc: Global, input: &[u8]) -> (Outcome, bool) {
     let mut written = Vec::new(alloc);
     let outcome = session_of(alloc, input, &mut written);
-    (outcome, written.is_empty())
+    let is_silent = written.is_empty();
+    drop(written);
+    (outcome, is_silent)
 }
 
 /// Whether the first line of an input that is no command has this number; 0 where each is one.

@@ -29,7 +29,9 @@ pub(crate) fn session_of(alloc: Global, input: &[u8], written: &mut Vec<u8>) -> 
 fn is_ended(alloc: Global, input: &str, status: u8, output: &str) -> bool {
     let mut written = Vec::new(alloc);
     let outcome = session_of(alloc, input.as_bytes(), &mut written);
-    (outcome.status() == status) & (written.as_slice() == output.as_bytes())
+    let is_written = written.as_slice() == output.as_bytes();
+    drop(written);
+    (outcome.status() == status) & is_written
 }
 
 /// Inputs, and the status and the output of a session over each.
@@ -61,7 +63,11 @@ fn status_and_output(rt: HostRuntime) {
 fn is_said(alloc: Global, outcome: Outcome, status: u8, words: &str) -> bool {
     let is_status = outcome.status() == status;
     match outcome.to_string(alloc) {
-        Ok(said) => is_status & (said.as_str() == words),
+        Ok(said) => {
+            let is_said = said.as_str() == words;
+            drop(said);
+            is_status & is_said
+        }
         Err(_) => false,
     }
 }

@@ -173,5 +173,5 @@ list 6 -> []
 
 #[test]
 fn clones_and_cuts(rt: HostRuntime) -> Result<(), Fail> {
-    both_answer(rt.alloc(), &[NUMBERS, BITS, BYTES, TEXTS])
+    both_answer(rt.alloc(), &rt, &[NUMBERS, BITS, BYTES, TEXTS])
 }

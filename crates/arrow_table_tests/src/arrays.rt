@@ -217,5 +217,5 @@ thaw 0 -> not met
 
 #[test]
 fn arrays_answer(rt: HostRuntime) -> Result<(), Fail> {
-    both_answer(rt.alloc(), &[MADE, TOLD, CHANGED, VALUES, THAWED])
+    both_answer(rt.alloc(), &rt, &[MADE, TOLD, CHANGED, VALUES, THAWED])
 }

@@ -318,6 +318,7 @@ equal 3 5 -> not met
 fn builders_answer(rt: HostRuntime) -> Result<(), Fail> {
     both_answer(
         rt.alloc(),
+        &rt,
         &[PUSHED, EXTENDED, JOINED, CHANGED, FROZEN, EQUAL],
     )
 }
@@ -394,5 +395,5 @@ list 1 -> [ta]
 
 #[test]
 fn slots_and_items(rt: HostRuntime) -> Result<(), Fail> {
-    both_answer(rt.alloc(), &[FILLED, ITEMS])
+    both_answer(rt.alloc(), &rt, &[FILLED, ITEMS])
 }

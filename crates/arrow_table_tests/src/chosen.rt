@@ -183,5 +183,5 @@ len 6 -> not met
 
 #[test]
 fn rows_are_chosen(rt: HostRuntime) -> Result<(), Fail> {
-    both_answer(rt.alloc(), &[PIECES, VALUES, ENDS, UNMET])
+    both_answer(rt.alloc(), &rt, &[PIECES, VALUES, ENDS, UNMET])
 }

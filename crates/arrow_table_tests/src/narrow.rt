@@ -117,5 +117,9 @@ len 6 -> 101
 
 #[test]
 fn offsets_end(rt: HostRuntime) -> Result<(), Fail> {
-    all_answer::<i64, Tiny>(rt.alloc(), &[PUSHES, EXTENSIONS, JOINS, MAKERS, CHOICES])
+    all_answer::<i64, Tiny>(
+        rt.alloc(),
+        &rt,
+        &[PUSHES, EXTENSIONS, JOINS, MAKERS, CHOICES],
+    )
 }

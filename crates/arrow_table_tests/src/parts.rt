@@ -120,6 +120,6 @@ parts 0 bin bytes - pieces . -9223372036854775808 -> refused: the first offset m
 
 #[test]
 fn parts_are_tested(rt: HostRuntime) -> Result<(), Fail> {
-    both_answer(rt.alloc(), &[FIXED, ARRAYS, BUILDERS, UNMET, ENDS])?;
-    answers::<days_ms, i64>(rt.alloc(), 8, WIDE_ENDS)
+    both_answer(rt.alloc(), &rt, &[FIXED, ARRAYS, BUILDERS, UNMET, ENDS])?;
+    answers::<days_ms, i64>(rt.alloc(), &rt, 8, WIDE_ENDS)
 }

@@ -1,9 +1,8 @@
 //! Worked examples, and runs as such.
 use crate::script::{both_answer, wrong_on};
 use arrow_table::{Kind, Table};
-use arrow_testing::all_told;
-use arrow_types::error::Error;
 use std::alloc::Global;
+use std::process::Abort;
 use std::test::Fail;
 
 /// A clone is thawed only once no one else has its parts, and no one sees what is then done to it; an array that shares
@@ -155,7 +154,7 @@ len 0 -> not met
 
 #[test]
 fn worked_examples(rt: HostRuntime) -> Result<(), Fail> {
-    both_answer(rt.alloc(), &[FIRST, NUMBERS, BYTES, TURNS, CUT_TEXT])
+    both_answer(rt.alloc(), &rt, &[FIRST, NUMBERS, BYTES, TURNS, CUT_TEXT])
 }
 
 /// One entry of each kind.
@@ -211,19 +210,14 @@ fn are_kinds(table: &Table<i64, i32>, kinds: &[Kind]) -> bool {
     true
 }
 
-/// Whether a table of eleven entries tells no kinds, and then those.
-fn tells_kinds(alloc: Global, table: &mut Table<i64, i32>) -> Result<bool, Error> {
-    let is_empty = (table.len() == 11) & are_kinds(table, &[]);
-    let wrong = wrong_on(alloc, table, KINDS)?;
-    Ok(is_empty & wrong.is_none() & are_kinds(table, EACH))
-}
-
-/// Whether a new one does.
-fn new_tells_kinds(alloc: Global) -> Result<bool, Error> {
-    match Table::<i64, i32>::new(alloc, 11) {
-        Ok(mut table) => tells_kinds(alloc, &mut table),
-        Err(refused) => Err(Error::from(refused)),
-    }
+/// Whether a new table of eleven entries tells no kinds, and then those.
+fn tells_kinds(alloc: Global, rt: &impl Abort) -> bool {
+    let mut table = Table::<i64, i32>::new(alloc, 11).expect(rt, "memory");
+    let is_empty = (table.len() == 11) & are_kinds(&table, &[]);
+    let wrong = wrong_on(alloc, rt, &mut table, KINDS);
+    let are_told = are_kinds(&table, EACH);
+    drop(table);
+    is_empty & wrong.is_none() & are_told
 }
 
 /// A table without entries meets no command but that on keys.
@@ -236,21 +230,17 @@ equal 0 0 -> not met
 indexes 1 0 -> ok
 ";
 
-/// Whether it does, and stays without.
-fn meets_nothing(alloc: Global, table: &mut Table<i64, i32>) -> Result<bool, Error> {
-    let wrong = wrong_on(alloc, table, NOTHING)?;
-    Ok(wrong.is_none() & (table.len() == 0))
-}
-
-/// Whether a new one does.
-fn new_meets_nothing(alloc: Global) -> Result<bool, Error> {
-    match Table::<i64, i32>::new(alloc, 0) {
-        Ok(mut table) => meets_nothing(alloc, &mut table),
-        Err(refused) => Err(Error::from(refused)),
-    }
+/// Whether a new one does, and stays without.
+fn meets_nothing(alloc: Global, rt: &impl Abort) -> bool {
+    let mut table = Table::<i64, i32>::new(alloc, 0).expect(rt, "memory");
+    let wrong = wrong_on(alloc, rt, &mut table, NOTHING);
+    let is_empty = table.len() == 0;
+    drop(table);
+    wrong.is_none() & is_empty
 }
 
 #[test]
-fn entries_are_told(rt: HostRuntime) -> Result<(), Fail> {
-    all_told(&[new_tells_kinds(rt.alloc()), new_meets_nothing(rt.alloc())])
+fn entries_are_told(rt: HostRuntime) {
+    let are_told = tells_kinds(rt.alloc(), &rt);
+    assert!(rt; are_told & meets_nothing(rt.alloc(), &rt));
 }

@@ -12,107 +12,110 @@ mod samples;
 mod words;
 
 use arrow_table::{Command, Reply, Table, run};
-use arrow_types::error::Error;
 use arrow_types::native_type::days_ms;
 use commands::command;
 use replies::is_answer;
 pub(crate) use samples::{Sample, Width};
 use std::alloc::Global;
+use std::process::Abort;
 use std::test::Fail;
 
-/// Appends the commands of a script.
-fn push_commands<T: Sample, O: Width>(
+/// The commands of a script.
+fn commands_of<T: Sample, O: Width>(
     alloc: Global,
-    commands: &mut Vec<Command<T, O>>,
+    rt: &impl Abort,
     script: &str,
-) -> Result<(), Error> {
+) -> Vec<Command<T, O>> {
+    let mut commands = Vec::new(alloc);
     for line in script.lines() {
         if let Some((asked, _)) = line.split_once(" -> ") {
-            commands.push(command(alloc, asked)?)?;
+            commands
+                .push(command(alloc, rt, asked))
+                .expect(rt, "memory");
         }
     }
-    Ok(())
+    commands
 }
 
 /// The first line of a script whose answer is another than the one that came, where there is one.
 fn wrong_among<'a, T: Sample, O: Width>(
     alloc: Global,
+    rt: &impl Abort,
     script: &'a str,
     replies: &[Reply<T>],
-) -> Result<Option<&'a str>, Error> {
+) -> Option<&'a str> {
     let mut replies = replies.iter();
     for line in script.lines() {
         if let Some((_, wanted)) = line.split_once(" -> ") {
-            if !is_answer::<T, O>(alloc, replies.next(), wanted)? {
-                return Ok(Some(line));
+            if !is_answer::<T, O>(alloc, rt, replies.next(), wanted) {
+                return Some(line);
             }
         }
     }
-    Ok(None)
+    None
 }
 
-/// The first line of a script that a table answers otherwise, where there is one, once it has run its commands.
-fn wrong_of<'a, T: Sample, O: Width>(
-    alloc: Global,
-    table: &mut Table<T, O>,
-    commands: &[Command<T, O>],
-    script: &'a str,
-) -> Result<Option<&'a str>, Error> {
-    let mut replies = Vec::new(alloc);
-    if run(table, commands, &mut replies) < commands.len() {
-        return Ok(Some("not all commands were done"));
-    }
-    wrong_among::<T, O>(alloc, script, &replies)
-}
-
-/// The same of the script's commands; all are one run.
+/// The first line of a script that a table answers otherwise, where there is one, once it has run its commands; all are one
+/// run.
 pub(crate) fn wrong_on<'a, T: Sample, O: Width>(
     alloc: Global,
+    rt: &impl Abort,
     table: &mut Table<T, O>,
     script: &'a str,
-) -> Result<Option<&'a str>, Error> {
-    let mut commands = Vec::new(alloc);
-    match push_commands::<T, O>(alloc, &mut commands, script) {
-        Ok(()) => wrong_of(alloc, table, &commands, script),
-        Err(unreadable) => Err(unreadable),
-    }
+) -> Option<&'a str> {
+    let commands = commands_of::<T, O>(alloc, rt, script);
+    let mut replies = Vec::new(alloc);
+    let is_done = run(table, &commands, &mut replies) == commands.len();
+    drop(commands);
+    let wrong = if is_done {
+        wrong_among::<T, O>(alloc, rt, script, &replies)
+    } else {
+        Some("not all commands were done")
+    };
+    drop(replies);
+    wrong
 }
 
 /// The same of a new table of so many entries.
-fn wrong_line<T: Sample, O: Width>(
+fn wrong_line<'a, T: Sample, O: Width>(
     alloc: Global,
+    rt: &impl Abort,
     entries: usize,
-    script: &str,
-) -> Result<Option<&str>, Error> {
-    match Table::<T, O>::new(alloc, entries) {
-        Ok(mut table) => wrong_on(alloc, &mut table, script),
-        Err(refused) => Err(Error::from(refused)),
-    }
+    script: &'a str,
+) -> Option<&'a str> {
+    let mut table = Table::<T, O>::new(alloc, entries).expect(rt, "memory");
+    let wrong = wrong_on(alloc, rt, &mut table, script);
+    drop(table);
+    wrong
 }
 
 /// Fails where a new table of so many entries answers some line of a script otherwise.
 pub(crate) fn answers<T: Sample, O: Width>(
     alloc: Global,
+    rt: &impl Abort,
     entries: usize,
     script: &str,
 ) -> Result<(), Fail> {
-    match wrong_line::<T, O>(alloc, entries, script) {
-        Ok(None) => Ok(()),
-        Ok(Some(line)) => Err(Fail::new(line)),
-        Err(refused) => Err(Fail::from(refused)),
+    match wrong_line::<T, O>(alloc, rt, entries, script) {
+        Some(line) => Err(Fail::new(line)),
+        None => Ok(()),
     }
 }
 
 /// The same of tables of eight entries and each of these scripts.
-pub(crate) fn all_answer<T: Sample, O: Width>(alloc: Global, scripts: &[&str]) -> Result<(), Fail> {
+pub(crate) fn all_answer<T: Sample, O: Width>(
+    alloc: Global,
+    rt: &impl Abort,
+    scripts: &[&str],
+) -> Result<(), Fail> {
     for script in scripts {
-        answers::<T, O>(alloc, 8, *script)?;
+        answers::<T, O>(alloc, rt, 8, *script)?;
     }
     Ok(())
 }
 
 /// The same of tables of numbers over narrow offsets, and of tables of pairs of numbers over wide ones.
-pub(crate) fn both_answer(alloc: Global, scripts: &[&str]) -> Result<(), Fail> {
-    all_answer::<i64, i32>(alloc, scripts)?;
-    all_answer::<days_ms, i64>(alloc, scripts)
+pub(crate) fn both_answer(alloc: Global, rt: &impl Abort, scripts: &[&str]) -> Result<(), Fail> {
+    all_answer::<i64, i32>(alloc, rt, scripts)?;
+    all_answer::<days_ms, i64>(alloc, rt, scripts)
 }

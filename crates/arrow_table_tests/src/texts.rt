@@ -1,10 +1,9 @@
 //! Parts of text, and what their test costs.
 use crate::script::{Width, both_answer, wrong_on};
 use arrow_table::{Command, Kind, Parts, Raw, Reply, Table, run};
-use arrow_testing::all_told;
 use arrow_types::data_type::DataType;
-use arrow_types::error::Error;
 use std::alloc::Global;
+use std::process::Abort;
 use std::test::Fail;
 
 /// Each text by itself has to be UTF-8; bytes around them may be any.
@@ -42,75 +41,56 @@ value 6 2 -> tc
 
 #[test]
 fn texts_by_themselves(rt: HostRuntime) -> Result<(), Fail> {
-    both_answer(rt.alloc(), &[TEXTS])
+    both_answer(rt.alloc(), &rt, &[TEXTS])
 }
 
 /// The bytes of a hundred texts of one character of two bytes.
 const HUNDRED: &str =
     "éééééééééééééééééééééééééééééééééééééééééééééééééééééééééééééééééééééééééééééééééééééééééééééééééééé";
 
-/// Appends the offsets of a hundred texts of two bytes.
-fn push_ends<O: Width>(offsets: &mut Vec<O>) -> Result<(), Error> {
+/// The offsets of a hundred texts of two bytes.
+fn hundred_ends<O: Width>(alloc: Global, rt: &impl Abort) -> Vec<O> {
+    let mut offsets = Vec::new(alloc);
     for end in 0..201 {
         if end % 2 == 0 {
-            offsets.push(O::of(end).ok_or(Error::Overflow)?)?;
+            offsets
+                .push(O::of(end).expect(rt, "an offset"))
+                .expect(rt, "memory");
         }
     }
-    Ok(())
+    offsets
 }
 
-/// Those offsets.
-fn hundred_ends<O: Width>(alloc: Global) -> Result<Vec<O>, Error> {
-    let mut offsets = Vec::new(alloc);
-    match push_ends(&mut offsets) {
-        Ok(()) => Ok(offsets),
-        Err(refused) => Err(refused),
-    }
-}
-
-/// Parts of text.
-fn parts_of<O: Width>(offsets: Vec<O>, bytes: Vec<u8>) -> Parts<i64, O> {
-    Parts {
+/// The command that puts a hundred texts of one character of two bytes, as parts, into an entry.
+fn accents<O: Width>(alloc: Global, rt: &impl Abort, e: usize) -> Command<i64, O> {
+    let bytes = HUNDRED.as_bytes().to_vec(alloc).expect(rt, "memory");
+    let parts = Parts {
         kind: Kind::Utf8,
         data_type: if O::IS_LARGE {
             DataType::LargeUtf8
         } else {
             DataType::Utf8
         },
-        raw: Raw::Pieces(offsets, bytes),
+        raw: Raw::Pieces(hundred_ends(alloc, rt), bytes),
         mask: None,
-    }
+    };
+    Command::Parts(e, parts)
 }
 
-/// A hundred texts of one character of two bytes, as parts.
-fn hundred<O: Width>(alloc: Global, e: usize, offsets: Vec<O>) -> Result<Command<i64, O>, Error> {
-    match HUNDRED.as_bytes().to_vec(alloc) {
-        Ok(bytes) => Ok(Command::Parts(e, parts_of(offsets, bytes))),
-        Err(refused) => Err(Error::from(refused)),
-    }
-}
-
-/// The same of new offsets.
-fn accents<O: Width>(alloc: Global, e: usize) -> Result<Command<i64, O>, Error> {
-    match hundred_ends(alloc) {
-        Ok(offsets) => hundred(alloc, e, offsets),
-        Err(refused) => Err(refused),
-    }
-}
-
-/// Whether a table does a command.
-fn does<O: Width>(alloc: Global, table: &mut Table<i64, O>, command: Command<i64, O>) -> bool {
+/// Whether a table accepts a hundred texts.
+fn takes_many<O: Width>(
+    alloc: Global,
+    rt: &impl Abort,
+    table: &mut Table<i64, O>,
+    e: usize,
+) -> bool {
+    let commands = [accents(alloc, rt, e)];
     let mut replies = Vec::new(alloc);
-    let done = run(table, &[command], &mut replies);
-    (done == 1) & matches!(replies.as_slice(), [Reply::Done])
-}
-
-/// Whether it accepts a hundred texts.
-fn takes_many<O: Width>(alloc: Global, table: &mut Table<i64, O>, e: usize) -> Result<bool, Error> {
-    match accents(alloc, e) {
-        Ok(command) => Ok(does(alloc, table, command)),
-        Err(refused) => Err(refused),
-    }
+    let done = run(table, &commands, &mut replies);
+    drop(commands);
+    let is_done = matches!(replies.as_slice(), [Reply::Done]);
+    drop(replies);
+    (done == 1) & is_done
 }
 
 /// How many tests whether bytes are ASCII, how many whether they are UTF-8, and how many looks.
@@ -125,12 +105,13 @@ fn is_cost<O: Width>(table: &Table<i64, O>, wanted: Cost) -> bool {
 /// Whether a table answers a script, and its tests then have cost so much in all.
 fn costs<O: Width>(
     alloc: Global,
+    rt: &impl Abort,
     table: &mut Table<i64, O>,
     script: &str,
     wanted: Cost,
-) -> Result<bool, Error> {
-    let wrong = wrong_on(alloc, table, script)?;
-    Ok(wrong.is_none() & is_cost(table, wanted))
+) -> bool {
+    let wrong = wrong_on(alloc, rt, table, script);
+    wrong.is_none() & is_cost(table, wanted)
 }
 
 /// What tests have cost after each of these: a window of ASCII is not looked at further, and of any other the offsets between
@@ -155,17 +136,13 @@ const COSTS: &[(&str, Cost)] = &[
 ];
 
 /// Whether they are told so.
-fn are_counted<O: Width>(
-    alloc: Global,
-    table: &mut Table<i64, O>,
-    cases: &[(&str, Cost)],
-) -> Result<bool, Error> {
-    for (script, wanted) in cases {
-        if !costs(alloc, table, *script, *wanted)? {
-            return Ok(false);
+fn are_counted<O: Width>(alloc: Global, rt: &impl Abort, table: &mut Table<i64, O>) -> bool {
+    for (script, wanted) in COSTS {
+        if !costs(alloc, rt, table, *script, *wanted) {
+            return false;
         }
     }
-    Ok(true)
+    true
 }
 
 /// What is not text, or is no new text, is never tested.
@@ -185,30 +162,28 @@ freeze 3 -> ok
 ";
 
 /// Whether a hundred texts are tested at once, and again when they come again; and others are not.
-fn are_counted_once<O: Width>(alloc: Global, table: &mut Table<i64, O>) -> Result<bool, Error> {
-    let is_first = takes_many(alloc, table, 0)? & is_cost(table, [1, 1, 99]);
-    let is_second = takes_many(alloc, table, 1)? & is_cost(table, [2, 2, 198]);
-    Ok(is_first & is_second & costs(alloc, table, OTHERS, [2, 2, 198])?)
+fn are_counted_once<O: Width>(alloc: Global, rt: &impl Abort, table: &mut Table<i64, O>) -> bool {
+    let is_first = takes_many(alloc, rt, table, 0) & is_cost(table, [1, 1, 99]);
+    let is_second = takes_many(alloc, rt, table, 1) & is_cost(table, [2, 2, 198]);
+    is_first & is_second & costs(alloc, rt, table, OTHERS, [2, 2, 198])
 }
 
 /// Whether few texts, or a hundred, are counted so on a new table.
-fn is_counted<O: Width>(alloc: Global, is_few: bool) -> Result<bool, Error> {
-    match Table::<i64, O>::new(alloc, 4) {
-        Ok(mut table) => if is_few {
-            are_counted(alloc, &mut table, COSTS)
-        } else {
-            are_counted_once(alloc, &mut table)
-        },
-        Err(refused) => Err(Error::from(refused)),
-    }
+fn is_counted<O: Width>(alloc: Global, rt: &impl Abort, is_few: bool) -> bool {
+    let mut table = Table::<i64, O>::new(alloc, 4).expect(rt, "memory");
+    let is_counted = if is_few {
+        are_counted(alloc, rt, &mut table)
+    } else {
+        are_counted_once(alloc, rt, &mut table)
+    };
+    drop(table);
+    is_counted
 }
 
 #[test]
-fn texts_are_tested_once(rt: HostRuntime) -> Result<(), Fail> {
-    all_told(&[
-        is_counted::<i32>(rt.alloc(), true),
-        is_counted::<i32>(rt.alloc(), false),
-        is_counted::<i64>(rt.alloc(), true),
-        is_counted::<i64>(rt.alloc(), false),
-    ])
+fn texts_are_tested_once(rt: HostRuntime) {
+    for is_few in [true, false] {
+        let is_narrow = is_counted::<i32>(rt.alloc(), &rt, is_few);
+        assert!(rt; is_narrow & is_counted::<i64>(rt.alloc(), &rt, is_few));
+    }
 }

@@ -295,6 +295,7 @@ type 1 -> boolean
 fn conditions_fail(rt: HostRuntime) -> Result<(), Fail> {
     both_answer(
         rt.alloc(),
+        &rt,
         &[MISSING, WRONG_KIND, WRONG_BUILDER, UNFIT, PAST, UNMADE],
     )
 }

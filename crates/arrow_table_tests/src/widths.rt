@@ -1,32 +1,24 @@
 //! Tables of both widths.
 use arrow_table::{BothCommand, Command, Item, Kind, Parts, Raw, Reply, Tables, run_both};
-use arrow_testing::told;
 use arrow_types::data_type::DataType;
-use arrow_types::error::Error;
 use arrow_types::offset::Offset;
 use std::alloc::Global;
-use std::test::Fail;
+use std::process::Abort;
 
-/// Appends a text.
-fn push_text(alloc: Global, slots: &mut Vec<Option<Item<i64>>>, text: &str) -> Result<(), Error> {
-    slots.push(Some(Item::Text(String::from_str(alloc, text)?)))?;
-    Ok(())
+/// A text.
+fn text(alloc: Global, rt: &impl Abort, text: &str) -> Item<i64> {
+    Item::Text(String::from_str(alloc, text).expect(rt, "memory"))
 }
 
-/// Appends a text, a null and a text.
-fn push_slots(alloc: Global, slots: &mut Vec<Option<Item<i64>>>) -> Result<(), Error> {
-    push_text(alloc, slots, "hi")?;
-    slots.push(None)?;
-    push_text(alloc, slots, "there")
-}
-
-/// Those slots.
-fn slots(alloc: Global) -> Result<Vec<Option<Item<i64>>>, Error> {
+/// A text, a null and a text.
+fn slots(alloc: Global, rt: &impl Abort) -> Vec<Option<Item<i64>>> {
     let mut slots = Vec::new(alloc);
-    match push_slots(alloc, &mut slots) {
-        Ok(()) => Ok(slots),
-        Err(refused) => Err(refused),
-    }
+    slots.push(Some(text(alloc, rt, "hi"))).expect(rt, "memory");
+    slots.push(None).expect(rt, "memory");
+    slots
+        .push(Some(text(alloc, rt, "there")))
+        .expect(rt, "memory");
+    slots
 }
 
 /// Whether this may be the reply to the command at a place of those below.
@@ -71,7 +63,10 @@ fn goes(tables: &mut Tables<i64>, alloc: Global, slots: Vec<Option<Item<i64>>>) 
     let done = run_both(tables, &commands, &mut replies);
     let is_untested = tables.wide().text_cost().whole_tests() == 0
         && tables.narrow().text_cost().whole_tests() == 0;
-    done == 11 && are_right(&replies) && is_untested
+    drop(commands);
+    let are_right = are_right(&replies);
+    drop(replies);
+    (done == 11) & are_right & is_untested
 }
 
 /// Whether it does, and what then stands in the tables, which have four entries.
@@ -83,36 +78,26 @@ fn goes_and_stays(alloc: Global, tables: &mut Tables<i64>, slots: Vec<Option<Ite
     is_gone & is_narrow & is_wide & is_empty
 }
 
-/// The same of slots that were made.
-fn goes_of_slots(
-    alloc: Global,
-    tables: &mut Tables<i64>,
-    slots: Result<Vec<Option<Item<i64>>>, Error>,
-) -> Result<bool, Error> {
-    match slots {
-        Ok(slots) => Ok(goes_and_stays(alloc, tables, slots)),
-        Err(refused) => Err(refused),
-    }
-}
-
 /// The same of new tables.
-fn goes_there_and_back(alloc: Global) -> Result<bool, Error> {
-    match Tables::new(alloc, 4) {
-        Ok(mut tables) => goes_of_slots(alloc, &mut tables, slots(alloc)),
-        Err(refused) => Err(Error::from(refused)),
-    }
+fn goes_there_and_back(alloc: Global, rt: &impl Abort) -> bool {
+    let mut tables = Tables::new(alloc, 4).expect(rt, "memory");
+    let is_gone = goes_and_stays(alloc, &mut tables, slots(alloc, rt));
+    drop(tables);
+    is_gone
 }
 
 /// What a reply is.
 fn named(reply: Reply<i64>) -> &'static str {
-    match reply {
+    let name = match &reply {
         Reply::Done => "done",
         Reply::NotMet => "not met",
         Reply::Number(0) => "none",
         Reply::Number(2) => "two",
         Reply::Typed(DataType::Binary) => "binary",
         _ => "something else",
-    }
+    };
+    drop(reply);
+    name
 }
 
 /// What one step of the narrow table answers.
@@ -159,11 +144,11 @@ fn steps(alloc: Global, tables: &mut Tables<i64>) -> bool {
 }
 
 /// The same of new tables.
-fn steps_of_new(alloc: Global) -> Result<bool, Error> {
-    match Tables::new(alloc, 2) {
-        Ok(mut tables) => Ok(steps(alloc, &mut tables)),
-        Err(refused) => Err(Error::from(refused)),
-    }
+fn steps_of_new(alloc: Global, rt: &impl Abort) -> bool {
+    let mut tables = Tables::new(alloc, 2).expect(rt, "memory");
+    let are_taken = steps(alloc, &mut tables);
+    drop(tables);
+    are_taken
 }
 
 /// What is answered where a slot is pushed to the first entry of either side, with no command made for it.
@@ -188,44 +173,35 @@ fn pushes(alloc: Global, tables: &mut Tables<i64>) -> bool {
 }
 
 /// The same of new tables.
-fn pushes_of_new(alloc: Global) -> Result<bool, Error> {
-    match Tables::new(alloc, 1) {
-        Ok(mut tables) => Ok(pushes(alloc, &mut tables)),
-        Err(refused) => Err(Error::from(refused)),
-    }
+fn pushes_of_new(alloc: Global, rt: &impl Abort) -> bool {
+    let mut tables = Tables::new(alloc, 1).expect(rt, "memory");
+    let are_pushed = pushes(alloc, &mut tables);
+    drop(tables);
+    are_pushed
 }
 
 /// The raw parts of an array of two numbers.
-fn two<O: Offset>(alloc: Global) -> Result<Parts<i64, O>, Error> {
-    let values = [3, 4].to_vec(alloc)?;
-    Ok(Parts {
+fn two<O: Offset>(alloc: Global, rt: &impl Abort) -> Parts<i64, O> {
+    Parts {
         kind: Kind::Primitive,
         data_type: DataType::Int64,
-        raw: Raw::Values(values),
+        raw: Raw::Values([3, 4].to_vec(alloc).expect(rt, "memory")),
         mask: None,
-    })
-}
-
-/// What is answered where they are put into the first entry of the narrow side.
-fn put_narrow(alloc: Global, tables: &mut Tables<i64>) -> &'static str {
-    match two::<i32>(alloc) {
-        Ok(parts) => named(tables.parts_narrow(0, parts)),
-        Err(_) => "no parts",
     }
 }
 
-/// The same of the wide side.
-fn put_wide(alloc: Global, tables: &mut Tables<i64>) -> &'static str {
-    match two::<i64>(alloc) {
-        Ok(parts) => named(tables.parts_wide(0, parts)),
-        Err(_) => "no parts",
-    }
+/// What is answered where they are put into the first entry of either side.
+fn put(alloc: Global, rt: &impl Abort, tables: &mut Tables<i64>) -> [&'static str; 2] {
+    [
+        named(tables.parts_narrow(0, two(alloc, rt))),
+        named(tables.parts_wide(0, two(alloc, rt))),
+    ]
 }
 
 /// Whether they are put into the empty entry of either side, and not into a full one.
-fn puts(alloc: Global, tables: &mut Tables<i64>) -> bool {
-    let first = [put_narrow(alloc, tables), put_wide(alloc, tables)];
-    let again = [put_narrow(alloc, tables), put_wide(alloc, tables)];
+fn puts(alloc: Global, rt: &impl Abort, tables: &mut Tables<i64>) -> bool {
+    let first = put(alloc, rt, tables);
+    let again = put(alloc, rt, tables);
     let counts = [
         narrow(alloc, tables, &Command::Len(0)),
         wide(alloc, tables, &Command::Len(0)),
@@ -234,29 +210,29 @@ fn puts(alloc: Global, tables: &mut Tables<i64>) -> bool {
 }
 
 /// The same of new tables.
-fn puts_into_new(alloc: Global) -> Result<bool, Error> {
-    match Tables::new(alloc, 1) {
-        Ok(mut tables) => Ok(puts(alloc, &mut tables)),
-        Err(refused) => Err(Error::from(refused)),
-    }
+fn puts_into_new(alloc: Global, rt: &impl Abort) -> bool {
+    let mut tables = Tables::new(alloc, 1).expect(rt, "memory");
+    let are_put = puts(alloc, rt, &mut tables);
+    drop(tables);
+    are_put
 }
 
 #[test]
-fn parts_are_put_with_no_command(rt: HostRuntime) -> Result<(), Fail> {
-    told(puts_into_new(rt.alloc()))
+fn parts_are_put_with_no_command(rt: HostRuntime) {
+    assert!(rt; puts_into_new(rt.alloc(), &rt));
 }
 
 #[test]
-fn steps_are_taken_one_by_one(rt: HostRuntime) -> Result<(), Fail> {
-    told(steps_of_new(rt.alloc()))
+fn steps_are_taken_one_by_one(rt: HostRuntime) {
+    assert!(rt; steps_of_new(rt.alloc(), &rt));
 }
 
 #[test]
-fn slots_are_pushed_with_no_command(rt: HostRuntime) -> Result<(), Fail> {
-    told(pushes_of_new(rt.alloc()))
+fn slots_are_pushed_with_no_command(rt: HostRuntime) {
+    assert!(rt; pushes_of_new(rt.alloc(), &rt));
 }
 
 #[test]
-fn texts_go_from_one_width_to_the_other(rt: HostRuntime) -> Result<(), Fail> {
-    told(goes_there_and_back(rt.alloc()))
+fn texts_go_from_one_width_to_the_other(rt: HostRuntime) {
+    assert!(rt; goes_there_and_back(rt.alloc(), &rt));
 }

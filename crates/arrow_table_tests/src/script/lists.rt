@@ -1,12 +1,10 @@
 //! What several words of a script say, up to the end of its line.
 use crate::script::samples::{Sample, Width};
-use crate::script::words::{
-    UNREADABLE, bits_in, bytes_in, integer_in, item_in, slot_in, turn_in, word,
-};
+use crate::script::words::{bits_in, bytes_in, integer_in, item_in, slot_in, turn_in, word};
 use arrow_table::{Item, Named, Raw, Turn};
-use arrow_types::error::Error;
 use std::alloc::Global;
 use std::marker::PhantomData;
+use std::process::Abort;
 use std::str::SplitWhitespace;
 
 /// What each word of a list says.
@@ -15,28 +13,16 @@ trait Reader {
     type Said: Drop;
 
     /// What a word says.
-    fn read(alloc: Global, word: &str) -> Result<Self::Said, Error>;
-}
-
-/// Appends what words say.
-fn read_into<R: Reader>(
-    alloc: Global,
-    said: &mut Vec<R::Said>,
-    words: SplitWhitespace<'_>,
-) -> Result<(), Error> {
-    for each in words {
-        said.push(R::read(alloc, each)?)?;
-    }
-    Ok(())
+    fn read(alloc: Global, rt: &impl Abort, word: &str) -> Self::Said;
 }
 
 /// What words say.
-fn all<R: Reader>(alloc: Global, words: SplitWhitespace<'_>) -> Result<Vec<R::Said>, Error> {
+fn all<R: Reader>(alloc: Global, rt: &impl Abort, words: SplitWhitespace<'_>) -> Vec<R::Said> {
     let mut said = Vec::new(alloc);
-    match read_into::<R>(alloc, &mut said, words) {
-        Ok(()) => Ok(said),
-        Err(unreadable) => Err(unreadable),
+    for each in words {
+        said.push(R::read(alloc, rt, each)).expect(rt, "memory");
     }
+    said
 }
 
 /// Words that say items.
@@ -45,8 +31,8 @@ struct ItemWords<T>(PhantomData<T>);
 impl<T: Sample> Reader for ItemWords<T> {
     type Said = Item<T>;
 
-    fn read(alloc: Global, word: &str) -> Result<Item<T>, Error> {
-        item_in(alloc, word)
+    fn read(alloc: Global, rt: &impl Abort, word: &str) -> Item<T> {
+        item_in(alloc, rt, word)
     }
 }
 
@@ -56,8 +42,8 @@ struct SlotWords<T>(PhantomData<T>);
 impl<T: Sample> Reader for SlotWords<T> {
     type Said = Option<Item<T>>;
 
-    fn read(alloc: Global, word: &str) -> Result<Option<Item<T>>, Error> {
-        slot_in(alloc, word)
+    fn read(alloc: Global, rt: &impl Abort, word: &str) -> Option<Item<T>> {
+        slot_in(alloc, rt, word)
     }
 }
 
@@ -67,8 +53,8 @@ struct TurnWords;
 impl Reader for TurnWords {
     type Said = Turn;
 
-    fn read(_alloc: Global, word: &str) -> Result<Turn, Error> {
-        turn_in(word)
+    fn read(_alloc: Global, rt: &impl Abort, word: &str) -> Turn {
+        turn_in(rt, word)
     }
 }
 
@@ -78,8 +64,8 @@ struct KeyWords;
 impl Reader for KeyWords {
     type Said = i64;
 
-    fn read(_alloc: Global, word: &str) -> Result<i64, Error> {
-        integer_in(word)
+    fn read(_alloc: Global, rt: &impl Abort, word: &str) -> i64 {
+        integer_in(rt, word)
     }
 }
 
@@ -89,11 +75,8 @@ struct ValueWords<T>(PhantomData<T>);
 impl<T: Sample> Reader for ValueWords<T> {
     type Said = T;
 
-    fn read(_alloc: Global, word: &str) -> Result<T, Error> {
-        match integer_in(word) {
-            Ok(number) => Ok(T::of(number)),
-            Err(unreadable) => Err(unreadable),
-        }
+    fn read(_alloc: Global, rt: &impl Abort, word: &str) -> T {
+        T::of(integer_in(rt, word))
     }
 }
 
@@ -103,112 +86,79 @@ struct OffsetWords<O>(PhantomData<O>);
 impl<O: Width> Reader for OffsetWords<O> {
     type Said = O;
 
-    fn read(_alloc: Global, word: &str) -> Result<O, Error> {
-        match O::of(integer_in(word)?) {
-            Some(offset) => Ok(offset),
-            None => Err(UNREADABLE),
-        }
+    fn read(_alloc: Global, rt: &impl Abort, word: &str) -> O {
+        O::of(integer_in(rt, word)).expect(rt, "an offset")
     }
 }
 
 /// Items.
 pub(crate) fn items<T: Sample>(
     alloc: Global,
+    rt: &impl Abort,
     words: SplitWhitespace<'_>,
-) -> Result<Vec<Item<T>>, Error> {
-    all::<ItemWords<T>>(alloc, words)
+) -> Vec<Item<T>> {
+    all::<ItemWords<T>>(alloc, rt, words)
 }
 
 /// Slots.
 pub(crate) fn slots<T: Sample>(
     alloc: Global,
+    rt: &impl Abort,
     words: SplitWhitespace<'_>,
-) -> Result<Vec<Option<Item<T>>>, Error> {
-    all::<SlotWords<T>>(alloc, words)
+) -> Vec<Option<Item<T>>> {
+    all::<SlotWords<T>>(alloc, rt, words)
 }
 
 /// What is asked of an iterator.
-pub(crate) fn turns(alloc: Global, words: SplitWhitespace<'_>) -> Result<Vec<Turn>, Error> {
-    all::<TurnWords>(alloc, words)
+pub(crate) fn turns(alloc: Global, rt: &impl Abort, words: SplitWhitespace<'_>) -> Vec<Turn> {
+    all::<TurnWords>(alloc, rt, words)
 }
 
 /// Keys.
-pub(crate) fn keys(alloc: Global, words: SplitWhitespace<'_>) -> Result<Vec<i64>, Error> {
-    all::<KeyWords>(alloc, words)
-}
-
-/// Raw bytes between offsets.
-fn pieces<T: Sample, O: Width>(
-    offsets: Vec<O>,
-    bytes: Result<Vec<u8>, Error>,
-) -> Result<Raw<T, O>, Error> {
-    match bytes {
-        Ok(bytes) => Ok(Raw::Pieces(offsets, bytes)),
-        Err(unreadable) => Err(unreadable),
-    }
-}
-
-/// Those of digits and words.
-fn pieces_in<T: Sample, O: Width>(
-    alloc: Global,
-    digits: &str,
-    words: SplitWhitespace<'_>,
-) -> Result<Raw<T, O>, Error> {
-    match all::<OffsetWords<O>>(alloc, words) {
-        Ok(offsets) => pieces(offsets, bytes_in(alloc, digits)),
-        Err(unreadable) => Err(unreadable),
-    }
+pub(crate) fn keys(alloc: Global, rt: &impl Abort, words: SplitWhitespace<'_>) -> Vec<i64> {
+    all::<KeyWords>(alloc, rt, words)
 }
 
 /// Raw stored values: `values` and numbers, `bits` and packed bits, or `pieces`, bytes and offsets.
 pub(crate) fn raw<T: Sample, O: Width>(
     alloc: Global,
+    rt: &impl Abort,
     mut words: SplitWhitespace<'_>,
-) -> Result<Raw<T, O>, Error> {
-    match word(&mut words)? {
-        "values" => Ok(Raw::Values(all::<ValueWords<T>>(alloc, words)?)),
-        "bits" => Ok(Raw::Bits(bits_in(alloc, word(&mut words)?)?)),
+) -> Raw<T, O> {
+    match word(rt, &mut words) {
+        "values" => Raw::Values(all::<ValueWords<T>>(alloc, rt, words)),
+        "bits" => Raw::Bits(bits_in(alloc, rt, word(rt, &mut words))),
         "pieces" => {
-            let digits = word(&mut words)?;
-            pieces_in(alloc, digits, words)
+            let bytes = bytes_in(alloc, rt, word(rt, &mut words));
+            Raw::Pieces(all::<OffsetWords<O>>(alloc, rt, words), bytes)
         }
-        _ => Err(UNREADABLE),
+        _ => panic!(rt; "no stored values"),
     }
 }
 
 /// A change of a list: `reverse`, or `fill` and an item.
 pub(crate) fn named<T: Sample>(
     alloc: Global,
+    rt: &impl Abort,
     mut words: SplitWhitespace<'_>,
-) -> Result<Named<T>, Error> {
-    match word(&mut words)? {
-        "reverse" => Ok(Named::Reverse),
-        "fill" => Ok(Named::Fill(item_in(alloc, word(&mut words)?)?)),
-        _ => Err(UNREADABLE),
+) -> Named<T> {
+    match word(rt, &mut words) {
+        "reverse" => Named::Reverse,
+        "fill" => Named::Fill(item_in(alloc, rt, word(rt, &mut words))),
+        _ => panic!(rt; "no change"),
     }
 }
 
-/// Appends the marks that digits write.
-fn push_marks(marks: &mut Vec<bool>, digits: &str) -> Result<(), Error> {
-    for digit in digits.as_bytes() {
-        marks.push(*digit == b'1')?;
-    }
-    Ok(())
-}
-
-/// The marks that a word's digits write, or none for `.`.
-fn marks(alloc: Global, digits: &str) -> Result<Option<Vec<bool>>, Error> {
-    let mut marks = Vec::new(alloc);
-    match push_marks(&mut marks, if digits == "." { "" } else { digits }) {
-        Ok(()) => Ok(Some(marks)),
-        Err(refused) => Err(refused),
-    }
-}
-
-/// The mask that a word writes, where it writes one.
-pub(crate) fn mask(alloc: Global, word: &str) -> Result<Option<Vec<bool>>, Error> {
+/// The mask that a word writes, where it writes one; one of no marks for `.`.
+pub(crate) fn mask(alloc: Global, rt: &impl Abort, word: &str) -> Option<Vec<bool>> {
     if word == "-" {
-        return Ok(None);
+        return None;
     }
-    marks(alloc, word)
+    let mut marks = Vec::new(alloc);
+    if word != "." {
+        for digit in word.as_bytes() {
+            marks.push(*digit == b'1').expect(rt, "memory");
+        }
+    }
+    Some(marks)
 }

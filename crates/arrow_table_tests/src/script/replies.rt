@@ -5,6 +5,7 @@ use arrow_table::{Item, Reply};
 use arrow_types::data_type::DataType;
 use std::alloc::{AllocError, Global};
 use std::fmt::Write;
+use std::process::Abort;
 
 /// Appends the digits of bytes.
 fn push_bytes(text: &mut String, bytes: &[u8]) -> Result<(), AllocError> {
@@ -104,13 +105,13 @@ fn push_reply<T: Sample, O: Width>(text: &mut String, reply: &Reply<T>) -> Resul
 /// Whether there is a reply, and a script writes it so.
 pub(crate) fn is_answer<T: Sample, O: Width>(
     alloc: Global,
+    rt: &impl Abort,
     reply: Option<&Reply<T>>,
     wanted: &str,
-) -> Result<bool, AllocError> {
-    let Some(reply) = reply else {
-        return Ok(false);
-    };
+) -> bool {
     let mut text = String::new(alloc);
-    push_reply::<T, O>(&mut text, reply)?;
-    Ok(text.as_str() == wanted)
+    push_reply::<T, O>(&mut text, reply.expect(rt, "a reply")).expect(rt, "memory");
+    let is_wanted = text.as_str() == wanted;
+    drop(text);
+    is_wanted
 }

@@ -1,11 +1,11 @@
 //! Native types and offsets that scripts write as whole numbers.
 use arrow_testing::Tiny;
 use arrow_types::data_type::DataType;
-use arrow_types::error::Error;
 use arrow_types::native_type::{NativeType, days_ms};
 use arrow_types::offset::Offset;
 use arrow_types::units::IntervalUnit;
 use std::alloc::Global;
+use std::process::Abort;
 
 /// A native type some of whose values are whole numbers.
 pub(crate) trait Sample: NativeType {
@@ -16,7 +16,7 @@ pub(crate) trait Sample: NativeType {
     fn number(&self) -> i64;
 
     /// Another type than the default that is right for such values.
-    fn other_type(alloc: Global) -> Result<DataType, Error>;
+    fn other_type(alloc: Global, rt: &impl Abort) -> DataType;
 
     /// The word of a type that is right for such values: `native` for the default, `other` for the other one.
     fn type_word(data_type: &DataType) -> &'static str;
@@ -31,8 +31,8 @@ impl Sample for i64 {
         *self
     }
 
-    fn other_type(_alloc: Global) -> Result<DataType, Error> {
-        Ok(DataType::Date64)
+    fn other_type(_alloc: Global, _rt: &impl Abort) -> DataType {
+        DataType::Date64
     }
 
     fn type_word(data_type: &DataType) -> &'static str {
@@ -61,10 +61,10 @@ impl Sample for days_ms {
         }
     }
 
-    fn other_type(alloc: Global) -> Result<DataType, Error> {
-        let name = String::from_str(alloc, "shifts")?;
-        let inner = Box::new(alloc, DataType::Interval(IntervalUnit::DayTime))?;
-        Ok(DataType::Extension(name, inner, None))
+    fn other_type(alloc: Global, rt: &impl Abort) -> DataType {
+        let name = String::from_str(alloc, "shifts").expect(rt, "memory");
+        let inner = Box::new(alloc, DataType::Interval(IntervalUnit::DayTime));
+        DataType::Extension(name, inner.expect(rt, "memory"), None)
     }
 
     fn type_word(data_type: &DataType) -> &'static str {

@@ -1,126 +1,106 @@
-//! What single words of a script say.
+//! What single words of a script say. A script that can't be read ends the test.
 use crate::script::samples::{Sample, Width};
 use arrow_table::{Bits, Item, Kind, Turn};
 use arrow_types::data_type::DataType;
-use arrow_types::error::Error;
 use std::alloc::Global;
+use std::process::Abort;
 use std::str::SplitWhitespace;
 
-/// The fault of a script that says nothing.
-pub(crate) const UNREADABLE: Error = Error::OutOfSpec("a script that can't be read");
-
 /// The next word.
-pub(crate) fn word<'a>(words: &mut SplitWhitespace<'a>) -> Result<&'a str, Error> {
-    match words.next() {
-        Some(word) => Ok(word),
-        None => Err(UNREADABLE),
-    }
+pub(crate) fn word<'a>(rt: &impl Abort, words: &mut SplitWhitespace<'a>) -> &'a str {
+    words.next().expect(rt, "a word more")
 }
 
 /// The number that a word writes.
-pub(crate) fn number_in(word: &str) -> Result<usize, Error> {
-    match word.parse::<usize>() {
-        Ok(number) => Ok(number),
-        Err(_) => Err(UNREADABLE),
-    }
+pub(crate) fn number_in(rt: &impl Abort, word: &str) -> usize {
+    word.parse::<usize>().expect(rt, "a number")
 }
 
 /// The number that a word writes, which may be negative.
-pub(crate) fn integer_in(word: &str) -> Result<i64, Error> {
-    match word.parse::<i64>() {
-        Ok(number) => Ok(number),
-        Err(_) => Err(UNREADABLE),
-    }
+pub(crate) fn integer_in(rt: &impl Abort, word: &str) -> i64 {
+    word.parse::<i64>().expect(rt, "an integer")
 }
 
 /// The number that the next word writes.
-pub(crate) fn number(words: &mut SplitWhitespace<'_>) -> Result<usize, Error> {
-    number_in(word(words)?)
+pub(crate) fn number(rt: &impl Abort, words: &mut SplitWhitespace<'_>) -> usize {
+    number_in(rt, word(rt, words))
 }
 
 /// The bytes whose digits these are, or none for `.`.
-pub(crate) fn bytes_in(alloc: Global, digits: &str) -> Result<Vec<u8>, Error> {
+pub(crate) fn bytes_in(alloc: Global, rt: &impl Abort, digits: &str) -> Vec<u8> {
     if digits == "." {
-        return Ok(Vec::new(alloc));
+        return Vec::new(alloc);
     }
-    match hex::decode(alloc, digits) {
-        Ok(bytes) => Ok(bytes),
-        Err(_) => Err(UNREADABLE),
-    }
+    hex::decode(alloc, digits).expect(rt, "digits")
 }
 
 /// The packed bits that a word writes.
-pub(crate) fn bits_in(alloc: Global, word: &str) -> Result<Bits, Error> {
-    let Some((digits, count)) = word.split_once('/') else {
-        return Err(UNREADABLE);
-    };
-    let length = number_in(count)?;
-    Ok(Bits {
-        bytes: bytes_in(alloc, digits)?,
+pub(crate) fn bits_in(alloc: Global, rt: &impl Abort, word: &str) -> Bits {
+    let (digits, count) = word.split_once('/').expect(rt, "a stroke");
+    let length = number_in(rt, count);
+    Bits {
+        bytes: bytes_in(alloc, rt, digits),
         length,
-    })
+    }
 }
 
 /// The packed mask that a word writes, where it writes one.
-pub(crate) fn mask_in(alloc: Global, word: &str) -> Result<Option<Bits>, Error> {
+pub(crate) fn mask_in(alloc: Global, rt: &impl Abort, word: &str) -> Option<Bits> {
     if word == "-" {
-        return Ok(None);
+        return None;
     }
-    Ok(Some(bits_in(alloc, word)?))
+    Some(bits_in(alloc, rt, word))
 }
 
 /// The item that a word writes.
-pub(crate) fn item_in<T: Sample>(alloc: Global, word: &str) -> Result<Item<T>, Error> {
+pub(crate) fn item_in<T: Sample>(alloc: Global, rt: &impl Abort, word: &str) -> Item<T> {
     if let Some(number) = word.strip_prefix('v') {
-        return Ok(Item::Value(T::of(integer_in(number)?)));
+        return Item::Value(T::of(integer_in(rt, number)));
     }
     if let Some(digits) = word.strip_prefix('x') {
-        return Ok(Item::Bytes(bytes_in(alloc, digits)?));
+        return Item::Bytes(bytes_in(alloc, rt, digits));
     }
     if let Some(text) = word.strip_prefix('t') {
-        return Ok(Item::Text(String::from_str(alloc, text)?));
+        return Item::Text(String::from_str(alloc, text).expect(rt, "memory"));
     }
     match word {
-        "b0" => Ok(Item::Bit(false)),
-        "b1" => Ok(Item::Bit(true)),
-        _ => Err(UNREADABLE),
+        "b0" => Item::Bit(false),
+        "b1" => Item::Bit(true),
+        _ => panic!(rt; "no item"),
     }
 }
 
 /// The slot that a word writes.
-pub(crate) fn slot_in<T: Sample>(alloc: Global, word: &str) -> Result<Option<Item<T>>, Error> {
+pub(crate) fn slot_in<T: Sample>(alloc: Global, rt: &impl Abort, word: &str) -> Option<Item<T>> {
     if word == "_" {
-        return Ok(None);
+        return None;
     }
-    Ok(Some(item_in(alloc, word)?))
+    Some(item_in(alloc, rt, word))
 }
 
 /// The kind that a word names.
-pub(crate) fn kind_in(word: &str) -> Result<Kind, Error> {
+pub(crate) fn kind_in(rt: &impl Abort, word: &str) -> Kind {
     match word {
-        "prim" => Ok(Kind::Primitive),
-        "bool" => Ok(Kind::Boolean),
-        "bin" => Ok(Kind::Binary),
-        "utf8" => Ok(Kind::Utf8),
-        "mprim" => Ok(Kind::MutablePrimitive),
-        "mbool" => Ok(Kind::MutableBoolean),
-        "mbin" => Ok(Kind::MutableBinary),
-        "mutf8" => Ok(Kind::MutableUtf8),
-        "vbin" => Ok(Kind::BinaryValues),
-        "vutf8" => Ok(Kind::Utf8Values),
-        _ => Err(UNREADABLE),
+        "prim" => Kind::Primitive,
+        "bool" => Kind::Boolean,
+        "bin" => Kind::Binary,
+        "utf8" => Kind::Utf8,
+        "mprim" => Kind::MutablePrimitive,
+        "mbool" => Kind::MutableBoolean,
+        "mbin" => Kind::MutableBinary,
+        "mutf8" => Kind::MutableUtf8,
+        "vbin" => Kind::BinaryValues,
+        "vutf8" => Kind::Utf8Values,
+        _ => panic!(rt; "no kind"),
     }
 }
 
 /// What a word asks of an iterator: the first, the last, or the one behind so many.
-pub(crate) fn turn_in(word: &str) -> Result<Turn, Error> {
+pub(crate) fn turn_in(rt: &impl Abort, word: &str) -> Turn {
     match word {
-        "f" => Ok(Turn::Front),
-        "b" => Ok(Turn::Back),
-        _ => match word.strip_prefix('s') {
-            Some(count) => Ok(Turn::Skip(number_in(count)?)),
-            None => Err(UNREADABLE),
-        },
+        "f" => Turn::Front,
+        "b" => Turn::Back,
+        _ => Turn::Skip(number_in(rt, word.strip_prefix('s').expect(rt, "a turn"))),
     }
 }
 
@@ -143,13 +123,13 @@ pub(crate) fn text_type<O: Width>() -> DataType {
 }
 
 /// The type that a word names: a kind's default, or another one that is right for native values.
-pub(crate) fn type_in<T: Sample, O: Width>(alloc: Global, word: &str) -> Result<DataType, Error> {
+pub(crate) fn type_in<T: Sample, O: Width>(alloc: Global, rt: &impl Abort, word: &str) -> DataType {
     match word {
-        "native" => Ok(T::PRIMITIVE.default_data_type()),
-        "other" => T::other_type(alloc),
-        "boolean" => Ok(DataType::Boolean),
-        "bytes" => Ok(bytes_type::<O>()),
-        "text" => Ok(text_type::<O>()),
-        _ => Err(UNREADABLE),
+        "native" => T::PRIMITIVE.default_data_type(),
+        "other" => T::other_type(alloc, rt),
+        "boolean" => DataType::Boolean,
+        "bytes" => bytes_type::<O>(),
+        "text" => text_type::<O>(),
+        _ => panic!(rt; "no type"),
     }
 }
