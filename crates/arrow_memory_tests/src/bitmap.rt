@@ -5,23 +5,21 @@ mod shared;
 mod words;
 
 use arrow_memory::bitmap::{Bitmap, BitmapIter, MutableBitmap};
-use arrow_types::error::Error;
 use std::alloc::Global;
-use std::test::Fail;
+use std::process::Abort;
 
-/// Appends the marks that a text writes, one by one.
-fn push_all(marks: &mut MutableBitmap, text: &str) -> Result<(), Error> {
+/// The marks that a text writes, pushed one by one.
+pub(crate) fn pushed(alloc: Global, rt: &impl Abort, text: &str) -> MutableBitmap {
+    let mut marks = MutableBitmap::new(alloc);
     for mark in text.as_bytes() {
-        marks.push(*mark == b'1')?;
+        marks.push(*mark == b'1').expect(rt, "memory");
     }
-    Ok(())
+    marks
 }
 
-/// The marks that a text writes.
-pub(crate) fn pushed(alloc: Global, text: &str) -> Result<MutableBitmap, Error> {
-    let mut marks = MutableBitmap::new(alloc);
-    push_all(&mut marks, text)?;
-    Ok(marks)
+/// The same, frozen.
+pub(crate) fn frozen(alloc: Global, rt: &impl Abort, text: &str) -> Bitmap {
+    pushed(alloc, rt, text).freeze().expect(rt, "memory")
 }
 
 /// Whether the iterator gives the marks that a text writes and no more, and always tells how many are left.
@@ -63,21 +61,30 @@ fn reads(bitmap: &Bitmap, text: &str) -> bool {
     is_passed && bitmap.len() == text.len()
 }
 
-#[test]
-fn slices_of_slices_add_their_places(rt: HostRuntime) -> Result<(), Fail> {
-    let mut bitmap = pushed(rt.alloc(), "00011111111110000011111111111111")?.freeze()?;
-    for (offset, len, text, clear) in [
-        (0, 32, "00011111111110000011111111111111", 8),
-        (2, 20, "01111111111000001111", 6),
-        (5, 10, "1111110000", 4),
-        (5, 3, "100", 2),
-        (3, 0, "", 0),
-    ] {
-        let is_there = cut(&mut bitmap, offset, len) && bitmap.unset_bits() == clear;
-        assert!(rt;
-            is_there && reads(&bitmap, text) && gives(bitmap.iter(), text),
-            "{text}"
-        );
+/// Where marks are cut, by how many, and the marks that are left then, of which so many are clear.
+const CUTS: &[(usize, usize, &str, usize)] = &[
+    (0, 32, "00011111111110000011111111111111", 8),
+    (2, 20, "01111111111000001111", 6),
+    (5, 10, "1111110000", 4),
+    (5, 3, "100", 2),
+    (3, 0, "", 0),
+];
+
+/// Whether each cut leaves these.
+fn are_cut(bitmap: &mut Bitmap, cuts: &[(usize, usize, &str, usize)]) -> bool {
+    for (offset, len, text, clear) in cuts {
+        let is_there = cut(bitmap, *offset, *len) && bitmap.unset_bits() == *clear;
+        if !(is_there && reads(bitmap, *text) && gives(bitmap.iter(), *text)) {
+            return false;
+        }
     }
-    Ok(())
+    true
+}
+
+#[test]
+fn slices_of_slices_add_their_places(rt: HostRuntime) {
+    let mut bitmap = frozen(rt.alloc(), &rt, "00011111111110000011111111111111");
+    let are_cut = are_cut(&mut bitmap, CUTS);
+    drop(bitmap);
+    assert!(rt; are_cut);
 }

@@ -1,12 +1,11 @@
 use arrow_memory::buffer::Buffer;
-use arrow_testing::told;
-use arrow_types::error::Error;
 use std::alloc::Global;
-use std::test::Fail;
+use std::process::Abort;
 
 /// Three values.
-fn three(alloc: Global) -> Result<Buffer<i64>, Error> {
-    Buffer::from_vec([7, 8, 9].to_vec(alloc)?)
+fn three(alloc: Global, rt: &impl Abort) -> Buffer<i64> {
+    let values = [7, 8, 9].to_vec(alloc).expect(rt, "memory");
+    Buffer::from_vec(values).expect(rt, "memory")
 }
 
 /// Cuts a buffer, where the cut is there, and tells whether these values are left.
@@ -17,52 +16,48 @@ fn cuts(buffer: &mut Buffer<i64>, offset: usize, len: usize, values: &[i64]) -> 
     buffer.as_slice() == values
 }
 
-/// Whether slices of slices add their places.
-fn slices(alloc: Global) -> Result<bool, Error> {
-    let mut buffer = three(alloc)?;
+#[test]
+fn slices_of_slices_add_their_places(rt: HostRuntime) {
+    let mut buffer = three(rt.alloc(), &rt);
     let first = cuts(&mut buffer, 1, 2, [8, 9].as_slice());
     let second = cuts(&mut buffer, 1, 1, [9].as_slice());
-    Ok(first && second && cuts(&mut buffer, 1, 0, [].as_slice()))
+    let third = cuts(&mut buffer, 1, 0, [].as_slice());
+    drop(buffer);
+    assert!(rt; first & second & third);
 }
 
 #[test]
-fn slices_of_slices_add_their_places(rt: HostRuntime) -> Result<(), Fail> {
-    told(slices(rt.alloc()))
-}
-
-/// Whether new buffers of wide and of narrow values are empty.
-fn empty(alloc: Global) -> Result<bool, Error> {
-    let wide = Buffer::<i64>::new(alloc)?.len();
-    Ok(wide == 0 && Buffer::<u8>::default(alloc)?.len() == 0)
-}
-
-#[test]
-fn new_buffers_are_empty(rt: HostRuntime) -> Result<(), Fail> {
-    told(empty(rt.alloc()))
+fn new_buffers_are_empty(rt: HostRuntime) {
+    let wide = Buffer::<i64>::new(rt.alloc()).expect(&rt, "memory").len();
+    let narrow = Buffer::<u8>::default(rt.alloc())
+        .expect(&rt, "memory")
+        .len();
+    assert!(rt; (wide == 0) & (narrow == 0));
 }
 
 /// Whether a buffer is thawed while a clone lives, and once it doesn't.
-fn sides(alloc: Global) -> Result<(bool, bool), Error> {
-    let first = three(alloc)?;
-    let second = first.clone()?;
+fn sides(rt: &impl Abort, first: Buffer<i64>) -> (bool, bool) {
+    let second = first.clone().expect(rt, "memory");
     let shared = first.into_mut().is_right();
-    Ok((shared, second.into_mut().is_right()))
+    (shared, second.into_mut().is_right())
 }
 
 #[test]
-fn values_thaw_where_nothing_shares_them(rt: HostRuntime) -> Result<(), Fail> {
-    let (shared, alone) = sides(rt.alloc())?;
-    assert!(rt; !shared && alone);
-    Ok(())
+fn values_thaw_where_nothing_shares_them(rt: HostRuntime) {
+    assert!(rt; sides(&rt, three(rt.alloc(), &rt)) == (false, true));
+}
+
+/// Whether a part of a buffer is thawed.
+fn thaws_part(buffer: Buffer<i64>) -> bool {
+    let mut buffer = buffer;
+    let is_cut = cuts(&mut buffer, 0, 2, [7, 8].as_slice());
+    buffer.into_mut().is_right() | !is_cut
 }
 
 /// A slice doesn't show the whole vector.
 #[test]
-fn slices_are_not_thawed(rt: HostRuntime) -> Result<(), Fail> {
-    let mut buffer = three(rt.alloc())?;
-    assert!(rt; cuts(&mut buffer, 0, 2, [7, 8].as_slice()));
-    assert!(rt; buffer.into_mut().is_left());
-    Ok(())
+fn slices_are_not_thawed(rt: HostRuntime) {
+    assert!(rt; !thaws_part(three(rt.alloc(), &rt)));
 }
 
 /// Writes at the first place, where there is one.
@@ -73,29 +68,31 @@ fn write_first(values: &mut [i64]) {
 }
 
 /// Whether values are lent for writing while a clone lives, and once it doesn't.
-fn lends(alloc: Global) -> Result<(bool, bool), Error> {
-    let mut first = three(alloc)?;
-    let second = first.clone()?;
+fn lends(rt: &impl Abort, first: &mut Buffer<i64>) -> (bool, bool) {
+    let second = first.clone().expect(rt, "memory");
     let shared = first.get_mut_slice(write_first);
     drop(second);
-    Ok((shared, first.get_mut_slice(write_first)))
+    (shared, first.get_mut_slice(write_first))
 }
 
 #[test]
-fn values_are_lent_to_one_owner(rt: HostRuntime) -> Result<(), Fail> {
-    let (shared, alone) = lends(rt.alloc())?;
-    assert!(rt; !shared && alone);
-    Ok(())
+fn values_are_lent_to_one_owner(rt: HostRuntime) {
+    let mut first = three(rt.alloc(), &rt);
+    let lent = lends(&rt, &mut first);
+    drop(first);
+    assert!(rt; lent == (false, true));
 }
 
-/// Whether owned values are given from both ends.
-fn gives_owned(alloc: Global) -> Result<bool, Error> {
-    let mut values = three(alloc)?.into_iter();
+/// Whether three owned values are given from both ends.
+fn gives_owned(buffer: Buffer<i64>) -> bool {
+    let mut values = buffer.into_iter();
     let ends = (values.next_back(), values.next(), values.next_back());
-    Ok(ends == (Some(9), Some(7), Some(8)) && values.next().is_none())
+    let is_over = values.next().is_none();
+    drop(values);
+    is_over & (ends == (Some(9), Some(7), Some(8)))
 }
 
 #[test]
-fn owned_values_come_from_both_ends(rt: HostRuntime) -> Result<(), Fail> {
-    told(gives_owned(rt.alloc()))
+fn owned_values_come_from_both_ends(rt: HostRuntime) {
+    assert!(rt; gives_owned(three(rt.alloc(), &rt)));
 }

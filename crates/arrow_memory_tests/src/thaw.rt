@@ -1,94 +1,115 @@
 use arrow_memory::bitmap::Bitmap;
 use arrow_memory::buffer::Buffer;
-use arrow_memory::offset::Offsets;
+use arrow_memory::offset::{Offsets, OffsetsBuffer};
 use arrow_memory::thaw::{into_mut_bits, into_mut_bytes, into_mut_values};
-use arrow_testing::told;
-use arrow_types::error::Error;
 use arrow_types::offset::Offset;
-use either::{Left, Right};
 use std::alloc::Global;
-use std::test::Fail;
+use std::process::Abort;
 
 /// Three bits, of which the second is clear.
-fn bits(alloc: Global) -> Result<Bitmap, Error> {
-    Bitmap::from_slice(alloc, [true, false, true].as_slice())
+fn bits(alloc: Global, rt: &impl Abort) -> Bitmap {
+    Bitmap::from_slice(alloc, [true, false, true].as_slice()).expect(rt, "memory")
 }
 
 /// The first two of three bits.
-fn cut(alloc: Global) -> Result<Bitmap, Error> {
-    let mut bitmap = bits(alloc)?;
-    if 2 <= bitmap.len() {
-        bitmap.slice(0, 2);
-    }
-    Ok(bitmap)
+fn cut(alloc: Global, rt: &impl Abort) -> Bitmap {
+    let mut bitmap = bits(alloc, rt);
+    assert!(rt; 2 <= bitmap.len());
+    bitmap.slice(0, 2);
+    bitmap
 }
 
 /// Two values.
-fn values(alloc: Global) -> Result<Buffer<i64>, Error> {
-    Buffer::from_vec([7, 0].to_vec(alloc)?)
+fn values(alloc: Global, rt: &impl Abort) -> Buffer<i64> {
+    let values = [7, 0].to_vec(alloc).expect(rt, "memory");
+    Buffer::from_vec(values).expect(rt, "memory")
 }
 
-/// Whether values and their mask are thawed, but not while the mask is shared.
-fn thaws_values(alloc: Global) -> Result<bool, Error> {
-    let mask = cut(alloc)?;
-    let other = mask.clone()?;
-    let shared = into_mut_values(values(alloc)?, Some(mask)).is_right();
-    let alone = into_mut_values(values(alloc)?, Some(other)).is_right();
-    Ok(!shared && alone && into_mut_values(values(alloc)?, None).is_right())
+/// Whether values are thawed with a mask, or with none.
+fn thaws_values(alloc: Global, rt: &impl Abort, mask: Option<Bitmap>) -> bool {
+    into_mut_values(values(alloc, rt), mask).is_right()
 }
 
-#[test]
-fn values_thaw_with_their_mask(rt: HostRuntime) -> Result<(), Fail> {
-    told(thaws_values(rt.alloc()))
-}
-
-/// Whether bits and their mask are thawed, but not while the bits are shared.
-fn thaws_bits(alloc: Global) -> Result<bool, Error> {
-    let first = bits(alloc)?;
-    let other = first.clone()?;
-    let shared = into_mut_bits(first, Some(bits(alloc)?)).is_right();
-    let alone = into_mut_bits(other, Some(cut(alloc)?)).is_right();
-    Ok(!shared && alone && into_mut_bits(bits(alloc)?, None).is_right())
+/// Whether they are while the mask is shared, and once it isn't.
+fn sides_of_mask(alloc: Global, rt: &impl Abort) -> (bool, bool) {
+    let mask = cut(alloc, rt);
+    let other = mask.clone().expect(rt, "memory");
+    let shared = thaws_values(alloc, rt, Some(mask));
+    (shared, thaws_values(alloc, rt, Some(other)))
 }
 
 #[test]
-fn bits_thaw_with_their_mask(rt: HostRuntime) -> Result<(), Fail> {
-    told(thaws_bits(rt.alloc()))
+fn values_thaw_with_their_mask(rt: HostRuntime) {
+    assert!(rt; sides_of_mask(rt.alloc(), &rt) == (false, true));
+    assert!(rt; thaws_values(rt.alloc(), &rt, None));
 }
 
-/// The bytes of two slots that are thawed with a mask or none: those up to the last offset, where there are so
-/// many; else none.
+/// Whether bits are thawed with a mask while they are shared, and with another once they aren't.
+fn sides_of_bits(alloc: Global, rt: &impl Abort) -> (bool, bool) {
+    let first = bits(alloc, rt);
+    let other = first.clone().expect(rt, "memory");
+    let shared = into_mut_bits(first, Some(bits(alloc, rt))).is_right();
+    (
+        shared,
+        into_mut_bits(other, Some(cut(alloc, rt))).is_right(),
+    )
+}
+
+#[test]
+fn bits_thaw_with_their_mask(rt: HostRuntime) {
+    assert!(rt; sides_of_bits(rt.alloc(), &rt) == (false, true));
+    assert!(rt; into_mut_bits(bits(rt.alloc(), &rt), None).is_right());
+}
+
+/// Two slots, the second of one byte.
+fn slots(alloc: Global, rt: &impl Abort) -> OffsetsBuffer<i32> {
+    let offsets = [0, 0, 1].to_vec(alloc).expect(rt, "memory");
+    let offsets = Offsets::try_from_vec(offsets).expect(rt, "offsets");
+    offsets.freeze().expect(rt, "memory")
+}
+
+/// Bytes.
+fn bytes(alloc: Global, rt: &impl Abort, bytes: &[u8]) -> Buffer<u8> {
+    Buffer::from_vec(bytes.to_vec(alloc).expect(rt, "memory")).expect(rt, "memory")
+}
+
+/// The bytes of the two slots that are thawed with a mask or none: those up to the last offset.
 fn thawed(
     alloc: Global,
+    rt: &impl Abort,
     bytes: Buffer<u8>,
     mask: Option<Bitmap>,
-) -> Result<Option<Vec<u8>>, Error> {
-    let offsets = Offsets::try_from_vec([0, 0, 1].to_vec(alloc)?)?.freeze()?;
-    if bytes.len() < offsets.last().to_usize() {
-        return Ok(None);
-    }
-    match into_mut_bytes::<i32>(offsets, bytes, mask) {
-        Right((_, bytes, _)) => Ok(Some(bytes)),
-        Left(_) => Ok(None),
-    }
+) -> Option<Vec<u8>> {
+    let offsets = slots(alloc, rt);
+    assert!(rt; offsets.last().to_usize() <= bytes.len());
+    let (_, bytes, _) = into_mut_bytes::<i32>(offsets, bytes, mask).right()?;
+    Some(bytes)
 }
 
-/// Whether slots are thawed with their mask and without one, but not while the bytes are shared.
-fn thaws_slots(alloc: Global) -> Result<bool, Error> {
-    let first = Buffer::from_vec([0x61, 0xff].to_vec(alloc)?)?;
-    let other = first.clone()?;
-    if thawed(alloc, first, Some(bits(alloc)?))?.is_some() {
-        return Ok(false);
-    }
-    let bare = Buffer::from_vec([0x61].to_vec(alloc)?)?;
-    if thawed(alloc, bare, None)?.is_none() {
-        return Ok(false);
-    }
-    let bytes = thawed(alloc, other, Some(cut(alloc)?))?;
-    Ok(bytes.is_some_and(|bytes| bytes.as_slice() == [0x61].as_slice()))
+/// Whether bytes are thawed, to this one alone.
+fn is_one(thawed: Option<Vec<u8>>) -> bool {
+    let is_one = match &thawed {
+        Some(bytes) => bytes.as_slice() == [0x61].as_slice(),
+        None => false,
+    };
+    drop(thawed);
+    is_one
+}
+
+/// Whether two owners of bytes are, the first while both live.
+fn sides_of_bytes(alloc: Global, rt: &impl Abort) -> (bool, bool) {
+    let first = bytes(alloc, rt, [0x61, 0xff].as_slice());
+    let other = first.clone().expect(rt, "memory");
+    let shared = thawed(alloc, rt, first, Some(cut(alloc, rt))).is_some();
+    (
+        shared,
+        is_one(thawed(alloc, rt, other, Some(cut(alloc, rt)))),
+    )
 }
 
 #[test]
-fn slots_thaw_with_their_mask(rt: HostRuntime) -> Result<(), Fail> {
-    told(thaws_slots(rt.alloc()))
+fn slots_thaw_with_their_mask(rt: HostRuntime) {
+    assert!(rt; sides_of_bytes(rt.alloc(), &rt) == (false, true));
+    let bare = bytes(rt.alloc(), &rt, [0x61].as_slice());
+    assert!(rt; is_one(thawed(rt.alloc(), &rt, bare, None)));
 }

@@ -2,38 +2,44 @@
 // were packed by hand.
 use crate::bitmap::gives;
 use arrow_memory::bitmap::{Bitmap, MutableBitmap};
-use arrow_types::error::Error;
 use std::alloc::Global;
-use std::test::Fail;
+use std::process::Abort;
 
-/// Whether truth values are packed into these bytes, and are the marks of both kinds of bitmap.
-fn packs(alloc: Global, values: &[bool], bytes: &[u8], text: &str) -> Result<bool, Error> {
-    let growing = MutableBitmap::from_slice(alloc, values)?;
-    let frozen = Bitmap::from_slice(alloc, values)?;
-    let is_given = gives(growing.iter(), text) && gives(frozen.iter(), text);
-    Ok(is_given && growing.into_vec().as_slice() == bytes)
+/// Whether truth values are packed into these bytes.
+fn packs(alloc: Global, rt: &impl Abort, values: &[bool], bytes: &[u8], text: &str) -> bool {
+    let growing = MutableBitmap::from_slice(alloc, values).expect(rt, "memory");
+    let is_given = gives(growing.iter(), text);
+    let packed = growing.into_vec();
+    let are_bytes = packed.as_slice() == bytes;
+    drop(packed);
+    is_given & are_bytes
 }
 
+/// Whether they are the marks of a frozen bit map.
+fn freezes(alloc: Global, rt: &impl Abort, values: &[bool], text: &str) -> bool {
+    let frozen = Bitmap::from_slice(alloc, values).expect(rt, "memory");
+    let is_given = gives(frozen.iter(), text);
+    drop(frozen);
+    is_given
+}
+
+/// Truth values, their bytes, and their marks.
+const PACKED: &[(&[bool], &[u8], &str)] = &[
+    (&[], &[], ""),
+    (&[true, false, true], &[0x05], "101"),
+    (
+        &[
+            false, true, true, false, false, false, false, true, false, true,
+        ],
+        &[0x86, 0x02],
+        "0110000101",
+    ),
+];
+
 #[test]
-fn packs_truth_values(rt: HostRuntime) -> Result<(), Fail> {
-    let (yes, no) = (true, false);
-    let ten = [no, yes, yes, no, no, no, no, yes, no, yes];
-    assert!(rt; packs(rt.alloc(), [].as_slice(), [].as_slice(), "")?);
-    assert!(rt;
-        packs(
-            rt.alloc(),
-            [yes, no, yes].as_slice(),
-            [0x05].as_slice(),
-            "101"
-        )?
-    );
-    assert!(rt;
-        packs(
-            rt.alloc(),
-            ten.as_slice(),
-            [0x86, 0x02].as_slice(),
-            "0110000101"
-        )?
-    );
-    Ok(())
+fn packs_truth_values(rt: HostRuntime) {
+    for (values, bytes, text) in PACKED {
+        let is_packed = packs(rt.alloc(), &rt, *values, *bytes, *text);
+        assert!(rt; is_packed & freezes(rt.alloc(), &rt, *values, *text));
+    }
 }

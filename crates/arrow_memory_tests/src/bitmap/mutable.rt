@@ -1,90 +1,119 @@
 // The bytes below were packed by hand: mark i is bit i mod 8, the least significant first, of byte i / 8.
 use crate::bitmap::{gives, pushed};
 use arrow_memory::bitmap::MutableBitmap;
-use arrow_types::error::Error;
 use std::alloc::Global;
-use std::test::Fail;
+use std::process::Abort;
 
-/// Appends runs of equal marks, one after the other.
-fn extend_all(marks: &mut MutableBitmap, runs: &[(usize, bool)]) -> Result<(), Error> {
-    for (count, value) in runs {
-        marks.extend_constant(*count, *value)?;
-    }
-    Ok(())
-}
-
-/// Runs of equal marks.
-fn extended(alloc: Global, runs: &[(usize, bool)]) -> Result<MutableBitmap, Error> {
+/// Runs of equal marks, one after the other.
+fn extended(alloc: Global, rt: &impl Abort, runs: &[(usize, bool)]) -> MutableBitmap {
     let mut marks = MutableBitmap::new(alloc);
-    extend_all(&mut marks, runs)?;
-    Ok(marks)
+    for (count, value) in runs {
+        marks.extend_constant(*count, *value).expect(rt, "memory");
+    }
+    marks
 }
 
 /// Whether so many marks lie in these bytes.
 fn lies(marks: MutableBitmap, length: usize, bytes: &[u8]) -> bool {
-    marks.len() == length && marks.into_vec().as_slice() == bytes
+    let is_length = marks.len() == length;
+    let packed = marks.into_vec();
+    let are_bytes = packed.as_slice() == bytes;
+    drop(packed);
+    is_length & are_bytes
 }
 
+/// Marks, and their bytes.
+const PACKED: &[(&str, &[u8])] = &[
+    ("", &[]),
+    ("101", &[0x05]),
+    ("00000001", &[0x80]),
+    ("1010000101", &[0x85, 0x02]),
+];
+
 #[test]
-fn packs_the_first_mark_lowest(rt: HostRuntime) -> Result<(), Fail> {
-    for (text, bytes) in [
-        ("", [].as_slice()),
-        ("101", [0x05].as_slice()),
-        ("00000001", [0x80].as_slice()),
-        ("1010000101", [0x85, 0x02].as_slice()),
-    ] {
-        let marks = pushed(rt.alloc(), text)?;
-        assert!(rt; lies(marks, text.len(), bytes), "{text}");
+fn packs_the_first_mark_lowest(rt: HostRuntime) {
+    for (text, bytes) in PACKED {
+        assert!(rt; lies(pushed(rt.alloc(), &rt, *text), text.len(), *bytes));
     }
-    Ok(())
 }
 
-#[test]
-fn packs_runs_over_the_borders_of_bytes(rt: HostRuntime) -> Result<(), Fail> {
+/// Runs of equal marks, how many marks they are, and their bytes.
+const RUNS: &[(&[(usize, bool)], usize, &[u8])] = &[
     // marks 3 to 12 and 18 to 31 are set
-    let runs = [(3, false), (10, true), (5, false), (14, true)];
-    let inside = extended(rt.alloc(), runs.as_slice())?;
-    assert!(rt; lies(inside, 32, [0xf8, 0x1f, 0xfc, 0xff].as_slice()));
+    (
+        &[(3, false), (10, true), (5, false), (14, true)],
+        32,
+        &[0xf8, 0x1f, 0xfc, 0xff],
+    ),
     // marks 0, 8 to 15 and 32 to 39 are set
-    let runs = [
-        (1, true),
-        (7, false),
-        (8, true),
-        (0, true),
-        (16, false),
-        (8, true),
-    ];
-    let at_borders = extended(rt.alloc(), runs.as_slice())?;
-    assert!(rt; lies(at_borders, 40, [0x01, 0xff, 0x00, 0x00, 0xff].as_slice()));
-    Ok(())
+    (
+        &[
+            (1, true),
+            (7, false),
+            (8, true),
+            (0, true),
+            (16, false),
+            (8, true),
+        ],
+        40,
+        &[0x01, 0xff, 0x00, 0x00, 0xff],
+    ),
+];
+
+#[test]
+fn packs_runs_over_the_borders_of_bytes(rt: HostRuntime) {
+    for (runs, length, bytes) in RUNS {
+        assert!(rt; lies(extended(rt.alloc(), &rt, *runs), *length, *bytes));
+    }
 }
 
-/// For how many marks there is room at first, once more is asked for, and once what isn't needed is given back.
-fn rooms(alloc: Global) -> Result<(usize, usize, usize), Error> {
-    let first = MutableBitmap::with_capacity(alloc, 1000)?;
-    let mut more = MutableBitmap::with_capacity(alloc, 1000)?;
-    more.reserve(8000)?;
-    let mut least = MutableBitmap::with_capacity(alloc, 1000)?;
-    least.shrink_to_fit()?;
-    Ok((
-        first.into_vec().capacity(),
-        more.into_vec().capacity(),
-        least.into_vec().capacity(),
-    ))
+/// For how many marks in bytes there is room.
+fn room(marks: MutableBitmap) -> usize {
+    let bytes = marks.into_vec();
+    let room = bytes.capacity();
+    drop(bytes);
+    room
+}
+
+/// Marks with room for a thousand.
+fn roomy(alloc: Global, rt: &impl Abort) -> MutableBitmap {
+    MutableBitmap::with_capacity(alloc, 1000).expect(rt, "memory")
+}
+
+/// The same, once more room is asked for.
+fn reserved(alloc: Global, rt: &impl Abort) -> MutableBitmap {
+    let mut marks = roomy(alloc, rt);
+    marks.reserve(8000).expect(rt, "memory");
+    marks
+}
+
+/// The same, once what isn't needed is given back.
+fn shrunk(alloc: Global, rt: &impl Abort) -> MutableBitmap {
+    let mut marks = roomy(alloc, rt);
+    marks.shrink_to_fit().expect(rt, "memory");
+    marks
 }
 
 #[test]
-fn room_is_made_and_given_back(rt: HostRuntime) -> Result<(), Fail> {
-    let (first, more, least) = rooms(rt.alloc())?;
-    assert!(rt; first >= 125 && more >= 1000 && least < 125);
-    Ok(())
+fn room_is_made_and_given_back(rt: HostRuntime) {
+    let first = room(roomy(rt.alloc(), &rt));
+    let more = room(reserved(rt.alloc(), &rt));
+    assert!(rt; first >= 125 && more >= 1000 && room(shrunk(rt.alloc(), &rt)) < 125);
+}
+
+/// Whether a clone grows, and the marks that it was made of stay.
+fn goes_its_own_way(rt: &impl Abort, first: &MutableBitmap) -> bool {
+    let mut second = first.clone().expect(rt, "memory");
+    second.push(false).expect(rt, "memory");
+    let is_grown = gives(second.iter(), "1010");
+    drop(second);
+    is_grown & gives(first.iter(), "101")
 }
 
 #[test]
-fn clones_go_their_own_way(rt: HostRuntime) -> Result<(), Fail> {
-    let first = pushed(rt.alloc(), "101")?;
-    let mut second = first.clone()?;
-    second.push(false)?;
-    assert!(rt; gives(first.iter(), "101") && gives(second.iter(), "1010"));
-    Ok(())
+fn clones_go_their_own_way(rt: HostRuntime) {
+    let first = pushed(rt.alloc(), &rt, "101");
+    let is_apart = goes_its_own_way(&rt, &first);
+    drop(first);
+    assert!(rt; is_apart);
 }

@@ -1,85 +1,104 @@
 // Bit maps of given bytes, clones, and what comes of them. Bytes were packed by hand.
-use crate::bitmap::{cut, gives, pushed};
+ghost use Rattle.std.specs.Prelude.{◌≡◌, length};
+
+use crate::bitmap::{cut, frozen, gives};
 use arrow_memory::bitmap::{Bitmap, MutableBitmap};
-use arrow_testing::told;
-use arrow_types::error::Error;
-use either::Right;
 use std::alloc::Global;
-use std::test::Fail;
+use std::process::Abort;
+
+/// The first eight of nine marks.
+fn cut_mask(alloc: Global, rt: &impl Abort) -> Bitmap {
+    let bytes = [0xff, 0x01].to_vec(alloc).expect(rt, "memory");
+    let mut mask = Bitmap::try_new(bytes, 9).expect(rt, "bits for all marks");
+    assert!(rt; cut(&mut mask, 0, 8));
+    mask
+}
 
 /// Whether a mark that is pushed behind a mask that was cut at its end is the last.
-fn pushes_behind_cut(alloc: Global) -> Result<bool, Error> {
-    let mut mask = Bitmap::try_new([0xff, 0x01].to_vec(alloc)?, 9)?;
-    let is_there = cut(&mut mask, 0, 8);
-    let Right(mut marks) = mask.into_mut() else {
-        return Ok(false);
-    };
-    marks.push(false)?;
-    Ok(is_there && gives(marks.iter(), "111111110"))
+fn pushes_behind_cut(alloc: Global, rt: &impl Abort) -> bool {
+    let mut marks = cut_mask(alloc, rt)
+        .into_mut()
+        .right()
+        .expect(rt, "marks alone");
+    marks.push(false).expect(rt, "memory");
+    let is_last = gives(marks.iter(), "111111110");
+    drop(marks);
+    is_last
 }
 
 #[test]
-fn cut_marks_do_not_come_back(rt: HostRuntime) -> Result<(), Fail> {
-    told(pushes_behind_cut(rt.alloc()))
+fn cut_marks_do_not_come_back(rt: HostRuntime) {
+    assert!(rt; pushes_behind_cut(rt.alloc(), &rt));
 }
 
-/// Whether new marks are clear, or none.
-fn zeroed(alloc: Global) -> Result<bool, Error> {
-    let zeroed = Bitmap::new_zeroed(alloc, 70)?.unset_bits();
-    Ok(zeroed == 70 && Bitmap::default(alloc)?.len() == 0)
+/// How many marks there are, and how many of them are clear.
+fn counts(marks: Bitmap) -> (usize, usize) {
+    let counts = (marks.len(), marks.unset_bits());
+    drop(marks);
+    counts
 }
 
 #[test]
-fn zeroed_marks_are_clear(rt: HostRuntime) -> Result<(), Fail> {
-    told(zeroed(rt.alloc()))
+fn zeroed_marks_are_clear(rt: HostRuntime) {
+    let zeroed = counts(Bitmap::new_zeroed(rt.alloc(), 70).expect(&rt, "memory"));
+    let none = counts(Bitmap::default(rt.alloc()).expect(&rt, "memory"));
+    assert!(rt; (zeroed == (70, 70)) & (none == (0, 0)));
 }
 
 /// Whether marks are thawed while a clone lives, and once it doesn't.
-fn sides(alloc: Global) -> Result<(bool, bool), Error> {
-    let first = pushed(alloc, "1011000111")?.freeze()?;
-    let second = first.clone()?;
+fn sides(rt: &impl Abort, first: Bitmap) -> (bool, bool) {
+    let second = first.clone().expect(rt, "memory");
     let shared = first.into_mut().is_right();
-    Ok((shared, second.into_mut().is_right()))
+    (shared, second.into_mut().is_right())
 }
 
 #[test]
-fn marks_thaw_where_nothing_shares_them(rt: HostRuntime) -> Result<(), Fail> {
-    let (shared, alone) = sides(rt.alloc())?;
-    assert!(rt; !shared && alone);
-    Ok(())
+fn marks_thaw_where_nothing_shares_them(rt: HostRuntime) {
+    let first = frozen(rt.alloc(), &rt, "1011000111");
+    assert!(rt; sides(&rt, first) == (false, true));
 }
 
-/// Whether a change of shared marks is seen, and leaves the other owner's.
-fn changes(alloc: Global) -> Result<bool, Error> {
-    let first = pushed(alloc, "1011000111")?.freeze()?;
-    let mut second = first.clone()?;
+/// Sets the second of some marks.
+fn set_second(marks: MutableBitmap) -> MutableBitmap
+    ensures { length result ≡ length marks }
+{
+    let mut marks = marks;
+    if marks.len() > 1 {
+        marks.set(1, true);
+    }
+    marks
+}
+
+/// Whether a change of a part of a clone is seen, and leaves the marks that it was made of.
+fn changes(rt: &impl Abort, first: &Bitmap) -> bool {
+    let mut second = first.clone().expect(rt, "memory");
     let is_there = cut(&mut second, 3, 6);
-    second.apply_mut(|marks: MutableBitmap| {
-        let mut marks = marks;
-        if marks.len() > 1 {
-            marks.set(1, true);
-        }
-        marks
-    })?;
+    second.apply_mut(set_second).expect(rt, "memory");
     let is_changed = gives(second.iter(), "110011") && second.unset_bits() == 2;
-    Ok(is_there && is_changed && gives(first.iter(), "1011000111"))
+    drop(second);
+    is_there & is_changed & gives(first.iter(), "1011000111")
 }
 
 #[test]
-fn changes_leave_other_owners(rt: HostRuntime) -> Result<(), Fail> {
-    told(changes(rt.alloc()))
+fn changes_leave_other_owners(rt: HostRuntime) {
+    let first = frozen(rt.alloc(), &rt, "1011000111");
+    let is_changed = changes(&rt, &first);
+    drop(first);
+    assert!(rt; is_changed);
 }
 
-/// Whether owned marks are given from both ends.
-fn gives_owned(alloc: Global) -> Result<bool, Error> {
-    let mut bitmap = pushed(alloc, "00110")?.freeze()?;
-    let is_there = cut(&mut bitmap, 1, 3);
+/// Whether the three owned marks of a part are given from both ends.
+fn gives_owned(bitmap: Bitmap) -> bool {
     let mut marks = bitmap.into_iter();
     let ends = (marks.next_back(), marks.next(), marks.next_back());
-    Ok(is_there && ends == (Some(true), Some(false), Some(true)) && marks.next().is_none())
+    let is_over = marks.next().is_none();
+    drop(marks);
+    is_over & (ends == (Some(true), Some(false), Some(true)))
 }
 
 #[test]
-fn owned_marks_come_from_both_ends(rt: HostRuntime) -> Result<(), Fail> {
-    told(gives_owned(rt.alloc()))
+fn owned_marks_come_from_both_ends(rt: HostRuntime) {
+    let mut bitmap = frozen(rt.alloc(), &rt, "00110");
+    assert!(rt; cut(&mut bitmap, 1, 3));
+    assert!(rt; gives_owned(bitmap));
 }

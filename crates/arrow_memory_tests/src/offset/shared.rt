@@ -1,58 +1,65 @@
 use arrow_memory::offset::{Offsets, OffsetsBuffer};
-use arrow_types::error::Error;
 use std::alloc::Global;
-use std::test::Fail;
+use std::process::Abort;
 
 /// Offsets of 32 bits.
-fn narrow(alloc: Global, list: &[i32]) -> Result<OffsetsBuffer<i32>, Error> {
-    Offsets::try_from_vec(list.to_vec(alloc)?)?.freeze()
+fn narrow(alloc: Global, rt: &impl Abort, list: &[i32]) -> OffsetsBuffer<i32> {
+    let offsets = Offsets::try_from_vec(list.to_vec(alloc).expect(rt, "memory"));
+    offsets.expect(rt, "offsets").freeze().expect(rt, "memory")
 }
 
-/// Cuts offsets, where the cut is there, and tells whether these are left.
+/// Cuts offsets, where the cut is there, and tells whether these are left, of so many slots.
 fn cuts(offsets: &mut OffsetsBuffer<i32>, offset: usize, len: usize, list: &[i32]) -> bool {
     let slots = offsets.len_proxy();
     if 1 <= len && offset <= slots && len - 1 <= slots - offset {
         offsets.slice(offset, len);
     }
-    offsets.buffer().as_slice() == list
+    offsets.buffer().as_slice() == list && len == offsets.len_proxy().saturating_add(1)
 }
 
 #[test]
-fn slices_count_offsets(rt: HostRuntime) -> Result<(), Fail> {
-    let mut offsets = narrow(rt.alloc(), [2, 3, 3, 5].as_slice())?;
-    assert!(rt; cuts(&mut offsets, 1, 3, [3, 3, 5].as_slice()) && offsets.len_proxy() == 2);
-    assert!(rt; cuts(&mut offsets, 2, 1, [5].as_slice()) && offsets.len_proxy() == 0);
-    Ok(())
+fn slices_count_offsets(rt: HostRuntime) {
+    let mut offsets = narrow(rt.alloc(), &rt, [2, 3, 3, 5].as_slice());
+    let first = cuts(&mut offsets, 1, 3, [3, 3, 5].as_slice());
+    let second = cuts(&mut offsets, 2, 1, [5].as_slice());
+    drop(offsets);
+    assert!(rt; first & second);
 }
 
 /// Whether offsets are thawed while a clone lives, and once it doesn't.
-fn sides(alloc: Global) -> Result<(bool, bool), Error> {
-    let first = narrow(alloc, [0, 2, 7].as_slice())?;
-    let second = first.clone()?;
+fn sides(rt: &impl Abort, first: OffsetsBuffer<i32>) -> (bool, bool) {
+    let second = first.clone().expect(rt, "memory");
     let shared = first.into_mut().is_right();
-    Ok((shared, second.into_mut().is_right()))
+    (shared, second.into_mut().is_right())
 }
 
 #[test]
-fn offsets_thaw_where_nothing_shares_them(rt: HostRuntime) -> Result<(), Fail> {
-    let (shared, alone) = sides(rt.alloc())?;
-    assert!(rt; !shared && alone);
-    Ok(())
+fn offsets_thaw_where_nothing_shares_them(rt: HostRuntime) {
+    let offsets = narrow(rt.alloc(), &rt, [0, 2, 7].as_slice());
+    assert!(rt; sides(&rt, offsets) == (false, true));
+}
+
+/// Whether a part of offsets is thawed.
+fn thaws_part(offsets: OffsetsBuffer<i32>) -> bool {
+    let mut offsets = offsets;
+    let is_cut = cuts(&mut offsets, 0, 2, [0, 2].as_slice());
+    offsets.into_mut().is_right() | !is_cut
 }
 
 /// A slice doesn't show the whole vector.
 #[test]
-fn slices_are_not_thawed(rt: HostRuntime) -> Result<(), Fail> {
-    let mut offsets = narrow(rt.alloc(), [0, 2, 7].as_slice())?;
-    assert!(rt; cuts(&mut offsets, 0, 2, [0, 2].as_slice()));
-    assert!(rt; offsets.into_mut().is_left());
-    Ok(())
+fn slices_are_not_thawed(rt: HostRuntime) {
+    let offsets = narrow(rt.alloc(), &rt, [0, 2, 7].as_slice());
+    assert!(rt; !thaws_part(offsets));
 }
 
 #[test]
-fn new_offsets_are_one_zero(rt: HostRuntime) -> Result<(), Fail> {
-    let narrow = OffsetsBuffer::<i32>::new(rt.alloc())?.len_proxy();
-    let wide = OffsetsBuffer::<i64>::default(rt.alloc())?.len_proxy();
-    assert!(rt; narrow == 0 && wide == 0);
-    Ok(())
+fn new_offsets_are_one_zero(rt: HostRuntime) {
+    let mut narrow = OffsetsBuffer::<i32>::new(rt.alloc()).expect(&rt, "memory");
+    let mut other = OffsetsBuffer::<i32>::default(rt.alloc()).expect(&rt, "memory");
+    let is_zero = cuts(&mut narrow, 0, 1, [0].as_slice());
+    let is_default = cuts(&mut other, 0, 1, [0].as_slice());
+    drop(narrow);
+    drop(other);
+    assert!(rt; is_zero & is_default);
 }

@@ -1,34 +1,57 @@
 //! Offsets of one width as those of the other.
-use arrow_testing::{all_told, are_offsets, frozen_offsets, tells, told};
+use arrow_memory::offset::OffsetsBuffer;
+use arrow_testing::{are_offsets, frozen_offsets, tells};
 use arrow_types::error::Error;
+use arrow_types::offset::Offset;
 use std::alloc::Global;
-use std::test::Fail;
+use std::process::Abort;
 
-/// Whether wide offsets of these numbers have them as narrow ones.
-fn narrows(alloc: Global, numbers: &[usize]) -> Result<bool, Error> {
-    let narrow = frozen_offsets::<i64>(alloc, numbers)?.narrow()?;
-    Ok(are_offsets(narrow.buffer().as_slice(), numbers))
+/// Wide offsets of these numbers as narrow ones.
+fn narrowed(
+    alloc: Global,
+    rt: &impl Abort,
+    numbers: &[usize],
+) -> Result<OffsetsBuffer<i32>, Error> {
+    frozen_offsets::<i64>(alloc, numbers)
+        .expect(rt, "offsets")
+        .narrow()
 }
 
-/// Whether narrow offsets of these numbers have them as wide ones.
-fn widens(alloc: Global, numbers: &[usize]) -> Result<bool, Error> {
-    let wide = frozen_offsets::<i32>(alloc, numbers)?.widen()?;
-    Ok(are_offsets(wide.buffer().as_slice(), numbers))
+/// Narrow offsets of these numbers as wide ones.
+fn widened(alloc: Global, rt: &impl Abort, numbers: &[usize]) -> OffsetsBuffer<i64> {
+    let offsets = frozen_offsets::<i32>(alloc, numbers).expect(rt, "offsets");
+    offsets.widen().expect(rt, "memory")
 }
+
+/// Whether offsets are these numbers.
+fn are<O: Offset>(offsets: OffsetsBuffer<O>, numbers: &[usize]) -> bool {
+    let are = are_offsets(offsets.buffer().as_slice(), numbers);
+    drop(offsets);
+    are
+}
+
+/// Offsets that end past the narrow width.
+const PAST: &[&[usize]] = &[&[0, 2147483648], &[4294967296]];
 
 #[test]
-fn ends_of_the_narrow_width(rt: HostRuntime) -> Result<(), Fail> {
-    assert_eq!(rt; tells(narrows(rt.alloc(), &[0, 2147483648])), "overflow");
-    assert_eq!(rt; tells(narrows(rt.alloc(), &[4294967296])), "overflow");
-    told(narrows(rt.alloc(), &[0, 2147483647]))?;
-    told(narrows(rt.alloc(), &[2147483647, 2147483647]))
+fn narrow_offsets_end_with_their_width(rt: HostRuntime) {
+    for numbers in PAST {
+        assert!(rt; tells(narrowed(rt.alloc(), &rt, *numbers)) == "overflow");
+    }
 }
 
+/// Offsets of either width.
+const EITHER: &[&[usize]] = &[
+    &[0, 2147483647],
+    &[2147483647, 2147483647],
+    &[3, 3, 5, 9, 9, 200, 70000],
+];
+
 #[test]
-fn numbers_stay(rt: HostRuntime) -> Result<(), Fail> {
-    all_told(&[
-        narrows(rt.alloc(), &[3, 3, 5, 9, 9, 200, 70000]),
-        widens(rt.alloc(), &[3, 3, 5, 9, 9, 200, 70000]),
-        widens(rt.alloc(), &[0, 2147483647]),
-    ])
+fn numbers_stay(rt: HostRuntime) {
+    for numbers in EITHER {
+        let narrow = narrowed(rt.alloc(), &rt, *numbers).expect(&rt, "numbers that fit");
+        let is_narrow = are(narrow, *numbers);
+        assert!(rt; is_narrow & are(widened(rt.alloc(), &rt, *numbers), *numbers));
+    }
 }
