@@ -3,40 +3,48 @@ use super::*;
 use arrow_memory::bitmap::{Bitmap, MutableBitmap};
 use arrow_memory::buffer::Buffer;
 use arrow_types::native_type::{NativeType, i256};
-use either::{Left, Right};
+use std::process::Abort;
 
 /// The array of another's parts.
-fn again<T: NativeType>(array: PrimitiveArray<T>) -> Result<PrimitiveArray<T>, Error> {
+fn again<T: NativeType>(rt: &impl Abort, array: PrimitiveArray<T>) -> PrimitiveArray<T> {
     let (data_type, values, validity) = array.into_inner();
-    PrimitiveArray::<T>::try_new(data_type, values, validity)
+    PrimitiveArray::<T>::try_new(data_type, values, validity).expect(rt, "parts that fit")
 }
 
 /// The same by the other name.
-fn again_of_inner<T: NativeType>(array: PrimitiveArray<T>) -> Result<PrimitiveArray<T>, Error> {
+fn again_of_inner<T: NativeType>(rt: &impl Abort, array: PrimitiveArray<T>) -> PrimitiveArray<T> {
     let (data_type, values, validity) = array.into_inner();
-    PrimitiveArray::<T>::from_inner(data_type, values, validity)
+    PrimitiveArray::<T>::from_inner(data_type, values, validity).expect(rt, "parts that fit")
+}
+
+/// The array of values.
+fn array_of<T: NativeType>(alloc: Global, rt: &impl Abort, given: &[T]) -> PrimitiveArray<T> {
+    PrimitiveArray::<T>::from_slice(alloc, given).expect(rt, "memory")
 }
 
 /// Whether the parts of an array make it again.
-fn made_again<T: NativeType>(alloc: Global, given: &[T]) -> Result<bool, Error> {
-    let array = again_of_inner(again(PrimitiveArray::<T>::from_slice(alloc, given)?)?)?;
-    Ok(array.values().as_slice() == given && array.validity().is_none())
+fn made_again<T: NativeType>(alloc: Global, rt: &impl Abort, given: &[T]) -> bool {
+    let array = again_of_inner(rt, again(rt, array_of(alloc, rt, given)));
+    let is_again = array.values().as_slice() == given && array.validity().is_none();
+    drop(array);
+    is_again
 }
 
 /// A builder of a value and a null, in room for both.
-fn pair<T: NativeType>(alloc: Global, value: T) -> Result<MutablePrimitiveArray<T>, Error> {
-    let mut builder = MutablePrimitiveArray::<T>::with_capacity(alloc, 2)?;
-    builder.try_push(Some(value))?;
-    builder.push_null()?;
-    Ok(builder)
+fn pair<T: NativeType>(alloc: Global, rt: &impl Abort, value: T) -> MutablePrimitiveArray<T> {
+    let mut builder = MutablePrimitiveArray::<T>::with_capacity(alloc, 2).expect(rt, "memory");
+    builder.try_push(Some(value)).expect(rt, "memory");
+    builder.push_null().expect(rt, "memory");
+    builder
 }
 
 /// The builder of another's parts.
 fn builder_again<T: NativeType>(
+    rt: &impl Abort,
     builder: MutablePrimitiveArray<T>,
-) -> Result<MutablePrimitiveArray<T>, Error> {
+) -> MutablePrimitiveArray<T> {
     let (data_type, values, validity) = builder.into_inner();
-    MutablePrimitiveArray::<T>::try_new(data_type, values, validity)
+    MutablePrimitiveArray::<T>::try_new(data_type, values, validity).expect(rt, "parts that fit")
 }
 
 /// Whether a null is popped, and the value before it.
@@ -46,134 +54,141 @@ fn pops<T: NativeType>(builder: &mut MutablePrimitiveArray<T>, value: T) -> bool
 }
 
 /// Whether the parts of a builder make it again.
-fn built_again<T: NativeType>(alloc: Global, value: Option<&T>) -> Result<bool, Error> {
-    let Some(value) = value else {
-        return Ok(false);
-    };
-    Ok(pops(&mut builder_again(pair(alloc, *value)?)?, *value))
+fn built_again<T: NativeType>(alloc: Global, rt: &impl Abort, value: T) -> bool {
+    let mut builder = builder_again(rt, pair(alloc, rt, value));
+    let are_popped = pops(&mut builder, value);
+    drop(builder);
+    are_popped
 }
 
-/// An array of other values, where they are as many.
+/// An array of other values, which are as many.
 fn valued<T: NativeType>(
     alloc: Global,
+    rt: &impl Abort,
     given: &[T],
     others: &[T],
-) -> Result<PrimitiveArray<T>, Error> {
-    let values = Buffer::from_vec(others.to_vec(alloc)?)?;
-    let mut array = PrimitiveArray::<T>::from_slice(alloc, given)?;
-    if values.len() == array.len() {
-        array.set_values(values);
-    }
-    Ok(array)
+) -> PrimitiveArray<T> {
+    let mut array = array_of(alloc, rt, given);
+    let values = others.to_vec(alloc).expect(rt, "memory");
+    let values = Buffer::from_vec(values).expect(rt, "memory");
+    assert!(rt; values.len() == array.len());
+    array.set_values(values);
+    array
 }
 
-/// Whether an array begins with a null under another mask, where it has as many marks.
-fn masked<T: NativeType>(array: &mut PrimitiveArray<T>, mask: Bitmap) -> bool {
-    if mask.len() == array.len() {
-        array.set_validity(Some(mask));
-    }
-    array.iter().next() == Some(None)
+/// Puts an array of three under marks, the first of which is clear.
+fn mask<T: NativeType>(alloc: Global, rt: &impl Abort, array: &mut PrimitiveArray<T>) {
+    let marks = Bitmap::from_slice(alloc, [false, true, true].as_slice()).expect(rt, "memory");
+    assert!(rt; marks.len() == array.len());
+    array.set_validity(Some(marks));
 }
 
-/// The second slot of an array, where it is there, cut off in two steps.
-fn second<T: NativeType>(mut array: PrimitiveArray<T>) -> PrimitiveArray<T> {
-    if array.len() < 2 {
-        return array;
-    }
+/// The second slot of an array, cut off in two steps.
+fn cut_second<T: NativeType>(rt: &impl Abort, array: &mut PrimitiveArray<T>) {
+    assert!(rt; 2 <= array.len());
     array.slice(0, 2);
-    array.sliced(1, 1)
-}
-
-/// Whether the second slot of an array is this.
-fn is_second<T: NativeType>(array: PrimitiveArray<T>, slot: Option<&T>) -> bool {
-    let array = second(array);
-    array.len() == 1 && array.iter().next() == Some(slot)
+    array.slice(1, 1);
 }
 
 /// Whether other values and marks of an array are there, and slices of it.
-fn replaced<T: NativeType>(alloc: Global, given: &[T], others: &[T]) -> Result<bool, Error> {
-    let mask = Bitmap::from_slice(alloc, [false, true, true].as_slice())?;
-    let mut array = valued(alloc, given, others)?;
-    let null = masked(&mut array, mask);
-    Ok(null & is_second(array, others.get(1)))
+fn replaced<T: NativeType>(alloc: Global, rt: &impl Abort, given: &[T], others: &[T]) -> bool {
+    let mut array = valued(alloc, rt, given, others);
+    mask(alloc, rt, &mut array);
+    let is_null = array.iter().next() == Some(None);
+    cut_second(rt, &mut array);
+    let is_second = array.len() == 1 && array.iter().next() == Some(others.get(1));
+    drop(array);
+    is_null & is_second
 }
 
-/// A builder of other values, where they are as many.
+/// A builder of other values, which are as many.
 fn built_valued<T: NativeType>(
     alloc: Global,
+    rt: &impl Abort,
     given: &[T],
     others: &[T],
-) -> Result<MutablePrimitiveArray<T>, Error> {
-    let values = others.to_vec(alloc)?;
-    let mut builder = MutablePrimitiveArray::<T>::from_vec(given.to_vec(alloc)?);
-    if values.len() == builder.len() {
-        builder.set_values(values);
-    }
-    Ok(builder)
+) -> MutablePrimitiveArray<T> {
+    let given = given.to_vec(alloc).expect(rt, "memory");
+    let mut builder = MutablePrimitiveArray::<T>::from_vec(given);
+    let values = others.to_vec(alloc).expect(rt, "memory");
+    assert!(rt; values.len() == builder.len());
+    builder.set_values(values);
+    builder
 }
 
-/// Whether a null and then this slot are popped under another mask, where it has as many marks.
-fn pops_masked<T: NativeType>(
+/// Puts a builder of three under marks, the last of which is clear.
+fn mask_builder<T: NativeType>(
+    alloc: Global,
+    rt: &impl Abort,
     builder: &mut MutablePrimitiveArray<T>,
-    mask: MutableBitmap,
-    slot: Option<&T>,
-) -> bool {
-    if mask.len() == builder.len() {
-        builder.set_validity(Some(mask));
-    }
-    builder.pop().is_none() && builder.pop() == slot.copied()
+) {
+    let marks = MutableBitmap::from_slice(alloc, [true, true, false].as_slice());
+    let marks = marks.expect(rt, "memory");
+    assert!(rt; marks.len() == builder.len());
+    builder.set_validity(Some(marks));
 }
 
-/// Whether other values and marks of a builder are there.
-fn rebuilt<T: NativeType>(alloc: Global, given: &[T], others: &[T]) -> Result<bool, Error> {
-    let mask = MutableBitmap::from_slice(alloc, [true, true, false].as_slice())?;
-    let mut builder = built_valued(alloc, given, others)?;
-    Ok(pops_masked(&mut builder, mask, others.get(1)))
+/// Whether other values and marks of a builder are there: a null is popped, and then a value.
+fn rebuilt<T: NativeType>(alloc: Global, rt: &impl Abort, given: &[T], others: &[T]) -> bool {
+    let mut builder = built_valued(alloc, rt, given, others);
+    mask_builder(alloc, rt, &mut builder);
+    let are_popped = builder.pop().is_none() && builder.pop() == others.get(1).copied();
+    drop(builder);
+    are_popped
 }
 
 /// Whether an array of one owner is thawed, and equals a builder.
-fn thaws<T: NativeType>(array: PrimitiveArray<T>, same: &MutablePrimitiveArray<T>) -> bool {
-    match array.into_mut() {
-        Right(builder) => builder == *same,
-        Left(_) => false,
-    }
+fn thaws<T: NativeType>(
+    rt: &impl Abort,
+    array: PrimitiveArray<T>,
+    same: &MutablePrimitiveArray<T>,
+) -> bool {
+    let builder = array.into_mut().right().expect(rt, "an array alone");
+    let is_same = builder == *same;
+    drop(builder);
+    is_same
 }
 
 /// Whether the array of a builder and a null is, and equals the builder.
-fn freezes<T: NativeType>(builder: &mut MutablePrimitiveArray<T>) -> Result<bool, Error> {
-    builder.push_null()?;
-    Ok(thaws(builder.clone()?.freeze()?, builder))
+fn freezes<T: NativeType>(rt: &impl Abort, builder: &mut MutablePrimitiveArray<T>) -> bool {
+    builder.push_null().expect(rt, "memory");
+    let copy = builder.clone().expect(rt, "memory");
+    thaws(rt, copy.freeze().expect(rt, "memory"), builder)
 }
 
 /// Whether that of a new builder is.
-fn thawed<T: NativeType>(alloc: Global, given: &[T]) -> Result<bool, Error> {
-    freezes(&mut MutablePrimitiveArray::<T>::from_slice(alloc, given)?)
+fn thawed<T: NativeType>(alloc: Global, rt: &impl Abort, given: &[T]) -> bool {
+    let builder = MutablePrimitiveArray::<T>::from_slice(alloc, given);
+    let mut builder = builder.expect(rt, "memory");
+    let is_thawed = freezes(rt, &mut builder);
+    drop(builder);
+    is_thawed
 }
 
 /// All of these at a type, of three values and three others.
-fn calls<T: NativeType>(alloc: Global, given: &[T], others: &[T]) -> Result<bool, Error> {
-    let made = made_again(alloc, given)? & thawed(alloc, given)?;
-    let replaced = replaced(alloc, given, others)? & rebuilt(alloc, given, others)?;
-    Ok(made & replaced & built_again(alloc, given.first())?)
+fn calls<T: NativeType>(alloc: Global, rt: &impl Abort, given: &[T; 3], others: &[T; 3]) -> bool {
+    let first = given[0];
+    let (given, others) = (given.as_slice(), others.as_slice());
+    let made = made_again(alloc, rt, given) & thawed(alloc, rt, given);
+    let replaced = replaced(alloc, rt, given, others) & rebuilt(alloc, rt, given, others);
+    made & replaced & built_again(alloc, rt, first)
 }
 
 #[test]
-fn calls_at_i32(rt: HostRuntime) -> Result<(), Fail> {
-    told(calls::<i32>(rt.alloc(), [1, 2, 3].as_slice(), [4, 5, 6].as_slice()))
+fn calls_at_i32(rt: HostRuntime) {
+    assert!(rt; calls::<i32>(rt.alloc(), &rt, &[1, 2, 3], &[4, 5, 6]));
 }
 
 #[test]
-fn calls_at_i64(rt: HostRuntime) -> Result<(), Fail> {
-    told(calls::<i64>(rt.alloc(), [1, 2, 3].as_slice(), [4, 5, 6].as_slice()))
+fn calls_at_i64(rt: HostRuntime) {
+    assert!(rt; calls::<i64>(rt.alloc(), &rt, &[1, 2, 3], &[4, 5, 6]));
 }
 
 #[test]
-fn calls_at_i256(rt: HostRuntime) -> Result<(), Fail> {
-    told(calls::<i256>(
-        rt.alloc(),
-        [i256(0, 1), i256(1, 2), i256(1, 0)].as_slice(),
-        [i256(2, 0), i256(0, 5), i256(6, 6)].as_slice(),
-    ))
+fn calls_at_i256(rt: HostRuntime) {
+    let given = [i256(0, 1), i256(1, 2), i256(1, 0)];
+    let others = [i256(2, 0), i256(0, 5), i256(6, 6)];
+    assert!(rt; calls::<i256>(rt.alloc(), &rt, &given, &others));
 }
 
 /// Whether an array of numbers is of their type.
