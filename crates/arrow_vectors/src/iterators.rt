@@ -98,14 +98,6 @@ fn is_taken(answer: Result<bool, Error>, lie: Lie) -> bool {
     }
 }
 
-/// What is answered where items were to be taken, and whether all are there if they were.
-fn answered(answer: Result<(), Error>, are_all: bool) -> Result<bool, Error> {
-    match answer {
-        Ok(()) => Ok(are_all),
-        Err(refused) => Err(refused),
-    }
-}
-
 const NUMBERS: &[i64] = &[1, 0, 3];
 
 const SLOTS: &[Option<i64>] = &[Some(1), None, Some(3)];
@@ -130,7 +122,7 @@ fn extends(alloc: Global, lie: Lie, way: usize) -> bool {
     };
     let are_all = stores(&builder);
     drop(builder);
-    is_taken(answered(answer, are_all), lie)
+    is_taken(answer.and(Ok(are_all)), lie)
 }
 
 /// Whether all makers of a builder and of an array take them.
@@ -184,7 +176,7 @@ fn extends_marks(alloc: Global, lie: Lie, way: usize) -> bool {
     };
     let are_all = marks(&builder);
     drop(builder);
-    is_taken(answered(answer, are_all), lie)
+    is_taken(answer.and(Ok(are_all)), lie)
 }
 
 /// Whether the makers of a builder and of an array take them.
@@ -276,7 +268,7 @@ fn extends_bytes<K: Listed>(alloc: Global, rt: &impl Abort, lie: Lie, way: usize
     };
     let are_all = has(&builder);
     drop(builder);
-    is_taken(answered(answer, are_all), lie)
+    is_taken(answer.and(Ok(are_all)), lie)
 }
 
 /// Whether a new builder without nulls takes them, by `try_extend` or by `extend`.
@@ -289,7 +281,7 @@ fn extends_values<K: Listed>(alloc: Global, rt: &impl Abort, lie: Lie, tries: bo
     };
     let are_all = values_have(&builder);
     drop(builder);
-    is_taken(answered(answer, are_all), lie)
+    is_taken(answer.and(Ok(are_all)), lie)
 }
 
 /// Whether the makers of a builder take them.

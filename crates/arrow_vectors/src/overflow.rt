@@ -292,10 +292,39 @@ fn texts_end_at_the_greatest_offset(rt: HostRuntime) {
     }
 }
 
-/// Bytes that are pushed one after the other, what is told of them, and the offsets then.
-type Pushed = (&'static [u8], &'static str, &'static [usize]);
+/// An item, what is told where it is pushed, and the offsets then.
+type Pushed<I> = (I, &'static str, &'static [usize]);
 
-const PUSHES: &[Pushed] = &[
+/// Whether all of this is told of a builder, and comes.
+fn each_pushes<K: Pushes>(
+    builder: &mut MutableByteArray<K, Tiny>,
+    cases: &[Pushed<K::Item>],
+) -> bool {
+    for (item, answer, offsets) in cases {
+        let told = tells(K::push(builder, *item, false)) == *answer;
+        if !(told & are_offsets(builder.offsets().as_slice(), *offsets)) {
+            return false;
+        }
+    }
+    true
+}
+
+/// Whether it is of a builder of such parts.
+fn pushes_each<K: Pushes>(
+    alloc: Global,
+    rt: &impl Abort,
+    parts: Parts,
+    cases: &[Pushed<K::Item>],
+) -> bool {
+    let mut builder = own_builder::<K, Tiny>(alloc, rt, parts);
+    let are_told = each_pushes::<K>(&mut builder, cases);
+    drop(builder);
+    are_told
+}
+
+const NOTHING: Parts = (&[0], b"", "none");
+
+const PUSHES: &[Pushed<&[u8]>] = &[
     (SIXTY, "made", &[0, 60]),
     (FORTY_ONE, "overflow", &[0, 60]),
     (FORTY, "made", &[0, 60, 100]),
@@ -303,61 +332,35 @@ const PUSHES: &[Pushed] = &[
     (&[7], "overflow", &[0, 60, 100, 100]),
 ];
 
-/// Those behind forty bytes before the first slot, which count.
-const PUSHES_BEHIND: &[Pushed] = &[(SIXTY_ONE, "overflow", &[40]), (SIXTY, "made", &[40, 100])];
-
-/// Whether this is told of all of them, and comes.
-fn each_pushes(builder: &mut MutableBinaryArray<Tiny>, cases: &[Pushed]) -> bool {
-    for (item, answer, offsets) in cases {
-        let told = tells(builder.push(Some(*item))) == *answer;
-        if !(told & are_offsets(builder.offsets().as_slice(), *offsets)) {
-            return false;
-        }
-    }
-    true
-}
-
-/// Whether it is where a builder is of such parts.
-fn is_pushed(alloc: Global, rt: &impl Abort, parts: Parts, cases: &[Pushed]) -> bool {
-    let mut builder = own_builder::<Binary, Tiny>(alloc, rt, parts);
-    let are_told = each_pushes(&mut builder, cases);
-    drop(builder);
-    are_told
-}
-
 #[test]
 fn bytes_that_are_refused_leave_the_builder(rt: HostRuntime) {
-    let is_new = is_pushed(rt.alloc(), &rt, (&[0], b"", "none"), PUSHES);
-    assert!(rt; is_new & is_pushed(rt.alloc(), &rt, (&[40], FORTY, "none"), PUSHES_BEHIND));
+    assert!(rt; pushes_each::<Binary>(rt.alloc(), &rt, NOTHING, PUSHES));
+}
+
+/// Forty bytes before the first slot.
+const BEHIND: Parts = (&[40], FORTY, "none");
+
+const PUSHES_BEHIND: &[Pushed<&[u8]>] = &[
+    (SIXTY_ONE, "overflow", &[40]),
+    (SIXTY, "made", &[40, 100]),
+];
+
+#[test]
+fn bytes_before_the_slots_count(rt: HostRuntime) {
+    assert!(rt; pushes_each::<Binary>(rt.alloc(), &rt, BEHIND, PUSHES_BEHIND));
 }
 
 const NINETY_NINE: &str =
     "aaaaaaaaaaaaaaaaaaaaaaaaaaaaaaaaaaaaaaaaaaaaaaaaaaaaaaaaaaaaaaaaaaaaaaaaaaaaaaaaaaaaaaaaaaaaaaaaaaa";
 
-/// Texts that are pushed one after the other: a shorter one is appended behind a character that is refused.
-type PushedText = (&'static str, &'static str, &'static [usize]);
-
-const TEXT_PUSHES: &[PushedText] = &[
+/// A shorter text is appended behind a character that is refused.
+const TEXT_PUSHES: &[Pushed<&str>] = &[
     (NINETY_NINE, "made", &[0, 99]),
     ("é", "overflow", &[0, 99]),
     ("a", "made", &[0, 99, 100]),
 ];
 
-/// Whether this is told of all of them, and comes.
-fn each_pushes_text(builder: &mut MutableUtf8Array<Tiny>, cases: &[PushedText]) -> bool {
-    for (item, answer, offsets) in cases {
-        let told = tells(builder.push(Some(*item))) == *answer;
-        if !(told & are_offsets(builder.offsets().as_slice(), *offsets)) {
-            return false;
-        }
-    }
-    true
-}
-
 #[test]
 fn text_that_is_refused_leaves_the_builder(rt: HostRuntime) {
-    let mut builder = MutableUtf8Array::new(rt.alloc()).expect(&rt, "memory");
-    let are_told = each_pushes_text(&mut builder, TEXT_PUSHES);
-    drop(builder);
-    assert!(rt; are_told);
+    assert!(rt; pushes_each::<Utf8>(rt.alloc(), &rt, NOTHING, TEXT_PUSHES));
 }

@@ -8,7 +8,7 @@ fn narrow(alloc: Global, rt: &impl Abort, list: &[i32]) -> OffsetsBuffer<i32> {
     offsets.expect(rt, "offsets").freeze().expect(rt, "memory")
 }
 
-/// Cuts offsets, where the cut is there, and tells whether these are left, of so many slots.
+/// Cuts offsets, where the cut is there, and tells whether these are left, one more than there are slots.
 fn cuts(offsets: &mut OffsetsBuffer<i32>, offset: usize, len: usize, list: &[i32]) -> bool {
     let slots = offsets.len_proxy();
     if 1 <= len && offset <= slots && len - 1 <= slots - offset {
@@ -39,18 +39,18 @@ fn offsets_thaw_where_nothing_shares_them(rt: HostRuntime) {
     assert!(rt; sides(&rt, offsets) == (false, true));
 }
 
-/// Whether a part of offsets is thawed.
-fn thaws_part(offsets: OffsetsBuffer<i32>) -> bool {
+/// Whether the first two of three offsets are cut off, and are not thawed.
+fn stay_frozen(offsets: OffsetsBuffer<i32>) -> bool {
     let mut offsets = offsets;
-    let is_cut = cuts(&mut offsets, 0, 2, [0, 2].as_slice());
-    offsets.into_mut().is_right() | !is_cut
+    let are_cut = cuts(&mut offsets, 0, 2, [0, 2].as_slice());
+    are_cut & offsets.into_mut().is_left()
 }
 
 /// A slice doesn't show the whole vector.
 #[test]
 fn slices_are_not_thawed(rt: HostRuntime) {
     let offsets = narrow(rt.alloc(), &rt, [0, 2, 7].as_slice());
-    assert!(rt; !thaws_part(offsets));
+    assert!(rt; stay_frozen(offsets));
 }
 
 #[test]
