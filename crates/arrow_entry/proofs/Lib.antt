@@ -1,3 +1,4 @@
+pub mod CallerLemmas
 pub mod Chosen
 pub mod Costs
 pub mod Masks
