@@ -71,7 +71,10 @@ pub fn is_line(line: &[u8], printable: bool) -> bool
     if !printable && !is_printable(line) {
         return false;
     }
-    on_words(&mut Tested, line) == Ok(true)
+    match on_words(&mut Tested, line) {
+        Ok(is_command) => is_command,
+        Err(_) => false,
+    }
 }
 
 /// Runs the command that a line is, unless it is passed over, and appends its reply to the text.

@@ -6,7 +6,7 @@ ghost use Rattle.arrow_words.specs.Fields.{bytes_in, text_in, bytes_of, lettered
 ghost use Rattle.arrow_words.specs.Readers.{only, reads, zero};
 ghost use Rattle.arrow_words.specs.Words.{words_of, integer_of};
 
-use crate::digits::{are_bytes, is_text};
+use crate::hexadecimal::{are_bytes, is_text};
 use crate::numbers::integer_of;
 use crate::readers::{Only, Word, Words};
 use crate::words::{is, next_word};

@@ -2,8 +2,8 @@
 #![tactic(auto)]
 
 pub mod bits;
-mod digits;
 pub mod fields;
+mod hexadecimal;
 pub mod items;
 pub mod numbers;
 pub mod print;

@@ -13,8 +13,8 @@ use crate::commands::changing::{
     WriteLine,
 };
 use crate::commands::growing::{
-    ConstantLine, ExtendFromSelfLine, ExtendLine, ExtendValuesLine, PopLine, PushLine, PushNullLine,
-    ReserveLine, ShrinkLine,
+    ConstantLine, ExtendFromSelfLine, ExtendLine, ExtendValuesLine, PopLine, PushLine,
+    PushNullLine, ReserveLine, ShrinkLine,
 };
 use crate::commands::making::{ItemsLine, NewLine, NullLine, PartsLine, SlotsLine};
 use crate::commands::telling::{
@@ -29,12 +29,7 @@ use arrow_words::fields::first_number;
 use arrow_words::words::is;
 
 /// The command of this name, of three or fewer letters.
-fn by_three<O: Width, P: Pass>(
-    pass: &mut P,
-    name: &[u8],
-    number: usize,
-    words: &[u8],
-) -> Answered
+fn by_three<O: Width, P: Pass>(pass: &mut P, name: &[u8], number: usize, words: &[u8]) -> Answered
     ensures { P.Comes (option_map O.side (request_behind (of_length (λ n. nat_le n 3) (lines (types (pos 0) Int64 O.most O.IS_LARGE) O.offset)) name.now number (words_of words.now))) pass.old pass.new result }
 {
     if is(name, b"get") {
@@ -59,12 +54,7 @@ fn by_three<O: Width, P: Pass>(
 }
 
 /// The command of this name, of four letters.
-fn by_four<O: Width, P: Pass>(
-    pass: &mut P,
-    name: &[u8],
-    number: usize,
-    words: &[u8],
-) -> Answered
+fn by_four<O: Width, P: Pass>(pass: &mut P, name: &[u8], number: usize, words: &[u8]) -> Answered
     ensures { P.Comes (option_map O.side (request_behind (of_length (λ n. n == 4) (lines (types (pos 0) Int64 O.most O.IS_LARGE) O.offset)) name.now number (words_of words.now))) pass.old pass.new result }
 {
     if is(name, b"push") {
@@ -101,12 +91,7 @@ fn by_four<O: Width, P: Pass>(
 }
 
 /// The command of this name, of five letters.
-fn by_five<O: Width, P: Pass>(
-    pass: &mut P,
-    name: &[u8],
-    number: usize,
-    words: &[u8],
-) -> Answered
+fn by_five<O: Width, P: Pass>(pass: &mut P, name: &[u8], number: usize, words: &[u8]) -> Answered
     ensures { P.Comes (option_map O.side (request_behind (of_length (λ n. n == 5) (lines (types (pos 0) Int64 O.most O.IS_LARGE) O.offset)) name.now number (words_of words.now))) pass.old pass.new result }
 {
     if is(name, b"value") {
@@ -146,12 +131,7 @@ fn by_five<O: Width, P: Pass>(
 }
 
 /// The command of this name, of six letters.
-fn by_six<O: Width, P: Pass>(
-    pass: &mut P,
-    name: &[u8],
-    number: usize,
-    words: &[u8],
-) -> Answered
+fn by_six<O: Width, P: Pass>(pass: &mut P, name: &[u8], number: usize, words: &[u8]) -> Answered
     ensures { P.Comes (option_map O.side (request_behind (of_length (λ n. n == 6) (lines (types (pos 0) Int64 O.most O.IS_LARGE) O.offset)) name.now number (words_of words.now))) pass.old pass.new result }
 {
     if is(name, b"isnull") {
@@ -176,12 +156,7 @@ fn by_six<O: Width, P: Pass>(
 }
 
 /// The command of this name, of seven letters or more.
-fn by_more<O: Width, P: Pass>(
-    pass: &mut P,
-    name: &[u8],
-    number: usize,
-    words: &[u8],
-) -> Answered
+fn by_more<O: Width, P: Pass>(pass: &mut P, name: &[u8], number: usize, words: &[u8]) -> Answered
     ensures { P.Comes (option_map O.side (request_behind (of_length (λ n. nat_lt 6 n) (lines (types (pos 0) Int64 O.most O.IS_LARGE) O.offset)) name.now number (words_of words.now))) pass.old pass.new result }
 {
     if is(name, b"offsets") {
@@ -218,11 +193,7 @@ fn by_more<O: Width, P: Pass>(
 /// which is read here, once for all.
 #[tactic(auto, unfolding(crate::specs::Lines::making, crate::specs::Lines::telling, crate::specs::Lines::changing, crate::specs::Lines::growing, crate::specs::Lines::turning, crate::specs::Lines::request_behind, crate::specs::Lines::request_among))]
 #[inline(always)]
-pub(crate) fn on_named<O: Width, P: Pass>(
-    pass: &mut P,
-    name: &[u8],
-    words: &[u8],
-) -> Answered
+pub(crate) fn on_named<O: Width, P: Pass>(pass: &mut P, name: &[u8], words: &[u8]) -> Answered
     ensures { P.Comes (option_map O.side (request_among (lines (types (pos 0) Int64 O.most O.IS_LARGE) O.offset) name.now (words_of words.now))) pass.old pass.new result }
 {
     let Some((number, words)) = first_number(words) else {

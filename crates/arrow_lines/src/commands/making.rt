@@ -136,7 +136,12 @@ type BooleanWords = (DataType, (Option<Bits>, Only<Bits>));
 type PiecesWords<O> = (DataType, (Option<Bits>, (Vec<u8>, Starts<O>)));
 
 /// Puts what raw native values make.
-fn native_parts<O: Width>(answering: &mut Answering, entry: usize, kind: Kind, words: &[u8]) -> Answered
+fn native_parts<O: Width>(
+    answering: &mut Answering,
+    entry: usize,
+    kind: Kind,
+    words: &[u8],
+) -> Answered
     ensures { IfOk result (AnswersAsked (option_map O.side (parts_of O.offset entry (shape kind) native (words_of words.now))) answering.old answering.new) }
 {
     match <NativeWords>::of_words(*answering.text.allocator(), words)? {
@@ -158,7 +163,12 @@ fn native_parts<O: Width>(answering: &mut Answering, entry: usize, kind: Kind, w
 }
 
 /// Puts what raw truth values make.
-fn boolean_parts<O: Width>(answering: &mut Answering, entry: usize, kind: Kind, words: &[u8]) -> Answered
+fn boolean_parts<O: Width>(
+    answering: &mut Answering,
+    entry: usize,
+    kind: Kind,
+    words: &[u8],
+) -> Answered
     ensures { IfOk result (AnswersAsked (option_map O.side (parts_of O.offset entry (shape kind) boolean (words_of words.now))) answering.old answering.new) }
 {
     match <BooleanWords>::of_words(*answering.text.allocator(), words)? {
@@ -180,7 +190,12 @@ fn boolean_parts<O: Width>(answering: &mut Answering, entry: usize, kind: Kind, 
 }
 
 /// Puts what raw bytes and offsets make.
-fn pieces_parts<O: Width>(answering: &mut Answering, entry: usize, kind: Kind, words: &[u8]) -> Answered
+fn pieces_parts<O: Width>(
+    answering: &mut Answering,
+    entry: usize,
+    kind: Kind,
+    words: &[u8],
+) -> Answered
     ensures { IfOk result (AnswersAsked (option_map O.side (parts_of O.offset entry (shape kind) (pieces false) (words_of words.now))) answering.old answering.new) }
 {
     match <PiecesWords<O>>::of_words(*answering.text.allocator(), words)? {

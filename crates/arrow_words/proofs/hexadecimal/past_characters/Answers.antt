@@ -2,7 +2,7 @@ use Rattle.std.proofs.Common.{◌≡◌, ◌*◌, ◌-◌, Some, None, length, t
 use Rattle.std.proofs.lemmas.Bool.Decides.{nat_tests}
 use Rattle.arrow_words.specs.Fields.{bytes_in}
 use Rattle.arrow_words.proofs.DigitTexts.{text_broken, text_begins, text_behind_part}
-use Rattle.arrow_words.proofs.digits.past_characters.Goals as goal
+use Rattle.arrow_words.proofs.hexadecimal.past_characters.Goals as goal
 
 pub returns-then-not-decode_into-clause-none : goal.returns-then-not-decode_into-clause-none
 returns-then-not-decode_into-clause-none c =

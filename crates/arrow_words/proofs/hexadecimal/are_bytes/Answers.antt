@@ -1,7 +1,7 @@
 use Rattle.std.proofs.Common.{◌≡◌, ◌%◌, length, ◌∙◌, sym, ap, arith, is_some}
 use Rattle.std.proofs.lemmas.Bool.Decides.{nat_tests}
 use Rattle.arrow_words.proofs.DigitPairs.{bytes_are_pairs, pairs_tested}
-use Rattle.arrow_words.proofs.digits.are_bytes.Goals as goal
+use Rattle.arrow_words.proofs.hexadecimal.are_bytes.Goals as goal
 
 pub returns-then-digits-eq0 : goal.returns-then-digits-eq0
 returns-then-digits-eq0 c =
