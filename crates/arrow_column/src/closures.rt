@@ -18,8 +18,11 @@ impl<V: Values> FrozenColumn<V> {
     /// Replaces a held mask by what the closure makes of it; without a mask nothing is done.
     pub fn apply_validity<F: FnOnce(Bitmap) -> Bitmap + Drop>(&mut self, change: F)
         requires callable { IfSome (mask_of self.old) (λ marks. F.pre change marks) }
-        requires keeps { IfSome (mask_of self.old) (λ marks. (changed : List Bool) → F.post change marks changed → length changed ≡ length marks) }
-        ensures { MatchOption (mask_of self.old) (self.new ≡ self.old) (λ marks. (changed : List Bool) × F.post change marks changed × (length changed ≡ length marks) × (self.new ≡ with_mask self.old (Some changed))) }
+        requires keeps { IfSome (mask_of self.old) (λ marks. (changed : List Bool) → F.post change marks changed
+            → length changed ≡ length marks) }
+        ensures { MatchOption (mask_of self.old) (self.new ≡ self.old) (λ marks. (changed : List Bool)
+            × F.post change marks changed × (length changed ≡ length marks)
+            × (self.new ≡ with_mask self.old (Some changed))) }
     {
         if let Some(validity) = self.validity.take() {
             self.validity = Some(change(validity));
@@ -32,8 +35,11 @@ impl<V: MutableValues> GrowingColumn<V> {
     /// Replaces a held mask by what the closure makes of it; without a mask nothing is done.
     pub fn apply_validity<F: FnOnce(MutableBitmap) -> MutableBitmap + Drop>(&mut self, change: F)
         requires callable { IfSome (mask_of self.old) (λ marks. F.pre change marks) }
-        requires keeps { IfSome (mask_of self.old) (λ marks. (changed : List Bool) → F.post change marks changed → length changed ≡ length marks) }
-        ensures { MatchOption (mask_of self.old) (self.new ≡ self.old) (λ marks. (changed : List Bool) × F.post change marks changed × (length changed ≡ length marks) × (self.new ≡ with_mask self.old (Some changed))) }
+        requires keeps { IfSome (mask_of self.old) (λ marks. (changed : List Bool) → F.post change marks changed
+            → length changed ≡ length marks) }
+        ensures { MatchOption (mask_of self.old) (self.new ≡ self.old) (λ marks. (changed : List Bool)
+            × F.post change marks changed × (length changed ≡ length marks)
+            × (self.new ≡ with_mask self.old (Some changed))) }
     {
         if let Some(validity) = self.validity.take() {
             self.validity = Some(change(validity));
@@ -46,8 +52,11 @@ impl<T: NativeType> GrowingColumn<Vec<T>> {
     /// Replaces the stored values by what the closure makes of them. The marks stay.
     pub fn apply_values<F: Fn(Vec<T>) -> Vec<T>>(&mut self, change: F)
         requires callable { (values : _) → values.items ≡ stored_values self.old → F.pre change values }
-        requires keeps { (values changed : _) → values.items ≡ stored_values self.old → F.post change values changed → vec_len changed ≡ length self.old.rows }
-        ensures { (values : _) × (changed : _) × (values.items ≡ stored_values self.old) × F.post change values changed × (vec_len changed ≡ length self.old.rows) × (self.new ≡ with_stored self.old changed.items) }
+        requires keeps { (values changed : _) → values.items ≡ stored_values self.old → F.post change values changed
+            → vec_len changed ≡ length self.old.rows }
+        ensures { (values : _) × (changed : _) × (values.items ≡ stored_values self.old)
+            × F.post change values changed × (vec_len changed ≡ length self.old.rows)
+            × (self.new ≡ with_stored self.old changed.items) }
     {
         let alloc = *self.values.allocator();
         let values = mem::replace(&mut self.values, Vec::new(alloc));
@@ -60,7 +69,9 @@ impl<T: NativeType> FrozenColumn<Buffer<T>> {
     /// Lends the stored values to be written to, where no one else has them, and tells whether it did.
     pub fn get_mut_values<F: FnOnce(&mut [T]) + Drop>(&mut self, change: F) -> bool
         requires { (values : MutBor (List T)) → values.now ≡ stored_values self.old → F.pre change values }
-        ensures changed { IsTrue result → (ws : List T) × FnOnceReturnsAtMut F.FnOnce change (stored_values self.old) tt ws × (length ws ≡ length self.old.rows) × (self.new ≡ with_stored self.old ws) }
+        ensures changed { IsTrue result
+            → (ws : List T) × FnOnceReturnsAtMut F.FnOnce change (stored_values self.old) tt ws
+            × (length ws ≡ length self.old.rows) × (self.new ≡ with_stored self.old ws) }
         ensures unchanged { OnFalse result (self.new ≡ self.old) }
     {
         self.values.get_mut_slice(change)
@@ -79,8 +90,10 @@ impl FrozenColumn<Bitmap> {
         change: F,
     ) -> Result<(), Error>
         requires callable { F.pre change (stored_values self.old) }
-        requires keeps { (changed : List Bool) → F.post change (stored_values self.old) changed → length changed ≡ length self.old.rows }
-        ensures ok { OnOk result ((changed : List Bool) × F.post change (stored_values self.old) changed × (length changed ≡ length self.old.rows) × (self.new ≡ with_stored self.old changed)) }
+        requires keeps { (changed : List Bool) → F.post change (stored_values self.old) changed
+            → length changed ≡ length self.old.rows }
+        ensures ok { OnOk result ((changed : List Bool) × F.post change (stored_values self.old) changed
+            × (length changed ≡ length self.old.rows) × (self.new ≡ with_stored self.old changed)) }
         ensures err { IfErr result (λ e. (e ≡ Error.OutOfMemory) × (self.new ≡ self.old)) }
     {
         self.values.apply_mut(change)?;

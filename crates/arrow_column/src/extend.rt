@@ -1,7 +1,8 @@
 //! Columns that grow by the items of an iterator.
 ghost use Rattle.std.specs.Prelude.{◌≡◌, Option, OnOk, IfErr};
 ghost use Rattle.std.specs.Iterator.{IsFinite};
-ghost use Rattle.arrow_column.specs.Appends.{AppendsItems, AppendsSlots, ExtendsByItems, ExtendsBySlots, StopsAmongItems, StopsAmongSlots, StopsInItems, StopsInSlots};
+ghost use Rattle.arrow_column.specs.Appends.{AppendsItems, AppendsSlots, ExtendsByItems, ExtendsBySlots};
+ghost use Rattle.arrow_column.specs.Appends.{StopsAmongItems, StopsAmongSlots, StopsInItems, StopsInSlots};
 
 use crate::GrowingColumn;
 use crate::values::{MutableValues, PushValue};
@@ -22,7 +23,8 @@ impl<V: MutableValues> GrowingColumn<V> {
         requires ends { IsFinite (I.remaining slots) }
         ensures data_type { self.new.data_type ≡ self.old.data_type }
         ensures ok { OnOk result (ExtendsBySlots V.overflows V.shown V.default I.next_gives slots self.old self.new) }
-        ensures err { IfErr result (λ e. StopsInSlots V.overflows V.shown V.default I.next_gives slots self.old self.new e) }
+        ensures err { IfErr result (λ e. StopsInSlots V.overflows V.shown V.default I.next_gives slots self.old
+            self.new e) }
     {
         let (least, _) = slots.size_hint();
         // Where as much is refused at once, each slot asks for its own room.
@@ -46,7 +48,8 @@ impl<V: MutableValues> GrowingColumn<V> {
         requires ends { IsFinite (I.remaining values) }
         ensures data_type { self.new.data_type ≡ self.old.data_type }
         ensures ok { OnOk result (ExtendsByItems V.overflows V.shown V.default I.next_gives values self.old self.new) }
-        ensures err { IfErr result (λ e. StopsInItems V.overflows V.shown V.default I.next_gives values self.old self.new e) }
+        ensures err { IfErr result (λ e. StopsInItems V.overflows V.shown V.default I.next_gives values self.old
+            self.new e) }
     {
         let (least, _) = values.size_hint();
         // Where as much is refused at once, each value asks for its own room.

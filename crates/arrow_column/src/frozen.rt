@@ -3,7 +3,8 @@ ghost use Rattle.std.specs.Prelude.{IsTrue, None, ◌≡◌, ◌-◌, ◌<◌, l
 ghost use Rattle.std.specs.Option.{option_copied};
 ghost use Rattle.arrow_types.specs.Types.{logical_type};
 ghost use Rattle.arrow_memory.specs.Rows.{FitsMask, rows_of};
-ghost use Rattle.arrow_column.specs.Column.{slots_of, ColumnWith, FitsCut, IsColumn, column_with, cut_with, marks_of, mask_of, stored_values, with_mask, with_type};
+ghost use Rattle.arrow_column.specs.Column.{slots_of, ColumnWith, FitsCut, IsColumn, column_with, cut_with};
+ghost use Rattle.arrow_column.specs.Column.{marks_of, mask_of, stored_values, with_mask, with_type};
 
 use crate::mask::slice_mask;
 use crate::values::Values;
@@ -27,7 +28,8 @@ impl<V: Values> Model for FrozenColumn<V> {
 
     ghost Value = { ColumnWith V.Around V.Stored };
 
-    ghost view = { λ column. column_with (logical_type column.data_type) (V.around column.values) (V.stored column.values) column.validity };
+    ghost view = { λ column. column_with (logical_type column.data_type) (V.around column.values)
+        (V.stored column.values) column.validity };
 
     ghost invariant = { λ column. FitsMask (V.stored column.values) column.validity };
 }
@@ -136,7 +138,8 @@ impl<V: Values> FrozenColumn<V> {
         requires { i < length self.now.rows }
         ensures mark { slice_get (marks_of self.now) i ≡ Some (not result) }
         ensures null { IsTrue result → slice_get (slots_of self.now) i ≡ Some None }
-        ensures valid { IsTrue (not result) → (value : V.Stored) → slice_get (stored_values self.now) i ≡ Some value → slice_get (slots_of self.now) i ≡ Some (Some value) }
+        ensures valid { IsTrue (not result) → (value : V.Stored) → slice_get (stored_values self.now) i ≡ Some value
+            → slice_get (slots_of self.now) i ≡ Some (Some value) }
     {
         !self.is_valid(i)
     }

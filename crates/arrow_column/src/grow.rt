@@ -18,8 +18,11 @@ impl<V: MutableValues> GrowingColumn<V> {
     pub fn grow_valid<X>(&mut self, values: X) -> Result<(), Error>
     where
         V: Grow<X>,
-        ensures ok { OnOk result ((V.overgrows self.old.around (stored_values self.old) values ≡ false) × (self.new ≡ append_values self.old (V.given values))) }
-        ensures err { IfErr result (λ e. (e ≡ refused_growth (V.overgrows self.old.around (stored_values self.old) values)) × (self.new ≡ self.old)) }
+        ensures ok { OnOk result ((V.overgrows self.old.around (stored_values self.old) values ≡ false)
+            × (self.new ≡ append_values self.old (V.given values))) }
+        ensures err { IfErr result (λ e.
+            (e ≡ refused_growth (V.overgrows self.old.around (stored_values self.old) values))
+            × (self.new ≡ self.old)) }
     {
         let before = self.values.count();
         let count = self.values.grow(values)?;
@@ -39,8 +42,11 @@ impl<V: MutableValues> GrowingColumn<V> {
     pub fn grow_null<X>(&mut self, values: X) -> Result<(), Error>
     where
         V: Grow<X>,
-        ensures ok { OnOk result ((V.overgrows self.old.around (stored_values self.old) values ≡ false) × (self.new ≡ append_nulls self.old (V.given values))) }
-        ensures err { IfErr result (λ e. (e ≡ refused_growth (V.overgrows self.old.around (stored_values self.old) values)) × (self.new ≡ self.old)) }
+        ensures ok { OnOk result ((V.overgrows self.old.around (stored_values self.old) values ≡ false)
+            × (self.new ≡ append_nulls self.old (V.given values))) }
+        ensures err { IfErr result (λ e.
+            (e ≡ refused_growth (V.overgrows self.old.around (stored_values self.old) values))
+            × (self.new ≡ self.old)) }
     {
         let before = self.values.count();
         let alloc = self.values.allocated_by();
@@ -60,8 +66,11 @@ impl<V: MutableValues> GrowingColumn<V> {
     /// `Overflow` where there would be more than the values' type can count, which is tested first, or
     /// `OutOfMemory` where a growth is refused; the column is then as before.
     pub fn try_extend_from_self(&mut self, other: &Self) -> Result<(), Error>
-        ensures ok { OnOk result ((V.overjoins self.old.around (stored_values self.old) (stored_values other.now) ≡ false) × (self.new ≡ joined self.old other.now)) }
-        ensures err { IfErr result (λ e. (e ≡ refused_growth (V.overjoins self.old.around (stored_values self.old) (stored_values other.now))) × (self.new ≡ self.old)) }
+        ensures ok { OnOk result ((V.overjoins self.old.around (stored_values self.old) (stored_values other.now)
+            ≡ false) × (self.new ≡ joined self.old other.now)) }
+        ensures err { IfErr result (λ e.
+            (e ≡ refused_growth (V.overjoins self.old.around (stored_values self.old) (stored_values other.now)))
+            × (self.new ≡ self.old)) }
     {
         let before = self.values.count();
         let alloc = self.values.allocated_by();

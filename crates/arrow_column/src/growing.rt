@@ -1,9 +1,12 @@
 //! Columns that grow, of which builders are made.
-ghost use Rattle.std.specs.Prelude.{IsTrue, slice_get, not, is_some, ◌≡◌, ◌<◌, ◌-◌, length, false, Some, None, OnOk, IfOk, IfErr, IfSome, option_map};
+ghost use Rattle.std.specs.Prelude.{IsTrue, slice_get, not, is_some, ◌≡◌, ◌<◌, ◌-◌, length, false, Some, None};
+ghost use Rattle.std.specs.Prelude.{OnOk, IfOk, IfErr, IfSome, option_map};
 ghost use Rattle.std.specs.Option.{option_copied};
 ghost use Rattle.arrow_types.specs.Types.{logical_type};
 ghost use Rattle.arrow_memory.specs.Rows.{FitsMask, rows_of};
-ghost use Rattle.arrow_column.specs.Column.{slots_of, all_valid, marks_of, slot_overflows, IsColumn, append_slot, column_with, last_slot, mask_of, refused_growth, stored_values, with_mask, with_type, without_last};
+ghost use Rattle.arrow_column.specs.Column.{slots_of, all_valid, marks_of, slot_overflows, IsColumn, append_slot};
+ghost use Rattle.arrow_column.specs.Column.{column_with, last_slot, mask_of, refused_growth, stored_values};
+ghost use Rattle.arrow_column.specs.Column.{with_mask, with_type, without_last};
 
 use crate::mask::{freeze_mask, pop_mark, push_null_mark, push_valid};
 use crate::values::{MutableValues, PushValue};
@@ -28,7 +31,8 @@ impl<V: MutableValues> Model for GrowingColumn<V> {
 
     ghost Value = { ColumnWith V.Around V.Stored };
 
-    ghost view = { λ column. column_with (logical_type column.data_type) (V.around column.values) (V.stored column.values) column.validity };
+    ghost view = { λ column. column_with (logical_type column.data_type) (V.around column.values)
+        (V.stored column.values) column.validity };
 
     ghost invariant = { λ column. FitsMask (V.stored column.values) column.validity };
 }
@@ -160,8 +164,11 @@ impl<V: MutableValues> GrowingColumn<V> {
     where
         V: PushValue<X>,
         ensures data_type { self.new.data_type ≡ self.old.data_type }
-        ensures ok { OnOk result ((V.overflows self.old.around (stored_values self.old) value ≡ false) × (self.new ≡ append_slot V.default self.old (Some (V.shown value)))) }
-        ensures err { IfErr result (λ e. (e ≡ refused_growth (V.overflows self.old.around (stored_values self.old) value)) × (self.new ≡ self.old)) }
+        ensures ok { OnOk result ((V.overflows self.old.around (stored_values self.old) value ≡ false)
+            × (self.new ≡ append_slot V.default self.old (Some (V.shown value)))) }
+        ensures err { IfErr result (λ e.
+            (e ≡ refused_growth (V.overflows self.old.around (stored_values self.old) value))
+            × (self.new ≡ self.old)) }
     {
         let before = self.values.count();
         self.values.push_value(value)?;
@@ -184,8 +191,10 @@ impl<V: MutableValues> GrowingColumn<V> {
     where
         V: PushValue<X>,
         ensures data_type { self.new.data_type ≡ self.old.data_type }
-        ensures ok { OnOk result ((slot_overflows V.overflows self.old slot ≡ false) × (self.new ≡ append_slot V.default self.old (option_map V.shown slot))) }
-        ensures err { IfErr result (λ e. (e ≡ refused_growth (slot_overflows V.overflows self.old slot)) × (self.new ≡ self.old)) }
+        ensures ok { OnOk result ((slot_overflows V.overflows self.old slot ≡ false)
+            × (self.new ≡ append_slot V.default self.old (option_map V.shown slot))) }
+        ensures err { IfErr result (λ e. (e ≡ refused_growth (slot_overflows V.overflows self.old slot))
+            × (self.new ≡ self.old)) }
     {
         match slot {
             Some(value) => self.push_valid(value),
@@ -199,7 +208,9 @@ impl<V: MutableValues> GrowingColumn<V> {
         requires { 0 < length self.old.rows }
         ensures mark { slice_get (marks_of self.old) (length self.old.rows - 1) ≡ Some result }
         ensures null { IsTrue (not result) → last_slot self.old ≡ None }
-        ensures valid { IsTrue result → (value : V.Stored) → slice_get (stored_values self.old) (length self.old.rows - 1) ≡ Some value → last_slot self.old ≡ Some value }
+        ensures valid { IsTrue result → (value : V.Stored)
+            → slice_get (stored_values self.old) (length self.old.rows - 1) ≡ Some value
+            → last_slot self.old ≡ Some value }
         ensures rest { self.new ≡ without_last self.old }
     {
         self.values.drop_last();
@@ -224,7 +235,8 @@ impl<V: MutableValues> GrowingColumn<V> {
         requires { i < length self.now.rows }
         ensures mark { slice_get (marks_of self.now) i ≡ Some (not result) }
         ensures null { IsTrue result → slice_get (slots_of self.now) i ≡ Some None }
-        ensures valid { IsTrue (not result) → (value : V.Stored) → slice_get (stored_values self.now) i ≡ Some value → slice_get (slots_of self.now) i ≡ Some (Some value) }
+        ensures valid { IsTrue (not result) → (value : V.Stored) → slice_get (stored_values self.now) i ≡ Some value
+            → slice_get (slots_of self.now) i ≡ Some (Some value) }
     {
         !self.is_valid(i)
     }

@@ -1,5 +1,7 @@
 //! Masks, which are held or not.
-ghost use Rattle.std.specs.Prelude.{IsTrue, ◌↔◌, slice_set, ◌≡◌, ◌<◌, true, false, [], ◌∷◌, ◌++◌, replicate, Some, option_map, unwrap_or, length, take, drop, ◌+◌, ◌≤◌, IfSome, OnOk, IfOk, IfErr, IsOk};
+ghost use Rattle.std.specs.Prelude.{IsTrue, ◌↔◌, slice_set, ◌≡◌, ◌<◌, true, false, [], ◌∷◌, ◌++◌, replicate, Some};
+ghost use Rattle.std.specs.Prelude.{option_map, unwrap_or, length, take, drop, ◌+◌, ◌≤◌, IfSome, OnOk, IfOk, IfErr};
+ghost use Rattle.std.specs.Prelude.{IsOk};
 ghost use Rattle.arrow_memory.specs.MarkWrites.{TakesLastMark};
 ghost use Rattle.arrow_memory.specs.Rows.{IsValidAt};
 ghost use Rattle.arrow_column.specs.Masks.{joined_mask, mask_with_nulls};
@@ -131,7 +133,8 @@ pub(crate) fn extend_null_marks(
     length: usize,
     count: usize,
 ) -> Result<(), Error>
-    ensures ok { OnOk result (validity.new ≡ Some (unwrap_or validity.old (replicate length true) ++ replicate count false)) }
+    ensures ok { OnOk result (validity.new ≡ Some (unwrap_or validity.old (replicate length true)
+        ++ replicate count false)) }
     ensures err { IfErr result (λ e. (e ≡ Error.OutOfMemory) × (validity.new ≡ validity.old)) }
 {
     match validity {

@@ -21,8 +21,11 @@ impl<V: MutableValues> GrowingColumn<V> {
         requires { self.old.held ≡ false }
         ensures data_type { self.new.data_type ≡ self.old.data_type }
         ensures held { self.new.held ≡ false }
-        ensures ok { OnOk result ((V.overflows self.old.around (stored_values self.old) value ≡ false) × (self.new ≡ append_slot V.default self.old (Some (V.shown value)))) }
-        ensures err { IfErr result (λ e. (e ≡ refused_growth (V.overflows self.old.around (stored_values self.old) value)) × (self.new ≡ self.old)) }
+        ensures ok { OnOk result ((V.overflows self.old.around (stored_values self.old) value ≡ false)
+            × (self.new ≡ append_slot V.default self.old (Some (V.shown value)))) }
+        ensures err { IfErr result (λ e.
+            (e ≡ refused_growth (V.overflows self.old.around (stored_values self.old) value))
+            × (self.new ≡ self.old)) }
     {
         self.values.push_value(value)
     }
@@ -57,7 +60,8 @@ impl<V: MutableValues> GrowingColumn<V> {
         ensures held { self.new.held ≡ false }
         ensures data_type { self.new.data_type ≡ self.old.data_type }
         ensures ok { OnOk result (ExtendsByItems V.overflows V.shown V.default I.next_gives values self.old self.new) }
-        ensures err { IfErr result (λ e. StopsInItems V.overflows V.shown V.default I.next_gives values self.old self.new e) }
+        ensures err { IfErr result (λ e. StopsInItems V.overflows V.shown V.default I.next_gives values self.old
+            self.new e) }
     {
         let (least, _) = values.size_hint();
         // Where as much is refused at once, each value asks for its own room.

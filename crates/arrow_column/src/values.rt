@@ -1,5 +1,6 @@
 //! The stored values that columns are made of.
-ghost use Rattle.std.specs.Prelude.{refl, slice_set, replicate, ◌<◌, IfOk, ◌≡◌, ℕ, ◌+◌, ◌-◌, ◌≤◌, List, Bool, false, [], ◌∷◌, ◌++◌, length, take, drop, OnOk, IfErr, IsOk};
+ghost use Rattle.std.specs.Prelude.{refl, slice_set, replicate, ◌<◌, IfOk, ◌≡◌, ℕ, ◌+◌, ◌-◌, ◌≤◌, List, Bool};
+ghost use Rattle.std.specs.Prelude.{false, [], ◌∷◌, ◌++◌, length, take, drop, OnOk, IfErr, IsOk};
 ghost use Rattle.arrow_column.specs.Column.{refused_growth};
 
 use arrow_memory::bitmap::{Bitmap, MutableBitmap};
@@ -161,9 +162,12 @@ pub trait MutableValues: Drop {
     /// `Overflow` where there would be more than the type can count, which is tested first, or
     /// `OutOfMemory` where the growth is refused; the values are then as before.
     fn append(&mut self, other: &Self) -> Result<(), Error>
-        ensures ok { OnOk result ((overjoins (around self.old) (stored self.old) (stored other.now) ≡ false) × (stored self.new ≡ stored self.old ++ stored other.now)) }
+        ensures ok { OnOk result ((overjoins (around self.old) (stored self.old) (stored other.now) ≡ false)
+            × (stored self.new ≡ stored self.old ++ stored other.now)) }
         ensures around { around self.new ≡ around self.old }
-        ensures err { IfErr result (λ e. (e ≡ refused_growth (overjoins (around self.old) (stored self.old) (stored other.now))) × (stored self.new ≡ stored self.old)) };
+        ensures err { IfErr result (λ e.
+            (e ≡ refused_growth (overjoins (around self.old) (stored self.old) (stored other.now)))
+            × (stored self.new ≡ stored self.old)) };
 
     /// Makes room for so many values more.
     ///
@@ -207,9 +211,12 @@ pub trait PushValue<X>: MutableValues {
     /// `Overflow` where there would be more than the type can count, which is tested first, or
     /// `OutOfMemory` where the growth is refused; the values are then as before.
     fn push_value(&mut self, value: X) -> Result<(), Error>
-        ensures ok { OnOk result ((overflows (Self.around self.old) (Self.stored self.old) value ≡ false) × (Self.stored self.new ≡ Self.stored self.old ++ shown value ∷ [])) }
+        ensures ok { OnOk result ((overflows (Self.around self.old) (Self.stored self.old) value ≡ false)
+            × (Self.stored self.new ≡ Self.stored self.old ++ shown value ∷ [])) }
         ensures around { Self.around self.new ≡ Self.around self.old }
-        ensures err { IfErr result (λ e. (e ≡ refused_growth (overflows (Self.around self.old) (Self.stored self.old) value)) × (Self.stored self.new ≡ Self.stored self.old)) };
+        ensures err { IfErr result (λ e.
+            (e ≡ refused_growth (overflows (Self.around self.old) (Self.stored self.old) value))
+            × (Self.stored self.new ≡ Self.stored self.old)) };
 }
 
 /// Values to which many are appended at a time.
@@ -226,9 +233,12 @@ pub trait Grow<X>: MutableValues {
     /// `Overflow` where there would be more than the type can count, which is tested first, or
     /// `OutOfMemory` where the growth is refused; the values are then as before.
     fn grow(&mut self, values: X) -> Result<usize, Error>
-        ensures ok { IfOk result (λ count. (overgrows (Self.around self.old) (Self.stored self.old) values ≡ false) × (count ≡ length (given values)) × (Self.stored self.new ≡ Self.stored self.old ++ given values)) }
+        ensures ok { IfOk result (λ count. (overgrows (Self.around self.old) (Self.stored self.old) values ≡ false)
+            × (count ≡ length (given values)) × (Self.stored self.new ≡ Self.stored self.old ++ given values)) }
         ensures around { Self.around self.new ≡ Self.around self.old }
-        ensures err { IfErr result (λ e. (e ≡ refused_growth (overgrows (Self.around self.old) (Self.stored self.old) values)) × (Self.stored self.new ≡ Self.stored self.old)) };
+        ensures err { IfErr result (λ e.
+            (e ≡ refused_growth (overgrows (Self.around self.old) (Self.stored self.old) values))
+            × (Self.stored self.new ≡ Self.stored self.old)) };
 }
 
 impl<T: NativeType> MutableValues for Vec<T> {

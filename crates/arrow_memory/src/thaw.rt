@@ -18,7 +18,8 @@ fn take_two<S, T>(
     first: &mut Rc<Vec<S>>,
     second: &mut Rc<Vec<T>>,
 ) -> Option<(Vec<S>, Vec<T>)>
-    ensures { MatchOption result ((first.new.value ≡ first.old.value) × (second.new.value ≡ second.old.value)) (λ taken. IsTrue asked × (taken.0 ≡ first.old.value) × (taken.1 ≡ second.old.value)) }
+    ensures { MatchOption result ((first.new.value ≡ first.old.value) × (second.new.value ≡ second.old.value))
+        (λ taken. IsTrue asked × (taken.0 ≡ first.old.value) × (taken.1 ≡ second.old.value)) }
 {
     if !asked {
         return None;
@@ -44,7 +45,9 @@ fn take_three<S, T, U>(
     second: &mut Rc<Vec<T>>,
     third: &mut Rc<Vec<U>>,
 ) -> Option<(Vec<S>, Vec<T>, Vec<U>)>
-    ensures { MatchOption result ((first.new.value ≡ first.old.value) × (second.new.value ≡ second.old.value) × (third.new.value ≡ third.old.value)) (λ taken. IsTrue asked × (taken.0 ≡ first.old.value) × (taken.1 ≡ second.old.value) × (taken.2 ≡ third.old.value)) }
+    ensures { MatchOption result ((first.new.value ≡ first.old.value) × (second.new.value ≡ second.old.value)
+        × (third.new.value ≡ third.old.value)) (λ taken. IsTrue asked × (taken.0 ≡ first.old.value)
+        × (taken.1 ≡ second.old.value) × (taken.2 ≡ third.old.value)) }
 {
     if !asked {
         return None;
@@ -73,7 +76,8 @@ fn thaw_values<T: Drop>(
     values: Buffer<T>,
     mask: Bitmap,
 ) -> Either<(Buffer<T>, Bitmap), (Vec<T>, MutableBitmap)>
-    ensures { MatchEither result (λ parts. (parts.0 ≡ values) × (parts.1 ≡ mask)) (λ parts. (parts.0.items ≡ values) × (parts.1 ≡ mask)) }
+    ensures { MatchEither result (λ parts. (parts.0 ≡ values) × (parts.1 ≡ mask)) (λ parts. (parts.0.items ≡ values)
+        × (parts.1 ≡ mask)) }
 {
     let (mut items, offset, length) = values.into_parts();
     let (mut bytes, first, marks, unset) = mask.into_parts();
@@ -93,7 +97,8 @@ pub fn into_mut_values<T: Drop>(
     values: Buffer<T>,
     validity: Option<Bitmap>,
 ) -> Either<(Buffer<T>, Option<Bitmap>), (Vec<T>, Option<MutableBitmap>)>
-    ensures { MatchEither result (λ parts. (parts.0 ≡ values) × (parts.1 ≡ validity)) (λ parts. (parts.0.items ≡ values) × (parts.1 ≡ validity)) }
+    ensures { MatchEither result (λ parts. (parts.0 ≡ values) × (parts.1 ≡ validity)) (λ parts.
+        (parts.0.items ≡ values) × (parts.1 ≡ validity)) }
 {
     match validity {
         None => match values.into_mut() {
@@ -112,7 +117,8 @@ fn thaw_bits(
     values: Bitmap,
     mask: Bitmap,
 ) -> Either<(Bitmap, Bitmap), (MutableBitmap, MutableBitmap)>
-    ensures { MatchEither result (λ parts. (parts.0 ≡ values) × (parts.1 ≡ mask)) (λ parts. (parts.0 ≡ values) × (parts.1 ≡ mask)) }
+    ensures { MatchEither result (λ parts. (parts.0 ≡ values) × (parts.1 ≡ mask)) (λ parts. (parts.0 ≡ values)
+        × (parts.1 ≡ mask)) }
 {
     let (mut bits, offset, length, clear) = values.into_parts();
     let (mut bytes, first, marks, unset) = mask.into_parts();
@@ -134,7 +140,8 @@ pub fn into_mut_bits(
     values: Bitmap,
     validity: Option<Bitmap>,
 ) -> Either<(Bitmap, Option<Bitmap>), (MutableBitmap, Option<MutableBitmap>)>
-    ensures { MatchEither result (λ parts. (parts.0 ≡ values) × (parts.1 ≡ validity)) (λ parts. (parts.0 ≡ values) × (parts.1 ≡ validity)) }
+    ensures { MatchEither result (λ parts. (parts.0 ≡ values) × (parts.1 ≡ validity)) (λ parts. (parts.0 ≡ values)
+        × (parts.1 ≡ validity)) }
 {
     match validity {
         None => match values.into_mut() {
@@ -154,7 +161,8 @@ fn thaw_slots<O: Offset>(
     values: Buffer<u8>,
 ) -> Either<(OffsetsBuffer<O>, Buffer<u8>), (Offsets<O>, Vec<u8>)>
     requires { last_of offsets ≤ length values }
-    ensures { MatchEither result (λ parts. (parts.0 ≡ offsets) × (parts.1 ≡ values)) (λ parts. (parts.0 ≡ offsets) × (parts.1.items ≡ take (last_of offsets) values)) }
+    ensures { MatchEither result (λ parts. (parts.0 ≡ offsets) × (parts.1 ≡ values)) (λ parts. (parts.0 ≡ offsets)
+        × (parts.1.items ≡ take (last_of offsets) values)) }
 {
     let end = offsets.last().to_usize();
     let OffsetsBuffer { offsets } = offsets;
@@ -183,7 +191,8 @@ fn thaw_slots_with_mask<O: Offset>(
     mask: Bitmap,
 ) -> Either<(OffsetsBuffer<O>, Buffer<u8>, Bitmap), (Offsets<O>, Vec<u8>, MutableBitmap)>
     requires { last_of offsets ≤ length values }
-    ensures { MatchEither result (λ parts. (parts.0 ≡ offsets) × (parts.1 ≡ values) × (parts.2 ≡ mask)) (λ parts. (parts.0 ≡ offsets) × (parts.1.items ≡ take (last_of offsets) values) × (parts.2 ≡ mask)) }
+    ensures { MatchEither result (λ parts. (parts.0 ≡ offsets) × (parts.1 ≡ values) × (parts.2 ≡ mask)) (λ parts.
+        (parts.0 ≡ offsets) × (parts.1.items ≡ take (last_of offsets) values) × (parts.2 ≡ mask)) }
 {
     let end = offsets.last().to_usize();
     let OffsetsBuffer { offsets } = offsets;
@@ -219,7 +228,8 @@ pub fn into_mut_bytes<O: Offset>(
     (Offsets<O>, Vec<u8>, Option<MutableBitmap>),
 >
     requires { last_of offsets ≤ length values }
-    ensures { MatchEither result (λ parts. (parts.0 ≡ offsets) × (parts.1 ≡ values) × (parts.2 ≡ validity)) (λ parts. (parts.0 ≡ offsets) × (parts.1.items ≡ take (last_of offsets) values) × (parts.2 ≡ validity)) }
+    ensures { MatchEither result (λ parts. (parts.0 ≡ offsets) × (parts.1 ≡ values) × (parts.2 ≡ validity))
+        (λ parts. (parts.0 ≡ offsets) × (parts.1.items ≡ take (last_of offsets) values) × (parts.2 ≡ validity)) }
 {
     match validity {
         None => match thaw_slots(offsets, values) {

@@ -3,7 +3,9 @@ ghost use Rattle.std.specs.Prelude.{◌≡◌, ◌<◌, ◌≤◌, length, Some,
 ghost use Rattle.std.specs.Option.{option_copied};
 ghost use Rattle.arrow_types.specs.Types.{logical_type, IsRightType, default_logical_type};
 ghost use Rattle.arrow_memory.specs.Rows.{FitsMask};
-ghost use Rattle.arrow_column.specs.Column.{Column, IsColumn, append_slot, column_of_parts, empty_column, without_needless_mask, last_slot, mask_of, stored_values, with_slot, with_type, without_last};
+ghost use Rattle.arrow_column.specs.Column.{Column, IsColumn, append_slot, column_of_parts, empty_column};
+ghost use Rattle.arrow_column.specs.Column.{without_needless_mask, last_slot, mask_of, stored_values, with_slot};
+ghost use Rattle.arrow_column.specs.Column.{with_type, without_last};
 
 use crate::PrimitiveArray;
 use arrow_column::GrowingColumn;

@@ -34,8 +34,11 @@ impl<T: NativeType> PrimitiveArray<T> {
     /// Replaces a held mask by what the closure makes of it, as many marks; without a mask nothing is done.
     pub fn apply_validity<F: FnOnce(Bitmap) -> Bitmap + Drop>(&mut self, change: F)
         requires callable { IfSome (mask_of self.old) (λ marks. F.pre change marks) }
-        requires keeps { IfSome (mask_of self.old) (λ marks. (changed : List Bool) → F.post change marks changed → length changed ≡ length marks) }
-        ensures { MatchOption (mask_of self.old) (self.new ≡ self.old) (λ marks. (changed : List Bool) × F.post change marks changed × (length changed ≡ length marks) × (self.new ≡ with_mask self.old (Some changed))) }
+        requires keeps { IfSome (mask_of self.old) (λ marks. (changed : List Bool) → F.post change marks changed
+            → length changed ≡ length marks) }
+        ensures { MatchOption (mask_of self.old) (self.new ≡ self.old) (λ marks. (changed : List Bool)
+            × F.post change marks changed × (length changed ≡ length marks)
+            × (self.new ≡ with_mask self.old (Some changed))) }
     {
         self.column.apply_validity(change);
     }
@@ -61,7 +64,9 @@ impl<T: NativeType> PrimitiveArray<T> {
     /// stay.
     pub fn get_mut_values<F: FnOnce(&mut [T]) + Drop>(&mut self, change: F) -> bool
         requires { (values : MutBor (List T)) → values.now ≡ stored_values self.old → F.pre change values }
-        ensures changed { IsTrue result → (ws : List T) × FnOnceReturnsAtMut F.FnOnce change (stored_values self.old) tt ws × (length ws ≡ length self.old.rows) × (self.new ≡ with_stored self.old ws) }
+        ensures changed { IsTrue result
+            → (ws : List T) × FnOnceReturnsAtMut F.FnOnce change (stored_values self.old) tt ws
+            × (length ws ≡ length self.old.rows) × (self.new ≡ with_stored self.old ws) }
         ensures unchanged { OnFalse result (self.new ≡ self.old) }
     {
         self.column.get_mut_values(change)
@@ -99,8 +104,11 @@ impl<T: NativeType> MutablePrimitiveArray<T> {
     /// Replaces the stored values by what the closure makes of them, as many. The marks stay.
     pub fn apply_values<F: Fn(Vec<T>) -> Vec<T>>(&mut self, change: F)
         requires callable { (values : _) → values.items ≡ stored_values self.old → F.pre change values }
-        requires keeps { (values changed : _) → values.items ≡ stored_values self.old → F.post change values changed → vec_len changed ≡ length self.old.rows }
-        ensures { (values : _) × (changed : _) × (values.items ≡ stored_values self.old) × F.post change values changed × (vec_len changed ≡ length self.old.rows) × (self.new ≡ with_stored self.old changed.items) }
+        requires keeps { (values changed : _) → values.items ≡ stored_values self.old → F.post change values changed
+            → vec_len changed ≡ length self.old.rows }
+        ensures { (values : _) × (changed : _) × (values.items ≡ stored_values self.old)
+            × F.post change values changed × (vec_len changed ≡ length self.old.rows)
+            × (self.new ≡ with_stored self.old changed.items) }
     {
         self.column.apply_values(change);
     }

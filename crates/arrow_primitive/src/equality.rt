@@ -13,7 +13,8 @@ impl<T: NativeType> PartialEq for MutablePrimitiveArray<T> {
 
     ghost eq = { λ first second. same_slots T.eq (slots_of first) (slots_of second) };
 
-    ghost laws = { on_per slots_of (partial_equiv_from_equiv (decided (same_slots T.eq) (same_slots-Decides T.eq T.same))) };
+    ghost laws = { on_per slots_of
+        (partial_equiv_from_equiv (decided (same_slots T.eq) (same_slots-Decides T.eq T.same))) };
 
     /// Whether both have the same slots. Types, held masks and values under nulls are not compared.
     fn eq(&self, other: &Self) -> bool

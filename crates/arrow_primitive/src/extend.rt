@@ -18,8 +18,10 @@ impl<T: NativeType> MutablePrimitiveArray<T> {
     pub fn extend<I: Iterator<Item = Option<T>>>(&mut self, iter: I) -> Result<(), Error>
         requires can { I.can_next iter }
         requires ends { IsFinite (I.remaining iter) }
-        ensures ok { OnOk result ((items : List (Option T)) × Drains I.next_gives iter items × (self.new ≡ append_slots T.zero self.old items)) }
-        ensures err { IfErr result (λ e. (e ≡ Error.OutOfMemory) × ((begun : List (Option T)) × (rest : I) × Yields I.next_gives iter begun rest × (self.new ≡ append_slots T.zero self.old begun))) }
+        ensures ok { OnOk result ((items : List (Option T)) × Drains I.next_gives iter items
+            × (self.new ≡ append_slots T.zero self.old items)) }
+        ensures err { IfErr result (λ e. (e ≡ Error.OutOfMemory) × ((begun : List (Option T)) × (rest : I)
+            × Yields I.next_gives iter begun rest × (self.new ≡ append_slots T.zero self.old begun))) }
     {
         self.column.extend(iter)
     }
@@ -31,8 +33,10 @@ impl<T: NativeType> MutablePrimitiveArray<T> {
     pub fn try_extend<I: Iterator<Item = Option<T>>>(&mut self, iter: I) -> Result<(), Error>
         requires can { I.can_next iter }
         requires ends { IsFinite (I.remaining iter) }
-        ensures ok { OnOk result ((items : List (Option T)) × Drains I.next_gives iter items × (self.new ≡ append_slots T.zero self.old items)) }
-        ensures err { IfErr result (λ e. (e ≡ Error.OutOfMemory) × ((begun : List (Option T)) × (rest : I) × Yields I.next_gives iter begun rest × (self.new ≡ append_slots T.zero self.old begun))) }
+        ensures ok { OnOk result ((items : List (Option T)) × Drains I.next_gives iter items
+            × (self.new ≡ append_slots T.zero self.old items)) }
+        ensures err { IfErr result (λ e. (e ≡ Error.OutOfMemory) × ((begun : List (Option T)) × (rest : I)
+            × Yields I.next_gives iter begun rest × (self.new ≡ append_slots T.zero self.old begun))) }
     {
         self.extend(iter)
     }
@@ -45,8 +49,11 @@ impl<T: NativeType> MutablePrimitiveArray<T> {
     pub fn extend_values<I: Iterator<Item = T>>(&mut self, iter: I) -> Result<(), Error>
         requires can { I.can_next iter }
         requires ends { IsFinite (I.remaining iter) }
-        ensures ok { OnOk result ((items : List T) × Drains I.next_gives iter items × (self.new ≡ append_slots T.zero self.old (map Some items))) }
-        ensures err { IfErr result (λ e. (e ≡ Error.OutOfMemory) × ((begun : List T) × (rest : I) × Yields I.next_gives iter begun rest × (self.new ≡ append_slots T.zero self.old (map Some begun)))) }
+        ensures ok { OnOk result ((items : List T) × Drains I.next_gives iter items
+            × (self.new ≡ append_slots T.zero self.old (map Some items))) }
+        ensures err { IfErr result (λ e. (e ≡ Error.OutOfMemory)
+            × ((begun : List T) × (rest : I) × Yields I.next_gives iter begun rest
+            × (self.new ≡ append_slots T.zero self.old (map Some begun)))) }
     {
         self.column.extend_values(iter)
     }

@@ -29,7 +29,9 @@ impl<T: NativeType> MutablePrimitiveArray<T> {
     /// # Errors
     /// `OutOfMemory` where memory is refused.
     pub fn from(alloc: Global, slots: &[Option<T>]) -> Result<Self, Error>
-        ensures ok { IfOk result (λ builder. builder ≡ append_slots T.zero (column_of_parts (default_logical_type T.PRIMITIVE) [] (Some [])) slots.now) }
+        ensures ok { IfOk result (λ builder.
+            builder ≡ append_slots T.zero (column_of_parts (default_logical_type T.PRIMITIVE) [] (Some []))
+            slots.now) }
         ensures err { IfErr result (λ e. e ≡ Error.OutOfMemory) }
     {
         let mut builder = MutablePrimitiveArray::masked(alloc);
@@ -47,7 +49,9 @@ impl<T: NativeType> MutablePrimitiveArray<T> {
     pub fn from_iter<I: Iterator<Item = Option<T>>>(alloc: Global, iter: I) -> Result<Self, Error>
         requires can { I.can_next iter }
         requires ends { IsFinite (I.remaining iter) }
-        ensures ok { IfOk result (λ builder. (items : List (Option T)) × Drains I.next_gives iter items × (builder ≡ append_slots T.zero (column_of_parts (default_logical_type T.PRIMITIVE) [] (Some [])) items)) }
+        ensures ok { IfOk result (λ builder. (items : List (Option T)) × Drains I.next_gives iter items
+            × (builder ≡ append_slots T.zero (column_of_parts (default_logical_type T.PRIMITIVE) [] (Some []))
+            items)) }
         ensures err { IfErr result (λ e. e ≡ Error.OutOfMemory) }
     {
         let mut builder = MutablePrimitiveArray::masked(alloc);
@@ -62,7 +66,8 @@ impl<T: NativeType> MutablePrimitiveArray<T> {
     /// # Errors
     /// `OutOfMemory` where memory is refused.
     pub fn from_slice(alloc: Global, slice: &[T]) -> Result<Self, Error>
-        ensures ok { IfOk result (λ builder. builder ≡ column_of_parts (default_logical_type T.PRIMITIVE) slice.now None) }
+        ensures ok { IfOk result (λ builder. builder ≡ column_of_parts (default_logical_type T.PRIMITIVE) slice.now
+            None) }
         ensures err { IfErr result (λ e. e ≡ Error.OutOfMemory) }
     {
         let mut values = Vec::new(alloc);
@@ -79,7 +84,8 @@ impl<T: NativeType> PrimitiveArray<T> {
     /// # Errors
     /// `OutOfMemory` where memory is refused; the values are then lost.
     pub fn from_vec(values: Vec<T>) -> Result<Self, Error>
-        ensures ok { IfOk result (λ array. array ≡ column_of_parts (default_logical_type T.PRIMITIVE) values.items None) }
+        ensures ok { IfOk result (λ array. array ≡ column_of_parts (default_logical_type T.PRIMITIVE) values.items
+            None) }
         ensures err { IfErr result (λ e. e ≡ Error.OutOfMemory) }
     {
         Ok(PrimitiveArray::new(
@@ -110,7 +116,8 @@ impl<T: NativeType> PrimitiveArray<T> {
     pub fn from_values<I: Iterator<Item = T>>(alloc: Global, iter: I) -> Result<Self, Error>
         requires can { I.can_next iter }
         requires ends { IsFinite (I.remaining iter) }
-        ensures ok { IfOk result (λ array. (items : List T) × Drains I.next_gives iter items × (array ≡ column_of_parts (default_logical_type T.PRIMITIVE) items None)) }
+        ensures ok { IfOk result (λ array. (items : List T) × Drains I.next_gives iter items
+            × (array ≡ column_of_parts (default_logical_type T.PRIMITIVE) items None)) }
         ensures err { IfErr result (λ e. e ≡ Error.OutOfMemory) }
     {
         let mut builder = MutablePrimitiveArray::new(alloc);
@@ -126,7 +133,9 @@ impl<T: NativeType> PrimitiveArray<T> {
     /// # Errors
     /// `OutOfMemory` where memory is refused.
     pub fn from(alloc: Global, slots: &[Option<T>]) -> Result<Self, Error>
-        ensures ok { IfOk result (λ array. array ≡ without_needless_mask (append_slots T.zero (column_of_parts (default_logical_type T.PRIMITIVE) [] (Some [])) slots.now)) }
+        ensures ok { IfOk result (λ array.
+            array ≡ without_needless_mask (append_slots T.zero (column_of_parts (default_logical_type T.PRIMITIVE)
+            [] (Some [])) slots.now)) }
         ensures err { IfErr result (λ e. e ≡ Error.OutOfMemory) }
     {
         MutablePrimitiveArray::from(alloc, slots)?.freeze()
@@ -140,7 +149,9 @@ impl<T: NativeType> PrimitiveArray<T> {
     pub fn from_iter<I: Iterator<Item = Option<T>>>(alloc: Global, iter: I) -> Result<Self, Error>
         requires can { I.can_next iter }
         requires ends { IsFinite (I.remaining iter) }
-        ensures ok { IfOk result (λ array. (items : List (Option T)) × Drains I.next_gives iter items × (array ≡ without_needless_mask (append_slots T.zero (column_of_parts (default_logical_type T.PRIMITIVE) [] (Some [])) items))) }
+        ensures ok { IfOk result (λ array. (items : List (Option T)) × Drains I.next_gives iter items
+            × (array ≡ without_needless_mask
+            (append_slots T.zero (column_of_parts (default_logical_type T.PRIMITIVE) [] (Some [])) items))) }
         ensures err { IfErr result (λ e. e ≡ Error.OutOfMemory) }
     {
         match MutablePrimitiveArray::from_iter(alloc, iter) {
@@ -156,7 +167,9 @@ impl<T: NativeType> PrimitiveArray<T> {
     /// `OutOfMemory` where memory is refused.
     pub fn new_null(alloc: Global, data_type: DataType, length: usize) -> Result<Self, Error>
         requires { IsRightType (PhysicalType.Primitive T.PRIMITIVE) (logical_type data_type) }
-        ensures ok { IfOk result (λ array. array ≡ column_of_parts (logical_type data_type) (replicate length T.zero) (Some (replicate length false))) }
+        ensures ok { IfOk result (λ array.
+            array ≡ column_of_parts (logical_type data_type) (replicate length T.zero)
+            (Some (replicate length false))) }
         ensures err { IfErr result (λ e. e ≡ Error.OutOfMemory) }
     {
         let mut values = Vec::new(alloc);

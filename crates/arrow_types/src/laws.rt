@@ -1,7 +1,11 @@
-//! What each type is in numbers, as ghost members say it that contracts name. Each law is the contract of a function that
+//! What each type is in numbers, as ghost members say it that contracts name. Each law is the contract of a
+//! function that
 //! does nothing.
 ghost use Rattle.std.specs.Prelude.{◌≡◌, ℕ, ℤ, pos, true, false};
-ghost use Rattle.arrow_types.specs.declared.primitive_type.PrimitiveType.TheVariants.{Int8, Int16, Int32, Int64, Int128, Int256, UInt8, UInt16, UInt32, UInt64, DaysMs, MonthDayNano};
+ghost use Rattle.arrow_types.specs.declared.primitive_type.PrimitiveType.TheVariants.{Int8, Int16, Int32, Int64};
+ghost use Rattle.arrow_types.specs.declared.primitive_type.PrimitiveType.TheVariants.{Int128, Int256, UInt8};
+ghost use Rattle.arrow_types.specs.declared.primitive_type.PrimitiveType.TheVariants.{UInt16, UInt32, UInt64};
+ghost use Rattle.arrow_types.specs.declared.primitive_type.PrimitiveType.TheVariants.{DaysMs, MonthDayNano};
 
 use crate::index_key::IndexKey;
 use crate::native_type::{NativeType, days_ms, i256, months_days_ns};

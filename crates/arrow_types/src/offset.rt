@@ -36,7 +36,8 @@ pub trait Offset: Copy {
 
     /// The number; `None` exactly where it is negative.
     fn try_to_usize(&self) -> Option<usize>
-        ensures { MatchOption result (number self.now <ℤ pos 0) (λ value. (number self.now ≡ pos value) × (value ≤ most)) };
+        ensures { MatchOption result (number self.now <ℤ pos 0) (λ value. (number self.now ≡ pos value)
+            × (value ≤ most)) };
 
     /// The number of a value that is not negative.
     fn to_usize(&self) -> usize

@@ -1,6 +1,7 @@
 //! Marks that are copied between packed bytes, whole bytes at a time, where the places need not agree
 //! within a byte.
-ghost use Rattle.std.specs.Prelude.{◌≡◌, ℕ, ◌+◌, ◌-◌, ◌*◌, ◌^◌, ◌≤◌, ◌<◌, ◌==◌, slice_index, [], ◌∷◌, length, vec_len, ◌++◌, OnOk, OnErr, IfErr};
+ghost use Rattle.std.specs.Prelude.{◌≡◌, ℕ, ◌+◌, ◌-◌, ◌*◌, ◌^◌, ◌≤◌, ◌<◌, ◌==◌, slice_index, [], ◌∷◌, length};
+ghost use Rattle.std.specs.Prelude.{vec_len, ◌++◌, OnOk, OnErr, IfErr};
 ghost use Rattle.std.specs.Int.{bit_at, div_ceil};
 ghost use Rattle.arrow_memory.specs.Marks.{mark_at, marks};
 ghost use Rattle.arrow_memory.specs.MarkWrites.{CopiesMarks};
@@ -85,7 +86,8 @@ fn append_bytes(
     requires within { place + 8 * more < 8 * length source.now + 8 }
     requires fits { place + 8 * more < 2 ^ 64 + 8 }
     requires room_fits { vec_len bytes.old + more < 2 ^ 64 }
-    ensures marks { OnOk result (CopiesMarks bytes.old.items bytes.new.items source.now (8 * vec_len bytes.old) place (8 * more)) }
+    ensures marks { OnOk result (CopiesMarks bytes.old.items bytes.new.items source.now (8 * vec_len bytes.old)
+        place (8 * more)) }
     ensures room { OnOk result (vec_len bytes.new ≡ vec_len bytes.old + more) }
     ensures err { OnErr result (bytes.new.items ≡ bytes.old.items) }
 {
@@ -112,7 +114,8 @@ pub(crate) fn extend_from_bytes(
     requires enough { start + count ≤ 8 * length source.now }
     requires fits { len + count < 2 ^ 64 }
     requires enough_fits { start + count < 2 ^ 64 }
-    ensures ok { OnOk result (marks bytes.new.items 0 (len + count) ≡ marks bytes.old.items 0 len ++ marks source.now start count) }
+    ensures ok { OnOk result (marks bytes.new.items 0 (len + count) ≡ marks bytes.old.items 0 len
+        ++ marks source.now start count) }
     ensures room { OnOk result (len + count ≤ 8 * vec_len bytes.new) }
     ensures kept { marks bytes.new.items 0 len ≡ marks bytes.old.items 0 len }
     ensures room_left { len ≤ 8 * vec_len bytes.new }

@@ -1,5 +1,7 @@
 //! Lists of marks that grow.
-ghost use Rattle.std.specs.Prelude.{◌≡◌, ℕ, ◌<◌, ◌+◌, ◌↔◌, ◌==◌, IsTrue, [], ◌∷◌, ◌++◌, count_by, length, not, replicate, slice_get, slice_set, take, Some, IfSome, OnOk, IfOk, IfErr, MatchOption, ◌*◌, ◌≤◌, vec_len, IsOk};
+ghost use Rattle.std.specs.Prelude.{◌≡◌, ℕ, ◌<◌, ◌+◌, ◌↔◌, ◌==◌, IsTrue, [], ◌∷◌, ◌++◌, count_by, length, not};
+ghost use Rattle.std.specs.Prelude.{replicate, slice_get, slice_set, take, Some, IfSome, OnOk, IfOk, IfErr};
+ghost use Rattle.std.specs.Prelude.{MatchOption, ◌*◌, ◌≤◌, vec_len, IsOk};
 ghost use Rattle.std.specs.Int.{bit_at};
 ghost use Rattle.arrow_memory.specs.Marks.{bits_of, marks, bits_past_bytes};
 ghost use Rattle.arrow_memory.specs.Rows.{AgreeWhere};
@@ -193,7 +195,8 @@ impl MutableBitmap {
     #[inline(always)]
     pub(crate) fn byte(&self, i: usize) -> u8
         requires { 8 * i < length self.now }
-        ensures { (k : ℕ) → k < 8 → 8 * i + k < length self.now → slice_get self.now (8 * i + k) ≡ Some (bit_at result k == 1) }
+        ensures { (k : ℕ) → k < 8 → 8 * i + k < length self.now
+            → slice_get self.now (8 * i + k) ≡ Some (bit_at result k == 1) }
     {
         self.bytes[i]
     }
@@ -208,7 +211,8 @@ impl MutableBitmap {
         agree_where(self, other, &None)
     }
 
-    /// Whether both lists, of as many marks, have the same mark wherever a mask has a set one, or everywhere where there
+    /// Whether both lists, of as many marks, have the same mark wherever a mask has a set one, or everywhere where
+    /// there
     /// is no mask; compared a byte at a time.
     pub fn agrees_where(&self, other: &Self, mask: &Option<MutableBitmap>) -> bool
         requires same { length self.now ≡ length other.now }

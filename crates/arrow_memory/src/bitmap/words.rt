@@ -50,7 +50,8 @@ pub(crate) fn word_at(bytes: &[u8], place: usize) -> u64
     moved_word(word, bytes[first + 8], shift)
 }
 
-/// Appends the first bits of a word, behind the first of so many marks: those that fill the last byte, and the others as
+/// Appends the first bits of a word, behind the first of so many marks: those that fill the last byte, and the
+/// others as
 /// eight bytes, of which those that are needed stay.
 pub(crate) fn extend_from_word(
     bytes: &mut Vec<u8>,
@@ -61,7 +62,8 @@ pub(crate) fn extend_from_word(
     requires within { len ≤ 8 * vec_len bytes.old }
     requires fits { len + count < 2 ^ 64 }
     requires count { count ≤ 64 }
-    ensures ok { OnOk result (marks bytes.new.items 0 (len + count) ≡ marks bytes.old.items 0 len ++ bits_of word count) }
+    ensures ok { OnOk result (marks bytes.new.items 0 (len + count) ≡ marks bytes.old.items 0 len
+        ++ bits_of word count) }
     ensures room { OnOk result (len + count ≤ 8 * vec_len bytes.new) }
     ensures kept { marks bytes.new.items 0 len ≡ marks bytes.old.items 0 len }
     ensures room_left { len ≤ 8 * vec_len bytes.new }

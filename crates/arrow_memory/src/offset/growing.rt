@@ -1,7 +1,9 @@
 //! Offsets that grow.
-ghost use Rattle.std.specs.Prelude.{◌≡◌, ◌+◌, ◌-◌, ◌<◌, ◌≤◌, pos, [], ◌∷◌, ◌++◌, length, map, take, replicate, slice_index, None, OnOk, IfOk, IfErr, MatchOption, IsOk};
+ghost use Rattle.std.specs.Prelude.{◌≡◌, ◌+◌, ◌-◌, ◌<◌, ◌≤◌, pos, [], ◌∷◌, ◌++◌, length, map, take, replicate};
+ghost use Rattle.std.specs.Prelude.{slice_index, None, OnOk, IfOk, IfErr, MatchOption, IsOk};
 ghost use Rattle.arrow_types.specs.Types.{refusal, out_of_spec};
-ghost use Rattle.arrow_memory.specs.Offsets.{first_of, last_of, IsOffsets, KeepsOffsets, first_fault, numbers_of, moved_behind, MatchGrowth};
+ghost use Rattle.arrow_memory.specs.Offsets.{first_of, last_of, IsOffsets, KeepsOffsets, first_fault, numbers_of};
+ghost use Rattle.arrow_memory.specs.Offsets.{moved_behind, MatchGrowth};
 
 use crate::buffer::Buffer;
 use crate::offset::OffsetsBuffer;
@@ -81,8 +83,10 @@ impl<O: Offset> Offsets<O> {
     /// `OutOfSpec` where there is none, where the first is negative, or where one is below the one
     /// before, the first of these that holds. The offsets are then lost.
     pub fn try_from_vec(offsets: Vec<O>) -> Result<Self, Error>
-        ensures ok { IfOk result (λ taken. (first_fault (map O.number offsets.items) ≡ None) × (taken ≡ numbers_of O.number offsets.items)) }
-        ensures err { IfErr result (λ e. MatchOption (first_fault (map O.number offsets.items)) ⊥ (λ text. refusal e ≡ out_of_spec text)) }
+        ensures ok { IfOk result (λ taken. (first_fault (map O.number offsets.items) ≡ None)
+            × (taken ≡ numbers_of O.number offsets.items)) }
+        ensures err { IfErr result (λ e. MatchOption (first_fault (map O.number offsets.items)) ⊥ (λ text.
+            refusal e ≡ out_of_spec text)) }
     {
         match first_broken_rule(&offsets) {
             Some(rule) => Err(Error::OutOfSpec(rule)),
@@ -160,7 +164,9 @@ impl<O: Offset> Offsets<O> {
 
     /// Removes the last offset and answers it; `None` where there is no slot.
     pub fn pop(&mut self) -> Option<O>
-        ensures { MatchOption result ((length self.old ≡ 1) × (self.new ≡ self.old)) (λ offset. (1 < length self.old) × (O.number offset ≡ pos (last_of self.old)) × (self.new ≡ take (length self.old - 1) self.old)) }
+        ensures { MatchOption result ((length self.old ≡ 1) × (self.new ≡ self.old)) (λ offset.
+            (1 < length self.old) × (O.number offset ≡ pos (last_of self.old))
+            × (self.new ≡ take (length self.old - 1) self.old)) }
     {
         if self.len_proxy() == 0 {
             None
@@ -187,8 +193,11 @@ impl<O: Offset> Offsets<O> {
     #[inline(always)]
     pub fn try_push_usize(&mut self, length: usize) -> Result<(), Error>
         ensures legal { IsOffsets self.new }
-        ensures ok { OnOk result ((last_of self.old + length ≤ O.most) × (self.new ≡ self.old ++ (last_of self.old + length) ∷ [])) }
-        ensures err { IfErr result (λ e. MatchGrowth e (O.most < last_of self.old + length) (last_of self.old + length ≤ O.most) × (self.new ≡ self.old)) }
+        ensures ok { OnOk result ((last_of self.old + length ≤ O.most)
+            × (self.new ≡ self.old ++ (last_of self.old + length) ∷ [])) }
+        ensures err { IfErr result (λ e.
+            MatchGrowth e (O.most < last_of self.old + length) (last_of self.old + length ≤ O.most)
+            × (self.new ≡ self.old)) }
     {
         let last = self.last().to_usize();
         if length > O::max().to_usize() - last {
@@ -219,8 +228,12 @@ impl<O: Offset> Offsets<O> {
     pub(super) fn try_extend_from_slice(&mut self, other: &[O]) -> Result<(), Error>
         requires { KeepsOffsets O.number O.most other.now }
         ensures legal { IsOffsets self.new }
-        ensures ok { OnOk result (let ends = numbers_of O.number other.now in (last_of self.old + (last_of ends - first_of ends) ≤ O.most) × (self.new ≡ self.old ++ moved_behind (last_of self.old) ends)) }
-        ensures err { IfErr result (λ e. let ends = numbers_of O.number other.now in MatchGrowth e (O.most < last_of self.old + (last_of ends - first_of ends)) (last_of self.old + (last_of ends - first_of ends) ≤ O.most) × (self.new ≡ self.old)) }
+        ensures ok { OnOk result (let ends = numbers_of O.number other.now in
+            (last_of self.old + (last_of ends - first_of ends) ≤ O.most)
+            × (self.new ≡ self.old ++ moved_behind (last_of self.old) ends)) }
+        ensures err { IfErr result (λ e. let ends = numbers_of O.number other.now in
+            MatchGrowth e (O.most < last_of self.old + (last_of ends - first_of ends))
+            (last_of self.old + (last_of ends - first_of ends) ≤ O.most) × (self.new ≡ self.old)) }
     {
         let last = self.last().to_usize();
         let added = number_at(other, other.len() - 1) - number_at(other, 0);
@@ -240,8 +253,11 @@ impl<O: Offset> Offsets<O> {
     /// are then as before.
     pub fn try_extend_from_self(&mut self, other: &Offsets<O>) -> Result<(), Error>
         ensures legal { IsOffsets self.new }
-        ensures ok { OnOk result ((last_of self.old + (last_of other.now - first_of other.now) ≤ O.most) × (self.new ≡ self.old ++ moved_behind (last_of self.old) other.now)) }
-        ensures err { IfErr result (λ e. MatchGrowth e (O.most < last_of self.old + (last_of other.now - first_of other.now)) (last_of self.old + (last_of other.now - first_of other.now) ≤ O.most) × (self.new ≡ self.old)) }
+        ensures ok { OnOk result ((last_of self.old + (last_of other.now - first_of other.now) ≤ O.most)
+            × (self.new ≡ self.old ++ moved_behind (last_of self.old) other.now)) }
+        ensures err { IfErr result (λ e.
+            MatchGrowth e (O.most < last_of self.old + (last_of other.now - first_of other.now))
+            (last_of self.old + (last_of other.now - first_of other.now) ≤ O.most) × (self.new ≡ self.old)) }
     {
         self.try_extend_from_slice(other.as_slice())
     }

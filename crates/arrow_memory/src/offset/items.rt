@@ -1,6 +1,7 @@
 //! Items that are appended together with their ends.
 ghost use Rattle.std.specs.Prelude.{◌≡◌, ◌+◌, ◌-◌, ◌<◌, ◌≤◌, [], ◌∷◌, ◌++◌, length, take, drop, OnOk, OnErr, IfErr};
-ghost use Rattle.arrow_memory.specs.Offsets.{first_of, last_of, IsOffsets, KeepsOffsets, MatchGrowth, moved_behind, numbers_of};
+ghost use Rattle.arrow_memory.specs.Offsets.{first_of, last_of, IsOffsets, KeepsOffsets, MatchGrowth, moved_behind};
+ghost use Rattle.arrow_memory.specs.Offsets.{numbers_of};
 
 use crate::offset::numbers::number_at;
 use crate::offset::{Offsets, OffsetsBuffer};
@@ -53,8 +54,12 @@ impl<O: Offset> Offsets<O> {
     #[inline(always)]
     pub fn try_push_item(&mut self, values: &mut Vec<u8>, item: &[u8]) -> Result<(), Error>
         ensures legal { IsOffsets self.new }
-        ensures ok { OnOk result ((last_of self.old + length item.now ≤ O.most) × (self.new ≡ self.old ++ (last_of self.old + length item.now) ∷ []) × (values.new.items ≡ values.old.items ++ item.now)) }
-        ensures err { IfErr result (λ e. MatchGrowth e (O.most < last_of self.old + length item.now) (last_of self.old + length item.now ≤ O.most) × (self.new ≡ self.old) × (values.new.items ≡ values.old.items)) }
+        ensures ok { OnOk result ((last_of self.old + length item.now ≤ O.most)
+            × (self.new ≡ self.old ++ (last_of self.old + length item.now) ∷ [])
+            × (values.new.items ≡ values.old.items ++ item.now)) }
+        ensures err { IfErr result (λ e. MatchGrowth e (O.most < last_of self.old + length item.now)
+            (last_of self.old + length item.now ≤ O.most) × (self.new ≡ self.old)
+            × (values.new.items ≡ values.old.items)) }
     {
         let before = self.len_proxy();
         self.try_push_usize(item.len())?;
@@ -78,8 +83,15 @@ impl<O: Offset> Offsets<O> {
         requires keeps { KeepsOffsets O.number O.most other.now }
         requires held { last_of (numbers_of O.number other.now) ≤ length others.now }
         ensures legal { IsOffsets self.new }
-        ensures ok { OnOk result (let ends = numbers_of O.number other.now in (last_of self.old + (last_of ends - first_of ends) ≤ O.most) × (self.new ≡ self.old ++ moved_behind (last_of self.old) ends) × (values.new.items ≡ values.old.items ++ take (last_of ends - first_of ends) (drop (first_of ends) others.now))) }
-        ensures err { IfErr result (λ e. let ends = numbers_of O.number other.now in MatchGrowth e (O.most < last_of self.old + (last_of ends - first_of ends)) (last_of self.old + (last_of ends - first_of ends) ≤ O.most) × (self.new ≡ self.old) × (values.new.items ≡ values.old.items)) }
+        ensures ok { OnOk result (let ends = numbers_of O.number other.now in
+            (last_of self.old + (last_of ends - first_of ends) ≤ O.most)
+            × (self.new ≡ self.old ++ moved_behind (last_of self.old) ends)
+            × (values.new.items ≡ values.old.items ++ take (last_of ends - first_of ends)
+            (drop (first_of ends) others.now))) }
+        ensures err { IfErr result (λ e. let ends = numbers_of O.number other.now in
+            MatchGrowth e (O.most < last_of self.old + (last_of ends - first_of ends))
+            (last_of self.old + (last_of ends - first_of ends) ≤ O.most) × (self.new ≡ self.old)
+            × (values.new.items ≡ values.old.items)) }
     {
         let before = self.len_proxy();
         let start = number_at(other, 0);
@@ -109,8 +121,14 @@ impl<O: Offset> Offsets<O> {
         requires { last_of other.now ≤ length others.now }
         ensures legal { IsOffsets self.new }
         ensures other { IsOffsets other.now }
-        ensures ok { OnOk result ((last_of self.old + (last_of other.now - first_of other.now) ≤ O.most) × (self.new ≡ self.old ++ moved_behind (last_of self.old) other.now) × (values.new.items ≡ values.old.items ++ take (last_of other.now - first_of other.now) (drop (first_of other.now) others.now))) }
-        ensures err { IfErr result (λ e. MatchGrowth e (O.most < last_of self.old + (last_of other.now - first_of other.now)) (last_of self.old + (last_of other.now - first_of other.now) ≤ O.most) × (self.new ≡ self.old) × (values.new.items ≡ values.old.items)) }
+        ensures ok { OnOk result ((last_of self.old + (last_of other.now - first_of other.now) ≤ O.most)
+            × (self.new ≡ self.old ++ moved_behind (last_of self.old) other.now)
+            × (values.new.items ≡ values.old.items ++ take (last_of other.now - first_of other.now)
+            (drop (first_of other.now) others.now))) }
+        ensures err { IfErr result (λ e.
+            MatchGrowth e (O.most < last_of self.old + (last_of other.now - first_of other.now))
+            (last_of self.old + (last_of other.now - first_of other.now) ≤ O.most) × (self.new ≡ self.old)
+            × (values.new.items ≡ values.old.items)) }
     {
         self.try_extend_cut(values, other.as_slice(), others)
     }
@@ -132,8 +150,15 @@ impl<O: Offset> Offsets<O> {
         requires held { last_of other.now ≤ length others.now }
         ensures legal { IsOffsets self.new }
         ensures other { IsOffsets other.now }
-        ensures ok { OnOk result (let piece = take (count + 1) (drop first other.now) in (last_of self.old + (last_of piece - first_of piece) ≤ O.most) × (self.new ≡ self.old ++ moved_behind (last_of self.old) piece) × (values.new.items ≡ values.old.items ++ take (last_of piece - first_of piece) (drop (first_of piece) others.now))) }
-        ensures err { IfErr result (λ e. let piece = take (count + 1) (drop first other.now) in MatchGrowth e (O.most < last_of self.old + (last_of piece - first_of piece)) (last_of self.old + (last_of piece - first_of piece) ≤ O.most) × (self.new ≡ self.old) × (values.new.items ≡ values.old.items)) }
+        ensures ok { OnOk result (let piece = take (count + 1) (drop first other.now) in
+            (last_of self.old + (last_of piece - first_of piece) ≤ O.most)
+            × (self.new ≡ self.old ++ moved_behind (last_of self.old) piece)
+            × (values.new.items ≡ values.old.items ++ take (last_of piece - first_of piece)
+            (drop (first_of piece) others.now))) }
+        ensures err { IfErr result (λ e. let piece = take (count + 1) (drop first other.now) in
+            MatchGrowth e (O.most < last_of self.old + (last_of piece - first_of piece))
+            (last_of self.old + (last_of piece - first_of piece) ≤ O.most) × (self.new ≡ self.old)
+            × (values.new.items ≡ values.old.items)) }
     {
         let offsets = other.buffer().as_slice();
         self.try_extend_cut(values, &offsets[first..first + count + 1], others)

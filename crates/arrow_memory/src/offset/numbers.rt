@@ -44,8 +44,11 @@ pub(super) fn append_moved<O: Offset>(
     requires keeps { KeepsOffsets O.number O.most offsets.old.items }
     requires other { KeepsOffsets O.number O.most other.now }
     requires last { last ≡ last_of (numbers_of O.number offsets.old.items) }
-    requires within { last + (last_of (numbers_of O.number other.now) - first_of (numbers_of O.number other.now)) ≤ O.most }
-    ensures ok { OnOk result (KeepsOffsets O.number O.most offsets.new.items × (numbers_of O.number offsets.new.items ≡ numbers_of O.number offsets.old.items ++ moved_behind last (numbers_of O.number other.now))) }
+    requires within { last + (last_of (numbers_of O.number other.now) - first_of (numbers_of O.number other.now)) ≤
+        O.most }
+    ensures ok { OnOk result (KeepsOffsets O.number O.most offsets.new.items
+        × (numbers_of O.number offsets.new.items ≡ numbers_of O.number offsets.old.items
+        ++ moved_behind last (numbers_of O.number other.now))) }
     ensures err { OnErr result (offsets.new.items ≡ offsets.old.items) }
 {
     if number_at(other, 0) == last {
@@ -66,8 +69,10 @@ pub(super) fn append_moved<O: Offset>(
 fn write_moved<O: Offset>(offsets: &mut [O], place: usize, other: &[O], last: usize)
     requires other { KeepsOffsets O.number O.most other.now }
     requires room { place + length other.now ≡ length offsets.old + 1 }
-    requires within { last + (last_of (numbers_of O.number other.now) - first_of (numbers_of O.number other.now)) ≤ O.most }
-    ensures { map O.number offsets.new ≡ map O.number (take place offsets.old) ++ map pos (moved_behind last (numbers_of O.number other.now)) }
+    requires within { last + (last_of (numbers_of O.number other.now) - first_of (numbers_of O.number other.now)) ≤
+        O.most }
+    ensures { map O.number offsets.new ≡ map O.number (take place offsets.old)
+        ++ map pos (moved_behind last (numbers_of O.number other.now)) }
 {
     let first = number_at(other, 0);
     for i in 0..other.len() - 1 {

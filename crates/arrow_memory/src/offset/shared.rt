@@ -1,5 +1,6 @@
 //! Offsets that don't change, and share their memory.
-ghost use Rattle.std.specs.Prelude.{◌≡◌, ◌+◌, ◌<◌, ◌≤◌, pos, [], ◌∷◌, length, map, take, drop, slice_index, IfOk, IfErr};
+ghost use Rattle.std.specs.Prelude.{◌≡◌, ◌+◌, ◌<◌, ◌≤◌, pos, [], ◌∷◌, length, map, take, drop, slice_index, IfOk};
+ghost use Rattle.std.specs.Prelude.{IfErr};
 ghost use Rattle.either.specs.Either.{MatchEither};
 ghost use Rattle.arrow_memory.specs.Offsets.{first_of, last_of, IsOffsets, KeepsOffsets, numbers_of};
 

@@ -28,7 +28,8 @@ impl<O: Offset> OffsetsBuffer<O> {
     /// The same numbers as offsets of another type.
     ///
     /// # Errors
-    /// `Overflow` where the last of them is above that type's greatest number, which is found before memory is asked for;
+    /// `Overflow` where the last of them is above that type's greatest number, which is found before memory is
+    /// asked for;
     /// `OutOfMemory` where memory is refused.
     fn as_offsets<P: Offset>(&self) -> Result<OffsetsBuffer<P>, Error>
         ensures ok { IfOk result (λ offsets. (last_of self.now ≤ P.most) × (offsets ≡ self.now)) }
@@ -66,11 +67,13 @@ impl OffsetsBuffer<i64> {
     /// The same numbers as offsets of 32 bits.
     ///
     /// # Errors
-    /// `Overflow` where the last offset is above 2147483647, which is found before memory is asked for; `OutOfMemory` where
+    /// `Overflow` where the last offset is above 2147483647, which is found before memory is asked for;
+    /// `OutOfMemory` where
     /// memory is refused.
     pub fn narrow(&self) -> Result<OffsetsBuffer<i32>, Error>
         ensures ok { IfOk result (λ narrow. (last_of self.now ≤ 2147483647) × (narrow ≡ self.now)) }
-        ensures err { IfErr result (λ e. MatchGrowth e (2147483647 < last_of self.now) (last_of self.now ≤ 2147483647)) }
+        ensures err { IfErr result (λ e.
+            MatchGrowth e (2147483647 < last_of self.now) (last_of self.now ≤ 2147483647)) }
     {
         self.as_offsets()
     }
