@@ -1,13 +1,9 @@
 -- Lemmas about slots that agree.
-use Rattle.std.proofs.Common.{◌≡◌, ℕ, zero, suc, ◌+◌, ◌-◌, ◌*◌, ◌/◌, ◌%◌, ◌^◌, ◌<◌, ◌↔◌, ◌==◌, Bool, true, false}
+use Rattle.std.proofs.Common.{◌≡◌, ℕ, zero, suc, ◌+◌, ◌<◌, ◌↔◌, Bool, true, false}
 use Rattle.std.proofs.Common.{not, cond, if◌then◌else◌, List, [], ◌∷◌, length, map, drop, get_or, slice_get, Some}
 use Rattle.std.proofs.Common.{None, Option, is_some, unwrap_or, replicate, count_by, refl, sym, ap, ap₂, subst, ◌∙◌}
-use Rattle.std.proofs.Common.{◌⊎◌, inl, inr, bit_and, min, nat_eq, arith, zero-add}
-use Rattle.std.specs.Int.{bit_at}
-use Rattle.std.proofs.lemmas.Bool.{cases_lt, eqb-true, eq-eqb, true≢false}
-use Rattle.std.proofs.lemmas.Nat.{one_shl}
-use Rattle.std.proofs.lemmas.Nat.Bits.{bit_at_and, bit_at-lt, bit_at_above, bit_at_ones, bit_at_ones_above}
-use Rattle.std.proofs.lemmas.Nat.Bits.{same_from_bits}
+use Rattle.std.proofs.Common.{arith, zero-add}
+use Rattle.std.proofs.lemmas.Bool.{true≢false}
 use Rattle.std.proofs.lemmas.List.{length-map}
 use Rattle.std.proofs.lemmas.List.Sums.{sum_by-cons}
 use Rattle.arrow_memory.specs.Rows.{FitsMask, Row, rows_of, slot}

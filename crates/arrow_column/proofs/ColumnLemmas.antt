@@ -1,18 +1,14 @@
 -- Lemmas about columns.
-use Rattle.std.proofs.Common.{◌≡◌, ℕ, zero, suc, ◌+◌, ◌-◌, ◌<◌, ◌≤◌, Bool, true, false, ◌&&◌, IsTrue, if◌then◌else◌}
-use Rattle.std.proofs.Common.{ap₂, List, [], ◌∷◌, ◌++◌, length, map, take, drop, min, length-take, length-drop}
-use Rattle.std.proofs.Common.{slice_get, Option, Some, None, option_and_then, option_map, IfSome, refl, sym, ap}
+use Rattle.std.proofs.Common.{◌≡◌, ℕ, zero, suc, ◌-◌, ◌<◌, Bool, true, false, ◌&&◌, IsTrue, if◌then◌else◌}
+use Rattle.std.proofs.Common.{ap₂, List, [], ◌∷◌, ◌++◌, length, map, take}
+use Rattle.std.proofs.Common.{slice_get, Option, Some, None, option_and_then, refl, sym, ap}
 use Rattle.std.proofs.Common.{◌∙◌, arith, append_assoc}
-use Rattle.std.specs.Prelude.{⊤, not, replicate}
-use Rattle.std.specs.Iterator.{MakesProgress, item_count}
-use Rattle.std.specs.List.{list_all, zip}
-use Rattle.std.proofs.lemmas.List.{length-map, map-append, append-nil, length_push, take_at, drop_at, take-take}
-use Rattle.std.proofs.lemmas.List.{drop-drop, drop-take}
-use Rattle.std.proofs.lemmas.Slice.Zip.{length-zip}
+use Rattle.std.specs.Prelude.{not, replicate}
+use Rattle.std.specs.List.{list_all}
+use Rattle.std.proofs.lemmas.List.{length-map, append-nil, length_push, take_at}
 use Rattle.arrow_types.specs.Types.{LogicalType}
-use Rattle.arrow_memory.specs.MarkWrites.{TakesLastMark}
 use Rattle.arrow_memory.specs.Rows.{FitsMask, Row, slot, rows_of}
-use Rattle.arrow_column.specs.Column.{ColumnWith, IsColumn, column_with, all_valid, append_nulls, append_slot}
+use Rattle.arrow_column.specs.Column.{ColumnWith, IsColumn, column_with, append_nulls, append_slot}
 use Rattle.arrow_column.specs.Column.{append_slots, append_values, last_slot, without_needless_mask, without_last}
 
 -- ---- columns

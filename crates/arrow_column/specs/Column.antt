@@ -1,7 +1,7 @@
 -- A column: what an array or a builder is, apart from how it is kept.
-use Rattle.std.specs.Prelude.{⊤, ◌≡◌, ◌||◌, ◌&&◌, slice_set, option_map, replicate, ℕ, ◌-◌, ◌≤◌, Bool, true, false}
+use Rattle.std.specs.Prelude.{⊤, ◌≡◌, ◌||◌, ◌&&◌, slice_set, option_map, ℕ, ◌-◌, ◌≤◌, Bool, true, false}
 use Rattle.std.specs.Prelude.{not, List, [], ◌∷◌, ◌++◌, length, map, take, drop, Option, Some, None}
-use Rattle.std.specs.Prelude.{option_and_then, is_some, IfSome, slice_get, codes, if◌then◌else◌, IsTrue}
+use Rattle.std.specs.Prelude.{option_and_then, is_some, slice_get, codes, if◌then◌else◌, IsTrue}
 use Rattle.std.specs.List.{fold, list_all, zip}
 use Rattle.arrow_types.specs.Types.{LogicalType, Refusal, out_of_spec}
 use Rattle.arrow_types.specs.declared.error.Error.{Error}

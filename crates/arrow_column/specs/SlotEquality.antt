@@ -1,5 +1,5 @@
 -- Whether two lists of slots are the same, as a test: what `==` of builders answers.
-use Rattle.std.specs.Prelude.{⊤, ◌≡◌, ◌<◌, ℕ, length, slice_get, List, Option, None, Some, Bool, true, is_some}
+use Rattle.std.specs.Prelude.{◌≡◌, List, Option, None, Some, Bool, is_some}
 use Rattle.std.specs.Prelude.{unwrap_or, refl}
 use Rattle.std.specs.Bool.{Decides}
 use Rattle.std.specs.Cmp.Lexicographic.{pointwise, pointwise_decides}

@@ -1,5 +1,6 @@
 //! Columns that are changed in place.
 ghost use Rattle.std.specs.Prelude.{◌≡◌, ◌<◌, length, OnOk, IfErr, option_map};
+ghost use Rattle.arrow_types.specs.Failures.{OutOfMemoryKeeps};
 ghost use Rattle.arrow_column.specs.Column.{with_slot, with_stored};
 
 use crate::mask::{set_null_mark, set_valid_mark};
@@ -19,7 +20,7 @@ impl<V: MutableValues> GrowingColumn<V> {
         V: SetValue<X>,
         requires { i < length self.old.rows }
         ensures ok { OnOk result (self.new ≡ with_slot V.default self.old i (option_map V.shown slot)) }
-        ensures err { IfErr result (λ e. (e ≡ Error.OutOfMemory) × (self.new ≡ self.old)) }
+        ensures err { OutOfMemoryKeeps result self.old self.new }
     {
         match slot {
             Some(value) => {

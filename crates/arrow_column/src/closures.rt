@@ -3,6 +3,7 @@ ghost use Rattle.std.specs.Prelude.{◌≡◌, List, Bool, Some, length, IfSome,
 ghost use Rattle.std.specs.Bool.{OnFalse};
 ghost use Rattle.std.specs.Borrow.{MutBor};
 ghost use Rattle.std.specs.Fn.{FnOnceReturnsAtMut};
+ghost use Rattle.arrow_types.specs.Failures.{OutOfMemoryKeeps};
 ghost use Rattle.arrow_column.specs.Column.{mask_of, stored_values, with_mask, with_stored};
 
 use crate::values::{MutableValues, Values};
@@ -94,7 +95,7 @@ impl FrozenColumn<Bitmap> {
             → length changed ≡ length self.old.rows }
         ensures ok { OnOk result ((changed : List Bool) × F.post change (stored_values self.old) changed
             × (length changed ≡ length self.old.rows) × (self.new ≡ with_stored self.old changed)) }
-        ensures err { IfErr result (λ e. (e ≡ Error.OutOfMemory) × (self.new ≡ self.old)) }
+        ensures err { OutOfMemoryKeeps result self.old self.new }
     {
         self.values.apply_mut(change)?;
         Ok(())

@@ -1,5 +1,6 @@
 //! Columns that are frozen with the mask that they hold, also where no slot is null.
 ghost use Rattle.std.specs.Prelude.{◌≡◌, is_some, IfOk, IfErr};
+ghost use Rattle.arrow_types.specs.Failures.{OnlyOutOfMemory};
 ghost use Rattle.arrow_types.specs.Types.{logical_type};
 ghost use Rattle.arrow_memory.specs.Rows.{FitsMask, rows_of};
 
@@ -13,7 +14,7 @@ use arrow_types::error::Error;
 #[inline(always)]
 fn freeze_whole(validity: Option<MutableBitmap>) -> Result<Option<Bitmap>, Error>
     ensures ok { IfOk result (λ mask. mask ≡ validity) }
-    ensures err { IfErr result (λ e. e ≡ Error.OutOfMemory) }
+    ensures err { OnlyOutOfMemory result }
 {
     match validity {
         None => Ok(None),
@@ -35,7 +36,7 @@ impl<V: MutableValues> GrowingColumn<V> {
         ensures fits { IfOk result (λ parts. FitsMask (V.stored parts.1) parts.2) }
         ensures rows { IfOk result (λ parts. rows_of (V.stored parts.1) parts.2 ≡ self.rows) }
         ensures held { IfOk result (λ parts. is_some parts.2 ≡ self.held) }
-        ensures err { IfErr result (λ e. e ≡ Error.OutOfMemory) }
+        ensures err { OnlyOutOfMemory result }
     {
         let GrowingColumn {
             data_type,

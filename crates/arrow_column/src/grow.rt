@@ -1,5 +1,6 @@
 //! Columns that grow by many slots at once.
 ghost use Rattle.std.specs.Prelude.{◌≡◌, false, OnOk, IfErr};
+ghost use Rattle.arrow_types.specs.Failures.{FailureKeeps};
 ghost use Rattle.arrow_column.specs.Column.{append_nulls, append_values, joined, refused_growth, stored_values};
 
 use crate::GrowingColumn;
@@ -20,9 +21,7 @@ impl<V: MutableValues> GrowingColumn<V> {
         V: Grow<X>,
         ensures ok { OnOk result ((V.overgrows self.old.around (stored_values self.old) values ≡ false)
             × (self.new ≡ append_values self.old (V.given values))) }
-        ensures err { IfErr result (λ e.
-            (e ≡ refused_growth (V.overgrows self.old.around (stored_values self.old) values))
-            × (self.new ≡ self.old)) }
+        ensures err { FailureKeeps result (refused_growth (V.overgrows self.old.around (stored_values self.old) values)) self.old self.new }
     {
         let before = self.values.count();
         let count = self.values.grow(values)?;
@@ -44,9 +43,7 @@ impl<V: MutableValues> GrowingColumn<V> {
         V: Grow<X>,
         ensures ok { OnOk result ((V.overgrows self.old.around (stored_values self.old) values ≡ false)
             × (self.new ≡ append_nulls self.old (V.given values))) }
-        ensures err { IfErr result (λ e.
-            (e ≡ refused_growth (V.overgrows self.old.around (stored_values self.old) values))
-            × (self.new ≡ self.old)) }
+        ensures err { FailureKeeps result (refused_growth (V.overgrows self.old.around (stored_values self.old) values)) self.old self.new }
     {
         let before = self.values.count();
         let alloc = self.values.allocated_by();
@@ -68,9 +65,7 @@ impl<V: MutableValues> GrowingColumn<V> {
     pub fn try_extend_from_self(&mut self, other: &Self) -> Result<(), Error>
         ensures ok { OnOk result ((V.overjoins self.old.around (stored_values self.old) (stored_values other.now)
             ≡ false) × (self.new ≡ joined self.old other.now)) }
-        ensures err { IfErr result (λ e.
-            (e ≡ refused_growth (V.overjoins self.old.around (stored_values self.old) (stored_values other.now)))
-            × (self.new ≡ self.old)) }
+        ensures err { FailureKeeps result (refused_growth (V.overjoins self.old.around (stored_values self.old) (stored_values other.now))) self.old self.new }
     {
         let before = self.values.count();
         let alloc = self.values.allocated_by();

@@ -2,6 +2,7 @@
 ghost use Rattle.std.specs.Prelude.{IsTrue, slice_get, not, is_some, ◌≡◌, ◌<◌, ◌-◌, length, false, Some, None};
 ghost use Rattle.std.specs.Prelude.{OnOk, IfOk, IfErr, IfSome, option_map};
 ghost use Rattle.std.specs.Option.{option_copied};
+ghost use Rattle.arrow_types.specs.Failures.{FailureKeeps, OnlyOutOfMemory, OutOfMemoryKeeps};
 ghost use Rattle.arrow_types.specs.Types.{logical_type};
 ghost use Rattle.arrow_memory.specs.Rows.{FitsMask, rows_of};
 ghost use Rattle.arrow_column.specs.Column.{slots_of, all_valid, marks_of, slot_overflows, IsColumn, append_slot};
@@ -140,7 +141,7 @@ impl<V: MutableValues> GrowingColumn<V> {
     pub fn push_null(&mut self) -> Result<(), Error>
         ensures data_type { self.new.data_type ≡ self.old.data_type }
         ensures ok { OnOk result (self.new ≡ append_slot V.default self.old None) }
-        ensures err { IfErr result (λ e. (e ≡ Error.OutOfMemory) × (self.new ≡ self.old)) }
+        ensures err { OutOfMemoryKeeps result self.old self.new }
     {
         let before = self.values.count();
         let alloc = self.values.allocated_by();
@@ -166,9 +167,7 @@ impl<V: MutableValues> GrowingColumn<V> {
         ensures data_type { self.new.data_type ≡ self.old.data_type }
         ensures ok { OnOk result ((V.overflows self.old.around (stored_values self.old) value ≡ false)
             × (self.new ≡ append_slot V.default self.old (Some (V.shown value)))) }
-        ensures err { IfErr result (λ e.
-            (e ≡ refused_growth (V.overflows self.old.around (stored_values self.old) value))
-            × (self.new ≡ self.old)) }
+        ensures err { FailureKeeps result (refused_growth (V.overflows self.old.around (stored_values self.old) value)) self.old self.new }
     {
         let before = self.values.count();
         self.values.push_value(value)?;
@@ -193,8 +192,7 @@ impl<V: MutableValues> GrowingColumn<V> {
         ensures data_type { self.new.data_type ≡ self.old.data_type }
         ensures ok { OnOk result ((slot_overflows V.overflows self.old slot ≡ false)
             × (self.new ≡ append_slot V.default self.old (option_map V.shown slot))) }
-        ensures err { IfErr result (λ e. (e ≡ refused_growth (slot_overflows V.overflows self.old slot))
-            × (self.new ≡ self.old)) }
+        ensures err { FailureKeeps result (refused_growth (slot_overflows V.overflows self.old slot)) self.old self.new }
     {
         match slot {
             Some(value) => self.push_valid(value),
@@ -253,7 +251,7 @@ impl<V: MutableValues> GrowingColumn<V> {
         ensures fits { IfOk result (λ parts. FitsMask (V.stored parts.1) parts.2) }
         ensures rows { IfOk result (λ parts. rows_of (V.stored parts.1) parts.2 ≡ self.rows) }
         ensures held { IfOk result (λ parts. is_some parts.2 ≡ not (all_valid self)) }
-        ensures err { IfErr result (λ e. e ≡ Error.OutOfMemory) }
+        ensures err { OnlyOutOfMemory result }
     {
         let GrowingColumn {
             data_type,

@@ -2,6 +2,7 @@
 ghost use Rattle.std.specs.Prelude.{IsTrue, ◌↔◌, slice_set, ◌≡◌, ◌<◌, true, false, [], ◌∷◌, ◌++◌, replicate, Some};
 ghost use Rattle.std.specs.Prelude.{option_map, unwrap_or, length, take, drop, ◌+◌, ◌≤◌, IfSome, OnOk, IfOk, IfErr};
 ghost use Rattle.std.specs.Prelude.{IsOk};
+ghost use Rattle.arrow_types.specs.Failures.{OnlyOutOfMemory, OutOfMemoryKeeps};
 ghost use Rattle.arrow_memory.specs.MarkWrites.{TakesLastMark};
 ghost use Rattle.arrow_memory.specs.Rows.{IsValidAt};
 ghost use Rattle.arrow_column.specs.Masks.{joined_mask, mask_with_nulls};
@@ -14,7 +15,7 @@ use std::alloc::Global;
 #[inline(always)]
 pub(crate) fn push_valid(validity: &mut Option<MutableBitmap>) -> Result<(), Error>
     ensures ok { OnOk result (validity.new ≡ option_map (λ marks. marks ++ true ∷ []) validity.old) }
-    ensures err { IfErr result (λ e. (e ≡ Error.OutOfMemory) × (validity.new ≡ validity.old)) }
+    ensures err { OutOfMemoryKeeps result validity.old validity.new }
 {
     match validity {
         None => Ok(()),
@@ -32,7 +33,7 @@ fn hold_mask(
     length: usize,
 ) -> Result<(), Error>
     ensures ok { OnOk result (validity.new ≡ Some (replicate length true ++ false ∷ [])) }
-    ensures err { IfErr result (λ e. (e ≡ Error.OutOfMemory) × (validity.new ≡ validity.old)) }
+    ensures err { OutOfMemoryKeeps result validity.old validity.new }
 {
     let mut marks = MutableBitmap::new(alloc);
     marks.extend_constant(length, true)?;
@@ -49,7 +50,7 @@ pub(crate) fn push_null_mark(
     length: usize,
 ) -> Result<(), Error>
     ensures ok { OnOk result (validity.new ≡ Some (unwrap_or validity.old (replicate length true) ++ false ∷ [])) }
-    ensures err { IfErr result (λ e. (e ≡ Error.OutOfMemory) × (validity.new ≡ validity.old)) }
+    ensures err { OutOfMemoryKeeps result validity.old validity.new }
 {
     match validity {
         Some(marks) => marks.push(false),
@@ -86,7 +87,7 @@ pub(crate) fn slice_mask(validity: &mut Option<Bitmap>, offset: usize, len: usiz
 /// The mask of an array, which is held only where a slot is null.
 pub(crate) fn freeze_mask(validity: Option<MutableBitmap>) -> Result<Option<Bitmap>, Error>
     ensures ok { IfOk result (λ mask. mask ≡ mask_with_nulls validity) }
-    ensures err { IfErr result (λ e. e ≡ Error.OutOfMemory) }
+    ensures err { OnlyOutOfMemory result }
 {
     let Some(marks) = validity else {
         return Ok(None);
@@ -106,7 +107,7 @@ pub(crate) fn extend_valid_marks(
     count: usize,
 ) -> Result<(), Error>
     ensures ok { OnOk result (validity.new ≡ option_map (λ marks. marks ++ replicate count true) validity.old) }
-    ensures err { IfErr result (λ e. (e ≡ Error.OutOfMemory) × (validity.new ≡ validity.old)) }
+    ensures err { OutOfMemoryKeeps result validity.old validity.new }
 {
     match validity {
         None => Ok(()),
@@ -117,7 +118,7 @@ pub(crate) fn extend_valid_marks(
 /// A mask of so many valid slots and then so many nulls.
 fn null_marks(alloc: Global, length: usize, count: usize) -> Result<MutableBitmap, Error>
     ensures ok { IfOk result (λ marks. marks ≡ replicate length true ++ replicate count false) }
-    ensures err { IfErr result (λ e. e ≡ Error.OutOfMemory) }
+    ensures err { OnlyOutOfMemory result }
 {
     let mut marks = MutableBitmap::new(alloc);
     marks.extend_constant(length, true)?;
@@ -135,7 +136,7 @@ pub(crate) fn extend_null_marks(
 ) -> Result<(), Error>
     ensures ok { OnOk result (validity.new ≡ Some (unwrap_or validity.old (replicate length true)
         ++ replicate count false)) }
-    ensures err { IfErr result (λ e. (e ≡ Error.OutOfMemory) × (validity.new ≡ validity.old)) }
+    ensures err { OutOfMemoryKeeps result validity.old validity.new }
 {
     match validity {
         Some(marks) => marks.extend_constant(count, false),
@@ -153,7 +154,7 @@ fn marks_behind(
     others: &MutableBitmap,
 ) -> Result<MutableBitmap, Error>
     ensures ok { IfOk result (λ marks. marks ≡ replicate length true ++ others.now) }
-    ensures err { IfErr result (λ e. e ≡ Error.OutOfMemory) }
+    ensures err { OnlyOutOfMemory result }
 {
     let mut marks = MutableBitmap::new(alloc);
     marks.extend_constant(length, true)?;
@@ -171,7 +172,7 @@ pub(crate) fn join_marks(
     count: usize,
 ) -> Result<(), Error>
     ensures ok { OnOk result (validity.new ≡ joined_mask validity.old length others.now count) }
-    ensures err { IfErr result (λ e. (e ≡ Error.OutOfMemory) × (validity.new ≡ validity.old)) }
+    ensures err { OutOfMemoryKeeps result validity.old validity.new }
 {
     match validity {
         Some(marks) => match others {
@@ -205,7 +206,7 @@ pub(crate) fn set_valid_mark(validity: &mut Option<MutableBitmap>, i: usize)
 fn null_mark_at(alloc: Global, count: usize, i: usize) -> Result<MutableBitmap, Error>
     requires { i < count }
     ensures ok { IfOk result (λ marks. marks ≡ slice_set (replicate count true) i false) }
-    ensures err { IfErr result (λ e. e ≡ Error.OutOfMemory) }
+    ensures err { OnlyOutOfMemory result }
 {
     let mut marks = MutableBitmap::new(alloc);
     marks.extend_constant(count, true)?;
@@ -224,7 +225,7 @@ pub(crate) fn set_null_mark(
     requires within { i < count }
     requires fits { IfSome validity.old (λ marks. length marks ≡ count) }
     ensures ok { OnOk result (validity.new ≡ Some (slice_set (unwrap_or validity.old (replicate count true)) i false)) }
-    ensures err { IfErr result (λ e. (e ≡ Error.OutOfMemory) × (validity.new ≡ validity.old)) }
+    ensures err { OutOfMemoryKeeps result validity.old validity.new }
 {
     match validity {
         Some(marks) => {
@@ -244,7 +245,7 @@ pub(crate) fn reserve_marks(
     additional: usize,
 ) -> Result<(), Error>
     ensures kept { validity.new ≡ validity.old }
-    ensures err { IfErr result (λ e. e ≡ Error.OutOfMemory) }
+    ensures err { OnlyOutOfMemory result }
 {
     match validity {
         None => Ok(()),
@@ -266,7 +267,7 @@ pub(crate) fn shrink_marks(validity: &mut Option<MutableBitmap>) -> Result<(), E
 /// A copy of a builder's mask, where one is held.
 pub(crate) fn copy_marks(validity: &Option<MutableBitmap>) -> Result<Option<MutableBitmap>, Error>
     ensures ok { IfOk result (λ copy. copy ≡ validity.now) }
-    ensures err { IfErr result (λ e. e ≡ Error.OutOfMemory) }
+    ensures err { OnlyOutOfMemory result }
 {
     match validity {
         None => Ok(None),
@@ -277,7 +278,7 @@ pub(crate) fn copy_marks(validity: &Option<MutableBitmap>) -> Result<Option<Muta
 /// An array's mask once more, where one is held. No mark is copied.
 pub(crate) fn share_mask(validity: &Option<Bitmap>) -> Result<Option<Bitmap>, Error>
     ensures ok { IfOk result (λ copy. copy ≡ validity.now) }
-    ensures err { IfErr result (λ e. e ≡ Error.OutOfMemory) }
+    ensures err { OnlyOutOfMemory result }
 {
     match validity {
         None => Ok(None),

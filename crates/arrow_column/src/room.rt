@@ -1,5 +1,6 @@
 //! The room of columns, and their clones.
 ghost use Rattle.std.specs.Prelude.{◌≡◌, IfOk, IfErr, IsOk};
+ghost use Rattle.arrow_types.specs.Failures.{OnlyOutOfMemory};
 
 use crate::mask::{copy_marks, reserve_marks, share_mask, shrink_marks};
 use crate::values::{MutableValues, Values};
@@ -15,7 +16,7 @@ pub trait ReserveItems: MutableValues {
     fn make_room_of(&mut self, additional: usize, bytes: usize) -> Result<(), Error>
         ensures stored { Self.stored self.new ≡ Self.stored self.old }
         ensures around { Self.around self.new ≡ Self.around self.old }
-        ensures err { IfErr result (λ e. e ≡ Error.OutOfMemory) };
+        ensures err { OnlyOutOfMemory result };
 }
 
 #[tactic(auto, using(crate::proofs::RowLemmas::row_steps))]
@@ -28,7 +29,7 @@ impl<V: MutableValues> GrowingColumn<V> {
     where
         V: ReserveItems,
         ensures kept { self.new ≡ self.old }
-        ensures err { IfErr result (λ e. e ≡ Error.OutOfMemory) }
+        ensures err { OnlyOutOfMemory result }
     {
         self.values.make_room_of(additional, bytes)?;
         reserve_marks(&mut self.validity, additional)
@@ -42,7 +43,7 @@ impl<V: MutableValues> GrowingColumn<V> {
     #[inline(never)]
     pub fn reserve(&mut self, additional: usize) -> Result<(), Error>
         ensures kept { self.new ≡ self.old }
-        ensures err { IfErr result (λ e. e ≡ Error.OutOfMemory) }
+        ensures err { OnlyOutOfMemory result }
     {
         self.values.make_room(additional)?;
         reserve_marks(&mut self.validity, additional)
@@ -66,7 +67,7 @@ impl<V: MutableValues> GrowingColumn<V> {
     /// `OutOfMemory` where memory is refused.
     pub fn clone(&self) -> Result<Self, Error>
         ensures ok { IfOk result (λ copy. copy ≡ self.now) }
-        ensures err { IfErr result (λ e. e ≡ Error.OutOfMemory) }
+        ensures err { OnlyOutOfMemory result }
     {
         let validity = copy_marks(&self.validity)?;
         let values = self.values.copy()?;
@@ -83,7 +84,7 @@ impl<V: Values> FrozenColumn<V> {
     /// `OutOfMemory` where memory is refused.
     pub fn clone(&self) -> Result<Self, Error>
         ensures ok { IfOk result (λ copy. copy ≡ self.now) }
-        ensures err { IfErr result (λ e. e ≡ Error.OutOfMemory) }
+        ensures err { OnlyOutOfMemory result }
     {
         let validity = share_mask(&self.validity)?;
         let values = self.values.share()?;

@@ -1,6 +1,7 @@
 //! Columns that hold no mask, and grow without a look at one.
 ghost use Rattle.std.specs.Prelude.{◌≡◌, false, Some, OnOk, IfErr};
 ghost use Rattle.std.specs.Iterator.{IsFinite};
+ghost use Rattle.arrow_types.specs.Failures.{FailureKeeps, OutOfMemoryKeeps};
 ghost use Rattle.arrow_column.specs.Appends.{ExtendsByItems, StopsInItems};
 ghost use Rattle.arrow_column.specs.Column.{append_slot, refused_growth, stored_values};
 
@@ -23,9 +24,7 @@ impl<V: MutableValues> GrowingColumn<V> {
         ensures held { self.new.held ≡ false }
         ensures ok { OnOk result ((V.overflows self.old.around (stored_values self.old) value ≡ false)
             × (self.new ≡ append_slot V.default self.old (Some (V.shown value)))) }
-        ensures err { IfErr result (λ e.
-            (e ≡ refused_growth (V.overflows self.old.around (stored_values self.old) value))
-            × (self.new ≡ self.old)) }
+        ensures err { FailureKeeps result (refused_growth (V.overflows self.old.around (stored_values self.old) value)) self.old self.new }
     {
         self.values.push_value(value)
     }
@@ -40,7 +39,7 @@ impl<V: MutableValues> GrowingColumn<V> {
         ensures data_type { self.new.data_type ≡ self.old.data_type }
         ensures held { self.new.held ≡ false }
         ensures ok { OnOk result (self.new ≡ append_slot V.default self.old (Some V.default)) }
-        ensures err { IfErr result (λ e. (e ≡ Error.OutOfMemory) × (self.new ≡ self.old)) }
+        ensures err { OutOfMemoryKeeps result self.old self.new }
     {
         self.values.push_default()
     }

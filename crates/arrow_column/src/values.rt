@@ -1,6 +1,7 @@
 //! The stored values that columns are made of.
 ghost use Rattle.std.specs.Prelude.{refl, slice_set, replicate, ◌<◌, IfOk, ◌≡◌, ℕ, ◌+◌, ◌-◌, ◌≤◌, List, Bool};
 ghost use Rattle.std.specs.Prelude.{false, [], ◌∷◌, ◌++◌, length, take, drop, OnOk, IfErr, IsOk};
+ghost use Rattle.arrow_types.specs.Failures.{FailureKeeps, OnlyOutOfMemory, OutOfMemoryKeeps};
 ghost use Rattle.arrow_column.specs.Column.{refused_growth};
 
 use arrow_memory::bitmap::{Bitmap, MutableBitmap};
@@ -43,7 +44,7 @@ pub trait Values: Drop {
     fn share(&self) -> Result<Self, Error>
         ensures stored { IfOk result (λ copy. stored copy ≡ stored self.now) }
         ensures around { IfOk result (λ copy. around copy ≡ around self.now) }
-        ensures err { IfErr result (λ e. e ≡ Error.OutOfMemory) };
+        ensures err { OnlyOutOfMemory result };
 
     /// What a piece of a piece has around it is what one piece has.
     ghost cut_twice: { (before : Self.Around) (values : List Self.Stored) (a n b m : ℕ) → b + m ≤ n
@@ -139,7 +140,7 @@ pub trait MutableValues: Drop {
     fn push_default(&mut self) -> Result<(), Error>
         ensures ok { OnOk result (stored self.new ≡ stored self.old ++ default ∷ []) }
         ensures around { around self.new ≡ around self.old }
-        ensures err { IfErr result (λ e. (e ≡ Error.OutOfMemory) × (stored self.new ≡ stored self.old)) };
+        ensures err { OutOfMemoryKeeps result (stored self.old) (stored self.new) };
 
     /// Keeps only the first `len` values.
     fn keep_first(&mut self, len: usize)
@@ -165,9 +166,7 @@ pub trait MutableValues: Drop {
         ensures ok { OnOk result ((overjoins (around self.old) (stored self.old) (stored other.now) ≡ false)
             × (stored self.new ≡ stored self.old ++ stored other.now)) }
         ensures around { around self.new ≡ around self.old }
-        ensures err { IfErr result (λ e.
-            (e ≡ refused_growth (overjoins (around self.old) (stored self.old) (stored other.now)))
-            × (stored self.new ≡ stored self.old)) };
+        ensures err { FailureKeeps result (refused_growth (overjoins (around self.old) (stored self.old) (stored other.now))) (stored self.old) (stored self.new) };
 
     /// Makes room for so many values more.
     ///
@@ -176,7 +175,7 @@ pub trait MutableValues: Drop {
     fn make_room(&mut self, additional: usize) -> Result<(), Error>
         ensures stored { stored self.new ≡ stored self.old }
         ensures around { around self.new ≡ around self.old }
-        ensures err { IfErr result (λ e. e ≡ Error.OutOfMemory) };
+        ensures err { OnlyOutOfMemory result };
 
     /// Gives back the room that is not used.
     ///
@@ -194,7 +193,7 @@ pub trait MutableValues: Drop {
     fn copy(&self) -> Result<Self, Error>
         ensures stored { IfOk result (λ copy. stored copy ≡ stored self.now) }
         ensures around { IfOk result (λ copy. around copy ≡ around self.now) }
-        ensures err { IfErr result (λ e. e ≡ Error.OutOfMemory) };
+        ensures err { OnlyOutOfMemory result };
 }
 
 /// Values to which one more is appended.
@@ -214,9 +213,7 @@ pub trait PushValue<X>: MutableValues {
         ensures ok { OnOk result ((overflows (Self.around self.old) (Self.stored self.old) value ≡ false)
             × (Self.stored self.new ≡ Self.stored self.old ++ shown value ∷ [])) }
         ensures around { Self.around self.new ≡ Self.around self.old }
-        ensures err { IfErr result (λ e.
-            (e ≡ refused_growth (overflows (Self.around self.old) (Self.stored self.old) value))
-            × (Self.stored self.new ≡ Self.stored self.old)) };
+        ensures err { FailureKeeps result (refused_growth (overflows (Self.around self.old) (Self.stored self.old) value)) (Self.stored self.old) (Self.stored self.new) };
 }
 
 /// Values to which many are appended at a time.
@@ -236,9 +233,7 @@ pub trait Grow<X>: MutableValues {
         ensures ok { IfOk result (λ count. (overgrows (Self.around self.old) (Self.stored self.old) values ≡ false)
             × (count ≡ length (given values)) × (Self.stored self.new ≡ Self.stored self.old ++ given values)) }
         ensures around { Self.around self.new ≡ Self.around self.old }
-        ensures err { IfErr result (λ e.
-            (e ≡ refused_growth (overgrows (Self.around self.old) (Self.stored self.old) values))
-            × (Self.stored self.new ≡ Self.stored self.old)) };
+        ensures err { FailureKeeps result (refused_growth (overgrows (Self.around self.old) (Self.stored self.old) values)) (Self.stored self.old) (Self.stored self.new) };
 }
 
 impl<T: NativeType> MutableValues for Vec<T> {

@@ -1,6 +1,7 @@
 //! The builder of arrays of native values.
 ghost use Rattle.std.specs.Prelude.{◌≡◌, ◌<◌, ◌≤◌, length, Some, None, OnOk, IfOk, IfErr, IsOk};
 ghost use Rattle.std.specs.Option.{option_copied};
+ghost use Rattle.arrow_types.specs.Failures.{OnlyOutOfMemory, OutOfMemoryKeeps};
 ghost use Rattle.arrow_types.specs.Types.{logical_type, IsRightType, default_logical_type};
 ghost use Rattle.arrow_memory.specs.Rows.{FitsMask};
 ghost use Rattle.arrow_column.specs.Column.{Column, IsColumn, append_slot, column_of_parts, empty_column};
@@ -79,7 +80,7 @@ impl<T: NativeType> MutablePrimitiveArray<T> {
     /// `OutOfMemory` where memory is refused.
     pub fn with_capacity(alloc: Global, capacity: usize) -> Result<Self, Error>
         ensures ok { IfOk result (λ builder. builder ≡ empty_column (default_logical_type T.PRIMITIVE)) }
-        ensures err { IfErr result (λ e. e ≡ Error.OutOfMemory) }
+        ensures err { OnlyOutOfMemory result }
     {
         Ok(MutablePrimitiveArray::from_vec(Vec::with_capacity(alloc, capacity)?))
     }
@@ -95,7 +96,7 @@ impl<T: NativeType> MutablePrimitiveArray<T> {
     ) -> Result<Self, Error>
         requires { IsRightType (PhysicalType.Primitive T.PRIMITIVE) (logical_type data_type) }
         ensures ok { IfOk result (λ builder. builder ≡ empty_column (logical_type data_type)) }
-        ensures err { IfErr result (λ e. e ≡ Error.OutOfMemory) }
+        ensures err { OnlyOutOfMemory result }
     {
         Ok(MutablePrimitiveArray {
             column: GrowingColumn::new(data_type, Vec::with_capacity(alloc, capacity)?, None),
@@ -173,7 +174,7 @@ impl<T: NativeType> MutablePrimitiveArray<T> {
     #[inline(always)]
     pub fn push(&mut self, value: Option<T>) -> Result<(), Error>
         ensures ok { OnOk result (self.new ≡ append_slot T.zero self.old value) }
-        ensures err { IfErr result (λ e. (e ≡ Error.OutOfMemory) × (self.new ≡ self.old)) }
+        ensures err { OutOfMemoryKeeps result self.old self.new }
     {
         match value {
             Some(value) => self.column.push_valid(value),
@@ -188,7 +189,7 @@ impl<T: NativeType> MutablePrimitiveArray<T> {
     #[inline(always)]
     pub fn try_push(&mut self, value: Option<T>) -> Result<(), Error>
         ensures ok { OnOk result (self.new ≡ append_slot T.zero self.old value) }
-        ensures err { IfErr result (λ e. (e ≡ Error.OutOfMemory) × (self.new ≡ self.old)) }
+        ensures err { OutOfMemoryKeeps result self.old self.new }
     {
         self.push(value)
     }
@@ -200,7 +201,7 @@ impl<T: NativeType> MutablePrimitiveArray<T> {
     #[inline(always)]
     pub fn push_null(&mut self) -> Result<(), Error>
         ensures ok { OnOk result (self.new ≡ append_slot T.zero self.old None) }
-        ensures err { IfErr result (λ e. (e ≡ Error.OutOfMemory) × (self.new ≡ self.old)) }
+        ensures err { OutOfMemoryKeeps result self.old self.new }
     {
         self.column.push_null()
     }
@@ -224,7 +225,7 @@ impl<T: NativeType> MutablePrimitiveArray<T> {
     pub fn set(&mut self, i: usize, value: Option<T>) -> Result<(), Error>
         requires { i < length self.old.rows }
         ensures ok { OnOk result (self.new ≡ with_slot T.zero self.old i value) }
-        ensures err { IfErr result (λ e. (e ≡ Error.OutOfMemory) × (self.new ≡ self.old)) }
+        ensures err { OutOfMemoryKeeps result self.old self.new }
     {
         self.column.set(i, value)
     }
@@ -235,7 +236,7 @@ impl<T: NativeType> MutablePrimitiveArray<T> {
     /// `OutOfMemory` where a growth is refused.
     pub fn reserve(&mut self, additional: usize) -> Result<(), Error>
         ensures kept { self.new ≡ self.old }
-        ensures err { IfErr result (λ e. e ≡ Error.OutOfMemory) }
+        ensures err { OnlyOutOfMemory result }
     {
         self.column.reserve(additional)
     }
@@ -257,7 +258,7 @@ impl<T: NativeType> MutablePrimitiveArray<T> {
     /// `OutOfMemory` where memory is refused.
     pub fn clone(&self) -> Result<Self, Error>
         ensures ok { IfOk result (λ copy. copy ≡ self.now) }
-        ensures err { IfErr result (λ e. e ≡ Error.OutOfMemory) }
+        ensures err { OnlyOutOfMemory result }
     {
         Ok(MutablePrimitiveArray {
             column: self.column.clone()?,
@@ -270,7 +271,7 @@ impl<T: NativeType> MutablePrimitiveArray<T> {
     /// `OutOfMemory` where a growth is refused; the builder is then lost.
     pub fn freeze(self) -> Result<PrimitiveArray<T>, Error>
         ensures ok { IfOk result (λ array. array ≡ without_needless_mask self) }
-        ensures err { IfErr result (λ e. e ≡ Error.OutOfMemory) }
+        ensures err { OnlyOutOfMemory result }
     {
         let (data_type, values, validity) = self.column.freeze_mask()?;
         Ok(PrimitiveArray::new(data_type, Buffer::from_vec(values)?, validity))

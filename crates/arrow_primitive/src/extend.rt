@@ -1,6 +1,7 @@
 //! Builders of native values that grow by many slots.
 ghost use Rattle.std.specs.Prelude.{◌≡◌, List, Option, Some, None, map, replicate, IfSome, IfNone, OnOk, IfErr};
 ghost use Rattle.std.specs.Iterator.{Drains, IsFinite, Yields};
+ghost use Rattle.arrow_types.specs.Failures.{OutOfMemoryKeeps};
 ghost use Rattle.arrow_column.specs.Column.{append_nulls, append_slots, append_values, joined};
 
 use crate::MutablePrimitiveArray;
@@ -65,7 +66,7 @@ impl<T: NativeType> MutablePrimitiveArray<T> {
     #[inline(always)]
     pub fn extend_from_slice(&mut self, items: &[T]) -> Result<(), Error>
         ensures ok { OnOk result (self.new ≡ append_values self.old items.now) }
-        ensures err { IfErr result (λ e. (e ≡ Error.OutOfMemory) × (self.new ≡ self.old)) }
+        ensures err { OutOfMemoryKeeps result self.old self.new }
     {
         self.column.grow_valid(items)
     }
@@ -78,7 +79,7 @@ impl<T: NativeType> MutablePrimitiveArray<T> {
     pub fn extend_constant(&mut self, additional: usize, value: Option<T>) -> Result<(), Error>
         ensures valid { IfSome value (λ x. OnOk result (self.new ≡ append_values self.old (replicate additional x))) }
         ensures null { IfNone value (OnOk result (self.new ≡ append_nulls self.old (replicate additional T.zero))) }
-        ensures err { IfErr result (λ e. (e ≡ Error.OutOfMemory) × (self.new ≡ self.old)) }
+        ensures err { OutOfMemoryKeeps result self.old self.new }
     {
         match value {
             Some(value) => self.column.grow_valid(Repeated {
@@ -98,7 +99,7 @@ impl<T: NativeType> MutablePrimitiveArray<T> {
     /// `OutOfMemory` where a growth is refused; the builder is then as before.
     pub fn try_extend_from_self(&mut self, other: &Self) -> Result<(), Error>
         ensures ok { OnOk result (self.new ≡ joined self.old other.now) }
-        ensures err { IfErr result (λ e. (e ≡ Error.OutOfMemory) × (self.new ≡ self.old)) }
+        ensures err { OutOfMemoryKeeps result self.old self.new }
     {
         self.column.try_extend_from_self(&other.column)
     }

@@ -1,6 +1,7 @@
 //! Arrays and builders made of values or of slots.
 ghost use Rattle.std.specs.Prelude.{◌≡◌, List, Option, Some, None, [], false, replicate, IfOk, IfErr};
 ghost use Rattle.std.specs.Iterator.{Drains, IsFinite};
+ghost use Rattle.arrow_types.specs.Failures.{OnlyOutOfMemory};
 ghost use Rattle.arrow_types.specs.Types.{logical_type, IsRightType, default_logical_type};
 ghost use Rattle.arrow_column.specs.Column.{append_slots, column_of_parts, without_needless_mask};
 
@@ -32,7 +33,7 @@ impl<T: NativeType> MutablePrimitiveArray<T> {
         ensures ok { IfOk result (λ builder.
             builder ≡ append_slots T.zero (column_of_parts (default_logical_type T.PRIMITIVE) [] (Some []))
             slots.now) }
-        ensures err { IfErr result (λ e. e ≡ Error.OutOfMemory) }
+        ensures err { OnlyOutOfMemory result }
     {
         let mut builder = MutablePrimitiveArray::masked(alloc);
         match builder.column.extend_from_slots(slots) {
@@ -52,7 +53,7 @@ impl<T: NativeType> MutablePrimitiveArray<T> {
         ensures ok { IfOk result (λ builder. (items : List (Option T)) × Drains I.next_gives iter items
             × (builder ≡ append_slots T.zero (column_of_parts (default_logical_type T.PRIMITIVE) [] (Some []))
             items)) }
-        ensures err { IfErr result (λ e. e ≡ Error.OutOfMemory) }
+        ensures err { OnlyOutOfMemory result }
     {
         let mut builder = MutablePrimitiveArray::masked(alloc);
         match builder.extend(iter) {
@@ -68,7 +69,7 @@ impl<T: NativeType> MutablePrimitiveArray<T> {
     pub fn from_slice(alloc: Global, slice: &[T]) -> Result<Self, Error>
         ensures ok { IfOk result (λ builder. builder ≡ column_of_parts (default_logical_type T.PRIMITIVE) slice.now
             None) }
-        ensures err { IfErr result (λ e. e ≡ Error.OutOfMemory) }
+        ensures err { OnlyOutOfMemory result }
     {
         let mut values = Vec::new(alloc);
         values.extend_from_slice(slice)?;
@@ -86,7 +87,7 @@ impl<T: NativeType> PrimitiveArray<T> {
     pub fn from_vec(values: Vec<T>) -> Result<Self, Error>
         ensures ok { IfOk result (λ array. array ≡ column_of_parts (default_logical_type T.PRIMITIVE) values.items
             None) }
-        ensures err { IfErr result (λ e. e ≡ Error.OutOfMemory) }
+        ensures err { OnlyOutOfMemory result }
     {
         Ok(PrimitiveArray::new(
             T::PRIMITIVE.default_data_type(),
@@ -101,7 +102,7 @@ impl<T: NativeType> PrimitiveArray<T> {
     /// `OutOfMemory` where memory is refused.
     pub fn from_slice(alloc: Global, slice: &[T]) -> Result<Self, Error>
         ensures ok { IfOk result (λ array. array ≡ column_of_parts (default_logical_type T.PRIMITIVE) slice.now None) }
-        ensures err { IfErr result (λ e. e ≡ Error.OutOfMemory) }
+        ensures err { OnlyOutOfMemory result }
     {
         let mut values = Vec::new(alloc);
         values.extend_from_slice(slice)?;
@@ -118,7 +119,7 @@ impl<T: NativeType> PrimitiveArray<T> {
         requires ends { IsFinite (I.remaining iter) }
         ensures ok { IfOk result (λ array. (items : List T) × Drains I.next_gives iter items
             × (array ≡ column_of_parts (default_logical_type T.PRIMITIVE) items None)) }
-        ensures err { IfErr result (λ e. e ≡ Error.OutOfMemory) }
+        ensures err { OnlyOutOfMemory result }
     {
         let mut builder = MutablePrimitiveArray::new(alloc);
         match builder.extend_values(iter) {
@@ -136,7 +137,7 @@ impl<T: NativeType> PrimitiveArray<T> {
         ensures ok { IfOk result (λ array.
             array ≡ without_needless_mask (append_slots T.zero (column_of_parts (default_logical_type T.PRIMITIVE)
             [] (Some [])) slots.now)) }
-        ensures err { IfErr result (λ e. e ≡ Error.OutOfMemory) }
+        ensures err { OnlyOutOfMemory result }
     {
         MutablePrimitiveArray::from(alloc, slots)?.freeze()
     }
@@ -152,7 +153,7 @@ impl<T: NativeType> PrimitiveArray<T> {
         ensures ok { IfOk result (λ array. (items : List (Option T)) × Drains I.next_gives iter items
             × (array ≡ without_needless_mask
             (append_slots T.zero (column_of_parts (default_logical_type T.PRIMITIVE) [] (Some [])) items))) }
-        ensures err { IfErr result (λ e. e ≡ Error.OutOfMemory) }
+        ensures err { OnlyOutOfMemory result }
     {
         match MutablePrimitiveArray::from_iter(alloc, iter) {
             Ok(builder) => builder.freeze(),
@@ -170,7 +171,7 @@ impl<T: NativeType> PrimitiveArray<T> {
         ensures ok { IfOk result (λ array.
             array ≡ column_of_parts (logical_type data_type) (replicate length T.zero)
             (Some (replicate length false))) }
-        ensures err { IfErr result (λ e. e ≡ Error.OutOfMemory) }
+        ensures err { OnlyOutOfMemory result }
     {
         let mut values = Vec::new(alloc);
         values.resize(length, T::default())?;

@@ -3,6 +3,7 @@
 ghost use Rattle.std.specs.Prelude.{◌≡◌, ℕ, ◌+◌, ◌-◌, ◌*◌, ◌^◌, ◌≤◌, ◌<◌, ◌==◌, slice_index, [], ◌∷◌, length};
 ghost use Rattle.std.specs.Prelude.{vec_len, ◌++◌, OnOk, OnErr, IfErr};
 ghost use Rattle.std.specs.Int.{bit_at, div_ceil};
+ghost use Rattle.arrow_types.specs.Failures.{OutOfMemoryKeeps};
 ghost use Rattle.arrow_memory.specs.Marks.{mark_at, marks};
 ghost use Rattle.arrow_memory.specs.MarkWrites.{CopiesMarks};
 
@@ -137,7 +138,7 @@ pub(crate) fn own_bytes(bytes: &mut Rc<Vec<u8>>, offset: usize, length: usize) -
     requires fits { offset + length < 2 ^ 64 }
     ensures ok { OnOk result (marks bytes.new.value.items 0 length ≡ marks bytes.old.value.items offset length) }
     ensures room { OnOk result (length ≤ 8 * vec_len bytes.new.value) }
-    ensures err { IfErr result (λ e. (e ≡ Error.OutOfMemory) × (bytes.new ≡ bytes.old)) }
+    ensures err { OutOfMemoryKeeps result bytes.old bytes.new }
 {
     if offset == 0 && Rc::strong_count(bytes) == 1 {
         return Ok(());

@@ -3,6 +3,7 @@ ghost use Rattle.std.specs.Prelude.{◌≡◌, ℕ, ◌<◌, ◌+◌, ◌↔◌,
 ghost use Rattle.std.specs.Prelude.{replicate, slice_get, slice_set, take, Some, IfSome, OnOk, IfOk, IfErr};
 ghost use Rattle.std.specs.Prelude.{MatchOption, ◌*◌, ◌≤◌, vec_len, IsOk};
 ghost use Rattle.std.specs.Int.{bit_at};
+ghost use Rattle.arrow_types.specs.Failures.{OnlyOutOfMemory, OutOfMemoryKeeps};
 ghost use Rattle.arrow_memory.specs.Marks.{bits_of, marks, bits_past_bytes};
 ghost use Rattle.arrow_memory.specs.Rows.{AgreeWhere};
 ghost use Rattle.arrow_types.specs.Types.{refusal};
@@ -91,7 +92,7 @@ impl MutableBitmap {
     /// `OutOfMemory` where memory is refused.
     pub fn from_slice(alloc: Global, slice: &[bool]) -> Result<Self, Error>
         ensures ok { IfOk result (λ bitmap. bitmap ≡ slice.now) }
-        ensures err { IfErr result (λ e. e ≡ Error.OutOfMemory) }
+        ensures err { OnlyOutOfMemory result }
     {
         let bytes = pack(alloc, slice)?;
         Ok(MutableBitmap::from_bytes(bytes, slice.len()))
@@ -103,7 +104,7 @@ impl MutableBitmap {
     /// `OutOfMemory` where memory is refused.
     pub fn with_capacity(alloc: Global, capacity: usize) -> Result<Self, Error>
         ensures ok { IfOk result (λ bitmap. bitmap ≡ []) }
-        ensures err { IfErr result (λ e. e ≡ Error.OutOfMemory) }
+        ensures err { OnlyOutOfMemory result }
     {
         Ok(MutableBitmap {
             bytes: Vec::with_capacity(alloc, capacity.div_ceil(8))?,
@@ -117,7 +118,7 @@ impl MutableBitmap {
     /// `OutOfMemory` where the growth is refused.
     pub fn reserve(&mut self, additional: usize) -> Result<(), Error>
         ensures kept { self.new ≡ self.old }
-        ensures err { IfErr result (λ e. e ≡ Error.OutOfMemory) }
+        ensures err { OnlyOutOfMemory result }
     {
         let needed = self.length.saturating_add(additional).div_ceil(8);
         self.bytes.reserve(needed.saturating_sub(self.bytes.len()))?;
@@ -143,7 +144,7 @@ impl MutableBitmap {
     /// `OutOfMemory` where memory is refused.
     pub fn clone(&self) -> Result<Self, Error>
         ensures ok { IfOk result (λ bitmap. bitmap ≡ self.now) }
-        ensures err { IfErr result (λ e. e ≡ Error.OutOfMemory) }
+        ensures err { OnlyOutOfMemory result }
     {
         Ok(MutableBitmap {
             bytes: self.bytes.clone()?,
@@ -181,7 +182,7 @@ impl MutableBitmap {
     #[inline(always)]
     pub fn push(&mut self, value: bool) -> Result<(), Error>
         ensures ok { OnOk result (self.new ≡ self.old ++ value ∷ []) }
-        ensures err { IfErr result (λ e. (e ≡ Error.OutOfMemory) × (self.new ≡ self.old)) }
+        ensures err { OutOfMemoryKeeps result self.old self.new }
     {
         let Some(length) = self.length.checked_add(1) else {
             return Err(Error::OutOfMemory);
@@ -255,7 +256,7 @@ impl MutableBitmap {
     #[inline(always)]
     pub fn extend_constant(&mut self, additional: usize, value: bool) -> Result<(), Error>
         ensures ok { OnOk result (self.new ≡ self.old ++ replicate additional value) }
-        ensures err { IfErr result (λ e. (e ≡ Error.OutOfMemory) × (self.new ≡ self.old)) }
+        ensures err { OutOfMemoryKeeps result self.old self.new }
     {
         let Some(end) = self.length.checked_add(additional) else {
             return Err(Error::OutOfMemory);
@@ -272,7 +273,7 @@ impl MutableBitmap {
     /// then as before.
     pub fn extend_from_bitmap(&mut self, other: &MutableBitmap) -> Result<(), Error>
         ensures ok { OnOk result (self.new ≡ self.old ++ other.now) }
-        ensures err { IfErr result (λ e. (e ≡ Error.OutOfMemory) × (self.new ≡ self.old)) }
+        ensures err { OutOfMemoryKeeps result self.old self.new }
     {
         let Some(end) = self.length.checked_add(other.length) else {
             return Err(Error::OutOfMemory);
@@ -291,7 +292,7 @@ impl MutableBitmap {
     pub fn extend_from_word(&mut self, word: u64, count: usize) -> Result<(), Error>
         requires { count ≤ 64 }
         ensures ok { OnOk result (self.new ≡ self.old ++ bits_of word count) }
-        ensures err { IfErr result (λ e. (e ≡ Error.OutOfMemory) × (self.new ≡ self.old)) }
+        ensures err { OutOfMemoryKeeps result self.old self.new }
     {
         let Some(end) = self.length.checked_add(count) else {
             return Err(Error::OutOfMemory);
@@ -321,7 +322,7 @@ impl MutableBitmap {
     /// `OutOfMemory` where a growth is refused; the marks are then lost.
     pub fn freeze(self) -> Result<Bitmap, Error>
         ensures ok { IfOk result (λ bitmap. bitmap ≡ self) }
-        ensures err { IfErr result (λ e. e ≡ Error.OutOfMemory) }
+        ensures err { OnlyOutOfMemory result }
     {
         let MutableBitmap { bytes, length } = self;
         Bitmap::from_bytes(bytes, length)
@@ -334,7 +335,7 @@ impl MutableBitmap {
     pub fn freeze_counted(self, unset: usize) -> Result<Bitmap, Error>
         requires { unset ≡ count_by not self }
         ensures ok { IfOk result (λ bitmap. bitmap ≡ self) }
-        ensures err { IfErr result (λ e. e ≡ Error.OutOfMemory) }
+        ensures err { OnlyOutOfMemory result }
     {
         let MutableBitmap { bytes, length } = self;
         Bitmap::from_counted(bytes, length, unset)

@@ -1,6 +1,7 @@
 //! Offsets that grow.
 ghost use Rattle.std.specs.Prelude.{◌≡◌, ◌+◌, ◌-◌, ◌<◌, ◌≤◌, pos, [], ◌∷◌, ◌++◌, length, map, take, replicate};
 ghost use Rattle.std.specs.Prelude.{slice_index, None, OnOk, IfOk, IfErr, MatchOption, IsOk};
+ghost use Rattle.arrow_types.specs.Failures.{OnlyOutOfMemory, OutOfMemoryKeeps};
 ghost use Rattle.arrow_types.specs.Types.{refusal, out_of_spec};
 ghost use Rattle.arrow_memory.specs.Offsets.{first_of, last_of, IsOffsets, KeepsOffsets, first_fault, numbers_of};
 ghost use Rattle.arrow_memory.specs.Offsets.{moved_behind, MatchGrowth};
@@ -40,7 +41,7 @@ impl<O: Offset> Offsets<O> {
     /// `OutOfMemory` where memory is refused.
     pub fn new(alloc: Global) -> Result<Self, Error>
         ensures ok { IfOk result (λ offsets. offsets ≡ 0 ∷ []) }
-        ensures err { IfErr result (λ e. e ≡ Error.OutOfMemory) }
+        ensures err { OnlyOutOfMemory result }
     {
         Offsets::with_capacity(alloc, 0)
     }
@@ -51,7 +52,7 @@ impl<O: Offset> Offsets<O> {
     /// `OutOfMemory` where memory is refused, as one offset more than `usize::MAX` is.
     pub fn new_zeroed(alloc: Global, length: usize) -> Result<Self, Error>
         ensures ok { IfOk result (λ offsets. offsets ≡ replicate (length + 1) 0) }
-        ensures err { IfErr result (λ e. e ≡ Error.OutOfMemory) }
+        ensures err { OnlyOutOfMemory result }
     {
         let Some(count) = length.checked_add(1) else {
             return Err(Error::OutOfMemory);
@@ -67,7 +68,7 @@ impl<O: Offset> Offsets<O> {
     /// `OutOfMemory` where memory is refused, as one offset more than `usize::MAX` is.
     pub fn with_capacity(alloc: Global, capacity: usize) -> Result<Self, Error>
         ensures ok { IfOk result (λ offsets. offsets ≡ 0 ∷ []) }
-        ensures err { IfErr result (λ e. e ≡ Error.OutOfMemory) }
+        ensures err { OnlyOutOfMemory result }
     {
         let Some(count) = capacity.checked_add(1) else {
             return Err(Error::OutOfMemory);
@@ -215,7 +216,7 @@ impl<O: Offset> Offsets<O> {
     pub fn push_empty(&mut self) -> Result<(), Error>
         ensures legal { IsOffsets self.new }
         ensures ok { OnOk result (self.new ≡ self.old ++ last_of self.old ∷ []) }
-        ensures err { IfErr result (λ e. (e ≡ Error.OutOfMemory) × (self.new ≡ self.old)) }
+        ensures err { OutOfMemoryKeeps result self.old self.new }
     {
         match self.try_push_usize(0) {
             Ok(()) => Ok(()),
@@ -268,7 +269,7 @@ impl<O: Offset> Offsets<O> {
     /// `OutOfMemory` where the growth is refused.
     pub fn reserve(&mut self, additional: usize) -> Result<(), Error>
         ensures kept { self.new ≡ self.old }
-        ensures err { IfErr result (λ e. e ≡ Error.OutOfMemory) }
+        ensures err { OnlyOutOfMemory result }
     {
         self.offsets.reserve(additional)?;
         Ok(())
@@ -292,7 +293,7 @@ impl<O: Offset> Offsets<O> {
     /// `OutOfMemory` where memory is refused.
     pub fn clone(&self) -> Result<Self, Error>
         ensures ok { IfOk result (λ copy. copy ≡ self.now) }
-        ensures err { IfErr result (λ e. e ≡ Error.OutOfMemory) }
+        ensures err { OnlyOutOfMemory result }
     {
         Ok(Offsets {
             offsets: Vec::from_slice(*self.offsets.allocator(), &self.offsets)?,
@@ -305,7 +306,7 @@ impl<O: Offset> Offsets<O> {
     /// `OutOfMemory` where memory is refused; the offsets are then lost.
     pub fn freeze(self) -> Result<OffsetsBuffer<O>, Error>
         ensures ok { IfOk result (λ frozen. frozen ≡ self) }
-        ensures err { IfErr result (λ e. e ≡ Error.OutOfMemory) }
+        ensures err { OnlyOutOfMemory result }
     {
         let Offsets { offsets } = self;
         Ok(OffsetsBuffer {

@@ -2,6 +2,7 @@
 ghost use Rattle.std.specs.Prelude.{◌≡◌, ◌+◌, ◌<◌, ◌≤◌, pos, [], ◌∷◌, length, map, take, drop, slice_index, IfOk};
 ghost use Rattle.std.specs.Prelude.{IfErr};
 ghost use Rattle.either.specs.Either.{MatchEither};
+ghost use Rattle.arrow_types.specs.Failures.{OnlyOutOfMemory};
 ghost use Rattle.arrow_memory.specs.Offsets.{first_of, last_of, IsOffsets, KeepsOffsets, numbers_of};
 
 use crate::buffer::Buffer;
@@ -39,7 +40,7 @@ impl<O: Offset> OffsetsBuffer<O> {
     /// `OutOfMemory` where memory is refused.
     pub fn new(alloc: Global) -> Result<Self, Error>
         ensures ok { IfOk result (λ offsets. offsets ≡ 0 ∷ []) }
-        ensures err { IfErr result (λ e. e ≡ Error.OutOfMemory) }
+        ensures err { OnlyOutOfMemory result }
     {
         Offsets::new(alloc)?.freeze()
     }
@@ -50,7 +51,7 @@ impl<O: Offset> OffsetsBuffer<O> {
     /// `OutOfMemory` where one owner more can't be counted.
     pub fn clone(&self) -> Result<Self, Error>
         ensures ok { IfOk result (λ copy. copy ≡ self.now) }
-        ensures err { IfErr result (λ e. e ≡ Error.OutOfMemory) }
+        ensures err { OnlyOutOfMemory result }
     {
         Ok(OffsetsBuffer {
             offsets: self.offsets.clone()?,

@@ -1,5 +1,6 @@
 //! Offsets of one width as those of the other.
 ghost use Rattle.std.specs.Prelude.{◌≡◌, ◌<◌, ◌≤◌, pos, length, map, IfOk, IfErr};
+ghost use Rattle.arrow_types.specs.Failures.{OnlyOutOfMemory};
 ghost use Rattle.arrow_memory.specs.Offsets.{last_of, KeepsOffsets, MatchGrowth, numbers_of};
 
 use crate::buffer::Buffer;
@@ -55,7 +56,7 @@ impl OffsetsBuffer<i32> {
     /// `OutOfMemory` where memory is refused.
     pub fn widen(&self) -> Result<OffsetsBuffer<i64>, Error>
         ensures ok { IfOk result (λ wide. wide ≡ self.now) }
-        ensures err { IfErr result (λ e. e ≡ Error.OutOfMemory) }
+        ensures err { OnlyOutOfMemory result }
     {
         // The last offset is below every number that needs more than 32 bits.
         self.last();

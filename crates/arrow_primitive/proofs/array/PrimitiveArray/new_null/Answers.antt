@@ -1,4 +1,4 @@
-use Rattle.std.proofs.Common.{◌≡◌, replicate, false, Some, length, ap, ap₂, sym, ◌∙◌}
+use Rattle.std.proofs.Common.{false, Some, length, ap, ap₂, sym, ◌∙◌}
 use Rattle.arrow_types.specs.Types.{logical_type}
 use Rattle.arrow_column.specs.Column.{column_of_parts}
 use Rattle.arrow_primitive.proofs.SlotLemmas.{filled, long-replicate}
