@@ -1,12 +1,10 @@
 //! Bytes that checks of text read, and what the reading costs.
 ghost use Rattle.std.specs.Prelude.{◌≡◌, ◌+◌, ◌<◌, ◌≤◌, ◌↔◌, IsTrue, MatchBool, length, take, drop, slice_get, Some};
 ghost use Rattle.std.specs.Str.{IsAscii, IsNotAscii};
-ghost use Rattle.arrow_check.specs.Reading.{no_cost, many_more, one_more, after_ascii, after_whole_test, after_look, after_looks};
+ghost use Rattle.arrow_check.specs.Reading.{no_cost, one_more, after_ascii, after_whole_test, after_look};
 ghost use Rattle.arrow_check.specs.Utf8.{IsWellFormed};
 
 use crate::judge::Judge;
-use crate::window::is_cut_text;
-use arrow_types::offset::Offset;
 use std::marker::Model;
 
 /// One more, up to the greatest number.
@@ -15,14 +13,6 @@ fn one_more(count: u64) -> u64
     ensures { result ≡ one_more count }
 {
     count.saturating_add(1)
-}
-
-/// So many more, up to the greatest number.
-#[inline(always)]
-fn many_more(count: u64, steps: usize) -> u64
-    ensures { result ≡ many_more steps count }
-{
-    count.saturating_add(steps as u64)
 }
 
 /// Whether bytes are UTF-8.
@@ -152,22 +142,6 @@ impl<'a> TextBytes<'a> {
         self.bytes.len()
     }
 
-    /// Counts one test for UTF-8.
-    #[inline(always)]
-    fn count_whole_test(&mut self)
-        ensures { self.new ≡ after_whole_test self.old }
-    {
-        self.cost.whole_tests = one_more(self.cost.whole_tests);
-    }
-
-    /// Counts so many looks at a byte.
-    #[inline(always)]
-    fn count_looks(&mut self, looks: usize)
-        ensures { self.new ≡ after_looks looks self.old }
-    {
-        self.cost.bytes_looked = many_more(self.cost.bytes_looked, looks);
-    }
-
     /// Whether the `len` bytes from `offset` on are ASCII: all below 80 (hexadecimal).
     #[inline(always)]
     pub fn ascii(&mut self, offset: usize, len: usize) -> bool
@@ -186,7 +160,7 @@ impl<'a> TextBytes<'a> {
         ensures answer { IsTrue result ↔ IsWellFormed (take len (drop offset self.old.bytes)) }
         ensures counted { self.new ≡ after_whole_test self.old }
     {
-        self.count_whole_test();
+        self.cost.whole_tests = one_more(self.cost.whole_tests);
         is_text(&self.bytes[offset..offset + len])
     }
 
@@ -246,14 +220,5 @@ impl<'a> Judge for TextBytes<'a> {
     #[inline(always)]
     fn bytes_looked(&self) -> u64 {
         self.cost.bytes_looked
-    }
-
-    /// Each part of the bytes is tested and then looked at, while it is at hand.
-    #[inline(always)]
-    fn test_cut<O: Offset>(&mut self, offsets: &[O]) -> bool {
-        let (is_cut, looks) = is_cut_text(self.bytes, offsets);
-        self.count_whole_test();
-        self.count_looks(looks);
-        is_cut
     }
 }
