@@ -1,5 +1,5 @@
 //! The builder of arrays of truth values.
-ghost use Rattle.std.specs.Prelude.{◌≡◌, ◌<◌, length, false, None, OnOk, IfOk, IfErr};
+ghost use Rattle.std.specs.Prelude.{◌≡◌, ◌<◌, length, false, None, OnOk, IfOk, IfErr, IsOk};
 ghost use Rattle.std.specs.Option.{option_copied};
 ghost use Rattle.arrow_types.specs.Types.{logical_type, IsRightType};
 ghost use Rattle.arrow_column.specs.Column.{IsColumn, append_slot, empty_column, last_slot, mask_of, stored_values, with_slot, without_last};
@@ -172,10 +172,10 @@ impl MutableBooleanArray {
     /// Gives back the room that is not used.
     ///
     /// # Errors
-    /// Never: where smaller memory is refused, the room stays.
+    /// Never: if the allocator refuses a smaller allocation, the room stays.
     pub fn shrink_to_fit(&mut self) -> Result<(), Error>
         ensures kept { self.new ≡ self.old }
-        ensures err { IfErr result (λ e. e ≡ Error.OutOfMemory) }
+        ensures ok { IsOk result }
     {
         self.column.shrink_to_fit()
     }

@@ -1,5 +1,5 @@
 //! The builder of arrays of one kind.
-ghost use Rattle.std.specs.Prelude.{◌≡◌, ◌≤◌, [], is_some, IsTrue, length, None, OnOk, IfOk, IfErr, option_map};
+ghost use Rattle.std.specs.Prelude.{◌≡◌, ◌≤◌, [], is_some, IsTrue, length, None, OnOk, IfOk, IfErr, option_map, IsOk};
 ghost use Rattle.std.specs.Option.{option_copied};
 ghost use Rattle.arrow_types.specs.Types.{logical_type, IsRightType};
 ghost use Rattle.arrow_memory.specs.Rows.{FitsMask};
@@ -218,10 +218,10 @@ impl<K: ByteKind, O: Offset> MutableByteArray<K, O> {
     /// Gives back the room that is not used.
     ///
     /// # Errors
-    /// Never: where smaller memory is refused, the room stays.
+    /// Never: if the allocator refuses a smaller allocation, the room stays.
     pub fn shrink_to_fit(&mut self) -> Result<(), Error>
         ensures kept { self.new ≡ self.old }
-        ensures err { IfErr result (λ e. e ≡ Error.OutOfMemory) }
+        ensures ok { IsOk result }
     {
         self.column.shrink_to_fit()
     }

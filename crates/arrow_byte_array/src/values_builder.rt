@@ -1,5 +1,5 @@
 //! The builder of arrays of one kind without nulls.
-ghost use Rattle.std.specs.Prelude.{◌≡◌, ◌≤◌, [], false, is_some, IsTrue, length, None, Some, OnOk, IfOk, IfErr, option_map};
+ghost use Rattle.std.specs.Prelude.{◌≡◌, ◌≤◌, [], false, is_some, IsTrue, length, None, Some, OnOk, IfOk, IfErr, option_map, IsOk};
 ghost use Rattle.arrow_types.specs.Types.{logical_type, IsRightType};
 ghost use Rattle.arrow_column.specs.Column.{all_valid, append_slot, last_slot, stored_values, without_last, without_needless_mask};
 ghost use Rattle.arrow_memory.specs.Offsets.{last_of};
@@ -193,10 +193,10 @@ impl<K: ByteKind, O: Offset> MutableByteValuesArray<K, O> {
     /// Gives back the room that is not used.
     ///
     /// # Errors
-    /// Never: where smaller memory is refused, the room stays.
+    /// Never: if the allocator refuses a smaller allocation, the room stays.
     pub fn shrink_to_fit(&mut self) -> Result<(), Error>
         ensures kept { self.new ≡ self.old }
-        ensures err { IfErr result (λ e. e ≡ Error.OutOfMemory) }
+        ensures ok { IsOk result }
     {
         self.column.shrink_to_fit()
     }

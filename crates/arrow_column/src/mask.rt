@@ -1,5 +1,5 @@
 //! Masks, which are held or not.
-ghost use Rattle.std.specs.Prelude.{IsTrue, ◌↔◌, slice_set, ◌≡◌, ◌<◌, true, false, [], ◌∷◌, ◌++◌, replicate, Some, option_map, unwrap_or, length, take, drop, ◌+◌, ◌≤◌, IfSome, OnOk, IfOk, IfErr};
+ghost use Rattle.std.specs.Prelude.{IsTrue, ◌↔◌, slice_set, ◌≡◌, ◌<◌, true, false, [], ◌∷◌, ◌++◌, replicate, Some, option_map, unwrap_or, length, take, drop, ◌+◌, ◌≤◌, IfSome, OnOk, IfOk, IfErr, IsOk};
 ghost use Rattle.arrow_memory.specs.MarkWrites.{TakesLastMark};
 ghost use Rattle.arrow_memory.specs.Rows.{IsValidAt};
 ghost use Rattle.arrow_column.specs.Masks.{joined_mask, mask_with_nulls};
@@ -252,7 +252,7 @@ pub(crate) fn reserve_marks(
 /// Gives back the room that is not used, where a mask is held.
 pub(crate) fn shrink_marks(validity: &mut Option<MutableBitmap>) -> Result<(), Error>
     ensures kept { validity.new ≡ validity.old }
-    ensures err { IfErr result (λ e. e ≡ Error.OutOfMemory) }
+    ensures ok { IsOk result }
 {
     match validity {
         None => Ok(()),

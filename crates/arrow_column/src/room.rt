@@ -1,5 +1,5 @@
 //! The room of columns, and their clones.
-ghost use Rattle.std.specs.Prelude.{◌≡◌, IfOk, IfErr};
+ghost use Rattle.std.specs.Prelude.{◌≡◌, IfOk, IfErr, IsOk};
 
 use crate::mask::{copy_marks, reserve_marks, share_mask, shrink_marks};
 use crate::values::{MutableValues, Values};
@@ -51,10 +51,10 @@ impl<V: MutableValues> GrowingColumn<V> {
     /// Gives back the room that is not used.
     ///
     /// # Errors
-    /// Never: where smaller memory is refused, the room stays.
+    /// Never: if the allocator refuses a smaller allocation, the room stays.
     pub fn shrink_to_fit(&mut self) -> Result<(), Error>
         ensures kept { self.new ≡ self.old }
-        ensures err { IfErr result (λ e. e ≡ Error.OutOfMemory) }
+        ensures ok { IsOk result }
     {
         self.values.drop_room()?;
         shrink_marks(&mut self.validity)

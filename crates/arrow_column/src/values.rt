@@ -1,5 +1,5 @@
 //! The stored values that columns are made of.
-ghost use Rattle.std.specs.Prelude.{refl, slice_set, replicate, ◌<◌, IfOk, ◌≡◌, ℕ, ◌+◌, ◌-◌, ◌≤◌, List, Bool, false, [], ◌∷◌, ◌++◌, length, take, drop, OnOk, IfErr};
+ghost use Rattle.std.specs.Prelude.{refl, slice_set, replicate, ◌<◌, IfOk, ◌≡◌, ℕ, ◌+◌, ◌-◌, ◌≤◌, List, Bool, false, [], ◌∷◌, ◌++◌, length, take, drop, OnOk, IfErr, IsOk};
 ghost use Rattle.arrow_column.specs.Column.{refused_growth};
 
 use arrow_memory::bitmap::{Bitmap, MutableBitmap};
@@ -181,7 +181,7 @@ pub trait MutableValues: Drop {
     fn drop_room(&mut self) -> Result<(), Error>
         ensures stored { stored self.new ≡ stored self.old }
         ensures around { around self.new ≡ around self.old }
-        ensures err { IfErr result (λ e. e ≡ Error.OutOfMemory) };
+        ensures ok { IsOk result };
 
     /// A copy of the values.
     ///

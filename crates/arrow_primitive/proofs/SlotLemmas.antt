@@ -2,7 +2,7 @@
 use Rattle.std.proofs.Common.{◌≡◌, ℕ, zero, suc, List, [], ◌∷◌, length, map, replicate, Option, Some, None, option_map, Result, Ok, Err, OnOk, IfErr, refl, ap, ap₂, false, take, ◌++◌, ◌-◌, ◌∙◌, arith}
 use Rattle.arrow_types.specs.Types.{LogicalType}
 use Rattle.arrow_column.specs.Column.{Column, ColumnWith, append_slots, column_of_parts, empty_column, slot_overflows, without_needless_mask}
-use Rattle.arrow_column.proofs.ColumnLemmas.{all-bare, appended-values, needless-bare}
+use Rattle.arrow_column.proofs.CallerLemmas.{all-bare, appended-values, needless-bare}
 
 same-slot : {X : Type 0} (slot : Option X) → option_map (λ x. x) slot ≡ slot
 same-slot None = refl

@@ -1,9 +1,9 @@
 //! Arrays and builders made of parts from outside, which are tested.
-ghost use Rattle.std.specs.Prelude.{◌≡◌, IsOkAnd, IsErrAnd};
-ghost use Rattle.arrow_types.specs.Types.{logical_type, refusal, IsRightType};
-ghost use Rattle.arrow_memory.specs.Rows.{FitsMask};
-ghost use Rattle.arrow_column.specs.Column.{column_of_parts, unfit_mask};
-ghost use Rattle.arrow_primitive.specs.Fits.{wrong_type};
+ghost use Rattle.std.specs.Prelude.{◌≡◌, IfOk, IfErr};
+ghost use Rattle.arrow_types.specs.Types.{logical_type, refusal};
+ghost use Rattle.arrow_column.specs.Acceptance.{IsFirstFailure, Passes};
+ghost use Rattle.arrow_column.specs.Column.{column_of_parts};
+ghost use Rattle.arrow_primitive.specs.Fits.{parts_tests};
 
 use crate::{MutablePrimitiveArray, PrimitiveArray};
 use arrow_column::{GrowingColumn, is_growing_mask_of, is_mask_of};
@@ -32,9 +32,10 @@ impl<T: NativeType> PrimitiveArray<T> {
         values: Buffer<T>,
         validity: Option<Bitmap>,
     ) -> Result<Self, Error>
-        ensures fit { FitsMask values validity → IsRightType (PhysicalType.Primitive T.PRIMITIVE) (logical_type data_type) → IsOkAnd result (λ array. array ≡ column_of_parts (logical_type data_type) values validity) }
-        ensures mask { (FitsMask values validity → ⊥) → IsErrAnd result (λ e. refusal e ≡ unfit_mask) }
-        ensures data_type { FitsMask values validity → (IsRightType (PhysicalType.Primitive T.PRIMITIVE) (logical_type data_type) → ⊥) → IsErrAnd result (λ e. refusal e ≡ wrong_type) }
+        ensures ok { let t = logical_type data_type in IfOk result (λ array.
+            Passes (parts_tests T.PRIMITIVE t values validity) × (array ≡ column_of_parts t values validity)) }
+        ensures err { IfErr result (λ e.
+            IsFirstFailure (parts_tests T.PRIMITIVE (logical_type data_type) values validity) (refusal e)) }
     {
         if !is_mask_of(&validity, values.len()) {
             return Err(Error::OutOfSpec(UNFIT_MASK));
@@ -54,9 +55,10 @@ impl<T: NativeType> PrimitiveArray<T> {
         values: Buffer<T>,
         validity: Option<Bitmap>,
     ) -> Result<Self, Error>
-        ensures fit { FitsMask values validity → IsRightType (PhysicalType.Primitive T.PRIMITIVE) (logical_type data_type) → IsOkAnd result (λ array. array ≡ column_of_parts (logical_type data_type) values validity) }
-        ensures mask { (FitsMask values validity → ⊥) → IsErrAnd result (λ e. refusal e ≡ unfit_mask) }
-        ensures data_type { FitsMask values validity → (IsRightType (PhysicalType.Primitive T.PRIMITIVE) (logical_type data_type) → ⊥) → IsErrAnd result (λ e. refusal e ≡ wrong_type) }
+        ensures ok { let t = logical_type data_type in IfOk result (λ array.
+            Passes (parts_tests T.PRIMITIVE t values validity) × (array ≡ column_of_parts t values validity)) }
+        ensures err { IfErr result (λ e.
+            IsFirstFailure (parts_tests T.PRIMITIVE (logical_type data_type) values validity) (refusal e)) }
     {
         PrimitiveArray::try_new(data_type, values, validity)
     }
@@ -73,9 +75,10 @@ impl<T: NativeType> MutablePrimitiveArray<T> {
         values: Vec<T>,
         validity: Option<MutableBitmap>,
     ) -> Result<Self, Error>
-        ensures fit { FitsMask values.items validity → IsRightType (PhysicalType.Primitive T.PRIMITIVE) (logical_type data_type) → IsOkAnd result (λ builder. builder ≡ column_of_parts (logical_type data_type) values.items validity) }
-        ensures mask { (FitsMask values.items validity → ⊥) → IsErrAnd result (λ e. refusal e ≡ unfit_mask) }
-        ensures data_type { FitsMask values.items validity → (IsRightType (PhysicalType.Primitive T.PRIMITIVE) (logical_type data_type) → ⊥) → IsErrAnd result (λ e. refusal e ≡ wrong_type) }
+        ensures ok { let t = logical_type data_type in IfOk result (λ builder.
+            Passes (parts_tests T.PRIMITIVE t values.items validity) × (builder ≡ column_of_parts t values.items validity)) }
+        ensures err { IfErr result (λ e.
+            IsFirstFailure (parts_tests T.PRIMITIVE (logical_type data_type) values.items validity) (refusal e)) }
     {
         if !is_growing_mask_of(&validity, values.len()) {
             return Err(Error::OutOfSpec(UNFIT_MASK));

@@ -230,7 +230,6 @@ fn growths(rt: HostRuntime) -> Result<(), Fail> {
 /// The calls that make offsets.
 pub(crate) enum Made {
     New,
-    Default,
     NewZeroed,
     WithCapacity,
     Clone,
@@ -242,7 +241,6 @@ impl Making for Offsets<i32> {
     fn make(alloc: Global, call: &Made) -> Result<Offsets<i32>, Error> {
         match call {
             Made::New => Offsets::new(alloc),
-            Made::Default => Offsets::default(alloc),
             Made::NewZeroed => Offsets::new_zeroed(alloc, 2),
             Made::WithCapacity => Offsets::with_capacity(alloc, 3),
             Made::Clone => copy_of(Offsets::small(alloc)),
@@ -253,7 +251,6 @@ impl Making for Offsets<i32> {
 /// Each of the calls, and the offsets that it makes.
 const MADE: &[(Made, Roomy)] = &[
     (Made::New, (&[0], 0)),
-    (Made::Default, (&[0], 0)),
     (Made::NewZeroed, (&[0, 0, 0], 2)),
     (Made::WithCapacity, (&[0], 3)),
     (Made::Clone, (&[0, 2], 1)),
@@ -262,7 +259,6 @@ const MADE: &[(Made, Roomy)] = &[
 /// The calls that make frozen offsets.
 pub(crate) enum Frozen {
     New,
-    Default,
     Freeze,
     Clone,
     Widen,
@@ -299,7 +295,6 @@ impl Making for OffsetsBuffer<i32> {
     fn make(alloc: Global, call: &Frozen) -> Result<OffsetsBuffer<i32>, Error> {
         match call {
             Frozen::New => OffsetsBuffer::new(alloc),
-            Frozen::Default => OffsetsBuffer::default(alloc),
             Frozen::Freeze => freeze(narrow(alloc, [0].as_slice())),
             Frozen::Clone => copy_of(OffsetsBuffer::new(alloc)),
             Frozen::Widen => narrowed(widened(OffsetsBuffer::new(alloc))),
@@ -311,7 +306,6 @@ impl Making for OffsetsBuffer<i32> {
 /// Each of the calls, and the offsets that it makes.
 const FROZEN: &[(Frozen, &'static [usize])] = &[
     (Frozen::New, &[0]),
-    (Frozen::Default, &[0]),
     (Frozen::Freeze, &[0]),
     (Frozen::Clone, &[0]),
     (Frozen::Widen, &[0]),

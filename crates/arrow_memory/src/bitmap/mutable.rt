@@ -1,5 +1,5 @@
 //! Lists of marks that grow.
-ghost use Rattle.std.specs.Prelude.{◌≡◌, ℕ, ◌<◌, ◌+◌, ◌↔◌, ◌==◌, IsTrue, [], ◌∷◌, ◌++◌, count_by, length, not, replicate, slice_get, slice_set, take, Some, IfSome, OnOk, IfOk, IfErr, IsOkAnd, IsErrAnd, MatchOption, ◌*◌, ◌≤◌, vec_len};
+ghost use Rattle.std.specs.Prelude.{◌≡◌, ℕ, ◌<◌, ◌+◌, ◌↔◌, ◌==◌, IsTrue, [], ◌∷◌, ◌++◌, count_by, length, not, replicate, slice_get, slice_set, take, Some, IfSome, OnOk, IfOk, IfErr, MatchOption, ◌*◌, ◌≤◌, vec_len, IsOk};
 ghost use Rattle.std.specs.Int.{bit_at};
 ghost use Rattle.arrow_memory.specs.Marks.{bits_of, marks, bits_past_bytes};
 ghost use Rattle.arrow_memory.specs.Rows.{AgreeWhere};
@@ -76,8 +76,8 @@ impl MutableBitmap {
     /// # Errors
     /// `OutOfSpec` where the bytes have fewer bits; they are then lost.
     pub fn try_new(bytes: Vec<u8>, length: usize) -> Result<Self, Error>
-        ensures fit { length ≤ 8 * vec_len bytes → IsOkAnd result (λ bitmap. bitmap ≡ marks bytes.items 0 length) }
-        ensures unfit { 8 * vec_len bytes < length → IsErrAnd result (λ e. refusal e ≡ bits_past_bytes) }
+        ensures ok { IfOk result (λ bitmap. (length ≤ 8 * vec_len bytes) × (bitmap ≡ marks bytes.items 0 length)) }
+        ensures err { IfErr result (λ e. (8 * vec_len bytes < length) × (refusal e ≡ bits_past_bytes)) }
     {
         fits_bytes(bytes.len(), length)?;
         Ok(MutableBitmap { bytes, length })
@@ -125,10 +125,10 @@ impl MutableBitmap {
     /// Gives back room that no mark needs, where the allocator takes it back.
     ///
     /// # Errors
-    /// Never: where smaller memory is refused, the room stays.
+    /// Never: if the allocator refuses a smaller allocation, the room stays.
     pub fn shrink_to_fit(&mut self) -> Result<(), Error>
         ensures kept { self.new ≡ self.old }
-        ensures err { IfErr result (λ e. e ≡ Error.OutOfMemory) }
+        ensures ok { IsOk result }
     {
         self.bytes.truncate(self.length.div_ceil(8));
         self.bytes.shrink_to_fit();

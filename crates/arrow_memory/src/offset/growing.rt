@@ -1,5 +1,5 @@
 //! Offsets that grow.
-ghost use Rattle.std.specs.Prelude.{◌≡◌, ◌+◌, ◌-◌, ◌<◌, ◌≤◌, pos, [], ◌∷◌, ◌++◌, length, map, take, replicate, slice_index, None, OnOk, IfOk, IfErr, MatchOption};
+ghost use Rattle.std.specs.Prelude.{◌≡◌, ◌+◌, ◌-◌, ◌<◌, ◌≤◌, pos, [], ◌∷◌, ◌++◌, length, map, take, replicate, slice_index, None, OnOk, IfOk, IfErr, MatchOption, IsOk};
 ghost use Rattle.arrow_types.specs.Types.{refusal, out_of_spec};
 ghost use Rattle.arrow_memory.specs.Offsets.{first_of, last_of, IsOffsets, KeepsOffsets, first_fault, numbers_of, moved_behind, MatchGrowth};
 
@@ -41,17 +41,6 @@ impl<O: Offset> Offsets<O> {
         ensures err { IfErr result (λ e. e ≡ Error.OutOfMemory) }
     {
         Offsets::with_capacity(alloc, 0)
-    }
-
-    /// No slot, as [`Offsets::new`].
-    ///
-    /// # Errors
-    /// `OutOfMemory` where memory is refused.
-    pub fn default(alloc: Global) -> Result<Self, Error>
-        ensures ok { IfOk result (λ offsets. offsets ≡ 0 ∷ []) }
-        ensures err { IfErr result (λ e. e ≡ Error.OutOfMemory) }
-    {
-        Offsets::new(alloc)
     }
 
     /// So many empty slots: all offsets are zero.
@@ -272,10 +261,10 @@ impl<O: Offset> Offsets<O> {
     /// Gives back room that no offset needs, where the allocator takes it back.
     ///
     /// # Errors
-    /// Never: where smaller memory is refused, the room stays.
+    /// Never: if the allocator refuses a smaller allocation, the room stays.
     pub fn shrink_to_fit(&mut self) -> Result<(), Error>
         ensures kept { self.new ≡ self.old }
-        ensures err { IfErr result (λ e. e ≡ Error.OutOfMemory) }
+        ensures ok { IsOk result }
     {
         self.offsets.shrink_to_fit();
         Ok(())

@@ -43,17 +43,6 @@ impl<O: Offset> OffsetsBuffer<O> {
         Offsets::new(alloc)?.freeze()
     }
 
-    /// No slot, as [`OffsetsBuffer::new`].
-    ///
-    /// # Errors
-    /// `OutOfMemory` where memory is refused.
-    pub fn default(alloc: Global) -> Result<Self, Error>
-        ensures ok { IfOk result (λ offsets. offsets ≡ 0 ∷ []) }
-        ensures err { IfErr result (λ e. e ≡ Error.OutOfMemory) }
-    {
-        OffsetsBuffer::new(alloc)
-    }
-
     /// The same offsets, which are not copied.
     ///
     /// # Errors

@@ -1,7 +1,7 @@
 use Rattle.std.proofs.Common.{◌≡◌, ◌+◌, ◌≤◌, length, map, take, drop, ap, ap₂, ◌∙◌, sym, arith}
 use Rattle.std.proofs.lemmas.List.{take-map, drop-map}
 use Rattle.arrow_column.specs.Column.{stored_values}
-use Rattle.arrow_memory.proofs.PieceLemmas.{length-piece, piece-piece}
+use Rattle.arrow_memory.proofs.CallerLemmas.{length-piece, piece-piece}
 use Rattle.arrow_column.proofs.laws.cut_of_cut.Goals as goal
 
 pub returns : goal.returns
