@@ -1,6 +1,6 @@
 use Rattle.std.proofs.Common.{arith}
 use Rattle.std.proofs.lemmas.Int.{ints}
-use Rattle.arrow_memory.proofs.OffsetLemmas.{value-at, not-negative}
+use Rattle.arrow_memory.proofs.CallerLemmas.{value-at, not-negative}
 use Rattle.arrow_check.proofs.bounds.number_at.Goals as goal
 
 pub to_usize-requires : goal.to_usize-requires

@@ -1,7 +1,7 @@
 use Rattle.std.proofs.Common.{◌-◌, length, refl, sym, subst, ap, ◌∙◌, arith, rules}
 use Rattle.std.proofs.lemmas.Bool.{false≢true}
 use Rattle.arrow_memory.specs.Offsets.{numbers_of}
-use Rattle.arrow_memory.proofs.OffsetLemmas.{length-numbers}
+use Rattle.arrow_memory.proofs.CallerLemmas.{length-numbers}
 use Rattle.arrow_check.specs.Reading.{LooksAtMost, ReadsAtMost, after_ascii, after_looks, after_whole_test}
 use Rattle.arrow_check.specs.Windows.{window_of, inner_before_end, InnerCutBetween}
 use Rattle.arrow_check.proofs.CountLemmas.{reads-all, reads-ascii}
