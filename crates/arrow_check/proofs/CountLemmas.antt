@@ -1,7 +1,7 @@
 -- How often acts were done, one after the other.
-use Rattle.std.proofs.Common.{◌≡◌, ℕ, zero, suc, ◌+◌, ◌<◌, ◌-◌, ◌≤◌, ◌^◌, min, refl, sym, subst, ap, ◌∙◌, arith}
+use Rattle.std.proofs.Common.{ℕ, zero, suc, ◌+◌, ◌≤◌, refl, sym, subst, ◌∙◌, arith}
 use Rattle.std.proofs.lemmas.Bool.Decides.{nat_tests}
-use Rattle.arrow_check.specs.Reading.{Reading, LooksAtMost, RisesAtMost, ReadsAtMost, many_more, one_more, after_ascii, after_whole_test, after_look, after_looks}
+use Rattle.arrow_check.specs.Reading.{Reading, LooksAtMost, RisesAtMost, ReadsAtMost, one_more, after_ascii, after_whole_test, after_look, after_looks}
 
 rises-then : (a b old now new : ℕ) → RisesAtMost a old now → RisesAtMost b now new → RisesAtMost (a + b) old new
 rises-then a b old now new first then = record { never_falls = omega arith; most = omega arith }

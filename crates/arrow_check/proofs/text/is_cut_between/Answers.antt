@@ -2,7 +2,6 @@ use Rattle.std.proofs.Common.{◌+◌, ◌-◌, ◌≡◌, ◌∙◌, ap, arith}
 use Rattle.arrow_memory.specs.Offsets.{numbers_of}
 use Rattle.arrow_memory.proofs.CallerLemmas.{length-numbers}
 use Rattle.arrow_check.specs.Reading.{after_looks}
-use Rattle.arrow_check.specs.Windows.{inner_before_end}
 use Rattle.arrow_check.proofs.InnerLemmas.{inner-count}
 use Rattle.arrow_check.proofs.text.is_cut_between.Goals as goal
 
