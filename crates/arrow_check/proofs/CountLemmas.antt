@@ -1,7 +1,7 @@
 -- How often acts were done, one after the other.
-use Rattle.std.proofs.Common.{◌≡◌, ℕ, zero, suc, ◌+◌, ◌<◌, ◌-◌, ◌≤◌, ◌^◌, min, refl, sym, subst, ap, ◌∙◌, arith}
+use Rattle.std.proofs.Common.{ℕ, zero, suc, ◌+◌, ◌≤◌, refl, sym, subst, ◌∙◌, arith}
 use Rattle.std.proofs.lemmas.Bool.Decides.{nat_tests}
-use Rattle.arrow_check.specs.Reading.{Reading, LooksAtMost, RisesAtMost, ReadsAtMost, many_more, one_more, after_ascii, after_whole_test, after_look, after_looks}
+use Rattle.arrow_check.specs.Reading.{Reading, LooksAtMost, RisesAtMost, ReadsAtMost, one_more, after_ascii, after_whole_test, after_look, after_looks}
 
 rises-then : (a b old now new : ℕ) → RisesAtMost a old now → RisesAtMost b now new → RisesAtMost (a + b) old new
 rises-then a b old now new first then = record { never_falls = omega arith; most = omega arith }
@@ -30,9 +30,6 @@ rises-one n = record { never_falls = grind (arith, nat_tests); most = grind (ari
 stays : (n : ℕ) → RisesAtMost 0 n n
 stays n = record { never_falls = omega arith; most = omega arith }
 
-one-behind : (c n : ℕ) → c < 2 ^ 64 → one_more (min (c + n) (2 ^ 64 - 1)) ≡ min (c + suc n) (2 ^ 64 - 1)
-one-behind c n fits = grind (arith, nat_tests)
-
 looks-read : (n : ℕ) (r : Reading) → ReadsAtMost 0 0 n r (after_looks n r)
 looks-read zero r = record { bytes = refl; ascii = stays _; whole = stays _; looked = stays _ }
 looks-read (suc n) r =
@@ -50,8 +47,3 @@ reads-all most r new looked =
     let looks = looks-read looked.looks (after_whole_test (after_ascii r)) in
     subst (ReadsAtMost 1 1 most r) (sym looked.is)
     (reads-within 1 1 (0 + looked.looks) 1 1 most r _ (omega arith) (omega arith) (omega (arith, looked.few)) (reads-then 1 1 0 0 0 looked.looks r _ _ both looks))
-
--- steps one after the other are counted as all of them at once
-pub many-at-once : (steps count : ℕ) → count < 2 ^ 64 → many_more steps count ≡ min (count + steps) (2 ^ 64 - 1)
-many-at-once zero count fits = let e : count ≡ min (count + 0) (2 ^ 64 - 1) = omega arith in e
-many-at-once (suc steps) count fits = ap one_more (many-at-once steps count fits) ∙ one-behind count steps fits

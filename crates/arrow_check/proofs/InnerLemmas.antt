@@ -1,5 +1,5 @@
 -- How many of the inner offsets lie before the end of a window.
-use Rattle.std.proofs.Common.{◌≡◌, ℕ, zero, suc, ◌+◌, ◌-◌, ◌<◌, ◌≤◌, ◌≢◌, Bool, true, false, List, [], ◌∷◌, length, take, drop, get_or, refl, sym, ap, ◌∙◌, subst, arith, length-take, length-drop, inl, inr}
+use Rattle.std.proofs.Common.{◌≡◌, ℕ, zero, suc, ◌+◌, ◌-◌, ◌<◌, ◌≤◌, Bool, true, false, List, length, take, drop, get_or, refl, sym, ap, ◌∙◌, arith, length-take, length-drop, inl, inr}
 use Rattle.std.specs.Prelude.{count_by, nat_lt}
 use Rattle.std.proofs.lemmas.Bool.{cases_lt}
 use Rattle.std.proofs.lemmas.Bool.Decides.{nat_tests}
@@ -48,24 +48,6 @@ up-to offsets (suc n) within early =
     let one = inner-more offsets n (omega arith) (early (n + 1) (omega arith) (omega arith)) in
     let e : suc n ≡ n + 1 = omega arith in
     ap (λ k. inner_before k offsets) e ∙ one ∙ ap (λ k. k + 1) so_far ∙ sym e
-
--- an inner offset that is the end adds none
-pub inner-end : (offsets : List ℕ) (i : ℕ) → 0 < i → i + 1 < length offsets → get_or offsets i 0 ≡ last_of offsets → inner_before (i + 1 - 1) offsets ≡ inner_before (i - 1) offsets
-inner-end offsets i some more is =
-    let e : i + 1 - 1 ≡ i - 1 + 1 = omega arith in
-    let at : i - 1 + 1 ≡ i = omega arith in
-    ap (λ k. inner_before k offsets) e
-    ∙ inner-no-more offsets (i - 1) (omega arith) (let same = ap (λ k. get_or offsets k 0) at in omega (arith, same, is))
-
--- any other adds one
-pub inner-other : (offsets : List ℕ) (i : ℕ) → IsOffsets offsets → 0 < i → i + 1 < length offsets → get_or offsets i 0 ≢ last_of offsets → inner_before (i + 1 - 1) offsets ≡ suc (inner_before (i - 1) offsets)
-inner-other offsets i legal some more other =
-    let e : i + 1 - 1 ≡ i - 1 + 1 = omega arith in
-    let at : i - 1 + 1 ≡ i = omega arith in
-    let up = legal.order i (length offsets - 1) (omega arith) (omega arith) in
-    ap (λ k. inner_before k offsets) e
-    ∙ inner-more offsets (i - 1) (omega arith) (let same = ap (λ k. get_or offsets k 0) at in omega (arith, same, up, other))
-    ∙ (let one : inner_before (i - 1) offsets + 1 ≡ suc (inner_before (i - 1) offsets) = omega arith in one)
 
 -- and none behind it does
 from-on : (offsets : List ℕ) (n m : ℕ) → IsOffsets offsets → (n + 2 < length offsets → last_of offsets ≤ get_or offsets (n + 1) 0) → n + m + 2 ≤ length offsets → inner_before (n + m) offsets ≡ inner_before n offsets

@@ -1,6 +1,6 @@
 -- One test of a window and a look at each inner offset are a test of each item.
-use Rattle.std.proofs.Common.{◌≡◌, ℕ, zero, suc, ◌+◌, ◌-◌, ◌<◌, ◌≤◌, ◌↔◌, ◌≢◌, Some, slice_get, List, [], ◌∷◌, ◌++◌, length, take, drop, get_or, sym, ap, ◌∙◌, subst, inl, inr, arith, length-take, length-drop}
-use Rattle.std.proofs.lemmas.Bool.{cases_lt}
+use Rattle.std.proofs.Common.{◌≡◌, ℕ, zero, suc, ◌+◌, ◌-◌, ◌<◌, ◌≤◌, ◌↔◌, Bool, true, false, not, ◌&&◌, IsTrue, Some, slice_get, List, [], ◌∷◌, ◌++◌, length, take, drop, get_or, refl, sym, ap, ◌∙◌, subst, inl, inr, arith, length-take, length-drop}
+use Rattle.std.proofs.lemmas.Bool.{cases_lt, false≢true}
 use Rattle.std.proofs.lemmas.List.{drop-drop, drop-take, take-take, take-append-drop, get_or-take, get_or-drop}
 use Rattle.std.proofs.lemmas.Option.{get_or_from_slice_get}
 use Rattle.std.proofs.lemmas.List.Elements.{All-from_recursion, recursion_from_All, All-from_get_or, All-get_or}
@@ -11,7 +11,7 @@ use Rattle.arrow_memory.specs.Offsets.{first_of, last_of, NeverFalls, IsOffsets}
 use Rattle.arrow_check.specs.Pieces.{bytes_between, items_after, items_of}
 use Rattle.arrow_check.specs.Texts.{AreTexts, CutTexts}
 use Rattle.arrow_check.specs.Utf8.{IsWellFormed}
-use Rattle.arrow_check.specs.Windows.{IsContinuation, window_of, CutsBetween, CutsOne, InnerCutBetween, PassesWhole}
+use Rattle.arrow_check.specs.Windows.{IsContinuation, window_of, AllBegin, CutsBetween, InnerCutBetween, PassesWhole}
 use Rattle.arrow_check.proofs.Utf8Lemmas.{well_formed-IsUtf8}
 
 -- ---- texts that are joined and cut
@@ -159,60 +159,26 @@ slots-by-window (start ∷ ends) bytes legal within =
 pub window-read : (offsets bytes : List ℕ) (start end : ℕ) → start ≡ first_of offsets → end ≡ last_of offsets → bytes_between start end bytes ≡ window_of offsets bytes
 window-read offsets bytes start end from upto = λ k. bytes_between (from k) (upto k) bytes
 
-module _ (numbers old now : List ℕ) (end : ℕ) (stays : now ≡ old) (last : end ≡ last_of numbers) where
-  -- the inner offsets up to the last of them cut no character
-  pub inner-cut-all : (i : ℕ) → length numbers ≤ i + 1 → ((k : ℕ) → 0 < k → k < i → CutsBetween end now (get_or numbers k 0)) → InnerCutBetween numbers old
-  inner-cut-all i all so_far k some more =
-      subst (λ e. CutsBetween e old (get_or numbers k 0)) last (subst (λ b. CutsBetween end b (get_or numbers k 0)) stays (so_far k some (omega arith)))
+byte-at : (numbers old now : List ℕ) (i place byte : ℕ) → now ≡ old → place ≡ get_or numbers i 0 → slice_get now place ≡ Some byte
+    → byte ≡ get_or old (get_or numbers i 0) 0
+byte-at numbers old now i place byte stays is found = sym (get_or_from_slice_get now place byte 0 found) ∙ (λ k. get_or (stays k) (is k) 0)
 
-  -- one cuts a character
-  pub inner-broken : (i place byte : ℕ) → 0 < i → i + 1 < length numbers → place ≡ get_or numbers i 0 → place ≢ end → slice_get now place ≡ Some byte → IsContinuation byte → ¬ (InnerCutBetween numbers old)
-  inner-broken i place byte some more is other found goes inner =
-      elim (inner i some more) [
-        | inl same ↦ other (let e : place ≡ end = omega (arith, is, same, last) in e)
-        | inr begins ↦ begins (subst IsContinuation (sym (get_or_from_slice_get now place byte 0 found) ∙ (λ k. get_or (stays k) (is k) 0)) goes)
-      ]
-
-  -- one that was looked at cuts none
-  pub inner-begins : (i place byte : ℕ) → place ≡ get_or numbers i 0 → slice_get now place ≡ Some byte → ¬ (IsContinuation byte) → CutsBetween end old (get_or numbers i 0)
-  inner-begins i place byte is found begins =
-      inr (λ goes. begins (subst IsContinuation ((λ k. get_or (sym stays k) (sym is k) 0) ∙ get_or_from_slice_get now place byte 0 found) goes))
-
--- the inner offsets before one, and this one
-pub cuts-more : (numbers bytes : List ℕ) (end i : ℕ) → ((k : ℕ) → 0 < k → k < i → CutsBetween end bytes (get_or numbers k 0)) → CutsBetween end bytes (get_or numbers i 0)
-    → (k : ℕ) → 0 < k → k < i + 1 → CutsBetween end bytes (get_or numbers k 0)
-cuts-more numbers bytes end i so_far here k some low =
-    elim (cases_lt k i) [
-      | inl before ↦ so_far k some before
-      | inr past ↦ (let e : i ≡ k = omega arith in subst (λ j. CutsBetween end bytes (get_or numbers j 0)) e here)
-    ]
-
-module _ (numbers bytes : List ℕ) (end : ℕ) (last : end ≡ last_of numbers) where
-  -- what was looked at in two goes begins characters, and what follows is the end
-  pub looked-all : IsOffsets numbers → (first second : ℕ)
-      → ((k : ℕ) → 0 < k → k ≤ first → ¬ IsContinuation (get_or bytes (get_or numbers k 0) 0))
-      → ((k : ℕ) → first < k → k ≤ second → ¬ IsContinuation (get_or bytes (get_or numbers k 0) 0))
-      → (second + 2 < length numbers → end ≤ get_or numbers (second + 1) 0) → InnerCutBetween numbers bytes
-  looked-all legal first second before behind far k some more =
-      elim (cases_lt first k) [
-        | inr early ↦ inr (before k some early)
-        | inl later ↦ elim (cases_lt second k) [
-          | inr next ↦ inr (behind k later next)
-          | inl past ↦ inl (
-              let low = far (omega arith) in
-              let up = legal.order (second + 1) k (omega arith) (omega arith) in
-              let high = legal.order k (length numbers - 1) (omega arith) (omega arith) in
-              let e : get_or numbers k 0 ≡ last_of numbers = omega (arith, low, up, high, last) in e)
-        ]
-      ]
-
-  -- one that lies before the end cuts a character
-  pub cuts-one : CutsOne numbers bytes end → ¬ (InnerCutBetween numbers bytes)
-  cuts-one cut inner =
-      elim (inner cut.at cut.some cut.more) [
-        | inl same ↦ omega (arith, same, last, cut.before)
-        | inr begins ↦ begins cut.goes_on
-      ]
+-- one offset more was looked at
+pub begin-more : (numbers old now : List ℕ) (from i place byte : ℕ) (begins goes : Bool) → now ≡ old → from ≤ i
+    → place ≡ get_or numbers i 0 → slice_get now place ≡ Some byte → (IsTrue goes ↔ IsContinuation byte)
+    → (IsTrue begins ↔ AllBegin from i numbers old) → (IsTrue (begins && not goes) ↔ AllBegin from (i + 1) numbers old)
+begin-more numbers old now from i place byte false goes stays past is found says so_far =
+    (λ no. absurd (false≢true no), λ all. so_far.1 (λ k low high. all k low (omega arith)))
+begin-more numbers old now from i place byte true true stays past is found says so_far =
+    (λ no. absurd (false≢true no), λ all. absurd (all i past (omega arith) (subst IsContinuation (byte-at numbers old now i place byte stays is found) (says.0 refl))))
+begin-more numbers old now from i place byte true false stays past is found says so_far =
+    let here : ¬ IsContinuation (get_or old (get_or numbers i 0) 0) = λ goes. false≢true (says.1 (subst IsContinuation (sym (byte-at numbers old now i place byte stays is found)) goes)) in (
+      λ _ k low high. elim (cases_lt k i) [
+        | inl before ↦ so_far.0 refl k low before
+        | inr past ↦ (let e : i ≡ k = omega arith in subst (λ j. ¬ IsContinuation (get_or old (get_or numbers j 0) 0)) e here)
+      ],
+      λ _. refl,
+    )
 
 -- what is refused doesn't pass
 pub refused : (accepts : List ℕ → Type 0) (numbers old now : List ℕ) → now ≡ old → ¬ (accepts (window_of numbers now) × InnerCutBetween numbers now) → ¬ (PassesWhole accepts numbers old)

@@ -23,6 +23,10 @@ CutsBetween end bytes offset = (offset ≡ end) ⊎ (¬ IsContinuation (slice_in
 abbrev pub InnerCutBetween : List ℕ → List ℕ → Type 0
 InnerCutBetween offsets bytes = (i : ℕ) → 0 < i → i + 1 < length offsets → CutsBetween (last_of offsets) bytes (slice_index offsets i)
 
+-- a character may begin at each of the offsets from one place up to another
+abbrev pub AllBegin : ℕ → ℕ → List ℕ → List ℕ → Type 0
+AllBegin from upto offsets bytes = (i : ℕ) → from ≤ i → i < upto → ¬ IsContinuation (slice_index bytes (slice_index offsets i))
+
 -- the offsets lie within the bytes, a judge accepts their window, and the inner ones cut no character of it
 pub record PassesWhole (Accepts : List ℕ → Type 0) (offsets bytes : List ℕ) : Type 0 where
   pub within : last_of offsets ≤ length bytes
@@ -45,11 +49,3 @@ pub record ReadsOnce (Passes : Type 0) (offsets : List ℕ) (old new : Reading) 
   pub ascii : last_of offsets ≤ length old.bytes → IsAscii (window_of offsets old.bytes) → new ≡ after_ascii old
   pub other : last_of offsets ≤ length old.bytes → ¬ IsAscii (window_of offsets old.bytes) → LooksAtMost (length offsets - 2) (after_whole_test (after_ascii old)) new
   pub passed : Passes → ¬ IsAscii (window_of offsets old.bytes) → new ≡ after_looks (inner_before_end offsets) (after_whole_test (after_ascii old))
-
--- an inner offset before a place stands at a continuation byte
-pub record CutsOne (offsets bytes : List ℕ) (place : ℕ) : Type 0 where
-  pub at : ℕ
-  pub some : 0 < at
-  pub more : at + 1 < length offsets
-  pub before : slice_index offsets at < place
-  pub goes_on : IsContinuation (slice_index bytes (slice_index offsets at))
