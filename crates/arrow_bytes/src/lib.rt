@@ -8,6 +8,7 @@ mod equality;
 mod growing;
 mod items;
 mod kind;
+pub mod laws;
 mod thaw;
 mod utf8;
 mod values;
