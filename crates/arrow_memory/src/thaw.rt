@@ -11,8 +11,8 @@ use either::{Either, Left, Right};
 use std::mem;
 use std::rc::Rc;
 
-/// Takes two vectors out where that is asked for and no one else has either. Both are held for writing before
-/// one is taken, and empty ones, which need no memory, are left.
+/// Takes two vectors out of their shared owners if `wanted` and neither is shared. Both are
+/// borrowed for writing before either is taken, and empty vectors, which need no memory, are left.
 fn take_two<S, T>(
     asked: bool,
     first: &mut Rc<Vec<S>>,
@@ -38,7 +38,7 @@ fn take_two<S, T>(
     ))
 }
 
-/// Takes three vectors out, likewise.
+/// Takes three vectors out, as [`take_two`].
 fn take_three<S, T, U>(
     asked: bool,
     first: &mut Rc<Vec<S>>,
@@ -91,8 +91,9 @@ fn thaw_values<T: Drop>(
     }
 }
 
-/// The vector of the values and the marks to change, where no one else has either and both are shown
-/// from the first on, the values whole; else the parts as given.
+/// Converts values and their mask into a vector and a growing bitmap, without copying them, if
+/// neither is shared, the values show all of their vector, and the mask begins at its first bit.
+/// Otherwise returns both unchanged.
 pub fn into_mut_values<T: Drop>(
     values: Buffer<T>,
     validity: Option<Bitmap>,
@@ -112,7 +113,7 @@ pub fn into_mut_values<T: Drop>(
     }
 }
 
-/// Thaws bits and their mask.
+/// Thaws truth values and their mask.
 fn thaw_bits(
     values: Bitmap,
     mask: Bitmap,
@@ -134,8 +135,8 @@ fn thaw_bits(
     }
 }
 
-/// The bits and the marks to change, where no one else has either and both are shown from the first on;
-/// else the parts as given.
+/// Converts two bitmaps, values and mask, into growing ones, without copying them, if neither is
+/// shared and both begin at their first bit. Otherwise returns both unchanged.
 pub fn into_mut_bits(
     values: Bitmap,
     validity: Option<Bitmap>,
@@ -217,8 +218,9 @@ fn thaw_slots_with_mask<O: Offset>(
     }
 }
 
-/// The offsets, the bytes up to the last of them and the marks to change, where no one else has any of
-/// these and all are shown from the first on, the offsets whole; else the parts as given.
+/// Converts offsets, bytes and a mask into growing ones, without copying them, if none is shared,
+/// the offsets show all of their vector, and bytes and mask begin at the first place. Bytes after
+/// the last offset are cut off. Otherwise returns all unchanged.
 pub fn into_mut_bytes<O: Offset>(
     offsets: OffsetsBuffer<O>,
     values: Buffer<u8>,

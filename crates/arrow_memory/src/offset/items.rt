@@ -1,4 +1,4 @@
-//! Items that are appended together with their ends.
+//! Bytes that are appended together with the ends of their slots.
 ghost use Rattle.std.specs.Prelude.{◌≡◌, ◌+◌, ◌-◌, ◌<◌, ◌≤◌, [], ◌∷◌, ◌++◌, length, take, drop, OnOk, OnErr, IfErr};
 ghost use Rattle.arrow_memory.specs.Offsets.{first_of, last_of, IsOffsets, KeepsOffsets, MatchGrowth, moved_behind};
 ghost use Rattle.arrow_memory.specs.Offsets.{numbers_of};
@@ -9,7 +9,7 @@ use arrow_types::error::Error;
 use arrow_types::offset::Offset;
 use std::alloc::AllocError;
 
-/// Appends bytes, however many they are.
+/// Appends any number of bytes.
 #[inline(never)]
 fn append_any(values: &mut Vec<u8>, bytes: &[u8]) -> Result<(), AllocError>
     ensures ok { OnOk result (values.new.items ≡ values.old.items ++ bytes.now) }
@@ -18,9 +18,9 @@ fn append_any(values: &mut Vec<u8>, bytes: &[u8]) -> Result<(), AllocError>
     values.extend_from_slice(bytes)
 }
 
-/// Appends bytes. Where there is room for sixteen, from eight to sixteen of them are copied as two words, the first
-/// eight and the last eight, which may lie over one another: that asks for no call that finds out how many there are,
-/// and since nothing can grow then, only the length is written back.
+/// Appends bytes. If there is room for sixteen, eight to sixteen bytes are copied as two words, the
+/// first eight and the last eight, which may overlap. This needs no call of a copy of unknown
+/// length, and as nothing can grow then, the compiler writes back the length alone.
 #[inline(always)]
 fn append_bytes(values: &mut Vec<u8>, bytes: &[u8]) -> Result<(), AllocError>
     ensures ok { OnOk result (values.new.items ≡ values.old.items ++ bytes.now) }
@@ -46,11 +46,14 @@ fn append_bytes(values: &mut Vec<u8>, bytes: &[u8]) -> Result<(), AllocError>
 }
 
 impl<O: Offset> Offsets<O> {
-    /// Appends an item to the values, and the end of a slot as long to the offsets.
+    /// Appends an item to the values, and the end of its slot to the offsets.
     ///
     /// # Errors
-    /// `Overflow` where the end would be above the greatest number of the offset type, which is found before
-    /// memory is asked for; `OutOfMemory` where a growth is refused. Offsets and values are then as before.
+    /// - `Overflow` if the end would be above the greatest number of the offset type; this is
+    ///   checked before memory is allocated.
+    /// - `OutOfMemory` if an allocation fails.
+    ///
+    /// Offsets and values are unchanged on an error.
     #[inline(always)]
     pub fn try_push_item(&mut self, values: &mut Vec<u8>, item: &[u8]) -> Result<(), Error>
         ensures legal { IsOffsets self.new }
@@ -73,7 +76,7 @@ impl<O: Offset> Offsets<O> {
         }
     }
 
-    /// Appends the items that offsets cut out of bytes, as [`Offsets::try_extend_items`].
+    /// Appends the items between offsets of other bytes, as [`Offsets::try_extend_items`].
     fn try_extend_cut(
         &mut self,
         values: &mut Vec<u8>,
@@ -106,12 +109,15 @@ impl<O: Offset> Offsets<O> {
         }
     }
 
-    /// Appends another's items to the values, and their ends to the offsets: the bytes from the other's first offset
-    /// to its last, and its slots, which keep their lengths.
+    /// Appends other items to the values, and the ends of their slots to the offsets: the bytes
+    /// from the other's first offset to its last, in slots that keep their lengths.
     ///
     /// # Errors
-    /// `Overflow` where the last end would be above the greatest number of the offset type, which is found before
-    /// memory is asked for; `OutOfMemory` where a growth is refused. Offsets and values are then as before.
+    /// - `Overflow` if the last end would be above the greatest number of the offset type; this is
+    ///   checked before memory is allocated.
+    /// - `OutOfMemory` if an allocation fails.
+    ///
+    /// Offsets and values are unchanged on an error.
     pub fn try_extend_items(
         &mut self,
         values: &mut Vec<u8>,
@@ -133,11 +139,11 @@ impl<O: Offset> Offsets<O> {
         self.try_extend_cut(values, other.as_slice(), others)
     }
 
-    /// Appends so many of another's items, from one on, to the values, and their ends to the offsets: the bytes between
-    /// the ends of the piece in one copy, and its slots, which keep their lengths.
+    /// Appends `count` items of others, from item `first` on, to the values, and the ends of their
+    /// slots to the offsets. The bytes are copied at once, and the slots keep their lengths.
     ///
     /// # Errors
-    /// As of [`Offsets::try_extend_items`].
+    /// As [`Offsets::try_extend_items`].
     pub fn try_extend_slots(
         &mut self,
         values: &mut Vec<u8>,

@@ -1,4 +1,4 @@
-//! Offsets of one width as those of the other.
+//! Offsets of 32 bits as offsets of 64, and the other way round.
 ghost use Rattle.std.specs.Prelude.{◌≡◌, ◌<◌, ◌≤◌, pos, length, map, IfOk, IfErr};
 ghost use Rattle.arrow_types.specs.Failures.{OnlyOutOfMemory};
 ghost use Rattle.arrow_memory.specs.Offsets.{last_of, KeepsOffsets, MatchGrowth, numbers_of};
@@ -9,7 +9,8 @@ use crate::offset::numbers::number_at;
 use arrow_types::error::Error;
 use arrow_types::offset::Offset;
 
-/// Writes the numbers of offsets over as many offsets of another type, which has each of them.
+/// Writes the numbers of offsets over as many offsets of another type, whose greatest number is at
+/// least each of them.
 fn write_numbers<O: Offset, P: Offset>(offsets: &[O], written: &mut [P])
     requires keeps { KeepsOffsets O.number O.most offsets.now }
     requires within { last_of (numbers_of O.number offsets.now) ≤ P.most }
@@ -26,12 +27,12 @@ fn write_numbers<O: Offset, P: Offset>(offsets: &[O], written: &mut [P])
 }
 
 impl<O: Offset> OffsetsBuffer<O> {
-    /// The same numbers as offsets of another type.
+    /// Returns the same numbers as offsets of another type.
     ///
     /// # Errors
-    /// `Overflow` where the last of them is above that type's greatest number, which is found before memory is
-    /// asked for;
-    /// `OutOfMemory` where memory is refused.
+    /// - `Overflow` if the last offset is above that type's greatest number; this is checked before
+    ///   memory is allocated.
+    /// - `OutOfMemory` if an allocation fails.
     fn as_offsets<P: Offset>(&self) -> Result<OffsetsBuffer<P>, Error>
         ensures ok { IfOk result (λ offsets. (last_of self.now ≤ P.most) × (offsets ≡ self.now)) }
         ensures err { IfErr result (λ e. MatchGrowth e (P.most < last_of self.now) (last_of self.now ≤ P.most)) }
@@ -50,10 +51,10 @@ impl<O: Offset> OffsetsBuffer<O> {
 }
 
 impl OffsetsBuffer<i32> {
-    /// The same numbers as offsets of 64 bits.
+    /// Returns the same numbers as offsets of 64 bits.
     ///
     /// # Errors
-    /// `OutOfMemory` where memory is refused.
+    /// `OutOfMemory` if an allocation fails.
     pub fn widen(&self) -> Result<OffsetsBuffer<i64>, Error>
         ensures ok { IfOk result (λ wide. wide ≡ self.now) }
         ensures err { OnlyOutOfMemory result }
@@ -65,12 +66,12 @@ impl OffsetsBuffer<i32> {
 }
 
 impl OffsetsBuffer<i64> {
-    /// The same numbers as offsets of 32 bits.
+    /// Returns the same numbers as offsets of 32 bits.
     ///
     /// # Errors
-    /// `Overflow` where the last offset is above 2147483647, which is found before memory is asked for;
-    /// `OutOfMemory` where
-    /// memory is refused.
+    /// - `Overflow` if the last offset is above 2147483647; this is checked before memory is
+    ///   allocated.
+    /// - `OutOfMemory` if an allocation fails.
     pub fn narrow(&self) -> Result<OffsetsBuffer<i32>, Error>
         ensures ok { IfOk result (λ narrow. (last_of self.now ≤ 2147483647) × (narrow ≡ self.now)) }
         ensures err { IfErr result (λ e.
