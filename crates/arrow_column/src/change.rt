@@ -1,4 +1,4 @@
-//! Columns that are changed in place.
+//! Changes of columns in place.
 ghost use Rattle.std.specs.Prelude.{◌≡◌, ◌<◌, length, OnOk, IfErr, option_map};
 ghost use Rattle.arrow_types.specs.Failures.{OutOfMemoryKeeps};
 ghost use Rattle.arrow_column.specs.Column.{with_slot, with_stored};
@@ -10,10 +10,11 @@ use arrow_types::error::Error;
 
 #[tactic(auto, using(crate::proofs::RowLemmas::row_steps))]
 impl<V: MutableValues> GrowingColumn<V> {
-    /// Replaces the slot at a place. A null stores the default, and a mask is held from then on.
+    /// Replaces the slot at `i`. A null stores the default, and the column holds a mask from then
+    /// on.
     ///
     /// # Errors
-    /// `OutOfMemory` where a mask's memory is refused; the column is then as before.
+    /// `OutOfMemory` if an allocation for the mask fails; the column is then unchanged.
     #[inline(always)]
     pub fn set<X>(&mut self, i: usize, slot: Option<X>) -> Result<(), Error>
     where
@@ -37,7 +38,7 @@ impl<V: MutableValues> GrowingColumn<V> {
         }
     }
 
-    /// Replaces the stored values by as many others. The marks stay.
+    /// Replaces the stored values by equally many others. The marks stay.
     #[inline(always)]
     pub fn set_values(&mut self, values: V)
         requires around { V.around values ≡ self.old.around }
@@ -50,7 +51,7 @@ impl<V: MutableValues> GrowingColumn<V> {
 
 #[tactic(auto, using(crate::proofs::RowLemmas::row_steps))]
 impl<V: Values> FrozenColumn<V> {
-    /// Replaces the stored values by as many others. The marks stay.
+    /// Replaces the stored values by equally many others. The marks stay.
     #[inline(always)]
     pub fn set_values(&mut self, values: V)
         requires around { V.around values ≡ self.old.around }

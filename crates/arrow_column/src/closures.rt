@@ -1,4 +1,4 @@
-//! Columns whose values or marks are changed by a closure.
+//! Changes of columns by closures.
 ghost use Rattle.std.specs.Prelude.{◌≡◌, List, Bool, Some, length, IfSome, IsTrue, MatchOption, OnOk, IfErr, vec_len};
 ghost use Rattle.std.specs.Bool.{OnFalse};
 ghost use Rattle.std.specs.Borrow.{MutBor};
@@ -16,7 +16,7 @@ use std::mem;
 
 #[tactic(auto, using(crate::proofs::RowLemmas::row_steps))]
 impl<V: Values> FrozenColumn<V> {
-    /// Replaces a held mask by what the closure makes of it; without a mask nothing is done.
+    /// Replaces a held mask by what the closure returns for it. Does nothing if no mask is held.
     pub fn apply_validity<F: FnOnce(Bitmap) -> Bitmap + Drop>(&mut self, change: F)
         requires callable { IfSome (mask_of self.old) (λ marks. F.pre change marks) }
         requires keeps { IfSome (mask_of self.old) (λ marks. (changed : List Bool) → F.post change marks changed
@@ -33,7 +33,7 @@ impl<V: Values> FrozenColumn<V> {
 
 #[tactic(auto, using(crate::proofs::RowLemmas::row_steps))]
 impl<V: MutableValues> GrowingColumn<V> {
-    /// Replaces a held mask by what the closure makes of it; without a mask nothing is done.
+    /// Replaces a held mask by what the closure returns for it. Does nothing if no mask is held.
     pub fn apply_validity<F: FnOnce(MutableBitmap) -> MutableBitmap + Drop>(&mut self, change: F)
         requires callable { IfSome (mask_of self.old) (λ marks. F.pre change marks) }
         requires keeps { IfSome (mask_of self.old) (λ marks. (changed : List Bool) → F.post change marks changed
@@ -50,7 +50,7 @@ impl<V: MutableValues> GrowingColumn<V> {
 
 #[tactic(auto, using(crate::proofs::RowLemmas::row_steps))]
 impl<T: NativeType> GrowingColumn<Vec<T>> {
-    /// Replaces the stored values by what the closure makes of them. The marks stay.
+    /// Replaces the stored values by what the closure returns for them. The marks stay.
     pub fn apply_values<F: Fn(Vec<T>) -> Vec<T>>(&mut self, change: F)
         requires callable { (values : _) → values.items ≡ stored_values self.old → F.pre change values }
         requires keeps { (values changed : _) → values.items ≡ stored_values self.old → F.post change values changed
@@ -67,7 +67,7 @@ impl<T: NativeType> GrowingColumn<Vec<T>> {
 
 #[tactic(auto, using(crate::proofs::RowLemmas::row_steps))]
 impl<T: NativeType> FrozenColumn<Buffer<T>> {
-    /// Lends the stored values to be written to, where no one else has them, and tells whether it did.
+    /// Calls `change` on the stored values if they are not shared, and returns whether it did.
     pub fn get_mut_values<F: FnOnce(&mut [T]) + Drop>(&mut self, change: F) -> bool
         requires { (values : MutBor (List T)) → values.now ≡ stored_values self.old → F.pre change values }
         ensures changed { IsTrue result
@@ -81,11 +81,12 @@ impl<T: NativeType> FrozenColumn<Buffer<T>> {
 
 #[tactic(auto, using(crate::proofs::RowLemmas::row_steps))]
 impl FrozenColumn<Bitmap> {
-    /// Replaces the stored truth values by what the closure makes of them, of a copy where someone else has them.
-    /// The marks stay. All memory is taken before the closure is called.
+    /// Replaces the stored truth values by what the closure returns for them. Shared values are
+    /// copied first. The marks stay. All memory is allocated before the closure is called.
     ///
     /// # Errors
-    /// `OutOfMemory` where memory is refused; the closure is then not called, and the column is as before.
+    /// `OutOfMemory` if an allocation fails; the closure is then not called and the column is
+    /// unchanged.
     pub fn apply_values_mut<F: Fn(MutableBitmap) -> MutableBitmap>(
         &mut self,
         change: F,

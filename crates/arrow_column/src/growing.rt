@@ -1,4 +1,4 @@
-//! Columns that grow, of which builders are made.
+//! Growing columns, of which builders are made.
 ghost use Rattle.std.specs.Prelude.{IsTrue, slice_get, not, is_some, ◌≡◌, ◌<◌, ◌-◌, length, false, Some, None};
 ghost use Rattle.std.specs.Prelude.{OnOk, IfOk, IfErr, IfSome, option_map};
 ghost use Rattle.std.specs.Option.{option_copied};
@@ -16,7 +16,8 @@ use arrow_types::data_type::DataType;
 use arrow_types::error::Error;
 use std::marker::Model;
 
-/// A data type, stored values, and a mark for each of them where a mask is held; else every slot is valid.
+/// A data type, stored values, and an optional mask with a mark for each of them. Without a mask
+/// every slot is valid.
 #[derive(Drop)]
 pub struct GrowingColumn<V: MutableValues> {
     pub(super) data_type: DataType,
@@ -40,7 +41,7 @@ impl<V: MutableValues> Model for GrowingColumn<V> {
 
 #[tactic(auto, using(crate::proofs::RowLemmas::row_steps))]
 impl<V: MutableValues> GrowingColumn<V> {
-    /// The column of such parts. A mask has a mark for each value.
+    /// Creates a column from its parts. A mask must have a mark for each value.
     #[inline(always)]
     pub fn new(data_type: DataType, values: V, validity: Option<MutableBitmap>) -> Self
         requires { FitsMask (V.stored values) validity }
@@ -53,7 +54,7 @@ impl<V: MutableValues> GrowingColumn<V> {
         }
     }
 
-    /// The data type, the stored values and the mask.
+    /// Returns the data type, the stored values and the mask.
     #[inline(always)]
     pub fn into_inner(self) -> (DataType, V, Option<MutableBitmap>)
         ensures data_type { logical_type result.0 ≡ self.data_type }
@@ -68,7 +69,7 @@ impl<V: MutableValues> GrowingColumn<V> {
         (self.data_type, self.values, self.validity)
     }
 
-    /// The same slots under another type.
+    /// Returns the same slots under another data type.
     #[inline(always)]
     pub fn to(mut self, data_type: DataType) -> Self
         ensures { result ≡ with_type self (logical_type data_type) }
@@ -77,7 +78,7 @@ impl<V: MutableValues> GrowingColumn<V> {
         self
     }
 
-    /// The data type.
+    /// Returns the data type.
     #[inline(always)]
     pub fn data_type(&self) -> &DataType
         ensures { logical_type result.now ≡ self.now.data_type }
@@ -85,7 +86,7 @@ impl<V: MutableValues> GrowingColumn<V> {
         &self.data_type
     }
 
-    /// The number of slots.
+    /// Returns the number of slots.
     #[inline(always)]
     pub fn len(&self) -> usize
         ensures { result ≡ length self.now.rows }
@@ -93,7 +94,7 @@ impl<V: MutableValues> GrowingColumn<V> {
         self.values.count()
     }
 
-    /// The stored values, those of null slots too.
+    /// Returns the stored values, those of null slots included.
     #[inline(always)]
     pub fn values(&self) -> &V
         ensures around { V.around result.now ≡ self.now.around }
@@ -103,7 +104,7 @@ impl<V: MutableValues> GrowingColumn<V> {
         &self.values
     }
 
-    /// The mask, where one is held; else no slot is null.
+    /// Returns the mask if one is held; otherwise no slot is null.
     #[inline(always)]
     pub fn validity(&self) -> Option<&MutableBitmap>
         ensures mask { option_copied result ≡ mask_of self.now }
@@ -112,7 +113,7 @@ impl<V: MutableValues> GrowingColumn<V> {
         self.validity.as_ref()
     }
 
-    /// The marks in order, where a mask is held.
+    /// Returns an iterator over the marks if a mask is held.
     #[inline(always)]
     pub fn marks(&self) -> Option<BitmapIter<'_>>
         ensures rows { rows_of (stored_values self.now) result ≡ self.now.rows }
@@ -133,10 +134,10 @@ impl<V: MutableValues> GrowingColumn<V> {
         self.validity = validity;
     }
 
-    /// Appends a null, which stores the default. A mask is held from then on.
+    /// Appends a null, which stores the default. The column holds a mask from then on.
     ///
     /// # Errors
-    /// `OutOfMemory` where a growth is refused; the column is then as before.
+    /// `OutOfMemory` if an allocation fails; the column is then unchanged.
     #[inline(always)]
     pub fn push_null(&mut self) -> Result<(), Error>
         ensures data_type { self.new.data_type ≡ self.old.data_type }
@@ -158,8 +159,10 @@ impl<V: MutableValues> GrowingColumn<V> {
     /// Appends a valid slot.
     ///
     /// # Errors
-    /// `Overflow` where there would be more than the values' type can count, which is tested first, or
-    /// `OutOfMemory` where a growth is refused; the column is then as before.
+    /// - `Overflow` if the value would overflow the values' type; this is checked first.
+    /// - `OutOfMemory` if an allocation fails.
+    ///
+    /// The column is unchanged on an error.
     #[inline(always)]
     pub fn push_valid<X>(&mut self, value: X) -> Result<(), Error>
     where
@@ -180,11 +183,13 @@ impl<V: MutableValues> GrowingColumn<V> {
         }
     }
 
-    /// Appends a slot. A null stores the default, and a mask is held from then on.
+    /// Appends a slot. A null stores the default, and the column holds a mask from then on.
     ///
     /// # Errors
-    /// `Overflow` where there would be more than the values' type can count, which is tested first, or
-    /// `OutOfMemory` where a growth is refused; the column is then as before.
+    /// - `Overflow` if the value would overflow the values' type; this is checked first.
+    /// - `OutOfMemory` if an allocation fails.
+    ///
+    /// The column is unchanged on an error.
     #[inline(always)]
     pub fn push<X>(&mut self, slot: Option<X>) -> Result<(), Error>
     where
@@ -200,7 +205,7 @@ impl<V: MutableValues> GrowingColumn<V> {
         }
     }
 
-    /// Removes the last slot, and answers whether it was valid; it then showed what was stored there.
+    /// Removes the last slot and returns whether it was valid.
     #[inline(always)]
     pub fn remove_last(&mut self) -> bool
         requires { 0 < length self.old.rows }
@@ -215,7 +220,7 @@ impl<V: MutableValues> GrowingColumn<V> {
         pop_mark(&mut self.validity)
     }
 
-    /// Whether the slot at a place is valid, which is not null.
+    /// Returns whether the slot at `i` is valid.
     #[inline(always)]
     pub fn is_valid(&self, i: usize) -> bool
         requires { i < length self.now.rows }
@@ -227,7 +232,7 @@ impl<V: MutableValues> GrowingColumn<V> {
         }
     }
 
-    /// Whether the slot at a place is null; else it shows what is stored there.
+    /// Returns whether the slot at `i` is null.
     #[inline(always)]
     pub fn is_null(&self, i: usize) -> bool
         requires { i < length self.now.rows }
@@ -239,11 +244,11 @@ impl<V: MutableValues> GrowingColumn<V> {
         !self.is_valid(i)
     }
 
-    /// The data type, the stored values, and the mask of an array of the same slots, which is held only where
-    /// one is null.
+    /// Returns the data type, the stored values, and the mask of an array of the same slots. The
+    /// mask is held exactly if a slot is null.
     ///
     /// # Errors
-    /// `OutOfMemory` where the mask's memory is refused; the column is then lost.
+    /// `OutOfMemory` if an allocation for the mask fails; the column is then dropped.
     #[inline(always)]
     pub fn freeze_mask(self) -> Result<(DataType, V, Option<Bitmap>), Error>
         ensures data_type { IfOk result (λ parts. logical_type parts.0 ≡ self.data_type) }

@@ -1,4 +1,4 @@
-//! Masks, which are held or not.
+//! Optional masks.
 ghost use Rattle.std.specs.Prelude.{IsTrue, ◌↔◌, slice_set, ◌≡◌, ◌<◌, true, false, [], ◌∷◌, ◌++◌, replicate, Some};
 ghost use Rattle.std.specs.Prelude.{option_map, unwrap_or, length, take, drop, ◌+◌, ◌≤◌, IfSome, OnOk, IfOk, IfErr};
 ghost use Rattle.std.specs.Prelude.{IsOk};
@@ -11,7 +11,7 @@ use arrow_memory::bitmap::{Bitmap, MutableBitmap};
 use arrow_types::error::Error;
 use std::alloc::Global;
 
-/// Appends the mark of a valid slot, where a mask is held.
+/// Appends the mark of a valid slot, if a mask is held.
 #[inline(always)]
 pub(crate) fn push_valid(validity: &mut Option<MutableBitmap>) -> Result<(), Error>
     ensures ok { OnOk result (validity.new ≡ option_map (λ marks. marks ++ true ∷ []) validity.old) }
@@ -23,8 +23,8 @@ pub(crate) fn push_valid(validity: &mut Option<MutableBitmap>) -> Result<(), Err
     }
 }
 
-/// Holds a mask of so many valid slots and then a null. It is a call, so that a loop of appends stays small enough for
-/// the compiler to follow.
+/// Creates a mask of `length` valid slots followed by a null. It is not inlined, so that a loop of
+/// appends stays small enough for the compiler to follow.
 #[cold]
 #[inline(never)]
 fn hold_mask(
@@ -42,7 +42,8 @@ fn hold_mask(
     Ok(())
 }
 
-/// Appends the mark of a null. Where no mask is held it makes one, in which the earlier slots are valid.
+/// Appends the mark of a null. If no mask is held, creates one in which the earlier slots are
+/// valid.
 #[inline(always)]
 pub(crate) fn push_null_mark(
     alloc: Global,
@@ -58,7 +59,7 @@ pub(crate) fn push_null_mark(
     }
 }
 
-/// Removes the last slot's mark and answers it; where no mask is held the slot is valid.
+/// Removes and returns the last mark; without a mask the slot is valid.
 #[inline(always)]
 pub(crate) fn pop_mark(validity: &mut Option<MutableBitmap>) -> bool
     requires { IfSome validity.old (λ marks. 0 < length marks) }
@@ -73,7 +74,7 @@ pub(crate) fn pop_mark(validity: &mut Option<MutableBitmap>) -> bool
     }
 }
 
-/// Keeps only the `len` marks from `offset` on, where a mask is held.
+/// Keeps only the `len` marks from `offset` on, if a mask is held.
 #[inline(always)]
 pub(crate) fn slice_mask(validity: &mut Option<Bitmap>, offset: usize, len: usize)
     requires { IfSome validity.old (λ marks. offset + len ≤ length marks) }
@@ -84,7 +85,7 @@ pub(crate) fn slice_mask(validity: &mut Option<Bitmap>, offset: usize, len: usiz
     }
 }
 
-/// The mask of an array, which is held only where a slot is null.
+/// Returns the mask of an array, which is held exactly if a slot is null.
 pub(crate) fn freeze_mask(validity: Option<MutableBitmap>) -> Result<Option<Bitmap>, Error>
     ensures ok { IfOk result (λ mask. mask ≡ mask_with_nulls validity) }
     ensures err { OnlyOutOfMemory result }
@@ -100,7 +101,7 @@ pub(crate) fn freeze_mask(validity: Option<MutableBitmap>) -> Result<Option<Bitm
     Ok(Some(marks.freeze_counted(unset)?))
 }
 
-/// Appends the marks of so many valid slots, where a mask is held.
+/// Appends the marks of valid slots, if a mask is held.
 #[inline(always)]
 pub(crate) fn extend_valid_marks(
     validity: &mut Option<MutableBitmap>,
@@ -115,7 +116,7 @@ pub(crate) fn extend_valid_marks(
     }
 }
 
-/// A mask of so many valid slots and then so many nulls.
+/// Creates a mask of `length` valid slots followed by `count` nulls.
 fn null_marks(alloc: Global, length: usize, count: usize) -> Result<MutableBitmap, Error>
     ensures ok { IfOk result (λ marks. marks ≡ replicate length true ++ replicate count false) }
     ensures err { OnlyOutOfMemory result }
@@ -126,8 +127,8 @@ fn null_marks(alloc: Global, length: usize, count: usize) -> Result<MutableBitma
     Ok(marks)
 }
 
-/// Appends the marks of so many nulls. Where no mask is held it makes one, in which the `length` earlier slots are
-/// valid.
+/// Appends the marks of nulls. If no mask is held, creates one in which the `length` earlier slots
+/// are valid.
 pub(crate) fn extend_null_marks(
     alloc: Global,
     validity: &mut Option<MutableBitmap>,
@@ -147,7 +148,7 @@ pub(crate) fn extend_null_marks(
     }
 }
 
-/// A mask of so many valid slots and then these marks.
+/// Creates a mask of valid slots followed by these marks.
 fn marks_behind(
     alloc: Global,
     length: usize,
@@ -162,8 +163,8 @@ fn marks_behind(
     Ok(marks)
 }
 
-/// Appends the mask of `count` other slots to that of `length` slots. A mask is held where either is, and slots
-/// without one are valid in it.
+/// Appends the mask of `count` other slots to that of `length` slots. A mask is held if either is,
+/// and slots without one are valid in it.
 pub(crate) fn join_marks(
     alloc: Global,
     validity: &mut Option<MutableBitmap>,
@@ -189,7 +190,7 @@ pub(crate) fn join_marks(
     }
 }
 
-/// Sets the mark at a place, where a mask is held.
+/// Sets the mark at `i`, if a mask is held.
 #[inline(always)]
 pub(crate) fn set_valid_mark(validity: &mut Option<MutableBitmap>, i: usize)
     requires { IfSome validity.old (λ marks. i < length marks) }
@@ -200,7 +201,7 @@ pub(crate) fn set_valid_mark(validity: &mut Option<MutableBitmap>, i: usize)
     }
 }
 
-/// A mask of so many slots of which the one at a place is null.
+/// Creates a mask of `count` slots of which only the one at `i` is null.
 #[cold]
 #[inline(never)]
 fn null_mark_at(alloc: Global, count: usize, i: usize) -> Result<MutableBitmap, Error>
@@ -214,7 +215,7 @@ fn null_mark_at(alloc: Global, count: usize, i: usize) -> Result<MutableBitmap, 
     Ok(marks)
 }
 
-/// Clears the mark at a place. Where no mask is held it makes one, in which the other slots are valid.
+/// Clears the mark at a place. If no mask is held, creates one in which the other slots are valid.
 #[inline(always)]
 pub(crate) fn set_null_mark(
     alloc: Global,
@@ -239,7 +240,7 @@ pub(crate) fn set_null_mark(
     }
 }
 
-/// Makes room for so many marks more, where a mask is held.
+/// Reserves room for more marks, if a mask is held.
 pub(crate) fn reserve_marks(
     validity: &mut Option<MutableBitmap>,
     additional: usize,
@@ -253,7 +254,7 @@ pub(crate) fn reserve_marks(
     }
 }
 
-/// Gives back the room that is not used, where a mask is held.
+/// Gives unused room back, if a mask is held.
 pub(crate) fn shrink_marks(validity: &mut Option<MutableBitmap>) -> Result<(), Error>
     ensures kept { validity.new ≡ validity.old }
     ensures ok { IsOk result }
@@ -264,7 +265,7 @@ pub(crate) fn shrink_marks(validity: &mut Option<MutableBitmap>) -> Result<(), E
     }
 }
 
-/// A copy of a builder's mask, where one is held.
+/// Returns a copy of a builder's mask, if one is held.
 pub(crate) fn copy_marks(validity: &Option<MutableBitmap>) -> Result<Option<MutableBitmap>, Error>
     ensures ok { IfOk result (λ copy. copy ≡ validity.now) }
     ensures err { OnlyOutOfMemory result }
@@ -275,7 +276,7 @@ pub(crate) fn copy_marks(validity: &Option<MutableBitmap>) -> Result<Option<Muta
     }
 }
 
-/// An array's mask once more, where one is held. No mark is copied.
+/// Returns a clone of an array's mask that shares its bytes, if one is held.
 pub(crate) fn share_mask(validity: &Option<Bitmap>) -> Result<Option<Bitmap>, Error>
     ensures ok { IfOk result (λ copy. copy ≡ validity.now) }
     ensures err { OnlyOutOfMemory result }
@@ -286,7 +287,7 @@ pub(crate) fn share_mask(validity: &Option<Bitmap>) -> Result<Option<Bitmap>, Er
     }
 }
 
-/// Whether a mask, where there is one, has a mark for each of so many slots.
+/// Returns whether a mask, if there is one, has a mark for each of `slots` slots.
 #[inline(always)]
 pub fn is_mask_of(validity: &Option<Bitmap>, slots: usize) -> bool
     ensures { IsTrue result ↔ IfSome validity.now (λ marks. length marks ≡ slots) }
@@ -297,7 +298,7 @@ pub fn is_mask_of(validity: &Option<Bitmap>, slots: usize) -> bool
     }
 }
 
-/// Whether a growing mask, where there is one, has a mark for each of so many slots.
+/// Returns whether a growing mask, if there is one, has a mark for each of `slots` slots.
 #[inline(always)]
 pub fn is_growing_mask_of(validity: &Option<MutableBitmap>, slots: usize) -> bool
     ensures { IsTrue result ↔ IfSome validity.now (λ marks. length marks ≡ slots) }
@@ -308,7 +309,7 @@ pub fn is_growing_mask_of(validity: &Option<MutableBitmap>, slots: usize) -> boo
     }
 }
 
-/// Whether a slot is valid; without a mask each is.
+/// Returns whether a slot is valid; without a mask every slot is.
 #[inline(always)]
 pub(crate) fn is_valid_at(validity: &Option<MutableBitmap>, i: usize) -> bool
     requires { IfSome validity.now (λ marks. i < length marks) }
@@ -320,7 +321,8 @@ pub(crate) fn is_valid_at(validity: &Option<MutableBitmap>, i: usize) -> bool
     }
 }
 
-/// Whether two masks of so many slots mark the same as valid. Marks are compared and counted many at a time.
+/// Returns whether two masks of equally many slots mark the same slots as valid. Marks are compared
+/// and counted many at a time.
 pub(crate) fn same_masks(
     first: &Option<MutableBitmap>,
     second: &Option<MutableBitmap>,

@@ -1,4 +1,4 @@
-//! Columns that hold no mask, and grow without a look at one.
+//! Columns that hold no mask, and grow without looking for one.
 ghost use Rattle.std.specs.Prelude.{◌≡◌, false, Some, OnOk, IfErr};
 ghost use Rattle.std.specs.Iterator.{IsFinite};
 ghost use Rattle.arrow_types.specs.Failures.{FailureKeeps, OutOfMemoryKeeps};
@@ -11,10 +11,10 @@ use arrow_types::error::Error;
 
 #[tactic(auto, using(crate::proofs::RowLemmas::row_steps))]
 impl<V: MutableValues> GrowingColumn<V> {
-    /// Appends a valid slot where no mask is held.
+    /// Appends a valid slot to a column that holds no mask.
     ///
     /// # Errors
-    /// As of `push_valid`.
+    /// As `push_valid`.
     #[inline(always)]
     pub fn push_unmasked<X>(&mut self, value: X) -> Result<(), Error>
     where
@@ -29,10 +29,10 @@ impl<V: MutableValues> GrowingColumn<V> {
         self.values.push_value(value)
     }
 
-    /// Appends a valid slot that stores the default, where no mask is held.
+    /// Appends a valid slot that stores the default to a column that holds no mask.
     ///
     /// # Errors
-    /// `OutOfMemory` where the growth is refused; the column is then as before.
+    /// `OutOfMemory` if an allocation fails; the column is then unchanged.
     #[inline(always)]
     pub fn push_unmasked_default(&mut self) -> Result<(), Error>
         requires { self.old.held ≡ false }
@@ -44,12 +44,14 @@ impl<V: MutableValues> GrowingColumn<V> {
         self.values.push_default()
     }
 
-    /// Appends valid slots of the values that an iterator gives, where no mask is held. What it says of their
-    /// number is not trusted: room for so many is asked for first, and where that is refused nothing is told.
+    /// Appends valid slots with the values of an iterator to a column that holds no mask.
+    /// `size_hint` is only used to reserve room; a reservation that fails is ignored.
     ///
     /// # Errors
-    /// `Overflow` at the first value with which there would be more than the values' type can count, or
-    /// `OutOfMemory` where a growth is refused; the values that came before are then appended.
+    /// - `Overflow` at the first value that would overflow the values' type.
+    /// - `OutOfMemory` if an allocation fails.
+    ///
+    /// The values before the failure stay appended.
     pub fn extend_unmasked<X, I: Iterator<Item = X>>(&mut self, values: I) -> Result<(), Error>
     where
         V: PushValue<X>,

@@ -16,7 +16,7 @@ use std::alloc::Global;
 
 #[tactic(auto, using(crate::proofs::SlotLemmas::slot_steps))]
 impl<T: NativeType> MutablePrimitiveArray<T> {
-    /// No slot, and a mask of no marks.
+    /// Creates a builder of no slots that holds a mask of no marks.
     fn masked(alloc: Global) -> Self
         ensures { result ≡ column_of_parts (default_logical_type T.PRIMITIVE) [] (Some []) }
     {
@@ -25,10 +25,11 @@ impl<T: NativeType> MutablePrimitiveArray<T> {
         builder
     }
 
-    /// The builder of these slots, which holds a mask. The data type is the default of the native type.
+    /// Creates a builder of these slots, which holds a mask, of the native type's default data
+    /// type.
     ///
     /// # Errors
-    /// `OutOfMemory` where memory is refused.
+    /// `OutOfMemory` if an allocation fails.
     pub fn from(alloc: Global, slots: &[Option<T>]) -> Result<Self, Error>
         ensures ok { IfOk result (λ builder.
             builder ≡ append_slots T.zero (column_of_parts (default_logical_type T.PRIMITIVE) [] (Some []))
@@ -42,11 +43,11 @@ impl<T: NativeType> MutablePrimitiveArray<T> {
         }
     }
 
-    /// The builder of the slots that an iterator gives, which holds a mask. The data type is the default of the
-    /// native type. What the iterator says of the number of slots is not trusted.
+    /// Creates a builder of the slots of an iterator, which holds a mask, of the native type's
+    /// default data type. `size_hint` is only used to reserve room.
     ///
     /// # Errors
-    /// `OutOfMemory` where memory is refused.
+    /// `OutOfMemory` if an allocation fails.
     pub fn from_iter<I: Iterator<Item = Option<T>>>(alloc: Global, iter: I) -> Result<Self, Error>
         requires can { I.can_next iter }
         requires ends { IsFinite (I.remaining iter) }
@@ -62,10 +63,11 @@ impl<T: NativeType> MutablePrimitiveArray<T> {
         }
     }
 
-    /// Valid slots of these values, and no mask; the data type is the default of the native type.
+    /// Creates valid slots with the values of a slice, without a mask, of the native type's default
+    /// data type.
     ///
     /// # Errors
-    /// `OutOfMemory` where memory is refused.
+    /// `OutOfMemory` if an allocation fails.
     pub fn from_slice(alloc: Global, slice: &[T]) -> Result<Self, Error>
         ensures ok { IfOk result (λ builder. builder ≡ column_of_parts (default_logical_type T.PRIMITIVE) slice.now
             None) }
@@ -79,11 +81,11 @@ impl<T: NativeType> MutablePrimitiveArray<T> {
 
 #[tactic(auto, using(crate::proofs::SlotLemmas::slot_steps))]
 impl<T: NativeType> PrimitiveArray<T> {
-    /// Valid slots of these values, which are not copied, and no mask; the data type is the default of the native
-    /// type.
+    /// Creates an array of valid slots with the values of a vector, without copying them and
+    /// without a mask, of the native type's default data type.
     ///
     /// # Errors
-    /// `OutOfMemory` where memory is refused; the values are then lost.
+    /// `OutOfMemory` if an allocation fails; the values are then dropped.
     pub fn from_vec(values: Vec<T>) -> Result<Self, Error>
         ensures ok { IfOk result (λ array. array ≡ column_of_parts (default_logical_type T.PRIMITIVE) values.items
             None) }
@@ -96,10 +98,11 @@ impl<T: NativeType> PrimitiveArray<T> {
         ))
     }
 
-    /// Valid slots of these values, and no mask; the data type is the default of the native type.
+    /// Creates valid slots with the values of a slice, without a mask, of the native type's default
+    /// data type.
     ///
     /// # Errors
-    /// `OutOfMemory` where memory is refused.
+    /// `OutOfMemory` if an allocation fails.
     pub fn from_slice(alloc: Global, slice: &[T]) -> Result<Self, Error>
         ensures ok { IfOk result (λ array. array ≡ column_of_parts (default_logical_type T.PRIMITIVE) slice.now None) }
         ensures err { OnlyOutOfMemory result }
@@ -109,11 +112,11 @@ impl<T: NativeType> PrimitiveArray<T> {
         PrimitiveArray::from_vec(values)
     }
 
-    /// Valid slots of the values that an iterator gives, and no mask; the data type is the default of the native
-    /// type. What the iterator says of the number of values is not trusted.
+    /// Creates an array of valid slots with the values of an iterator, without a mask, of the
+    /// native type's default data type. `size_hint` is only used to reserve room.
     ///
     /// # Errors
-    /// `OutOfMemory` where memory is refused.
+    /// `OutOfMemory` if an allocation fails.
     pub fn from_values<I: Iterator<Item = T>>(alloc: Global, iter: I) -> Result<Self, Error>
         requires can { I.can_next iter }
         requires ends { IsFinite (I.remaining iter) }
@@ -128,11 +131,11 @@ impl<T: NativeType> PrimitiveArray<T> {
         }
     }
 
-    /// The array of these slots, which holds a mask exactly where one is null. The data type is the default of the
-    /// native type.
+    /// Creates an array of these slots, which holds a mask exactly if one is null, of the native
+    /// type's default data type.
     ///
     /// # Errors
-    /// `OutOfMemory` where memory is refused.
+    /// `OutOfMemory` if an allocation fails.
     pub fn from(alloc: Global, slots: &[Option<T>]) -> Result<Self, Error>
         ensures ok { IfOk result (λ array.
             array ≡ without_needless_mask (append_slots T.zero (column_of_parts (default_logical_type T.PRIMITIVE)
@@ -142,11 +145,11 @@ impl<T: NativeType> PrimitiveArray<T> {
         MutablePrimitiveArray::from(alloc, slots)?.freeze()
     }
 
-    /// The array of the slots that an iterator gives, which holds a mask exactly where one is null. The data type is
-    /// the default of the native type. What the iterator says of the number of slots is not trusted.
+    /// Creates an array of the slots of an iterator, which holds a mask exactly if one is null, of
+    /// the native type's default data type. `size_hint` is only used to reserve room.
     ///
     /// # Errors
-    /// `OutOfMemory` where memory is refused.
+    /// `OutOfMemory` if an allocation fails.
     pub fn from_iter<I: Iterator<Item = Option<T>>>(alloc: Global, iter: I) -> Result<Self, Error>
         requires can { I.can_next iter }
         requires ends { IsFinite (I.remaining iter) }
@@ -161,11 +164,11 @@ impl<T: NativeType> PrimitiveArray<T> {
         }
     }
 
-    /// So many null slots that store the default value, and a mask. The type has to be one of the array's physical
-    /// type.
+    /// Creates an array of `length` null slots that store the default value, with a mask. The data
+    /// type must have the array's physical type.
     ///
     /// # Errors
-    /// `OutOfMemory` where memory is refused.
+    /// `OutOfMemory` if an allocation fails.
     pub fn new_null(alloc: Global, data_type: DataType, length: usize) -> Result<Self, Error>
         requires { IsRightType (PhysicalType.Primitive T.PRIMITIVE) (logical_type data_type) }
         ensures ok { IfOk result (λ array.
