@@ -83,6 +83,30 @@ fn all_begin<O: Offset, J: Judge>(offsets: &[O], from: usize, upto: usize, text:
     begins
 }
 
+/// Returns what `all_begin` does, eight offsets at a time: their looks are counted by one addition.
+#[inline(always)]
+fn all_begin_by_eights<O: Offset, J: Judge>(
+    offsets: &[O],
+    from: usize,
+    upto: usize,
+    text: &mut J,
+) -> bool
+    requires legal { AreLegal O.number offsets.now }
+    requires order { from ≤ upto }
+    requires some { upto ≤ length offsets.now }
+    requires within { (k : ℕ) → from ≤ k → k < upto → slice_index (numbers_of O.number offsets.now) k < length (J.reading text.old).bytes }
+    ensures answer { IsTrue result ↔ AllBegin from upto (numbers_of O.number offsets.now) (J.reading text.old).bytes }
+    ensures counted { J.reading text.new ≡ after_looks (upto - from) (J.reading text.old) }
+{
+    let mut begins = true;
+    let mut done = from;
+    while upto - done >= 8 {
+        begins &= all_begin(offsets, done, done + 8, text);
+        done += 8;
+    }
+    begins & all_begin(offsets, done, upto, text)
+}
+
 /// Returns whether the inner offsets cut no character of the window, by one look at each that lies before its end.
 #[inline(always)]
 fn is_cut_between<O: Offset, J: Judge>(offsets: &[O], text: &mut J) -> bool
@@ -94,7 +118,7 @@ fn is_cut_between<O: Offset, J: Judge>(offsets: &[O], text: &mut J) -> bool
 {
     let end = last_number(offsets);
     let count = count_before(offsets, end);
-    all_begin(offsets, 1, count + 1, text)
+    all_begin_by_eights(offsets, 1, count + 1, text)
 }
 
 /// Returns whether the judge accepts the window between legal offsets and the inner ones cut no character of it: one
