@@ -77,8 +77,9 @@ fn all_begin<O: Offset, J: Judge>(offsets: &[O], from: usize, upto: usize, text:
     ensures counted { J.reading text.new ≡ after_looks (upto - from) (J.reading text.old) }
 {
     let mut begins = true;
-    for i in from..upto {
-        begins &= !goes_on(text.look(number_at(offsets, i)));
+    // From 0 on, so that a constant distance is seen to be one.
+    for k in 0..upto - from {
+        begins &= !goes_on(text.look(number_at(offsets, from + k)));
     }
     begins
 }
