@@ -194,11 +194,6 @@ begin-join numbers old now from i upto true second stays low high before behind 
   λ all. behind.1 (λ k some few. subst (λ b. ¬ IsContinuation (get_or b (get_or numbers k 0) 0)) (sym stays) (all k (omega arith) few)),
 )
 
--- what is refused doesn't pass
-pub refused : (accepts : List ℕ → Type 0) (numbers old now : List ℕ) → now ≡ old → ¬ (accepts (window_of numbers now) × InnerCutBetween numbers now) → ¬ (PassesWhole accepts numbers old)
-refused accepts numbers old now stays fails passes =
-    fails (subst (λ b. accepts (window_of numbers b)) (sym stays) passes.window, subst (InnerCutBetween numbers) (sym stays) passes.inner)
-
 -- ---- a window of ASCII
 
 pub not-ascii : (bytes : List ℕ) → IsNotAscii bytes → ¬ (IsAscii bytes)
