@@ -35,7 +35,8 @@ impl BooleanArray {
         validity: Option<Bitmap>,
     ) -> Result<Self, Error>
         ensures ok { let t = logical_type data_type in IfOk result (λ array.
-            Passes (array_tests t values validity) × (array ≡ column_of_parts t values validity)) }
+            Passes (array_tests t values validity)
+            × (array ≡ column_of_parts t values validity)) }
         ensures err { let t = logical_type data_type in IfErr result (λ e.
             IsFirstFailure (array_tests t values validity) (refusal e)) }
     {
@@ -61,7 +62,8 @@ impl MutableBooleanArray {
         validity: Option<MutableBitmap>,
     ) -> Result<Self, Error>
         ensures ok { let t = logical_type data_type in IfOk result (λ builder.
-            Passes (builder_tests t values validity) × (builder ≡ column_of_parts t values validity)) }
+            Passes (builder_tests t values validity)
+            × (builder ≡ column_of_parts t values validity)) }
         ensures err { let t = logical_type data_type in IfErr result (λ e.
             IsFirstFailure (builder_tests t values validity) (refusal e)) }
     {

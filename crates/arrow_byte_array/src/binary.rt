@@ -6,16 +6,45 @@ ghost use Rattle.arrow_check.specs.Items.{IsWithin, rest_of};
 ghost use Rattle.arrow_bytes.specs.Pieces.{overflows_by};
 ghost use Rattle.arrow_bytes.specs.Column.{item_overflows};
 
-use crate::{ByteArray, MutableByteArray, MutableByteValuesArray};
-use arrow_bytes::{Binary, ByteItems, ByteValues, MutableByteValues};
-use arrow_check::accessor::ArrayAccessor;
+use crate::{ByteArray, ByteItems, MutableByteArray, MutableByteValuesArray};
+use arrow_bytes::Binary;
+use arrow_check::accessor::{ArrayAccessor, Bytes};
 use arrow_check::values_iter::ArrayValuesIter;
 use arrow_memory::bitmap::BitmapIter;
+use arrow_memory::list_iter::ListIter;
 use arrow_memory::zip_validity::ZipValidity;
 use arrow_types::error::Error;
 use arrow_types::offset::Offset;
 
 impl<'a, O: Offset> ArrayAccessor<'a> for ByteArray<Binary, O> {
+    ghost use Rattle.std.specs.Prelude.{◌≡◌, ◌<◌, List, ℕ, Some, length, slice_get};
+    ghost use Rattle.arrow_column.specs.Column.{stored_values};
+
+    type Item = &'a [u8];
+
+    ghost Seen = { List ℕ };
+
+    ghost seen = { λ item. item.now };
+
+    ghost items = { stored_values };
+
+    #[inline(always)]
+    fn value(&'a self, index: usize) -> &'a [u8]
+        requires { index < length (stored_values self.now) }
+        ensures { slice_get (stored_values self.now) index ≡ Some result.now }
+    {
+        self.column.values().value(index)
+    }
+
+    #[inline(always)]
+    fn len(&self) -> usize
+        ensures { result ≡ length (stored_values self.now) }
+    {
+        self.column.values().len()
+    }
+}
+
+impl<'a, O: Offset> ArrayAccessor<'a> for MutableByteArray<Binary, O> {
     ghost use Rattle.std.specs.Prelude.{◌≡◌, ◌<◌, List, ℕ, Some, length, slice_get};
     ghost use Rattle.arrow_column.specs.Column.{stored_values};
 
@@ -71,6 +100,66 @@ impl<'a, O: Offset> ArrayAccessor<'a> for MutableByteValuesArray<Binary, O> {
     }
 }
 
+impl<'a, O: Offset> ListIter for ByteItems<'a, ByteArray<Binary, O>> {
+    ghost use Rattle.arrow_column.specs.Column.{stored_values};
+    ghost use Rattle.arrow_check.specs.Items.{IsWithin, rest_of};
+
+    type Item = &'a [u8];
+
+    type Seen = Bytes;
+
+    ghost seen = { λ item. item.now };
+
+    ghost rest = { λ left. rest_of stored_values left.items };
+
+    ghost can_take = { λ left. IsWithin stored_values left.items };
+
+    #[inline(always)]
+    fn take_first(&mut self) -> Option<&'a [u8]> {
+        self.items.next()
+    }
+
+    #[inline(always)]
+    fn take_last(&mut self) -> Option<&'a [u8]> {
+        self.items.next_back()
+    }
+
+    #[inline(always)]
+    fn count_left(&self) -> usize {
+        self.items.len()
+    }
+}
+
+impl<'a, O: Offset> ListIter for ByteItems<'a, MutableByteArray<Binary, O>> {
+    ghost use Rattle.arrow_column.specs.Column.{stored_values};
+    ghost use Rattle.arrow_check.specs.Items.{IsWithin, rest_of};
+
+    type Item = &'a [u8];
+
+    type Seen = Bytes;
+
+    ghost seen = { λ item. item.now };
+
+    ghost rest = { λ left. rest_of stored_values left.items };
+
+    ghost can_take = { λ left. IsWithin stored_values left.items };
+
+    #[inline(always)]
+    fn take_first(&mut self) -> Option<&'a [u8]> {
+        self.items.next()
+    }
+
+    #[inline(always)]
+    fn take_last(&mut self) -> Option<&'a [u8]> {
+        self.items.next_back()
+    }
+
+    #[inline(always)]
+    fn count_left(&self) -> usize {
+        self.items.len()
+    }
+}
+
 impl<O: Offset> ByteArray<Binary, O> {
     /// The bytes that are stored at a place, also where the slot is null.
     #[inline(always)]
@@ -95,10 +184,11 @@ impl<O: Offset> ByteArray<Binary, O> {
 
     /// The slots in order.
     #[inline(always)]
-    pub fn iter(&self) -> ZipValidity<ByteItems<'_, ByteValues<Binary, O>>, BitmapIter<'_>>
+    pub fn iter(&self) -> ZipValidity<ByteItems<'_, ByteArray<Binary, O>>, BitmapIter<'_>>
         ensures { result ≡ slots_of self.now }
     {
-        ZipValidity::new(self.column.values().iter(), self.column.marks())
+        let items = ArrayValuesIter::new(self);
+        ZipValidity::new(ByteItems { items }, self.column.marks())
     }
 
     /// What the slots store, in order, null slots too.
@@ -148,19 +238,20 @@ impl<O: Offset> MutableByteArray<Binary, O> {
 
     /// The slots in order.
     #[inline(always)]
-    pub fn iter(&self) -> ZipValidity<ByteItems<'_, MutableByteValues<Binary, O>>, BitmapIter<'_>>
+    pub fn iter(&self) -> ZipValidity<ByteItems<'_, MutableByteArray<Binary, O>>, BitmapIter<'_>>
         ensures { result ≡ slots_of self.now }
     {
-        ZipValidity::new(self.column.values().iter(), self.column.marks())
+        let items = ArrayValuesIter::new(self);
+        ZipValidity::new(ByteItems { items }, self.column.marks())
     }
 
     /// What the slots store, in order, null slots too.
     #[inline(always)]
-    pub fn values_iter(&self) -> ArrayValuesIter<'_, MutableByteValues<Binary, O>>
-        ensures within { IsWithin (λ values. values.items) result }
-        ensures all { rest_of (λ values. values.items) result ≡ stored_values self.now }
+    pub fn values_iter(&self) -> ArrayValuesIter<'_, MutableByteArray<Binary, O>>
+        ensures within { IsWithin stored_values result }
+        ensures all { rest_of stored_values result ≡ stored_values self.now }
     {
-        ArrayValuesIter::new(self.column.values())
+        ArrayValuesIter::new(self)
     }
 }
 
@@ -214,12 +305,12 @@ impl<'a, O: Offset> IntoIterator for &'a ByteArray<Binary, O> {
 
     type Item = Option<&'a [u8]>;
 
-    type IntoIter = ZipValidity<ByteItems<'a, ByteValues<Binary, O>>, BitmapIter<'a>>;
+    type IntoIter = ZipValidity<ByteItems<'a, ByteArray<Binary, O>>, BitmapIter<'a>>;
 
     ghost into_iter_gives = { λ array slots. slots ≡ slots_of array.now };
 
     #[inline(always)]
-    fn into_iter(self) -> ZipValidity<ByteItems<'a, ByteValues<Binary, O>>, BitmapIter<'a>> {
+    fn into_iter(self) -> ZipValidity<ByteItems<'a, ByteArray<Binary, O>>, BitmapIter<'a>> {
         self.iter()
     }
 }
@@ -229,12 +320,12 @@ impl<'a, O: Offset> IntoIterator for &'a MutableByteArray<Binary, O> {
 
     type Item = Option<&'a [u8]>;
 
-    type IntoIter = ZipValidity<ByteItems<'a, MutableByteValues<Binary, O>>, BitmapIter<'a>>;
+    type IntoIter = ZipValidity<ByteItems<'a, MutableByteArray<Binary, O>>, BitmapIter<'a>>;
 
     ghost into_iter_gives = { λ builder slots. slots ≡ slots_of builder.now };
 
     #[inline(always)]
-    fn into_iter(self) -> ZipValidity<ByteItems<'a, MutableByteValues<Binary, O>>, BitmapIter<'a>> {
+    fn into_iter(self) -> ZipValidity<ByteItems<'a, MutableByteArray<Binary, O>>, BitmapIter<'a>> {
         self.iter()
     }
 }

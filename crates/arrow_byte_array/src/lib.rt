@@ -9,6 +9,7 @@ mod change;
 mod equality;
 mod extend;
 mod from_natural;
+mod items;
 pub mod laws;
 mod parts;
 mod utf8;
@@ -16,4 +17,5 @@ mod values_builder;
 
 pub use array::ByteArray;
 pub use builder::MutableByteArray;
+pub use items::ByteItems;
 pub use values_builder::MutableByteValuesArray;

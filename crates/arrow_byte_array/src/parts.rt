@@ -5,7 +5,8 @@ ghost use Rattle.arrow_column.specs.Acceptance.{IsFirstFailure, Passes, accept};
 ghost use Rattle.arrow_bytes.specs.Pieces.{pieces_of};
 ghost use Rattle.arrow_bytes.specs.Column.{byte_column};
 ghost use Rattle.arrow_bytes.specs.Kinds.{BuilderCosts, Costs, TestsOnce};
-ghost use Rattle.arrow_byte_array.specs.Acceptance.{array_tests, builder_tests, typed_tests, values_builder_tests, values_tests};
+ghost use Rattle.arrow_byte_array.specs.Acceptance.{array_tests, builder_tests, typed_tests};
+ghost use Rattle.arrow_byte_array.specs.Acceptance.{values_builder_tests, values_tests};
 
 use crate::{ByteArray, MutableByteArray, MutableByteValuesArray};
 use arrow_bytes::{ByteKind, ByteValues, MutableByteValues};
@@ -25,15 +26,16 @@ const UNFIT_MASK: &str = "validity mask length must match the number of values";
 /// The text of the refusal of a builder's mask.
 const UNFIT_BUILDER_MASK: &str = "validity's length must be equal to the number of values";
 
-/// The stored values of an array's parts, each of which has to be an item of the kind. What the test costs is added to the
-/// counts.
+/// Returns the stored values of an array's parts, each of which has to be an item of the kind. What the test costs is
+/// added to the counts.
 fn array_values<K: ByteKind, O: Offset>(
     offsets: OffsetsBuffer<O>,
     values: Buffer<u8>,
     cost: &mut TextCost,
 ) -> Result<ByteValues<K, O>, Error>
     ensures ok { IfOk result (λ stored.
-        Passes (values_tests K.is_text offsets values accept) × (stored ≡ pieces_of offsets values)) }
+        Passes (values_tests K.is_text offsets values accept)
+        × (stored ≡ pieces_of offsets values)) }
     ensures err { IfErr result (λ e.
         IsFirstFailure (values_tests K.is_text offsets values accept) (refusal e)) }
     ensures counted { TestsOnce offsets values cost.old cost.new }
@@ -49,8 +51,8 @@ impl<K: ByteKind, O: Offset> ByteArray<K, O> {
     /// validated.
     ///
     /// # Errors
-    /// `OutOfSpec` where the last offset is past the values; or else where a slot is no item of the kind (text that is not
-    /// UTF-8 by itself); or else where a mask has another number of marks than there are slots; or else where the type is
+    /// `OutOfSpec` if the last offset is past the values; or else if a slot is no item of the kind (text that is not
+    /// UTF-8 by itself); or else if a mask has another number of marks than there are slots; or else if the type is
     /// none of the array's physical type.
     pub fn try_new(
         data_type: DataType,
@@ -59,19 +61,21 @@ impl<K: ByteKind, O: Offset> ByteArray<K, O> {
         validity: Option<Bitmap>,
     ) -> Result<Self, Error>
         ensures ok { let t = logical_type data_type in IfOk result (λ array.
-            Passes (array_tests K.is_text (K.layout O.IS_LARGE) K.wrong_type t offsets values validity)
+            Passes (array_tests K.is_text (K.layout O.IS_LARGE) K.wrong_type t
+            offsets values validity)
             × (array ≡ byte_column t offsets values validity)) }
         ensures err { let t = logical_type data_type in IfErr result (λ e. IsFirstFailure
-            (array_tests K.is_text (K.layout O.IS_LARGE) K.wrong_type t offsets values validity)
+            (array_tests K.is_text (K.layout O.IS_LARGE) K.wrong_type t
+            offsets values validity)
             (refusal e)) }
     {
         let mut cost = TextCost::new();
         ByteArray::try_new_counted(data_type, offsets, values, validity, &mut cost)
     }
 
-    /// The array of such parts, as `try_new`. What the test of text costs is added to the counts: for all slots
-    /// together one test whether bytes are ASCII, and where they are not one whether they are UTF-8, and one look at most
-    /// for each offset between two slots.
+    /// Creates an array from its parts, as `try_new` does. What the test of text costs is added to the counts: for all
+    /// slots together one test whether bytes are ASCII, and if they are not one whether they are UTF-8, and at most one
+    /// look for each offset between two slots.
     ///
     /// # Errors
     /// As of `try_new`; the counts may have risen.
@@ -83,10 +87,12 @@ impl<K: ByteKind, O: Offset> ByteArray<K, O> {
         cost: &mut TextCost,
     ) -> Result<Self, Error>
         ensures ok { let t = logical_type data_type in IfOk result (λ array.
-            Passes (array_tests K.is_text (K.layout O.IS_LARGE) K.wrong_type t offsets values validity)
+            Passes (array_tests K.is_text (K.layout O.IS_LARGE) K.wrong_type t
+            offsets values validity)
             × (array ≡ byte_column t offsets values validity)) }
         ensures err { let t = logical_type data_type in IfErr result (λ e. IsFirstFailure
-            (array_tests K.is_text (K.layout O.IS_LARGE) K.wrong_type t offsets values validity)
+            (array_tests K.is_text (K.layout O.IS_LARGE) K.wrong_type t
+            offsets values validity)
             (refusal e)) }
         ensures counted { TestsOnce offsets values cost.old cost.new }
         ensures exact { Costs K.is_text offsets values cost.old cost.new }
@@ -104,8 +110,8 @@ impl<K: ByteKind, O: Offset> ByteArray<K, O> {
     }
 }
 
-/// The stored values of a builder's parts, each of which has to be an item of the kind, under a type of its physical
-/// type. What the test costs is added to the counts.
+/// Returns the stored values of a builder's parts, each of which has to be an item of the kind, under a type of its
+/// physical type. What the test costs is added to the counts.
 fn builder_values<K: ByteKind, O: Offset>(
     data_type: &DataType,
     offsets: Offsets<O>,
@@ -136,9 +142,9 @@ impl<K: ByteKind, O: Offset> MutableByteArray<K, O> {
     /// none after the last.
     ///
     /// # Errors
-    /// `OutOfSpec` where the last offset is another than the number of values; or else where a slot is no item of the
-    /// kind (text that is not UTF-8 by itself); or else where the type is none of the builder's physical type; or else
-    /// where a mask has another number of marks than there are slots.
+    /// `OutOfSpec` if the last offset is another than the number of values; or else if a slot is no item of the kind
+    /// (text that is not UTF-8 by itself); or else if the type is none of the builder's physical type; or else if a
+    /// mask has another number of marks than there are slots.
     pub fn try_new(
         data_type: DataType,
         offsets: Offsets<O>,
@@ -158,9 +164,9 @@ impl<K: ByteKind, O: Offset> MutableByteArray<K, O> {
         MutableByteArray::try_new_counted(data_type, offsets, values, validity, &mut cost)
     }
 
-    /// The builder of such parts, as `try_new`. What the test of text costs is added to the counts: for all slots
-    /// together one test whether bytes are ASCII, and where they are not one whether they are UTF-8, and one look at most
-    /// for each offset between two slots.
+    /// Creates a builder from its parts, as `try_new` does. What the test of text costs is added to the counts: for all
+    /// slots together one test whether bytes are ASCII, and if they are not one whether they are UTF-8, and at most one
+    /// look for each offset between two slots.
     ///
     /// # Errors
     /// As of `try_new`; the counts may have risen.
@@ -197,8 +203,8 @@ impl<K: ByteKind, O: Offset> MutableByteValuesArray<K, O> {
     /// none after the last.
     ///
     /// # Errors
-    /// `OutOfSpec` where the last offset is another than the number of values; or else where an item is none of the
-    /// kind (text that is not UTF-8 by itself); or else where the type is none of the builder's physical type.
+    /// `OutOfSpec` if the last offset is another than the number of values; or else if an item is none of the kind
+    /// (text that is not UTF-8 by itself); or else if the type is none of the builder's physical type.
     pub fn try_new(data_type: DataType, offsets: Offsets<O>, values: Vec<u8>) -> Result<Self, Error>
         ensures ok { let t = logical_type data_type in IfOk result (λ builder.
             Passes (values_builder_tests K.is_text (K.layout O.IS_LARGE) K.wrong_builder_type t
@@ -213,9 +219,9 @@ impl<K: ByteKind, O: Offset> MutableByteValuesArray<K, O> {
         MutableByteValuesArray::try_new_counted(data_type, offsets, values, &mut cost)
     }
 
-    /// The builder of such parts, as `try_new`. What the test of text costs is added to the counts: for all items
-    /// together one test whether bytes are ASCII, and where they are not one whether they are UTF-8, and one look at most
-    /// for each offset between two items.
+    /// Creates a builder from its parts, as `try_new` does. What the test of text costs is added to the counts: for all
+    /// items together one test whether bytes are ASCII, and if they are not one whether they are UTF-8, and at most one
+    /// look for each offset between two items.
     ///
     /// # Errors
     /// As of `try_new`; the counts may have risen.

@@ -1,15 +1,11 @@
 //! Text: an item is UTF-8 by itself.
 ghost use Rattle.std.specs.Prelude.{◌≡◌, ◌<◌, Some, length, slice_get};
-ghost use Rattle.arrow_check.specs.Items.{IsWithin, rest_of};
 ghost use Rattle.arrow_check.specs.Utf8.{IsWellFormed};
 
-use crate::{ByteItem, ByteItems, ByteKind, ByteValues, ItemError, MutableByteValues};
-use arrow_check::accessor::{ArrayAccessor, Bytes};
+use crate::{ByteItem, ByteKind, ByteValues, ItemError, MutableByteValues};
 use arrow_check::cost::{TextBytes, TextCost};
 use arrow_check::laws::well_formed_is_utf8;
 use arrow_check::text::check_utf8;
-use arrow_check::values_iter::ArrayValuesIter;
-use arrow_memory::list_iter::ListIter;
 use arrow_types::data_type::DataType;
 use arrow_types::error::Error;
 use arrow_types::offset::Offset;
@@ -140,143 +136,5 @@ impl<O: Offset> MutableByteValues<Utf8, O> {
         ensures { slice_get self.now.items i ≡ Some result.now }
     {
         text_of(self.value(i))
-    }
-}
-
-impl<'a, O: Offset> ArrayAccessor<'a> for ByteValues<Utf8, O> {
-    ghost use Rattle.std.specs.Prelude.{◌≡◌, ◌<◌, List, ℕ, Some, length, slice_get};
-
-    type Item = &'a str;
-
-    ghost Seen = { List ℕ };
-
-    ghost seen = { λ item. item.now };
-
-    ghost items = { λ values. values.items };
-
-    #[inline(always)]
-    fn value(&'a self, index: usize) -> &'a str
-        requires { index < length self.now.items }
-        ensures { slice_get self.now.items index ≡ Some result.now }
-    {
-        self.text(index)
-    }
-
-    #[inline(always)]
-    fn len(&self) -> usize
-        ensures { result ≡ length self.now.items }
-    {
-        self.len()
-    }
-}
-
-impl<'a, O: Offset> ByteValues<Utf8, O> {
-    /// The items in order.
-    #[inline(always)]
-    pub fn iter(&'a self) -> ByteItems<'a, ByteValues<Utf8, O>>
-        ensures ready { IsWithin (λ values. values.items) result.items }
-        ensures all { rest_of (λ values. values.items) result.items ≡ self.now.items }
-    {
-        ByteItems {
-            items: ArrayValuesIter::new(self),
-        }
-    }
-}
-
-impl<'a, O: Offset> ListIter for ByteItems<'a, ByteValues<Utf8, O>> {
-    ghost use Rattle.arrow_check.specs.Items.{IsWithin, rest_of};
-
-    type Item = &'a str;
-
-    type Seen = Bytes;
-
-    ghost seen = { λ item. item.now };
-
-    ghost rest = { λ left. rest_of (λ values. values.items) left.items };
-
-    ghost can_take = { λ left. IsWithin (λ values. values.items) left.items };
-
-    #[inline(always)]
-    fn take_first(&mut self) -> Option<&'a str> {
-        self.items.next()
-    }
-
-    #[inline(always)]
-    fn take_last(&mut self) -> Option<&'a str> {
-        self.items.next_back()
-    }
-
-    #[inline(always)]
-    fn count_left(&self) -> usize {
-        self.items.len()
-    }
-}
-
-impl<'a, O: Offset> ArrayAccessor<'a> for MutableByteValues<Utf8, O> {
-    ghost use Rattle.std.specs.Prelude.{◌≡◌, ◌<◌, List, ℕ, Some, length, slice_get};
-
-    type Item = &'a str;
-
-    ghost Seen = { List ℕ };
-
-    ghost seen = { λ item. item.now };
-
-    ghost items = { λ values. values.items };
-
-    #[inline(always)]
-    fn value(&'a self, index: usize) -> &'a str
-        requires { index < length self.now.items }
-        ensures { slice_get self.now.items index ≡ Some result.now }
-    {
-        self.text(index)
-    }
-
-    #[inline(always)]
-    fn len(&self) -> usize
-        ensures { result ≡ length self.now.items }
-    {
-        self.len()
-    }
-}
-
-impl<'a, O: Offset> MutableByteValues<Utf8, O> {
-    /// The items in order.
-    #[inline(always)]
-    pub fn iter(&'a self) -> ByteItems<'a, MutableByteValues<Utf8, O>>
-        ensures ready { IsWithin (λ values. values.items) result.items }
-        ensures all { rest_of (λ values. values.items) result.items ≡ self.now.items }
-    {
-        ByteItems {
-            items: ArrayValuesIter::new(self),
-        }
-    }
-}
-
-impl<'a, O: Offset> ListIter for ByteItems<'a, MutableByteValues<Utf8, O>> {
-    ghost use Rattle.arrow_check.specs.Items.{IsWithin, rest_of};
-
-    type Item = &'a str;
-
-    type Seen = Bytes;
-
-    ghost seen = { λ item. item.now };
-
-    ghost rest = { λ left. rest_of (λ values. values.items) left.items };
-
-    ghost can_take = { λ left. IsWithin (λ values. values.items) left.items };
-
-    #[inline(always)]
-    fn take_first(&mut self) -> Option<&'a str> {
-        self.items.next()
-    }
-
-    #[inline(always)]
-    fn take_last(&mut self) -> Option<&'a str> {
-        self.items.next_back()
-    }
-
-    #[inline(always)]
-    fn count_left(&self) -> usize {
-        self.items.len()
     }
 }

@@ -72,7 +72,7 @@ mask-match mask P Q none some = go (eqb mask 0) refl
 pub block-match : (bytes : List ℕ) → length bytes ≡ 64 → MatchBool (eqb (high_mask 64 bytes % 2 ^ 64) 0) (IsAscii bytes) (IsNotAscii bytes)
 block-match bytes long =
     let small : high_mask 64 bytes % 2 ^ 64 ≡ high_mask 64 bytes =
-        mask_l-mod _ 64 (omega (arith, length-map (zip2 at_least (replicate 64 128) bytes) (top 7), length-zip2 at_least (replicate 64 128) bytes (sym long))) in
+    mask_l-mod _ 64 (omega (arith, length-map (zip2 at_least (replicate 64 128) bytes) (top 7), length-zip2 at_least (replicate 64 128) bytes (sym long))) in
     let same : high_mask (length bytes) bytes ≡ high_mask 64 bytes % 2 ^ 64 = ap (λ n. high_mask n bytes) long ∙ sym small in
     mask-match (high_mask 64 bytes % 2 ^ 64) (IsAscii bytes) (IsNotAscii bytes) (λ none. none-high bytes (same ∙ none)) (λ some. some-high bytes (omega (arith, same, some)))
 

@@ -1,7 +1,7 @@
 -- How often acts were done, one after the other.
-use Rattle.std.proofs.Common.{ℕ, zero, suc, ◌+◌, ◌≤◌, refl, sym, subst, ◌∙◌, arith}
+use Rattle.std.proofs.Common.{◌≡◌, ℕ, zero, suc, ◌+◌, ◌≤◌, refl, sym, subst, ap, ◌∙◌, arith}
 use Rattle.std.proofs.lemmas.Bool.Decides.{nat_tests}
-use Rattle.arrow_check.specs.Reading.{Reading, LooksAtMost, RisesAtMost, ReadsAtMost, one_more, after_ascii, after_whole_test, after_look, after_looks}
+use Rattle.arrow_check.specs.Reading.{Reading, LooksAtMost, RisesAtMost, ReadsAtMost, many_more, one_more, after_ascii, after_whole_test, after_look, after_looks}
 
 rises-then : (a b old now new : ℕ) → RisesAtMost a old now → RisesAtMost b now new → RisesAtMost (a + b) old new
 rises-then a b old now new first then = record { never_falls = omega arith; most = omega arith }
@@ -47,3 +47,11 @@ reads-all most r new looked =
     let looks = looks-read looked.looks (after_whole_test (after_ascii r)) in
     subst (ReadsAtMost 1 1 most r) (sym looked.is)
     (reads-within 1 1 (0 + looked.looks) 1 1 most r _ (omega arith) (omega arith) (omega (arith, looked.few)) (reads-then 1 1 0 0 0 looked.looks r _ _ both looks))
+
+many-more : (n m count : ℕ) → many_more n (many_more m count) ≡ many_more (n + m) count
+many-more zero m count = ap (λ k. many_more k count) (let e : m ≡ 0 + m = omega arith in e)
+many-more (suc n) m count = ap one_more (many-more n m count) ∙ ap (λ k. many_more k count) (let e : suc (n + m) ≡ suc n + m = omega arith in e)
+
+-- looks in two goes
+pub looks-then : (n m all : ℕ) (r : Reading) → n + m ≡ all → after_looks n (after_looks m r) ≡ after_looks all r
+looks-then n m all r both = (λ k. record r { cost = record r.cost { bytes_looked = many-more n m r.cost.bytes_looked k } }) ∙ ap (λ k. after_looks k r) both

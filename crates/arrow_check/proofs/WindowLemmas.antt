@@ -180,10 +180,19 @@ begin-more numbers old now from i place byte true false stays past is found says
       λ _. refl,
     )
 
--- what is refused doesn't pass
-pub refused : (accepts : List ℕ → Type 0) (numbers old now : List ℕ) → now ≡ old → ¬ (accepts (window_of numbers now) × InnerCutBetween numbers now) → ¬ (PassesWhole accepts numbers old)
-refused accepts numbers old now stays fails passes =
-    fails (subst (λ b. accepts (window_of numbers b)) (sym stays) passes.window, subst (InnerCutBetween numbers) (sym stays) passes.inner)
+-- what was looked at in two goes
+pub begin-join : (numbers old now : List ℕ) (from i upto : ℕ) (first second : Bool) → now ≡ old → from ≤ i → i ≤ upto
+    → (IsTrue first ↔ AllBegin from i numbers old) → (IsTrue second ↔ AllBegin i upto numbers now)
+    → (IsTrue (first && second) ↔ AllBegin from upto numbers old)
+begin-join numbers old now from i upto false second stays low high before behind =
+    (λ no. absurd (false≢true no), λ all. before.1 (λ k some few. all k some (omega arith)))
+begin-join numbers old now from i upto true second stays low high before behind = (
+  λ yes k some few. elim (cases_lt k i) [
+    | inl early ↦ before.0 refl k some early
+    | inr later ↦ subst (λ b. ¬ IsContinuation (get_or b (get_or numbers k 0) 0)) stays (behind.0 yes k (omega arith) few)
+  ],
+  λ all. behind.1 (λ k some few. subst (λ b. ¬ IsContinuation (get_or b (get_or numbers k 0) 0)) (sym stays) (all k (omega arith) few)),
+)
 
 -- ---- a window of ASCII
 

@@ -27,6 +27,14 @@ InnerCutBetween offsets bytes = (i : ℕ) → 0 < i → i + 1 < length offsets �
 abbrev pub AllBegin : ℕ → ℕ → List ℕ → List ℕ → Type 0
 AllBegin from upto offsets bytes = (i : ℕ) → from ≤ i → i < upto → ¬ IsContinuation (slice_index bytes (slice_index offsets i))
 
+-- the offsets from one place up to another lie before an end
+abbrev pub LieBefore : ℕ → ℕ → ℕ → List ℕ → Type 0
+LieBefore from upto end offsets = (i : ℕ) → from ≤ i → i < upto → slice_index offsets i < end
+
+-- the inner offsets from one place on are the end
+abbrev pub LieAt : ℕ → ℕ → List ℕ → Type 0
+LieAt from end offsets = (i : ℕ) → from ≤ i → i + 1 < length offsets → slice_index offsets i ≡ end
+
 -- the offsets lie within the bytes, a judge accepts their window, and the inner ones cut no character of it
 pub record PassesWhole (Accepts : List ℕ → Type 0) (offsets bytes : List ℕ) : Type 0 where
   pub within : last_of offsets ≤ length bytes

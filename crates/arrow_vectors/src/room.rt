@@ -228,11 +228,23 @@ fn comes_and_goes<B: Roomy>(alloc: Global, rt: &impl Abort) -> bool {
 }
 
 #[test]
-fn room_comes_and_goes_for_values_marks_and_bytes(rt: HostRuntime) {
+fn room_for_numbers_comes_and_goes(rt: HostRuntime) {
     assert!(rt; comes_and_goes::<MutablePrimitiveArray<i64>>(rt.alloc(), &rt));
+}
+
+#[test]
+fn room_for_truth_values_comes_and_goes(rt: HostRuntime) {
     assert!(rt; comes_and_goes::<MutableBooleanArray>(rt.alloc(), &rt));
+}
+
+#[test]
+fn room_for_bytes_and_text_comes_and_goes(rt: HostRuntime) {
     assert!(rt; comes_and_goes::<MutableByteArray<Binary, i32>>(rt.alloc(), &rt));
     assert!(rt; comes_and_goes::<MutableByteArray<Utf8, i64>>(rt.alloc(), &rt));
+}
+
+#[test]
+fn room_for_items_without_nulls_comes_and_goes(rt: HostRuntime) {
     assert!(rt; comes_and_goes::<MutableByteValuesArray<Binary, i64>>(rt.alloc(), &rt));
     assert!(rt; comes_and_goes::<MutableByteValuesArray<Utf8, i32>>(rt.alloc(), &rt));
 }

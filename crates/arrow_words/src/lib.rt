@@ -2,6 +2,7 @@
 #![tactic(auto)]
 
 pub mod bits;
+mod digits;
 pub mod fields;
 pub mod items;
 pub mod numbers;

@@ -11,10 +11,10 @@ loop-at-preserved c =
     let front = take half bytes in
     let back = take (length bytes - half) (drop half bytes) in
     let both = both-match c.is_ascii_block-first.result c.is_ascii_block-second.result _ _ _ _ (IsNotAscii bytes)
-        (λ high. high-part bytes 0 half (high-part front at 64 high)) (λ high. high-part bytes half (length bytes - half) (high-part back at 64 high))
-        c.is_ascii_block-first.ensures c.is_ascii_block-second.ensures in
+    (λ high. high-part bytes 0 half (high-part front at 64 high)) (λ high. high-part bytes half (length bytes - half) (high-part back at 64 high))
+    c.is_ascii_block-first.ensures c.is_ascii_block-second.ensures in
     let ascii : IsAscii (take 64 (drop at front)) × IsAscii (take 64 (drop at back)) =
-        subst (λ b. MatchBool b (IsAscii (take 64 (drop at front)) × IsAscii (take 64 (drop at back))) (IsNotAscii bytes)) c.if-not-first-second.false both in
+    subst (λ b. MatchBool b (IsAscii (take 64 (drop at front)) × IsAscii (take 64 (drop at back))) (IsNotAscii bytes)) c.if-not-first-second.false both in
     record {
       within = omega arith;
       front = ascii-more front at 64 c.loop-at.invariant.front ascii.0;
@@ -29,8 +29,8 @@ returns-then-not-first-second c =
     let front = take half bytes in
     let back = take (length bytes - half) (drop half bytes) in
     let both = both-match c.is_ascii_block-first.result c.is_ascii_block-second.result _ _ _ _ (IsNotAscii bytes)
-        (λ high. high-part bytes 0 half (high-part front at 64 high)) (λ high. high-part bytes half (length bytes - half) (high-part back at 64 high))
-        c.is_ascii_block-first.ensures c.is_ascii_block-second.ensures in
+    (λ high. high-part bytes 0 half (high-part front at 64 high)) (λ high. high-part bytes half (length bytes - half) (high-part back at 64 high))
+    c.is_ascii_block-first.ensures c.is_ascii_block-second.ensures in
     subst (λ b. MatchBool b (IsAscii (take 64 (drop at front)) × IsAscii (take 64 (drop at back))) (IsNotAscii bytes)) c.if-not-first-second.true both
 
 pub returns : goal.returns

@@ -3,9 +3,9 @@ use Rattle.std.proofs.lemmas.Bool.{false≢true}
 use Rattle.arrow_memory.specs.Offsets.{numbers_of}
 use Rattle.arrow_memory.proofs.CallerLemmas.{length-numbers}
 use Rattle.arrow_check.specs.Reading.{LooksAtMost, ReadsAtMost, after_ascii, after_looks, after_whole_test}
-use Rattle.arrow_check.specs.Windows.{window_of, inner_before_end, InnerCutBetween}
+use Rattle.arrow_check.specs.Windows.{window_of, inner_before_end, PassesWhole}
 use Rattle.arrow_check.proofs.CountLemmas.{reads-all, reads-ascii}
-use Rattle.arrow_check.proofs.WindowLemmas.{ascii-cuts, not-ascii, refused}
+use Rattle.arrow_check.proofs.WindowLemmas.{ascii-cuts, not-ascii}
 use Rattle.arrow_check.proofs.text.check_text.Goals as goal
 
 -- a window of ASCII passes
@@ -46,8 +46,7 @@ returns-then-not-is_cut_text-clause-exact g c =
       past = λ far. absurd (omega (arith, far, c.in_ok-check_bounds.ensures.ok, c.len.ensures));
       ascii = λ _ ascii. absurd (not-ascii _ c.if-is_ascii_window.ensures.answer ascii);
       other = λ _ _. subst (λ n. LooksAtMost (n - 2) (after_whole_test (after_ascii (g.J.Judge.reading c.args.text.now))) (g.J.Judge.reading c.is_cut_text.new.text)) (sym long) looked;
-      passed = λ passes _. absurd (refused g.J.Judge.accepts (numbers_of g.O.Offset.number c.args.offsets.now) _ _ (ap (λ r. r.bytes) c.is_ascii_window.ensures.counted)
-          (λ both. false≢true (c.if-not-is_cut_text.ensures.answer.1 both)) passes);
+      passed = λ passes _. absurd (false≢true (c.if-not-is_cut_text.ensures.answer.1 (subst (PassesWhole g.J.Judge.accepts (numbers_of g.O.Offset.number c.args.offsets.now)) (sym (ap (λ r. r.bytes) c.is_ascii_window.ensures.counted)) passes)));
     }
 
 pub returns-clause-counted : goal.returns-clause-counted
@@ -69,15 +68,9 @@ returns-clause-exact g c =
 pub returns-then-not-is_cut_text-clause-err : goal.returns-then-not-is_cut_text-clause-err
 returns-then-not-is_cut_text-clause-err g c =
     let stays = ap (λ r. r.bytes) c.is_ascii_window.ensures.counted in
-    (refused g.J.Judge.accepts (numbers_of g.O.Offset.number c.args.offsets.now) _ _ stays (λ both. false≢true (c.if-not-is_cut_text.ensures.answer.1 both)), search rules)
+    let passes_not = λ (passes : PassesWhole g.J.Judge.accepts (numbers_of g.O.Offset.number c.args.offsets.now) (g.J.Judge.reading c.args.text.now).bytes). false≢true (c.if-not-is_cut_text.ensures.answer.1 (subst (PassesWhole g.J.Judge.accepts (numbers_of g.O.Offset.number c.args.offsets.now)) (sym stays) passes)) in
+    (passes_not, search rules)
 
 pub returns-clause-ok : goal.returns-clause-ok
 returns-clause-ok g c =
-    let numbers = numbers_of g.O.Offset.number c.args.offsets.now in
-    let stays = ap (λ r. r.bytes) c.is_ascii_window.ensures.counted in
-    let both = c.if-not-is_cut_text.ensures.answer.0 refl in
-    record {
-      within = omega (arith, c.in_ok-check_bounds.ensures.ok, c.len.ensures);
-      window = subst (λ b. g.J.Judge.accepts (window_of numbers b)) stays both.0;
-      inner = subst (InnerCutBetween numbers) stays both.1;
-    }
+    subst (PassesWhole g.J.Judge.accepts (numbers_of g.O.Offset.number c.args.offsets.now)) (ap (λ r. r.bytes) c.is_ascii_window.ensures.counted) (c.if-not-is_cut_text.ensures.answer.0 refl)

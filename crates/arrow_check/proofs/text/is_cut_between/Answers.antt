@@ -12,7 +12,7 @@ returns-clause-counted g c =
     let count = c.count_before-count.result in
     let last = c.last_number-end.ensures in
     let all = inner-count numbers count c.requires.legal.legal (omega (arith, long, c.count_before-count.ensures.inner))
-        (λ k some few. omega (arith, last, c.count_before-count.ensures.before k some few))
-        (λ more. omega (arith, last, c.count_before-count.ensures.behind (count + 1) (omega arith) (omega (arith, long, more)))) in
+    (λ k some few. omega (arith, last, c.count_before-count.ensures.before k some (omega arith)))
+    (λ more. omega (arith, last, c.count_before-count.ensures.behind (count + 1) (omega arith) (omega arith))) in
     let from_one : count + 1 - 1 ≡ count = omega arith in
-    c.all_begin.ensures.counted ∙ ap (λ n. after_looks n (g.J.Judge.reading c.args.text.now)) (from_one ∙ all)
+    c.all_begin_by_eights.ensures.counted ∙ ap (λ n. after_looks n (g.J.Judge.reading c.args.text.now)) (from_one ∙ all)

@@ -7,6 +7,10 @@ pub returns-then-is_text_window-clause-answer : goal.returns-then-is_text_window
 returns-then-is_text_window-clause-answer g c =
     let numbers = numbers_of g.O.Offset.number c.args.offsets.now in
     let stays = ap (λ r. r.bytes) c.is_text_window.ensures.counted in (
-      λ cut. (c.if-is_text_window.ensures.answer.0 refl, subst (InnerCutBetween numbers) stays (c.is_cut_between.ensures.answer.0 cut)),
-      λ both. c.is_cut_between.ensures.answer.1 (subst (InnerCutBetween numbers) (sym stays) both.1),
+      λ cut. record {
+        within = c.requires.within;
+        window = c.if-is_text_window.ensures.answer.0 refl;
+        inner = subst (InnerCutBetween numbers) stays (c.is_cut_between.ensures.answer.0 cut);
+      },
+      λ passes. c.is_cut_between.ensures.answer.1 (subst (InnerCutBetween numbers) (sym stays) passes.inner),
     )
