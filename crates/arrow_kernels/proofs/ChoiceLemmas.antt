@@ -13,7 +13,7 @@ use Rattle.arrow_types.specs.IndexKey.{index_of}
 use Rattle.arrow_memory.specs.Rows.{FitsMask, Row, slot}
 use Rattle.arrow_column.specs.Masks.{mask_with_nulls}
 use Rattle.arrow_column.specs.Column.{Column, ColumnWith, IsColumn, column_with, mask_of, stored_values}
-use Rattle.arrow_column.proofs.ColumnLemmas.{column_again, slots_valid, valid_by_held}
+use Rattle.arrow_column.proofs.CallerLemmas.{column_again, slots_valid, valid_by_held}
 use Rattle.arrow_check.specs.Indexes.{is_place}
 use Rattle.arrow_kernels.specs.Kernels.{asked, at_key, at_keys, column_of_rows, filtered, first_astray, set_in_both, taken, where_set}
 

@@ -12,33 +12,17 @@ use Rattle.arrow_types.specs.declared.error.Error.{Error}
 use Rattle.arrow_types.specs.declared.error.Error.TheVariants as error
 use Rattle.arrow_column.specs.Column.{stored_values}
 use Rattle.arrow_memory.specs.Offsets.{first_of, IsOffsets, last_of, moved_behind}
-use Rattle.arrow_memory.proofs.OffsetLemmas.{legal-piece}
+use Rattle.arrow_memory.proofs.CallerLemmas.{legal-piece}
 use Rattle.arrow_check.specs.Pieces.{bytes_between, bytes_of, ends_after, items_after, items_of, lead_of, offsets_of, tail_of}
 use Rattle.arrow_check.specs.Utf8.{IsWellFormed}
 use Rattle.arrow_bytes.specs.Column.{ByteColumn, bytes_held, offsets_held}
 use Rattle.arrow_bytes.specs.Kinds.{AreItems, CutItems}
 use Rattle.arrow_bytes.specs.Pieces.{Around, around_of, nothing_around}
-use Rattle.arrow_bytes.proofs.PieceLemmas.{bytes-again, ends-joined, items-joined, offsets-again, window-long}
+use Rattle.arrow_bytes.proofs.CallerLemmas.{bytes-again, ends-joined, items-back, items-joined, last-offset, length-offsets}
+use Rattle.arrow_bytes.proofs.CallerLemmas.{offsets-again, window-long, within-back}
 use Rattle.arrow_kernels.specs.Kernels.{at_key, at_keys, where_set}
 
 -- ---- offsets of items
-
-length-ends : (start : ℕ) (items : List (List ℕ)) → length (ends_after start items) ≡ length items
-length-ends start [] = refl
-length-ends start (item ∷ items) = ap suc (length-ends (start + length item) items)
-
-pub length-offsets : (start : ℕ) (items : List (List ℕ)) → length (offsets_of start items) ≡ length items + 1
-length-offsets start items = omega (arith, length-ends start items)
-
-last-end : (start : ℕ) (items : List (List ℕ)) → get_or (offsets_of start items) (length (ends_after start items)) 0 ≡ start + length (concat items)
-last-end start [] = omega arith
-last-end start (item ∷ items) = omega (arith, last-end (start + length item) items, length-append item (concat items))
-
--- the last offset of items
-pub last-offset : (start : ℕ) (items : List (List ℕ)) → last_of (offsets_of start items) ≡ start + length (concat items)
-last-offset start items =
-    ap (λ i. get_or (offsets_of start items) i 0) (let e : suc (length (ends_after start items)) - 1 ≡ length (ends_after start items) = omega arith in e)
-    ∙ last-end start items
 
 ends-push : (start : ℕ) (items : List (List ℕ)) (item : List ℕ) → ends_after start (items ++ item ∷ []) ≡ ends_after start items ++ (start + length (concat items) + length item) ∷ []
 ends-push start [] item = ap (λ k. k ∷ []) (let e : start + length item ≡ start + 0 + length item = omega arith in e)
@@ -66,22 +50,9 @@ offsets-more old new items item was pushed = pushed ∙ ap (λ os. os ++ (last_o
 pub bytes-more : (old new : List ℕ) (items : List (List ℕ)) (item : List ℕ) → old ≡ concat items → new ≡ old ++ item → new ≡ concat (items ++ item ∷ [])
 bytes-more old new items item was pushed = pushed ∙ ap (λ bytes. bytes ++ item) was ∙ sym (bytes-push items item)
 
-after-again : (lead : List ℕ) (items : List (List ℕ)) (tail : List ℕ) → items_after (length lead) (ends_after (length lead) items) (lead ++ (concat items ++ tail)) ≡ items
-after-again lead [] tail = refl
-after-again lead (item ∷ items) tail =
-    let start : length lead + length item - length lead ≡ length item = omega arith in
-    let whole : (item ++ concat items) ++ tail ≡ item ++ (concat items ++ tail) = append_assoc item (concat items) tail in
-    let first : bytes_between (length lead) (length lead + length item) (lead ++ ((item ++ concat items) ++ tail)) ≡ item =
-    ap₂ take start (drop_at lead ((item ++ concat items) ++ tail) (length lead) refl ∙ whole) ∙ take_at item (concat items ++ tail) (length item) refl in
-    let moved : lead ++ ((item ++ concat items) ++ tail) ≡ (lead ++ item) ++ (concat items ++ tail) = ap (λ rest. lead ++ rest) whole ∙ sym (append_assoc lead item (concat items ++ tail)) in
-    ap₂ ◌∷◌ first (
-    ap₂ (λ k bytes. items_after k (ends_after k items) bytes) (sym (length-append lead item)) moved
-    ∙ after-again (lead ++ item) items tail
-    )
-
 -- items that have offsets and bytes alone
 pub items-alone : (items : List (List ℕ)) → items_of (offsets_of 0 items) (concat items) ≡ items
-items-alone items = ap (items_of (offsets_of 0 items)) (sym (append-nil (concat items))) ∙ after-again [] items []
+items-alone items = ap (items_of (offsets_of 0 items)) (sym (append-nil (concat items))) ∙ items-back [] items []
 
 -- the bytes that offsets cut items out of
 cut-bytes : (os bytes : List ℕ) → IsOffsets os → last_of os ≤ length bytes → concat (items_of os bytes) ≡ bytes_between (first_of os) (last_of os) bytes
@@ -147,33 +118,7 @@ keys-length number n keys items =
 
 -- ---- items of offsets
 
-item-after : (x : ℕ) (ys bytes : List ℕ) (i : ℕ) → i < length ys → slice_get (items_after x ys bytes) i ≡ Some (bytes_between (get_or (x ∷ ys) i 0) (get_or ys i 0) bytes)
-item-after x [] bytes i low = absurd (omega (arith, low))
-item-after x (y ∷ ys) bytes zero low = refl
-item-after x (y ∷ ys) bytes (suc i) low = item-after y ys bytes i (omega (arith, low))
-
-pub item-between : (os bytes : List ℕ) (i : ℕ) → i + 1 < length os → slice_get (items_of os bytes) i ≡ Some (bytes_between (get_or os i 0) (get_or os (i + 1) 0) bytes)
-item-between [] bytes i low = absurd (omega (arith, low))
-item-between (x ∷ ys) bytes i low =
-    item-after x ys bytes i (omega (arith, low))
-    ∙ ap (λ k. Some (bytes_between (get_or (x ∷ ys) i 0) (get_or (x ∷ ys) k 0) bytes)) (let e : suc i ≡ i + 1 = omega arith in e)
-
-length-after : (x : ℕ) (ys bytes : List ℕ) → length (items_after x ys bytes) ≡ length ys
-length-after x [] bytes = refl
-length-after x (y ∷ ys) bytes = ap suc (length-after y ys bytes)
-
-pub length-items : (os bytes : List ℕ) → 0 < length os → length (items_of os bytes) + 1 ≡ length os
-length-items [] bytes some = absurd (omega (arith, some))
-length-items (x ∷ ys) bytes some = omega (arith, length-after x ys bytes)
-
--- the items of an array are cut out of its bytes by its offsets
-pub items-held : (lead : List ℕ) (items : List (List ℕ)) (tail : List ℕ) → items_of (offsets_of (length lead) items) (bytes_of lead items tail) ≡ items
-items-held = after-again
-
-pub ends-held : (lead : List ℕ) (items : List (List ℕ)) (tail : List ℕ) → last_of (offsets_of (length lead) items) ≤ length (bytes_of lead items tail)
-ends-held lead items tail = omega (arith, last-offset (length lead) items, length-append lead (concat items ++ tail), length-append (concat items) tail)
-
--- the same of an array's column
+-- the items of an array's column are cut out of its bytes by its offsets
 pub count-held : (column : ByteColumn) (os : List ℕ) (n : ℕ) → os ≡ offsets_held column → n ≡ length column.rows → n + 1 ≡ length os
 count-held column os n same long =
     let offsets = ap length same ∙ length-offsets (length column.around.lead) (stored_values column) in
@@ -181,10 +126,10 @@ count-held column os n same long =
     omega (arith, offsets, values, long)
 
 pub within-held : (column : ByteColumn) (os bytes : List ℕ) → os ≡ offsets_held column → bytes ≡ bytes_held column → last_of os ≤ length bytes
-within-held column os bytes e f = omega (arith, ap last_of e, ap length f, ends-held column.around.lead (stored_values column) column.around.tail)
+within-held column os bytes e f = omega (arith, ap last_of e, ap length f, within-back column.around.lead (stored_values column) column.around.tail)
 
 pub items-of-held : (column : ByteColumn) (os bytes : List ℕ) → os ≡ offsets_held column → bytes ≡ bytes_held column → items_of os bytes ≡ stored_values column
-items-of-held column os bytes e f = ap₂ items_of e f ∙ items-held column.around.lead (stored_values column) column.around.tail
+items-of-held column os bytes e f = ap₂ items_of e f ∙ items-back column.around.lead (stored_values column) column.around.tail
 
 pub around-alone : (items : List (List ℕ)) → around_of (offsets_of 0 items) (concat items) ≡ nothing_around
 around-alone items =

@@ -216,15 +216,22 @@ fn with_room<B: Roomy>(alloc: Global, rt: &impl Abort) -> B {
     builder
 }
 
+/// Whether there is room of each sort for a thousand.
+fn are_there(rooms: [usize; 3]) -> bool {
+    (1000 <= rooms[0]) & (1000 <= rooms[1]) & (1000 <= rooms[2])
+}
+
+/// Whether there is none of them.
+fn are_gone(rooms: [usize; 3]) -> bool {
+    (rooms[0] < 1000) & (rooms[1] < 1000) & (rooms[2] < 1000)
+}
+
 /// Whether there is room of each sort for a thousand slots, and no longer once it is given back.
 fn comes_and_goes<B: Roomy>(alloc: Global, rt: &impl Abort) -> bool {
-    let is_there = with_room::<B>(alloc, rt)
-        .rooms(rt)
-        .iter()
-        .all(|room| 1000 <= *room);
+    let rooms = with_room::<B>(alloc, rt).rooms(rt);
     let mut builder = with_room::<B>(alloc, rt);
     builder.drop_room().expect(rt, "no memory");
-    is_there & builder.rooms(rt).iter().all(|room| *room < 1000)
+    are_there(rooms) & are_gone(builder.rooms(rt))
 }
 
 #[test]
@@ -249,9 +256,15 @@ fn room_for_items_without_nulls_comes_and_goes(rt: HostRuntime) {
     assert!(rt; comes_and_goes::<MutableByteValuesArray<Utf8, i32>>(rt.alloc(), &rt));
 }
 
+/// For how many truth values a new builder with room for a thousand has room.
+fn room_of_new(alloc: Global, rt: &impl Abort) -> usize {
+    let builder = MutableBooleanArray::with_capacity(alloc, 1000).expect(rt, "memory");
+    let (_, values, mask) = builder.freeze().expect(rt, "memory").into_inner();
+    drop(mask);
+    room_of_frozen(rt, values)
+}
+
 #[test]
-fn truth_values_fit_in_room_that_was_given(rt: HostRuntime) {
-    let builder = MutableBooleanArray::with_capacity(rt.alloc(), 1000).expect(&rt, "memory");
-    let (_, values, _) = builder.freeze().expect(&rt, "memory").into_inner();
-    assert!(rt; 1000 <= room_of_frozen(&rt, values));
+fn a_thousand_truth_values_fit_in_room_for_a_thousand(rt: HostRuntime) {
+    assert!(rt; 1000 <= room_of_new(rt.alloc(), &rt));
 }

@@ -3,10 +3,10 @@ use Rattle.std.specs.List.{concat}
 use Rattle.std.proofs.lemmas.List.{length-take-le}
 use Rattle.arrow_check.specs.Pieces.{items_of, offsets_of}
 use Rattle.arrow_memory.specs.Offsets.{last_of}
-use Rattle.arrow_memory.proofs.OffsetLemmas.{legal-piece}
-use Rattle.arrow_bytes.proofs.PieceLemmas.{items-cut, last-window}
+use Rattle.arrow_memory.proofs.CallerLemmas.{legal-piece}
+use Rattle.arrow_bytes.proofs.CallerLemmas.{items-cut, last-window, length-items}
 use Rattle.arrow_kernels.specs.Kernels.{where_set}
-use Rattle.arrow_kernels.proofs.ItemLemmas.{bytes-run, length-items, offsets-run}
+use Rattle.arrow_kernels.proofs.ItemLemmas.{bytes-run, offsets-run}
 use Rattle.arrow_kernels.proofs.RunLemmas.{run-next, run-starts}
 use Rattle.arrow_kernels.proofs.keep.keep_runs.Goals as goal
 
