@@ -14,7 +14,7 @@ use arrow_types::physical_type::PhysicalType;
 use std::alloc::Global;
 
 impl MutableBooleanArray {
-    /// Valid slots of these values, and no mask; the data type is Boolean.
+    /// Creates a builder of valid slots with these values, without a mask, of data type `Boolean`.
     #[inline(always)]
     pub(crate) fn from_values(values: MutableBitmap) -> Self
         ensures { result ≡ column_of_parts boolean_type values None }
@@ -24,10 +24,11 @@ impl MutableBooleanArray {
         }
     }
 
-    /// The builder of these slots, which holds a mask exactly where one is null. The data type is Boolean.
+    /// Creates a builder of these slots, which holds a mask exactly if one is null, of data type
+    /// `Boolean`.
     ///
     /// # Errors
-    /// `OutOfMemory` where memory is refused.
+    /// `OutOfMemory` if an allocation fails.
     pub fn from(alloc: Global, slots: &[Option<bool>]) -> Result<Self, Error>
         ensures ok { IfOk result (λ builder. builder ≡ append_slots false (empty_column boolean_type) slots.now) }
         ensures err { IfErr result (λ e. e ≡ Error.OutOfMemory) }
@@ -39,11 +40,11 @@ impl MutableBooleanArray {
         }
     }
 
-    /// The builder of the slots that an iterator gives, which holds a mask exactly where one is null. The data type
-    /// is Boolean. What the iterator says of the number of slots is not trusted.
+    /// Creates a builder of the slots of an iterator, which holds a mask exactly if one is null, of
+    /// data type `Boolean`. `size_hint` is only used to reserve room.
     ///
     /// # Errors
-    /// `OutOfMemory` where memory is refused.
+    /// `OutOfMemory` if an allocation fails.
     pub fn from_iter<I: Iterator<Item = Option<bool>>>(
         alloc: Global,
         iter: I,
@@ -60,10 +61,10 @@ impl MutableBooleanArray {
         }
     }
 
-    /// Valid slots of these values, and no mask; the data type is Boolean.
+    /// Creates valid slots with the values of a slice, without a mask, of data type `Boolean`.
     ///
     /// # Errors
-    /// `OutOfMemory` where memory is refused.
+    /// `OutOfMemory` if an allocation fails.
     pub fn from_slice(alloc: Global, slice: &[bool]) -> Result<Self, Error>
         ensures ok { IfOk result (λ builder. builder ≡ column_of_parts boolean_type slice.now None) }
         ensures err { IfErr result (λ e. e ≡ Error.OutOfMemory) }
@@ -73,10 +74,10 @@ impl MutableBooleanArray {
 }
 
 impl BooleanArray {
-    /// Valid slots of these values, and no mask; the data type is Boolean.
+    /// Creates valid slots with the values of a slice, without a mask, of data type `Boolean`.
     ///
     /// # Errors
-    /// `OutOfMemory` where memory is refused.
+    /// `OutOfMemory` if an allocation fails.
     pub fn from_slice(alloc: Global, slice: &[bool]) -> Result<Self, Error>
         ensures ok { IfOk result (λ array. array ≡ column_of_parts boolean_type slice.now None) }
         ensures err { IfErr result (λ e. e ≡ Error.OutOfMemory) }
@@ -84,10 +85,11 @@ impl BooleanArray {
         Ok(BooleanArray::new(DataType::Boolean, Bitmap::from_slice(alloc, slice)?, None))
     }
 
-    /// The array of these slots, which holds a mask exactly where one is null. The data type is Boolean.
+    /// Creates an array of these slots, which holds a mask exactly if one is null, of data type
+    /// `Boolean`.
     ///
     /// # Errors
-    /// `OutOfMemory` where memory is refused.
+    /// `OutOfMemory` if an allocation fails.
     pub fn from(alloc: Global, slots: &[Option<bool>]) -> Result<Self, Error>
         ensures ok { IfOk result (λ array. array ≡ append_slots false (empty_column boolean_type) slots.now) }
         ensures err { IfErr result (λ e. e ≡ Error.OutOfMemory) }
@@ -95,11 +97,11 @@ impl BooleanArray {
         MutableBooleanArray::from(alloc, slots)?.freeze()
     }
 
-    /// The array of the slots that an iterator gives, which holds a mask exactly where one is null. The data type is
-    /// Boolean. What the iterator says of the number of slots is not trusted.
+    /// Creates an array of the slots of an iterator, which holds a mask exactly if one is null, of
+    /// data type `Boolean`. `size_hint` is only used to reserve room.
     ///
     /// # Errors
-    /// `OutOfMemory` where memory is refused.
+    /// `OutOfMemory` if an allocation fails.
     pub fn from_iter<I: Iterator<Item = Option<bool>>>(
         alloc: Global,
         iter: I,
@@ -115,10 +117,11 @@ impl BooleanArray {
         }
     }
 
-    /// So many null slots that store false, and a mask. The type has to be one of the array's physical type.
+    /// Creates an array of `length` null slots that store false, with a mask. The data type must
+    /// have the array's physical type.
     ///
     /// # Errors
-    /// `OutOfMemory` where memory is refused.
+    /// `OutOfMemory` if an allocation fails.
     pub fn new_null(alloc: Global, data_type: DataType, length: usize) -> Result<Self, Error>
         requires { IsRightType PhysicalType.Boolean (logical_type data_type) }
         ensures ok { IfOk result (λ array. array ≡ column_of_parts (logical_type data_type) (replicate length false) (Some (replicate length false))) }

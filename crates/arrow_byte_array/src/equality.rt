@@ -1,4 +1,4 @@
-//! Equality of builders of one kind, which compares slots alone.
+//! Equality of builders, which compares slots alone.
 ghost use Rattle.std.specs.Prelude.{◌≡◌, ◌↔◌, IsTrue};
 ghost use Rattle.arrow_column.specs.Column.{slots_of};
 ghost use Rattle.arrow_column.specs.SlotEquality.{same_slots};
@@ -18,7 +18,8 @@ impl<K: ByteKind, O: Offset> PartialEq for MutableByteArray<K, O> {
 
     ghost laws = { on_per slots_of (partial_equiv_from_equiv (decided (same_slots same_bytes) (same_slots-Decides same_bytes same_bytes-Decides))) };
 
-    /// Whether both have the same slots. Types, held masks and values under nulls are not compared.
+    /// Returns whether both have the same slots. Data types, held masks and values under nulls are
+    /// not compared.
     fn eq(&self, other: &Self) -> bool
         ensures value { result ≡ same_slots same_bytes (slots_of self.now) (slots_of other.now) }
         ensures decides { IsTrue result ↔ slots_of self.now ≡ slots_of other.now }

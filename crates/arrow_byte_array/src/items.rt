@@ -1,7 +1,7 @@
-//! The items that slots store, in order, as they stand under marks.
+//! The items that slots store, as an iterator that goes with marks.
 use arrow_check::values_iter::ArrayValuesIter;
 
-/// An iterator over the items that the slots of an array or a builder store, from both ends, as they stand under marks.
+/// A double-ended iterator over the items that the slots of an array or a builder store.
 #[derive(Drop)]
 pub struct ByteItems<'a, A> {
     pub(crate) items: ArrayValuesIter<'a, A>,

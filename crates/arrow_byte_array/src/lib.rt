@@ -1,5 +1,5 @@
-//! Arrays of items of bytes and their builders, over a kind of item: bytes, or text (Arrow columnar format, "Variable-size
-//! Binary Layout").
+//! Arrays of bytes and of text and their builders, written once over a kind of items (Arrow
+//! columnar format, "Variable-size Binary Layout").
 #![tactic(auto)]
 
 mod array;

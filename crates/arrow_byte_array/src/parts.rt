@@ -1,4 +1,4 @@
-//! Arrays and builders made of parts from outside, which are tested.
+//! Arrays and builders made of parts from outside, which are checked.
 ghost use Rattle.std.specs.Prelude.{◌≡◌, None, IfOk, IfErr};
 ghost use Rattle.arrow_types.specs.Types.{logical_type, refusal};
 ghost use Rattle.arrow_column.specs.Acceptance.{IsFirstFailure, Passes, accept};
@@ -20,14 +20,14 @@ use arrow_types::data_type::DataType;
 use arrow_types::error::Error;
 use arrow_types::offset::Offset;
 
-/// The text of the refusal of an array's mask.
+/// The text of the error about an array's mask.
 const UNFIT_MASK: &str = "validity mask length must match the number of values";
 
-/// The text of the refusal of a builder's mask.
+/// The text of the error about a builder's mask.
 const UNFIT_BUILDER_MASK: &str = "validity's length must be equal to the number of values";
 
-/// Returns the stored values of an array's parts, each of which has to be an item of the kind. What the test costs is
-/// added to the counts.
+/// Returns the stored values of an array's parts, each of which must be an item of the kind. Adds
+/// the cost of the test to the counts.
 fn array_values<K: ByteKind, O: Offset>(
     offsets: OffsetsBuffer<O>,
     values: Buffer<u8>,
@@ -47,13 +47,13 @@ fn array_values<K: ByteKind, O: Offset>(
 }
 
 impl<K: ByteKind, O: Offset> ByteArray<K, O> {
-    /// Creates an array from its parts. Bytes before the first offset and after the last are allowed and are not
-    /// validated.
+    /// Creates an array from its parts. Bytes before the first offset and after the last are
+    /// allowed and are not validated.
     ///
     /// # Errors
-    /// `OutOfSpec` if the last offset is past the values; or else if a slot is no item of the kind (text that is not
-    /// UTF-8 by itself); or else if a mask has another number of marks than there are slots; or else if the type is
-    /// none of the array's physical type.
+    /// `OutOfSpec` with the first of these that fails: the last offset is at most the number of
+    /// values; every slot is an item of the kind (text is UTF-8 by itself); a mask has a mark for
+    /// each slot; the data type has the array's physical type.
     pub fn try_new(
         data_type: DataType,
         offsets: OffsetsBuffer<O>,
@@ -73,12 +73,12 @@ impl<K: ByteKind, O: Offset> ByteArray<K, O> {
         ByteArray::try_new_counted(data_type, offsets, values, validity, &mut cost)
     }
 
-    /// Creates an array from its parts, as `try_new` does. What the test of text costs is added to the counts: for all
-    /// slots together one test whether bytes are ASCII, and if they are not one whether they are UTF-8, and at most one
-    /// look for each offset between two slots.
+    /// Creates an array from its parts, as `try_new`, and adds the cost of the test of text to the
+    /// counts: for all slots together one test for ASCII, one for UTF-8 if they are not ASCII, and
+    /// at most one look for each offset between two slots.
     ///
     /// # Errors
-    /// As of `try_new`; the counts may have risen.
+    /// As `try_new`; the counts may have risen.
     pub fn try_new_counted(
         data_type: DataType,
         offsets: OffsetsBuffer<O>,
@@ -110,8 +110,8 @@ impl<K: ByteKind, O: Offset> ByteArray<K, O> {
     }
 }
 
-/// Returns the stored values of a builder's parts, each of which has to be an item of the kind, under a type of its
-/// physical type. What the test costs is added to the counts.
+/// Returns the stored values of a builder's parts, each of which must be an item of the kind, under
+/// a data type of the builder's physical type. Adds the cost of the test to the counts.
 fn builder_values<K: ByteKind, O: Offset>(
     data_type: &DataType,
     offsets: Offsets<O>,
@@ -138,13 +138,13 @@ fn builder_values<K: ByteKind, O: Offset>(
 }
 
 impl<K: ByteKind, O: Offset> MutableByteArray<K, O> {
-    /// Creates a builder from its parts. Bytes before the first offset are allowed and are not validated; there are
-    /// none after the last.
+    /// Creates a builder from its parts. Bytes before the first offset are allowed and are not
+    /// validated.
     ///
     /// # Errors
-    /// `OutOfSpec` if the last offset is another than the number of values; or else if a slot is no item of the kind
-    /// (text that is not UTF-8 by itself); or else if the type is none of the builder's physical type; or else if a
-    /// mask has another number of marks than there are slots.
+    /// `OutOfSpec` with the first of these that fails: the last offset is the number of values;
+    /// every slot is an item of the kind (text is UTF-8 by itself); the data type has the builder's
+    /// physical type; a mask has a mark for each slot.
     pub fn try_new(
         data_type: DataType,
         offsets: Offsets<O>,
@@ -164,12 +164,12 @@ impl<K: ByteKind, O: Offset> MutableByteArray<K, O> {
         MutableByteArray::try_new_counted(data_type, offsets, values, validity, &mut cost)
     }
 
-    /// Creates a builder from its parts, as `try_new` does. What the test of text costs is added to the counts: for all
-    /// slots together one test whether bytes are ASCII, and if they are not one whether they are UTF-8, and at most one
-    /// look for each offset between two slots.
+    /// Creates a builder from its parts, as `try_new`, and adds the cost of the test of text to the
+    /// counts: for all slots together one test for ASCII, one for UTF-8 if they are not ASCII, and
+    /// at most one look for each offset between two slots.
     ///
     /// # Errors
-    /// As of `try_new`; the counts may have risen.
+    /// As `try_new`; the counts may have risen.
     pub fn try_new_counted(
         data_type: DataType,
         offsets: Offsets<O>,
@@ -199,12 +199,13 @@ impl<K: ByteKind, O: Offset> MutableByteArray<K, O> {
 }
 
 impl<K: ByteKind, O: Offset> MutableByteValuesArray<K, O> {
-    /// Creates a builder from its parts. Bytes before the first offset are allowed and are not validated; there are
-    /// none after the last.
+    /// Creates a builder from its parts. Bytes before the first offset are allowed and are not
+    /// validated.
     ///
     /// # Errors
-    /// `OutOfSpec` if the last offset is another than the number of values; or else if an item is none of the kind
-    /// (text that is not UTF-8 by itself); or else if the type is none of the builder's physical type.
+    /// `OutOfSpec` with the first of these that fails: the last offset is the number of values;
+    /// every item is one of the kind (text is UTF-8 by itself); the data type has the builder's
+    /// physical type.
     pub fn try_new(data_type: DataType, offsets: Offsets<O>, values: Vec<u8>) -> Result<Self, Error>
         ensures ok { let t = logical_type data_type in IfOk result (λ builder.
             Passes (values_builder_tests K.is_text (K.layout O.IS_LARGE) K.wrong_builder_type t
@@ -219,12 +220,12 @@ impl<K: ByteKind, O: Offset> MutableByteValuesArray<K, O> {
         MutableByteValuesArray::try_new_counted(data_type, offsets, values, &mut cost)
     }
 
-    /// Creates a builder from its parts, as `try_new` does. What the test of text costs is added to the counts: for all
-    /// items together one test whether bytes are ASCII, and if they are not one whether they are UTF-8, and at most one
-    /// look for each offset between two items.
+    /// Creates a builder from its parts, as `try_new`, and adds the cost of the test of text to the
+    /// counts: for all items together one test for ASCII, one for UTF-8 if they are not ASCII, and
+    /// at most one look for each offset between two items.
     ///
     /// # Errors
-    /// As of `try_new`; the counts may have risen.
+    /// As `try_new`; the counts may have risen.
     pub fn try_new_counted(
         data_type: DataType,
         offsets: Offsets<O>,

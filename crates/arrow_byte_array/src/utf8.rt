@@ -1,4 +1,4 @@
-//! Text as it is lent and taken: what arrays and builders of text have of their own.
+//! The calls of arrays and builders of text that take or return `&str`.
 ghost use Rattle.std.specs.Prelude.{◌≡◌, ◌<◌, [], false, length, slice_get, Some, OnOk, IfErr, option_map};
 ghost use Rattle.std.specs.Option.{option_copied};
 ghost use Rattle.arrow_column.specs.Column.{append_slot, refused_growth, slot_overflows, slots_of, stored_values};
@@ -161,7 +161,7 @@ impl<'a, O: Offset> ListIter for ByteItems<'a, MutableByteArray<Utf8, O>> {
 }
 
 impl<O: Offset> ByteArray<Utf8, O> {
-    /// The text that is stored at a place, also where the slot is null.
+    /// Returns the text stored at `i`, also if the slot is null.
     #[inline(always)]
     pub fn value(&self, i: usize) -> &str
         requires { i < length self.now.rows }
@@ -170,7 +170,7 @@ impl<O: Offset> ByteArray<Utf8, O> {
         self.column.values().text(i)
     }
 
-    /// The slot at a place: its text, or `None` where it is null.
+    /// Returns the slot at `i`: its text, or `None` if it is null.
     #[inline(always)]
     pub fn get(&self, i: usize) -> Option<&str>
         requires { i < length self.now.rows }
@@ -182,7 +182,7 @@ impl<O: Offset> ByteArray<Utf8, O> {
         Some(self.value(i))
     }
 
-    /// The slots in order.
+    /// Returns an iterator over the slots.
     #[inline(always)]
     pub fn iter(&self) -> ZipValidity<ByteItems<'_, ByteArray<Utf8, O>>, BitmapIter<'_>>
         ensures { result ≡ slots_of self.now }
@@ -191,7 +191,7 @@ impl<O: Offset> ByteArray<Utf8, O> {
         ZipValidity::new(ByteItems { items }, self.column.marks())
     }
 
-    /// What the slots store, in order, null slots too.
+    /// Returns an iterator over the texts that slots store, those of null slots included.
     #[inline(always)]
     pub fn values_iter(&self) -> ArrayValuesIter<'_, ByteArray<Utf8, O>>
         ensures within { IsWithin stored_values result }
@@ -202,7 +202,7 @@ impl<O: Offset> ByteArray<Utf8, O> {
 }
 
 impl<O: Offset> MutableByteArray<Utf8, O> {
-    /// The text that is stored at a place, also where the slot is null.
+    /// Returns the text stored at `i`, also if the slot is null.
     #[inline(always)]
     pub fn value(&self, i: usize) -> &str
         requires { i < length self.now.rows }
@@ -211,11 +211,13 @@ impl<O: Offset> MutableByteArray<Utf8, O> {
         self.column.values().text(i)
     }
 
-    /// Appends a slot. A null stores no byte, and a mask is held from then on.
+    /// Appends a slot. A null stores no byte, and the builder holds a mask from then on.
     ///
     /// # Errors
-    /// `Overflow` where the bytes would end past the greatest offset, which is tested first, or `OutOfMemory` where a
-    /// growth is refused; the builder is then as before.
+    /// - `Overflow` if the bytes would end past the greatest offset; this is checked first.
+    /// - `OutOfMemory` if an allocation fails.
+    ///
+    /// The builder is unchanged on an error.
     #[inline(always)]
     pub fn push(&mut self, value: Option<&str>) -> Result<(), Error>
         ensures ok { OnOk result ((slot_overflows (item_overflows (λ item. item.now) O.most) self.old value.entry ≡ false) × (self.new ≡ append_slot [] self.old (option_map (λ item. item.now) value.entry))) }
@@ -224,10 +226,10 @@ impl<O: Offset> MutableByteArray<Utf8, O> {
         self.column.push(value)
     }
 
-    /// Appends a slot, as `push` does.
+    /// Appends a slot, as `push`.
     ///
     /// # Errors
-    /// As of `push`; the builder is then as before.
+    /// As `push`.
     #[inline(always)]
     pub fn try_push(&mut self, value: Option<&str>) -> Result<(), Error>
         ensures ok { OnOk result ((slot_overflows (item_overflows (λ item. item.now) O.most) self.old value.entry ≡ false) × (self.new ≡ append_slot [] self.old (option_map (λ item. item.now) value.entry))) }
@@ -236,7 +238,7 @@ impl<O: Offset> MutableByteArray<Utf8, O> {
         self.push(value)
     }
 
-    /// The slots in order.
+    /// Returns an iterator over the slots.
     #[inline(always)]
     pub fn iter(&self) -> ZipValidity<ByteItems<'_, MutableByteArray<Utf8, O>>, BitmapIter<'_>>
         ensures { result ≡ slots_of self.now }
@@ -245,7 +247,7 @@ impl<O: Offset> MutableByteArray<Utf8, O> {
         ZipValidity::new(ByteItems { items }, self.column.marks())
     }
 
-    /// What the slots store, in order, null slots too.
+    /// Returns an iterator over the texts that slots store, those of null slots included.
     #[inline(always)]
     pub fn values_iter(&self) -> ArrayValuesIter<'_, MutableByteArray<Utf8, O>>
         ensures within { IsWithin stored_values result }
@@ -256,7 +258,7 @@ impl<O: Offset> MutableByteArray<Utf8, O> {
 }
 
 impl<O: Offset> MutableByteValuesArray<Utf8, O> {
-    /// The item at a place.
+    /// Returns the text at `i`.
     #[inline(always)]
     pub fn value(&self, i: usize) -> &str
         requires { i < length self.now.rows }
@@ -265,11 +267,13 @@ impl<O: Offset> MutableByteValuesArray<Utf8, O> {
         self.column.values().text(i)
     }
 
-    /// Appends an item.
+    /// Appends a text.
     ///
     /// # Errors
-    /// `Overflow` where the bytes would end past the greatest offset, which is tested first, or `OutOfMemory` where a
-    /// growth is refused; the builder is then as before.
+    /// - `Overflow` if the bytes would end past the greatest offset; this is checked first.
+    /// - `OutOfMemory` if an allocation fails.
+    ///
+    /// The builder is unchanged on an error.
     #[inline(always)]
     pub fn push(&mut self, value: &str) -> Result<(), Error>
         ensures ok { OnOk result ((overflows_by O.most self.old.around (stored_values self.old) (length value.now) ≡ false) × (self.new ≡ append_slot [] self.old (Some value.now))) }
@@ -278,10 +282,10 @@ impl<O: Offset> MutableByteValuesArray<Utf8, O> {
         self.column.push_unmasked(value)
     }
 
-    /// Appends an item, as `push` does.
+    /// Appends a text, as `push`.
     ///
     /// # Errors
-    /// As of `push`; the builder is then as before.
+    /// As `push`.
     #[inline(always)]
     pub fn try_push(&mut self, value: &str) -> Result<(), Error>
         ensures ok { OnOk result ((overflows_by O.most self.old.around (stored_values self.old) (length value.now) ≡ false) × (self.new ≡ append_slot [] self.old (Some value.now))) }
@@ -290,7 +294,7 @@ impl<O: Offset> MutableByteValuesArray<Utf8, O> {
         self.push(value)
     }
 
-    /// The items in order.
+    /// Returns an iterator over the texts.
     #[inline(always)]
     pub fn iter(&self) -> ArrayValuesIter<'_, MutableByteValuesArray<Utf8, O>>
         ensures within { IsWithin stored_values result }

@@ -1,4 +1,4 @@
-//! Bytes: any bytes are an item.
+//! The kind of bytes, of which any bytes are an item.
 ghost use Rattle.std.specs.Prelude.{◌≡◌};
 
 use crate::{ByteItem, ByteKind, ItemError};
@@ -9,15 +9,15 @@ use arrow_types::offset::Offset;
 use arrow_types::physical_type::PhysicalType;
 use std::alloc::Global;
 
-/// Bytes. Any list of bytes is an item.
+/// The kind of bytes. Any list of bytes is an item.
 #[derive(Copy, Clone)]
 pub struct Binary;
 
-/// The text of the refusal of an array's type.
+/// The text of the error about an array's data type.
 const WRONG_TYPE: &str =
     "BinaryArray can only be initialized with DataType::Binary or DataType::LargeBinary";
 
-/// The text of the refusal of a builder's type.
+/// The text of the error about a builder's data type.
 const WRONG_BUILDER_TYPE: &str =
     "MutableBinaryValuesArray can only be initialized with DataType::Binary or DataType::LargeBinary";
 

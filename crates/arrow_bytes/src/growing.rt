@@ -1,4 +1,4 @@
-//! Stored values of bytes that grow.
+//! Growing lists of byte strings.
 ghost use Rattle.std.specs.Prelude.{◌≡◌, ◌<◌, ◌≤◌, [], length, slice_get, Some, IfOk, IfErr};
 ghost use Rattle.arrow_memory.specs.Offsets.{last_of, IsOffsets};
 ghost use Rattle.arrow_check.specs.Pieces.{bytes_of, items_of, offsets_of};
@@ -16,7 +16,8 @@ use arrow_types::offset::Offset;
 use std::alloc::Global;
 use std::marker::{Model, PhantomData};
 
-/// Stored values of bytes that grow. There may be bytes before the first of them, and there are none behind the last.
+/// The byte strings that a builder stores. Bytes may lie before the first of them; none lie after
+/// the last.
 #[derive(Drop)]
 pub struct MutableByteValues<K: ByteKind, O: Offset> {
     pub(crate) offsets: Offsets<O>,
@@ -41,7 +42,7 @@ impl<K: ByteKind, O: Offset> Model for MutableByteValues<K, O> {
 
 #[tactic(auto, using(crate::proofs::PieceLemmas::piece_reads, crate::proofs::PieceLemmas::piece_growth, crate::proofs::KindLemmas::kind_growth))]
 impl<K: ByteKind, O: Offset> MutableByteValues<K, O> {
-    /// The items that offsets cut out of bytes, which end at the last offset.
+    /// Creates the items between offsets of bytes that end at the last offset.
     #[inline(always)]
     pub fn new(offsets: Offsets<O>, bytes: Vec<u8>) -> Self
         requires ends { last_of offsets ≡ length bytes.items }
@@ -57,10 +58,10 @@ impl<K: ByteKind, O: Offset> MutableByteValues<K, O> {
         }
     }
 
-    /// No item, with room for so many, and for so many bytes.
+    /// Creates a list of no items with room for at least `capacity` items and `values` bytes.
     ///
     /// # Errors
-    /// `OutOfMemory` where memory is refused.
+    /// `OutOfMemory` if an allocation fails.
     pub fn with_capacities(alloc: Global, capacity: usize, values: usize) -> Result<Self, Error>
         ensures ok { IfOk result (λ values. values ≡ record { around = nothing_around; items = [] }) }
         ensures err { IfErr result (λ e. e ≡ Error.OutOfMemory) }
@@ -74,7 +75,7 @@ impl<K: ByteKind, O: Offset> MutableByteValues<K, O> {
         })
     }
 
-    /// The offsets, and all bytes.
+    /// Returns the offsets and all bytes.
     #[inline(always)]
     pub fn into_inner(self) -> (Offsets<O>, Vec<u8>)
         ensures offsets { result.0 ≡ offsets_of (length self.around.lead) self.items }
@@ -86,7 +87,7 @@ impl<K: ByteKind, O: Offset> MutableByteValues<K, O> {
         (self.offsets, self.bytes)
     }
 
-    /// The offsets.
+    /// Returns the offsets.
     #[inline(always)]
     pub fn offsets(&self) -> &Offsets<O>
         ensures { result.now ≡ offsets_of (length self.now.around.lead) self.now.items }
@@ -94,7 +95,7 @@ impl<K: ByteKind, O: Offset> MutableByteValues<K, O> {
         &self.offsets
     }
 
-    /// All bytes, those before the first item too.
+    /// Returns all bytes, including those before the first item.
     #[inline(always)]
     pub fn bytes(&self) -> &Vec<u8>
         ensures value { result.now.items ≡ bytes_of self.now.around.lead self.now.items self.now.around.tail }
@@ -104,7 +105,7 @@ impl<K: ByteKind, O: Offset> MutableByteValues<K, O> {
         &self.bytes
     }
 
-    /// The number of items.
+    /// Returns the number of items.
     #[inline(always)]
     pub fn len(&self) -> usize
         ensures { result ≡ length self.now.items }
@@ -112,7 +113,7 @@ impl<K: ByteKind, O: Offset> MutableByteValues<K, O> {
         self.offsets.len_proxy()
     }
 
-    /// The item at a place.
+    /// Returns the item at `i`.
     #[inline(always)]
     pub fn value(&self, i: usize) -> &[u8]
         requires { i < length self.now.items }
@@ -123,17 +124,17 @@ impl<K: ByteKind, O: Offset> MutableByteValues<K, O> {
         &self.bytes.as_slice()[start..end]
     }
 
-    /// How many items there is room for without a growth of the offsets; their bytes may have less.
+    /// Returns the number of items for whose offsets there is room; their bytes may have less.
     pub fn capacity(&self) -> usize
         ensures { length self.now.items ≤ result }
     {
         self.offsets.capacity()
     }
 
-    /// The same items, which no longer change. No byte is copied.
+    /// Converts the items into immutable ones without copying bytes.
     ///
     /// # Errors
-    /// `OutOfMemory` where memory is refused; the items are then lost.
+    /// `OutOfMemory` if an allocation fails; the items are then dropped.
     pub fn freeze(self) -> Result<ByteValues<K, O>, Error>
         ensures ok { IfOk result (λ frozen. frozen ≡ self) }
         ensures err { IfErr result (λ e. e ≡ Error.OutOfMemory) }

@@ -1,5 +1,5 @@
-//! Stored values of bytes, of one kind: offsets, and the bytes that they cut into items. Arrays of bytes and of text share
-//! them (Arrow columnar format, "Variable-size Binary Layout").
+//! Stored byte strings of one kind: offsets, and the bytes between them. Arrays of bytes and of
+//! text share them (Arrow columnar format, "Variable-size Binary Layout").
 #![tactic(auto)]
 
 mod around;

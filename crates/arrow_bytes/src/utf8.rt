@@ -1,4 +1,4 @@
-//! Text: an item is UTF-8 by itself.
+//! The kind of text, whose items are UTF-8 by themselves.
 ghost use Rattle.std.specs.Prelude.{◌≡◌, ◌<◌, Some, length, slice_get};
 ghost use Rattle.arrow_check.specs.Utf8.{IsWellFormed};
 
@@ -12,15 +12,15 @@ use arrow_types::offset::Offset;
 use arrow_types::physical_type::PhysicalType;
 use std::alloc::Global;
 
-/// Text. A list of bytes is an item where it is UTF-8.
+/// The kind of text. A list of bytes is an item if it is UTF-8.
 #[derive(Copy, Clone)]
 pub struct Utf8;
 
-/// The text of the refusal of an array's type.
+/// The text of the error about an array's data type.
 const WRONG_TYPE: &str =
     "Utf8Array can only be initialized with DataType::Utf8 or DataType::LargeUtf8";
 
-/// The text of the refusal of a builder's type.
+/// The text of the error about a builder's data type.
 const WRONG_BUILDER_TYPE: &str =
     "MutableUtf8ValuesArray can only be initialized with DataType::Utf8 or DataType::LargeUtf8";
 
@@ -106,7 +106,7 @@ impl<'a> ItemError for &'a str {
     }
 }
 
-/// These bytes as text, which they are.
+/// Returns bytes that are text as a `&str`, without a test.
 #[inline(always)]
 fn text_of(bytes: &[u8]) -> &str
     requires { IsWellFormed bytes.now }
@@ -118,7 +118,7 @@ fn text_of(bytes: &[u8]) -> &str
 }
 
 impl<O: Offset> ByteValues<Utf8, O> {
-    /// The text at a place.
+    /// Returns the text at `i`.
     #[inline(always)]
     pub fn text(&self, i: usize) -> &str
         requires { i < length self.now.items }
@@ -129,7 +129,7 @@ impl<O: Offset> ByteValues<Utf8, O> {
 }
 
 impl<O: Offset> MutableByteValues<Utf8, O> {
-    /// The text at a place.
+    /// Returns the text at `i`.
     #[inline(always)]
     pub fn text(&self, i: usize) -> &str
         requires { i < length self.now.items }
