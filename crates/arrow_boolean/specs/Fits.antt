@@ -16,7 +16,8 @@ wrong_type = out_of_spec (codes "BooleanArray can only be initialized with a Dat
 
 -- the refusal of a builder's type of another physical type
 abbrev pub wrong_builder_type : Refusal
-wrong_builder_type = out_of_spec (codes "MutableBooleanArray can only be initialized with a DataType whose physical type is Boolean")
+wrong_builder_type = out_of_spec
+    (codes "MutableBooleanArray can only be initialized with a DataType whose physical type is Boolean")
 
 -- the tests of an array's parts, in order: a mask has a mark for each value, and the type's physical type is Boolean
 abbrev pub array_tests : LogicalType → List Bool → Option (List Bool) → Tests

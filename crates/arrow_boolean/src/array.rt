@@ -1,9 +1,11 @@
 //! Arrays of truth values.
 ghost use Rattle.std.specs.Prelude.{◌≡◌, ◌<◌, length, not, count_by, slice_get, Some, IfOk, IfErr};
 ghost use Rattle.std.specs.Option.{option_copied};
+ghost use Rattle.arrow_types.specs.Failures.{OnlyOutOfMemory};
 ghost use Rattle.arrow_types.specs.Types.{logical_type, IsRightType};
 ghost use Rattle.arrow_memory.specs.Rows.{FitsMask};
-ghost use Rattle.arrow_column.specs.Column.{FitsCut, IsColumn, column_of_parts, cut, empty_column, mask_of, marks_of, slots_of, stored_values};
+ghost use Rattle.arrow_column.specs.Column.{FitsCut, IsColumn, column_of_parts, cut, empty_column, mask_of};
+ghost use Rattle.arrow_column.specs.Column.{marks_of, slots_of, stored_values};
 
 use arrow_column::FrozenColumn;
 use arrow_memory::bitmap::Bitmap;
@@ -54,7 +56,7 @@ impl BooleanArray {
     pub fn new_empty(alloc: Global, data_type: DataType) -> Result<Self, Error>
         requires { IsRightType PhysicalType.Boolean (logical_type data_type) }
         ensures ok { IfOk result (λ array. array ≡ empty_column (logical_type data_type)) }
-        ensures err { IfErr result (λ e. e ≡ Error.OutOfMemory) }
+        ensures err { OnlyOutOfMemory result }
     {
         Ok(BooleanArray::new(data_type, Bitmap::new(alloc)?, None))
     }
@@ -176,7 +178,7 @@ impl BooleanArray {
     /// `OutOfMemory` if an allocation fails.
     pub fn clone(&self) -> Result<Self, Error>
         ensures ok { IfOk result (λ copy. copy ≡ self.now) }
-        ensures err { IfErr result (λ e. e ≡ Error.OutOfMemory) }
+        ensures err { OnlyOutOfMemory result }
     {
         Ok(BooleanArray {
             column: self.column.clone()?,

@@ -1,8 +1,10 @@
 //! Builders of arrays of truth values.
 ghost use Rattle.std.specs.Prelude.{◌≡◌, ◌<◌, length, false, None, OnOk, IfOk, IfErr, IsOk};
 ghost use Rattle.std.specs.Option.{option_copied};
+ghost use Rattle.arrow_types.specs.Failures.{OnlyOutOfMemory, OutOfMemoryKeeps};
 ghost use Rattle.arrow_types.specs.Types.{logical_type, IsRightType};
-ghost use Rattle.arrow_column.specs.Column.{IsColumn, append_slot, empty_column, last_slot, mask_of, stored_values, with_slot, without_last};
+ghost use Rattle.arrow_column.specs.Column.{IsColumn, append_slot, empty_column, last_slot, mask_of, stored_values};
+ghost use Rattle.arrow_column.specs.Column.{with_slot, without_last};
 ghost use Rattle.arrow_boolean.specs.Fits.{boolean_type};
 
 use crate::BooleanArray;
@@ -56,7 +58,7 @@ impl MutableBooleanArray {
     /// `OutOfMemory` if an allocation fails.
     pub fn with_capacity(alloc: Global, capacity: usize) -> Result<Self, Error>
         ensures ok { IfOk result (λ builder. builder ≡ empty_column boolean_type) }
-        ensures err { IfErr result (λ e. e ≡ Error.OutOfMemory) }
+        ensures err { OnlyOutOfMemory result }
     {
         Ok(MutableBooleanArray::from_values(MutableBitmap::with_capacity(alloc, capacity)?))
     }
@@ -102,7 +104,7 @@ impl MutableBooleanArray {
     #[inline(always)]
     pub fn push(&mut self, value: Option<bool>) -> Result<(), Error>
         ensures ok { OnOk result (self.new ≡ append_slot false self.old value) }
-        ensures err { IfErr result (λ e. (e ≡ Error.OutOfMemory) × (self.new ≡ self.old)) }
+        ensures err { OutOfMemoryKeeps result self.old self.new }
     {
         match value {
             Some(value) => self.column.push_valid(value),
@@ -117,7 +119,7 @@ impl MutableBooleanArray {
     #[inline(always)]
     pub fn try_push(&mut self, value: Option<bool>) -> Result<(), Error>
         ensures ok { OnOk result (self.new ≡ append_slot false self.old value) }
-        ensures err { IfErr result (λ e. (e ≡ Error.OutOfMemory) × (self.new ≡ self.old)) }
+        ensures err { OutOfMemoryKeeps result self.old self.new }
     {
         self.push(value)
     }
@@ -129,7 +131,7 @@ impl MutableBooleanArray {
     #[inline(always)]
     pub fn push_null(&mut self) -> Result<(), Error>
         ensures ok { OnOk result (self.new ≡ append_slot false self.old None) }
-        ensures err { IfErr result (λ e. (e ≡ Error.OutOfMemory) × (self.new ≡ self.old)) }
+        ensures err { OutOfMemoryKeeps result self.old self.new }
     {
         self.column.push_null()
     }
@@ -153,7 +155,7 @@ impl MutableBooleanArray {
     pub fn set(&mut self, i: usize, value: Option<bool>) -> Result<(), Error>
         requires { i < length self.old.rows }
         ensures ok { OnOk result (self.new ≡ with_slot false self.old i value) }
-        ensures err { IfErr result (λ e. (e ≡ Error.OutOfMemory) × (self.new ≡ self.old)) }
+        ensures err { OutOfMemoryKeeps result self.old self.new }
     {
         self.column.set(i, value)
     }
@@ -164,7 +166,7 @@ impl MutableBooleanArray {
     /// `OutOfMemory` if an allocation fails.
     pub fn reserve(&mut self, additional: usize) -> Result<(), Error>
         ensures kept { self.new ≡ self.old }
-        ensures err { IfErr result (λ e. e ≡ Error.OutOfMemory) }
+        ensures err { OnlyOutOfMemory result }
     {
         self.column.reserve(additional)
     }
@@ -186,7 +188,7 @@ impl MutableBooleanArray {
     /// `OutOfMemory` if an allocation fails.
     pub fn clone(&self) -> Result<Self, Error>
         ensures ok { IfOk result (λ copy. copy ≡ self.now) }
-        ensures err { IfErr result (λ e. e ≡ Error.OutOfMemory) }
+        ensures err { OnlyOutOfMemory result }
     {
         Ok(MutableBooleanArray {
             column: self.column.clone()?,
@@ -200,7 +202,7 @@ impl MutableBooleanArray {
     /// `OutOfMemory` if an allocation fails; the builder is then dropped.
     pub fn freeze(self) -> Result<BooleanArray, Error>
         ensures ok { IfOk result (λ array. array ≡ self) }
-        ensures err { IfErr result (λ e. e ≡ Error.OutOfMemory) }
+        ensures err { OnlyOutOfMemory result }
     {
         let (data_type, values, validity) = self.column.freeze_whole_mask()?;
         Ok(BooleanArray::new(data_type, values.freeze()?, validity))

@@ -1,6 +1,7 @@
 //! Replacement of values and masks, and thawing of arrays.
 ghost use Rattle.std.specs.Prelude.{◌≡◌, List, Bool, Some, length, IfSome, MatchOption, OnOk, IfOk, IfErr};
 ghost use Rattle.either.specs.Either.{MatchEither};
+ghost use Rattle.arrow_types.specs.Failures.{OnlyOutOfMemory, OutOfMemoryKeeps};
 ghost use Rattle.arrow_column.specs.Column.{mask_of, stored_values, with_mask, with_stored};
 
 use crate::{BooleanArray, MutableBooleanArray};
@@ -31,8 +32,11 @@ impl BooleanArray {
     /// Does nothing if no mask is held.
     pub fn apply_validity<F: FnOnce(Bitmap) -> Bitmap + Drop>(&mut self, change: F)
         requires callable { IfSome (mask_of self.old) (λ marks. F.pre change marks) }
-        requires keeps { IfSome (mask_of self.old) (λ marks. (changed : List Bool) → F.post change marks changed → length changed ≡ length marks) }
-        ensures { MatchOption (mask_of self.old) (self.new ≡ self.old) (λ marks. (changed : List Bool) × F.post change marks changed × (length changed ≡ length marks) × (self.new ≡ with_mask self.old (Some changed))) }
+        requires keeps { IfSome (mask_of self.old) (λ marks. (changed : List Bool) → F.post change marks changed
+            → length changed ≡ length marks) }
+        ensures { MatchOption (mask_of self.old) (self.new ≡ self.old) (λ marks. (changed : List Bool)
+            × F.post change marks changed × (length changed ≡ length marks)
+            × (self.new ≡ with_mask self.old (Some changed))) }
     {
         self.column.apply_validity(change);
     }
@@ -53,7 +57,7 @@ impl BooleanArray {
     pub fn with_values(&self, values: Bitmap) -> Result<Self, Error>
         requires { length values ≡ length self.now.rows }
         ensures ok { IfOk result (λ array. array ≡ with_stored self.now values) }
-        ensures err { IfErr result (λ e. e ≡ Error.OutOfMemory) }
+        ensures err { OnlyOutOfMemory result }
     {
         let mut array = self.clone()?;
         array.set_values(values);
@@ -72,9 +76,11 @@ impl BooleanArray {
         change: F,
     ) -> Result<(), Error>
         requires callable { F.pre change (stored_values self.old) }
-        requires keeps { (changed : List Bool) → F.post change (stored_values self.old) changed → length changed ≡ length self.old.rows }
-        ensures ok { OnOk result ((changed : List Bool) × F.post change (stored_values self.old) changed × (length changed ≡ length self.old.rows) × (self.new ≡ with_stored self.old changed)) }
-        ensures err { IfErr result (λ e. (e ≡ Error.OutOfMemory) × (self.new ≡ self.old)) }
+        requires keeps { (changed : List Bool) → F.post change (stored_values self.old) changed
+            → length changed ≡ length self.old.rows }
+        ensures ok { OnOk result ((changed : List Bool) × F.post change (stored_values self.old) changed
+            × (length changed ≡ length self.old.rows) × (self.new ≡ with_stored self.old changed)) }
+        ensures err { OutOfMemoryKeeps result self.old self.new }
     {
         self.column.apply_values_mut(change)
     }

@@ -14,7 +14,8 @@ impl PartialEq for MutableBooleanArray {
 
     ghost eq = { λ first second. same_slots beq (slots_of first) (slots_of second) };
 
-    ghost laws = { on_per slots_of (partial_equiv_from_equiv (decided (same_slots beq) (same_slots-Decides beq booleans_Decides))) };
+    ghost laws = { on_per slots_of
+        (partial_equiv_from_equiv (decided (same_slots beq) (same_slots-Decides beq booleans_Decides))) };
 
     /// Returns whether both have the same slots. Data types, held masks and values under nulls are
     /// not compared.

@@ -1,6 +1,7 @@
 //! Growth of builders by many slots.
 ghost use Rattle.std.specs.Prelude.{◌≡◌, List, Bool, Option, Some, false, map, OnOk, IfErr};
 ghost use Rattle.std.specs.Iterator.{Drains, IsFinite, Yields};
+ghost use Rattle.arrow_types.specs.Failures.{OutOfMemoryKeeps};
 ghost use Rattle.arrow_column.specs.Column.{append_slots, joined};
 
 use crate::MutableBooleanArray;
@@ -15,8 +16,10 @@ impl MutableBooleanArray {
     pub fn extend<I: Iterator<Item = Option<bool>>>(&mut self, iter: I) -> Result<(), Error>
         requires can { I.can_next iter }
         requires ends { IsFinite (I.remaining iter) }
-        ensures ok { OnOk result ((items : List (Option Bool)) × Drains I.next_gives iter items × (self.new ≡ append_slots false self.old items)) }
-        ensures err { IfErr result (λ e. (e ≡ Error.OutOfMemory) × ((begun : List (Option Bool)) × (rest : I) × Yields I.next_gives iter begun rest × (self.new ≡ append_slots false self.old begun))) }
+        ensures ok { OnOk result ((items : List (Option Bool)) × Drains I.next_gives iter items
+            × (self.new ≡ append_slots false self.old items)) }
+        ensures err { IfErr result (λ e. (e ≡ Error.OutOfMemory) × ((begun : List (Option Bool)) × (rest : I)
+            × Yields I.next_gives iter begun rest × (self.new ≡ append_slots false self.old begun))) }
     {
         self.column.extend(iter)
     }
@@ -28,8 +31,10 @@ impl MutableBooleanArray {
     pub fn try_extend<I: Iterator<Item = Option<bool>>>(&mut self, iter: I) -> Result<(), Error>
         requires can { I.can_next iter }
         requires ends { IsFinite (I.remaining iter) }
-        ensures ok { OnOk result ((items : List (Option Bool)) × Drains I.next_gives iter items × (self.new ≡ append_slots false self.old items)) }
-        ensures err { IfErr result (λ e. (e ≡ Error.OutOfMemory) × ((begun : List (Option Bool)) × (rest : I) × Yields I.next_gives iter begun rest × (self.new ≡ append_slots false self.old begun))) }
+        ensures ok { OnOk result ((items : List (Option Bool)) × Drains I.next_gives iter items
+            × (self.new ≡ append_slots false self.old items)) }
+        ensures err { IfErr result (λ e. (e ≡ Error.OutOfMemory) × ((begun : List (Option Bool)) × (rest : I)
+            × Yields I.next_gives iter begun rest × (self.new ≡ append_slots false self.old begun))) }
     {
         self.extend(iter)
     }
@@ -42,8 +47,10 @@ impl MutableBooleanArray {
     pub fn extend_values<I: Iterator<Item = bool>>(&mut self, iter: I) -> Result<(), Error>
         requires can { I.can_next iter }
         requires ends { IsFinite (I.remaining iter) }
-        ensures ok { OnOk result ((items : List Bool) × Drains I.next_gives iter items × (self.new ≡ append_slots false self.old (map Some items))) }
-        ensures err { IfErr result (λ e. (e ≡ Error.OutOfMemory) × ((begun : List Bool) × (rest : I) × Yields I.next_gives iter begun rest × (self.new ≡ append_slots false self.old (map Some begun)))) }
+        ensures ok { OnOk result ((items : List Bool) × Drains I.next_gives iter items
+            × (self.new ≡ append_slots false self.old (map Some items))) }
+        ensures err { IfErr result (λ e. (e ≡ Error.OutOfMemory) × ((begun : List Bool) × (rest : I)
+            × Yields I.next_gives iter begun rest × (self.new ≡ append_slots false self.old (map Some begun)))) }
     {
         self.column.extend_values(iter)
     }
@@ -55,7 +62,7 @@ impl MutableBooleanArray {
     /// `OutOfMemory` if an allocation fails; the builder is then unchanged.
     pub fn try_extend_from_self(&mut self, other: &Self) -> Result<(), Error>
         ensures ok { OnOk result (self.new ≡ joined self.old other.now) }
-        ensures err { IfErr result (λ e. (e ≡ Error.OutOfMemory) × (self.new ≡ self.old)) }
+        ensures err { OutOfMemoryKeeps result self.old self.new }
     {
         self.column.try_extend_from_self(&other.column)
     }

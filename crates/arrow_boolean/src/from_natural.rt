@@ -1,6 +1,7 @@
 //! Arrays and builders made of values or of slots.
 ghost use Rattle.std.specs.Prelude.{◌≡◌, List, Bool, Option, Some, None, false, replicate, IfOk, IfErr};
 ghost use Rattle.std.specs.Iterator.{Drains, IsFinite};
+ghost use Rattle.arrow_types.specs.Failures.{OnlyOutOfMemory};
 ghost use Rattle.arrow_types.specs.Types.{logical_type, IsRightType};
 ghost use Rattle.arrow_column.specs.Column.{append_slots, column_of_parts, empty_column};
 ghost use Rattle.arrow_boolean.specs.Fits.{boolean_type};
@@ -31,7 +32,7 @@ impl MutableBooleanArray {
     /// `OutOfMemory` if an allocation fails.
     pub fn from(alloc: Global, slots: &[Option<bool>]) -> Result<Self, Error>
         ensures ok { IfOk result (λ builder. builder ≡ append_slots false (empty_column boolean_type) slots.now) }
-        ensures err { IfErr result (λ e. e ≡ Error.OutOfMemory) }
+        ensures err { OnlyOutOfMemory result }
     {
         let mut builder = MutableBooleanArray::new(alloc);
         match builder.column.extend_from_slots(slots) {
@@ -51,8 +52,9 @@ impl MutableBooleanArray {
     ) -> Result<Self, Error>
         requires can { I.can_next iter }
         requires ends { IsFinite (I.remaining iter) }
-        ensures ok { IfOk result (λ builder. (items : List (Option Bool)) × Drains I.next_gives iter items × (builder ≡ append_slots false (empty_column boolean_type) items)) }
-        ensures err { IfErr result (λ e. e ≡ Error.OutOfMemory) }
+        ensures ok { IfOk result (λ builder. (items : List (Option Bool)) × Drains I.next_gives iter items
+            × (builder ≡ append_slots false (empty_column boolean_type) items)) }
+        ensures err { OnlyOutOfMemory result }
     {
         let mut builder = MutableBooleanArray::new(alloc);
         match builder.extend(iter) {
@@ -67,7 +69,7 @@ impl MutableBooleanArray {
     /// `OutOfMemory` if an allocation fails.
     pub fn from_slice(alloc: Global, slice: &[bool]) -> Result<Self, Error>
         ensures ok { IfOk result (λ builder. builder ≡ column_of_parts boolean_type slice.now None) }
-        ensures err { IfErr result (λ e. e ≡ Error.OutOfMemory) }
+        ensures err { OnlyOutOfMemory result }
     {
         Ok(MutableBooleanArray::from_values(MutableBitmap::from_slice(alloc, slice)?))
     }
@@ -80,7 +82,7 @@ impl BooleanArray {
     /// `OutOfMemory` if an allocation fails.
     pub fn from_slice(alloc: Global, slice: &[bool]) -> Result<Self, Error>
         ensures ok { IfOk result (λ array. array ≡ column_of_parts boolean_type slice.now None) }
-        ensures err { IfErr result (λ e. e ≡ Error.OutOfMemory) }
+        ensures err { OnlyOutOfMemory result }
     {
         Ok(BooleanArray::new(DataType::Boolean, Bitmap::from_slice(alloc, slice)?, None))
     }
@@ -92,7 +94,7 @@ impl BooleanArray {
     /// `OutOfMemory` if an allocation fails.
     pub fn from(alloc: Global, slots: &[Option<bool>]) -> Result<Self, Error>
         ensures ok { IfOk result (λ array. array ≡ append_slots false (empty_column boolean_type) slots.now) }
-        ensures err { IfErr result (λ e. e ≡ Error.OutOfMemory) }
+        ensures err { OnlyOutOfMemory result }
     {
         MutableBooleanArray::from(alloc, slots)?.freeze()
     }
@@ -108,8 +110,9 @@ impl BooleanArray {
     ) -> Result<Self, Error>
         requires can { I.can_next iter }
         requires ends { IsFinite (I.remaining iter) }
-        ensures ok { IfOk result (λ array. (items : List (Option Bool)) × Drains I.next_gives iter items × (array ≡ append_slots false (empty_column boolean_type) items)) }
-        ensures err { IfErr result (λ e. e ≡ Error.OutOfMemory) }
+        ensures ok { IfOk result (λ array. (items : List (Option Bool)) × Drains I.next_gives iter items
+            × (array ≡ append_slots false (empty_column boolean_type) items)) }
+        ensures err { OnlyOutOfMemory result }
     {
         match MutableBooleanArray::from_iter(alloc, iter) {
             Ok(builder) => builder.freeze(),
@@ -124,8 +127,9 @@ impl BooleanArray {
     /// `OutOfMemory` if an allocation fails.
     pub fn new_null(alloc: Global, data_type: DataType, length: usize) -> Result<Self, Error>
         requires { IsRightType PhysicalType.Boolean (logical_type data_type) }
-        ensures ok { IfOk result (λ array. array ≡ column_of_parts (logical_type data_type) (replicate length false) (Some (replicate length false))) }
-        ensures err { IfErr result (λ e. e ≡ Error.OutOfMemory) }
+        ensures ok { IfOk result (λ array. array ≡ column_of_parts (logical_type data_type) (replicate length false)
+            (Some (replicate length false))) }
+        ensures err { OnlyOutOfMemory result }
     {
         let values = Bitmap::new_zeroed(alloc, length)?;
         let validity = Bitmap::new_zeroed(alloc, length)?;

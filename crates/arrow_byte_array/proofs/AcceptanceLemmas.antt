@@ -30,7 +30,8 @@ builder-first text layout wrong_type t offsets bytes mask r first = (
 
 -- offsets and bytes, as they are read for two tests of which the second failed
 module _ (text : Bool) (offsets bytes os read bs : List ℕ) (n : ℕ) (r : Refusal) (e : os ≡ offsets)
-    (long : n ≡ length bytes) (e' : read ≡ offsets) (f : bs ≡ bytes) (failed : (AreItems text (items_of read bs) → ⊥) × (r ≡ not_text)) where
+    (long : n ≡ length bytes) (e' : read ≡ offsets) (f : bs ≡ bytes) (failed : (AreItems text (items_of read bs)
+    → ⊥) × (r ≡ not_text)) where
   none : AreItems text (items_of offsets bytes) → ⊥
   none items = failed.0 (subst (AreItems text) (sym (ap₂ items_of e' f)) items)
 

@@ -1,6 +1,7 @@
 //! Arrays of bytes and of text.
 ghost use Rattle.std.specs.Prelude.{◌≡◌, ◌<◌, length, not, count_by, slice_get, Some, None, IfOk, IfErr};
 ghost use Rattle.std.specs.Option.{option_copied};
+ghost use Rattle.arrow_types.specs.Failures.{OnlyOutOfMemory};
 ghost use Rattle.arrow_types.specs.Types.{logical_type, IsRightType};
 ghost use Rattle.arrow_memory.specs.Rows.{FitsMask};
 ghost use Rattle.arrow_column.specs.Column.{FitsCut, IsColumn, cut_with, mask_of, marks_of, stored_values};
@@ -79,7 +80,7 @@ impl<K: ByteKind, O: Offset> ByteArray<K, O> {
     pub fn new_empty(alloc: Global, data_type: DataType) -> Result<Self, Error>
         requires { IsRightType (K.layout O.IS_LARGE) (logical_type data_type) }
         ensures ok { IfOk result (λ array. array ≡ empty_bytes (logical_type data_type)) }
-        ensures err { IfErr result (λ e. e ≡ Error.OutOfMemory) }
+        ensures err { OnlyOutOfMemory result }
     {
         let values = ByteValues::new_empty_items(alloc, 0)?;
         Ok(ByteArray {
@@ -93,7 +94,7 @@ impl<K: ByteKind, O: Offset> ByteArray<K, O> {
     /// `OutOfMemory` if an allocation fails.
     pub fn default(alloc: Global) -> Result<Self, Error>
         ensures ok { IfOk result (λ array. array ≡ empty_bytes (K.default_type O.IS_LARGE)) }
-        ensures err { IfErr result (λ e. e ≡ Error.OutOfMemory) }
+        ensures err { OnlyOutOfMemory result }
     {
         ByteArray::new_empty(alloc, K::default_type(O::IS_LARGE))
     }
@@ -210,7 +211,7 @@ impl<K: ByteKind, O: Offset> ByteArray<K, O> {
     /// `OutOfMemory` if an allocation fails.
     pub fn clone(&self) -> Result<Self, Error>
         ensures ok { IfOk result (λ copy. copy ≡ self.now) }
-        ensures err { IfErr result (λ e. e ≡ Error.OutOfMemory) }
+        ensures err { OnlyOutOfMemory result }
     {
         Ok(ByteArray {
             column: self.column.clone()?,

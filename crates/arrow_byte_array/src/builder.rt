@@ -1,9 +1,11 @@
 //! Builders with nulls of arrays of bytes and of text.
 ghost use Rattle.std.specs.Prelude.{◌≡◌, ◌≤◌, [], is_some, IsTrue, length, None, OnOk, IfOk, IfErr, option_map, IsOk};
 ghost use Rattle.std.specs.Option.{option_copied};
+ghost use Rattle.arrow_types.specs.Failures.{OnlyOutOfMemory, OutOfMemoryKeeps};
 ghost use Rattle.arrow_types.specs.Types.{logical_type, IsRightType};
 ghost use Rattle.arrow_memory.specs.Rows.{FitsMask};
-ghost use Rattle.arrow_column.specs.Column.{IsColumn, append_slot, last_slot, mask_of, stored_values, without_last, without_needless_mask};
+ghost use Rattle.arrow_column.specs.Column.{IsColumn, append_slot, last_slot, mask_of, stored_values, without_last};
+ghost use Rattle.arrow_column.specs.Column.{without_needless_mask};
 ghost use Rattle.arrow_memory.specs.Offsets.{last_of};
 ghost use Rattle.arrow_check.specs.Pieces.{items_of};
 ghost use Rattle.arrow_bytes.specs.Column.{byte_column, bytes_held, empty_bytes, offsets_held};
@@ -27,7 +29,8 @@ pub(crate) fn pop_slot<K: ByteKind, O: Offset>(
 ) -> Result<Option<K::Owned>, Error>
     ensures ok { OnOk result (column.new ≡ without_last column.old) }
     ensures slot { IfOk result (λ slot. option_map K.owned slot ≡ last_slot column.old) }
-    ensures err { IfErr result (λ e. (e ≡ Error.OutOfMemory) × IsTrue (is_some (last_slot column.old)) × (column.new ≡ column.old)) }
+    ensures err { IfErr result (λ e. (e ≡ Error.OutOfMemory) × IsTrue (is_some (last_slot column.old))
+        × (column.new ≡ column.old)) }
 {
     let Some(last) = column.len().checked_sub(1) else {
         return Ok(None);
@@ -69,7 +72,7 @@ impl<K: ByteKind, O: Offset> MutableByteArray<K, O> {
     /// `OutOfMemory` if an allocation fails.
     pub fn new(alloc: Global) -> Result<Self, Error>
         ensures ok { IfOk result (λ builder. builder ≡ empty_bytes (K.default_type O.IS_LARGE)) }
-        ensures err { IfErr result (λ e. e ≡ Error.OutOfMemory) }
+        ensures err { OnlyOutOfMemory result }
     {
         MutableByteArray::with_capacities(alloc, 0, 0)
     }
@@ -80,7 +83,7 @@ impl<K: ByteKind, O: Offset> MutableByteArray<K, O> {
     /// `OutOfMemory` if an allocation fails.
     pub fn default(alloc: Global) -> Result<Self, Error>
         ensures ok { IfOk result (λ builder. builder ≡ empty_bytes (K.default_type O.IS_LARGE)) }
-        ensures err { IfErr result (λ e. e ≡ Error.OutOfMemory) }
+        ensures err { OnlyOutOfMemory result }
     {
         MutableByteArray::new(alloc)
     }
@@ -91,7 +94,7 @@ impl<K: ByteKind, O: Offset> MutableByteArray<K, O> {
     /// `OutOfMemory` if an allocation fails.
     pub fn with_capacity(alloc: Global, capacity: usize) -> Result<Self, Error>
         ensures ok { IfOk result (λ builder. builder ≡ empty_bytes (K.default_type O.IS_LARGE)) }
-        ensures err { IfErr result (λ e. e ≡ Error.OutOfMemory) }
+        ensures err { OnlyOutOfMemory result }
     {
         MutableByteArray::with_capacities(alloc, capacity, 0)
     }
@@ -105,7 +108,7 @@ impl<K: ByteKind, O: Offset> MutableByteArray<K, O> {
     #[inline(never)]
     pub fn with_capacities(alloc: Global, capacity: usize, values: usize) -> Result<Self, Error>
         ensures ok { IfOk result (λ builder. builder ≡ empty_bytes (K.default_type O.IS_LARGE)) }
-        ensures err { IfErr result (λ e. e ≡ Error.OutOfMemory) }
+        ensures err { OnlyOutOfMemory result }
     {
         let values = MutableByteValues::with_capacities(alloc, capacity, values)?;
         Ok(MutableByteArray {
@@ -189,7 +192,7 @@ impl<K: ByteKind, O: Offset> MutableByteArray<K, O> {
     #[inline(always)]
     pub fn push_null(&mut self) -> Result<(), Error>
         ensures ok { OnOk result (self.new ≡ append_slot [] self.old None) }
-        ensures err { IfErr result (λ e. (e ≡ Error.OutOfMemory) × (self.new ≡ self.old)) }
+        ensures err { OutOfMemoryKeeps result self.old self.new }
     {
         self.column.push_null()
     }
@@ -202,7 +205,8 @@ impl<K: ByteKind, O: Offset> MutableByteArray<K, O> {
     pub fn pop(&mut self) -> Result<Option<K::Owned>, Error>
         ensures ok { OnOk result (self.new ≡ without_last self.old) }
         ensures slot { IfOk result (λ slot. option_map K.owned slot ≡ last_slot self.old) }
-        ensures err { IfErr result (λ e. (e ≡ Error.OutOfMemory) × IsTrue (is_some (last_slot self.old)) × (self.new ≡ self.old)) }
+        ensures err { IfErr result (λ e. (e ≡ Error.OutOfMemory) × IsTrue (is_some (last_slot self.old))
+            × (self.new ≡ self.old)) }
     {
         pop_slot(&mut self.column)
     }
@@ -214,7 +218,7 @@ impl<K: ByteKind, O: Offset> MutableByteArray<K, O> {
     /// `OutOfMemory` if an allocation fails.
     pub fn reserve(&mut self, additional: usize, additional_values: usize) -> Result<(), Error>
         ensures kept { self.new ≡ self.old }
-        ensures err { IfErr result (λ e. e ≡ Error.OutOfMemory) }
+        ensures err { OnlyOutOfMemory result }
     {
         self.column.reserve_items(additional, additional_values)
     }
@@ -236,7 +240,7 @@ impl<K: ByteKind, O: Offset> MutableByteArray<K, O> {
     /// `OutOfMemory` if an allocation fails.
     pub fn clone(&self) -> Result<Self, Error>
         ensures ok { IfOk result (λ copy. copy ≡ self.now) }
-        ensures err { IfErr result (λ e. e ≡ Error.OutOfMemory) }
+        ensures err { OnlyOutOfMemory result }
     {
         Ok(MutableByteArray {
             column: self.column.clone()?,
@@ -250,7 +254,7 @@ impl<K: ByteKind, O: Offset> MutableByteArray<K, O> {
     /// `OutOfMemory` if an allocation fails; the builder is then dropped.
     pub fn freeze(self) -> Result<ByteArray<K, O>, Error>
         ensures ok { IfOk result (λ array. array ≡ without_needless_mask self) }
-        ensures err { IfErr result (λ e. e ≡ Error.OutOfMemory) }
+        ensures err { OnlyOutOfMemory result }
     {
         let (data_type, values, validity) = self.column.freeze_mask()?;
         Ok(ByteArray {

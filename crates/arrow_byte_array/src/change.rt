@@ -34,8 +34,11 @@ impl<K: ByteKind, O: Offset> ByteArray<K, O> {
     /// Does nothing if no mask is held.
     pub fn apply_validity<F: FnOnce(Bitmap) -> Bitmap + Drop>(&mut self, change: F)
         requires callable { IfSome (mask_of self.old) (λ marks. F.pre change marks) }
-        requires keeps { IfSome (mask_of self.old) (λ marks. (changed : List Bool) → F.post change marks changed → length changed ≡ length marks) }
-        ensures { MatchOption (mask_of self.old) (self.new ≡ self.old) (λ marks. (changed : List Bool) × F.post change marks changed × (length changed ≡ length marks) × (self.new ≡ with_mask self.old (Some changed))) }
+        requires keeps { IfSome (mask_of self.old) (λ marks. (changed : List Bool) → F.post change marks changed
+            → length changed ≡ length marks) }
+        ensures { MatchOption (mask_of self.old) (self.new ≡ self.old) (λ marks. (changed : List Bool)
+            × F.post change marks changed × (length changed ≡ length marks)
+            × (self.new ≡ with_mask self.old (Some changed))) }
     {
         self.column.apply_validity(change);
     }
@@ -81,8 +84,11 @@ impl<K: ByteKind, O: Offset> MutableByteArray<K, O> {
     /// Does nothing if no mask is held.
     pub fn apply_validity<F: FnOnce(MutableBitmap) -> MutableBitmap + Drop>(&mut self, change: F)
         requires callable { IfSome (mask_of self.old) (λ marks. F.pre change marks) }
-        requires keeps { IfSome (mask_of self.old) (λ marks. (changed : List Bool) → F.post change marks changed → length changed ≡ length marks) }
-        ensures { MatchOption (mask_of self.old) (self.new ≡ self.old) (λ marks. (changed : List Bool) × F.post change marks changed × (length changed ≡ length marks) × (self.new ≡ with_mask self.old (Some changed))) }
+        requires keeps { IfSome (mask_of self.old) (λ marks. (changed : List Bool) → F.post change marks changed
+            → length changed ≡ length marks) }
+        ensures { MatchOption (mask_of self.old) (self.new ≡ self.old) (λ marks. (changed : List Bool)
+            × F.post change marks changed × (length changed ≡ length marks)
+            × (self.new ≡ with_mask self.old (Some changed))) }
     {
         self.column.apply_validity(change);
     }

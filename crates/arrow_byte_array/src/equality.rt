@@ -16,7 +16,9 @@ impl<K: ByteKind, O: Offset> PartialEq for MutableByteArray<K, O> {
 
     ghost eq = { λ first second. same_slots same_bytes (slots_of first) (slots_of second) };
 
-    ghost laws = { on_per slots_of (partial_equiv_from_equiv (decided (same_slots same_bytes) (same_slots-Decides same_bytes same_bytes-Decides))) };
+    ghost laws = { on_per slots_of
+        (partial_equiv_from_equiv
+        (decided (same_slots same_bytes) (same_slots-Decides same_bytes same_bytes-Decides))) };
 
     /// Returns whether both have the same slots. Data types, held masks and values under nulls are
     /// not compared.
@@ -34,5 +36,6 @@ impl<K: ByteKind, O: Offset> Eq for MutableByteArray<K, O> {
     ghost use Rattle.arrow_column.specs.SlotEquality.{same_slots, same_slots-Decides};
     ghost use Rattle.arrow_bytes.specs.Equality.{same_bytes, same_bytes-Decides};
 
-    ghost laws = { on_equiv slots_of (decided (same_slots same_bytes) (same_slots-Decides same_bytes same_bytes-Decides)) };
+    ghost laws = { on_equiv slots_of
+        (decided (same_slots same_bytes) (same_slots-Decides same_bytes same_bytes-Decides)) };
 }

@@ -1,6 +1,7 @@
 //! Growth of builders by many slots.
 ghost use Rattle.std.specs.Prelude.{◌≡◌, Option, [], false, OnOk, IfErr};
 ghost use Rattle.std.specs.Iterator.{IsFinite};
+ghost use Rattle.arrow_types.specs.Failures.{FailureKeeps};
 ghost use Rattle.arrow_column.specs.Appends.{ExtendsByItems, ExtendsBySlots, StopsInItems, StopsInSlots};
 ghost use Rattle.arrow_column.specs.Column.{joined, refused_growth};
 ghost use Rattle.arrow_bytes.specs.Column.{item_overflows, joins_overflow};
@@ -25,8 +26,10 @@ impl<K: ByteKind, O: Offset> MutableByteArray<K, O> {
     ) -> Result<(), X::Error>
         requires can { I.can_next iter }
         requires ends { IsFinite (I.remaining iter) }
-        ensures ok { OnOk result (ExtendsBySlots (item_overflows X.bytes O.most) X.bytes [] I.next_gives iter self.old self.new) }
-        ensures err { IfErr result (λ e. StopsInSlots (item_overflows X.bytes O.most) X.bytes [] I.next_gives iter self.old self.new (X.error e)) }
+        ensures ok { OnOk result (ExtendsBySlots (item_overflows X.bytes O.most) X.bytes [] I.next_gives iter
+            self.old self.new) }
+        ensures err { IfErr result (λ e. StopsInSlots (item_overflows X.bytes O.most) X.bytes [] I.next_gives iter
+            self.old self.new (X.error e)) }
     {
         match self.column.extend(iter) {
             Ok(()) => Ok(()),
@@ -44,8 +47,10 @@ impl<K: ByteKind, O: Offset> MutableByteArray<K, O> {
     ) -> Result<(), X::Error>
         requires can { I.can_next iter }
         requires ends { IsFinite (I.remaining iter) }
-        ensures ok { OnOk result (ExtendsBySlots (item_overflows X.bytes O.most) X.bytes [] I.next_gives iter self.old self.new) }
-        ensures err { IfErr result (λ e. StopsInSlots (item_overflows X.bytes O.most) X.bytes [] I.next_gives iter self.old self.new (X.error e)) }
+        ensures ok { OnOk result (ExtendsBySlots (item_overflows X.bytes O.most) X.bytes [] I.next_gives iter
+            self.old self.new) }
+        ensures err { IfErr result (λ e. StopsInSlots (item_overflows X.bytes O.most) X.bytes [] I.next_gives iter
+            self.old self.new (X.error e)) }
     {
         self.extend(iter)
     }
@@ -64,8 +69,10 @@ impl<K: ByteKind, O: Offset> MutableByteArray<K, O> {
     ) -> Result<(), X::Error>
         requires can { I.can_next iter }
         requires ends { IsFinite (I.remaining iter) }
-        ensures ok { OnOk result (ExtendsByItems (item_overflows X.bytes O.most) X.bytes [] I.next_gives iter self.old self.new) }
-        ensures err { IfErr result (λ e. StopsInItems (item_overflows X.bytes O.most) X.bytes [] I.next_gives iter self.old self.new (X.error e)) }
+        ensures ok { OnOk result (ExtendsByItems (item_overflows X.bytes O.most) X.bytes [] I.next_gives iter
+            self.old self.new) }
+        ensures err { IfErr result (λ e. StopsInItems (item_overflows X.bytes O.most) X.bytes [] I.next_gives iter
+            self.old self.new (X.error e)) }
     {
         match self.column.extend_values(iter) {
             Ok(()) => Ok(()),
@@ -82,8 +89,10 @@ impl<K: ByteKind, O: Offset> MutableByteArray<K, O> {
     ///
     /// The builder is unchanged on an error.
     pub fn try_extend_from_self(&mut self, other: &Self) -> Result<(), Error>
-        ensures ok { OnOk result ((joins_overflow O.most self.old other.now ≡ false) × (self.new ≡ joined self.old other.now)) }
-        ensures err { IfErr result (λ e. (e ≡ refused_growth (joins_overflow O.most self.old other.now)) × (self.new ≡ self.old)) }
+        ensures ok { OnOk result ((joins_overflow O.most self.old other.now ≡ false)
+            × (self.new ≡ joined self.old other.now)) }
+        ensures err { FailureKeeps result (refused_growth (joins_overflow O.most self.old other.now)) self.old
+            self.new }
     {
         self.column.try_extend_from_self(&other.column)
     }
@@ -104,8 +113,10 @@ impl<K: ByteKind, O: Offset> MutableByteValuesArray<K, O> {
     ) -> Result<(), X::Error>
         requires can { I.can_next iter }
         requires ends { IsFinite (I.remaining iter) }
-        ensures ok { OnOk result (ExtendsByItems (item_overflows X.bytes O.most) X.bytes [] I.next_gives iter self.old self.new) }
-        ensures err { IfErr result (λ e. StopsInItems (item_overflows X.bytes O.most) X.bytes [] I.next_gives iter self.old self.new (X.error e)) }
+        ensures ok { OnOk result (ExtendsByItems (item_overflows X.bytes O.most) X.bytes [] I.next_gives iter
+            self.old self.new) }
+        ensures err { IfErr result (λ e. StopsInItems (item_overflows X.bytes O.most) X.bytes [] I.next_gives iter
+            self.old self.new (X.error e)) }
     {
         match self.column.extend_unmasked(iter) {
             Ok(()) => Ok(()),
@@ -123,8 +134,10 @@ impl<K: ByteKind, O: Offset> MutableByteValuesArray<K, O> {
     ) -> Result<(), X::Error>
         requires can { I.can_next iter }
         requires ends { IsFinite (I.remaining iter) }
-        ensures ok { OnOk result (ExtendsByItems (item_overflows X.bytes O.most) X.bytes [] I.next_gives iter self.old self.new) }
-        ensures err { IfErr result (λ e. StopsInItems (item_overflows X.bytes O.most) X.bytes [] I.next_gives iter self.old self.new (X.error e)) }
+        ensures ok { OnOk result (ExtendsByItems (item_overflows X.bytes O.most) X.bytes [] I.next_gives iter
+            self.old self.new) }
+        ensures err { IfErr result (λ e. StopsInItems (item_overflows X.bytes O.most) X.bytes [] I.next_gives iter
+            self.old self.new (X.error e)) }
     {
         self.extend(iter)
     }
@@ -137,8 +150,10 @@ impl<K: ByteKind, O: Offset> MutableByteValuesArray<K, O> {
     ///
     /// The builder is unchanged on an error.
     pub fn try_extend_from_self(&mut self, other: &Self) -> Result<(), Error>
-        ensures ok { OnOk result ((joins_overflow O.most self.old other.now ≡ false) × (self.new ≡ joined self.old other.now)) }
-        ensures err { IfErr result (λ e. (e ≡ refused_growth (joins_overflow O.most self.old other.now)) × (self.new ≡ self.old)) }
+        ensures ok { OnOk result ((joins_overflow O.most self.old other.now ≡ false)
+            × (self.new ≡ joined self.old other.now)) }
+        ensures err { FailureKeeps result (refused_growth (joins_overflow O.most self.old other.now)) self.old
+            self.new }
     {
         self.column.try_extend_from_self(&other.column)
     }

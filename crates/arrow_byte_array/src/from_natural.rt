@@ -1,9 +1,12 @@
 //! Arrays and builders made of items or of slots.
 ghost use Rattle.std.specs.Prelude.{◌≡◌, Option, Some, [], false, ⊤, replicate, IfOk, IfErr};
 ghost use Rattle.std.specs.Iterator.{IsFinite};
+ghost use Rattle.arrow_types.specs.Failures.{OnlyOutOfMemory};
 ghost use Rattle.arrow_types.specs.Types.{logical_type, IsRightType};
 ghost use Rattle.arrow_memory.specs.Offsets.{MatchGrowth};
-ghost use Rattle.arrow_column.specs.Appends.{AppendsSlots, ExtendsByItems, ExtendsBySlots, FreezesBySlots, FreezesItems, FreezesSlots, GivesTooManyItems, GivesTooManySlots, ItemsOverflow, SlotsOverflow};
+ghost use Rattle.arrow_column.specs.Appends.{AppendsSlots, ExtendsByItems, ExtendsBySlots, FreezesBySlots};
+ghost use Rattle.arrow_column.specs.Appends.{FreezesItems, FreezesSlots, GivesTooManyItems, GivesTooManySlots};
+ghost use Rattle.arrow_column.specs.Appends.{ItemsOverflow, SlotsOverflow};
 ghost use Rattle.arrow_column.specs.Column.{column_with};
 ghost use Rattle.arrow_bytes.specs.Pieces.{nothing_around};
 ghost use Rattle.arrow_bytes.specs.Column.{empty_bytes, item_overflows};
@@ -25,8 +28,11 @@ impl<K: ByteKind, O: Offset> MutableByteArray<K, O> {
     /// - `Overflow` if the bytes of a slot would end past the greatest offset.
     /// - `OutOfMemory` if an allocation fails.
     pub fn from<X: ByteItem<K>>(alloc: Global, slots: &[Option<X>]) -> Result<Self, Error>
-        ensures ok { IfOk result (λ builder. AppendsSlots (item_overflows X.bytes O.most) X.bytes [] (empty_bytes (K.default_type O.IS_LARGE)) slots.now builder) }
-        ensures err { IfErr result (λ e. MatchGrowth e (SlotsOverflow (item_overflows X.bytes O.most) X.bytes [] slots.now (empty_bytes (K.default_type O.IS_LARGE))) ⊤) }
+        ensures ok { IfOk result (λ builder. AppendsSlots (item_overflows X.bytes O.most) X.bytes []
+            (empty_bytes (K.default_type O.IS_LARGE)) slots.now builder) }
+        ensures err { IfErr result (λ e.
+            MatchGrowth e (SlotsOverflow (item_overflows X.bytes O.most) X.bytes [] slots.now
+            (empty_bytes (K.default_type O.IS_LARGE))) ⊤) }
     {
         let mut builder = MutableByteArray::<K, O>::new(alloc)?;
         match builder.column.extend_from_slots(slots) {
@@ -47,8 +53,11 @@ impl<K: ByteKind, O: Offset> MutableByteArray<K, O> {
     ) -> Result<Self, X::Error>
         requires can { I.can_next iter }
         requires ends { IsFinite (I.remaining iter) }
-        ensures ok { IfOk result (λ builder. ExtendsBySlots (item_overflows X.bytes O.most) X.bytes [] I.next_gives iter (empty_bytes (K.default_type O.IS_LARGE)) builder) }
-        ensures err { IfErr result (λ e. MatchGrowth (X.error e) (GivesTooManySlots (item_overflows X.bytes O.most) X.bytes [] I.next_gives iter (empty_bytes (K.default_type O.IS_LARGE))) ⊤) }
+        ensures ok { IfOk result (λ builder. ExtendsBySlots (item_overflows X.bytes O.most) X.bytes [] I.next_gives
+            iter (empty_bytes (K.default_type O.IS_LARGE)) builder) }
+        ensures err { IfErr result (λ e.
+            MatchGrowth (X.error e) (GivesTooManySlots (item_overflows X.bytes O.most) X.bytes [] I.next_gives iter
+            (empty_bytes (K.default_type O.IS_LARGE))) ⊤) }
     {
         let mut builder = match MutableByteArray::<K, O>::new(alloc) {
             Ok(builder) => builder,
@@ -72,8 +81,11 @@ impl<K: ByteKind, O: Offset> MutableByteArray<K, O> {
     ) -> Result<Self, X::Error>
         requires can { I.can_next iter }
         requires ends { IsFinite (I.remaining iter) }
-        ensures ok { IfOk result (λ builder. ExtendsByItems (item_overflows X.bytes O.most) X.bytes [] I.next_gives iter (empty_bytes (K.default_type O.IS_LARGE)) builder) }
-        ensures err { IfErr result (λ e. MatchGrowth (X.error e) (GivesTooManyItems (item_overflows X.bytes O.most) X.bytes [] I.next_gives iter (empty_bytes (K.default_type O.IS_LARGE))) ⊤) }
+        ensures ok { IfOk result (λ builder. ExtendsByItems (item_overflows X.bytes O.most) X.bytes [] I.next_gives
+            iter (empty_bytes (K.default_type O.IS_LARGE)) builder) }
+        ensures err { IfErr result (λ e.
+            MatchGrowth (X.error e) (GivesTooManyItems (item_overflows X.bytes O.most) X.bytes [] I.next_gives iter
+            (empty_bytes (K.default_type O.IS_LARGE))) ⊤) }
     {
         let mut builder = match MutableByteArray::<K, O>::new(alloc) {
             Ok(builder) => builder,
@@ -99,8 +111,11 @@ impl<K: ByteKind, O: Offset> MutableByteValuesArray<K, O> {
     ) -> Result<Self, X::Error>
         requires can { I.can_next iter }
         requires ends { IsFinite (I.remaining iter) }
-        ensures ok { IfOk result (λ builder. ExtendsByItems (item_overflows X.bytes O.most) X.bytes [] I.next_gives iter (empty_bytes (K.default_type O.IS_LARGE)) builder) }
-        ensures err { IfErr result (λ e. MatchGrowth (X.error e) (GivesTooManyItems (item_overflows X.bytes O.most) X.bytes [] I.next_gives iter (empty_bytes (K.default_type O.IS_LARGE))) ⊤) }
+        ensures ok { IfOk result (λ builder. ExtendsByItems (item_overflows X.bytes O.most) X.bytes [] I.next_gives
+            iter (empty_bytes (K.default_type O.IS_LARGE)) builder) }
+        ensures err { IfErr result (λ e.
+            MatchGrowth (X.error e) (GivesTooManyItems (item_overflows X.bytes O.most) X.bytes [] I.next_gives iter
+            (empty_bytes (K.default_type O.IS_LARGE))) ⊤) }
     {
         let mut builder = match MutableByteValuesArray::<K, O>::new(alloc) {
             Ok(builder) => builder,
@@ -122,8 +137,11 @@ impl<K: ByteKind, O: Offset> MutableByteValuesArray<K, O> {
     ) -> Result<Self, X::Error>
         requires can { I.can_next iter }
         requires ends { IsFinite (I.remaining iter) }
-        ensures ok { IfOk result (λ builder. ExtendsByItems (item_overflows X.bytes O.most) X.bytes [] I.next_gives iter (empty_bytes (K.default_type O.IS_LARGE)) builder) }
-        ensures err { IfErr result (λ e. MatchGrowth (X.error e) (GivesTooManyItems (item_overflows X.bytes O.most) X.bytes [] I.next_gives iter (empty_bytes (K.default_type O.IS_LARGE))) ⊤) }
+        ensures ok { IfOk result (λ builder. ExtendsByItems (item_overflows X.bytes O.most) X.bytes [] I.next_gives
+            iter (empty_bytes (K.default_type O.IS_LARGE)) builder) }
+        ensures err { IfErr result (λ e.
+            MatchGrowth (X.error e) (GivesTooManyItems (item_overflows X.bytes O.most) X.bytes [] I.next_gives iter
+            (empty_bytes (K.default_type O.IS_LARGE))) ⊤) }
     {
         MutableByteValuesArray::<K, O>::from_iter(alloc, iter)
     }
@@ -136,8 +154,11 @@ impl<K: ByteKind, O: Offset> ByteArray<K, O> {
     /// - `Overflow` if an item would end past the greatest offset.
     /// - `OutOfMemory` if an allocation fails.
     pub fn from_slice<X: ByteItem<K>>(alloc: Global, slice: &[X]) -> Result<Self, Error>
-        ensures ok { IfOk result (λ array. FreezesItems (item_overflows X.bytes O.most) X.bytes [] (empty_bytes (K.default_type O.IS_LARGE)) slice.now array) }
-        ensures err { IfErr result (λ e. MatchGrowth e (ItemsOverflow (item_overflows X.bytes O.most) X.bytes [] slice.now (empty_bytes (K.default_type O.IS_LARGE))) ⊤) }
+        ensures ok { IfOk result (λ array. FreezesItems (item_overflows X.bytes O.most) X.bytes []
+            (empty_bytes (K.default_type O.IS_LARGE)) slice.now array) }
+        ensures err { IfErr result (λ e.
+            MatchGrowth e (ItemsOverflow (item_overflows X.bytes O.most) X.bytes [] slice.now
+            (empty_bytes (K.default_type O.IS_LARGE))) ⊤) }
     {
         let mut builder = MutableByteArray::<K, O>::new(alloc)?;
         match builder.column.extend_from_values(slice) {
@@ -153,8 +174,11 @@ impl<K: ByteKind, O: Offset> ByteArray<K, O> {
     /// - `Overflow` if the bytes of a slot would end past the greatest offset.
     /// - `OutOfMemory` if an allocation fails.
     pub fn from<X: ByteItem<K>>(alloc: Global, slots: &[Option<X>]) -> Result<Self, Error>
-        ensures ok { IfOk result (λ array. FreezesSlots (item_overflows X.bytes O.most) X.bytes [] (empty_bytes (K.default_type O.IS_LARGE)) slots.now array) }
-        ensures err { IfErr result (λ e. MatchGrowth e (SlotsOverflow (item_overflows X.bytes O.most) X.bytes [] slots.now (empty_bytes (K.default_type O.IS_LARGE))) ⊤) }
+        ensures ok { IfOk result (λ array. FreezesSlots (item_overflows X.bytes O.most) X.bytes []
+            (empty_bytes (K.default_type O.IS_LARGE)) slots.now array) }
+        ensures err { IfErr result (λ e.
+            MatchGrowth e (SlotsOverflow (item_overflows X.bytes O.most) X.bytes [] slots.now
+            (empty_bytes (K.default_type O.IS_LARGE))) ⊤) }
     {
         match MutableByteArray::<K, O>::from(alloc, slots) {
             Ok(builder) => builder.freeze(),
@@ -174,8 +198,11 @@ impl<K: ByteKind, O: Offset> ByteArray<K, O> {
     ) -> Result<Self, X::Error>
         requires can { I.can_next iter }
         requires ends { IsFinite (I.remaining iter) }
-        ensures ok { IfOk result (λ array. FreezesBySlots (item_overflows X.bytes O.most) X.bytes [] I.next_gives iter (empty_bytes (K.default_type O.IS_LARGE)) array) }
-        ensures err { IfErr result (λ e. MatchGrowth (X.error e) (GivesTooManySlots (item_overflows X.bytes O.most) X.bytes [] I.next_gives iter (empty_bytes (K.default_type O.IS_LARGE))) ⊤) }
+        ensures ok { IfOk result (λ array. FreezesBySlots (item_overflows X.bytes O.most) X.bytes [] I.next_gives
+            iter (empty_bytes (K.default_type O.IS_LARGE)) array) }
+        ensures err { IfErr result (λ e.
+            MatchGrowth (X.error e) (GivesTooManySlots (item_overflows X.bytes O.most) X.bytes [] I.next_gives iter
+            (empty_bytes (K.default_type O.IS_LARGE))) ⊤) }
     {
         match MutableByteArray::<K, O>::from_iter(alloc, iter) {
             Ok(builder) => match builder.freeze() {
@@ -198,8 +225,11 @@ impl<K: ByteKind, O: Offset> ByteArray<K, O> {
     ) -> Result<Self, X::Error>
         requires can { I.can_next iter }
         requires ends { IsFinite (I.remaining iter) }
-        ensures ok { IfOk result (λ array. ExtendsByItems (item_overflows X.bytes O.most) X.bytes [] I.next_gives iter (empty_bytes (K.default_type O.IS_LARGE)) array) }
-        ensures err { IfErr result (λ e. MatchGrowth (X.error e) (GivesTooManyItems (item_overflows X.bytes O.most) X.bytes [] I.next_gives iter (empty_bytes (K.default_type O.IS_LARGE))) ⊤) }
+        ensures ok { IfOk result (λ array. ExtendsByItems (item_overflows X.bytes O.most) X.bytes [] I.next_gives
+            iter (empty_bytes (K.default_type O.IS_LARGE)) array) }
+        ensures err { IfErr result (λ e.
+            MatchGrowth (X.error e) (GivesTooManyItems (item_overflows X.bytes O.most) X.bytes [] I.next_gives iter
+            (empty_bytes (K.default_type O.IS_LARGE))) ⊤) }
     {
         match MutableByteValuesArray::<K, O>::from_iter(alloc, iter) {
             Ok(builder) => match builder.freeze() {
@@ -217,8 +247,9 @@ impl<K: ByteKind, O: Offset> ByteArray<K, O> {
     /// `OutOfMemory` if an allocation fails.
     pub fn new_null(alloc: Global, data_type: DataType, length: usize) -> Result<Self, Error>
         requires { IsRightType (K.layout O.IS_LARGE) (logical_type data_type) }
-        ensures ok { IfOk result (λ array. array ≡ column_with (logical_type data_type) nothing_around (replicate length []) (Some (replicate length false))) }
-        ensures err { IfErr result (λ e. e ≡ Error.OutOfMemory) }
+        ensures ok { IfOk result (λ array. array ≡ column_with (logical_type data_type) nothing_around
+            (replicate length []) (Some (replicate length false))) }
+        ensures err { OnlyOutOfMemory result }
     {
         let values = ByteValues::new_empty_items(alloc, length)?;
         let validity = Bitmap::new_zeroed(alloc, length)?;

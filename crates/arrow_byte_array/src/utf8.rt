@@ -1,6 +1,7 @@
 //! The calls of arrays and builders of text that take or return `&str`.
 ghost use Rattle.std.specs.Prelude.{◌≡◌, ◌<◌, [], false, length, slice_get, Some, OnOk, IfErr, option_map};
 ghost use Rattle.std.specs.Option.{option_copied};
+ghost use Rattle.arrow_types.specs.Failures.{FailureKeeps};
 ghost use Rattle.arrow_column.specs.Column.{append_slot, refused_growth, slot_overflows, slots_of, stored_values};
 ghost use Rattle.arrow_check.specs.Items.{IsWithin, rest_of};
 ghost use Rattle.arrow_bytes.specs.Pieces.{overflows_by};
@@ -220,8 +221,10 @@ impl<O: Offset> MutableByteArray<Utf8, O> {
     /// The builder is unchanged on an error.
     #[inline(always)]
     pub fn push(&mut self, value: Option<&str>) -> Result<(), Error>
-        ensures ok { OnOk result ((slot_overflows (item_overflows (λ item. item.now) O.most) self.old value.entry ≡ false) × (self.new ≡ append_slot [] self.old (option_map (λ item. item.now) value.entry))) }
-        ensures err { IfErr result (λ e. (e ≡ refused_growth (slot_overflows (item_overflows (λ item. item.now) O.most) self.old value.entry)) × (self.new ≡ self.old)) }
+        ensures ok { OnOk result ((slot_overflows (item_overflows (λ item. item.now) O.most) self.old value.entry
+            ≡ false) × (self.new ≡ append_slot [] self.old (option_map (λ item. item.now) value.entry))) }
+        ensures err { FailureKeeps result (refused_growth (slot_overflows (item_overflows (λ item. item.now) O.most)
+            self.old value.entry)) self.old self.new }
     {
         self.column.push(value)
     }
@@ -232,8 +235,10 @@ impl<O: Offset> MutableByteArray<Utf8, O> {
     /// As `push`.
     #[inline(always)]
     pub fn try_push(&mut self, value: Option<&str>) -> Result<(), Error>
-        ensures ok { OnOk result ((slot_overflows (item_overflows (λ item. item.now) O.most) self.old value.entry ≡ false) × (self.new ≡ append_slot [] self.old (option_map (λ item. item.now) value.entry))) }
-        ensures err { IfErr result (λ e. (e ≡ refused_growth (slot_overflows (item_overflows (λ item. item.now) O.most) self.old value.entry)) × (self.new ≡ self.old)) }
+        ensures ok { OnOk result ((slot_overflows (item_overflows (λ item. item.now) O.most) self.old value.entry
+            ≡ false) × (self.new ≡ append_slot [] self.old (option_map (λ item. item.now) value.entry))) }
+        ensures err { FailureKeeps result (refused_growth (slot_overflows (item_overflows (λ item. item.now) O.most)
+            self.old value.entry)) self.old self.new }
     {
         self.push(value)
     }
@@ -276,8 +281,11 @@ impl<O: Offset> MutableByteValuesArray<Utf8, O> {
     /// The builder is unchanged on an error.
     #[inline(always)]
     pub fn push(&mut self, value: &str) -> Result<(), Error>
-        ensures ok { OnOk result ((overflows_by O.most self.old.around (stored_values self.old) (length value.now) ≡ false) × (self.new ≡ append_slot [] self.old (Some value.now))) }
-        ensures err { IfErr result (λ e. (e ≡ refused_growth (overflows_by O.most self.old.around (stored_values self.old) (length value.now))) × (self.new ≡ self.old)) }
+        ensures ok { OnOk result ((overflows_by O.most self.old.around (stored_values self.old) (length value.now)
+            ≡ false) × (self.new ≡ append_slot [] self.old (Some value.now))) }
+        ensures err { FailureKeeps result
+            (refused_growth (overflows_by O.most self.old.around (stored_values self.old) (length value.now)))
+            self.old self.new }
     {
         self.column.push_unmasked(value)
     }
@@ -288,8 +296,11 @@ impl<O: Offset> MutableByteValuesArray<Utf8, O> {
     /// As `push`.
     #[inline(always)]
     pub fn try_push(&mut self, value: &str) -> Result<(), Error>
-        ensures ok { OnOk result ((overflows_by O.most self.old.around (stored_values self.old) (length value.now) ≡ false) × (self.new ≡ append_slot [] self.old (Some value.now))) }
-        ensures err { IfErr result (λ e. (e ≡ refused_growth (overflows_by O.most self.old.around (stored_values self.old) (length value.now))) × (self.new ≡ self.old)) }
+        ensures ok { OnOk result ((overflows_by O.most self.old.around (stored_values self.old) (length value.now)
+            ≡ false) × (self.new ≡ append_slot [] self.old (Some value.now))) }
+        ensures err { FailureKeeps result
+            (refused_growth (overflows_by O.most self.old.around (stored_values self.old) (length value.now)))
+            self.old self.new }
     {
         self.push(value)
     }
@@ -342,7 +353,8 @@ impl<'a, O: Offset> IntoIterator for &'a MutableByteValuesArray<Utf8, O> {
 
     type IntoIter = ArrayValuesIter<'a, MutableByteValuesArray<Utf8, O>>;
 
-    ghost into_iter_gives = { λ builder items. IsWithin stored_values items × (rest_of stored_values items ≡ stored_values builder.now) };
+    ghost into_iter_gives = { λ builder items. IsWithin stored_values items
+        × (rest_of stored_values items ≡ stored_values builder.now) };
 
     #[inline(always)]
     fn into_iter(self) -> ArrayValuesIter<'a, MutableByteValuesArray<Utf8, O>> {

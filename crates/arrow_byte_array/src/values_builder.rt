@@ -1,7 +1,10 @@
 //! Builders without nulls of arrays of bytes and of text.
-ghost use Rattle.std.specs.Prelude.{◌≡◌, ◌≤◌, [], false, is_some, IsTrue, length, None, Some, OnOk, IfOk, IfErr, option_map, IsOk};
+ghost use Rattle.std.specs.Prelude.{◌≡◌, ◌≤◌, [], false, is_some, IsTrue, length, None, Some, OnOk, IfOk, IfErr};
+ghost use Rattle.std.specs.Prelude.{option_map, IsOk};
+ghost use Rattle.arrow_types.specs.Failures.{OnlyOutOfMemory, OutOfMemoryKeeps};
 ghost use Rattle.arrow_types.specs.Types.{logical_type, IsRightType};
-ghost use Rattle.arrow_column.specs.Column.{all_valid, append_slot, last_slot, stored_values, without_last, without_needless_mask};
+ghost use Rattle.arrow_column.specs.Column.{all_valid, append_slot, last_slot, stored_values, without_last};
+ghost use Rattle.arrow_column.specs.Column.{without_needless_mask};
 ghost use Rattle.arrow_memory.specs.Offsets.{last_of};
 ghost use Rattle.arrow_check.specs.Pieces.{items_of};
 ghost use Rattle.arrow_bytes.specs.Column.{byte_column, bytes_held, empty_bytes, offsets_held};
@@ -35,7 +38,8 @@ impl<K: ByteKind, O: Offset> Model for MutableByteValuesArray<K, O> {
 
     ghost view = { λ builder. builder.column };
 
-    ghost invariant = { λ builder. IsRightType (K.layout O.IS_LARGE) builder.column.data_type × (builder.column.held ≡ false) };
+    ghost invariant = { λ builder. IsRightType (K.layout O.IS_LARGE) builder.column.data_type
+        × (builder.column.held ≡ false) };
 }
 
 impl<K: ByteKind, O: Offset> MutableByteValuesArray<K, O> {
@@ -54,7 +58,7 @@ impl<K: ByteKind, O: Offset> MutableByteValuesArray<K, O> {
     /// `OutOfMemory` if an allocation fails.
     pub fn new(alloc: Global) -> Result<Self, Error>
         ensures ok { IfOk result (λ builder. builder ≡ empty_bytes (K.default_type O.IS_LARGE)) }
-        ensures err { IfErr result (λ e. e ≡ Error.OutOfMemory) }
+        ensures err { OnlyOutOfMemory result }
     {
         MutableByteValuesArray::with_capacities(alloc, 0, 0)
     }
@@ -65,7 +69,7 @@ impl<K: ByteKind, O: Offset> MutableByteValuesArray<K, O> {
     /// `OutOfMemory` if an allocation fails.
     pub fn default(alloc: Global) -> Result<Self, Error>
         ensures ok { IfOk result (λ builder. builder ≡ empty_bytes (K.default_type O.IS_LARGE)) }
-        ensures err { IfErr result (λ e. e ≡ Error.OutOfMemory) }
+        ensures err { OnlyOutOfMemory result }
     {
         MutableByteValuesArray::new(alloc)
     }
@@ -76,7 +80,7 @@ impl<K: ByteKind, O: Offset> MutableByteValuesArray<K, O> {
     /// `OutOfMemory` if an allocation fails.
     pub fn with_capacity(alloc: Global, capacity: usize) -> Result<Self, Error>
         ensures ok { IfOk result (λ builder. builder ≡ empty_bytes (K.default_type O.IS_LARGE)) }
-        ensures err { IfErr result (λ e. e ≡ Error.OutOfMemory) }
+        ensures err { OnlyOutOfMemory result }
     {
         MutableByteValuesArray::with_capacities(alloc, capacity, 0)
     }
@@ -87,7 +91,7 @@ impl<K: ByteKind, O: Offset> MutableByteValuesArray<K, O> {
     /// `OutOfMemory` if an allocation fails.
     pub fn with_capacities(alloc: Global, capacity: usize, values: usize) -> Result<Self, Error>
         ensures ok { IfOk result (λ builder. builder ≡ empty_bytes (K.default_type O.IS_LARGE)) }
-        ensures err { IfErr result (λ e. e ≡ Error.OutOfMemory) }
+        ensures err { OnlyOutOfMemory result }
     {
         let values = MutableByteValues::with_capacities(alloc, capacity, values)?;
         Ok(MutableByteValuesArray {
@@ -163,7 +167,7 @@ impl<K: ByteKind, O: Offset> MutableByteValuesArray<K, O> {
     #[inline(always)]
     pub fn push_null(&mut self) -> Result<(), Error>
         ensures ok { OnOk result (self.new ≡ append_slot [] self.old (Some [])) }
-        ensures err { IfErr result (λ e. (e ≡ Error.OutOfMemory) × (self.new ≡ self.old)) }
+        ensures err { OutOfMemoryKeeps result self.old self.new }
     {
         self.column.push_unmasked_default()
     }
@@ -176,7 +180,8 @@ impl<K: ByteKind, O: Offset> MutableByteValuesArray<K, O> {
     pub fn pop(&mut self) -> Result<Option<K::Owned>, Error>
         ensures ok { OnOk result (self.new ≡ without_last self.old) }
         ensures slot { IfOk result (λ slot. option_map K.owned slot ≡ last_slot self.old) }
-        ensures err { IfErr result (λ e. (e ≡ Error.OutOfMemory) × IsTrue (is_some (last_slot self.old)) × (self.new ≡ self.old)) }
+        ensures err { IfErr result (λ e. (e ≡ Error.OutOfMemory) × IsTrue (is_some (last_slot self.old))
+            × (self.new ≡ self.old)) }
     {
         pop_slot(&mut self.column)
     }
@@ -187,7 +192,7 @@ impl<K: ByteKind, O: Offset> MutableByteValuesArray<K, O> {
     /// `OutOfMemory` if an allocation fails.
     pub fn reserve(&mut self, additional: usize, additional_values: usize) -> Result<(), Error>
         ensures kept { self.new ≡ self.old }
-        ensures err { IfErr result (λ e. e ≡ Error.OutOfMemory) }
+        ensures err { OnlyOutOfMemory result }
     {
         self.column.reserve_items(additional, additional_values)
     }
@@ -209,7 +214,7 @@ impl<K: ByteKind, O: Offset> MutableByteValuesArray<K, O> {
     /// `OutOfMemory` if an allocation fails.
     pub fn clone(&self) -> Result<Self, Error>
         ensures ok { IfOk result (λ copy. copy ≡ self.now) }
-        ensures err { IfErr result (λ e. e ≡ Error.OutOfMemory) }
+        ensures err { OnlyOutOfMemory result }
     {
         Ok(MutableByteValuesArray {
             column: self.column.clone()?,
@@ -224,7 +229,7 @@ impl<K: ByteKind, O: Offset> MutableByteValuesArray<K, O> {
     pub fn freeze(self) -> Result<ByteArray<K, O>, Error>
         ensures ok { IfOk result (λ array. array ≡ self) }
         ensures needless { IfOk result (λ array. array ≡ without_needless_mask self) }
-        ensures err { IfErr result (λ e. e ≡ Error.OutOfMemory) }
+        ensures err { OnlyOutOfMemory result }
     {
         let (data_type, values, _) = self.column.into_inner();
         Ok(ByteArray {

@@ -9,7 +9,8 @@ pub use Rattle.arrow_bytes.proofs.BackLemmas.{around-back, column-back, end-back
 pub use Rattle.arrow_bytes.proofs.BackLemmas.{last-offset, legal-offsets, length-offsets}
 -- Items by places: the bytes between an offset and the next, and how many there are.
 pub use Rattle.arrow_bytes.proofs.PieceLemmas.{item-at, length-items}
--- Items behind others: offsets that are moved behind others cut the items of both out of the bytes of both, at whose end
+-- Items behind others: offsets that are moved behind others cut the items of both out of the bytes of both, at
+-- whose end
 -- the last of them lies.
 pub use Rattle.arrow_bytes.proofs.PieceLemmas.{ends-joined, items-joined}
 -- The items that some of the offsets cut are some of the items, the last of these offsets is not above the last of all,

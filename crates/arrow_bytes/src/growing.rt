@@ -1,5 +1,6 @@
 //! Growing lists of byte strings.
 ghost use Rattle.std.specs.Prelude.{◌≡◌, ◌<◌, ◌≤◌, [], length, slice_get, Some, IfOk, IfErr};
+ghost use Rattle.arrow_types.specs.Failures.{OnlyOutOfMemory};
 ghost use Rattle.arrow_memory.specs.Offsets.{last_of, IsOffsets};
 ghost use Rattle.arrow_check.specs.Pieces.{bytes_of, items_of, offsets_of};
 ghost use Rattle.arrow_bytes.specs.Kinds.{AreItems, IsItem};
@@ -37,7 +38,8 @@ impl<K: ByteKind, O: Offset> Model for MutableByteValues<K, O> {
 
     ghost view = { λ values. pieces_of values.offsets values.bytes.items };
 
-    ghost invariant = { λ values. IsOffsets values.offsets × (last_of values.offsets ≡ length values.bytes.items) × AreItems K.is_text (items_of values.offsets values.bytes.items) };
+    ghost invariant = { λ values. IsOffsets values.offsets × (last_of values.offsets ≡ length values.bytes.items)
+        × AreItems K.is_text (items_of values.offsets values.bytes.items) };
 }
 
 #[tactic(auto, using(crate::proofs::PieceLemmas::piece_reads, crate::proofs::PieceLemmas::piece_growth, crate::proofs::KindLemmas::kind_growth))]
@@ -64,7 +66,7 @@ impl<K: ByteKind, O: Offset> MutableByteValues<K, O> {
     /// `OutOfMemory` if an allocation fails.
     pub fn with_capacities(alloc: Global, capacity: usize, values: usize) -> Result<Self, Error>
         ensures ok { IfOk result (λ values. values ≡ record { around = nothing_around; items = [] }) }
-        ensures err { IfErr result (λ e. e ≡ Error.OutOfMemory) }
+        ensures err { OnlyOutOfMemory result }
     {
         let offsets = Offsets::with_capacity(alloc, capacity)?;
         let bytes = Vec::with_capacity(alloc, values)?;
@@ -137,7 +139,7 @@ impl<K: ByteKind, O: Offset> MutableByteValues<K, O> {
     /// `OutOfMemory` if an allocation fails; the items are then dropped.
     pub fn freeze(self) -> Result<ByteValues<K, O>, Error>
         ensures ok { IfOk result (λ frozen. frozen ≡ self) }
-        ensures err { IfErr result (λ e. e ≡ Error.OutOfMemory) }
+        ensures err { OnlyOutOfMemory result }
     {
         let MutableByteValues { offsets, bytes, .. } = self;
         let offsets = offsets.freeze()?;

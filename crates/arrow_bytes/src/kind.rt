@@ -1,5 +1,6 @@
 //! Kinds of items: what arrays of bytes and arrays of text differ in.
 ghost use Rattle.std.specs.Prelude.{◌≡◌, ◌≤◌, List, ℕ, Bool, length, OnOk, IfOk, IfErr};
+ghost use Rattle.arrow_types.specs.Failures.{OnlyOutOfMemory};
 ghost use Rattle.arrow_types.specs.Types.{LogicalType, Refusal, logical_type, refusal, IsRightType};
 ghost use Rattle.arrow_types.specs.declared.physical_type.PhysicalType.{PhysicalType};
 ghost use Rattle.arrow_memory.specs.Offsets.{last_of, numbers_of, KeepsOffsets};
@@ -64,7 +65,8 @@ pub trait ByteKind {
         requires keeps { KeepsOffsets O.number O.most offsets.now }
         requires within { last_of (numbers_of O.number offsets.now) ≤ length bytes.now }
         ensures ok { OnOk result (AreItems is_text (items_of (numbers_of O.number offsets.now) bytes.now)) }
-        ensures err { IfErr result (λ e. (AreItems is_text (items_of (numbers_of O.number offsets.now) bytes.now) → ⊥) × (refusal e ≡ not_text)) }
+        ensures err { IfErr result (λ e. (AreItems is_text (items_of (numbers_of O.number offsets.now) bytes.now)
+            → ⊥) × (refusal e ≡ not_text)) }
         ensures counted { TestsOnce (numbers_of O.number offsets.now) bytes.now cost.old cost.new }
         ensures exact { Costs is_text (numbers_of O.number offsets.now) bytes.now cost.old cost.new };
 
@@ -75,7 +77,7 @@ pub trait ByteKind {
     fn copy_item(alloc: Global, bytes: &[u8]) -> Result<Self::Owned, Error>
         requires { IsItem is_text bytes.now }
         ensures ok { IfOk result (λ item. owned item ≡ bytes.now) }
-        ensures err { IfErr result (λ e. e ≡ Error.OutOfMemory) };
+        ensures err { OnlyOutOfMemory result };
 }
 
 /// A borrowed item of a kind.

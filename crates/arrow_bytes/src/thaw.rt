@@ -18,7 +18,8 @@ pub fn into_mut_values<K: ByteKind, O: Offset>(
     values: ByteValues<K, O>,
     validity: Option<Bitmap>,
 ) -> Either<(ByteValues<K, O>, Option<Bitmap>), (MutableByteValues<K, O>, Option<MutableBitmap>)>
-    ensures { MatchEither result (λ parts. (parts.0 ≡ values) × (parts.1 ≡ validity)) (λ parts. (parts.0 ≡ without_tail values) × (parts.1 ≡ validity)) }
+    ensures { MatchEither result (λ parts. (parts.0 ≡ values) × (parts.1 ≡ validity)) (λ parts.
+        (parts.0 ≡ without_tail values) × (parts.1 ≡ validity)) }
 {
     let ByteValues { offsets, bytes, .. } = values;
     match into_mut_bytes(offsets, bytes, validity) {

@@ -1,5 +1,6 @@
 //! Immutable lists of byte strings.
 ghost use Rattle.std.specs.Prelude.{◌≡◌, ◌<◌, ◌≤◌, [], length, replicate, slice_get, Some, IfOk, IfErr};
+ghost use Rattle.arrow_types.specs.Failures.{OnlyOutOfMemory};
 ghost use Rattle.arrow_memory.specs.Offsets.{last_of, IsOffsets};
 ghost use Rattle.arrow_check.specs.Pieces.{bytes_of, items_of, offsets_of};
 ghost use Rattle.arrow_bytes.specs.Kinds.{AreItems, CutItems, IsItem};
@@ -37,7 +38,8 @@ impl<K: ByteKind, O: Offset> Model for ByteValues<K, O> {
 
     ghost view = { λ values. pieces_of values.offsets values.bytes };
 
-    ghost invariant = { λ values. IsOffsets values.offsets × (last_of values.offsets ≤ length values.bytes) × AreItems K.is_text (items_of values.offsets values.bytes) };
+    ghost invariant = { λ values. IsOffsets values.offsets × (last_of values.offsets ≤ length values.bytes)
+        × AreItems K.is_text (items_of values.offsets values.bytes) };
 }
 
 #[tactic(auto, using(crate::proofs::PieceLemmas::piece_reads, crate::proofs::PieceLemmas::piece_zeros, crate::proofs::KindLemmas::kind_zeros))]
@@ -63,7 +65,7 @@ impl<K: ByteKind, O: Offset> ByteValues<K, O> {
     /// `OutOfMemory` if an allocation fails.
     pub fn new_empty_items(alloc: Global, length: usize) -> Result<Self, Error>
         ensures ok { IfOk result (λ values. values ≡ record { around = nothing_around; items = replicate length [] }) }
-        ensures err { IfErr result (λ e. e ≡ Error.OutOfMemory) }
+        ensures err { OnlyOutOfMemory result }
     {
         let offsets = Offsets::new_zeroed(alloc, length)?.freeze()?;
         let bytes = Buffer::new(alloc)?;

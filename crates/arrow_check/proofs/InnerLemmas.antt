@@ -1,5 +1,6 @@
 -- How many of the inner offsets lie before the end of a window.
-use Rattle.std.proofs.Common.{◌≡◌, ℕ, zero, suc, ◌+◌, ◌-◌, ◌<◌, ◌≤◌, Bool, true, false, List, length, take, drop, get_or, refl, sym, ap, ◌∙◌, arith, length-take, length-drop, inl, inr}
+use Rattle.std.proofs.Common.{◌≡◌, ℕ, zero, suc, ◌+◌, ◌-◌, ◌<◌, ◌≤◌, Bool, true, false, List, length, take, drop}
+use Rattle.std.proofs.Common.{get_or, refl, sym, ap, ◌∙◌, arith, length-take, length-drop, inl, inr}
 use Rattle.std.specs.Prelude.{count_by, nat_lt}
 use Rattle.std.proofs.lemmas.Bool.{cases_lt}
 use Rattle.std.proofs.lemmas.Bool.Decides.{nat_tests}
@@ -15,7 +16,8 @@ inner_before n offsets = count_by (λ offset. nat_lt offset (last_of offsets)) (
 length-inner : (offsets : List ℕ) → length (inner_of offsets) ≡ length offsets - 2
 length-inner offsets = simp (length-take, length-drop) (omega arith)
 
-inner-at : (offsets : List ℕ) (n : ℕ) → n + 2 < length offsets → get_or (inner_of offsets) n 0 ≡ get_or offsets (n + 1) 0
+inner-at : (offsets : List ℕ) (n : ℕ) → n + 2 < length offsets
+    → get_or (inner_of offsets) n 0 ≡ get_or offsets (n + 1) 0
 inner-at offsets n more =
     get_or-take (length offsets - 2) (drop 1 offsets) n 0 (omega arith)
     ∙ get_or-drop 1 offsets n 0
@@ -27,21 +29,27 @@ below-true a b low = grind (arith, nat_tests)
 above-false : (a b : ℕ) → b ≤ a → nat_lt a b ≡ false
 above-false a b high = grind (arith, nat_tests)
 
-pub inner-more : (offsets : List ℕ) (n : ℕ) → n + 2 < length offsets → get_or offsets (n + 1) 0 < last_of offsets → inner_before (n + 1) offsets ≡ inner_before n offsets + 1
+pub inner-more : (offsets : List ℕ) (n : ℕ) → n + 2 < length offsets → get_or offsets (n + 1) 0 < last_of offsets
+    → inner_before (n + 1) offsets ≡ inner_before n offsets + 1
 inner-more offsets n more low =
     let p : ℕ → Bool = λ offset. nat_lt offset (last_of offsets) in
-    count_by_more_yes p (inner_of offsets) n 0 (omega (arith, length-inner offsets)) (ap p (inner-at offsets n more) ∙ below-true _ _ low)
+    count_by_more_yes p (inner_of offsets) n 0 (omega (arith, length-inner offsets)) (ap p (inner-at offsets n more)
+    ∙ below-true _ _ low)
 
-pub inner-no-more : (offsets : List ℕ) (n : ℕ) → n + 2 < length offsets → last_of offsets ≤ get_or offsets (n + 1) 0 → inner_before (n + 1) offsets ≡ inner_before n offsets
+pub inner-no-more : (offsets : List ℕ) (n : ℕ) → n + 2 < length offsets → last_of offsets ≤ get_or offsets (n + 1) 0
+    → inner_before (n + 1) offsets ≡ inner_before n offsets
 inner-no-more offsets n more high =
     let p : ℕ → Bool = λ offset. nat_lt offset (last_of offsets) in
-    count_by_more_no p (inner_of offsets) n 0 (omega (arith, length-inner offsets)) (ap p (inner-at offsets n more) ∙ above-false _ _ high)
+    count_by_more_no p (inner_of offsets) n 0 (omega (arith, length-inner offsets)) (ap p (inner-at offsets n more)
+    ∙ above-false _ _ high)
 
 pub inner-all : (offsets : List ℕ) (n : ℕ) → length offsets ≤ n + 2 → inner_before n offsets ≡ inner_before_end offsets
-inner-all offsets n past = ap (count_by (λ offset. nat_lt offset (last_of offsets))) (take_all n (inner_of offsets) (omega (arith, length-inner offsets)))
+inner-all offsets n past = ap (count_by (λ offset. nat_lt offset (last_of offsets)))
+    (take_all n (inner_of offsets) (omega (arith, length-inner offsets)))
 
 -- those up to a place lie before the end
-up-to : (offsets : List ℕ) (n : ℕ) → n + 2 ≤ length offsets → ((k : ℕ) → 0 < k → k ≤ n → get_or offsets k 0 < last_of offsets) → inner_before n offsets ≡ n
+up-to : (offsets : List ℕ) (n : ℕ) → n + 2 ≤ length offsets
+    → ((k : ℕ) → 0 < k → k ≤ n → get_or offsets k 0 < last_of offsets) → inner_before n offsets ≡ n
 up-to offsets zero within early = refl
 up-to offsets (suc n) within early =
     let so_far = up-to offsets n (omega arith) (λ k some few. early k some (omega arith)) in
@@ -50,7 +58,9 @@ up-to offsets (suc n) within early =
     ap (λ k. inner_before k offsets) e ∙ one ∙ ap (λ k. k + 1) so_far ∙ sym e
 
 -- and none behind it does
-from-on : (offsets : List ℕ) (n m : ℕ) → IsOffsets offsets → (n + 2 < length offsets → last_of offsets ≤ get_or offsets (n + 1) 0) → n + m + 2 ≤ length offsets → inner_before (n + m) offsets ≡ inner_before n offsets
+from-on : (offsets : List ℕ) (n m : ℕ) → IsOffsets offsets
+    → (n + 2 < length offsets → last_of offsets ≤ get_or offsets (n + 1) 0) → n + m + 2 ≤ length offsets
+    → inner_before (n + m) offsets ≡ inner_before n offsets
 from-on offsets n zero legal far within = ap (λ k. inner_before k offsets) (let e : n + 0 ≡ n = omega arith in e)
 from-on offsets n (suc m) legal far within =
     let so_far = from-on offsets n m legal far (omega arith) in

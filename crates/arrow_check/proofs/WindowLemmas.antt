@@ -1,10 +1,13 @@
 -- One test of a window and a look at each inner offset are a test of each item.
-use Rattle.std.proofs.Common.{◌≡◌, ℕ, zero, suc, ◌+◌, ◌-◌, ◌<◌, ◌≤◌, ◌↔◌, Bool, true, false, not, ◌&&◌, IsTrue, Some, slice_get, List, [], ◌∷◌, ◌++◌, length, take, drop, get_or, refl, sym, ap, ◌∙◌, subst, inl, inr, arith, length-take, length-drop}
+use Rattle.std.proofs.Common.{◌≡◌, ℕ, zero, suc, ◌+◌, ◌-◌, ◌<◌, ◌≤◌, ◌↔◌, Bool, true, false, not, ◌&&◌, IsTrue}
+use Rattle.std.proofs.Common.{Some, slice_get, List, [], ◌∷◌, ◌++◌, length, take, drop, get_or, refl, sym, ap, ◌∙◌}
+use Rattle.std.proofs.Common.{subst, inl, inr, arith, length-take, length-drop}
 use Rattle.std.proofs.lemmas.Bool.{cases_lt, false≢true}
 use Rattle.std.proofs.lemmas.List.{drop-drop, drop-take, take-take, take-append-drop, get_or-take, get_or-drop}
 use Rattle.std.proofs.lemmas.Option.{get_or_from_slice_get}
 use Rattle.std.proofs.lemmas.List.Elements.{All-from_recursion, recursion_from_All, All-from_get_or, All-get_or}
-use Rattle.std.proofs.lemmas.Str.{IsUtf8-append, IsUtf8-nil, IsUtf8-take, IsUtf8-drop, IsCharBoundary-start, IsUtf8-from_ascii}
+use Rattle.std.proofs.lemmas.Str.{IsUtf8-append, IsUtf8-nil, IsUtf8-take, IsUtf8-drop, IsCharBoundary-start}
+use Rattle.std.proofs.lemmas.Str.{IsUtf8-from_ascii}
 use Rattle.std.specs.List.{All, AllByRecursion}
 use Rattle.std.specs.Str.{IsAscii, IsNotAscii, IsCharBoundary}
 use Rattle.arrow_memory.specs.Offsets.{first_of, last_of, NeverFalls, IsOffsets}
@@ -18,7 +21,8 @@ use Rattle.arrow_check.proofs.Utf8Lemmas.{well_formed-IsUtf8}
 
 pub texts-join : (a b : List ℕ) → IsWellFormed a → IsWellFormed b → IsWellFormed (a ++ b)
 texts-join a b first second =
-    (well_formed-IsUtf8 (a ++ b)).1 (IsUtf8-append a b ((well_formed-IsUtf8 a).0 first) ((well_formed-IsUtf8 b).0 second))
+    (well_formed-IsUtf8 (a ++ b)).1 (IsUtf8-append a b ((well_formed-IsUtf8 a).0 first)
+    ((well_formed-IsUtf8 b).0 second))
 
 pub no-bytes : IsWellFormed []
 no-bytes = (well_formed-IsUtf8 []).1 IsUtf8-nil
@@ -29,10 +33,14 @@ ascii-text bytes ascii = (well_formed-IsUtf8 bytes).1 (IsUtf8-from_ascii bytes a
 -- a place that is the end, or where no continuation byte stands
 boundary : (bytes : List ℕ) (n : ℕ) → n ≤ length bytes → CutsBetween (length bytes) bytes n → IsCharBoundary bytes n
 boundary bytes n within (inl end) = (within, λ more. absurd (omega (arith, end)))
-boundary bytes n within (inr start) =
-    (within, λ more high. elim (cases_lt (get_or bytes n 0) 192) [ inl low ↦ absurd (start (omega arith, omega arith)) | inr other ↦ other ])
+boundary bytes n within (inr start) = (
+  within,
+  λ more high. elim (cases_lt (get_or bytes n 0) 192)
+      [ inl low ↦ absurd (start (omega arith, omega arith)) | inr other ↦ other ],
+)
 
-pub text-cut : (bytes : List ℕ) (n : ℕ) → IsWellFormed bytes → n ≤ length bytes → CutsBetween (length bytes) bytes n → IsWellFormed (take n bytes) × IsWellFormed (drop n bytes)
+pub text-cut : (bytes : List ℕ) (n : ℕ) → IsWellFormed bytes → n ≤ length bytes → CutsBetween (length bytes) bytes n
+    → IsWellFormed (take n bytes) × IsWellFormed (drop n bytes)
 text-cut bytes n text within cuts =
     let utf8 = (well_formed-IsUtf8 bytes).0 text in
     let at = boundary bytes n within cuts in (
@@ -80,14 +88,19 @@ rise-le : (last start : ℕ) (ends : List ℕ) → Rise last start ends → star
 rise-le last start [] same = omega (arith, same)
 rise-le last start (end ∷ ends) (up, more) = omega (arith, up, rise-le last end ends more)
 
-rise : (last start : ℕ) (ends : List ℕ) → NeverFalls (start ∷ ends) → last ≡ get_or (start ∷ ends) (length ends) 0 → Rise last start ends
+rise : (last start : ℕ) (ends : List ℕ) → NeverFalls (start ∷ ends) → last ≡ get_or (start ∷ ends) (length ends) 0
+    → Rise last start ends
 rise last start [] order same = sym same
-rise last start (end ∷ ends) order same =
-    (order 0 1 (omega arith) (omega arith), rise last end ends (λ i j up within. order (suc i) (suc j) (omega arith) (omega arith)) same)
+rise last start (end ∷ ends) order same = (
+  order 0 1 (omega arith) (omega arith),
+  rise last end ends (λ i j up within.
+      order (suc i) (suc j) (omega arith) (omega arith)) same,
+)
 
 module _ (bytes : List ℕ) (last : ℕ) (within : last ≤ length bytes) where
   -- the items are texts, so what they make up is, and no offset cuts a character of it
-  joined : (start : ℕ) (ends : List ℕ) → Rise last start ends → AllByRecursion IsWellFormed (items_after start ends bytes)
+  joined : (start : ℕ) (ends : List ℕ) → Rise last start ends
+      → AllByRecursion IsWellFormed (items_after start ends bytes)
       → IsWellFormed (bytes_between start last bytes) × AllByRecursion (CutsBetween last bytes) ends
   joined start [] same all =
       let none : last - start ≡ 0 = omega (arith, same) in
@@ -97,9 +110,11 @@ module _ (bytes : List ℕ) (last : ℕ) (within : last ≤ length bytes) where
       let below = rise-le last end ends more in
       let cuts : CutsBetween last bytes end = elim (cases_lt end last) [
         | inl inner ↦ inr (
-            let some : 0 < length (bytes_between end last bytes) = omega (arith, length-window bytes end last below within) in
+            let some : 0 < length (bytes_between end last bytes) =
+            omega (arith, length-window bytes end last below within) in
             let place : end + 0 ≡ end = omega arith in
-            subst (λ b. ¬ IsContinuation b) (byte-window bytes end last 0 (omega arith) ∙ ap (λ k. get_or bytes k 0) place) (text-start (bytes_between end last bytes) rest.0 some))
+            subst (λ b. ¬ IsContinuation b) (byte-window bytes end last 0 (omega arith)
+            ∙ ap (λ k. get_or bytes k 0) place) (text-start (bytes_between end last bytes) rest.0 some))
         | inr past ↦ inl (let same : end ≡ last = omega arith in same)
       ] in
       (subst IsWellFormed (whole bytes start end last up below) (texts-join _ _ all.0 rest.0), (cuts, rest.1))
@@ -111,34 +126,44 @@ module _ (bytes : List ℕ) (last : ℕ) (within : last ≤ length bytes) where
   parted start (end ∷ ends) (up, more) text (cuts, others) =
       let below = rise-le last end ends more in
       let long = length-window bytes start last (omega (arith, up, below)) within in
-      let at : CutsBetween (length (bytes_between start last bytes)) (bytes_between start last bytes) (end - start) = elim cuts [
-        | inl same ↦ inl (let e : end - start ≡ length (bytes_between start last bytes) = omega (arith, long, same) in e)
+      let at : CutsBetween (length (bytes_between start last bytes)) (bytes_between start last bytes) (end - start)
+      = elim cuts [
+        | inl same ↦ inl (let e : end - start ≡ length (bytes_between start last bytes) =
+            omega (arith, long, same) in e)
         | inr begins ↦ elim (cases_lt end last) [
           | inl inner ↦ inr (
               let place : start + (end - start) ≡ end = omega arith in
-              subst (λ b. ¬ IsContinuation b) (sym (byte-window bytes start last (end - start) (omega arith) ∙ ap (λ k. get_or bytes k 0) place)) begins)
+              subst (λ b. ¬ IsContinuation b) (sym (byte-window bytes start last (end - start) (omega arith)
+              ∙ ap (λ k. get_or bytes k 0) place)) begins)
           | inr past ↦ inl (let e : end - start ≡ length (bytes_between start last bytes) = omega (arith, long) in e)
         ]
       ] in
-      let both = text-cut (bytes_between start last bytes) (end - start) text (omega (arith, long)) at in
-      (subst IsWellFormed (front bytes start end last up below) both.0, parted end ends more (subst IsWellFormed (back bytes start end last up below) both.1) others)
+      let both = text-cut (bytes_between start last bytes) (end - start) text (omega (arith, long)) at in (
+        subst IsWellFormed (front bytes start end last up below) both.0,
+        parted end ends more (subst IsWellFormed (back bytes start end last up below) both.1) others,
+      )
 
 -- ---- the inner offsets by their places
 
-cuts-all : (start : ℕ) (ends bytes : List ℕ) → InnerCutBetween (start ∷ ends) bytes → All (CutsBetween (last_of (start ∷ ends)) bytes) ends
+cuts-all : (start : ℕ) (ends bytes : List ℕ) → InnerCutBetween (start ∷ ends) bytes
+    → All (CutsBetween (last_of (start ∷ ends)) bytes) ends
 cuts-all start ends bytes inner =
     All-from_get_or (CutsBetween (last_of (start ∷ ends)) bytes) ends 0 (λ i low.
     elim (cases_lt (i + 1) (length ends)) [
       | inl more ↦ inner (suc i) (omega arith) (omega arith)
-      | inr end ↦ inl (ap (λ k. get_or (start ∷ ends) k 0) (let e : suc i ≡ length (start ∷ ends) - 1 = omega arith in e))
+      | inr end ↦ inl (ap (λ k. get_or (start ∷ ends) k 0) (let e : suc i ≡ length (start ∷ ends) - 1 =
+          omega arith in e))
     ])
 
-inner-cut : (start : ℕ) (ends bytes : List ℕ) → All (CutsBetween (last_of (start ∷ ends)) bytes) ends → InnerCutBetween (start ∷ ends) bytes
+inner-cut : (start : ℕ) (ends bytes : List ℕ) → All (CutsBetween (last_of (start ∷ ends)) bytes) ends
+    → InnerCutBetween (start ∷ ends) bytes
 inner-cut start ends bytes all zero some more = absurd (omega arith)
-inner-cut start ends bytes all (suc i) some more = All-get_or (CutsBetween (last_of (start ∷ ends)) bytes) ends i 0 (omega arith) all
+inner-cut start ends bytes all (suc i) some more = All-get_or (CutsBetween (last_of (start ∷ ends)) bytes) ends i 0
+    (omega arith) all
 
 last-is : (start : ℕ) (ends : List ℕ) → last_of (start ∷ ends) ≡ get_or (start ∷ ends) (length ends) 0
-last-is start ends = ap (λ k. get_or (start ∷ ends) k 0) (let e : length (start ∷ ends) - 1 ≡ length ends = omega arith in e)
+last-is start ends = ap (λ k. get_or (start ∷ ends) k 0) (let e : length (start ∷ ends) - 1 ≡ length ends =
+    omega arith in e)
 
 -- one test of the window, and where the inner offsets stand, are a test of each item
 pub slots-by-window : (offsets bytes : List ℕ) → IsOffsets offsets → last_of offsets ≤ length bytes
@@ -148,20 +173,25 @@ slots-by-window (start ∷ ends) bytes legal within =
     let last = last_of (start ∷ ends) in
     let up = rise last start ends legal.order (last-is start ends) in
     let P = CutsBetween last bytes in (
-      λ all. (let both = joined bytes last within start ends up (recursion_from_All IsWellFormed (items_after start ends bytes) all) in
+      λ all. (let both = joined bytes last within start ends up
+          (recursion_from_All IsWellFormed (items_after start ends bytes) all) in
           (both.0, inner-cut start ends bytes (All-from_recursion (CutsBetween last bytes) ends both.1))),
       λ both. All-from_recursion IsWellFormed (items_after start ends bytes)
-          (parted bytes last within start ends up both.0 (recursion_from_All (CutsBetween last bytes) ends (cuts-all start ends bytes both.1))),
+          (parted bytes last within start ends up both.0 (recursion_from_All (CutsBetween last bytes) ends
+          (cuts-all start ends bytes both.1))),
     )
 
 -- ---- a window as the code reads it
 
-pub window-read : (offsets bytes : List ℕ) (start end : ℕ) → start ≡ first_of offsets → end ≡ last_of offsets → bytes_between start end bytes ≡ window_of offsets bytes
+pub window-read : (offsets bytes : List ℕ) (start end : ℕ) → start ≡ first_of offsets → end ≡ last_of offsets
+    → bytes_between start end bytes ≡ window_of offsets bytes
 window-read offsets bytes start end from upto = λ k. bytes_between (from k) (upto k) bytes
 
-byte-at : (numbers old now : List ℕ) (i place byte : ℕ) → now ≡ old → place ≡ get_or numbers i 0 → slice_get now place ≡ Some byte
+byte-at : (numbers old now : List ℕ) (i place byte : ℕ) → now ≡ old → place ≡ get_or numbers i 0
+    → slice_get now place ≡ Some byte
     → byte ≡ get_or old (get_or numbers i 0) 0
-byte-at numbers old now i place byte stays is found = sym (get_or_from_slice_get now place byte 0 found) ∙ (λ k. get_or (stays k) (is k) 0)
+byte-at numbers old now i place byte stays is found = sym (get_or_from_slice_get now place byte 0 found)
+    ∙ (λ k. get_or (stays k) (is k) 0)
 
 -- one offset more was looked at
 pub begin-more : (numbers old now : List ℕ) (from i place byte : ℕ) (begins goes : Bool) → now ≡ old → from ≤ i
@@ -169,13 +199,20 @@ pub begin-more : (numbers old now : List ℕ) (from i place byte : ℕ) (begins 
     → (IsTrue begins ↔ AllBegin from i numbers old) → (IsTrue (begins && not goes) ↔ AllBegin from (i + 1) numbers old)
 begin-more numbers old now from i place byte false goes stays past is found says so_far =
     (λ no. absurd (false≢true no), λ all. so_far.1 (λ k low high. all k low (omega arith)))
-begin-more numbers old now from i place byte true true stays past is found says so_far =
-    (λ no. absurd (false≢true no), λ all. absurd (all i past (omega arith) (subst IsContinuation (byte-at numbers old now i place byte stays is found) (says.0 refl))))
+begin-more numbers old now from i place byte true true stays past is found says so_far = (
+  λ no. absurd (false≢true no),
+  λ all.
+      absurd (all i past (omega arith) (subst IsContinuation (byte-at numbers old now i place byte stays is found)
+      (says.0 refl))),
+)
 begin-more numbers old now from i place byte true false stays past is found says so_far =
-    let here : ¬ IsContinuation (get_or old (get_or numbers i 0) 0) = λ goes. false≢true (says.1 (subst IsContinuation (sym (byte-at numbers old now i place byte stays is found)) goes)) in (
+    let here : ¬ IsContinuation (get_or old (get_or numbers i 0) 0) = λ goes.
+    false≢true (says.1 (subst IsContinuation (sym (byte-at numbers old now i place byte stays is found)) goes))
+    in (
       λ _ k low high. elim (cases_lt k i) [
         | inl before ↦ so_far.0 refl k low before
-        | inr past ↦ (let e : i ≡ k = omega arith in subst (λ j. ¬ IsContinuation (get_or old (get_or numbers j 0) 0)) e here)
+        | inr past ↦ (let e : i ≡ k = omega arith in
+            subst (λ j. ¬ IsContinuation (get_or old (get_or numbers j 0) 0)) e here)
       ],
       λ _. refl,
     )
@@ -189,9 +226,11 @@ begin-join numbers old now from i upto false second stays low high before behind
 begin-join numbers old now from i upto true second stays low high before behind = (
   λ yes k some few. elim (cases_lt k i) [
     | inl early ↦ before.0 refl k some early
-    | inr later ↦ subst (λ b. ¬ IsContinuation (get_or b (get_or numbers k 0) 0)) stays (behind.0 yes k (omega arith) few)
+    | inr later ↦ subst (λ b. ¬ IsContinuation (get_or b (get_or numbers k 0) 0)) stays
+        (behind.0 yes k (omega arith) few)
   ],
-  λ all. behind.1 (λ k some few. subst (λ b. ¬ IsContinuation (get_or b (get_or numbers k 0) 0)) (sym stays) (all k (omega arith) few)),
+  λ all. behind.1 (λ k some few. subst (λ b. ¬ IsContinuation (get_or b (get_or numbers k 0) 0)) (sym stays)
+      (all k (omega arith) few)),
 )
 
 -- ---- a window of ASCII
@@ -200,24 +239,29 @@ pub not-ascii : (bytes : List ℕ) → IsNotAscii bytes → ¬ (IsAscii bytes)
 not-ascii bytes high ascii = omega (arith, ascii high.0, high.1)
 
 -- no inner offset cuts a character of it
-pub ascii-cuts : (offsets bytes : List ℕ) → IsOffsets offsets → IsAscii (window_of offsets bytes) → InnerCutBetween offsets bytes
+pub ascii-cuts : (offsets bytes : List ℕ) → IsOffsets offsets → IsAscii (window_of offsets bytes)
+    → InnerCutBetween offsets bytes
 ascii-cuts offsets bytes legal ascii i some more =
     let low = legal.order 0 i (omega arith) (omega arith) in
     let high = legal.order i (length offsets - 1) (omega arith) (omega arith) in
     elim (cases_lt (get_or offsets i 0) (last_of offsets)) [
       | inl inner ↦ inr (λ both.
           (let place : first_of offsets + (get_or offsets i 0 - first_of offsets) ≡ get_or offsets i 0 = omega arith in
-          let byte = byte-window bytes (first_of offsets) (last_of offsets) (get_or offsets i 0 - first_of offsets) (omega arith) ∙ ap (λ k. get_or bytes k 0) place in
+          let byte = byte-window bytes (first_of offsets) (last_of offsets) (get_or offsets i 0 - first_of offsets)
+          (omega arith) ∙ ap (λ k. get_or bytes k 0) place in
           omega (arith, byte, ascii (get_or offsets i 0 - first_of offsets), both.0)))
       | inr end ↦ inl (let e : get_or offsets i 0 ≡ last_of offsets = omega arith in e)
     ]
 
 -- ---- the judge whose rule is Unicode's
 
-pub cuts-texts : (offsets bytes : List ℕ) → IsOffsets offsets → PassesWhole IsWellFormed offsets bytes → CutTexts offsets bytes
-cuts-texts offsets bytes legal passes = (passes.within, (slots-by-window offsets bytes legal passes.within).1 (passes.window, passes.inner))
+pub cuts-texts : (offsets bytes : List ℕ) → IsOffsets offsets → PassesWhole IsWellFormed offsets bytes
+    → CutTexts offsets bytes
+cuts-texts offsets bytes legal passes =
+    (passes.within, (slots-by-window offsets bytes legal passes.within).1 (passes.window, passes.inner))
 
-pub passes-whole : (offsets bytes : List ℕ) → IsOffsets offsets → CutTexts offsets bytes → PassesWhole IsWellFormed offsets bytes
+pub passes-whole : (offsets bytes : List ℕ) → IsOffsets offsets → CutTexts offsets bytes
+    → PassesWhole IsWellFormed offsets bytes
 passes-whole offsets bytes legal cuts =
     let both = (slots-by-window offsets bytes legal cuts.0).0 cuts.1 in
     record { within = cuts.0; window = both.0; inner = both.1 }

@@ -34,7 +34,8 @@ pub(crate) fn last_number<O: Offset>(offsets: &[O]) -> usize
 pub fn check_bounds<O: Offset>(offsets: &[O], values_len: usize) -> Result<(), Error>
     requires { AreLegal O.number offsets.now }
     ensures ok { OnOk result (last_of (numbers_of O.number offsets.now) ≤ values_len) }
-    ensures err { IfErr result (λ e. (values_len < last_of (numbers_of O.number offsets.now)) × (refusal e ≡ past_values)) }
+    ensures err { IfErr result (λ e. (values_len < last_of (numbers_of O.number offsets.now))
+        × (refusal e ≡ past_values)) }
 {
     if last_number(offsets) > values_len {
         return Err(Error::OutOfSpec("offsets must not exceed the values length"));
@@ -49,7 +50,8 @@ pub fn check_bounds<O: Offset>(offsets: &[O], values_len: usize) -> Result<(), E
 pub fn check_last<O: Offset>(offsets: &[O], values_len: usize) -> Result<(), Error>
     requires { AreLegal O.number offsets.now }
     ensures ok { OnOk result (last_of (numbers_of O.number offsets.now) ≡ values_len) }
-    ensures err { IfErr result (λ e. (last_of (numbers_of O.number offsets.now) ≢ values_len) × (refusal e ≡ not_at_end)) }
+    ensures err { IfErr result (λ e. (last_of (numbers_of O.number offsets.now) ≢ values_len)
+        × (refusal e ≡ not_at_end)) }
 {
     if last_number(offsets) != values_len {
         return Err(Error::OutOfSpec("the last offset must equal the values length"));

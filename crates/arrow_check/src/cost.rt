@@ -69,9 +69,19 @@ impl Model for TextCost {
 
     ghost Value = { Cost };
 
-    ghost view = { λ c. record { ascii_tests = c.ascii_tests; whole_tests = c.whole_tests; bytes_looked = c.bytes_looked } };
+    ghost view = { λ c. record {
+      ascii_tests = c.ascii_tests;
+      whole_tests = c.whole_tests;
+      bytes_looked =
+          c.bytes_looked;
+    } };
 
-    ghost inverse = { λ c. record { ascii_tests = c.ascii_tests; whole_tests = c.whole_tests; bytes_looked = c.bytes_looked } };
+    ghost inverse = { λ c. record {
+      ascii_tests = c.ascii_tests;
+      whole_tests = c.whole_tests;
+      bytes_looked =
+          c.bytes_looked;
+    } };
 }
 
 impl TextCost {
@@ -154,7 +164,8 @@ impl<'a> TextBytes<'a> {
     #[inline(always)]
     pub fn ascii(&mut self, offset: usize, len: usize) -> bool
         requires { offset + len ≤ length self.old.bytes }
-        ensures answer { MatchBool result (IsAscii (take len (drop offset self.old.bytes))) (IsNotAscii (take len (drop offset self.old.bytes))) }
+        ensures answer { MatchBool result (IsAscii (take len (drop offset self.old.bytes)))
+            (IsNotAscii (take len (drop offset self.old.bytes))) }
         ensures counted { self.new ≡ after_ascii self.old }
     {
         self.cost.ascii_tests = one_more(self.cost.ascii_tests);

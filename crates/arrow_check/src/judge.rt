@@ -1,5 +1,6 @@
 //! Judges: bytes that are read by counted acts alone, under a rule which bytes are text.
-ghost use Rattle.std.specs.Prelude.{◌≡◌, ◌+◌, ◌<◌, ◌≤◌, ◌↔◌, ℕ, List, IsTrue, MatchBool, length, take, drop, slice_get, Some};
+ghost use Rattle.std.specs.Prelude.{◌≡◌, ◌+◌, ◌<◌, ◌≤◌, ◌↔◌, ℕ, List, IsTrue, MatchBool, length, take, drop};
+ghost use Rattle.std.specs.Prelude.{slice_get, Some};
 ghost use Rattle.std.specs.Str.{IsAscii, IsNotAscii};
 ghost use Rattle.arrow_check.specs.Reading.{Reading, after_ascii, after_whole_test, after_look};
 
@@ -19,7 +20,8 @@ pub trait Judge {
     /// Whether the `len` bytes from `offset` on are ASCII: all below 80 (hexadecimal).
     fn ascii(&mut self, offset: usize, len: usize) -> bool
         requires { offset + len ≤ length (reading self.old).bytes }
-        ensures answer { MatchBool result (IsAscii (take len (drop offset (reading self.old).bytes))) (IsNotAscii (take len (drop offset (reading self.old).bytes))) }
+        ensures answer { MatchBool result (IsAscii (take len (drop offset (reading self.old).bytes)))
+            (IsNotAscii (take len (drop offset (reading self.old).bytes))) }
         ensures counted { reading self.new ≡ after_ascii (reading self.old) };
 
     /// Whether the `len` bytes from `offset` on are text.

@@ -6,7 +6,8 @@ ghost use Rattle.arrow_memory.specs.Offsets.{last_of, numbers_of};
 ghost use Rattle.arrow_check.specs.Bounds.{AreLegal};
 ghost use Rattle.arrow_check.specs.Reading.{LooksAtMost, ReadsAtMost, after_ascii, after_looks, after_whole_test};
 ghost use Rattle.arrow_check.specs.Texts.{CutTexts, text_refusal};
-ghost use Rattle.arrow_check.specs.Windows.{window_of, inner_before_end, AllBegin, InnerCutBetween, IsContinuation, LieAt, LieBefore, PassesWhole, ReadsOnce};
+ghost use Rattle.arrow_check.specs.Windows.{window_of, inner_before_end, AllBegin, InnerCutBetween, IsContinuation};
+ghost use Rattle.arrow_check.specs.Windows.{LieAt, LieBefore, PassesWhole, ReadsOnce};
 
 use crate::bounds::{check_bounds, last_number, number_at};
 use crate::cost::TextBytes;
@@ -19,7 +20,9 @@ use arrow_types::offset::Offset;
 fn is_ascii_window<O: Offset, J: Judge>(offsets: &[O], text: &mut J) -> bool
     requires legal { AreLegal O.number offsets.now }
     requires within { last_of (numbers_of O.number offsets.now) ≤ length (J.reading text.old).bytes }
-    ensures answer { MatchBool result (IsAscii (window_of (numbers_of O.number offsets.now) (J.reading text.old).bytes)) (IsNotAscii (window_of (numbers_of O.number offsets.now) (J.reading text.old).bytes)) }
+    ensures answer { MatchBool result
+        (IsAscii (window_of (numbers_of O.number offsets.now) (J.reading text.old).bytes))
+        (IsNotAscii (window_of (numbers_of O.number offsets.now) (J.reading text.old).bytes)) }
     ensures counted { J.reading text.new ≡ after_ascii (J.reading text.old) }
 {
     let start = number_at(offsets, 0);
@@ -32,7 +35,8 @@ fn is_ascii_window<O: Offset, J: Judge>(offsets: &[O], text: &mut J) -> bool
 fn is_text_window<O: Offset, J: Judge>(offsets: &[O], text: &mut J) -> bool
     requires legal { AreLegal O.number offsets.now }
     requires within { last_of (numbers_of O.number offsets.now) ≤ length (J.reading text.old).bytes }
-    ensures answer { IsTrue result ↔ J.accepts (window_of (numbers_of O.number offsets.now) (J.reading text.old).bytes) }
+    ensures answer { IsTrue result
+        ↔ J.accepts (window_of (numbers_of O.number offsets.now) (J.reading text.old).bytes) }
     ensures counted { J.reading text.new ≡ after_whole_test (J.reading text.old) }
 {
     let start = number_at(offsets, 0);
@@ -65,7 +69,8 @@ fn goes_on(byte: u8) -> bool
     byte >= 0x80 && byte < 0xC0
 }
 
-/// Returns whether a character may begin at each of the offsets from the one at `from` up to the one at `upto`. It looks
+/// Returns whether a character may begin at each of the offsets from the one at `from` up to the one at `upto`. It
+/// looks
 /// at the byte of each, also behind one where none may begin, so that nothing branches on a byte.
 #[inline(always)]
 fn all_begin<O: Offset, J: Judge>(offsets: &[O], from: usize, upto: usize, text: &mut J) -> bool
@@ -114,7 +119,8 @@ fn is_cut_between<O: Offset, J: Judge>(offsets: &[O], text: &mut J) -> bool
     requires legal { AreLegal O.number offsets.now }
     requires within { last_of (numbers_of O.number offsets.now) ≤ length (J.reading text.old).bytes }
     ensures answer { IsTrue result ↔ InnerCutBetween (numbers_of O.number offsets.now) (J.reading text.old).bytes }
-    ensures counted { J.reading text.new ≡ after_looks (inner_before_end (numbers_of O.number offsets.now)) (J.reading text.old) }
+    ensures counted { J.reading text.new ≡ after_looks (inner_before_end (numbers_of O.number offsets.now))
+        (J.reading text.old) }
     ensures few { inner_before_end (numbers_of O.number offsets.now) ≤ length offsets.now - 2 }
 {
     let end = last_number(offsets);
@@ -128,9 +134,13 @@ fn is_cut_between<O: Offset, J: Judge>(offsets: &[O], text: &mut J) -> bool
 fn is_cut_text<O: Offset, J: Judge>(offsets: &[O], text: &mut J) -> bool
     requires legal { AreLegal O.number offsets.now }
     requires within { last_of (numbers_of O.number offsets.now) ≤ length (J.reading text.old).bytes }
-    ensures answer { IsTrue result ↔ PassesWhole J.accepts (numbers_of O.number offsets.now) (J.reading text.old).bytes }
-    ensures counted { LooksAtMost (length offsets.now - 2) (after_whole_test (J.reading text.old)) (J.reading text.new) }
-    ensures looks { IsTrue result → J.reading text.new ≡ after_looks (inner_before_end (numbers_of O.number offsets.now)) (after_whole_test (J.reading text.old)) }
+    ensures answer { IsTrue result ↔ PassesWhole J.accepts (numbers_of O.number offsets.now)
+        (J.reading text.old).bytes }
+    ensures counted { LooksAtMost (length offsets.now - 2) (after_whole_test (J.reading text.old))
+        (J.reading text.new) }
+    ensures looks { IsTrue result
+        → J.reading text.new ≡ after_looks (inner_before_end (numbers_of O.number offsets.now))
+        (after_whole_test (J.reading text.old)) }
 {
     is_text_window(offsets, text) && is_cut_between(offsets, text)
 }
@@ -151,9 +161,12 @@ fn is_cut_text<O: Offset, J: Judge>(offsets: &[O], text: &mut J) -> bool
 pub fn check_text<O: Offset, J: Judge>(offsets: &[O], text: &mut J) -> Result<(), Error>
     requires { AreLegal O.number offsets.now }
     ensures ok { OnOk result (PassesWhole J.accepts (numbers_of O.number offsets.now) (J.reading text.old).bytes) }
-    ensures err { IfErr result (λ e. (¬ (PassesWhole J.accepts (numbers_of O.number offsets.now) (J.reading text.old).bytes)) × (refusal e ≡ text_refusal (numbers_of O.number offsets.now) (J.reading text.old).bytes)) }
+    ensures err { IfErr result (λ e.
+        (¬ (PassesWhole J.accepts (numbers_of O.number offsets.now) (J.reading text.old).bytes))
+        × (refusal e ≡ text_refusal (numbers_of O.number offsets.now) (J.reading text.old).bytes)) }
     ensures counted { ReadsAtMost 1 1 (length offsets.now - 2) (J.reading text.old) (J.reading text.new) }
-    ensures exact { ReadsOnce (PassesWhole J.accepts (numbers_of O.number offsets.now) (J.reading text.old).bytes) (numbers_of O.number offsets.now) (J.reading text.old) (J.reading text.new) }
+    ensures exact { ReadsOnce (PassesWhole J.accepts (numbers_of O.number offsets.now) (J.reading text.old).bytes)
+        (numbers_of O.number offsets.now) (J.reading text.old) (J.reading text.new) }
 {
     check_bounds(offsets, text.len())?;
     if is_ascii_window(offsets, text) {
@@ -166,7 +179,8 @@ pub fn check_text<O: Offset, J: Judge>(offsets: &[O], text: &mut J) -> Result<()
 }
 
 /// Whether legal offsets lie within the bytes and every item between two of them is UTF-8 by itself (Unicode
-/// Standard, Table 3-7): `check_text` by the judge whose rule is Unicode's. What lies before the first offset and behind
+/// Standard, Table 3-7): `check_text` by the judge whose rule is Unicode's. What lies before the first offset and
+/// behind
 /// the last may be anything.
 ///
 /// # Errors
@@ -176,9 +190,11 @@ pub fn check_text<O: Offset, J: Judge>(offsets: &[O], text: &mut J) -> Result<()
 pub fn check_utf8<O: Offset>(offsets: &[O], text: &mut TextBytes<'_>) -> Result<(), Error>
     requires { AreLegal O.number offsets.now }
     ensures ok { OnOk result (CutTexts (numbers_of O.number offsets.now) text.old.bytes) }
-    ensures err { IfErr result (λ e. (¬ (CutTexts (numbers_of O.number offsets.now) text.old.bytes)) × (refusal e ≡ text_refusal (numbers_of O.number offsets.now) text.old.bytes)) }
+    ensures err { IfErr result (λ e. (¬ (CutTexts (numbers_of O.number offsets.now) text.old.bytes))
+        × (refusal e ≡ text_refusal (numbers_of O.number offsets.now) text.old.bytes)) }
     ensures counted { ReadsAtMost 1 1 (length offsets.now - 2) text.old text.new }
-    ensures exact { ReadsOnce (CutTexts (numbers_of O.number offsets.now) text.old.bytes) (numbers_of O.number offsets.now) text.old text.new }
+    ensures exact { ReadsOnce (CutTexts (numbers_of O.number offsets.now) text.old.bytes)
+        (numbers_of O.number offsets.now) text.old text.new }
 {
     check_text(offsets, text)
 }

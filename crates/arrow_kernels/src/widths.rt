@@ -1,7 +1,10 @@
-//! Arrays over offsets of one width as arrays over offsets of the other: the same rows with the same bytes around them, and
-//! every offset the same number, under the default type of the other width. Bytes and masks are shared, so the offsets are
+//! Arrays over offsets of one width as arrays over offsets of the other: the same rows with the same bytes around
+//! them, and
+//! every offset the same number, under the default type of the other width. Bytes and masks are shared, so the
+//! offsets are
 //! what the allocator is for, and no text is tested again.
 ghost use Rattle.std.specs.Prelude.{◌≡◌, false, true, IfOk, IfErr};
+ghost use Rattle.arrow_types.specs.Failures.{OnlyOutOfMemory};
 ghost use Rattle.arrow_column.specs.Column.{refused_growth, with_type};
 ghost use Rattle.arrow_bytes.specs.Column.{offsets_held};
 ghost use Rattle.arrow_bytes.specs.Kinds.{binary_type, text_type};
@@ -26,7 +29,7 @@ fn over_offsets<K: ByteKind, O: Offset, P: Offset>(
 ) -> Result<ByteArray<K, P>, Error>
     requires { offsets ≡ offsets_held array.now }
     ensures ok { IfOk result (λ made. made ≡ with_type array.now (K.default_type P.IS_LARGE)) }
-    ensures err { IfErr result (λ e. e ≡ Error.OutOfMemory) }
+    ensures err { OnlyOutOfMemory result }
 {
     let (_, _, values, validity) = array.clone()?.into_inner();
     Ok(ByteArray::new(K::default_type(P::IS_LARGE), offsets, values, validity))
@@ -35,14 +38,15 @@ fn over_offsets<K: ByteKind, O: Offset, P: Offset>(
 /// Returns the slots of items of a kind over offsets of 64 bits.
 fn widen<K: ByteKind>(alloc: Global, array: &ByteArray<K, i32>) -> Result<ByteArray<K, i64>, Error>
     ensures ok { IfOk result (λ wide. wide ≡ with_type array.now (K.default_type true)) }
-    ensures err { IfErr result (λ e. e ≡ Error.OutOfMemory) }
+    ensures err { OnlyOutOfMemory result }
 {
     over_offsets(array, OffsetsBuffer::widen(alloc, array.offsets())?)
 }
 
 /// Returns the slots of items of a kind over offsets of 32 bits.
 fn narrow<K: ByteKind>(alloc: Global, array: &ByteArray<K, i64>) -> Result<ByteArray<K, i32>, Error>
-    ensures ok { IfOk result (λ narrow. (narrowing_overflows array.now ≡ false) × (narrow ≡ with_type array.now (K.default_type false))) }
+    ensures ok { IfOk result (λ narrow. (narrowing_overflows array.now ≡ false)
+        × (narrow ≡ with_type array.now (K.default_type false))) }
     ensures err { IfErr result (λ e. e ≡ refused_growth (narrowing_overflows array.now)) }
 {
     over_offsets(array, OffsetsBuffer::narrow(alloc, array.offsets())?)
@@ -54,7 +58,7 @@ fn narrow<K: ByteKind>(alloc: Global, array: &ByteArray<K, i64>) -> Result<ByteA
 /// `OutOfMemory` if an allocation fails.
 pub fn widen_binary(alloc: Global, array: &BinaryArray<i32>) -> Result<BinaryArray<i64>, Error>
     ensures ok { IfOk result (λ wide. wide ≡ with_type array.now (binary_type true)) }
-    ensures err { IfErr result (λ e. e ≡ Error.OutOfMemory) }
+    ensures err { OnlyOutOfMemory result }
 {
     widen(alloc, array)
 }
@@ -65,7 +69,7 @@ pub fn widen_binary(alloc: Global, array: &BinaryArray<i32>) -> Result<BinaryArr
 /// `OutOfMemory` if an allocation fails.
 pub fn widen_utf8(alloc: Global, array: &Utf8Array<i32>) -> Result<Utf8Array<i64>, Error>
     ensures ok { IfOk result (λ wide. wide ≡ with_type array.now (text_type true)) }
-    ensures err { IfErr result (λ e. e ≡ Error.OutOfMemory) }
+    ensures err { OnlyOutOfMemory result }
 {
     widen(alloc, array)
 }
@@ -76,7 +80,8 @@ pub fn widen_utf8(alloc: Global, array: &Utf8Array<i32>) -> Result<Utf8Array<i64
 /// `Overflow` if the last offset is above 2147483647, however many bytes lie behind it; no memory is allocated then.
 /// `OutOfMemory` if an allocation fails.
 pub fn narrow_binary(alloc: Global, array: &BinaryArray<i64>) -> Result<BinaryArray<i32>, Error>
-    ensures ok { IfOk result (λ narrow. (narrowing_overflows array.now ≡ false) × (narrow ≡ with_type array.now (binary_type false))) }
+    ensures ok { IfOk result (λ narrow. (narrowing_overflows array.now ≡ false)
+        × (narrow ≡ with_type array.now (binary_type false))) }
     ensures err { IfErr result (λ e. e ≡ refused_growth (narrowing_overflows array.now)) }
 {
     narrow(alloc, array)
@@ -88,7 +93,8 @@ pub fn narrow_binary(alloc: Global, array: &BinaryArray<i64>) -> Result<BinaryAr
 /// `Overflow` if the last offset is above 2147483647, however many bytes lie behind it; no memory is allocated then.
 /// `OutOfMemory` if an allocation fails.
 pub fn narrow_utf8(alloc: Global, array: &Utf8Array<i64>) -> Result<Utf8Array<i32>, Error>
-    ensures ok { IfOk result (λ narrow. (narrowing_overflows array.now ≡ false) × (narrow ≡ with_type array.now (text_type false))) }
+    ensures ok { IfOk result (λ narrow. (narrowing_overflows array.now ≡ false)
+        × (narrow ≡ with_type array.now (text_type false))) }
     ensures err { IfErr result (λ e. e ≡ refused_growth (narrowing_overflows array.now)) }
 {
     narrow(alloc, array)

@@ -6,10 +6,12 @@ use Rattle.arrow_check.proofs.bounds.number_at.Goals as goal
 pub to_usize-requires : goal.to_usize-requires
 to_usize-requires g c =
     let read = c.index-offsets-index in
-    not-negative _ _ (value-at g.O.Offset.number c.args.offsets.now read.result c.args.index c.requires.legal.whole c.requires.within read.is)
+    not-negative _ _ (value-at g.O.Offset.number c.args.offsets.now read.result c.args.index c.requires.legal.whole
+    c.requires.within read.is)
 
 pub returns : goal.returns
 returns g c =
     let read = c.index-offsets-index in
-    let at = value-at g.O.Offset.number c.args.offsets.now read.result c.args.index c.requires.legal.whole c.requires.within read.is in
+    let at = value-at g.O.Offset.number c.args.offsets.now read.result c.args.index c.requires.legal.whole
+    c.requires.within read.is in
     omega (arith, ints, at, c.to_usize.ensures.value)

@@ -11,10 +11,12 @@ loop-at-preserved c =
     let front = take half bytes in
     let back = take (length bytes - half) (drop half bytes) in
     let both = both-match c.is_ascii_block-first.result c.is_ascii_block-second.result _ _ _ _ (IsNotAscii bytes)
-    (λ high. high-part bytes 0 half (high-part front at 64 high)) (λ high. high-part bytes half (length bytes - half) (high-part back at 64 high))
+    (λ high. high-part bytes 0 half (high-part front at 64 high)) (λ high.
+    high-part bytes half (length bytes - half) (high-part back at 64 high))
     c.is_ascii_block-first.ensures c.is_ascii_block-second.ensures in
     let ascii : IsAscii (take 64 (drop at front)) × IsAscii (take 64 (drop at back)) =
-    subst (λ b. MatchBool b (IsAscii (take 64 (drop at front)) × IsAscii (take 64 (drop at back))) (IsNotAscii bytes)) c.if-not-first-second.false both in
+    subst (λ b. MatchBool b (IsAscii (take 64 (drop at front)) × IsAscii (take 64 (drop at back)))
+    (IsNotAscii bytes)) c.if-not-first-second.false both in
     record {
       within = omega arith;
       front = ascii-more front at 64 c.loop-at.invariant.front ascii.0;
@@ -29,9 +31,11 @@ returns-then-not-first-second c =
     let front = take half bytes in
     let back = take (length bytes - half) (drop half bytes) in
     let both = both-match c.is_ascii_block-first.result c.is_ascii_block-second.result _ _ _ _ (IsNotAscii bytes)
-    (λ high. high-part bytes 0 half (high-part front at 64 high)) (λ high. high-part bytes half (length bytes - half) (high-part back at 64 high))
+    (λ high. high-part bytes 0 half (high-part front at 64 high)) (λ high.
+    high-part bytes half (length bytes - half) (high-part back at 64 high))
     c.is_ascii_block-first.ensures c.is_ascii_block-second.ensures in
-    subst (λ b. MatchBool b (IsAscii (take 64 (drop at front)) × IsAscii (take 64 (drop at back))) (IsNotAscii bytes)) c.if-not-first-second.true both
+    subst (λ b. MatchBool b (IsAscii (take 64 (drop at front)) × IsAscii (take 64 (drop at back)))
+    (IsNotAscii bytes)) c.if-not-first-second.true both
 
 pub returns : goal.returns
 returns c =
@@ -40,9 +44,15 @@ returns c =
     let at = c.loop-at.at in
     let front = take half bytes in
     let back = take (length bytes - half) (drop half bytes) in
-    let first = ascii-parts front at c.loop-at.invariant.front (ascii-rest front at _ c.if-not-is_ascii.ensures.cases (omega (arith, length-take half bytes))) in
+    let first = ascii-parts front at c.loop-at.invariant.front
+    (ascii-rest front at _ c.if-not-is_ascii.ensures.cases (omega (arith, length-take half bytes))) in
     match-weaker c.is_ascii-2.result _ _ (IsAscii bytes) (IsNotAscii bytes)
     (λ ascii. ascii-parts bytes half first (ascii-rest bytes half (length bytes - half)
-    (ascii-parts back at c.loop-at.invariant.back (ascii-rest back at _ ascii (omega (arith, length-take (length bytes - half) (drop half bytes), length-drop half bytes)))) (omega arith)))
+    (ascii-parts back at c.loop-at.invariant.back
+    (ascii-rest back at _ ascii (omega (
+      arith,
+      length-take (length bytes - half) (drop half bytes),
+      length-drop half bytes,
+    )))) (omega arith)))
     (λ high. high-part bytes half (length bytes - half) (high-part back at _ high))
     c.is_ascii-2.ensures.cases

@@ -14,8 +14,10 @@ loop-k-preserved g c =
     let next : c.args.from + c.loop-k.k + 1 ≡ c.args.from + (c.loop-k.k + 1) = omega arith in
     record {
       stays = ap (λ r. r.bytes) c.look.ensures.counted ∙ so_far.stays;
-      begin = subst (λ upto. IsTrue (c.loop-k.begins && not c.goes_on.result) ↔ AllBegin c.args.from upto numbers old.bytes) next
-          (begin-more numbers old.bytes (g.J.Judge.reading c.loop-k.text).bytes c.args.from (c.args.from + c.loop-k.k) c.number_at.result c.look.result c.loop-k.begins c.goes_on.result
+      begin = subst (λ upto. IsTrue (c.loop-k.begins && not c.goes_on.result)
+          ↔ AllBegin c.args.from upto numbers old.bytes) next
+          (begin-more numbers old.bytes (g.J.Judge.reading c.loop-k.text).bytes c.args.from
+          (c.args.from + c.loop-k.k) c.number_at.result c.look.result c.loop-k.begins c.goes_on.result
           so_far.stays (omega arith) c.number_at.ensures c.look.ensures.byte c.goes_on.ensures so_far.begin);
       looks = c.look.ensures.counted ∙ ap after_look so_far.looks ∙ ap (λ n. after_looks n old) one;
     }

@@ -10,6 +10,7 @@ invariant-loop-k g l =
     let read = g.J.Judge.reading in
     record {
       stays : (read l.text).bytes ≡ (read l.initial.text).bytes;
-      begin : IsTrue l.begins ↔ AllBegin l.fn.from (l.fn.from + l.k) (numbers_of g.O.Offset.number l.offsets) (read l.initial.text).bytes;
+      begin : IsTrue l.begins ↔ AllBegin l.fn.from (l.fn.from + l.k) (numbers_of g.O.Offset.number l.offsets)
+          (read l.initial.text).bytes;
       looks : read l.text ≡ after_looks l.k (read l.initial.text);
     }

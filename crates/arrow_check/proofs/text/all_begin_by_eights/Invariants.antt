@@ -12,7 +12,8 @@ invariant-loop-done g l =
       low : l.fn.from ≤ l.done;
       high : l.done ≤ l.upto;
       stays : (read l.text).bytes ≡ (read l.initial.text).bytes;
-      begin : IsTrue l.begins ↔ AllBegin l.fn.from l.done (numbers_of g.O.Offset.number l.offsets) (read l.initial.text).bytes;
+      begin : IsTrue l.begins ↔ AllBegin l.fn.from l.done (numbers_of g.O.Offset.number l.offsets)
+          (read l.initial.text).bytes;
       looks : read l.text ≡ after_looks (l.done - l.fn.from) (read l.initial.text);
     }
 
