@@ -1,13 +1,19 @@
-//! What the contracts of arrays and builders give together, as functions that any caller could write.
-ghost use Rattle.std.specs.Prelude.{◌≡◌, IsOkAnd};
+//! Laws of primitive arrays and builders, stated over the definitions for all values. Each is the
+//! contract of a function with an empty body.
+ghost use Rattle.std.specs.Prelude.{◌≡◌, Bool};
+ghost use Rattle.arrow_types.specs.Types.{IsRightType};
+ghost use Rattle.arrow_types.specs.declared.physical_type.PhysicalType.TheVariants.{Boolean};
+ghost use Rattle.arrow_column.specs.Acceptance.{Passes};
+ghost use Rattle.arrow_column.specs.Column.{Column, IsColumn, column_of_parts, mask_of, stored_values};
+ghost use Rattle.arrow_boolean.specs.Fits.{array_tests, builder_tests};
 
-use crate::BooleanArray;
-use arrow_types::error::Error;
-
-/// Parts that were taken out of an array are accepted, and make the same array again.
-pub fn array_again(array: BooleanArray) -> Result<BooleanArray, Error>
-    ensures { IsOkAnd result (λ again. again ≡ array) }
-{
-    let (data_type, values, validity) = array.into_inner();
-    BooleanArray::try_new(data_type, values, validity)
-}
+/// The parts of an array or a builder, which `into_inner` returns, pass the tests of `try_new` and
+/// make the same value again.
+pub fn parts_again()
+    ensures array { (column : Column Bool) → IsRightType Boolean column.data_type
+        → Passes (array_tests column.data_type (stored_values column) (mask_of column)) }
+    ensures builder { (column : Column Bool) → IsRightType Boolean column.data_type
+        → Passes (builder_tests column.data_type (stored_values column) (mask_of column)) }
+    ensures same { (column : Column Bool) → IsColumn column
+        → column_of_parts column.data_type (stored_values column) (mask_of column) ≡ column }
+{}

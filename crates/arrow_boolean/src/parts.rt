@@ -1,9 +1,9 @@
-//! Arrays and builders made of parts from outside, which are tested.
-ghost use Rattle.std.specs.Prelude.{◌≡◌, IsOkAnd, IsErrAnd};
-ghost use Rattle.arrow_types.specs.Types.{logical_type, refusal, IsRightType};
-ghost use Rattle.arrow_memory.specs.Rows.{FitsMask};
-ghost use Rattle.arrow_column.specs.Column.{column_of_parts, unfit_mask};
-ghost use Rattle.arrow_boolean.specs.Fits.{wrong_builder_type, wrong_type};
+//! Arrays and builders made of parts from outside, which are checked.
+ghost use Rattle.std.specs.Prelude.{◌≡◌, IfOk, IfErr};
+ghost use Rattle.arrow_types.specs.Types.{logical_type, refusal};
+ghost use Rattle.arrow_column.specs.Acceptance.{IsFirstFailure, Passes};
+ghost use Rattle.arrow_column.specs.Column.{column_of_parts};
+ghost use Rattle.arrow_boolean.specs.Fits.{array_tests, builder_tests};
 
 use crate::{BooleanArray, MutableBooleanArray};
 use arrow_column::{GrowingColumn, is_growing_mask_of, is_mask_of};
@@ -12,31 +12,33 @@ use arrow_types::data_type::DataType;
 use arrow_types::error::Error;
 use arrow_types::physical_type::PhysicalType;
 
-/// The text of the refusal of a mask.
+/// The text of the error about a mask.
 const UNFIT_MASK: &str = "validity mask length must match the number of values";
 
-/// The text of the refusal of an array's type.
+/// The text of the error about an array's data type.
 const WRONG_TYPE: &str =
     "BooleanArray can only be initialized with a DataType whose physical type is Boolean";
 
-/// The text of the refusal of a builder's type.
+/// The text of the error about a builder's data type.
 const WRONG_BUILDER_TYPE: &str =
     "MutableBooleanArray can only be initialized with a DataType whose physical type is Boolean";
 
 impl BooleanArray {
-    /// The array of such parts.
+    /// Creates an array from its parts.
     ///
     /// # Errors
-    /// `OutOfSpec` where a mask has another number of marks than there are values, or else where the type is none
-    /// of the array's physical type.
+    /// `OutOfSpec` with the first of these that fails: a mask has a mark for each value; the data
+    /// type has the array's physical type.
     pub fn try_new(
         data_type: DataType,
         values: Bitmap,
         validity: Option<Bitmap>,
     ) -> Result<Self, Error>
-        ensures fit { FitsMask values validity → IsRightType PhysicalType.Boolean (logical_type data_type) → IsOkAnd result (λ array. array ≡ column_of_parts (logical_type data_type) values validity) }
-        ensures mask { (FitsMask values validity → ⊥) → IsErrAnd result (λ e. refusal e ≡ unfit_mask) }
-        ensures data_type { FitsMask values validity → (IsRightType PhysicalType.Boolean (logical_type data_type) → ⊥) → IsErrAnd result (λ e. refusal e ≡ wrong_type) }
+        ensures ok { let t = logical_type data_type in IfOk result (λ array.
+            Passes (array_tests t values validity)
+            × (array ≡ column_of_parts t values validity)) }
+        ensures err { let t = logical_type data_type in IfErr result (λ e.
+            IsFirstFailure (array_tests t values validity) (refusal e)) }
     {
         if !is_mask_of(&validity, values.len()) {
             return Err(Error::OutOfSpec(UNFIT_MASK));
@@ -49,19 +51,21 @@ impl BooleanArray {
 }
 
 impl MutableBooleanArray {
-    /// The builder of such parts.
+    /// Creates a builder from its parts.
     ///
     /// # Errors
-    /// `OutOfSpec` where a mask has another number of marks than there are values, or else where the type is none
-    /// of the builder's physical type.
+    /// `OutOfSpec` with the first of these that fails: a mask has a mark for each value; the data
+    /// type has the builder's physical type.
     pub fn try_new(
         data_type: DataType,
         values: MutableBitmap,
         validity: Option<MutableBitmap>,
     ) -> Result<Self, Error>
-        ensures fit { FitsMask values validity → IsRightType PhysicalType.Boolean (logical_type data_type) → IsOkAnd result (λ builder. builder ≡ column_of_parts (logical_type data_type) values validity) }
-        ensures mask { (FitsMask values validity → ⊥) → IsErrAnd result (λ e. refusal e ≡ unfit_mask) }
-        ensures data_type { FitsMask values validity → (IsRightType PhysicalType.Boolean (logical_type data_type) → ⊥) → IsErrAnd result (λ e. refusal e ≡ wrong_builder_type) }
+        ensures ok { let t = logical_type data_type in IfOk result (λ builder.
+            Passes (builder_tests t values validity)
+            × (builder ≡ column_of_parts t values validity)) }
+        ensures err { let t = logical_type data_type in IfErr result (λ e.
+            IsFirstFailure (builder_tests t values validity) (refusal e)) }
     {
         if !is_growing_mask_of(&validity, values.len()) {
             return Err(Error::OutOfSpec(UNFIT_MASK));

@@ -1,1 +1,3 @@
+mod AcceptanceLemmas
+mod AgainLemmas
 mod GrowthLemmas

@@ -1,35 +1,43 @@
-//! What the contracts of arrays and builders give together, as functions that any caller could write.
-ghost use Rattle.std.specs.Prelude.{◌≡◌, IsOkAnd};
+//! Laws of arrays and builders of bytes and of text, stated over the definitions for all values.
+//! Each is the contract of a function with an empty body.
+ghost use Rattle.std.specs.Prelude.{◌≡◌, ◌∷◌, [], ℕ, ◌≤◌, Bool, length, None};
+ghost use Rattle.arrow_types.specs.Types.{IsRightType, Refusal};
+ghost use Rattle.arrow_types.specs.declared.physical_type.PhysicalType.{PhysicalType};
+ghost use Rattle.arrow_column.specs.Acceptance.{Passes};
+ghost use Rattle.arrow_column.specs.Column.{IsColumn, mask_of, stored_values};
+ghost use Rattle.arrow_bytes.specs.Column.{ByteColumn, byte_column, bytes_held, offsets_held};
+ghost use Rattle.arrow_bytes.specs.Kinds.{AreItems};
+ghost use Rattle.arrow_byte_array.specs.Acceptance.{array_tests, builder_tests, values_builder_tests};
 
-use crate::{ByteArray, MutableByteArray, MutableByteValuesArray};
-use arrow_bytes::ByteKind;
-use arrow_types::error::Error;
-use arrow_types::offset::Offset;
+/// The parts of an array, which `into_inner` returns, pass the tests of `try_new` and make the same
+/// array again.
+pub fn array_again()
+    ensures accepted { (text : Bool) (layout : PhysicalType) (wrong_type : Refusal) (c : ByteColumn)
+        → AreItems text (stored_values c) → IsRightType layout c.data_type
+        → Passes (array_tests text layout wrong_type c.data_type
+        (offsets_held c) (bytes_held c) (mask_of c)) }
+    ensures same { (c : ByteColumn) → IsColumn c
+        → byte_column c.data_type (offsets_held c) (bytes_held c) (mask_of c) ≡ c }
+{}
 
-/// Parts that were taken out of an array are accepted, and make the same array again.
-pub fn array_again<K: ByteKind, O: Offset>(array: ByteArray<K, O>) -> Result<ByteArray<K, O>, Error>
-    ensures { IsOkAnd result (λ again. again ≡ array) }
-{
-    let (data_type, offsets, values, validity) = array.into_inner();
-    ByteArray::<K, O>::try_new(data_type, offsets, values, validity)
-}
+/// The parts of a builder, after whose last slot no byte lies, pass the tests of `try_new` and make
+/// the same builder again.
+pub fn builder_again()
+    ensures accepted { (text : Bool) (layout : PhysicalType) (wrong_type : Refusal) (c : ByteColumn)
+        → c.around.tail ≡ [] → AreItems text (stored_values c) → IsRightType layout c.data_type
+        → Passes (builder_tests text layout wrong_type c.data_type
+        (offsets_held c) (bytes_held c) (mask_of c)) }
+    ensures same { (c : ByteColumn) → IsColumn c
+        → byte_column c.data_type (offsets_held c) (bytes_held c) (mask_of c) ≡ c }
+{}
 
-/// Parts that were taken out of a builder are accepted, and make the same builder again.
-pub fn builder_again<K: ByteKind, O: Offset>(
-    builder: MutableByteArray<K, O>,
-) -> Result<MutableByteArray<K, O>, Error>
-    ensures { IsOkAnd result (λ again. again ≡ builder) }
-{
-    let (data_type, offsets, values, validity) = builder.into_data();
-    MutableByteArray::<K, O>::try_new(data_type, offsets, values, validity)
-}
-
-/// Parts that were taken out of a builder without nulls are accepted, and make the same builder again.
-pub fn values_builder_again<K: ByteKind, O: Offset>(
-    builder: MutableByteValuesArray<K, O>,
-) -> Result<MutableByteValuesArray<K, O>, Error>
-    ensures { IsOkAnd result (λ again. again ≡ builder) }
-{
-    let (data_type, offsets, values) = builder.into_inner();
-    MutableByteValuesArray::<K, O>::try_new(data_type, offsets, values)
-}
+/// The parts of a builder without nulls, after whose last item no byte lies, pass the tests of
+/// `try_new` and make the same builder again.
+pub fn values_builder_again()
+    ensures accepted { (text : Bool) (layout : PhysicalType) (wrong_type : Refusal) (c : ByteColumn)
+        → c.around.tail ≡ [] → AreItems text (stored_values c) → IsRightType layout c.data_type
+        → Passes (values_builder_tests text layout wrong_type c.data_type
+        (offsets_held c) (bytes_held c)) }
+    ensures same { (c : ByteColumn) → IsColumn c → mask_of c ≡ None
+        → byte_column c.data_type (offsets_held c) (bytes_held c) None ≡ c }
+{}

@@ -1,3 +1,5 @@
+mod BackLemmas
+pub mod CallerLemmas
 mod KindLemmas
 pub mod PieceLemmas
 mod TextLemmas

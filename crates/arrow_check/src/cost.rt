@@ -1,13 +1,12 @@
 //! Bytes that checks of text read, and what the reading costs.
 ghost use Rattle.std.specs.Prelude.{◌≡◌, ◌+◌, ◌<◌, ◌≤◌, ◌↔◌, IsTrue, MatchBool, length, take, drop, slice_get, Some};
 ghost use Rattle.std.specs.Str.{IsAscii, IsNotAscii};
-ghost use Rattle.arrow_check.specs.Reading.{no_cost, many_more, one_more, after_ascii, after_whole_test, after_look, after_looks};
+ghost use Rattle.arrow_check.specs.Reading.{no_cost, one_more, after_ascii, after_whole_test, after_look};
 ghost use Rattle.arrow_check.specs.Utf8.{IsWellFormed};
 
 use crate::judge::Judge;
-use crate::window::is_cut_text;
-use arrow_types::offset::Offset;
 use std::marker::Model;
+use std::simd::prelude::*;
 
 /// One more, up to the greatest number.
 #[inline(always)]
@@ -15,14 +14,6 @@ fn one_more(count: u64) -> u64
     ensures { result ≡ one_more count }
 {
     count.saturating_add(1)
-}
-
-/// So many more, up to the greatest number.
-#[inline(always)]
-fn many_more(count: u64, steps: usize) -> u64
-    ensures { result ≡ many_more steps count }
-{
-    count.saturating_add(steps as u64)
 }
 
 /// Whether bytes are UTF-8.
@@ -33,8 +24,16 @@ fn is_text(bytes: &[u8]) -> bool
     simdutf8::is_utf8(bytes)
 }
 
-/// Whether bytes are ASCII. The halves are read side by side, since memory is read ahead faster at two places than at
-/// one.
+/// Returns whether a block of bytes is ASCII.
+#[inline(always)]
+fn is_ascii_block(block: u8x64) -> bool
+    ensures { MatchBool result (IsAscii block) (IsNotAscii block) }
+{
+    block.simd_ge(u8x64::splat(0x80)).to_bitmask() == 0
+}
+
+/// Returns whether bytes are ASCII. The halves are read side by side, since memory is read ahead faster at two places
+/// than at one; of both blocks one test is made.
 fn is_ascii_by_halves(bytes: &[u8]) -> bool
     ensures { MatchBool result (IsAscii bytes.now) (IsNotAscii bytes.now) }
 {
@@ -43,10 +42,9 @@ fn is_ascii_by_halves(bytes: &[u8]) -> bool
     let back = &bytes[half..];
     let mut at = 0;
     while half - at >= 64 {
-        if !front[at..at + 64].is_ascii() {
-            return false;
-        }
-        if !back[at..at + 64].is_ascii() {
+        let first = is_ascii_block(u8x64::from_slice(&front[at..]));
+        let second = is_ascii_block(u8x64::from_slice(&back[at..]));
+        if !(first & second) {
             return false;
         }
         at += 64;
@@ -71,9 +69,19 @@ impl Model for TextCost {
 
     ghost Value = { Cost };
 
-    ghost view = { λ c. record { ascii_tests = c.ascii_tests; whole_tests = c.whole_tests; bytes_looked = c.bytes_looked } };
+    ghost view = { λ c. record {
+      ascii_tests = c.ascii_tests;
+      whole_tests = c.whole_tests;
+      bytes_looked =
+          c.bytes_looked;
+    } };
 
-    ghost inverse = { λ c. record { ascii_tests = c.ascii_tests; whole_tests = c.whole_tests; bytes_looked = c.bytes_looked } };
+    ghost inverse = { λ c. record {
+      ascii_tests = c.ascii_tests;
+      whole_tests = c.whole_tests;
+      bytes_looked =
+          c.bytes_looked;
+    } };
 }
 
 impl TextCost {
@@ -152,27 +160,12 @@ impl<'a> TextBytes<'a> {
         self.bytes.len()
     }
 
-    /// Counts one test for UTF-8.
-    #[inline(always)]
-    fn count_whole_test(&mut self)
-        ensures { self.new ≡ after_whole_test self.old }
-    {
-        self.cost.whole_tests = one_more(self.cost.whole_tests);
-    }
-
-    /// Counts so many looks at a byte.
-    #[inline(always)]
-    fn count_looks(&mut self, looks: usize)
-        ensures { self.new ≡ after_looks looks self.old }
-    {
-        self.cost.bytes_looked = many_more(self.cost.bytes_looked, looks);
-    }
-
     /// Whether the `len` bytes from `offset` on are ASCII: all below 80 (hexadecimal).
     #[inline(always)]
     pub fn ascii(&mut self, offset: usize, len: usize) -> bool
         requires { offset + len ≤ length self.old.bytes }
-        ensures answer { MatchBool result (IsAscii (take len (drop offset self.old.bytes))) (IsNotAscii (take len (drop offset self.old.bytes))) }
+        ensures answer { MatchBool result (IsAscii (take len (drop offset self.old.bytes)))
+            (IsNotAscii (take len (drop offset self.old.bytes))) }
         ensures counted { self.new ≡ after_ascii self.old }
     {
         self.cost.ascii_tests = one_more(self.cost.ascii_tests);
@@ -186,7 +179,7 @@ impl<'a> TextBytes<'a> {
         ensures answer { IsTrue result ↔ IsWellFormed (take len (drop offset self.old.bytes)) }
         ensures counted { self.new ≡ after_whole_test self.old }
     {
-        self.count_whole_test();
+        self.cost.whole_tests = one_more(self.cost.whole_tests);
         is_text(&self.bytes[offset..offset + len])
     }
 
@@ -246,14 +239,5 @@ impl<'a> Judge for TextBytes<'a> {
     #[inline(always)]
     fn bytes_looked(&self) -> u64 {
         self.cost.bytes_looked
-    }
-
-    /// Each part of the bytes is tested and then looked at, while it is at hand.
-    #[inline(always)]
-    fn test_cut<O: Offset>(&mut self, offsets: &[O]) -> bool {
-        let (is_cut, looks) = is_cut_text(self.bytes, offsets);
-        self.count_whole_test();
-        self.count_looks(looks);
-        is_cut
     }
 }

@@ -48,7 +48,8 @@ fn first_astray<K: IndexKey>(keys: &[K], len: usize) -> Option<&K>
 /// `OutOfSpec` with the fault of the first key that points at no item: it is negative or doesn't fit in a
 /// `usize`, or else it is not below the length.
 pub fn check_indexes<K: IndexKey>(keys: &[K], len: usize) -> Result<(), Error>
-    ensures first { MatchOption (find (λ key. not (is_place len (K.number key))) keys.now) (IsOk result) (λ key. IsErrAnd result (λ e. refusal e ≡ key_refusal (K.number key))) }
+    ensures first { MatchOption (find (λ key. not (is_place len (K.number key))) keys.now) (IsOk result) (λ key.
+        IsErrAnd result (λ e. refusal e ≡ key_refusal (K.number key))) }
     ensures ok { OnOk result (All (λ key. IsSomeAnd (index_of (K.number key)) (λ index. index < len)) keys.now) }
 {
     match first_astray(keys, len) {

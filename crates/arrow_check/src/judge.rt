@@ -1,15 +1,11 @@
-//! Judges: bytes that are told of by counted acts alone, under a rule which bytes are text.
-ghost use Rattle.std.specs.Prelude.{◌≡◌, ◌+◌, ◌-◌, ◌<◌, ◌≤◌, ◌↔◌, ℕ, List, IsTrue, MatchBool, length, take, drop, slice_get, Some};
+//! Judges: bytes that are read by counted acts alone, under a rule which bytes are text.
+ghost use Rattle.std.specs.Prelude.{◌≡◌, ◌+◌, ◌<◌, ◌≤◌, ◌↔◌, ℕ, List, IsTrue, MatchBool, length, take, drop};
+ghost use Rattle.std.specs.Prelude.{slice_get, Some};
 ghost use Rattle.std.specs.Str.{IsAscii, IsNotAscii};
-ghost use Rattle.arrow_memory.specs.Offsets.{last_of, numbers_of, KeepsOffsets};
-ghost use Rattle.arrow_check.specs.Reading.{Reading, LooksAtMost, after_ascii, after_whole_test, after_look, after_looks};
-ghost use Rattle.arrow_check.specs.Windows.{window_of, inner_before_end, InnerCutBetween, IsContinuation};
+ghost use Rattle.arrow_check.specs.Reading.{Reading, after_ascii, after_whole_test, after_look};
 
-use crate::bounds::last_number;
-use arrow_memory::offset::number_at;
-use arrow_types::offset::Offset;
-
-/// Bytes of which only their number and three acts tell, each of which is counted, under a rule which bytes are text.
+/// Bytes of which callers read only the number, and what three acts answer; each act is counted. The type fixes which
+/// bytes are text.
 pub trait Judge {
     /// The bytes, which no act changes, and what the acts cost so far.
     ghost reading: { Self → Reading };
@@ -24,7 +20,8 @@ pub trait Judge {
     /// Whether the `len` bytes from `offset` on are ASCII: all below 80 (hexadecimal).
     fn ascii(&mut self, offset: usize, len: usize) -> bool
         requires { offset + len ≤ length (reading self.old).bytes }
-        ensures answer { MatchBool result (IsAscii (take len (drop offset (reading self.old).bytes))) (IsNotAscii (take len (drop offset (reading self.old).bytes))) }
+        ensures answer { MatchBool result (IsAscii (take len (drop offset (reading self.old).bytes)))
+            (IsNotAscii (take len (drop offset (reading self.old).bytes))) }
         ensures counted { reading self.new ≡ after_ascii (reading self.old) };
 
     /// Whether the `len` bytes from `offset` on are text.
@@ -51,40 +48,6 @@ pub trait Judge {
     fn bytes_looked(&self) -> u64
         ensures { result ≡ (reading self.now).cost.bytes_looked };
 
-    /// Whether the window between legal offsets is text and the inner offsets cut no character of it: one whole test
-    /// of the window, and one look at each inner offset that is not its end, up to the first that cuts a character.
-    /// An `impl` may do these acts side by side, so that the bytes are read once for both; it counts them as if they
-    /// were done one after the other.
-    #[inline(always)]
-    fn test_cut<O: Offset>(&mut self, offsets: &[O]) -> bool
-        requires keeps { KeepsOffsets O.number O.most offsets.now }
-        requires within { last_of (numbers_of O.number offsets.now) ≤ length (reading self.old).bytes }
-        ensures answer { IsTrue result ↔ (accepts (window_of (numbers_of O.number offsets.now) (reading self.old).bytes) × InnerCutBetween (numbers_of O.number offsets.now) (reading self.old).bytes) }
-        ensures counted { LooksAtMost (length offsets.now - 2) (after_whole_test (reading self.old)) (reading self.new) }
-        ensures looks { IsTrue result → reading self.new ≡ after_looks (inner_before_end (numbers_of O.number offsets.now)) (after_whole_test (reading self.old)) }
-    {
-        let start = number_at(offsets, 0);
-        let end = last_number(offsets);
-        if !self.whole_test(start, end - start) {
-            return false;
-        }
-        for i in 1..offsets.len() - 1 {
-            let place = number_at(offsets, i);
-            if place != end && goes_on(self.look(place)) {
-                return false;
-            }
-        }
-        true
-    }
-
     /// Bytes that are all ASCII are text.
     ghost takes_ascii: { (bytes : List ℕ) → IsAscii bytes → accepts bytes };
-}
-
-/// Whether a byte goes on with a character, and begins none.
-#[inline(always)]
-pub(crate) fn goes_on(byte: u8) -> bool
-    ensures { IsTrue result ↔ IsContinuation byte }
-{
-    byte >= 0x80 && byte < 0xC0
 }

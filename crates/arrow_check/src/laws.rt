@@ -22,12 +22,16 @@ pub fn texts_join()
 /// Both parts of a text that is cut at its end, or where no continuation byte stands, are text.
 #[inline(always)]
 pub fn text_is_cut()
-    ensures { (bytes : List ℕ) (place : ℕ) → IsWellFormed bytes → place ≤ length bytes → CutsBetween (length bytes) bytes place → IsWellFormed (take place bytes) × IsWellFormed (drop place bytes) }
+    ensures { (bytes : List ℕ) (place : ℕ) → IsWellFormed bytes → place ≤ length bytes
+        → CutsBetween (length bytes) bytes place → IsWellFormed (take place bytes)
+        × IsWellFormed (drop place bytes) }
 {}
 
 /// Legal offsets within bytes cut texts out of them exactly if the window from the first to the last is text, and
 /// each inner offset is the window's end or stands at no continuation byte.
 #[inline(always)]
 pub fn texts_by_window()
-    ensures { (offsets bytes : List ℕ) → IsOffsets offsets → last_of offsets ≤ length bytes → AreTexts (items_of offsets bytes) ↔ (IsWellFormed (window_of offsets bytes) × InnerCutBetween offsets bytes) }
+    ensures { (offsets bytes : List ℕ) → IsOffsets offsets → last_of offsets ≤ length bytes
+        → AreTexts (items_of offsets bytes) ↔ (IsWellFormed (window_of offsets bytes)
+        × InnerCutBetween offsets bytes) }
 {}

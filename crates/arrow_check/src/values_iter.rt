@@ -97,7 +97,8 @@ impl<'a, A: ArrayAccessor<'a>> Iterator for ArrayValuesIter<'a, A> {
     /// Both parts are the number of items left.
     #[inline(always)]
     fn size_hint(&self) -> (usize, Option<usize>)
-        ensures exact { IsWithin A.items self.now → result ≡ (length (rest_of A.items self.now), Some (length (rest_of A.items self.now))) }
+        ensures exact { IsWithin A.items self.now
+            → result ≡ (length (rest_of A.items self.now), Some (length (rest_of A.items self.now))) }
         ensures lower { IsWithinCount result.0 (at_most (self.now.end - self.now.index)) }
         ensures upper { IfSome result.1 (UpTo (at_most (self.now.end - self.now.index))) }
     {

@@ -1,3 +1,4 @@
 mod AgreeLemmas
+pub mod CallerLemmas
 pub mod ColumnLemmas
 mod RowLemmas

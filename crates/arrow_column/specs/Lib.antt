@@ -1,3 +1,4 @@
+pub mod Acceptance
 pub mod Column
 pub mod Masks
 pub mod SlotEquality

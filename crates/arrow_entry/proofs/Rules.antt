@@ -1,5 +1,5 @@
 -- What rows use of how columns are seen: rulesets over the laws of `seen`.
-use Rattle.arrow_entry.proofs.Seen.{parts-seen, append-seen, appends-seen, values-seen, nulls-seen, short-seen, frozen-seen, slot-seen, mask-seen, with-stored-seen, with-type-seen, same-values, same-bits, same-pieces, bare-frozen, thaw-pieces, thaw-plain}
+use Rattle.arrow_entry.proofs.Seen.{parts-seen, append-seen, appends-seen, values-seen, nulls-seen, short-seen, frozen-seen, slot-seen, mask-seen, with-stored-seen, with-type-seen, same-values, same-bits, same-pieces, freeze-pieces, freeze-plain, thaw-pieces, thaw-plain}
 use Rattle.arrow_entry.proofs.Slots.{grown-by, whole, length-slots}
 use Rattle.arrow_entry.proofs.Chosen.{bits-seen}
 
@@ -7,7 +7,7 @@ pub ruleset seen_changes = (parts-seen, append-seen, appends-seen, values-seen, 
 
 pub ruleset seen_slots = (same-values, same-bits, same-pieces)
 
-pub ruleset seen_freezes = (frozen-seen, bare-frozen)
+pub ruleset seen_freezes = (freeze-pieces, freeze-plain, thaw-plain)
 
 pub ruleset seen_thaws = (thaw-pieces, thaw-plain)
 

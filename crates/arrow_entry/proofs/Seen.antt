@@ -164,6 +164,14 @@ module _ {A S T : Type 0} (around : A → Around) (stored : S → Stored T) wher
       shown None = refl
       shown (Some r) = row-slot r.0 r.1
 
+  -- there is a last slot exactly where there was one
+  pub some-seen : (c : ColumnWith A S) → is_some (last_slot (seen around stored c)) ≡ is_some (last_slot c)
+  some-seen c = ap is_some (last-seen c) ∙ some-map (last_slot c)
+    where
+      some-map : (x : Option S) → is_some (option_map stored x) ≡ is_some x
+      some-map None = refl
+      some-map (Some x) = refl
+
   pub frozen-seen : (c : ColumnWith A S) → seen around stored (without_needless_mask c) ≡ without_needless_mask (seen around stored c)
   unfolding seen with-rows
   frozen-seen c = ap (λ valid. with-rows c (map (λ (r : Row S). (stored r.0, r.1)) c.rows) (not valid)) (sym (rows-valid c.rows))
@@ -249,9 +257,12 @@ pub thaw-plain : {S T : Type 0} (stored : S → Stored T) (c : Column S) → (le
 unfolding seen
 thaw-plain stored c = refl
 
--- a mask that no builder of values alone needs
-pub bare-frozen : {A S T : Type 0} (around : A → Around) (stored : S → Stored T) (c : ColumnWith A S) → c.held ≡ false → all_valid c ≡ true → without_needless_mask (seen around stored c) ≡ seen around stored c
-bare-frozen around stored c bare valid = sym (frozen-seen around stored c) ∙ ap (seen around stored) (ap (λ (held : Bool). record c { held = held }) (ap not valid ∙ sym bare))
+-- an array that is made of a builder has none either, nor a mask that no slot needs
+pub freeze-pieces : {S T : Type 0} (stored : S → Stored T) (c : ColumnWith Around S) → seen (λ around. around) stored (without_needless_mask (record c { around = record c.around { tail = [] } })) ≡ (let d : ColumnWith Around (Stored T) = seen (λ around. around) stored c in without_needless_mask (record d { around = record d.around { tail = [] } }))
+freeze-pieces stored c = frozen-seen (λ around. around) stored (record c { around = record c.around { tail = [] } }) ∙ ap without_needless_mask (thaw-pieces stored c)
+
+pub freeze-plain : {S T : Type 0} (stored : S → Stored T) (c : Column S) → seen (λ _. nothing_around) stored (without_needless_mask c) ≡ (let d : ColumnWith Around (Stored T) = seen (λ _. nothing_around) stored c in without_needless_mask (record d { around = record d.around { tail = [] } }))
+freeze-plain stored c = frozen-seen (λ _. nothing_around) stored c ∙ ap without_needless_mask (sym (thaw-plain stored c))
 
 -- the slots are the same, seen so, exactly where they are the same
 slots-back : {S X : Type 0} (stored : S → X) (back : X → Option S) → ((x : S) → back (stored x) ≡ Some x) → (xs : List (Option S)) → map (option_and_then back) (map (option_map stored) xs) ≡ xs
@@ -306,7 +317,7 @@ pub ruleset seen_cuts = (cut-pieces, cut-value, cut-bit)
 
 pub ruleset seen_masks = (mask-seen)
 
-pub ruleset seen_grows = (short-seen, joined-seen)
+pub ruleset seen_grows = (short-seen, some-seen, joined-seen)
 
 pub ruleset seen_pushes = (append-none, append-some)
 

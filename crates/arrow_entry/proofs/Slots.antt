@@ -6,7 +6,7 @@ use Rattle.std.proofs.lemmas.Option.{slice_get_read, slice_get-map}
 use Rattle.arrow_memory.specs.Rows.{Row, slot}
 use Rattle.arrow_column.specs.Column.{ColumnWith, IsColumn, all_valid, mask_of, marks_of, slots_of, stored_values}
 use Rattle.arrow_memory.specs.Offsets.{KeepsOffsets, numbers_of}
-use Rattle.arrow_memory.proofs.OffsetLemmas.{value-at, not-negative, length-numbers}
+use Rattle.arrow_memory.proofs.CallerLemmas.{value-at, not-negative, length-numbers}
 use Rattle.arrow_bytes.specs.Pieces.{Around}
 use Rattle.arrow_entry.specs.Item.{Stored}
 use Rattle.arrow_entry.specs.Entry.{seen}

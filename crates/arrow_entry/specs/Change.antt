@@ -26,19 +26,21 @@ module _ {T : Type 0} where
   abbrev pub cut_value : Value T → ℕ → ℕ → Value T
   cut_value v a n = with_column v (cut_with (λ around items. around_cut around (map bytes_in items)) v.column a n)
 
-  -- the array of the same slots: a mask is held exactly where a slot is null; of truth values, where it was
+  -- the same slots, with nothing behind them
+  abbrev pub without_tail : Value T → ColumnWith Around (Stored T)
+  without_tail v = record v.column { around = record v.column.around { tail = [] } }
+
+  -- the array of the same slots, with nothing behind them: a mask is held exactly where a slot is null; of truth values, where
+  -- it was
   abbrev pub frozen_value : Value T → Value T
   frozen_value v = record {
     shape = shaped frozen v.shape.sort;
-    column = if is_boolean v.shape then v.column else without_needless_mask v.column;
+    column = if is_boolean v.shape then without_tail v else without_needless_mask (without_tail v);
   }
 
   -- the builder of the same slots, with nothing behind them
   abbrev pub thawed_value : Value T → Value T
-  thawed_value v = record {
-    shape = shaped with_nulls v.shape.sort;
-    column = record v.column { around = record v.column.around { tail = [] } };
-  }
+  thawed_value v = record { shape = shaped with_nulls v.shape.sort; column = without_tail v }
 
   module _ (c : Types T) where
     -- a value of this kind with no slot and no mask

@@ -1,5 +1,5 @@
 -- How kernels see the values of entries: those that they take rows of, those that ask for rows, and the bytes of items.
-use Rattle.std.specs.Prelude.{ℕ, Bool, false, ◌&&◌, List, map, Option, Some, None, option_and_then, if◌then◌else◌}
+use Rattle.std.specs.Prelude.{Bool, false, ◌&&◌, map, Option, Some, None, option_and_then, if◌then◌else◌}
 use Rattle.arrow_column.specs.Column.{Column, ColumnWith}
 use Rattle.arrow_bytes.specs.Pieces.{Around}
 use Rattle.arrow_bytes.specs.Column.{ByteColumn}

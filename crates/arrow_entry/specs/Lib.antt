@@ -11,3 +11,4 @@ pub mod Step
 pub mod Run
 pub mod Outcome
 pub mod Both
+pub mod Values

@@ -1,9 +1,8 @@
 -- What a command may do to one entry, in the words that its rows are written in. A command's condition is tested:
 -- where it fails the answer is `not_met` and nothing changes, and it is `not_met` nowhere else.
-use Rattle.std.specs.Prelude.{◌≡◌, Bool, Option, Some, None, MatchOption, MatchBool, option_and_then, if◌then◌else◌}
-use Rattle.arrow_types.specs.Types.{Refusal}
+use Rattle.std.specs.Prelude.{◌≡◌, ◌⊎◌, Bool, Option, Some, None, MatchOption, MatchBool, option_and_then, if◌then◌else◌}
 use Rattle.arrow_entry.specs.Kind.{Shape}
-use Rattle.arrow_entry.specs.Answer.{Answer, done, not_met, refused, is_memory}
+use Rattle.arrow_entry.specs.Answer.{Answer, done, not_met, is_memory}
 use Rattle.arrow_entry.specs.Entry.{Value}
 
 -- which answer comes, and what the entry then is
@@ -17,6 +16,10 @@ gives given kept reply new = (reply ≡ given) × (new ≡ kept)
 -- it is done, and leaves this value
 abbrev pub leaves : {T : Type 0} → Value T → Row T
 leaves kept = gives done (Some kept)
+
+-- by a test, one row or another
+abbrev pub by_test : {T : Type 0} → Bool → Row T → Row T → Row T
+by_test test row other reply new = MatchBool test (row reply new) (other reply new)
 
 -- a free choice: such an answer may come too, and then this is left
 abbrev pub may : {T : Type 0} → (Answer T → Bool) → Option (Value T) → Row T → Row T
@@ -46,11 +49,7 @@ module _ {T : Type 0} (old : Option (Value T)) where
 
   -- the condition that something holds
   abbrev pub provided : Type 0 → Row T → Row T
-  provided P row reply new = (P → row reply new) × ((P → ⊥) → unmet reply new)
-
-  -- what fails a test is refused so
-  abbrev pub passes : Type 0 → Refusal → Row T → Row T
-  passes P why row reply new = (P → row reply new) × ((P → ⊥) → answers (refused why) reply new)
+  provided P row reply new = (P × row reply new) ⊎ ((P → ⊥) × unmet reply new)
 
   -- the condition that an entry of such a kind is there, for a row of what it holds
   abbrev pub of_kind : (Shape → Bool) → (Value T → Row T) → Row T

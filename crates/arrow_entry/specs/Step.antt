@@ -1,6 +1,6 @@
 -- What each command does to the entry that it names, and what it answers. What is freely chosen stands behind `may`,
 -- and behind `memory` that want of memory may be the answer.
-use Rattle.std.specs.Prelude.{◌≡◌, ◌↔◌, ℕ, ℤ, ◌-◌, ◌==◌, ◌≤◌, Bool, true, false, not, ◌&&◌, ◌||◌, nat_le, nat_lt, nat_eq, List, [], ◌∷◌, length, map, take, replicate, count_by, find, is_none, Option, Some, None, option_and_then, MatchOption, MatchBool, IsTrue, slice_get, slice_set, if◌then◌else◌}
+use Rattle.std.specs.Prelude.{◌≡◌, ◌↔◌, ℕ, ℤ, ◌-◌, ◌==◌, ◌<◌, Bool, true, false, not, ◌&&◌, ◌||◌, nat_le, nat_lt, nat_eq, List, [], ◌∷◌, length, map, take, replicate, count_by, find, is_none, is_some, Option, Some, None, option_and_then, MatchOption, MatchBool, IsTrue, slice_get, slice_set, if◌then◌else◌}
 use Rattle.std.specs.List.{list_all}
 use Rattle.std.specs.Option.{option_map_or}
 use Rattle.arrow_types.specs.Types.{IsRightType, overflow}
@@ -17,12 +17,12 @@ use Rattle.arrow_entry.specs.Request as ask
 use Rattle.arrow_entry.specs.Answer.{Answer, done, not_met, number, flag, numbers, typed, right, refused, is_memory, is_not_given, is_left}
 use Rattle.arrow_entry.specs.Answer as answer
 use Rattle.arrow_entry.specs.Entry.{Value, State, Held, Types, default_item, layout}
-use Rattle.arrow_entry.specs.Row.{Row, gives, leaves, may, memory, answers, given, where_true, provided, of_kind}
+use Rattle.arrow_entry.specs.Row.{Row, gives, leaves, may, memory, answers, given, where_true, provided, of_kind, by_test}
 use Rattle.arrow_entry.specs.Parts.{PartsRow, PartsCost}
 use Rattle.arrow_entry.specs.Change.{turns_of, with_column, cut_value, frozen_value, thawed_value, empty_value, slots_start, null_in, grown, slot_over, join_over, fitting}
 use Rattle.arrow_entry.specs.Chosen.{bytes_column, array_in, filter_in}
 
--- what is more than offsets can tell the end of is refused
+-- what is more than offsets can tell the end of is refused; this is tested before memory is asked for
 abbrev pub unless_over : {T : Type 0} → Option (Value T) → Bool → Row T → Row T
 unless_over old over row reply new = MatchBool over (answers old (refused overflow) reply new) (row reply new)
 
@@ -31,7 +31,8 @@ module _ {T : Type 0} (c : Types T) where
   abbrev pub all_fit : Value T → List (Option (Stored T)) → Bool
   all_fit v slots = nat_eq (fitting c v slots) (length slots)
 
-  -- these slots appended to a new value, which is then left
+  -- these slots appended to a new value, which is then left; memory may be wanting before the first slot that is more than
+  -- offsets can tell the end of
   abbrev pub Filled : Value T → List (Option (Stored T)) → (Value T → Value T) → Row T
   Filled start slots last = memory None (unless_over None (not (all_fit start slots)) (leaves (last (grown c start slots))))
 
@@ -54,10 +55,11 @@ module _ {T : Type 0} (c : Types T) where
     abbrev ◌>>◌ : Bool → Row T → Row T
     test >> row = where_true (Some v) test row
 
-    -- this is answered, and nothing changes; where an item of bytes is answered, memory may be wanting
+    -- this is answered, and nothing changes
     abbrev pub tells : Answer T → Row T
     tells = answers (Some v)
 
+    -- an item is answered: where it is one of bytes, memory may be wanting
     abbrev pub copied : Row T → Row T
     copied row reply new = MatchBool (is_pieces v.shape) (memory (Some v) row reply new) (row reply new)
 
@@ -65,12 +67,12 @@ module _ {T : Type 0} (c : Types T) where
     abbrev pub becomes : ColumnWith Around (Stored T) → Row T
     becomes column = memory (Some v) (leaves (with_column v column))
 
-    -- slots that are appended as far as they can be: any number of them where memory is wanting, else all before the
-    -- first that is more than offsets can tell the end of
+    -- slots that are appended as far as they can be: all before the first that is more than offsets can tell the end of;
+    -- where memory is wanting for one of these, the ones before it
     abbrev pub Extends : List (Option (Stored T)) → Row T
     Extends slots reply new =
         MatchBool (is_memory reply)
-        ((k : ℕ) × (k ≤ length slots) × (new ≡ Some (grown c v (take k slots))))
+        ((k : ℕ) × (k < fitting c v slots) × (new ≡ Some (grown c v (take k slots))))
         (gives (if all_fit v slots then done else refused overflow) (Some (grown c v (take (fitting c v slots) slots))) reply new)
 
     -- what is done to the value that an entry holds
@@ -91,7 +93,7 @@ module _ {T : Type 0} (c : Types T) where
     Does ask.empty = gives done None
     Does (ask.set_mask mask) = option_map_or (λ marks. nat_eq (length marks) (length v.column.rows)) mask true >> becomes (with_mask v.column mask)
     Does (ask.apply_mask change) =
-        change_of_marks change >>= (λ of_marks. becomes (if v.column.held then with_mask v.column (Some (changed of_marks (marks_of v.column))) else v.column))
+        change_of_marks change >>= (λ of_marks. by_test v.column.held (becomes (with_mask v.column (Some (changed of_marks (marks_of v.column))))) (leaves v))
     Does (ask.set_values items) = (nat_eq (length items) (length v.column.rows) && list_all (fits v.shape.sort) items) >> becomes (with_stored v.column items)
     Does (ask.apply_values change) = change_fits v.shape.sort change >> becomes (with_stored v.column (changed change (stored_values v.column)))
     Does (ask.set i x) = (nat_lt i (length v.column.rows) && slot_fits v.shape.sort x) >> becomes (with_slot (null_in c v) v.column i x)
@@ -100,9 +102,11 @@ module _ {T : Type 0} (c : Types T) where
         may (λ reply. is_frozen v.shape && is_not_given reply) (Some v) (leaves (with_column v (with_stored v.column (slice_set (stored_values v.column) i x))))
     Does (ask.push x) =
         (slot_fits v.shape.sort x && (is_nullable v.shape || not (is_none x))) >>
-        memory (Some v) (unless_over (Some v) (slot_over c v x) (leaves (grown c v (x ∷ []))))
+        unless_over (Some v) (slot_over c v x) (memory (Some v) (leaves (grown c v (x ∷ []))))
     Does ask.push_null = memory (Some v) (leaves (grown c v ((if is_nullable v.shape then None else Some (null_in c v)) ∷ [])))
-    Does ask.pop = copied (gives (answer.slot (last_slot v.column)) (Some (with_column v (without_last v.column))))
+    Does ask.pop =
+        let popped : Row T = gives (answer.slot (last_slot v.column)) (Some (with_column v (without_last v.column))) in
+        by_test (is_some (last_slot v.column)) (copied popped) popped
     Does (ask.extend slots) = list_all (slot_fits v.shape.sort) slots >> Extends slots
     Does (ask.extend_values items) = list_all (fits v.shape.sort) items >> Extends (map Some items)
     Does (ask.extend_constant n x) =
@@ -117,7 +121,7 @@ module _ {T : Type 0} (c : Types T) where
 
     -- the same with what another entry holds
     abbrev pub Joins : Value T → Row T
-    Joins w = same_kind v.shape w.shape >> memory (Some v) (unless_over (Some v) (join_over c v w) (leaves (with_column v (joined v.column w.column))))
+    Joins w = same_kind v.shape w.shape >> unless_over (Some v) (join_over c v w) (memory (Some v) (leaves (with_column v (joined v.column w.column))))
 
     -- whether the slots are the same: types, held masks and values under nulls are not compared
     abbrev pub Compares : Value T → Row T

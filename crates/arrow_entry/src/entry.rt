@@ -1,7 +1,8 @@
 //! The entries of a table.
 ghost use Rattle.std.specs.Prelude.{◌≡◌};
-ghost use Rattle.arrow_entry.specs.Entry.{value_of};
+ghost use Rattle.arrow_entry.specs.Entry.{types, value_of};
 ghost use Rattle.arrow_entry.specs.Kind.{shape};
+ghost use Rattle.arrow_entry.specs.Values.{IsValue};
 
 use crate::kind::Kind;
 use arrow_binary::{BinaryArray, MutableBinaryArray, MutableBinaryValuesArray};
@@ -52,6 +53,59 @@ impl<T: NativeType, O: Offset> Entry<T, O> {
             Entry::MutableUtf8(_) => Kind::MutableUtf8,
             Entry::BinaryValues(_) => Kind::BinaryValues,
             Entry::Utf8Values(_) => Kind::Utf8Values,
+        }
+    }
+
+    /// Does nothing; its contract says that what is held is a value, by what each kind says of itself.
+    #[inline(always)]
+    pub fn prove_value(&self)
+        ensures { IsValue (types T.zero T.PRIMITIVE O.most O.IS_LARGE) (value_of self.now) }
+    {
+        match self {
+            Entry::Primitive(array) => {
+                array.data_type();
+                array.validity();
+            }
+            Entry::Boolean(array) => {
+                array.data_type();
+                array.validity();
+            }
+            Entry::Binary(array) => {
+                array.data_type();
+                array.validity();
+                array.values();
+            }
+            Entry::Utf8(array) => {
+                array.data_type();
+                array.validity();
+                array.values();
+            }
+            Entry::MutablePrimitive(builder) => {
+                builder.data_type();
+                builder.validity();
+            }
+            Entry::MutableBoolean(builder) => {
+                builder.data_type();
+                builder.validity();
+            }
+            Entry::MutableBinary(builder) => {
+                builder.data_type();
+                builder.validity();
+                builder.values();
+            }
+            Entry::MutableUtf8(builder) => {
+                builder.data_type();
+                builder.validity();
+                builder.values();
+            }
+            Entry::BinaryValues(builder) => {
+                builder.data_type();
+                builder.values();
+            }
+            Entry::Utf8Values(builder) => {
+                builder.data_type();
+                builder.values();
+            }
         }
     }
 }

@@ -7,6 +7,7 @@ mod item;
 pub mod items;
 mod kind;
 pub mod kinds;
+pub mod laws;
 mod reply;
 
 pub use command::{Bits, BothCommand, Command, Parts, Raw};

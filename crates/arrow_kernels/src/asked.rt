@@ -1,6 +1,8 @@
 //! For which rows a filter asks.
-ghost use Rattle.std.specs.Prelude.{◌≡◌, ℕ, ◌+◌, ◌*◌, ◌^◌, ◌<◌, ◌≤◌, ◌==◌, true, false, not, count_by, length, slice_get, Some, IfOk, IfErr};
+ghost use Rattle.std.specs.Prelude.{◌≡◌, ℕ, ◌+◌, ◌*◌, ◌^◌, ◌<◌, ◌≤◌, ◌==◌, true, false, not, count_by, length};
+ghost use Rattle.std.specs.Prelude.{slice_get, Some, IfOk, IfErr};
 ghost use Rattle.std.specs.Int.{bit_at};
+ghost use Rattle.arrow_types.specs.Failures.{OnlyOutOfMemory};
 ghost use Rattle.arrow_kernels.specs.Kernels.{asked, set_in_both};
 
 use arrow_boolean::BooleanArray;
@@ -22,12 +24,13 @@ fn is_set_in_both(values: &Bitmap, validity: &Bitmap, i: usize) -> bool
     }
 }
 
-/// A mark for each place of two lists of as many marks: set where both have a set mark, 64 places at a time. Room is made
+/// A mark for each place of two lists of as many marks: set where both have a set mark, 64 places at a time. Room
+/// is made
 /// once, with a word more, since the last marks come as a whole word.
 fn mark_both(alloc: Global, values: &Bitmap, validity: &Bitmap) -> Result<Bitmap, Error>
     requires { length validity.now ≡ length values.now }
     ensures ok { IfOk result (λ marks. marks ≡ set_in_both values.now validity.now) }
-    ensures err { IfErr result (λ e. e ≡ Error.OutOfMemory) }
+    ensures err { OnlyOutOfMemory result }
 {
     let mut marks = MutableBitmap::with_capacity(alloc, values.len().saturating_add(64))?;
     let words = values.len() / 64;
@@ -40,11 +43,12 @@ fn mark_both(alloc: Global, values: &Bitmap, validity: &Bitmap) -> Result<Bitmap
     marks.freeze()
 }
 
-/// A mark for each row: set where the filter's slot is valid and true. Where no slot of the filter is null these are its
+/// A mark for each row: set where the filter's slot is valid and true. Where no slot of the filter is null these
+/// are its
 /// values, which are not copied.
 fn asked_rows(alloc: Global, filter: &BooleanArray) -> Result<Bitmap, Error>
     ensures ok { IfOk result (λ marks. marks ≡ asked filter.now) }
-    ensures err { IfErr result (λ e. e ≡ Error.OutOfMemory) }
+    ensures err { OnlyOutOfMemory result }
 {
     let Some(validity) = filter.validity() else {
         return filter.values().clone();
@@ -74,7 +78,7 @@ impl Asked {
     /// The rows for which a filter asks.
     pub(crate) fn of(alloc: Global, filter: &BooleanArray) -> Result<Self, Error>
         ensures ok { IfOk result (λ rows. rows ≡ asked filter.now) }
-        ensures err { IfErr result (λ e. e ≡ Error.OutOfMemory) }
+        ensures err { OnlyOutOfMemory result }
     {
         Ok(Asked {
             bitmap: asked_rows(alloc, filter)?,

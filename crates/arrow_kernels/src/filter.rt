@@ -1,6 +1,8 @@
-//! The rows for which a filter asks: those at which its slot is valid and true, in order. Types and stored values stay; the
+//! The rows for which a filter asks: those at which its slot is valid and true, in order. Types and stored values
+//! stay; the
 //! new array has nothing around its slots, and holds a mask exactly where one of them is null.
 ghost use Rattle.std.specs.Prelude.{◌≡◌, length, IfOk, IfErr};
+ghost use Rattle.arrow_types.specs.Failures.{OnlyOutOfMemory};
 ghost use Rattle.arrow_bytes.specs.Pieces.{nothing_around};
 ghost use Rattle.arrow_kernels.specs.Kernels.{filtered};
 
@@ -29,7 +31,7 @@ pub fn filter_primitive<T: NativeType>(
 ) -> Result<PrimitiveArray<T>, Error>
     requires { length filter.now.rows ≡ length array.now.rows }
     ensures ok { IfOk result (λ kept. kept ≡ filtered tt array.now filter.now) }
-    ensures err { IfErr result (λ e. e ≡ Error.OutOfMemory) }
+    ensures err { OnlyOutOfMemory result }
 {
     let asked = Asked::of(alloc, filter)?;
     let values = keep_values(alloc, array.values().as_slice(), &asked)?;
@@ -49,7 +51,7 @@ pub fn filter_boolean(
 ) -> Result<BooleanArray, Error>
     requires { length filter.now.rows ≡ length array.now.rows }
     ensures ok { IfOk result (λ kept. kept ≡ filtered tt array.now filter.now) }
-    ensures err { IfErr result (λ e. e ≡ Error.OutOfMemory) }
+    ensures err { OnlyOutOfMemory result }
 {
     let asked = Asked::of(alloc, filter)?;
     let values = keep_marks(alloc, array.values(), &asked)?;
@@ -58,7 +60,8 @@ pub fn filter_boolean(
     Ok(BooleanArray::new(data_type, values, mask))
 }
 
-/// The slots of items of a kind for which a filter of as many slots asks. Nothing is tested: some of the items of a kind
+/// The slots of items of a kind for which a filter of as many slots asks. Nothing is tested: some of the items of a
+/// kind
 /// are items of the kind.
 fn filter_items<K: ByteKind, O: Offset>(
     alloc: Global,
@@ -67,7 +70,7 @@ fn filter_items<K: ByteKind, O: Offset>(
 ) -> Result<ByteArray<K, O>, Error>
     requires { length filter.now.rows ≡ length array.now.rows }
     ensures ok { IfOk result (λ kept. kept ≡ filtered nothing_around array.now filter.now) }
-    ensures err { IfErr result (λ e. e ≡ Error.OutOfMemory) }
+    ensures err { OnlyOutOfMemory result }
 {
     let asked = Asked::of(alloc, filter)?;
     let (offsets, bytes) = kept_pieces(alloc, array, &asked)?;
@@ -87,7 +90,7 @@ pub fn filter_binary<O: Offset>(
 ) -> Result<BinaryArray<O>, Error>
     requires { length filter.now.rows ≡ length array.now.rows }
     ensures ok { IfOk result (λ kept. kept ≡ filtered nothing_around array.now filter.now) }
-    ensures err { IfErr result (λ e. e ≡ Error.OutOfMemory) }
+    ensures err { OnlyOutOfMemory result }
 {
     filter_items(alloc, array, filter)
 }
@@ -103,7 +106,7 @@ pub fn filter_utf8<O: Offset>(
 ) -> Result<Utf8Array<O>, Error>
     requires { length filter.now.rows ≡ length array.now.rows }
     ensures ok { IfOk result (λ kept. kept ≡ filtered nothing_around array.now filter.now) }
-    ensures err { IfErr result (λ e. e ≡ Error.OutOfMemory) }
+    ensures err { OnlyOutOfMemory result }
 {
     filter_items(alloc, array, filter)
 }

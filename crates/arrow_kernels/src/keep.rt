@@ -1,8 +1,10 @@
 //! What a filter leaves of stored values, of marks and of items: those with a set mark.
-ghost use Rattle.std.specs.Prelude.{◌≡◌, ◌+◌, ◌*◌, ◌^◌, ◌<◌, ◌≤◌, count_by, length, not, option_map, take, IfOk, IfErr, IfSome, OnOk};
+ghost use Rattle.std.specs.Prelude.{◌≡◌, ◌+◌, ◌*◌, ◌^◌, ◌<◌, ◌≤◌, count_by, length, not, option_map, take, IfOk};
+ghost use Rattle.std.specs.Prelude.{IfErr, IfSome, OnOk};
 ghost use Rattle.std.specs.List.{concat};
 ghost use Rattle.std.specs.Option.{option_copied};
 ghost use Rattle.std.specs.Vec.{vec_capacity};
+ghost use Rattle.arrow_types.specs.Failures.{OnlyOutOfMemory};
 ghost use Rattle.arrow_column.specs.Masks.{mask_with_nulls};
 ghost use Rattle.arrow_column.specs.Column.{stored_values};
 ghost use Rattle.arrow_memory.specs.Marks.{bits_of};
@@ -75,7 +77,7 @@ fn keep_each_value<T: NativeType>(
 ) -> Result<Vec<T>, Error>
     requires { length asked.now ≡ length values.now }
     ensures ok { IfOk result (λ kept. kept.items ≡ where_set asked.now values.now) }
-    ensures err { IfErr result (λ e. e ≡ Error.OutOfMemory) }
+    ensures err { OnlyOutOfMemory result }
 {
     let mut kept = Vec::with_capacity(alloc, asked.len() - asked.unset_bits())?;
     let words = asked.len() / 64;
@@ -94,7 +96,7 @@ pub(crate) fn keep_values<T: NativeType>(
 ) -> Result<Vec<T>, Error>
     requires { length asked.now ≡ length values.now }
     ensures ok { IfOk result (λ kept. kept.items ≡ where_set asked.now values.now) }
-    ensures err { IfErr result (λ e. e ≡ Error.OutOfMemory) }
+    ensures err { OnlyOutOfMemory result }
 {
     if asked.unset_bits() == 0 {
         let mut all = Vec::new(alloc);
@@ -107,7 +109,8 @@ pub(crate) fn keep_values<T: NativeType>(
     keep_each_value(alloc, values, asked)
 }
 
-/// The bits of a word of marks where a word of asked rows has set bits, one behind the other, and how many they are: run by
+/// The bits of a word of marks where a word of asked rows has set bits, one behind the other, and how many they
+/// are: run by
 /// run.
 fn kept_runs(asked: u64, marks: u64) -> (u64, usize)
     ensures count { result.1 ≤ 64 }
@@ -172,7 +175,7 @@ fn keep_word_marks(
     requires fits { length asked.now < 2 ^ 64 }
     requires so_far { kept.old ≡ where_set (take (64 * at) asked.now) (take (64 * at) marks.now) }
     ensures ok { OnOk result (kept.new ≡ where_set (take (64 * at + 64) asked.now) (take (64 * at + 64) marks.now)) }
-    ensures err { IfErr result (λ e. e ≡ Error.OutOfMemory) }
+    ensures err { OnlyOutOfMemory result }
 {
     let (bits, count) = kept_word(asked.word(at), marks.word(64 * at));
     if count == 0 {
@@ -192,7 +195,7 @@ fn keep_last_marks(
     requires within { start ≤ length asked.now }
     requires so_far { kept.old ≡ where_set (take start asked.now) (take start marks.now) }
     ensures ok { OnOk result (kept.new ≡ where_set asked.now marks.now) }
-    ensures err { IfErr result (λ e. e ≡ Error.OutOfMemory) }
+    ensures err { OnlyOutOfMemory result }
 {
     let mut i = asked.next(start);
     while i < asked.len() {
@@ -202,11 +205,12 @@ fn keep_last_marks(
     Ok(())
 }
 
-/// The marks that are asked for, 64 rows at a time. Room is made once, with a word more, since marks come as whole words.
+/// The marks that are asked for, 64 rows at a time. Room is made once, with a word more, since marks come as whole
+/// words.
 fn keep_each_mark(alloc: Global, marks: &Bitmap, asked: &Asked) -> Result<Bitmap, Error>
     requires { length asked.now ≡ length marks.now }
     ensures ok { IfOk result (λ kept. kept ≡ where_set asked.now marks.now) }
-    ensures err { IfErr result (λ e. e ≡ Error.OutOfMemory) }
+    ensures err { OnlyOutOfMemory result }
 {
     let count = asked.len() - asked.unset_bits();
     let mut kept = MutableBitmap::with_capacity(alloc, count.saturating_add(64))?;
@@ -222,7 +226,7 @@ fn keep_each_mark(alloc: Global, marks: &Bitmap, asked: &Asked) -> Result<Bitmap
 pub(crate) fn keep_marks(alloc: Global, marks: &Bitmap, asked: &Asked) -> Result<Bitmap, Error>
     requires { length asked.now ≡ length marks.now }
     ensures ok { IfOk result (λ kept. kept ≡ where_set asked.now marks.now) }
-    ensures err { IfErr result (λ e. e ≡ Error.OutOfMemory) }
+    ensures err { OnlyOutOfMemory result }
 {
     if asked.unset_bits() == 0 {
         return marks.clone();
@@ -241,8 +245,9 @@ pub(crate) fn keep_mask(
     asked: &Asked,
 ) -> Result<Option<Bitmap>, Error>
     requires { IfSome (option_copied validity) (λ marks. length asked.now ≡ length marks) }
-    ensures ok { IfOk result (λ mask. mask ≡ mask_with_nulls (option_map (where_set asked.now) (option_copied validity.entry))) }
-    ensures err { IfErr result (λ e. e ≡ Error.OutOfMemory) }
+    ensures ok { IfOk result (λ mask.
+        mask ≡ mask_with_nulls (option_map (where_set asked.now) (option_copied validity.entry))) }
+    ensures err { OnlyOutOfMemory result }
 {
     match validity {
         None => Ok(None),
@@ -255,7 +260,8 @@ pub(crate) fn keep_mask(
     }
 }
 
-/// Appends the items that are asked for of 64 rows, from row `64 * at` on, behind those of the rows before them: run by run,
+/// Appends the items that are asked for of 64 rows, from row `64 * at` on, behind those of the rows before them:
+/// run by run,
 /// whose bytes are copied at once.
 #[inline(never)]
 fn keep_runs<O: Offset>(
@@ -270,11 +276,16 @@ fn keep_runs<O: Offset>(
     requires held { last_of offsets.now ≤ length bytes.now }
     requires within { 64 * at + 64 ≤ length asked.now }
     requires fits { length asked.now < 2 ^ 64 }
-    requires ends { kept.old ≡ offsets_of 0 (where_set (take (64 * at) asked.now) (take (64 * at) (items_of offsets.now bytes.now))) }
-    requires joined { kept_bytes.old.items ≡ concat (where_set (take (64 * at) asked.now) (take (64 * at) (items_of offsets.now bytes.now))) }
-    ensures ends { OnOk result (kept.new ≡ offsets_of 0 (where_set (take (64 * at + 64) asked.now) (take (64 * at + 64) (items_of offsets.now bytes.now)))) }
-    ensures joined { OnOk result (kept_bytes.new.items ≡ concat (where_set (take (64 * at + 64) asked.now) (take (64 * at + 64) (items_of offsets.now bytes.now)))) }
-    ensures err { IfErr result (λ e. e ≡ Error.OutOfMemory) }
+    requires ends { kept.old
+        ≡ offsets_of 0 (where_set (take (64 * at) asked.now) (take (64 * at) (items_of offsets.now bytes.now))) }
+    requires joined { kept_bytes.old.items
+        ≡ concat (where_set (take (64 * at) asked.now) (take (64 * at) (items_of offsets.now bytes.now))) }
+    ensures ends { OnOk result (kept.new
+        ≡ offsets_of 0 (where_set (take (64 * at + 64) asked.now)
+        (take (64 * at + 64) (items_of offsets.now bytes.now)))) }
+    ensures joined { OnOk result (kept_bytes.new.items
+        ≡ concat (where_set (take (64 * at + 64) asked.now) (take (64 * at + 64) (items_of offsets.now bytes.now)))) }
+    ensures err { OnlyOutOfMemory result }
 {
     let word = asked.word(at);
     let mut first = next_set(word, 0);
@@ -304,11 +315,16 @@ fn keep_each_item<O: Offset>(
     requires held { last_of offsets.now ≤ length bytes.now }
     requires within { 64 * at + 64 ≤ length asked.now }
     requires fits { length asked.now < 2 ^ 64 }
-    requires ends { kept.old ≡ offsets_of 0 (where_set (take (64 * at) asked.now) (take (64 * at) (items_of offsets.now bytes.now))) }
-    requires joined { kept_bytes.old.items ≡ concat (where_set (take (64 * at) asked.now) (take (64 * at) (items_of offsets.now bytes.now))) }
-    ensures ends { OnOk result (kept.new ≡ offsets_of 0 (where_set (take (64 * at + 64) asked.now) (take (64 * at + 64) (items_of offsets.now bytes.now)))) }
-    ensures joined { OnOk result (kept_bytes.new.items ≡ concat (where_set (take (64 * at + 64) asked.now) (take (64 * at + 64) (items_of offsets.now bytes.now)))) }
-    ensures err { IfErr result (λ e. e ≡ Error.OutOfMemory) }
+    requires ends { kept.old
+        ≡ offsets_of 0 (where_set (take (64 * at) asked.now) (take (64 * at) (items_of offsets.now bytes.now))) }
+    requires joined { kept_bytes.old.items
+        ≡ concat (where_set (take (64 * at) asked.now) (take (64 * at) (items_of offsets.now bytes.now))) }
+    ensures ends { OnOk result (kept.new
+        ≡ offsets_of 0 (where_set (take (64 * at + 64) asked.now)
+        (take (64 * at + 64) (items_of offsets.now bytes.now)))) }
+    ensures joined { OnOk result (kept_bytes.new.items
+        ≡ concat (where_set (take (64 * at + 64) asked.now) (take (64 * at + 64) (items_of offsets.now bytes.now)))) }
+    ensures err { OnlyOutOfMemory result }
 {
     let mut left = asked.word(at);
     while left != 0 {
@@ -338,11 +354,16 @@ fn keep_word_items<O: Offset>(
     requires held { last_of offsets.now ≤ length bytes.now }
     requires within { 64 * at + 64 ≤ length asked.now }
     requires fits { length asked.now < 2 ^ 64 }
-    requires ends { kept.old ≡ offsets_of 0 (where_set (take (64 * at) asked.now) (take (64 * at) (items_of offsets.now bytes.now))) }
-    requires joined { kept_bytes.old.items ≡ concat (where_set (take (64 * at) asked.now) (take (64 * at) (items_of offsets.now bytes.now))) }
-    ensures ends { OnOk result (kept.new ≡ offsets_of 0 (where_set (take (64 * at + 64) asked.now) (take (64 * at + 64) (items_of offsets.now bytes.now)))) }
-    ensures joined { OnOk result (kept_bytes.new.items ≡ concat (where_set (take (64 * at + 64) asked.now) (take (64 * at + 64) (items_of offsets.now bytes.now)))) }
-    ensures err { IfErr result (λ e. e ≡ Error.OutOfMemory) }
+    requires ends { kept.old
+        ≡ offsets_of 0 (where_set (take (64 * at) asked.now) (take (64 * at) (items_of offsets.now bytes.now))) }
+    requires joined { kept_bytes.old.items
+        ≡ concat (where_set (take (64 * at) asked.now) (take (64 * at) (items_of offsets.now bytes.now))) }
+    ensures ends { OnOk result (kept.new
+        ≡ offsets_of 0 (where_set (take (64 * at + 64) asked.now)
+        (take (64 * at + 64) (items_of offsets.now bytes.now)))) }
+    ensures joined { OnOk result (kept_bytes.new.items
+        ≡ concat (where_set (take (64 * at + 64) asked.now) (take (64 * at + 64) (items_of offsets.now bytes.now)))) }
+    ensures err { OnlyOutOfMemory result }
 {
     if has_few_runs(asked.word(at)) {
         keep_runs(kept, kept_bytes, offsets, bytes, asked, at)
@@ -363,11 +384,14 @@ fn keep_last_items<O: Offset>(
     requires count { length asked.now + 1 ≡ length offsets.now }
     requires held { last_of offsets.now ≤ length bytes.now }
     requires within { start ≤ length asked.now }
-    requires ends { kept.old ≡ offsets_of 0 (where_set (take start asked.now) (take start (items_of offsets.now bytes.now))) }
-    requires joined { kept_bytes.old.items ≡ concat (where_set (take start asked.now) (take start (items_of offsets.now bytes.now))) }
+    requires ends { kept.old
+        ≡ offsets_of 0 (where_set (take start asked.now) (take start (items_of offsets.now bytes.now))) }
+    requires joined { kept_bytes.old.items
+        ≡ concat (where_set (take start asked.now) (take start (items_of offsets.now bytes.now))) }
     ensures ends { OnOk result (kept.new ≡ offsets_of 0 (where_set asked.now (items_of offsets.now bytes.now))) }
-    ensures joined { OnOk result (kept_bytes.new.items ≡ concat (where_set asked.now (items_of offsets.now bytes.now))) }
-    ensures err { IfErr result (λ e. e ≡ Error.OutOfMemory) }
+    ensures joined { OnOk result (kept_bytes.new.items
+        ≡ concat (where_set asked.now (items_of offsets.now bytes.now))) }
+    ensures err { OnlyOutOfMemory result }
 {
     let mut i = asked.next(start);
     while i < asked.len() {
@@ -402,9 +426,10 @@ pub(crate) fn keep_items<O: Offset>(
 ) -> Result<(Offsets<O>, Vec<u8>), Error>
     requires count { length asked.now + 1 ≡ length offsets.now }
     requires within { last_of offsets.now ≤ length bytes.now }
-    ensures offsets { IfOk result (λ kept. kept.0 ≡ offsets_of 0 (where_set asked.now (items_of offsets.now bytes.now))) }
+    ensures offsets { IfOk result (λ kept.
+        kept.0 ≡ offsets_of 0 (where_set asked.now (items_of offsets.now bytes.now))) }
     ensures bytes { IfOk result (λ kept. kept.1.items ≡ concat (where_set asked.now (items_of offsets.now bytes.now))) }
-    ensures err { IfErr result (λ e. e ≡ Error.OutOfMemory) }
+    ensures err { OnlyOutOfMemory result }
 {
     let count = asked.len() - asked.unset_bits();
     let mut kept = Offsets::with_capacity(alloc, count)?;
@@ -434,7 +459,7 @@ pub(crate) fn kept_pieces<K: ByteKind, O: Offset>(
     ensures cut { IfOk result (λ kept. CutItems K.is_text kept.0 kept.1) }
     ensures around { IfOk result (λ kept. around_of kept.0 kept.1 ≡ nothing_around) }
     ensures items { IfOk result (λ kept. items_of kept.0 kept.1 ≡ where_set asked.now (stored_values array.now)) }
-    ensures err { IfErr result (λ e. e ≡ Error.OutOfMemory) }
+    ensures err { OnlyOutOfMemory result }
 {
     let (offsets, bytes) = keep_items(alloc, array.offsets(), array.values().as_slice(), asked)?;
     let offsets = offsets.freeze()?;

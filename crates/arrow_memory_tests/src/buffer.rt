@@ -29,9 +29,7 @@ fn slices_of_slices_add_their_places(rt: HostRuntime) {
 #[test]
 fn new_buffers_are_empty(rt: HostRuntime) {
     let wide = Buffer::<i64>::new(rt.alloc()).expect(&rt, "memory").len();
-    let narrow = Buffer::<u8>::default(rt.alloc())
-        .expect(&rt, "memory")
-        .len();
+    let narrow = Buffer::<u8>::new(rt.alloc()).expect(&rt, "memory").len();
     assert!(rt; (wide == 0) & (narrow == 0));
 }
 

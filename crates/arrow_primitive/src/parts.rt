@@ -1,9 +1,9 @@
-//! Arrays and builders made of parts from outside, which are tested.
-ghost use Rattle.std.specs.Prelude.{◌≡◌, IsOkAnd, IsErrAnd};
-ghost use Rattle.arrow_types.specs.Types.{logical_type, refusal, IsRightType};
-ghost use Rattle.arrow_memory.specs.Rows.{FitsMask};
-ghost use Rattle.arrow_column.specs.Column.{column_of_parts, unfit_mask};
-ghost use Rattle.arrow_primitive.specs.Fits.{wrong_type};
+//! Arrays and builders made of parts from outside, which are checked.
+ghost use Rattle.std.specs.Prelude.{◌≡◌, IfOk, IfErr};
+ghost use Rattle.arrow_types.specs.Types.{logical_type, refusal};
+ghost use Rattle.arrow_column.specs.Acceptance.{IsFirstFailure, Passes};
+ghost use Rattle.arrow_column.specs.Column.{column_of_parts};
+ghost use Rattle.arrow_primitive.specs.Fits.{parts_tests};
 
 use crate::{MutablePrimitiveArray, PrimitiveArray};
 use arrow_column::{GrowingColumn, is_growing_mask_of, is_mask_of};
@@ -14,27 +14,28 @@ use arrow_types::error::Error;
 use arrow_types::native_type::NativeType;
 use arrow_types::physical_type::PhysicalType;
 
-/// The text of the refusal of a mask.
+/// The text of the error about a mask.
 const UNFIT_MASK: &str = "validity mask length must match the number of values";
 
-/// The text of the refusal of a type.
+/// The text of the error about a data type.
 const WRONG_TYPE: &str =
     "PrimitiveArray can only be initialized with a DataType whose physical type is Primitive";
 
 impl<T: NativeType> PrimitiveArray<T> {
-    /// The array of such parts.
+    /// Creates an array from its parts.
     ///
     /// # Errors
-    /// `OutOfSpec` where a mask has another number of marks than there are values, or else where the type is none
-    /// of the array's physical type.
+    /// `OutOfSpec` with the first of these that fails: a mask has a mark for each value; the data
+    /// type has the array's physical type.
     pub fn try_new(
         data_type: DataType,
         values: Buffer<T>,
         validity: Option<Bitmap>,
     ) -> Result<Self, Error>
-        ensures fit { FitsMask values validity → IsRightType (PhysicalType.Primitive T.PRIMITIVE) (logical_type data_type) → IsOkAnd result (λ array. array ≡ column_of_parts (logical_type data_type) values validity) }
-        ensures mask { (FitsMask values validity → ⊥) → IsErrAnd result (λ e. refusal e ≡ unfit_mask) }
-        ensures data_type { FitsMask values validity → (IsRightType (PhysicalType.Primitive T.PRIMITIVE) (logical_type data_type) → ⊥) → IsErrAnd result (λ e. refusal e ≡ wrong_type) }
+        ensures ok { let t = logical_type data_type in IfOk result (λ array.
+            Passes (parts_tests T.PRIMITIVE t values validity) × (array ≡ column_of_parts t values validity)) }
+        ensures err { IfErr result (λ e.
+            IsFirstFailure (parts_tests T.PRIMITIVE (logical_type data_type) values validity) (refusal e)) }
     {
         if !is_mask_of(&validity, values.len()) {
             return Err(Error::OutOfSpec(UNFIT_MASK));
@@ -45,37 +46,39 @@ impl<T: NativeType> PrimitiveArray<T> {
         Ok(PrimitiveArray::new(data_type, values, validity))
     }
 
-    /// The array of such parts, as `try_new` makes it.
+    /// Creates an array from its parts, as [`PrimitiveArray::try_new`].
     ///
     /// # Errors
-    /// As of `try_new`.
+    /// As `try_new`.
     pub fn from_inner(
         data_type: DataType,
         values: Buffer<T>,
         validity: Option<Bitmap>,
     ) -> Result<Self, Error>
-        ensures fit { FitsMask values validity → IsRightType (PhysicalType.Primitive T.PRIMITIVE) (logical_type data_type) → IsOkAnd result (λ array. array ≡ column_of_parts (logical_type data_type) values validity) }
-        ensures mask { (FitsMask values validity → ⊥) → IsErrAnd result (λ e. refusal e ≡ unfit_mask) }
-        ensures data_type { FitsMask values validity → (IsRightType (PhysicalType.Primitive T.PRIMITIVE) (logical_type data_type) → ⊥) → IsErrAnd result (λ e. refusal e ≡ wrong_type) }
+        ensures ok { let t = logical_type data_type in IfOk result (λ array.
+            Passes (parts_tests T.PRIMITIVE t values validity) × (array ≡ column_of_parts t values validity)) }
+        ensures err { IfErr result (λ e.
+            IsFirstFailure (parts_tests T.PRIMITIVE (logical_type data_type) values validity) (refusal e)) }
     {
         PrimitiveArray::try_new(data_type, values, validity)
     }
 }
 
 impl<T: NativeType> MutablePrimitiveArray<T> {
-    /// The builder of such parts.
+    /// Creates a builder from its parts.
     ///
     /// # Errors
-    /// `OutOfSpec` where a mask has another number of marks than there are values, or else where the type is none
-    /// of the builder's physical type.
+    /// `OutOfSpec` with the first of these that fails: a mask has a mark for each value; the data
+    /// type has the builder's physical type.
     pub fn try_new(
         data_type: DataType,
         values: Vec<T>,
         validity: Option<MutableBitmap>,
     ) -> Result<Self, Error>
-        ensures fit { FitsMask values.items validity → IsRightType (PhysicalType.Primitive T.PRIMITIVE) (logical_type data_type) → IsOkAnd result (λ builder. builder ≡ column_of_parts (logical_type data_type) values.items validity) }
-        ensures mask { (FitsMask values.items validity → ⊥) → IsErrAnd result (λ e. refusal e ≡ unfit_mask) }
-        ensures data_type { FitsMask values.items validity → (IsRightType (PhysicalType.Primitive T.PRIMITIVE) (logical_type data_type) → ⊥) → IsErrAnd result (λ e. refusal e ≡ wrong_type) }
+        ensures ok { let t = logical_type data_type in IfOk result (λ builder.
+            Passes (parts_tests T.PRIMITIVE t values.items validity) × (builder ≡ column_of_parts t values.items validity)) }
+        ensures err { IfErr result (λ e.
+            IsFirstFailure (parts_tests T.PRIMITIVE (logical_type data_type) values.items validity) (refusal e)) }
     {
         if !is_growing_mask_of(&validity, values.len()) {
             return Err(Error::OutOfSpec(UNFIT_MASK));

@@ -260,7 +260,6 @@ const MADE: &[(Made, Marks)] = &[
 /// The calls that make marks which don't change.
 pub(crate) enum Frozen {
     New,
-    Default,
     TryNew,
     FromSlice,
     NewZeroed,
@@ -298,7 +297,6 @@ impl Making for Bitmap {
     fn make(alloc: Global, call: &Frozen) -> Result<Bitmap, Error> {
         match call {
             Frozen::New => Bitmap::new(alloc),
-            Frozen::Default => Bitmap::default(alloc),
             Frozen::TryNew => packed(alloc, 0b11111001),
             Frozen::FromSlice => Bitmap::from_slice(alloc, THREE.as_slice()),
             Frozen::NewZeroed => Bitmap::new_zeroed(alloc, 3),
@@ -315,7 +313,6 @@ impl Making for Bitmap {
 /// Each of the calls, and the marks that it makes.
 const FROZEN: &[(Frozen, Marks)] = &[
     (Frozen::New, ("", 0)),
-    (Frozen::Default, ("", 0)),
     (Frozen::TryNew, ("100", 2)),
     (Frozen::FromSlice, ("100", 2)),
     (Frozen::NewZeroed, ("000", 3)),
@@ -327,7 +324,6 @@ const FROZEN: &[(Frozen, Marks)] = &[
 /// The calls that make a buffer.
 pub(crate) enum Buffered {
     New,
-    Default,
     FromVec,
     Clone,
 }
@@ -346,7 +342,6 @@ impl Making for Buffer<i64> {
     fn make(alloc: Global, call: &Buffered) -> Result<Buffer<i64>, Error> {
         match call {
             Buffered::New => Buffer::new(alloc),
-            Buffered::Default => Buffer::default(alloc),
             Buffered::FromVec => two(alloc),
             Buffered::Clone => copy_of(two(alloc)),
         }
@@ -356,7 +351,6 @@ impl Making for Buffer<i64> {
 /// Each of the calls, and the values of the buffer that it makes.
 const BUFFERS: &[(Buffered, &'static [i64])] = &[
     (Buffered::New, &[]),
-    (Buffered::Default, &[]),
     (Buffered::FromVec, &[7, 8]),
     (Buffered::Clone, &[7, 8]),
 ];

@@ -230,7 +230,6 @@ fn growths(rt: HostRuntime) -> Result<(), Fail> {
 /// The calls that make offsets.
 pub(crate) enum Made {
     New,
-    Default,
     NewZeroed,
     WithCapacity,
     Clone,
@@ -242,7 +241,6 @@ impl Making for Offsets<i32> {
     fn make(alloc: Global, call: &Made) -> Result<Offsets<i32>, Error> {
         match call {
             Made::New => Offsets::new(alloc),
-            Made::Default => Offsets::default(alloc),
             Made::NewZeroed => Offsets::new_zeroed(alloc, 2),
             Made::WithCapacity => Offsets::with_capacity(alloc, 3),
             Made::Clone => copy_of(Offsets::small(alloc)),
@@ -253,7 +251,6 @@ impl Making for Offsets<i32> {
 /// Each of the calls, and the offsets that it makes.
 const MADE: &[(Made, Roomy)] = &[
     (Made::New, (&[0], 0)),
-    (Made::Default, (&[0], 0)),
     (Made::NewZeroed, (&[0, 0, 0], 2)),
     (Made::WithCapacity, (&[0], 3)),
     (Made::Clone, (&[0, 2], 1)),
@@ -262,7 +259,6 @@ const MADE: &[(Made, Roomy)] = &[
 /// The calls that make frozen offsets.
 pub(crate) enum Frozen {
     New,
-    Default,
     Freeze,
     Clone,
     Widen,
@@ -270,17 +266,23 @@ pub(crate) enum Frozen {
 }
 
 /// Others over wide offsets.
-fn widened(offsets: Result<OffsetsBuffer<i32>, Error>) -> Result<OffsetsBuffer<i64>, Error> {
+fn widened(
+    alloc: Global,
+    offsets: Result<OffsetsBuffer<i32>, Error>,
+) -> Result<OffsetsBuffer<i64>, Error> {
     match offsets {
-        Ok(offsets) => offsets.widen(),
+        Ok(offsets) => OffsetsBuffer::widen(alloc, &offsets),
         Err(refused) => Err(refused),
     }
 }
 
 /// Others over narrow offsets.
-fn narrowed(offsets: Result<OffsetsBuffer<i64>, Error>) -> Result<OffsetsBuffer<i32>, Error> {
+fn narrowed(
+    alloc: Global,
+    offsets: Result<OffsetsBuffer<i64>, Error>,
+) -> Result<OffsetsBuffer<i32>, Error> {
     match offsets {
-        Ok(offsets) => offsets.narrow(),
+        Ok(offsets) => OffsetsBuffer::narrow(alloc, &offsets),
         Err(refused) => Err(refused),
     }
 }
@@ -299,11 +301,10 @@ impl Making for OffsetsBuffer<i32> {
     fn make(alloc: Global, call: &Frozen) -> Result<OffsetsBuffer<i32>, Error> {
         match call {
             Frozen::New => OffsetsBuffer::new(alloc),
-            Frozen::Default => OffsetsBuffer::default(alloc),
             Frozen::Freeze => freeze(narrow(alloc, [0].as_slice())),
             Frozen::Clone => copy_of(OffsetsBuffer::new(alloc)),
-            Frozen::Widen => narrowed(widened(OffsetsBuffer::new(alloc))),
-            Frozen::Narrow => narrowed(OffsetsBuffer::new(alloc)),
+            Frozen::Widen => narrowed(alloc, widened(alloc, OffsetsBuffer::new(alloc))),
+            Frozen::Narrow => narrowed(alloc, OffsetsBuffer::new(alloc)),
         }
     }
 }
@@ -311,7 +312,6 @@ impl Making for OffsetsBuffer<i32> {
 /// Each of the calls, and the offsets that it makes.
 const FROZEN: &[(Frozen, &'static [usize])] = &[
     (Frozen::New, &[0]),
-    (Frozen::Default, &[0]),
     (Frozen::Freeze, &[0]),
     (Frozen::Clone, &[0]),
     (Frozen::Widen, &[0]),

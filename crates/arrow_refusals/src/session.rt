@@ -1,8 +1,7 @@
-//! Sessions, and runs of a table.
+//! Sessions.
 use arrow_session::counted::Counted;
 use arrow_session::outcome::Outcome;
 use arrow_session::session::session;
-use arrow_table::{Command, Item, Kind, Reply, Table, run};
 use arrow_testing::all_told;
 use arrow_types::error::Error;
 use std::alloc::Global;
@@ -63,91 +62,7 @@ fn names_line(alloc: Global) -> Result<bool, Error> {
     }
 }
 
-/// Whether a reply may come, where any growth may be refused; follows the length of the entry.
-fn may_come(length: &mut Option<usize>, command: &Command<i64, i32>, reply: &Reply<i64>) -> bool {
-    match (command, *length, reply) {
-        (Command::New(..), None, Reply::Done) => *length = Some(0),
-        (Command::Push(..), Some(n), Reply::Done) => *length = Some(n.saturating_add(1)),
-        (Command::Len(_), Some(n), Reply::Number(answer)) => return *answer == n,
-        (Command::Freeze(_), Some(_), Reply::Done) | (_, None, Reply::NotMet) => (),
-        (Command::Len(_), _, _) => return false,
-        // A builder is lost where it could not be frozen.
-        (Command::Freeze(_), Some(_), Reply::Refused(Error::OutOfMemory)) => *length = None,
-        (_, _, Reply::Refused(Error::OutOfMemory)) => (),
-        _ => return false,
-    }
-    true
-}
-
-/// Whether these replies may come, one after the other.
-fn all_may_come(commands: &[Command<i64, i32>], replies: &[Reply<i64>]) -> bool {
-    let mut length = None;
-    for (command, reply) in commands.iter().zip(replies) {
-        if !may_come(&mut length, command, reply) {
-            return false;
-        }
-    }
-    true
-}
-
-/// Whether the replies say what was done, whichever growth was refused, where a second run does the rest.
-fn ends(
-    table: &mut Table<i64, i32>,
-    commands: &[Command<i64, i32>],
-    replies: &mut Vec<Reply<i64>>,
-) -> Result<bool, Error> {
-    let done = run(table, commands, replies);
-    let rest = run(table, &commands[done..], replies);
-    let is_all = (done.saturating_add(rest) == commands.len()) & (replies.len() == commands.len());
-    if !is_all || !all_may_come(commands, replies) {
-        return Ok(false);
-    }
-    if rest > 0 || replies.iter().any(|it| matches!(it, Reply::Refused(_))) {
-        return Err(Error::OutOfMemory);
-    }
-    Ok(true)
-}
-
-/// A builder is filled and frozen.
-fn commands() -> [Command<i64, i32>; 7] {
-    [
-        Command::New(0, Kind::MutablePrimitive),
-        Command::Push(0, Some(Item::Value(1))),
-        Command::Len(0),
-        Command::Push(0, None),
-        Command::Len(0),
-        Command::Freeze(0),
-        Command::Len(0),
-    ]
-}
-
-/// Whether they do of these commands.
-fn ends_on(alloc: Global, table: &mut Table<i64, i32>) -> Result<bool, Error> {
-    let commands = commands();
-    let mut replies = Vec::new(alloc);
-    let answer = ends(table, &commands, &mut replies);
-    drop(replies);
-    drop(commands);
-    answer
-}
-
-/// Whether they do on a table of one entry.
-fn ends_of_commands(alloc: Global) -> Result<bool, Error> {
-    match Table::<i64, i32>::new(alloc, 1) {
-        Ok(mut table) => {
-            let answer = ends_on(alloc, &mut table);
-            drop(table);
-            answer
-        }
-        Err(_) => Err(Error::OutOfMemory),
-    }
-}
-
 #[test]
-fn sessions_and_runs(rt: HostRuntime) -> Result<(), Fail> {
-    all_told(&[
-        replies(rt.alloc()),
-        names_line(rt.alloc()),
-        ends_of_commands(rt.alloc()),
-    ])
+fn sessions(rt: HostRuntime) -> Result<(), Fail> {
+    all_told(&[replies(rt.alloc()), names_line(rt.alloc())])
 }

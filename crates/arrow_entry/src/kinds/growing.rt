@@ -1,5 +1,5 @@
 //! What every kind of builder does.
-ghost use Rattle.std.specs.Prelude.{◌≡◌, if◌then◌else◌, ◌∷◌, ◌&&◌, ◌||◌, [], false, is_none, not, None, Some, IfErr, IfOk, IsTrue, OnOk};
+ghost use Rattle.std.specs.Prelude.{◌≡◌, if◌then◌else◌, ◌∷◌, ◌&&◌, ◌||◌, [], false, is_none, is_some, not, None, Some, IfErr, IfOk, IsTrue, OnOk};
 ghost use Rattle.arrow_column.specs.Column.{joined, last_slot, refused_growth, without_last};
 ghost use Rattle.arrow_entry.specs.Change.{grown, join_over, null_in, slot_over, with_column};
 ghost use Rattle.arrow_entry.specs.Entry.{types};
@@ -94,14 +94,15 @@ pub trait Growing<T: NativeType, O: Offset>: Builder<T, O> {
         }
     }
 
-    /// Removes the last slot and answers it; bytes and texts are copied.
+    /// Removes the last slot and returns it. Bytes and text are copied; no other slot takes memory.
     ///
     /// # Errors
-    /// `OutOfMemory` where memory is refused; the builder is then as before.
+    /// `OutOfMemory` if the copy is refused; the builder is then as before.
     fn pop_slot(&mut self) -> Result<Option<Item<T>>, Error>
         ensures ok { OnOk result (Self.value self.new ≡ with_column (Self.value self.old) (without_last (Self.value self.old).column)) }
         ensures slot { IfOk result (λ slot. stored_slot slot ≡ last_slot (Self.value self.old).column) }
-        ensures err { IfErr result (λ e. (e ≡ Error.OutOfMemory) × IsTrue (is_pieces (Self.value self.old).shape) × (Self.value self.new ≡ Self.value self.old)) };
+        ensures err { IfErr result (λ e. (e ≡ Error.OutOfMemory) × (Self.value self.new ≡ Self.value self.old)) }
+        ensures copied { IfErr result (λ _. IsTrue (is_pieces (Self.value self.old).shape) × IsTrue (is_some (last_slot (Self.value self.old).column))) };
 }
 
 #[tactic(auto, using(crate::proofs::Seen::seen_reads, crate::proofs::Seen::seen_pushes, crate::proofs::Seen::seen_grows, crate::proofs::Seen::seen_bytes))]

@@ -41,7 +41,7 @@ fn counts(marks: Bitmap) -> (usize, usize) {
 #[test]
 fn zeroed_marks_are_clear(rt: HostRuntime) {
     let zeroed = counts(Bitmap::new_zeroed(rt.alloc(), 70).expect(&rt, "memory"));
-    let none = counts(Bitmap::default(rt.alloc()).expect(&rt, "memory"));
+    let none = counts(Bitmap::new(rt.alloc()).expect(&rt, "memory"));
     assert!(rt; (zeroed == (70, 70)) & (none == (0, 0)));
 }
 

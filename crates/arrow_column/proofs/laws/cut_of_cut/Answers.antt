@@ -1,7 +1,7 @@
 use Rattle.std.proofs.Common.{◌≡◌, ◌+◌, ◌≤◌, length, map, take, drop, ap, ap₂, ◌∙◌, sym, arith}
 use Rattle.std.proofs.lemmas.List.{take-map, drop-map}
 use Rattle.arrow_column.specs.Column.{stored_values}
-use Rattle.arrow_memory.proofs.PieceLemmas.{length-piece, piece-piece}
+use Rattle.arrow_memory.proofs.CallerLemmas.{length-piece, piece-piece}
 use Rattle.arrow_column.proofs.laws.cut_of_cut.Goals as goal
 
 pub returns : goal.returns
@@ -12,7 +12,8 @@ returns g c = λ column a n b m outer inner.
     sym (ap (take n) (drop-map (λ row. row.0) a column.rows) ∙ take-map (λ row. row.0) n (drop a column.rows)) in
     ap₂ (λ around rows. record column { around = around; rows = rows })
     (
-    ap (λ values. g.V.Values.cut_around (g.V.Values.cut_around column.around (stored_values column) a n) values b m) stored
+    ap (λ values. g.V.Values.cut_around (g.V.Values.cut_around column.around (stored_values column) a n) values b m)
+    stored
     ∙ g.met.V.Values.cut_twice column.around (stored_values column) a n b m within
     )
     (piece-piece column.rows a n b m within)

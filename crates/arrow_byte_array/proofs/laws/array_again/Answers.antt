@@ -1,0 +1,11 @@
+use Rattle.arrow_column.specs.Column.{stored_values}
+use Rattle.arrow_bytes.proofs.CallerLemmas.{column-back, within-back}
+use Rattle.arrow_byte_array.proofs.AgainLemmas.{are-items, fits-mask}
+use Rattle.arrow_byte_array.proofs.laws.array_again.Goals as goal
+
+pub returns-clause-accepted : goal.returns-clause-accepted
+returns-clause-accepted _ = λ text layout wrong_type c items right.
+    (within-back c.around.lead (stored_values c) c.around.tail, (are-items text c items, (fits-mask c, (right, tt))))
+
+pub returns-clause-same : goal.returns-clause-same
+returns-clause-same _ = column-back

@@ -1,0 +1,21 @@
+-- What proofs of callers cite about columns.
+use Rattle.std.proofs.Common.{◌≡◌}
+use Rattle.arrow_memory.specs.Rows.{FitsMask}
+use Rattle.arrow_column.specs.Column.{ColumnWith, IsColumn, column_with, mask_of, stored_values}
+use Rattle.arrow_column.proofs.ColumnLemmas.{fits_by_held}
+use Rattle.arrow_column.proofs.ColumnLemmas as column
+-- A column without a mask: its rows are all valid, valid slots that are appended to it are values that are
+-- appended, and it
+-- holds no needless mask.
+pub use Rattle.arrow_column.proofs.ColumnLemmas.{all-bare, appended-values, needless-bare}
+-- The slots of valid rows are their stored values; where no mask is held, all rows are valid.
+pub use Rattle.arrow_column.proofs.ColumnLemmas.{slots_valid, valid_by_held}
+-- The parts of a column make it again.
+pub use Rattle.arrow_column.proofs.ColumnLemmas.{column_again}
+
+module _ {A S : Type 0} (c : ColumnWith A S) where
+  pub parts_again : IsColumn c → column_with c.data_type c.around (stored_values c) (mask_of c) ≡ c
+  parts_again is_column = column.column_again c.data_type c.around c.held c.rows is_column
+
+  pub parts_fit : FitsMask (stored_values c) (mask_of c)
+  parts_fit = fits_by_held c.held c.rows
