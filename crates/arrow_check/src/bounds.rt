@@ -1,4 +1,4 @@
-//! Whether offsets fit the values that they point into.
+//! Checks that offsets fit the values that they point into.
 ghost use Rattle.std.specs.Prelude.{◌≡◌, ◌≢◌, ◌<◌, ◌≤◌, length, slice_index, OnOk, IfErr};
 ghost use Rattle.arrow_types.specs.Types.{refusal};
 ghost use Rattle.arrow_memory.specs.Offsets.{last_of, numbers_of};
@@ -7,7 +7,7 @@ ghost use Rattle.arrow_check.specs.Bounds.{AreLegal, past_values, not_at_end};
 use arrow_types::error::Error;
 use arrow_types::offset::Offset;
 
-/// Returns the number of the offset at a place.
+/// Returns the number of the offset at `index`.
 #[inline(always)]
 pub(crate) fn number_at<O: Offset>(offsets: &[O], index: usize) -> usize
     requires legal { AreLegal O.number offsets.now }
@@ -17,7 +17,7 @@ pub(crate) fn number_at<O: Offset>(offsets: &[O], index: usize) -> usize
     offsets[index].to_usize()
 }
 
-/// Returns the last of legal offsets, where the last slot ends.
+/// Returns the number of the last offset, where the last slot ends.
 #[inline(always)]
 pub(crate) fn last_number<O: Offset>(offsets: &[O]) -> usize
     requires { AreLegal O.number offsets.now }
@@ -26,11 +26,11 @@ pub(crate) fn last_number<O: Offset>(offsets: &[O]) -> usize
     number_at(offsets, offsets.len() - 1)
 }
 
-/// Whether legal offsets lie within so many values: as they never fall, whether the last does
-/// (Arrow columnar format, "Variable-size Binary Layout").
+/// Checks that legal offsets lie within `values_len` values. Offsets never fall, so it is enough
+/// that the last one does (Arrow columnar format, "Variable-size Binary Layout").
 ///
 /// # Errors
-/// `OutOfSpec` where the last offset is above the number of values.
+/// `OutOfSpec` if the last offset is above `values_len`.
 pub fn check_bounds<O: Offset>(offsets: &[O], values_len: usize) -> Result<(), Error>
     requires { AreLegal O.number offsets.now }
     ensures ok { OnOk result (last_of (numbers_of O.number offsets.now) ≤ values_len) }
@@ -43,10 +43,10 @@ pub fn check_bounds<O: Offset>(offsets: &[O], values_len: usize) -> Result<(), E
     Ok(())
 }
 
-/// Whether the last of legal offsets is where so many values end.
+/// Checks that the last of legal offsets is `values_len`.
 ///
 /// # Errors
-/// `OutOfSpec` where the last offset is another than the number of values.
+/// `OutOfSpec` if it is not.
 pub fn check_last<O: Offset>(offsets: &[O], values_len: usize) -> Result<(), Error>
     requires { AreLegal O.number offsets.now }
     ensures ok { OnOk result (last_of (numbers_of O.number offsets.now) ≡ values_len) }

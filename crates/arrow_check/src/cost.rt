@@ -1,4 +1,4 @@
-//! Bytes that checks of text read, and what the reading costs.
+//! Bytes that text checks read by counted acts.
 ghost use Rattle.std.specs.Prelude.{◌≡◌, ◌+◌, ◌<◌, ◌≤◌, ◌↔◌, IsTrue, MatchBool, length, take, drop, slice_get, Some};
 ghost use Rattle.std.specs.Str.{IsAscii, IsNotAscii};
 ghost use Rattle.arrow_check.specs.Reading.{no_cost, one_more, after_ascii, after_whole_test, after_look};
@@ -8,7 +8,7 @@ use crate::judge::Judge;
 use std::marker::Model;
 use std::simd::prelude::*;
 
-/// One more, up to the greatest number.
+/// Returns the next count, which stays at the greatest number.
 #[inline(always)]
 fn one_more(count: u64) -> u64
     ensures { result ≡ one_more count }
@@ -16,7 +16,7 @@ fn one_more(count: u64) -> u64
     count.saturating_add(1)
 }
 
-/// Whether bytes are UTF-8.
+/// Returns whether bytes are UTF-8.
 #[inline(always)]
 fn is_text(bytes: &[u8]) -> bool
     ensures { IsTrue result ↔ IsWellFormed bytes.now }
@@ -32,8 +32,8 @@ fn is_ascii_block(block: u8x64) -> bool
     block.simd_ge(u8x64::splat(0x80)).to_bitmask() == 0
 }
 
-/// Returns whether bytes are ASCII. The halves are read side by side, since memory is read ahead faster at two places
-/// than at one; of both blocks one test is made.
+/// Returns whether bytes are ASCII. Both halves are read side by side, 64 bytes of each under one
+/// test, because memory is prefetched faster at two places than at one.
 fn is_ascii_by_halves(bytes: &[u8]) -> bool
     ensures { MatchBool result (IsAscii bytes.now) (IsNotAscii bytes.now) }
 {
@@ -55,7 +55,7 @@ fn is_ascii_by_halves(bytes: &[u8]) -> bool
     back[at..].is_ascii()
 }
 
-/// What checks of text cost: how often each act of reading was done. Each count stays at `u64::MAX`.
+/// The cost of text checks: how often each act of reading was done. Each count stays at `u64::MAX`.
 #[derive(Clone, Copy, Debug, Drop, PartialEq, Eq)]
 pub struct TextCost {
     ascii_tests: u64,
@@ -85,7 +85,7 @@ impl Model for TextCost {
 }
 
 impl TextCost {
-    /// No act was done yet.
+    /// Creates counts of zero.
     pub fn new() -> Self
         ensures { result ≡ no_cost }
     {
@@ -96,21 +96,21 @@ impl TextCost {
         }
     }
 
-    /// How often bytes were tested for ASCII.
+    /// Returns how often bytes were tested for ASCII.
     pub fn ascii_tests(&self) -> u64
         ensures { result ≡ self.now.ascii_tests }
     {
         self.ascii_tests
     }
 
-    /// How often bytes were tested for UTF-8.
+    /// Returns how often bytes were tested for UTF-8.
     pub fn whole_tests(&self) -> u64
         ensures { result ≡ self.now.whole_tests }
     {
         self.whole_tests
     }
 
-    /// How often one byte was looked at.
+    /// Returns how often one byte was looked at.
     pub fn bytes_looked(&self) -> u64
         ensures { result ≡ self.now.bytes_looked }
     {
@@ -118,7 +118,7 @@ impl TextCost {
     }
 }
 
-/// Bytes that a check of text reads by three acts, each of which is counted. It lends no byte otherwise.
+/// Bytes that a text check reads by three counted acts, and by these alone.
 #[derive(Drop)]
 pub struct TextBytes<'a> {
     bytes: &'a [u8],
@@ -135,7 +135,7 @@ impl<'a> Model for TextBytes<'a> {
 }
 
 impl<'a> TextBytes<'a> {
-    /// These bytes, with what was counted before.
+    /// Creates a judge of these bytes, which counts on from `cost`.
     #[inline(always)]
     pub fn new(bytes: &'a [u8], cost: TextCost) -> Self
         ensures bytes { result.bytes ≡ bytes.entry.now }
@@ -144,7 +144,7 @@ impl<'a> TextBytes<'a> {
         TextBytes { bytes, cost }
     }
 
-    /// What was counted, in all.
+    /// Returns the counts.
     #[inline(always)]
     pub fn cost(&self) -> TextCost
         ensures { result ≡ self.now.cost }
@@ -152,7 +152,7 @@ impl<'a> TextBytes<'a> {
         self.cost
     }
 
-    /// The number of bytes.
+    /// Returns the number of bytes.
     #[inline(always)]
     pub fn len(&self) -> usize
         ensures { result ≡ length self.now.bytes }
@@ -160,7 +160,7 @@ impl<'a> TextBytes<'a> {
         self.bytes.len()
     }
 
-    /// Whether the `len` bytes from `offset` on are ASCII: all below 80 (hexadecimal).
+    /// Returns whether the `len` bytes from `offset` on are ASCII: all below 80 (hexadecimal).
     #[inline(always)]
     pub fn ascii(&mut self, offset: usize, len: usize) -> bool
         requires { offset + len ≤ length self.old.bytes }
@@ -172,7 +172,7 @@ impl<'a> TextBytes<'a> {
         is_ascii_by_halves(&self.bytes[offset..offset + len])
     }
 
-    /// Whether the `len` bytes from `offset` on are UTF-8.
+    /// Returns whether the `len` bytes from `offset` on are UTF-8.
     #[inline(always)]
     pub fn whole_test(&mut self, offset: usize, len: usize) -> bool
         requires { offset + len ≤ length self.old.bytes }
@@ -183,7 +183,7 @@ impl<'a> TextBytes<'a> {
         is_text(&self.bytes[offset..offset + len])
     }
 
-    /// The byte at a place.
+    /// Returns the byte at `place`.
     #[inline(always)]
     pub fn look(&mut self, place: usize) -> u8
         requires { place < length self.old.bytes }

@@ -1,4 +1,4 @@
-//! Whether the items that offsets cut out of bytes are texts.
+//! Checks that the items between offsets are text.
 ghost use Rattle.std.specs.Prelude.{◌≡◌, ◌+◌, ◌-◌, ◌<◌, ◌≤◌, ◌↔◌, IfErr, IsTrue, MatchBool, OnOk, length, slice_index};
 ghost use Rattle.std.specs.Str.{IsAscii, IsNotAscii};
 ghost use Rattle.arrow_types.specs.Types.{refusal};
@@ -15,7 +15,7 @@ use crate::judge::Judge;
 use arrow_types::error::Error;
 use arrow_types::offset::Offset;
 
-/// Returns whether the window between legal offsets is ASCII, by one test.
+/// Returns whether the window between the first and the last offset is ASCII, by one test.
 #[inline(always)]
 fn is_ascii_window<O: Offset, J: Judge>(offsets: &[O], text: &mut J) -> bool
     requires legal { AreLegal O.number offsets.now }
@@ -30,7 +30,7 @@ fn is_ascii_window<O: Offset, J: Judge>(offsets: &[O], text: &mut J) -> bool
     text.ascii(start, end - start)
 }
 
-/// Returns whether the judge accepts the window between legal offsets, by one test.
+/// Returns whether the judge accepts the window between the first and the last offset, by one test.
 #[inline(always)]
 fn is_text_window<O: Offset, J: Judge>(offsets: &[O], text: &mut J) -> bool
     requires legal { AreLegal O.number offsets.now }
@@ -44,8 +44,8 @@ fn is_text_window<O: Offset, J: Judge>(offsets: &[O], text: &mut J) -> bool
     text.whole_test(start, end - start)
 }
 
-/// Returns how many inner offsets lie before `end`, which no offset is above. Offsets never fall, so the others are
-/// the last ones.
+/// Returns how many inner offsets lie before `end`, which no offset is above. Offsets never fall,
+/// so the others are the last ones.
 #[inline(always)]
 fn count_before<O: Offset>(offsets: &[O], end: usize) -> usize
     requires legal { AreLegal O.number offsets.now }
@@ -61,7 +61,7 @@ fn count_before<O: Offset>(offsets: &[O], end: usize) -> usize
     count
 }
 
-/// Returns whether a byte goes on with a character, and begins none.
+/// Returns whether a byte is a continuation byte.
 #[inline(always)]
 fn goes_on(byte: u8) -> bool
     ensures { IsTrue result ↔ IsContinuation byte }
@@ -69,9 +69,9 @@ fn goes_on(byte: u8) -> bool
     byte >= 0x80 && byte < 0xC0
 }
 
-/// Returns whether a character may begin at each of the offsets from the one at `from` up to the one at `upto`. It
-/// looks
-/// at the byte of each, also behind one where none may begin, so that nothing branches on a byte.
+/// Returns whether a character may begin at each offset from the one at `from` up to the one at
+/// `upto`. Looks at the byte of each, even after one at which none may begin, so that nothing
+/// branches on a byte.
 #[inline(always)]
 fn all_begin<O: Offset, J: Judge>(offsets: &[O], from: usize, upto: usize, text: &mut J) -> bool
     requires legal { AreLegal O.number offsets.now }
@@ -89,7 +89,7 @@ fn all_begin<O: Offset, J: Judge>(offsets: &[O], from: usize, upto: usize, text:
     begins
 }
 
-/// Returns what `all_begin` does, eight offsets at a time: their looks are counted by one addition.
+/// Returns what `all_begin` does, eight offsets at a time, whose looks are counted by one addition.
 #[inline(always)]
 fn all_begin_by_eights<O: Offset, J: Judge>(
     offsets: &[O],
@@ -113,7 +113,8 @@ fn all_begin_by_eights<O: Offset, J: Judge>(
     begins & all_begin(offsets, done, upto, text)
 }
 
-/// Returns whether the inner offsets cut no character of the window, by one look at each that lies before its end.
+/// Returns whether the inner offsets cut no character of the window, by one look at each inner
+/// offset before its end.
 #[inline(always)]
 fn is_cut_between<O: Offset, J: Judge>(offsets: &[O], text: &mut J) -> bool
     requires legal { AreLegal O.number offsets.now }
@@ -128,8 +129,8 @@ fn is_cut_between<O: Offset, J: Judge>(offsets: &[O], text: &mut J) -> bool
     all_begin_by_eights(offsets, 1, count + 1, text)
 }
 
-/// Returns whether the judge accepts the window between legal offsets and the inner ones cut no character of it: one
-/// whole test, and if it is passed one look at each inner offset before the window's end.
+/// Returns whether the judge accepts the window and the inner offsets cut no character of it: by
+/// one whole test, and if it passes one look at each inner offset before the window's end.
 #[inline(always)]
 fn is_cut_text<O: Offset, J: Judge>(offsets: &[O], text: &mut J) -> bool
     requires legal { AreLegal O.number offsets.now }
@@ -145,18 +146,19 @@ fn is_cut_text<O: Offset, J: Judge>(offsets: &[O], text: &mut J) -> bool
     is_text_window(offsets, text) && is_cut_between(offsets, text)
 }
 
-/// Whether legal offsets lie within the bytes, the judge accepts the window from the first to the last, and each inner
-/// offset is its end or stands at no continuation byte. A judge whose rule is Unicode's (Table 3-7) then accepts each
-/// item by itself, as `laws::texts_by_window` says. What lies before the first offset and behind the last may be
-/// anything.
+/// Checks that legal offsets lie within the bytes, that the judge accepts the window from the first
+/// to the last, and that each inner offset is the window's end or stands at a byte that is no
+/// continuation byte. A judge whose rule is Unicode's (Table 3-7) then accepts each item by itself,
+/// as `laws::texts_by_window` states. Bytes before the first offset and after the last are not
+/// read.
 ///
-/// The bytes stay; of the counts those of ASCII tests and of whole tests rise by one at most, and that of looks by one
-/// at most for each inner offset. They rise by what was done: nothing where the last offset is past the bytes; else by
-/// one ASCII test; and where the window isn't ASCII by one whole test, and looks.
+/// It makes at most one ASCII test, at most one whole test, and at most one look for each inner
+/// offset: no act if the last offset is past the bytes; one ASCII test alone if the window is
+/// ASCII; otherwise a whole test too, and the looks if that passes.
 ///
 /// # Errors
-/// - `OutOfSpec` where the last offset is above the number of bytes;
-/// - else `OutOfSpec` where the window is not accepted, or an inner offset stands otherwise.
+/// - `OutOfSpec` if the last offset is above the number of bytes.
+/// - Otherwise `OutOfSpec` if the window is not accepted or an inner offset cuts a character.
 #[inline(always)]
 pub fn check_text<O: Offset, J: Judge>(offsets: &[O], text: &mut J) -> Result<(), Error>
     requires { AreLegal O.number offsets.now }
@@ -178,14 +180,13 @@ pub fn check_text<O: Offset, J: Judge>(offsets: &[O], text: &mut J) -> Result<()
     Ok(())
 }
 
-/// Whether legal offsets lie within the bytes and every item between two of them is UTF-8 by itself (Unicode
-/// Standard, Table 3-7): `check_text` by the judge whose rule is Unicode's. What lies before the first offset and
-/// behind
-/// the last may be anything.
+/// Checks that legal offsets lie within the bytes and that every item between two of them is UTF-8
+/// by itself (Unicode Standard, Table 3-7), as [`check_text`] with the judge whose rule is
+/// Unicode's. Bytes before the first offset and after the last are not read.
 ///
 /// # Errors
-/// - `OutOfSpec` where the last offset is above the number of bytes;
-/// - else `OutOfSpec` where an item is not UTF-8.
+/// - `OutOfSpec` if the last offset is above the number of bytes.
+/// - Otherwise `OutOfSpec` if an item is not UTF-8.
 #[inline(always)]
 pub fn check_utf8<O: Offset>(offsets: &[O], text: &mut TextBytes<'_>) -> Result<(), Error>
     requires { AreLegal O.number offsets.now }

@@ -1,4 +1,4 @@
-//! What a filter leaves of stored values, of marks and of items: those with a set mark.
+//! The stored values, marks and items that a selection keeps.
 ghost use Rattle.std.specs.Prelude.{◌≡◌, ◌+◌, ◌*◌, ◌^◌, ◌<◌, ◌≤◌, count_by, length, not, option_map, take, IfOk};
 ghost use Rattle.std.specs.Prelude.{IfErr, IfSome, OnOk};
 ghost use Rattle.std.specs.List.{concat};
@@ -28,8 +28,8 @@ use arrow_types::native_type::NativeType;
 use arrow_types::offset::Offset;
 use std::alloc::Global;
 
-/// Appends the values that are asked for of 64 rows, from row `64 * at` on, behind those of the rows before them. All
-/// values of a word that asks for all are copied at once, and of another the set bits are looked for.
+/// Appends the selected values of 64 rows, from row `64 * at` on. If all are selected they are
+/// copied at once; otherwise the set bits are visited.
 #[inline(always)]
 fn keep_word<T: NativeType>(kept: &mut Vec<T>, values: &[T], asked: &Asked, at: usize)
     requires same { length asked.now ≡ length values.now }
@@ -54,7 +54,7 @@ fn keep_word<T: NativeType>(kept: &mut Vec<T>, values: &[T], asked: &Asked, at: 
     }
 }
 
-/// Appends the values that are asked for from a row on, behind those of the rows before it.
+/// Appends the selected values from row `start` on.
 fn keep_last<T: NativeType>(kept: &mut Vec<T>, values: &[T], asked: &Asked, start: usize)
     requires same { length asked.now ≡ length values.now }
     requires within { start ≤ length asked.now }
@@ -69,7 +69,7 @@ fn keep_last<T: NativeType>(kept: &mut Vec<T>, values: &[T], asked: &Asked, star
     }
 }
 
-/// The values that are asked for, 64 rows at a time. Room is made once.
+/// Returns the selected values, 64 rows at a time. Room is reserved once.
 fn keep_each_value<T: NativeType>(
     alloc: Global,
     values: &[T],
@@ -88,7 +88,7 @@ fn keep_each_value<T: NativeType>(
     Ok(kept)
 }
 
-/// The values that are asked for.
+/// Returns the selected values.
 pub(crate) fn keep_values<T: NativeType>(
     alloc: Global,
     values: &[T],
@@ -109,9 +109,7 @@ pub(crate) fn keep_values<T: NativeType>(
     keep_each_value(alloc, values, asked)
 }
 
-/// The bits of a word of marks where a word of asked rows has set bits, one behind the other, and how many they
-/// are: run by
-/// run.
+/// Returns the selected bits of a word of marks, packed, and their number: run by run.
 fn kept_runs(asked: u64, marks: u64) -> (u64, usize)
     ensures count { result.1 ≤ 64 }
     ensures bits { bits_of result.0 result.1 ≡ where_set (bits_of asked 64) (bits_of marks 64) }
@@ -129,7 +127,7 @@ fn kept_runs(asked: u64, marks: u64) -> (u64, usize)
     (kept, count)
 }
 
-/// The same, bit by bit.
+/// Returns the selected bits of a word of marks, packed, and their number: bit by bit.
 #[inline(always)]
 fn kept_bits(asked: u64, marks: u64) -> (u64, usize)
     ensures count { result.1 ≤ 64 }
@@ -146,7 +144,8 @@ fn kept_bits(asked: u64, marks: u64) -> (u64, usize)
     (kept, count)
 }
 
-/// The same, in the way that suits the word of asked rows.
+/// Returns the selected bits of a word of marks, packed, and their number, in the way that suits
+/// the selection.
 #[inline(always)]
 fn kept_word(asked: u64, marks: u64) -> (u64, usize)
     ensures count { result.1 ≤ 64 }
@@ -162,7 +161,7 @@ fn kept_word(asked: u64, marks: u64) -> (u64, usize)
     }
 }
 
-/// Appends the marks that are asked for of 64 rows, from row `64 * at` on, behind those of the rows before them.
+/// Appends the selected marks of 64 rows, from row `64 * at` on.
 #[inline(always)]
 fn keep_word_marks(
     kept: &mut MutableBitmap,
@@ -184,7 +183,7 @@ fn keep_word_marks(
     kept.extend_from_word(bits, count)
 }
 
-/// Appends the marks that are asked for from a row on, behind those of the rows before it.
+/// Appends the selected marks from a row on.
 fn keep_last_marks(
     kept: &mut MutableBitmap,
     marks: &Bitmap,
@@ -205,8 +204,8 @@ fn keep_last_marks(
     Ok(())
 }
 
-/// The marks that are asked for, 64 rows at a time. Room is made once, with a word more, since marks come as whole
-/// words.
+/// Returns the selected marks, 64 rows at a time. Room is reserved once, with a word more, since
+/// marks come as whole words.
 fn keep_each_mark(alloc: Global, marks: &Bitmap, asked: &Asked) -> Result<Bitmap, Error>
     requires { length asked.now ≡ length marks.now }
     ensures ok { IfOk result (λ kept. kept ≡ where_set asked.now marks.now) }
@@ -222,7 +221,7 @@ fn keep_each_mark(alloc: Global, marks: &Bitmap, asked: &Asked) -> Result<Bitmap
     kept.freeze()
 }
 
-/// The marks that are asked for.
+/// Returns the selected marks.
 pub(crate) fn keep_marks(alloc: Global, marks: &Bitmap, asked: &Asked) -> Result<Bitmap, Error>
     requires { length asked.now ≡ length marks.now }
     ensures ok { IfOk result (λ kept. kept ≡ where_set asked.now marks.now) }
@@ -237,8 +236,8 @@ pub(crate) fn keep_marks(alloc: Global, marks: &Bitmap, asked: &Asked) -> Result
     keep_each_mark(alloc, marks, asked)
 }
 
-/// The mask of the rows that are asked for, which is held only where one of them is null. Where no row is null, none is
-/// made.
+/// Returns the mask of the selected rows, which is held exactly if one of them is null. If no row
+/// is null, none is made.
 pub(crate) fn keep_mask(
     alloc: Global,
     validity: Option<&Bitmap>,
@@ -260,9 +259,8 @@ pub(crate) fn keep_mask(
     }
 }
 
-/// Appends the items that are asked for of 64 rows, from row `64 * at` on, behind those of the rows before them:
-/// run by run,
-/// whose bytes are copied at once.
+/// Appends the selected items of 64 rows, from row `64 * at` on, run by run: the bytes of a run are
+/// copied at once.
 #[inline(never)]
 fn keep_runs<O: Offset>(
     kept: &mut Offsets<O>,
@@ -301,7 +299,7 @@ fn keep_runs<O: Offset>(
     Ok(())
 }
 
-/// The same, item by item.
+/// Appends the selected items of 64 rows, from row `64 * at` on, item by item.
 #[inline(always)]
 fn keep_each_item<O: Offset>(
     kept: &mut Offsets<O>,
@@ -340,7 +338,8 @@ fn keep_each_item<O: Offset>(
     Ok(())
 }
 
-/// The same, in the way that suits the rows.
+/// Appends the selected items of 64 rows, from row `64 * at` on, in the way that suits the
+/// selection.
 #[inline(always)]
 fn keep_word_items<O: Offset>(
     kept: &mut Offsets<O>,
@@ -372,7 +371,7 @@ fn keep_word_items<O: Offset>(
     }
 }
 
-/// Appends the items that are asked for from a row on, behind those of the rows before it.
+/// Appends the selected items from a row on.
 fn keep_last_items<O: Offset>(
     kept: &mut Offsets<O>,
     kept_bytes: &mut Vec<u8>,
@@ -406,7 +405,7 @@ fn keep_last_items<O: Offset>(
     Ok(())
 }
 
-/// Room for the bytes of so many of the items, were each as long as the items are on average, and for a word more.
+/// Returns the number of bytes of `count` items of average length, and of a word more.
 fn room_for<O: Offset>(offsets: &OffsetsBuffer<O>, count: usize) -> usize {
     let all = offsets.last().to_usize() - offsets.first().to_usize();
     let slots = offsets.len_proxy();
@@ -417,7 +416,7 @@ fn room_for<O: Offset>(offsets: &OffsetsBuffer<O>, count: usize) -> usize {
     some.min(all).saturating_add(16)
 }
 
-/// The items that are asked for, as offsets and bytes of their own, 64 rows at a time.
+/// Returns the selected items as offsets and bytes of their own, 64 rows at a time.
 pub(crate) fn keep_items<O: Offset>(
     alloc: Global,
     offsets: &OffsetsBuffer<O>,
@@ -449,7 +448,7 @@ pub(crate) fn keep_items<O: Offset>(
     Ok((kept, kept_bytes))
 }
 
-/// The items of an array that are asked for, as offsets and bytes of their own.
+/// Returns the selected items of an array as offsets and bytes of their own.
 pub(crate) fn kept_pieces<K: ByteKind, O: Offset>(
     alloc: Global,
     array: &ByteArray<K, O>,

@@ -1,4 +1,4 @@
-//! What keys take of stored values, of marks and of items: for each key what stands at its place.
+//! The stored values, marks and items at the indexes that keys are.
 ghost use Rattle.std.specs.Prelude.{◌≡◌, ◌+◌, ◌<◌, ◌≤◌, false, true, length, option_map, All, Some, IfOk, IfErr};
 ghost use Rattle.std.specs.Prelude.{IfSome, IsSomeAnd, OnOk};
 ghost use Rattle.std.specs.List.{concat};
@@ -27,7 +27,7 @@ use arrow_types::native_type::NativeType;
 use arrow_types::offset::Offset;
 use std::alloc::Global;
 
-/// The place that a key tells.
+/// Returns the index that a key is.
 #[inline(always)]
 fn place_of<K: IndexKey>(key: &K, len: usize) -> usize
     requires { IsSomeAnd (index_of (K.number key.now)) (λ index. index < len) }
@@ -40,7 +40,7 @@ fn place_of<K: IndexKey>(key: &K, len: usize) -> usize
     }
 }
 
-/// The values at the keys' places. Room is made once.
+/// Returns the values at the keys. Room is reserved once.
 pub(crate) fn pick_values<T: NativeType, K: IndexKey>(
     alloc: Global,
     values: &[T],
@@ -57,7 +57,7 @@ pub(crate) fn pick_values<T: NativeType, K: IndexKey>(
     Ok(picked)
 }
 
-/// The marks at the places of at most 64 keys, as the bits of a word.
+/// Returns the marks at at most 64 keys as the bits of a word.
 #[inline(always)]
 fn picked_word<K: IndexKey>(marks: &Bitmap, keys: &[K]) -> u64
     requires few { length keys.now ≤ 64 }
@@ -74,7 +74,8 @@ fn picked_word<K: IndexKey>(marks: &Bitmap, keys: &[K]) -> u64
     word
 }
 
-/// The marks at the keys' places, 64 at a time. Room is made once, with a word more, since marks come as whole words.
+/// Returns the marks at the keys, 64 at a time. Room is reserved once, with a word more, since
+/// marks come as whole words.
 pub(crate) fn pick_marks<K: IndexKey>(
     alloc: Global,
     marks: &Bitmap,
@@ -95,9 +96,8 @@ pub(crate) fn pick_marks<K: IndexKey>(
     picked.freeze()
 }
 
-/// The mask of the rows at the keys' places, which is held only where one of them is null. Where no row is null,
-/// none is
-/// made.
+/// Returns the mask of the rows at the keys, which is held exactly if one of them is null. If no
+/// row is null, none is made.
 pub(crate) fn pick_mask<K: IndexKey>(
     alloc: Global,
     validity: Option<&Bitmap>,
@@ -120,7 +120,7 @@ pub(crate) fn pick_mask<K: IndexKey>(
     }
 }
 
-/// How many bytes the items at the keys' places have together.
+/// Returns the number of bytes of the items at the keys.
 fn picked_length<O: Offset, K: IndexKey>(
     offsets: &OffsetsBuffer<O>,
     bytes: &[u8],
@@ -146,10 +146,10 @@ fn picked_length<O: Offset, K: IndexKey>(
     Ok(total)
 }
 
-/// How many bytes the items of an array have together at the places of keys, each of which tells one.
+/// Returns the number of bytes of the items at keys, all of which are indexes.
 ///
 /// # Errors
-/// `Overflow` where they have more than an offset can tell.
+/// `Overflow` if the number is above the greatest offset.
 pub(crate) fn items_length<K: ByteKind, O: Offset, I: IndexKey>(
     array: &ByteArray<K, O>,
     keys: &[I],
@@ -162,9 +162,8 @@ pub(crate) fn items_length<K: ByteKind, O: Offset, I: IndexKey>(
     picked_length(array.offsets(), array.values().as_slice(), keys)
 }
 
-/// The items at the keys' places, as offsets and bytes of their own. Together they end at what an offset can tell;
-/// so many
-/// bytes are made room for.
+/// Returns the items at the keys as offsets and bytes of their own. Together they end at most at
+/// the greatest offset; room for their bytes is reserved once.
 fn pick_items<O: Offset, K: IndexKey>(
     alloc: Global,
     offsets: &OffsetsBuffer<O>,
@@ -194,9 +193,8 @@ fn pick_items<O: Offset, K: IndexKey>(
     Ok((picked, picked_bytes))
 }
 
-/// The items of an array at the places of keys, each of which tells one, as offsets and bytes of their own.
-/// Together they end
-/// at what an offset can tell; so many bytes are made room for.
+/// Returns the items of an array at keys, all of which are indexes, as offsets and bytes of their
+/// own. Together they end at most at the greatest offset; room for their bytes is reserved once.
 pub(crate) fn picked_pieces<K: ByteKind, O: Offset, I: IndexKey>(
     alloc: Global,
     array: &ByteArray<K, O>,

@@ -1,8 +1,6 @@
-//! Arrays over offsets of one width as arrays over offsets of the other: the same rows with the same bytes around
-//! them, and
-//! every offset the same number, under the default type of the other width. Bytes and masks are shared, so the
-//! offsets are
-//! what the allocator is for, and no text is tested again.
+//! Arrays over offsets of one width as arrays over offsets of the other: the same rows with the
+//! same bytes around them, every offset the same number, of the default data type of the other
+//! width. Bytes and masks are shared, and text is not checked again.
 ghost use Rattle.std.specs.Prelude.{◌≡◌, false, true, IfOk, IfErr};
 ghost use Rattle.arrow_types.specs.Failures.{OnlyOutOfMemory};
 ghost use Rattle.arrow_column.specs.Column.{refused_growth, with_type};
@@ -35,7 +33,7 @@ fn over_offsets<K: ByteKind, O: Offset, P: Offset>(
     Ok(ByteArray::new(K::default_type(P::IS_LARGE), offsets, values, validity))
 }
 
-/// Returns the slots of items of a kind over offsets of 64 bits.
+/// Returns the same slots over offsets of 64 bits.
 fn widen<K: ByteKind>(alloc: Global, array: &ByteArray<K, i32>) -> Result<ByteArray<K, i64>, Error>
     ensures ok { IfOk result (λ wide. wide ≡ with_type array.now (K.default_type true)) }
     ensures err { OnlyOutOfMemory result }
@@ -43,7 +41,7 @@ fn widen<K: ByteKind>(alloc: Global, array: &ByteArray<K, i32>) -> Result<ByteAr
     over_offsets(array, OffsetsBuffer::widen(alloc, array.offsets())?)
 }
 
-/// Returns the slots of items of a kind over offsets of 32 bits.
+/// Returns the same slots over offsets of 32 bits.
 fn narrow<K: ByteKind>(alloc: Global, array: &ByteArray<K, i64>) -> Result<ByteArray<K, i32>, Error>
     ensures ok { IfOk result (λ narrow. (narrowing_overflows array.now ≡ false)
         × (narrow ≡ with_type array.now (K.default_type false))) }
@@ -52,7 +50,7 @@ fn narrow<K: ByteKind>(alloc: Global, array: &ByteArray<K, i64>) -> Result<ByteA
     over_offsets(array, OffsetsBuffer::narrow(alloc, array.offsets())?)
 }
 
-/// Returns the slots of bytes over offsets of 64 bits.
+/// Returns the same slots over offsets of 64 bits.
 ///
 /// # Errors
 /// `OutOfMemory` if an allocation fails.
@@ -63,7 +61,7 @@ pub fn widen_binary(alloc: Global, array: &BinaryArray<i32>) -> Result<BinaryArr
     widen(alloc, array)
 }
 
-/// Returns the slots of text over offsets of 64 bits.
+/// Returns the same slots over offsets of 64 bits.
 ///
 /// # Errors
 /// `OutOfMemory` if an allocation fails.
@@ -74,11 +72,12 @@ pub fn widen_utf8(alloc: Global, array: &Utf8Array<i32>) -> Result<Utf8Array<i64
     widen(alloc, array)
 }
 
-/// Returns the slots of bytes over offsets of 32 bits.
+/// Returns the same slots over offsets of 32 bits.
 ///
 /// # Errors
-/// `Overflow` if the last offset is above 2147483647, however many bytes lie behind it; no memory is allocated then.
-/// `OutOfMemory` if an allocation fails.
+/// - `Overflow` if the last offset is above 2147483647, however many bytes lie after it; this is
+///   checked before memory is allocated.
+/// - `OutOfMemory` if an allocation fails.
 pub fn narrow_binary(alloc: Global, array: &BinaryArray<i64>) -> Result<BinaryArray<i32>, Error>
     ensures ok { IfOk result (λ narrow. (narrowing_overflows array.now ≡ false)
         × (narrow ≡ with_type array.now (binary_type false))) }
@@ -87,11 +86,10 @@ pub fn narrow_binary(alloc: Global, array: &BinaryArray<i64>) -> Result<BinaryAr
     narrow(alloc, array)
 }
 
-/// Returns the slots of text over offsets of 32 bits.
+/// Returns the same slots over offsets of 32 bits.
 ///
 /// # Errors
-/// `Overflow` if the last offset is above 2147483647, however many bytes lie behind it; no memory is allocated then.
-/// `OutOfMemory` if an allocation fails.
+/// As [`narrow_binary`].
 pub fn narrow_utf8(alloc: Global, array: &Utf8Array<i64>) -> Result<Utf8Array<i32>, Error>
     ensures ok { IfOk result (λ narrow. (narrowing_overflows array.now ≡ false)
         × (narrow ≡ with_type array.now (text_type false))) }

@@ -1,4 +1,5 @@
-//! A session: the input is read, every line is tested, the commands are run line by line, and then every reply is written.
+//! A session: the input is read, every line is checked, the commands are run, and then the replies
+//! are written.
 ghost use Rattle.std.specs.Prelude.{◌≡◌, IfOk, IfSome, MatchOption, ◌⊎◌, string_bytes};
 ghost use Rattle.arrow_session.specs.Counted.{inside, fault_count, Rose};
 ghost use Rattle.arrow_lines.specs.Lines.{bad_line, commands_of};
@@ -14,11 +15,11 @@ use arrow_words::words::cut_line;
 use std::alloc::{AllocError, Global};
 use std::io::{Read, Write};
 
-/// The number of entries of each of a session's tables.
+/// The number of entries of each table of a session.
 const ENTRIES: usize = 16;
 
-/// Returns the number of the first line that is no command, counted from 1, or `None` where each line is one or is passed
-/// over. Every line is tested and none is run, which takes no memory.
+/// Returns the number of the first line that is not a command, counted from 1, or `None` if every
+/// line is one or is passed over. Nothing is run or allocated.
 fn first_bad_line(input: &[u8]) -> Option<usize>
     ensures { MatchOption result (AreCommands input.now) (λ number. commands_of input.now ≡ bad_line number) }
 {
@@ -36,8 +37,8 @@ fn first_bad_line(input: &[u8]) -> Option<usize>
     None
 }
 
-/// Returns the replies to an input of commands, which are run on tables of empty entries. Each line is run as soon as it is
-/// read, so that no list of commands or replies is kept.
+/// Runs an input of commands on tables of empty entries and returns the replies. Each line is run
+/// as soon as it is read, so that no list of commands or replies is kept.
 fn run_lines(alloc: Global, input: &[u8]) -> Result<String, AllocError>
     requires { AreCommands input.now }
     ensures { IfOk result (λ text. IsAnswer input.now (string_bytes text)) }
@@ -54,8 +55,8 @@ fn run_lines(alloc: Global, input: &[u8]) -> Result<String, AllocError>
     Ok(answering.text)
 }
 
-/// Reads every line of the input, and then runs every command on 16 empty entries of each width, and writes a reply for
-/// each. Where a line is no command, nothing is run or written.
+/// Reads every line of the input, runs every command on 16 empty entries of each width, and writes
+/// a reply for each. If a line is not a command, nothing is run or written.
 pub fn session<R: Read, W: Write>(
     alloc: Global,
     input: &mut Counted<R>,
