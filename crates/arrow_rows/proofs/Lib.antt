@@ -1,2 +1,4 @@
+pub mod CallerLemmas
 pub mod Grown
+pub mod Packed
 pub mod Steps

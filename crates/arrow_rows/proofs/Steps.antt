@@ -6,7 +6,7 @@ use Rattle.arrow_entry.specs.Answer.{Answer}
 use Rattle.arrow_entry.specs.Entry.{Value, value_of}
 use Rattle.arrow_entry.specs.Row.{Row}
 use Rattle.arrow_entry.specs.Step.{AtEntry, entry_at, other_at}
-use Rattle.arrow_entry.proofs.Seen.{map-slice_set}
+use Rattle.arrow_entry.proofs.CallerLemmas.{map-slice_set}
 
 pub got : {E : Type 0} (xs : List E) (e : ℕ) (x d : E) → e < length xs → x ≡ get_or xs e d → slice_get xs e ≡ Some x
 got [] e x d within is = absurd (omega arith)

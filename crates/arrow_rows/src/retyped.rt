@@ -18,7 +18,7 @@ use arrow_types::physical_type::PhysicalType;
 use std::alloc::Global;
 
 /// What becomes of what was in an entry that is to have a type, which is right for native values, and the answer.
-#[tactic(auto, using(arrow_entry::proofs::Rules::seen_changes))]
+#[tactic(auto, using(arrow_entry::proofs::CallerLemmas::seen_changes))]
 fn retyped<T: NativeType, O: Offset>(
     taken: Option<Entry<T, O>>,
     data_type: DataType,

@@ -1,8 +1,9 @@
 use Rattle.std.proofs.Common.{rules, ◌≡◌, map, ap, [], ◌∷◌}
 use Rattle.std.proofs.lemmas.List.{nil_from_length}
+use Rattle.arrow_entry.specs.Change.{slot_over}
 use Rattle.arrow_entry.specs.Entry.{types}
 use Rattle.arrow_entry.specs.Item.{stored_slot}
-use Rattle.arrow_rows.proofs.Grown.{rest-taken, rest-none}
+use Rattle.arrow_rows.proofs.Grown.{rest-taken, rest-none, rest-refused}
 use Rattle.arrow_rows.proofs.extended.push_slots.Goals as goal
 
 pub loop-slot-preserved : goal.loop-slot-preserved
@@ -20,3 +21,15 @@ returns-clause-ok g c =
     let split : c.loop-slot.rest.now ≡ [] = nil_from_length c.loop-slot.rest.now (search rules) in
     rest-none (types g.T.NativeType.zero g.T.NativeType.PRIMITIVE g.O.Offset.most g.O.Offset.IS_LARGE) (g.K.Kept.value c.args.kept.now) (map stored_slot c.args.slots.now)
     (g.K.Kept.value c.loop-slot.kept) (map stored_slot c.loop-slot.rest.now) (ap (map stored_slot) split) c.loop-slot.invariant.2
+
+pub returns-in-Err-clause-err : goal.returns-in-Err-clause-err
+returns-in-Err-clause-err g c =
+    let split : c.loop-slot.rest.now ≡ c.in-Some.slot.now ∷ c.in-Some.others.now = search rules in
+    let known = types g.T.NativeType.zero g.T.NativeType.PRIMITIVE g.O.Offset.most g.O.Offset.IS_LARGE in
+    let refused = c.in-Err.ensures.err in (
+      slot_over known (g.K.Kept.value c.loop-slot.kept) (stored_slot c.in-Some.slot.now),
+      refused.0,
+      rw (refused.0, refused.1)
+          (rest-refused known (g.K.Kept.value c.args.kept.now) (map stored_slot c.args.slots.now) (g.K.Kept.value c.loop-slot.kept) (map stored_slot c.loop-slot.rest.now) (map stored_slot c.in-Some.others.now) (stored_slot c.in-Some.slot.now)
+          (ap (map stored_slot) split) c.loop-slot.invariant.2),
+    )
