@@ -68,7 +68,7 @@ impl<T: NativeType, O: Offset> EntryRow<T, O> for Value {
 ///
 /// # Errors
 /// Where memory is refused.
-#[tactic(auto, using(arrow_entry::proofs::Rules::slot_lists))]
+#[tactic(auto, using(arrow_entry::proofs::CallerLemmas::slot_lists))]
 fn all_slots<T: NativeType, K: Shown<T>>(
     alloc: Global,
     kept: &K,

@@ -1,11 +1,15 @@
 //! Commands that take what an entry holds as a whole.
-ghost use Rattle.std.specs.Prelude.{option_map};
+ghost use Rattle.std.specs.Prelude.{◌≡◌, IfErr, IfOk, option_map};
+ghost use Rattle.arrow_bytes.specs.Column.{column_without_tail};
+ghost use Rattle.arrow_column.specs.Column.{without_needless_mask};
 ghost use Rattle.arrow_entry.specs.Answer.{told};
 ghost use Rattle.arrow_entry.specs.Entry.{types, value_of};
 ghost use Rattle.arrow_entry.specs.Kind.{is_builder, is_frozen, is_values_alone};
 ghost use Rattle.arrow_entry.specs.Request as ask;
 ghost use Rattle.arrow_entry.specs.Step.{Does_to};
 
+use arrow_byte_array::{ByteArray, MutableByteArray, MutableByteValuesArray};
+use arrow_bytes::ByteKind;
 use arrow_entry::{Entry, Reply};
 use arrow_rows::entry::{EntryRow, put};
 use arrow_types::error::Error;
@@ -35,8 +39,38 @@ impl<T: NativeType, O: Offset> EntryRow<T, O> for Empty {
     }
 }
 
+/// Freezes a builder of items, after which no bytes lie.
+///
+/// # Errors
+/// `OutOfMemory` if an allocation fails.
+fn frozen_items<K: ByteKind, O: Offset>(
+    builder: MutableByteArray<K, O>,
+) -> Result<ByteArray<K, O>, Error>
+    ensures ok { IfOk result (λ array. array ≡ without_needless_mask (column_without_tail builder)) }
+    ensures err { IfErr result (λ e. e ≡ Error.OutOfMemory) }
+{
+    // The builder says with its bytes that there are none after its items.
+    builder.values();
+    builder.freeze()
+}
+
+/// Freezes a builder of items without nulls, after which no bytes lie.
+///
+/// # Errors
+/// `OutOfMemory` if an allocation fails.
+fn frozen_values<K: ByteKind, O: Offset>(
+    builder: MutableByteValuesArray<K, O>,
+) -> Result<ByteArray<K, O>, Error>
+    ensures ok { IfOk result (λ array. array ≡ without_needless_mask (column_without_tail builder)) }
+    ensures err { IfErr result (λ e. e ≡ Error.OutOfMemory) }
+{
+    // The builder says with its bytes that there are none after its items.
+    builder.values();
+    builder.freeze()
+}
+
 /// What becomes of what was in an entry that is to be an array, and the answer.
-#[tactic(auto, using(arrow_entry::proofs::Seen::seen_reads, arrow_entry::proofs::Rules::seen_freezes))]
+#[tactic(auto, using(arrow_entry::proofs::CallerLemmas::seen_reads, arrow_entry::proofs::CallerLemmas::seen_freezes))]
 pub fn frozen<T: NativeType, O: Offset>(
     taken: Option<Entry<T, O>>,
 ) -> (Option<Entry<T, O>>, Reply<T>)
@@ -51,19 +85,19 @@ pub fn frozen<T: NativeType, O: Offset>(
             Ok(array) => (Some(Entry::Boolean(array)), Reply::Done),
             Err(_) => (None, Reply::Refused(Error::OutOfMemory)),
         },
-        Some(Entry::MutableBinary(builder)) => match builder.freeze() {
+        Some(Entry::MutableBinary(builder)) => match frozen_items(builder) {
             Ok(array) => (Some(Entry::Binary(array)), Reply::Done),
             Err(_) => (None, Reply::Refused(Error::OutOfMemory)),
         },
-        Some(Entry::MutableUtf8(builder)) => match builder.freeze() {
+        Some(Entry::MutableUtf8(builder)) => match frozen_items(builder) {
             Ok(array) => (Some(Entry::Utf8(array)), Reply::Done),
             Err(_) => (None, Reply::Refused(Error::OutOfMemory)),
         },
-        Some(Entry::BinaryValues(builder)) => match builder.freeze() {
+        Some(Entry::BinaryValues(builder)) => match frozen_values(builder) {
             Ok(array) => (Some(Entry::Binary(array)), Reply::Done),
             Err(_) => (None, Reply::Refused(Error::OutOfMemory)),
         },
-        Some(Entry::Utf8Values(builder)) => match builder.freeze() {
+        Some(Entry::Utf8Values(builder)) => match frozen_values(builder) {
             Ok(array) => (Some(Entry::Utf8(array)), Reply::Done),
             Err(_) => (None, Reply::Refused(Error::OutOfMemory)),
         },
@@ -91,7 +125,7 @@ impl<T: NativeType, O: Offset> EntryRow<T, O> for Freeze {
 }
 
 /// What becomes of what was in an entry that is to be a builder, and the answer.
-#[tactic(auto, using(arrow_entry::proofs::Seen::seen_reads, arrow_entry::proofs::Rules::seen_thaws))]
+#[tactic(auto, using(arrow_entry::proofs::CallerLemmas::seen_reads, arrow_entry::proofs::CallerLemmas::seen_thaws))]
 fn thawed<T: NativeType, O: Offset>(taken: Option<Entry<T, O>>) -> (Option<Entry<T, O>>, Reply<T>)
     ensures { Does_to (types T.zero T.PRIMITIVE O.most O.IS_LARGE) is_frozen ask.thaw (option_map value_of taken) (told result.1) (option_map value_of result.0) }
 {

@@ -4,7 +4,7 @@ use Rattle.arrow_entry.specs.Entry.{boolean_value, native_value, types, value_of
 use Rattle.arrow_entry.specs.Item.{stored_slot}
 use Rattle.arrow_entry.specs.Kind.{with_nulls}
 use Rattle.arrow_entry.specs.Request.{extend}
-use Rattle.arrow_rows.proofs.Grown.{nullable-row}
+use Rattle.arrow_rows.proofs.CallerLemmas.{nullable-row}
 use Rattle.arrow_finding.proofs.extended.ExtendEntryRow.run.Goals as goal
 
 pub returns-in-Some-MutablePrimitive : goal.returns-in-Some-MutablePrimitive
