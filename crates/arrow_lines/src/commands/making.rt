@@ -1,4 +1,6 @@
 //! The lines that make a value in an empty entry.
+#![tactic(auto, unfolding(crate::specs::Lines::making, crate::specs::Lines::request_behind))]
+
 ghost use Rattle.std.specs.Prelude.{◌≡◌, false, is_some, option_map, pos, IfOk};
 ghost use Rattle.arrow_types.specs.Types.{logical_type};
 ghost use Rattle.arrow_types.specs.declared.primitive_type.PrimitiveType.TheVariants.{Int64};
@@ -17,7 +19,8 @@ use arrow_table::{Bits, Command, Item, Kind, Parts, Raw};
 use arrow_types::data_type::DataType;
 use arrow_types::offset::Offset;
 use arrow_words::fields::first_kind;
-use arrow_words::readers::{Only, Words};
+use arrow_words::readers::{Only, Words, next};
+use std::alloc::Global;
 
 /// The type of a kind's values unless another is given.
 fn default_type<O: Offset>(kind: Kind) -> DataType
@@ -137,6 +140,7 @@ type PiecesWords<O> = (DataType, (Option<Bits>, (Vec<u8>, Starts<O>)));
 
 /// Puts what raw native values make.
 fn native_parts<O: Width>(
+    alloc: Global,
     answering: &mut Answering,
     entry: usize,
     kind: Kind,
@@ -144,7 +148,7 @@ fn native_parts<O: Width>(
 ) -> Answered
     ensures { IfOk result (AnswersAsked (option_map O.side (parts_of O.offset entry (shape kind) native (words_of words.now))) answering.old answering.new) }
 {
-    match <NativeWords>::of_words(*answering.text.allocator(), words)? {
+    match <(DataType, (Option<Bits>, Vec<i64>))>::of_words(alloc, words)? {
         Some((data_type, (mask, values))) => {
             let raw = Raw::Values(values);
             O::parts(
@@ -164,6 +168,7 @@ fn native_parts<O: Width>(
 
 /// Puts what raw truth values make.
 fn boolean_parts<O: Width>(
+    alloc: Global,
     answering: &mut Answering,
     entry: usize,
     kind: Kind,
@@ -171,7 +176,7 @@ fn boolean_parts<O: Width>(
 ) -> Answered
     ensures { IfOk result (AnswersAsked (option_map O.side (parts_of O.offset entry (shape kind) boolean (words_of words.now))) answering.old answering.new) }
 {
-    match <BooleanWords>::of_words(*answering.text.allocator(), words)? {
+    match <(DataType, (Option<Bits>, Only<Bits>))>::of_words(alloc, words)? {
         Some((data_type, (mask, Only(bits)))) => {
             let raw = Raw::Bits(bits);
             O::parts(
@@ -191,6 +196,7 @@ fn boolean_parts<O: Width>(
 
 /// Puts what raw bytes and offsets make.
 fn pieces_parts<O: Width>(
+    alloc: Global,
     answering: &mut Answering,
     entry: usize,
     kind: Kind,
@@ -198,26 +204,34 @@ fn pieces_parts<O: Width>(
 ) -> Answered
     ensures { IfOk result (AnswersAsked (option_map O.side (parts_of O.offset entry (shape kind) (pieces false) (words_of words.now))) answering.old answering.new) }
 {
-    match <PiecesWords<O>>::of_words(*answering.text.allocator(), words)? {
-        Some((data_type, (mask, (bytes, Starts(starts))))) => {
-            let raw = Raw::Pieces(starts, bytes);
-            O::parts(
-                answering,
-                entry,
-                Parts {
-                    kind,
-                    data_type,
-                    raw,
-                    mask,
-                },
-            )
-        }
-        None => Ok(false),
-    }
+    let Some((data_type, words)) = next::<DataType>(alloc, words)? else {
+        return Ok(false);
+    };
+    let Some((mask, words)) = next::<Option<Bits>>(alloc, words)? else {
+        return Ok(false);
+    };
+    let Some((bytes, words)) = next::<Vec<u8>>(alloc, words)? else {
+        return Ok(false);
+    };
+    let Some(Starts(starts)) = <Starts<O>>::of_words(alloc, words)? else {
+        return Ok(false);
+    };
+    let raw = Raw::Pieces(starts, bytes);
+    O::parts(
+        answering,
+        entry,
+        Parts {
+            kind,
+            data_type,
+            raw,
+            mask,
+        },
+    )
 }
 
 /// Puts what raw parts of a kind make.
 fn parts_by_kind<O: Width>(
+    alloc: Global,
     answering: &mut Answering,
     entry: usize,
     kind: Kind,
@@ -226,16 +240,16 @@ fn parts_by_kind<O: Width>(
     ensures { IfOk result (AnswersAsked (option_map O.side (parts_of O.offset entry (shape kind) (shape kind).sort (words_of words.now))) answering.old answering.new) }
 {
     match kind {
-        Kind::Primitive => native_parts::<O>(answering, entry, kind, words),
-        Kind::Boolean => boolean_parts::<O>(answering, entry, kind, words),
-        Kind::Binary => pieces_parts::<O>(answering, entry, kind, words),
-        Kind::Utf8 => pieces_parts::<O>(answering, entry, kind, words),
-        Kind::MutablePrimitive => native_parts::<O>(answering, entry, kind, words),
-        Kind::MutableBoolean => boolean_parts::<O>(answering, entry, kind, words),
-        Kind::MutableBinary => pieces_parts::<O>(answering, entry, kind, words),
-        Kind::MutableUtf8 => pieces_parts::<O>(answering, entry, kind, words),
-        Kind::BinaryValues => pieces_parts::<O>(answering, entry, kind, words),
-        Kind::Utf8Values => pieces_parts::<O>(answering, entry, kind, words),
+        Kind::Primitive => native_parts::<O>(alloc, answering, entry, kind, words),
+        Kind::Boolean => boolean_parts::<O>(alloc, answering, entry, kind, words),
+        Kind::Binary => pieces_parts::<O>(alloc, answering, entry, kind, words),
+        Kind::Utf8 => pieces_parts::<O>(alloc, answering, entry, kind, words),
+        Kind::MutablePrimitive => native_parts::<O>(alloc, answering, entry, kind, words),
+        Kind::MutableBoolean => boolean_parts::<O>(alloc, answering, entry, kind, words),
+        Kind::MutableBinary => pieces_parts::<O>(alloc, answering, entry, kind, words),
+        Kind::MutableUtf8 => pieces_parts::<O>(alloc, answering, entry, kind, words),
+        Kind::BinaryValues => pieces_parts::<O>(alloc, answering, entry, kind, words),
+        Kind::Utf8Values => pieces_parts::<O>(alloc, answering, entry, kind, words),
     }
 }
 
@@ -274,7 +288,13 @@ impl<O: Width> Line<O> for PartsLine {
 
     fn run(answering: &mut Answering, entry: usize, words: &[u8]) -> Answered {
         match first_kind(words) {
-            Some((kind, words)) => parts_by_kind::<O>(answering, entry, kind, words),
+            Some((kind, words)) => parts_by_kind::<O>(
+                *answering.text.allocator(),
+                answering,
+                entry,
+                kind,
+                words,
+            ),
             None => Ok(false),
         }
     }
