@@ -6,7 +6,8 @@ use arrow_byte_array::{ByteArray, MutableByteArray, MutableByteValuesArray};
 use arrow_bytes::Binary;
 use arrow_check::values_iter::ArrayValuesIter;
 
-/// An array of lists of bytes, each of which may be null. A null slot may have bytes too. Bytes may lie before the first
+/// An array of lists of bytes, each of which may be null. A null slot may have bytes too. Bytes may lie before the
+/// first
 /// slot, and behind the last.
 ///
 /// Parts are refused (`try_new`) where the last offset is past the values; or else where a mask has another number of
@@ -17,7 +18,8 @@ pub type BinaryArray<O> = ByteArray<Binary, O>;
 /// behind the last.
 ///
 /// Parts are refused (`try_new`) where the last offset is another than the number of values; or else where the type's
-/// physical type is not Binary, or LargeBinary over large offsets; or else where a mask has another number of marks than
+/// physical type is not Binary, or LargeBinary over large offsets; or else where a mask has another number of marks
+/// than
 /// there are slots.
 pub type MutableBinaryArray<O> = MutableByteArray<Binary, O>;
 

@@ -16,12 +16,15 @@ wrong_type = out_of_spec (codes "BooleanArray can only be initialized with a Dat
 
 -- the refusal of a builder's type of another physical type
 abbrev pub wrong_builder_type : Refusal
-wrong_builder_type = out_of_spec (codes "MutableBooleanArray can only be initialized with a DataType whose physical type is Boolean")
+wrong_builder_type = out_of_spec
+    (codes "MutableBooleanArray can only be initialized with a DataType whose physical type is Boolean")
 
 -- the tests of an array's parts, in order: a mask has a mark for each value, and the type's physical type is Boolean
 abbrev pub array_tests : LogicalType → List Bool → Option (List Bool) → Tests
-array_tests t values mask = test (FitsMask values mask) unfit_mask (test (IsRightType physical.Boolean t) wrong_type accept)
+array_tests t values mask =
+    test (FitsMask values mask) unfit_mask (test (IsRightType physical.Boolean t) wrong_type accept)
 
 -- the tests of a builder's parts, in order: the same, of which the last is refused in other words
 abbrev pub builder_tests : LogicalType → List Bool → Option (List Bool) → Tests
-builder_tests t values mask = test (FitsMask values mask) unfit_mask (test (IsRightType physical.Boolean t) wrong_builder_type accept)
+builder_tests t values mask =
+    test (FitsMask values mask) unfit_mask (test (IsRightType physical.Boolean t) wrong_builder_type accept)

@@ -1,9 +1,11 @@
 //! Arrays of truth values.
 ghost use Rattle.std.specs.Prelude.{◌≡◌, ◌<◌, length, not, count_by, slice_get, Some, IfOk, IfErr};
 ghost use Rattle.std.specs.Option.{option_copied};
+ghost use Rattle.arrow_types.specs.Failures.{OnlyOutOfMemory};
 ghost use Rattle.arrow_types.specs.Types.{logical_type, IsRightType};
 ghost use Rattle.arrow_memory.specs.Rows.{FitsMask};
-ghost use Rattle.arrow_column.specs.Column.{FitsCut, IsColumn, column_of_parts, cut, empty_column, mask_of, marks_of, slots_of, stored_values};
+ghost use Rattle.arrow_column.specs.Column.{FitsCut, IsColumn, column_of_parts, cut, empty_column, mask_of};
+ghost use Rattle.arrow_column.specs.Column.{marks_of, slots_of, stored_values};
 
 use arrow_column::FrozenColumn;
 use arrow_memory::bitmap::Bitmap;
@@ -13,7 +15,7 @@ use arrow_types::physical_type::PhysicalType;
 use std::alloc::Global;
 use std::marker::Model;
 
-/// An array of truth values, each of which may be null. A null slot stores a value too.
+/// An immutable array of truth values, each of which may be null. A null slot stores a value too.
 #[derive(Drop)]
 pub struct BooleanArray {
     pub(crate) column: FrozenColumn<Bitmap>,
@@ -34,8 +36,8 @@ impl Model for BooleanArray {
 }
 
 impl BooleanArray {
-    /// The array of such parts, which have to fit: a mask has a mark for each value, and the type is one of the
-    /// array's physical type.
+    /// Creates an array from parts that fit: a mask has a mark for each value, and the data type
+    /// has the array's physical type. [`BooleanArray::try_new`] checks them.
     pub fn new(data_type: DataType, values: Bitmap, validity: Option<Bitmap>) -> Self
         requires mask { FitsMask values validity }
         requires right { IsRightType PhysicalType.Boolean (logical_type data_type) }
@@ -46,19 +48,20 @@ impl BooleanArray {
         }
     }
 
-    /// No slot, and no mask. The type has to be one of the array's physical type.
+    /// Creates an array of no slots, without a mask. The data type must have the array's physical
+    /// type.
     ///
     /// # Errors
-    /// `OutOfMemory` where memory is refused.
+    /// `OutOfMemory` if an allocation fails.
     pub fn new_empty(alloc: Global, data_type: DataType) -> Result<Self, Error>
         requires { IsRightType PhysicalType.Boolean (logical_type data_type) }
         ensures ok { IfOk result (λ array. array ≡ empty_column (logical_type data_type)) }
-        ensures err { IfErr result (λ e. e ≡ Error.OutOfMemory) }
+        ensures err { OnlyOutOfMemory result }
     {
         Ok(BooleanArray::new(data_type, Bitmap::new(alloc)?, None))
     }
 
-    /// The data type, the stored values, and the mask where one is held.
+    /// Returns the data type, the stored values, and the mask if one is held.
     pub fn into_inner(self) -> (DataType, Bitmap, Option<Bitmap>)
         ensures data_type { logical_type result.0 ≡ self.data_type }
         ensures values { result.1 ≡ stored_values self }
@@ -71,7 +74,7 @@ impl BooleanArray {
         self.column.into_inner()
     }
 
-    /// The number of slots.
+    /// Returns the number of slots.
     #[inline(always)]
     pub fn len(&self) -> usize
         ensures { result ≡ length self.now.rows }
@@ -79,7 +82,7 @@ impl BooleanArray {
         self.column.len()
     }
 
-    /// The value that is stored at a place, also where the slot is null.
+    /// Returns the value stored at `i`, also if the slot is null.
     #[inline(always)]
     pub fn value(&self, i: usize) -> bool
         requires { i < length self.now.rows }
@@ -88,7 +91,7 @@ impl BooleanArray {
         self.column.values().get_bit(i)
     }
 
-    /// The slot at a place: its value, or `None` where it is null.
+    /// Returns the slot at `i`: its value, or `None` if it is null.
     #[inline(always)]
     pub fn get(&self, i: usize) -> Option<bool>
         requires { i < length self.now.rows }
@@ -100,7 +103,7 @@ impl BooleanArray {
         Some(self.value(i))
     }
 
-    /// Whether the slot at a place is null.
+    /// Returns whether the slot at `i` is null.
     #[inline(always)]
     pub fn is_null(&self, i: usize) -> bool
         requires { i < length self.now.rows }
@@ -109,7 +112,7 @@ impl BooleanArray {
         self.column.is_null(i)
     }
 
-    /// Whether the slot at a place is valid, which is not null.
+    /// Returns whether the slot at `i` is valid, that is, not null.
     #[inline(always)]
     pub fn is_valid(&self, i: usize) -> bool
         requires { i < length self.now.rows }
@@ -118,7 +121,7 @@ impl BooleanArray {
         !self.is_null(i)
     }
 
-    /// The number of null slots.
+    /// Returns the number of null slots, in constant time.
     #[inline(always)]
     pub fn null_count(&self) -> usize
         ensures { result ≡ count_by not (marks_of self.now) }
@@ -126,7 +129,7 @@ impl BooleanArray {
         self.column.null_count()
     }
 
-    /// The stored values, those of null slots too.
+    /// Returns the stored values, those of null slots included.
     #[inline(always)]
     pub fn values(&self) -> &Bitmap
         ensures { result.now ≡ stored_values self.now }
@@ -134,7 +137,7 @@ impl BooleanArray {
         self.column.values()
     }
 
-    /// The mask, where one is held; else no slot is null.
+    /// Returns the mask if one is held; otherwise no slot is null.
     #[inline(always)]
     pub fn validity(&self) -> Option<&Bitmap>
         ensures mask { option_copied result ≡ mask_of self.now }
@@ -143,7 +146,7 @@ impl BooleanArray {
         self.column.validity()
     }
 
-    /// The data type.
+    /// Returns the data type.
     #[inline(always)]
     pub fn data_type(&self) -> &DataType
         ensures value { logical_type result.now ≡ self.now.data_type }
@@ -152,7 +155,7 @@ impl BooleanArray {
         self.column.data_type()
     }
 
-    /// Keeps only the `len` slots from `offset` on. A held mask stays held.
+    /// Keeps only the `len` slots from `offset` on, without copying any. A held mask stays held.
     pub fn slice(&mut self, offset: usize, len: usize)
         requires { FitsCut self.old offset len }
         ensures { self.new ≡ cut self.old offset len }
@@ -160,7 +163,7 @@ impl BooleanArray {
         self.column.slice(offset, len);
     }
 
-    /// The `len` slots from `offset` on. A held mask stays held.
+    /// Returns the `len` slots from `offset` on, without copying any. A held mask stays held.
     pub fn sliced(mut self, offset: usize, len: usize) -> Self
         requires { FitsCut self offset len }
         ensures { result ≡ cut self offset len }
@@ -169,13 +172,13 @@ impl BooleanArray {
         self
     }
 
-    /// The same array once more. Neither values nor marks are copied.
+    /// Returns a clone that shares values and marks.
     ///
     /// # Errors
-    /// `OutOfMemory` where memory is refused.
+    /// `OutOfMemory` if an allocation fails.
     pub fn clone(&self) -> Result<Self, Error>
         ensures ok { IfOk result (λ copy. copy ≡ self.now) }
-        ensures err { IfErr result (λ e. e ≡ Error.OutOfMemory) }
+        ensures err { OnlyOutOfMemory result }
     {
         Ok(BooleanArray {
             column: self.column.clone()?,

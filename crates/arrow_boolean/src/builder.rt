@@ -1,8 +1,10 @@
-//! The builder of arrays of truth values.
+//! Builders of arrays of truth values.
 ghost use Rattle.std.specs.Prelude.{◌≡◌, ◌<◌, length, false, None, OnOk, IfOk, IfErr, IsOk};
 ghost use Rattle.std.specs.Option.{option_copied};
+ghost use Rattle.arrow_types.specs.Failures.{OnlyOutOfMemory, OutOfMemoryKeeps};
 ghost use Rattle.arrow_types.specs.Types.{logical_type, IsRightType};
-ghost use Rattle.arrow_column.specs.Column.{IsColumn, append_slot, empty_column, last_slot, mask_of, stored_values, with_slot, without_last};
+ghost use Rattle.arrow_column.specs.Column.{IsColumn, append_slot, empty_column, last_slot, mask_of, stored_values};
+ghost use Rattle.arrow_column.specs.Column.{with_slot, without_last};
 ghost use Rattle.arrow_boolean.specs.Fits.{boolean_type};
 
 use crate::BooleanArray;
@@ -14,7 +16,7 @@ use arrow_types::physical_type::PhysicalType;
 use std::alloc::Global;
 use std::marker::Model;
 
-/// A list of truth values, each of which may be null, that can be changed and grow.
+/// A growing array of truth values, each of which may be null: the builder of [`BooleanArray`].
 #[derive(Drop)]
 pub struct MutableBooleanArray {
     pub(crate) column: GrowingColumn<MutableBitmap>,
@@ -35,7 +37,7 @@ impl Model for MutableBooleanArray {
 }
 
 impl MutableBooleanArray {
-    /// No slot, and no mask; the data type is Boolean.
+    /// Creates a builder of no slots, without a mask, of data type `Boolean`. Does not allocate.
     #[inline(always)]
     pub fn new(alloc: Global) -> Self
         ensures { result ≡ empty_column boolean_type }
@@ -43,25 +45,25 @@ impl MutableBooleanArray {
         MutableBooleanArray::from_values(MutableBitmap::new(alloc))
     }
 
-    /// No slot, and no mask; the data type is Boolean.
+    /// Creates a builder of no slots, as [`MutableBooleanArray::new`].
     pub fn default(alloc: Global) -> Self
         ensures { result ≡ empty_column boolean_type }
     {
         MutableBooleanArray::new(alloc)
     }
 
-    /// No slot and no mask, with room for so many slots.
+    /// Creates a builder of no slots, without a mask, with room for at least `capacity` slots.
     ///
     /// # Errors
-    /// `OutOfMemory` where memory is refused.
+    /// `OutOfMemory` if an allocation fails.
     pub fn with_capacity(alloc: Global, capacity: usize) -> Result<Self, Error>
         ensures ok { IfOk result (λ builder. builder ≡ empty_column boolean_type) }
-        ensures err { IfErr result (λ e. e ≡ Error.OutOfMemory) }
+        ensures err { OnlyOutOfMemory result }
     {
         Ok(MutableBooleanArray::from_values(MutableBitmap::with_capacity(alloc, capacity)?))
     }
 
-    /// The number of slots.
+    /// Returns the number of slots.
     #[inline(always)]
     pub fn len(&self) -> usize
         ensures { result ≡ length self.now.rows }
@@ -69,7 +71,7 @@ impl MutableBooleanArray {
         self.column.len()
     }
 
-    /// The stored values, those of null slots too.
+    /// Returns the stored values, those of null slots included.
     #[inline(always)]
     pub fn values(&self) -> &MutableBitmap
         ensures { result.now ≡ stored_values self.now }
@@ -77,7 +79,7 @@ impl MutableBooleanArray {
         self.column.values()
     }
 
-    /// The mask, where one is held; else no slot is null.
+    /// Returns the mask if one is held; otherwise no slot is null.
     #[inline(always)]
     pub fn validity(&self) -> Option<&MutableBitmap>
         ensures mask { option_copied result ≡ mask_of self.now }
@@ -86,7 +88,7 @@ impl MutableBooleanArray {
         self.column.validity()
     }
 
-    /// The data type.
+    /// Returns the data type.
     #[inline(always)]
     pub fn data_type(&self) -> &DataType
         ensures value { logical_type result.now ≡ self.now.data_type }
@@ -95,14 +97,14 @@ impl MutableBooleanArray {
         self.column.data_type()
     }
 
-    /// Appends a slot. A null stores false, and a mask is held from then on.
+    /// Appends a slot. A null stores false, and the builder holds a mask from then on.
     ///
     /// # Errors
-    /// `OutOfMemory` where a growth is refused; the builder is then as before.
+    /// `OutOfMemory` if an allocation fails; the builder is then unchanged.
     #[inline(always)]
     pub fn push(&mut self, value: Option<bool>) -> Result<(), Error>
         ensures ok { OnOk result (self.new ≡ append_slot false self.old value) }
-        ensures err { IfErr result (λ e. (e ≡ Error.OutOfMemory) × (self.new ≡ self.old)) }
+        ensures err { OutOfMemoryKeeps result self.old self.new }
     {
         match value {
             Some(value) => self.column.push_valid(value),
@@ -110,14 +112,14 @@ impl MutableBooleanArray {
         }
     }
 
-    /// Appends a slot, as `push` does.
+    /// Appends a slot, as [`MutableBooleanArray::push`].
     ///
     /// # Errors
-    /// `OutOfMemory` where a growth is refused; the builder is then as before.
+    /// As `push`.
     #[inline(always)]
     pub fn try_push(&mut self, value: Option<bool>) -> Result<(), Error>
         ensures ok { OnOk result (self.new ≡ append_slot false self.old value) }
-        ensures err { IfErr result (λ e. (e ≡ Error.OutOfMemory) × (self.new ≡ self.old)) }
+        ensures err { OutOfMemoryKeeps result self.old self.new }
     {
         self.push(value)
     }
@@ -125,16 +127,16 @@ impl MutableBooleanArray {
     /// Appends a null.
     ///
     /// # Errors
-    /// `OutOfMemory` where a growth is refused; the builder is then as before.
+    /// `OutOfMemory` if an allocation fails; the builder is then unchanged.
     #[inline(always)]
     pub fn push_null(&mut self) -> Result<(), Error>
         ensures ok { OnOk result (self.new ≡ append_slot false self.old None) }
-        ensures err { IfErr result (λ e. (e ≡ Error.OutOfMemory) × (self.new ≡ self.old)) }
+        ensures err { OutOfMemoryKeeps result self.old self.new }
     {
         self.column.push_null()
     }
 
-    /// Removes the last slot and answers it; `None` where it is null, and where there is none.
+    /// Removes the last slot and returns it; `None` if it is null or there is none.
     #[inline(always)]
     pub fn pop(&mut self) -> Option<bool>
         ensures slot { result ≡ last_slot self.old }
@@ -145,31 +147,31 @@ impl MutableBooleanArray {
         self.column.remove_last().then_some(value)
     }
 
-    /// Replaces the slot at a place. A null stores false, and a mask is held from then on.
+    /// Replaces the slot at `i`. A null stores false, and the builder holds a mask from then on.
     ///
     /// # Errors
-    /// `OutOfMemory` where a mask's memory is refused; the builder is then as before.
+    /// `OutOfMemory` if an allocation for the mask fails; the builder is then unchanged.
     #[inline(always)]
     pub fn set(&mut self, i: usize, value: Option<bool>) -> Result<(), Error>
         requires { i < length self.old.rows }
         ensures ok { OnOk result (self.new ≡ with_slot false self.old i value) }
-        ensures err { IfErr result (λ e. (e ≡ Error.OutOfMemory) × (self.new ≡ self.old)) }
+        ensures err { OutOfMemoryKeeps result self.old self.new }
     {
         self.column.set(i, value)
     }
 
-    /// Makes room for so many slots more, in a held mask too.
+    /// Reserves room for at least `additional` more slots, in a held mask too.
     ///
     /// # Errors
-    /// `OutOfMemory` where a growth is refused.
+    /// `OutOfMemory` if an allocation fails.
     pub fn reserve(&mut self, additional: usize) -> Result<(), Error>
         ensures kept { self.new ≡ self.old }
-        ensures err { IfErr result (λ e. e ≡ Error.OutOfMemory) }
+        ensures err { OnlyOutOfMemory result }
     {
         self.column.reserve(additional)
     }
 
-    /// Gives back the room that is not used.
+    /// Gives unused room back to the allocator, if it takes it.
     ///
     /// # Errors
     /// Never: if the allocator refuses a smaller allocation, the room stays.
@@ -180,26 +182,27 @@ impl MutableBooleanArray {
         self.column.shrink_to_fit()
     }
 
-    /// A copy of the builder.
+    /// Returns a copy.
     ///
     /// # Errors
-    /// `OutOfMemory` where memory is refused.
+    /// `OutOfMemory` if an allocation fails.
     pub fn clone(&self) -> Result<Self, Error>
         ensures ok { IfOk result (λ copy. copy ≡ self.now) }
-        ensures err { IfErr result (λ e. e ≡ Error.OutOfMemory) }
+        ensures err { OnlyOutOfMemory result }
     {
         Ok(MutableBooleanArray {
             column: self.column.clone()?,
         })
     }
 
-    /// The array of the same slots, which holds a mask where the builder does, also where no slot is null.
+    /// Converts the builder into an array of the same slots, which holds a mask exactly if the
+    /// builder does, even if no slot is null.
     ///
     /// # Errors
-    /// `OutOfMemory` where a growth is refused; the builder is then lost.
+    /// `OutOfMemory` if an allocation fails; the builder is then dropped.
     pub fn freeze(self) -> Result<BooleanArray, Error>
         ensures ok { IfOk result (λ array. array ≡ self) }
-        ensures err { IfErr result (λ e. e ≡ Error.OutOfMemory) }
+        ensures err { OnlyOutOfMemory result }
     {
         let (data_type, values, validity) = self.column.freeze_whole_mask()?;
         Ok(BooleanArray::new(data_type, values.freeze()?, validity))

@@ -1,6 +1,7 @@
-//! Arrays whose values or masks are replaced, and arrays that are thawed.
+//! Replacement of values and masks, and thawing of arrays.
 ghost use Rattle.std.specs.Prelude.{◌≡◌, List, Bool, Some, length, IfSome, MatchOption, OnOk, IfOk, IfErr};
 ghost use Rattle.either.specs.Either.{MatchEither};
+ghost use Rattle.arrow_types.specs.Failures.{OnlyOutOfMemory, OutOfMemoryKeeps};
 ghost use Rattle.arrow_column.specs.Column.{mask_of, stored_values, with_mask, with_stored};
 
 use crate::{BooleanArray, MutableBooleanArray};
@@ -9,7 +10,7 @@ use arrow_types::error::Error;
 use either::{Either, Left, Right};
 
 impl BooleanArray {
-    /// Replaces the mask, which has a mark for each slot; without one every slot is valid.
+    /// Replaces the mask, which must have a mark for each slot; without one every slot is valid.
     pub fn set_validity(&mut self, validity: Option<Bitmap>)
         requires { IfSome validity (λ marks. length marks ≡ length self.old.rows) }
         ensures { self.new ≡ with_mask self.old validity }
@@ -17,7 +18,8 @@ impl BooleanArray {
         self.column.set_validity(validity);
     }
 
-    /// The same stored values under another mask, which has a mark for each slot; without one every slot is valid.
+    /// Returns the same stored values under another mask, which must have a mark for each slot;
+    /// without one every slot is valid.
     pub fn with_validity(mut self, validity: Option<Bitmap>) -> Self
         requires { IfSome validity (λ marks. length marks ≡ length self.rows) }
         ensures { result ≡ with_mask self validity }
@@ -26,16 +28,20 @@ impl BooleanArray {
         self
     }
 
-    /// Replaces a held mask by what the closure makes of it, as many marks; without a mask nothing is done.
+    /// Replaces a held mask by what the closure returns for it, which must have equally many marks.
+    /// Does nothing if no mask is held.
     pub fn apply_validity<F: FnOnce(Bitmap) -> Bitmap + Drop>(&mut self, change: F)
         requires callable { IfSome (mask_of self.old) (λ marks. F.pre change marks) }
-        requires keeps { IfSome (mask_of self.old) (λ marks. (changed : List Bool) → F.post change marks changed → length changed ≡ length marks) }
-        ensures { MatchOption (mask_of self.old) (self.new ≡ self.old) (λ marks. (changed : List Bool) × F.post change marks changed × (length changed ≡ length marks) × (self.new ≡ with_mask self.old (Some changed))) }
+        requires keeps { IfSome (mask_of self.old) (λ marks. (changed : List Bool) → F.post change marks changed
+            → length changed ≡ length marks) }
+        ensures { MatchOption (mask_of self.old) (self.new ≡ self.old) (λ marks. (changed : List Bool)
+            × F.post change marks changed × (length changed ≡ length marks)
+            × (self.new ≡ with_mask self.old (Some changed))) }
     {
         self.column.apply_validity(change);
     }
 
-    /// Replaces the stored values by as many others. The marks stay.
+    /// Replaces the stored values by equally many others. The marks stay.
     pub fn set_values(&mut self, values: Bitmap)
         requires { length values ≡ length self.old.rows }
         ensures { self.new ≡ with_stored self.old values }
@@ -43,39 +49,44 @@ impl BooleanArray {
         self.column.set_values(values);
     }
 
-    /// As many other stored values under the same marks, which are not copied. The array stays.
+    /// Returns equally many other stored values under the same marks, which are shared. The array
+    /// stays.
     ///
     /// # Errors
-    /// `OutOfMemory` where memory is refused; the values are then lost.
+    /// `OutOfMemory` if an allocation fails; the values are then dropped.
     pub fn with_values(&self, values: Bitmap) -> Result<Self, Error>
         requires { length values ≡ length self.now.rows }
         ensures ok { IfOk result (λ array. array ≡ with_stored self.now values) }
-        ensures err { IfErr result (λ e. e ≡ Error.OutOfMemory) }
+        ensures err { OnlyOutOfMemory result }
     {
         let mut array = self.clone()?;
         array.set_values(values);
         Ok(array)
     }
 
-    /// Replaces the stored values by what the closure makes of them, as many, of a copy where someone else has them.
-    /// The marks stay. All memory is taken before the closure is called.
+    /// Replaces the stored values by what the closure returns for them, which must be equally many.
+    /// Shared values are copied first. The marks stay. All memory is allocated before the closure
+    /// is called.
     ///
     /// # Errors
-    /// `OutOfMemory` where memory is refused; the closure is then not called, and the array is as before.
+    /// `OutOfMemory` if an allocation fails; the closure is then not called and the array is
+    /// unchanged.
     pub fn apply_values_mut<F: Fn(MutableBitmap) -> MutableBitmap>(
         &mut self,
         change: F,
     ) -> Result<(), Error>
         requires callable { F.pre change (stored_values self.old) }
-        requires keeps { (changed : List Bool) → F.post change (stored_values self.old) changed → length changed ≡ length self.old.rows }
-        ensures ok { OnOk result ((changed : List Bool) × F.post change (stored_values self.old) changed × (length changed ≡ length self.old.rows) × (self.new ≡ with_stored self.old changed)) }
-        ensures err { IfErr result (λ e. (e ≡ Error.OutOfMemory) × (self.new ≡ self.old)) }
+        requires keeps { (changed : List Bool) → F.post change (stored_values self.old) changed
+            → length changed ≡ length self.old.rows }
+        ensures ok { OnOk result ((changed : List Bool) × F.post change (stored_values self.old) changed
+            × (length changed ≡ length self.old.rows) × (self.new ≡ with_stored self.old changed)) }
+        ensures err { OutOfMemoryKeeps result self.old self.new }
     {
         self.column.apply_values_mut(change)
     }
 
-    /// The builder of the same slots, where no one else has the values or the mask and both are shown from the
-    /// first on; else the array as it is.
+    /// Converts the array into a builder without copying it, if neither values nor mask are shared
+    /// and both begin at their first bit. Otherwise returns the array unchanged.
     pub fn into_mut(self) -> Either<Self, MutableBooleanArray>
         ensures { MatchEither result (λ array. array ≡ self) (λ builder. builder ≡ self) }
     {

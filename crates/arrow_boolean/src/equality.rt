@@ -1,4 +1,4 @@
-//! Equality of builders of truth values, which compares slots alone.
+//! Equality of builders, which compares slots alone.
 ghost use Rattle.std.specs.Prelude.{◌≡◌, ◌↔◌, IsTrue};
 ghost use Rattle.std.specs.Bool.{beq};
 ghost use Rattle.arrow_column.specs.Column.{slots_of};
@@ -14,9 +14,11 @@ impl PartialEq for MutableBooleanArray {
 
     ghost eq = { λ first second. same_slots beq (slots_of first) (slots_of second) };
 
-    ghost laws = { on_per slots_of (partial_equiv_from_equiv (decided (same_slots beq) (same_slots-Decides beq booleans_Decides))) };
+    ghost laws = { on_per slots_of
+        (partial_equiv_from_equiv (decided (same_slots beq) (same_slots-Decides beq booleans_Decides))) };
 
-    /// Whether both have the same slots. Types, held masks and values under nulls are not compared.
+    /// Returns whether both have the same slots. Data types, held masks and values under nulls are
+    /// not compared.
     fn eq(&self, other: &Self) -> bool
         ensures value { result ≡ same_slots beq (slots_of self.now) (slots_of other.now) }
         ensures decides { IsTrue result ↔ slots_of self.now ≡ slots_of other.now }

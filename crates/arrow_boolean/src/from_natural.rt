@@ -1,6 +1,7 @@
 //! Arrays and builders made of values or of slots.
 ghost use Rattle.std.specs.Prelude.{◌≡◌, List, Bool, Option, Some, None, false, replicate, IfOk, IfErr};
 ghost use Rattle.std.specs.Iterator.{Drains, IsFinite};
+ghost use Rattle.arrow_types.specs.Failures.{OnlyOutOfMemory};
 ghost use Rattle.arrow_types.specs.Types.{logical_type, IsRightType};
 ghost use Rattle.arrow_column.specs.Column.{append_slots, column_of_parts, empty_column};
 ghost use Rattle.arrow_boolean.specs.Fits.{boolean_type};
@@ -14,7 +15,7 @@ use arrow_types::physical_type::PhysicalType;
 use std::alloc::Global;
 
 impl MutableBooleanArray {
-    /// Valid slots of these values, and no mask; the data type is Boolean.
+    /// Creates a builder of valid slots with these values, without a mask, of data type `Boolean`.
     #[inline(always)]
     pub(crate) fn from_values(values: MutableBitmap) -> Self
         ensures { result ≡ column_of_parts boolean_type values None }
@@ -24,13 +25,14 @@ impl MutableBooleanArray {
         }
     }
 
-    /// The builder of these slots, which holds a mask exactly where one is null. The data type is Boolean.
+    /// Creates a builder of these slots, which holds a mask exactly if one is null, of data type
+    /// `Boolean`.
     ///
     /// # Errors
-    /// `OutOfMemory` where memory is refused.
+    /// `OutOfMemory` if an allocation fails.
     pub fn from(alloc: Global, slots: &[Option<bool>]) -> Result<Self, Error>
         ensures ok { IfOk result (λ builder. builder ≡ append_slots false (empty_column boolean_type) slots.now) }
-        ensures err { IfErr result (λ e. e ≡ Error.OutOfMemory) }
+        ensures err { OnlyOutOfMemory result }
     {
         let mut builder = MutableBooleanArray::new(alloc);
         match builder.column.extend_from_slots(slots) {
@@ -39,19 +41,20 @@ impl MutableBooleanArray {
         }
     }
 
-    /// The builder of the slots that an iterator gives, which holds a mask exactly where one is null. The data type
-    /// is Boolean. What the iterator says of the number of slots is not trusted.
+    /// Creates a builder of the slots of an iterator, which holds a mask exactly if one is null, of
+    /// data type `Boolean`. `size_hint` is only used to reserve room.
     ///
     /// # Errors
-    /// `OutOfMemory` where memory is refused.
+    /// `OutOfMemory` if an allocation fails.
     pub fn from_iter<I: Iterator<Item = Option<bool>>>(
         alloc: Global,
         iter: I,
     ) -> Result<Self, Error>
         requires can { I.can_next iter }
         requires ends { IsFinite (I.remaining iter) }
-        ensures ok { IfOk result (λ builder. (items : List (Option Bool)) × Drains I.next_gives iter items × (builder ≡ append_slots false (empty_column boolean_type) items)) }
-        ensures err { IfErr result (λ e. e ≡ Error.OutOfMemory) }
+        ensures ok { IfOk result (λ builder. (items : List (Option Bool)) × Drains I.next_gives iter items
+            × (builder ≡ append_slots false (empty_column boolean_type) items)) }
+        ensures err { OnlyOutOfMemory result }
     {
         let mut builder = MutableBooleanArray::new(alloc);
         match builder.extend(iter) {
@@ -60,54 +63,56 @@ impl MutableBooleanArray {
         }
     }
 
-    /// Valid slots of these values, and no mask; the data type is Boolean.
+    /// Creates valid slots with the values of a slice, without a mask, of data type `Boolean`.
     ///
     /// # Errors
-    /// `OutOfMemory` where memory is refused.
+    /// `OutOfMemory` if an allocation fails.
     pub fn from_slice(alloc: Global, slice: &[bool]) -> Result<Self, Error>
         ensures ok { IfOk result (λ builder. builder ≡ column_of_parts boolean_type slice.now None) }
-        ensures err { IfErr result (λ e. e ≡ Error.OutOfMemory) }
+        ensures err { OnlyOutOfMemory result }
     {
         Ok(MutableBooleanArray::from_values(MutableBitmap::from_slice(alloc, slice)?))
     }
 }
 
 impl BooleanArray {
-    /// Valid slots of these values, and no mask; the data type is Boolean.
+    /// Creates valid slots with the values of a slice, without a mask, of data type `Boolean`.
     ///
     /// # Errors
-    /// `OutOfMemory` where memory is refused.
+    /// `OutOfMemory` if an allocation fails.
     pub fn from_slice(alloc: Global, slice: &[bool]) -> Result<Self, Error>
         ensures ok { IfOk result (λ array. array ≡ column_of_parts boolean_type slice.now None) }
-        ensures err { IfErr result (λ e. e ≡ Error.OutOfMemory) }
+        ensures err { OnlyOutOfMemory result }
     {
         Ok(BooleanArray::new(DataType::Boolean, Bitmap::from_slice(alloc, slice)?, None))
     }
 
-    /// The array of these slots, which holds a mask exactly where one is null. The data type is Boolean.
+    /// Creates an array of these slots, which holds a mask exactly if one is null, of data type
+    /// `Boolean`.
     ///
     /// # Errors
-    /// `OutOfMemory` where memory is refused.
+    /// `OutOfMemory` if an allocation fails.
     pub fn from(alloc: Global, slots: &[Option<bool>]) -> Result<Self, Error>
         ensures ok { IfOk result (λ array. array ≡ append_slots false (empty_column boolean_type) slots.now) }
-        ensures err { IfErr result (λ e. e ≡ Error.OutOfMemory) }
+        ensures err { OnlyOutOfMemory result }
     {
         MutableBooleanArray::from(alloc, slots)?.freeze()
     }
 
-    /// The array of the slots that an iterator gives, which holds a mask exactly where one is null. The data type is
-    /// Boolean. What the iterator says of the number of slots is not trusted.
+    /// Creates an array of the slots of an iterator, which holds a mask exactly if one is null, of
+    /// data type `Boolean`. `size_hint` is only used to reserve room.
     ///
     /// # Errors
-    /// `OutOfMemory` where memory is refused.
+    /// `OutOfMemory` if an allocation fails.
     pub fn from_iter<I: Iterator<Item = Option<bool>>>(
         alloc: Global,
         iter: I,
     ) -> Result<Self, Error>
         requires can { I.can_next iter }
         requires ends { IsFinite (I.remaining iter) }
-        ensures ok { IfOk result (λ array. (items : List (Option Bool)) × Drains I.next_gives iter items × (array ≡ append_slots false (empty_column boolean_type) items)) }
-        ensures err { IfErr result (λ e. e ≡ Error.OutOfMemory) }
+        ensures ok { IfOk result (λ array. (items : List (Option Bool)) × Drains I.next_gives iter items
+            × (array ≡ append_slots false (empty_column boolean_type) items)) }
+        ensures err { OnlyOutOfMemory result }
     {
         match MutableBooleanArray::from_iter(alloc, iter) {
             Ok(builder) => builder.freeze(),
@@ -115,14 +120,16 @@ impl BooleanArray {
         }
     }
 
-    /// So many null slots that store false, and a mask. The type has to be one of the array's physical type.
+    /// Creates an array of `length` null slots that store false, with a mask. The data type must
+    /// have the array's physical type.
     ///
     /// # Errors
-    /// `OutOfMemory` where memory is refused.
+    /// `OutOfMemory` if an allocation fails.
     pub fn new_null(alloc: Global, data_type: DataType, length: usize) -> Result<Self, Error>
         requires { IsRightType PhysicalType.Boolean (logical_type data_type) }
-        ensures ok { IfOk result (λ array. array ≡ column_of_parts (logical_type data_type) (replicate length false) (Some (replicate length false))) }
-        ensures err { IfErr result (λ e. e ≡ Error.OutOfMemory) }
+        ensures ok { IfOk result (λ array. array ≡ column_of_parts (logical_type data_type) (replicate length false)
+            (Some (replicate length false))) }
+        ensures err { OnlyOutOfMemory result }
     {
         let values = Bitmap::new_zeroed(alloc, length)?;
         let validity = Bitmap::new_zeroed(alloc, length)?;

@@ -1,4 +1,4 @@
-//! Iterators over arrays and builders of truth values.
+//! Iterators over arrays and builders.
 ghost use Rattle.std.specs.Prelude.{◌≡◌};
 ghost use Rattle.arrow_column.specs.Column.{slots_of, stored_values};
 
@@ -7,7 +7,7 @@ use arrow_memory::bitmap::{BitmapIntoIter, BitmapIter};
 use arrow_memory::zip_validity::ZipValidity;
 
 impl BooleanArray {
-    /// The slots in order.
+    /// Returns an iterator over the slots.
     #[inline(always)]
     pub fn iter(&self) -> ZipValidity<BitmapIter<'_>, BitmapIter<'_>>
         ensures { result ≡ slots_of self.now }
@@ -15,7 +15,7 @@ impl BooleanArray {
         ZipValidity::new(self.column.values().iter(), self.column.marks())
     }
 
-    /// The stored values in order, those of null slots too.
+    /// Returns an iterator over the stored values, those of null slots included.
     #[inline(always)]
     pub fn values_iter(&self) -> BitmapIter<'_>
         ensures { result ≡ stored_values self.now }
@@ -25,7 +25,7 @@ impl BooleanArray {
 }
 
 impl MutableBooleanArray {
-    /// The slots in order.
+    /// Returns an iterator over the slots.
     #[inline(always)]
     pub fn iter(&self) -> ZipValidity<BitmapIter<'_>, BitmapIter<'_>>
         ensures { result ≡ slots_of self.now }
@@ -33,7 +33,7 @@ impl MutableBooleanArray {
         ZipValidity::new(self.column.values().iter(), self.column.marks())
     }
 
-    /// The stored values in order, those of null slots too.
+    /// Returns an iterator over the stored values, those of null slots included.
     #[inline(always)]
     pub fn values_iter(&self) -> BitmapIter<'_>
         ensures { result ≡ stored_values self.now }

@@ -1,5 +1,5 @@
-//! Arrays of truth values, and their builder (Arrow columnar format, "Fixed-size primitive layout", of one bit a
-//! value).
+//! Arrays of truth values, and their builder (Arrow columnar format, "Fixed-size primitive layout",
+//! of one bit a value).
 #![tactic(auto)]
 
 mod array;

@@ -1,4 +1,4 @@
-//! Arrays and builders made of parts from outside, which are tested.
+//! Arrays and builders made of parts from outside, which are checked.
 ghost use Rattle.std.specs.Prelude.{◌≡◌, IfOk, IfErr};
 ghost use Rattle.arrow_types.specs.Types.{logical_type, refusal};
 ghost use Rattle.arrow_column.specs.Acceptance.{IsFirstFailure, Passes};
@@ -12,14 +12,14 @@ use arrow_types::data_type::DataType;
 use arrow_types::error::Error;
 use arrow_types::physical_type::PhysicalType;
 
-/// The text of the refusal of a mask.
+/// The text of the error about a mask.
 const UNFIT_MASK: &str = "validity mask length must match the number of values";
 
-/// The text of the refusal of an array's type.
+/// The text of the error about an array's data type.
 const WRONG_TYPE: &str =
     "BooleanArray can only be initialized with a DataType whose physical type is Boolean";
 
-/// The text of the refusal of a builder's type.
+/// The text of the error about a builder's data type.
 const WRONG_BUILDER_TYPE: &str =
     "MutableBooleanArray can only be initialized with a DataType whose physical type is Boolean";
 
@@ -27,15 +27,16 @@ impl BooleanArray {
     /// Creates an array from its parts.
     ///
     /// # Errors
-    /// `OutOfSpec` if a mask has another number of marks than there are values, or else if the type's physical type
-    /// is not Boolean.
+    /// `OutOfSpec` with the first of these that fails: a mask has a mark for each value; the data
+    /// type has the array's physical type.
     pub fn try_new(
         data_type: DataType,
         values: Bitmap,
         validity: Option<Bitmap>,
     ) -> Result<Self, Error>
         ensures ok { let t = logical_type data_type in IfOk result (λ array.
-            Passes (array_tests t values validity) × (array ≡ column_of_parts t values validity)) }
+            Passes (array_tests t values validity)
+            × (array ≡ column_of_parts t values validity)) }
         ensures err { let t = logical_type data_type in IfErr result (λ e.
             IsFirstFailure (array_tests t values validity) (refusal e)) }
     {
@@ -53,15 +54,16 @@ impl MutableBooleanArray {
     /// Creates a builder from its parts.
     ///
     /// # Errors
-    /// `OutOfSpec` if a mask has another number of marks than there are values, or else if the type's physical type
-    /// is not Boolean.
+    /// `OutOfSpec` with the first of these that fails: a mask has a mark for each value; the data
+    /// type has the builder's physical type.
     pub fn try_new(
         data_type: DataType,
         values: MutableBitmap,
         validity: Option<MutableBitmap>,
     ) -> Result<Self, Error>
         ensures ok { let t = logical_type data_type in IfOk result (λ builder.
-            Passes (builder_tests t values validity) × (builder ≡ column_of_parts t values validity)) }
+            Passes (builder_tests t values validity)
+            × (builder ≡ column_of_parts t values validity)) }
         ensures err { let t = logical_type data_type in IfErr result (λ e.
             IsFirstFailure (builder_tests t values validity) (refusal e)) }
     {

@@ -10,8 +10,8 @@ use Rattle.arrow_bytes.specs.Kinds.{AreItems}
 use Rattle.arrow_byte_array.specs.Acceptance.{array_tests, builder_tests, typed_tests, values_tests}
 
 -- the test that failed among the first of an array's is the first that failed of all
-pub array-first : (text : Bool) (layout : PhysicalType) (wrong_type : Refusal) (t : LogicalType) (offsets bytes : List ℕ)
-    (mask : Option (List Bool)) (r : Refusal)
+pub array-first : (text : Bool) (layout : PhysicalType) (wrong_type : Refusal) (t : LogicalType)
+    (offsets bytes : List ℕ) (mask : Option (List Bool)) (r : Refusal)
     → IsFirstFailure (values_tests text offsets bytes accept) r
     → IsFirstFailure (array_tests text layout wrong_type t offsets bytes mask) r
 array-first text layout wrong_type t offsets bytes mask r first =
@@ -22,12 +22,16 @@ pub builder-first : (text : Bool) (layout : PhysicalType) (wrong_type : Refusal)
     (offsets bytes : List ℕ) (mask : Option (List Bool)) (r : Refusal)
     → IsFirstFailure (typed_tests text layout wrong_type t offsets bytes accept) r
     → IsFirstFailure (builder_tests text layout wrong_type t offsets bytes mask) r
-builder-first text layout wrong_type t offsets bytes mask r first =
-    (first.0, λ ends. ((first.1 ends).0, λ items. (((first.1 ends).1 items).0, λ right. absurd (((first.1 ends).1 items).1 right))))
+builder-first text layout wrong_type t offsets bytes mask r first = (
+  first.0,
+  λ ends. let next = first.1 ends in
+      (next.0, λ items. ((next.1 items).0, λ right. absurd ((next.1 items).1 right))),
+)
 
 -- offsets and bytes, as they are read for two tests of which the second failed
-module _ (text : Bool) (offsets bytes os read bs : List ℕ) (n : ℕ) (r : Refusal) (e : os ≡ offsets) (long : n ≡ length bytes)
-    (e' : read ≡ offsets) (f : bs ≡ bytes) (failed : (AreItems text (items_of read bs) → ⊥) × (r ≡ not_text)) where
+module _ (text : Bool) (offsets bytes os read bs : List ℕ) (n : ℕ) (r : Refusal) (e : os ≡ offsets)
+    (long : n ≡ length bytes) (e' : read ≡ offsets) (f : bs ≡ bytes) (failed : (AreItems text (items_of read bs)
+    → ⊥) × (r ≡ not_text)) where
   none : AreItems text (items_of offsets bytes) → ⊥
   none items = failed.0 (subst (AreItems text) (sym (ap₂ items_of e' f)) items)
 

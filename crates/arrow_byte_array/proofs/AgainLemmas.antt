@@ -13,7 +13,8 @@ use Rattle.arrow_bytes.proofs.CallerLemmas.{column-back, end-back, items-back}
 items-held : (c : ByteColumn) → items_of (offsets_held c) (bytes_held c) ≡ stored_values c
 items-held c = items-back c.around.lead (stored_values c) c.around.tail
 
-pub are-items : (text : Bool) (c : ByteColumn) → AreItems text (stored_values c) → AreItems text (items_of (offsets_held c) (bytes_held c))
+pub are-items : (text : Bool) (c : ByteColumn) → AreItems text (stored_values c)
+    → AreItems text (items_of (offsets_held c) (bytes_held c))
 are-items text c items = subst (AreItems text) (sym (items-held c)) items
 
 pub fits-mask : (c : ByteColumn) → FitsMask (items_of (offsets_held c) (bytes_held c)) (mask_of c)
@@ -24,5 +25,7 @@ pub at-end : (c : ByteColumn) → c.around.tail ≡ [] → last_of (offsets_held
 at-end c none = omega (arith, end-back c.around.lead (stored_values c) c.around.tail, ap length none)
 
 -- a column that holds no mask
-pub column-bare : (c : ByteColumn) → IsColumn c → mask_of c ≡ None → byte_column c.data_type (offsets_held c) (bytes_held c) None ≡ c
-column-bare c is_column bare = ap (byte_column c.data_type (offsets_held c) (bytes_held c)) (sym bare) ∙ column-back c is_column
+pub column-bare : (c : ByteColumn) → IsColumn c → mask_of c ≡ None
+    → byte_column c.data_type (offsets_held c) (bytes_held c) None ≡ c
+column-bare c is_column bare =
+    ap (byte_column c.data_type (offsets_held c) (bytes_held c)) (sym bare) ∙ column-back c is_column

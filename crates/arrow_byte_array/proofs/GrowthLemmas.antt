@@ -6,6 +6,7 @@ use Rattle.arrow_column.specs.Column.{refused_growth}
 use Rattle.arrow_memory.specs.Offsets.{MatchGrowth}
 
 -- a growth that was refused for what does not fit was so only where something does not
-pub match-growth : (e : Error) (overflows : Bool) (P : Type 0) → e ≡ refused_growth overflows → (overflows ≡ true → P) → MatchGrowth e P ⊤
+pub match-growth : (e : Error) (overflows : Bool) (P : Type 0) → e ≡ refused_growth overflows
+    → (overflows ≡ true → P) → MatchGrowth e P ⊤
 match-growth e true P is then = rw is (then refl)
 match-growth e false P is then = rw is tt

@@ -1,6 +1,7 @@
-//! Arrays of items of bytes, of one kind.
+//! Arrays of bytes and of text.
 ghost use Rattle.std.specs.Prelude.{◌≡◌, ◌<◌, length, not, count_by, slice_get, Some, None, IfOk, IfErr};
 ghost use Rattle.std.specs.Option.{option_copied};
+ghost use Rattle.arrow_types.specs.Failures.{OnlyOutOfMemory};
 ghost use Rattle.arrow_types.specs.Types.{logical_type, IsRightType};
 ghost use Rattle.arrow_memory.specs.Rows.{FitsMask};
 ghost use Rattle.arrow_column.specs.Column.{FitsCut, IsColumn, cut_with, mask_of, marks_of, stored_values};
@@ -20,10 +21,11 @@ use arrow_types::offset::Offset;
 use std::alloc::Global;
 use std::marker::Model;
 
-/// An array of items of one kind, each of which may be null; a null slot stores an item, too. Bytes may lie before the
-/// first slot, and behind the last.
+/// An immutable array of byte strings of one kind, each of which may be null; a null slot stores an
+/// item too. Bytes may lie before the first slot and after the last.
 ///
-/// It is what other crates for Arrow call a `GenericByteArray`; `BinaryArray` and `Utf8Array` are names of it at a kind.
+/// Other Arrow crates call it a `GenericByteArray`. `BinaryArray` and `Utf8Array` are its names for
+/// bytes and for text.
 #[derive(Drop)]
 pub struct ByteArray<K: ByteKind, O: Offset> {
     pub(crate) column: FrozenColumn<ByteValues<K, O>>,
@@ -42,7 +44,8 @@ impl<K: ByteKind, O: Offset> Model for ByteArray<K, O> {
 }
 
 impl<K: ByteKind, O: Offset> ByteArray<K, O> {
-    /// The data type unless another is given: the kind's own, and its large one over large offsets.
+    /// Returns the default data type: `Binary` or `Utf8`, or the large type if the offset type is
+    /// large.
     pub fn default_data_type() -> DataType
         ensures value { logical_type result ≡ K.default_type O.IS_LARGE }
         ensures right { IsRightType (K.layout O.IS_LARGE) (logical_type result) }
@@ -50,8 +53,9 @@ impl<K: ByteKind, O: Offset> ByteArray<K, O> {
         K::default_type(O::IS_LARGE)
     }
 
-    /// The array of such parts, which have to fit: no offset is past the values, every slot is an item of the kind (text is
-    /// UTF-8 by itself), a mask has a mark for each slot, and the type is one of the array's physical type.
+    /// Creates an array from parts that fit: no offset is past the values, every slot is an item of
+    /// the kind (text is UTF-8 by itself), a mask has a mark for each slot, and the data type has
+    /// the array's physical type. [`ByteArray::try_new`] checks them.
     pub fn new(
         data_type: DataType,
         offsets: OffsetsBuffer<O>,
@@ -68,14 +72,15 @@ impl<K: ByteKind, O: Offset> ByteArray<K, O> {
         }
     }
 
-    /// No slot, no byte, and no mask. The type has to be one of the array's physical type.
+    /// Creates an array of no slots and no bytes, without a mask. The data type must have the
+    /// array's physical type.
     ///
     /// # Errors
-    /// `OutOfMemory` where memory is refused.
+    /// `OutOfMemory` if an allocation fails.
     pub fn new_empty(alloc: Global, data_type: DataType) -> Result<Self, Error>
         requires { IsRightType (K.layout O.IS_LARGE) (logical_type data_type) }
         ensures ok { IfOk result (λ array. array ≡ empty_bytes (logical_type data_type)) }
-        ensures err { IfErr result (λ e. e ≡ Error.OutOfMemory) }
+        ensures err { OnlyOutOfMemory result }
     {
         let values = ByteValues::new_empty_items(alloc, 0)?;
         Ok(ByteArray {
@@ -83,18 +88,18 @@ impl<K: ByteKind, O: Offset> ByteArray<K, O> {
         })
     }
 
-    /// No slot, no byte, and no mask; the data type is the default.
+    /// Creates an array of no slots and no bytes, without a mask, of the default data type.
     ///
     /// # Errors
-    /// `OutOfMemory` where memory is refused.
+    /// `OutOfMemory` if an allocation fails.
     pub fn default(alloc: Global) -> Result<Self, Error>
         ensures ok { IfOk result (λ array. array ≡ empty_bytes (K.default_type O.IS_LARGE)) }
-        ensures err { IfErr result (λ e. e ≡ Error.OutOfMemory) }
+        ensures err { OnlyOutOfMemory result }
     {
         ByteArray::new_empty(alloc, K::default_type(O::IS_LARGE))
     }
 
-    /// The data type, the offsets, all bytes, and the mask where one is held.
+    /// Returns the data type, the offsets, all bytes, and the mask if one is held.
     pub fn into_inner(self) -> (DataType, OffsetsBuffer<O>, Buffer<u8>, Option<Bitmap>)
         ensures data_type { logical_type result.0 ≡ self.data_type }
         ensures offsets { result.1 ≡ offsets_held self }
@@ -111,7 +116,7 @@ impl<K: ByteKind, O: Offset> ByteArray<K, O> {
         (data_type, offsets, values, validity)
     }
 
-    /// The number of slots.
+    /// Returns the number of slots.
     #[inline(always)]
     pub fn len(&self) -> usize
         ensures { result ≡ length self.now.rows }
@@ -119,7 +124,7 @@ impl<K: ByteKind, O: Offset> ByteArray<K, O> {
         self.column.len()
     }
 
-    /// Whether the slot at a place is null.
+    /// Returns whether the slot at `i` is null.
     #[inline(always)]
     pub fn is_null(&self, i: usize) -> bool
         requires { i < length self.now.rows }
@@ -128,7 +133,7 @@ impl<K: ByteKind, O: Offset> ByteArray<K, O> {
         self.column.is_null(i)
     }
 
-    /// Whether the slot at a place is valid, which is not null.
+    /// Returns whether the slot at `i` is valid, that is, not null.
     #[inline(always)]
     pub fn is_valid(&self, i: usize) -> bool
         requires { i < length self.now.rows }
@@ -137,7 +142,7 @@ impl<K: ByteKind, O: Offset> ByteArray<K, O> {
         !self.is_null(i)
     }
 
-    /// The number of null slots.
+    /// Returns the number of null slots, in constant time.
     #[inline(always)]
     pub fn null_count(&self) -> usize
         ensures { result ≡ count_by not (marks_of self.now) }
@@ -145,7 +150,8 @@ impl<K: ByteKind, O: Offset> ByteArray<K, O> {
         self.column.null_count()
     }
 
-    /// All bytes, those before the first slot and behind the last too. Every slot is an item of the kind.
+    /// Returns all bytes, including those before the first slot and after the last. Every slot is
+    /// an item of the kind.
     #[inline(always)]
     pub fn values(&self) -> &Buffer<u8>
         ensures value { result.now ≡ bytes_held self.now }
@@ -154,7 +160,7 @@ impl<K: ByteKind, O: Offset> ByteArray<K, O> {
         self.column.values().bytes()
     }
 
-    /// The offsets: where each slot begins and ends in the bytes.
+    /// Returns the offsets: where each slot begins and ends in the bytes.
     #[inline(always)]
     pub fn offsets(&self) -> &OffsetsBuffer<O>
         ensures { result.now ≡ offsets_held self.now }
@@ -162,7 +168,7 @@ impl<K: ByteKind, O: Offset> ByteArray<K, O> {
         self.column.values().offsets()
     }
 
-    /// The mask, where one is held; else no slot is null.
+    /// Returns the mask if one is held; otherwise no slot is null.
     #[inline(always)]
     pub fn validity(&self) -> Option<&Bitmap>
         ensures mask { option_copied result ≡ mask_of self.now }
@@ -171,7 +177,7 @@ impl<K: ByteKind, O: Offset> ByteArray<K, O> {
         self.column.validity()
     }
 
-    /// The data type.
+    /// Returns the data type.
     #[inline(always)]
     pub fn data_type(&self) -> &DataType
         ensures value { logical_type result.now ≡ self.now.data_type }
@@ -180,7 +186,8 @@ impl<K: ByteKind, O: Offset> ByteArray<K, O> {
         self.column.data_type()
     }
 
-    /// Keeps only the `len` slots from `offset` on. A held mask stays held, and all bytes stay.
+    /// Keeps only the `len` slots from `offset` on, without copying any. A held mask stays held,
+    /// and all bytes stay.
     pub fn slice(&mut self, offset: usize, len: usize)
         requires { FitsCut self.old offset len }
         ensures { self.new ≡ cut_with around_cut self.old offset len }
@@ -188,7 +195,8 @@ impl<K: ByteKind, O: Offset> ByteArray<K, O> {
         self.column.slice(offset, len);
     }
 
-    /// The `len` slots from `offset` on. A held mask stays held, and all bytes stay.
+    /// Returns the `len` slots from `offset` on, without copying any. A held mask stays held, and
+    /// all bytes stay.
     pub fn sliced(mut self, offset: usize, len: usize) -> Self
         requires { FitsCut self offset len }
         ensures { result ≡ cut_with around_cut self offset len }
@@ -197,13 +205,13 @@ impl<K: ByteKind, O: Offset> ByteArray<K, O> {
         self
     }
 
-    /// The same array once more. Neither bytes nor marks are copied.
+    /// Returns a clone that shares offsets, bytes and marks.
     ///
     /// # Errors
-    /// `OutOfMemory` where memory is refused.
+    /// `OutOfMemory` if an allocation fails.
     pub fn clone(&self) -> Result<Self, Error>
         ensures ok { IfOk result (λ copy. copy ≡ self.now) }
-        ensures err { IfErr result (λ e. e ≡ Error.OutOfMemory) }
+        ensures err { OnlyOutOfMemory result }
     {
         Ok(ByteArray {
             column: self.column.clone()?,

@@ -1,9 +1,11 @@
-//! The builder of arrays of one kind.
+//! Builders with nulls of arrays of bytes and of text.
 ghost use Rattle.std.specs.Prelude.{◌≡◌, ◌≤◌, [], is_some, IsTrue, length, None, OnOk, IfOk, IfErr, option_map, IsOk};
 ghost use Rattle.std.specs.Option.{option_copied};
+ghost use Rattle.arrow_types.specs.Failures.{OnlyOutOfMemory, OutOfMemoryKeeps};
 ghost use Rattle.arrow_types.specs.Types.{logical_type, IsRightType};
 ghost use Rattle.arrow_memory.specs.Rows.{FitsMask};
-ghost use Rattle.arrow_column.specs.Column.{IsColumn, append_slot, last_slot, mask_of, stored_values, without_last, without_needless_mask};
+ghost use Rattle.arrow_column.specs.Column.{IsColumn, append_slot, last_slot, mask_of, stored_values, without_last};
+ghost use Rattle.arrow_column.specs.Column.{without_needless_mask};
 ghost use Rattle.arrow_memory.specs.Offsets.{last_of};
 ghost use Rattle.arrow_check.specs.Pieces.{items_of};
 ghost use Rattle.arrow_bytes.specs.Column.{byte_column, bytes_held, empty_bytes, offsets_held};
@@ -20,13 +22,15 @@ use arrow_types::offset::Offset;
 use std::alloc::Global;
 use std::marker::Model;
 
-/// Removes the last slot of a column and answers a copy of it; `None` where it is null, and where there is none.
+/// Removes the last slot of a column and returns a copy of it; `None` if it is null or there is
+/// none.
 pub(crate) fn pop_slot<K: ByteKind, O: Offset>(
     column: &mut GrowingColumn<MutableByteValues<K, O>>,
 ) -> Result<Option<K::Owned>, Error>
     ensures ok { OnOk result (column.new ≡ without_last column.old) }
     ensures slot { IfOk result (λ slot. option_map K.owned slot ≡ last_slot column.old) }
-    ensures err { IfErr result (λ e. (e ≡ Error.OutOfMemory) × IsTrue (is_some (last_slot column.old)) × (column.new ≡ column.old)) }
+    ensures err { IfErr result (λ e. (e ≡ Error.OutOfMemory) × IsTrue (is_some (last_slot column.old))
+        × (column.new ≡ column.old)) }
 {
     let Some(last) = column.len().checked_sub(1) else {
         return Ok(None);
@@ -41,8 +45,9 @@ pub(crate) fn pop_slot<K: ByteKind, O: Offset>(
     Ok(Some(item))
 }
 
-/// A list of items of one kind, each of which may be null, that grows; a null slot stores an item, too. Bytes may lie
-/// before the first slot, and none lie behind the last.
+/// A growing array of byte strings of one kind, each of which may be null: the builder of
+/// [`ByteArray`]. A null slot stores an item too. Bytes may lie before the first slot; none lie
+/// after the last.
 #[derive(Drop)]
 pub struct MutableByteArray<K: ByteKind, O: Offset> {
     pub(crate) column: GrowingColumn<MutableByteValues<K, O>>,
@@ -61,48 +66,49 @@ impl<K: ByteKind, O: Offset> Model for MutableByteArray<K, O> {
 }
 
 impl<K: ByteKind, O: Offset> MutableByteArray<K, O> {
-    /// No slot, and no mask; the data type is the default.
+    /// Creates a builder of no slots, without a mask, of the default data type.
     ///
     /// # Errors
-    /// `OutOfMemory` where memory is refused.
+    /// `OutOfMemory` if an allocation fails.
     pub fn new(alloc: Global) -> Result<Self, Error>
         ensures ok { IfOk result (λ builder. builder ≡ empty_bytes (K.default_type O.IS_LARGE)) }
-        ensures err { IfErr result (λ e. e ≡ Error.OutOfMemory) }
+        ensures err { OnlyOutOfMemory result }
     {
         MutableByteArray::with_capacities(alloc, 0, 0)
     }
 
-    /// No slot, and no mask; the data type is the default.
+    /// Creates a builder of no slots, as [`MutableByteArray::new`].
     ///
     /// # Errors
-    /// `OutOfMemory` where memory is refused.
+    /// `OutOfMemory` if an allocation fails.
     pub fn default(alloc: Global) -> Result<Self, Error>
         ensures ok { IfOk result (λ builder. builder ≡ empty_bytes (K.default_type O.IS_LARGE)) }
-        ensures err { IfErr result (λ e. e ≡ Error.OutOfMemory) }
+        ensures err { OnlyOutOfMemory result }
     {
         MutableByteArray::new(alloc)
     }
 
-    /// No slot and no mask, with room for so many slots.
+    /// Creates a builder of no slots, without a mask, with room for at least `capacity` slots.
     ///
     /// # Errors
-    /// `OutOfMemory` where memory is refused.
+    /// `OutOfMemory` if an allocation fails.
     pub fn with_capacity(alloc: Global, capacity: usize) -> Result<Self, Error>
         ensures ok { IfOk result (λ builder. builder ≡ empty_bytes (K.default_type O.IS_LARGE)) }
-        ensures err { IfErr result (λ e. e ≡ Error.OutOfMemory) }
+        ensures err { OnlyOutOfMemory result }
     {
         MutableByteArray::with_capacities(alloc, capacity, 0)
     }
 
-    /// No slot and no mask, with room for so many slots and so many bytes.
+    /// Creates a builder of no slots, without a mask, with room for at least `capacity` slots and
+    /// `values` bytes.
     ///
     /// # Errors
-    /// `OutOfMemory` where memory is refused.
+    /// `OutOfMemory` if an allocation fails.
     // Out of line, so that the compiler follows the new builder through a loop of appends.
     #[inline(never)]
     pub fn with_capacities(alloc: Global, capacity: usize, values: usize) -> Result<Self, Error>
         ensures ok { IfOk result (λ builder. builder ≡ empty_bytes (K.default_type O.IS_LARGE)) }
-        ensures err { IfErr result (λ e. e ≡ Error.OutOfMemory) }
+        ensures err { OnlyOutOfMemory result }
     {
         let values = MutableByteValues::with_capacities(alloc, capacity, values)?;
         Ok(MutableByteArray {
@@ -110,7 +116,7 @@ impl<K: ByteKind, O: Offset> MutableByteArray<K, O> {
         })
     }
 
-    /// The number of slots.
+    /// Returns the number of slots.
     #[inline(always)]
     pub fn len(&self) -> usize
         ensures { result ≡ length self.now.rows }
@@ -118,14 +124,14 @@ impl<K: ByteKind, O: Offset> MutableByteArray<K, O> {
         self.column.len()
     }
 
-    /// How many slots there is room for without a growth of the offsets; bytes and a mask may have less.
+    /// Returns the number of slots for whose offsets there is room; bytes and a mask may have less.
     pub fn capacity(&self) -> usize
         ensures { length self.now.rows ≤ result }
     {
         self.column.values().capacity()
     }
 
-    /// The data type, the offsets, all bytes, and the mask where one is held.
+    /// Returns the data type, the offsets, all bytes, and the mask if one is held.
     pub fn into_data(self) -> (DataType, Offsets<O>, Vec<u8>, Option<MutableBitmap>)
         ensures data_type { logical_type result.0 ≡ self.data_type }
         ensures offsets { result.1 ≡ offsets_held self }
@@ -143,7 +149,7 @@ impl<K: ByteKind, O: Offset> MutableByteArray<K, O> {
         (data_type, offsets, values, validity)
     }
 
-    /// All bytes, those before the first slot too. Every slot is an item of the kind.
+    /// Returns all bytes, including those before the first slot. Every slot is an item of the kind.
     #[inline(always)]
     pub fn values(&self) -> &Vec<u8>
         ensures value { result.now.items ≡ bytes_held self.now }
@@ -153,7 +159,7 @@ impl<K: ByteKind, O: Offset> MutableByteArray<K, O> {
         self.column.values().bytes()
     }
 
-    /// The offsets: where each slot begins and ends in the bytes.
+    /// Returns the offsets: where each slot begins and ends in the bytes.
     #[inline(always)]
     pub fn offsets(&self) -> &Offsets<O>
         ensures { result.now ≡ offsets_held self.now }
@@ -161,7 +167,7 @@ impl<K: ByteKind, O: Offset> MutableByteArray<K, O> {
         self.column.values().offsets()
     }
 
-    /// The mask, where one is held; else no slot is null.
+    /// Returns the mask if one is held; otherwise no slot is null.
     #[inline(always)]
     pub fn validity(&self) -> Option<&MutableBitmap>
         ensures mask { option_copied result ≡ mask_of self.now }
@@ -170,7 +176,7 @@ impl<K: ByteKind, O: Offset> MutableByteArray<K, O> {
         self.column.validity()
     }
 
-    /// The data type.
+    /// Returns the data type.
     #[inline(always)]
     pub fn data_type(&self) -> &DataType
         ensures value { logical_type result.now ≡ self.now.data_type }
@@ -179,43 +185,45 @@ impl<K: ByteKind, O: Offset> MutableByteArray<K, O> {
         self.column.data_type()
     }
 
-    /// Appends a null, which stores no byte. A mask is held from then on.
+    /// Appends a null, which stores no byte. The builder holds a mask from then on.
     ///
     /// # Errors
-    /// `OutOfMemory` where a growth is refused; the builder is then as before.
+    /// `OutOfMemory` if an allocation fails; the builder is then unchanged.
     #[inline(always)]
     pub fn push_null(&mut self) -> Result<(), Error>
         ensures ok { OnOk result (self.new ≡ append_slot [] self.old None) }
-        ensures err { IfErr result (λ e. (e ≡ Error.OutOfMemory) × (self.new ≡ self.old)) }
+        ensures err { OutOfMemoryKeeps result self.old self.new }
     {
         self.column.push_null()
     }
 
-    /// Removes the last slot and answers a copy of it; `None` where it is null, and where there is none, which both
-    /// take no memory.
+    /// Removes the last slot and returns a copy of it; `None` if it is null or there is none, for
+    /// which nothing is allocated.
     ///
     /// # Errors
-    /// `OutOfMemory` where the copy is refused; the builder is then as before.
+    /// `OutOfMemory` if the copy cannot be allocated; the builder is then unchanged.
     pub fn pop(&mut self) -> Result<Option<K::Owned>, Error>
         ensures ok { OnOk result (self.new ≡ without_last self.old) }
         ensures slot { IfOk result (λ slot. option_map K.owned slot ≡ last_slot self.old) }
-        ensures err { IfErr result (λ e. (e ≡ Error.OutOfMemory) × IsTrue (is_some (last_slot self.old)) × (self.new ≡ self.old)) }
+        ensures err { IfErr result (λ e. (e ≡ Error.OutOfMemory) × IsTrue (is_some (last_slot self.old))
+            × (self.new ≡ self.old)) }
     {
         pop_slot(&mut self.column)
     }
 
-    /// Makes room for so many slots more, in a held mask too, and for so many bytes more.
+    /// Reserves room for at least `additional` more slots, in a held mask too, and for
+    /// `additional_values` more bytes.
     ///
     /// # Errors
-    /// `OutOfMemory` where a growth is refused.
+    /// `OutOfMemory` if an allocation fails.
     pub fn reserve(&mut self, additional: usize, additional_values: usize) -> Result<(), Error>
         ensures kept { self.new ≡ self.old }
-        ensures err { IfErr result (λ e. e ≡ Error.OutOfMemory) }
+        ensures err { OnlyOutOfMemory result }
     {
         self.column.reserve_items(additional, additional_values)
     }
 
-    /// Gives back the room that is not used.
+    /// Gives unused room back to the allocator, if it takes it.
     ///
     /// # Errors
     /// Never: if the allocator refuses a smaller allocation, the room stays.
@@ -226,26 +234,27 @@ impl<K: ByteKind, O: Offset> MutableByteArray<K, O> {
         self.column.shrink_to_fit()
     }
 
-    /// A copy of the builder.
+    /// Returns a copy.
     ///
     /// # Errors
-    /// `OutOfMemory` where memory is refused.
+    /// `OutOfMemory` if an allocation fails.
     pub fn clone(&self) -> Result<Self, Error>
         ensures ok { IfOk result (λ copy. copy ≡ self.now) }
-        ensures err { IfErr result (λ e. e ≡ Error.OutOfMemory) }
+        ensures err { OnlyOutOfMemory result }
     {
         Ok(MutableByteArray {
             column: self.column.clone()?,
         })
     }
 
-    /// The array of the same slots, which holds a mask only where one is null. No byte is copied.
+    /// Converts the builder into an array of the same slots without copying bytes. The array holds
+    /// a mask exactly if a slot is null.
     ///
     /// # Errors
-    /// `OutOfMemory` where a growth is refused; the builder is then lost.
+    /// `OutOfMemory` if an allocation fails; the builder is then dropped.
     pub fn freeze(self) -> Result<ByteArray<K, O>, Error>
         ensures ok { IfOk result (λ array. array ≡ without_needless_mask self) }
-        ensures err { IfErr result (λ e. e ≡ Error.OutOfMemory) }
+        ensures err { OnlyOutOfMemory result }
     {
         let (data_type, values, validity) = self.column.freeze_mask()?;
         Ok(ByteArray {

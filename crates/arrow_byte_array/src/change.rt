@@ -1,4 +1,4 @@
-//! Arrays and builders whose masks are replaced, and arrays that are thawed.
+//! Replacement of masks, and thawing of arrays.
 ghost use Rattle.std.specs.Prelude.{◌≡◌, List, Bool, Some, length, IfSome, MatchOption};
 ghost use Rattle.either.specs.Either.{MatchEither};
 ghost use Rattle.arrow_column.specs.Column.{mask_of, with_mask};
@@ -12,7 +12,7 @@ use arrow_types::offset::Offset;
 use either::{Either, Left, Right};
 
 impl<K: ByteKind, O: Offset> ByteArray<K, O> {
-    /// Replaces the mask, which has a mark for each slot; without one every slot is valid.
+    /// Replaces the mask, which must have a mark for each slot; without one every slot is valid.
     pub fn set_validity(&mut self, validity: Option<Bitmap>)
         requires { IfSome validity (λ marks. length marks ≡ length self.old.rows) }
         ensures { self.new ≡ with_mask self.old validity }
@@ -20,7 +20,8 @@ impl<K: ByteKind, O: Offset> ByteArray<K, O> {
         self.column.set_validity(validity);
     }
 
-    /// The same stored items under another mask, which has a mark for each slot; without one every slot is valid.
+    /// Returns the same items under another mask, which must have a mark for each slot; without one
+    /// every slot is valid.
     pub fn with_validity(mut self, validity: Option<Bitmap>) -> Self
         requires { IfSome validity (λ marks. length marks ≡ length self.rows) }
         ensures { result ≡ with_mask self validity }
@@ -29,17 +30,22 @@ impl<K: ByteKind, O: Offset> ByteArray<K, O> {
         self
     }
 
-    /// Replaces a held mask by what the closure makes of it, as many marks; without a mask nothing is done.
+    /// Replaces a held mask by what the closure returns for it, which must have equally many marks.
+    /// Does nothing if no mask is held.
     pub fn apply_validity<F: FnOnce(Bitmap) -> Bitmap + Drop>(&mut self, change: F)
         requires callable { IfSome (mask_of self.old) (λ marks. F.pre change marks) }
-        requires keeps { IfSome (mask_of self.old) (λ marks. (changed : List Bool) → F.post change marks changed → length changed ≡ length marks) }
-        ensures { MatchOption (mask_of self.old) (self.new ≡ self.old) (λ marks. (changed : List Bool) × F.post change marks changed × (length changed ≡ length marks) × (self.new ≡ with_mask self.old (Some changed))) }
+        requires keeps { IfSome (mask_of self.old) (λ marks. (changed : List Bool) → F.post change marks changed
+            → length changed ≡ length marks) }
+        ensures { MatchOption (mask_of self.old) (self.new ≡ self.old) (λ marks. (changed : List Bool)
+            × F.post change marks changed × (length changed ≡ length marks)
+            × (self.new ≡ with_mask self.old (Some changed))) }
     {
         self.column.apply_validity(change);
     }
 
-    /// The builder of the same slots, where no one else has the bytes, the offsets or the mask and all are shown from
-    /// the first on, the offsets whole; bytes behind the last slot are cut off. Else the array as it is.
+    /// Converts the array into a builder without copying it, if offsets, bytes and mask are not
+    /// shared, the offsets show all of their vector, and bytes and mask begin at the first place.
+    /// Bytes after the last slot are cut off. Otherwise returns the array unchanged.
     pub fn into_mut(self) -> Either<Self, MutableByteArray<K, O>>
         ensures { MatchEither result (λ array. array ≡ self) (λ builder. builder ≡ column_without_tail self) }
     {
@@ -56,7 +62,7 @@ impl<K: ByteKind, O: Offset> ByteArray<K, O> {
 }
 
 impl<K: ByteKind, O: Offset> MutableByteArray<K, O> {
-    /// Replaces the mask, which has a mark for each slot; without one every slot is valid.
+    /// Replaces the mask, which must have a mark for each slot; without one every slot is valid.
     pub fn set_validity(&mut self, validity: Option<MutableBitmap>)
         requires { IfSome validity (λ marks. length marks ≡ length self.old.rows) }
         ensures { self.new ≡ with_mask self.old validity }
@@ -64,7 +70,8 @@ impl<K: ByteKind, O: Offset> MutableByteArray<K, O> {
         self.column.set_validity(validity);
     }
 
-    /// The same stored items under another mask, which has a mark for each slot; without one every slot is valid.
+    /// Returns the same items under another mask, which must have a mark for each slot; without one
+    /// every slot is valid.
     pub fn with_validity(mut self, validity: Option<MutableBitmap>) -> Self
         requires { IfSome validity (λ marks. length marks ≡ length self.rows) }
         ensures { result ≡ with_mask self validity }
@@ -73,11 +80,15 @@ impl<K: ByteKind, O: Offset> MutableByteArray<K, O> {
         self
     }
 
-    /// Replaces a held mask by what the closure makes of it, as many marks; without a mask nothing is done.
+    /// Replaces a held mask by what the closure returns for it, which must have equally many marks.
+    /// Does nothing if no mask is held.
     pub fn apply_validity<F: FnOnce(MutableBitmap) -> MutableBitmap + Drop>(&mut self, change: F)
         requires callable { IfSome (mask_of self.old) (λ marks. F.pre change marks) }
-        requires keeps { IfSome (mask_of self.old) (λ marks. (changed : List Bool) → F.post change marks changed → length changed ≡ length marks) }
-        ensures { MatchOption (mask_of self.old) (self.new ≡ self.old) (λ marks. (changed : List Bool) × F.post change marks changed × (length changed ≡ length marks) × (self.new ≡ with_mask self.old (Some changed))) }
+        requires keeps { IfSome (mask_of self.old) (λ marks. (changed : List Bool) → F.post change marks changed
+            → length changed ≡ length marks) }
+        ensures { MatchOption (mask_of self.old) (self.new ≡ self.old) (λ marks. (changed : List Bool)
+            × F.post change marks changed × (length changed ≡ length marks)
+            × (self.new ≡ with_mask self.old (Some changed))) }
     {
         self.column.apply_validity(change);
     }

@@ -1,4 +1,4 @@
-//! Equality of builders of one kind, which compares slots alone.
+//! Equality of builders, which compares slots alone.
 ghost use Rattle.std.specs.Prelude.{◌≡◌, ◌↔◌, IsTrue};
 ghost use Rattle.arrow_column.specs.Column.{slots_of};
 ghost use Rattle.arrow_column.specs.SlotEquality.{same_slots};
@@ -16,9 +16,12 @@ impl<K: ByteKind, O: Offset> PartialEq for MutableByteArray<K, O> {
 
     ghost eq = { λ first second. same_slots same_bytes (slots_of first) (slots_of second) };
 
-    ghost laws = { on_per slots_of (partial_equiv_from_equiv (decided (same_slots same_bytes) (same_slots-Decides same_bytes same_bytes-Decides))) };
+    ghost laws = { on_per slots_of
+        (partial_equiv_from_equiv
+        (decided (same_slots same_bytes) (same_slots-Decides same_bytes same_bytes-Decides))) };
 
-    /// Whether both have the same slots. Types, held masks and values under nulls are not compared.
+    /// Returns whether both have the same slots. Data types, held masks and values under nulls are
+    /// not compared.
     fn eq(&self, other: &Self) -> bool
         ensures value { result ≡ same_slots same_bytes (slots_of self.now) (slots_of other.now) }
         ensures decides { IsTrue result ↔ slots_of self.now ≡ slots_of other.now }
@@ -33,5 +36,6 @@ impl<K: ByteKind, O: Offset> Eq for MutableByteArray<K, O> {
     ghost use Rattle.arrow_column.specs.SlotEquality.{same_slots, same_slots-Decides};
     ghost use Rattle.arrow_bytes.specs.Equality.{same_bytes, same_bytes-Decides};
 
-    ghost laws = { on_equiv slots_of (decided (same_slots same_bytes) (same_slots-Decides same_bytes same_bytes-Decides)) };
+    ghost laws = { on_equiv slots_of
+        (decided (same_slots same_bytes) (same_slots-Decides same_bytes same_bytes-Decides)) };
 }

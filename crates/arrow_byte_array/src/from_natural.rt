@@ -1,9 +1,12 @@
 //! Arrays and builders made of items or of slots.
 ghost use Rattle.std.specs.Prelude.{◌≡◌, Option, Some, [], false, ⊤, replicate, IfOk, IfErr};
 ghost use Rattle.std.specs.Iterator.{IsFinite};
+ghost use Rattle.arrow_types.specs.Failures.{OnlyOutOfMemory};
 ghost use Rattle.arrow_types.specs.Types.{logical_type, IsRightType};
 ghost use Rattle.arrow_memory.specs.Offsets.{MatchGrowth};
-ghost use Rattle.arrow_column.specs.Appends.{AppendsSlots, ExtendsByItems, ExtendsBySlots, FreezesBySlots, FreezesItems, FreezesSlots, GivesTooManyItems, GivesTooManySlots, ItemsOverflow, SlotsOverflow};
+ghost use Rattle.arrow_column.specs.Appends.{AppendsSlots, ExtendsByItems, ExtendsBySlots, FreezesBySlots};
+ghost use Rattle.arrow_column.specs.Appends.{FreezesItems, FreezesSlots, GivesTooManyItems, GivesTooManySlots};
+ghost use Rattle.arrow_column.specs.Appends.{ItemsOverflow, SlotsOverflow};
 ghost use Rattle.arrow_column.specs.Column.{column_with};
 ghost use Rattle.arrow_bytes.specs.Pieces.{nothing_around};
 ghost use Rattle.arrow_bytes.specs.Column.{empty_bytes, item_overflows};
@@ -18,14 +21,18 @@ use arrow_types::offset::Offset;
 use std::alloc::Global;
 
 impl<K: ByteKind, O: Offset> MutableByteArray<K, O> {
-    /// The builder of these slots, which holds a mask exactly where one is null. The data type is the default.
+    /// Creates a builder of these slots, which holds a mask exactly if one is null, of the default
+    /// data type.
     ///
     /// # Errors
-    /// `Overflow` where the bytes of a slot would end past the greatest offset, or `OutOfMemory` where memory is
-    /// refused.
+    /// - `Overflow` if the bytes of a slot would end past the greatest offset.
+    /// - `OutOfMemory` if an allocation fails.
     pub fn from<X: ByteItem<K>>(alloc: Global, slots: &[Option<X>]) -> Result<Self, Error>
-        ensures ok { IfOk result (λ builder. AppendsSlots (item_overflows X.bytes O.most) X.bytes [] (empty_bytes (K.default_type O.IS_LARGE)) slots.now builder) }
-        ensures err { IfErr result (λ e. MatchGrowth e (SlotsOverflow (item_overflows X.bytes O.most) X.bytes [] slots.now (empty_bytes (K.default_type O.IS_LARGE))) ⊤) }
+        ensures ok { IfOk result (λ builder. AppendsSlots (item_overflows X.bytes O.most) X.bytes []
+            (empty_bytes (K.default_type O.IS_LARGE)) slots.now builder) }
+        ensures err { IfErr result (λ e.
+            MatchGrowth e (SlotsOverflow (item_overflows X.bytes O.most) X.bytes [] slots.now
+            (empty_bytes (K.default_type O.IS_LARGE))) ⊤) }
     {
         let mut builder = MutableByteArray::<K, O>::new(alloc)?;
         match builder.column.extend_from_slots(slots) {
@@ -34,20 +41,23 @@ impl<K: ByteKind, O: Offset> MutableByteArray<K, O> {
         }
     }
 
-    /// The builder of the slots that an iterator gives, which holds a mask exactly where one is null. The data type is the
-    /// default. What the iterator says of the number of slots is not trusted.
+    /// Creates a builder of the slots of an iterator, which holds a mask exactly if one is null, of
+    /// the default data type. `size_hint` is only used to reserve room.
     ///
     /// # Errors
-    /// `Overflow` where the bytes of a slot would end past the greatest offset, or `OutOfMemory` where memory is
-    /// refused.
+    /// - `Overflow` if the bytes of a slot would end past the greatest offset.
+    /// - `OutOfMemory` if an allocation fails.
     pub fn from_iter<X: ByteItem<K> + ItemError, I: Iterator<Item = Option<X>>>(
         alloc: Global,
         iter: I,
     ) -> Result<Self, X::Error>
         requires can { I.can_next iter }
         requires ends { IsFinite (I.remaining iter) }
-        ensures ok { IfOk result (λ builder. ExtendsBySlots (item_overflows X.bytes O.most) X.bytes [] I.next_gives iter (empty_bytes (K.default_type O.IS_LARGE)) builder) }
-        ensures err { IfErr result (λ e. MatchGrowth (X.error e) (GivesTooManySlots (item_overflows X.bytes O.most) X.bytes [] I.next_gives iter (empty_bytes (K.default_type O.IS_LARGE))) ⊤) }
+        ensures ok { IfOk result (λ builder. ExtendsBySlots (item_overflows X.bytes O.most) X.bytes [] I.next_gives
+            iter (empty_bytes (K.default_type O.IS_LARGE)) builder) }
+        ensures err { IfErr result (λ e.
+            MatchGrowth (X.error e) (GivesTooManySlots (item_overflows X.bytes O.most) X.bytes [] I.next_gives iter
+            (empty_bytes (K.default_type O.IS_LARGE))) ⊤) }
     {
         let mut builder = match MutableByteArray::<K, O>::new(alloc) {
             Ok(builder) => builder,
@@ -59,20 +69,23 @@ impl<K: ByteKind, O: Offset> MutableByteArray<K, O> {
         }
     }
 
-    /// The builder of the items that an iterator gives, which holds no mask. The data type is the default. What the
-    /// iterator says of their number is not trusted.
+    /// Creates a builder of the items of an iterator, without a mask, of the default data type.
+    /// `size_hint` is only used to reserve room.
     ///
     /// # Errors
-    /// `Overflow` where the bytes of a slot would end past the greatest offset, or `OutOfMemory` where memory is
-    /// refused.
+    /// - `Overflow` if an item would end past the greatest offset.
+    /// - `OutOfMemory` if an allocation fails.
     pub fn from_iter_values<X: ByteItem<K> + ItemError, I: Iterator<Item = X>>(
         alloc: Global,
         iter: I,
     ) -> Result<Self, X::Error>
         requires can { I.can_next iter }
         requires ends { IsFinite (I.remaining iter) }
-        ensures ok { IfOk result (λ builder. ExtendsByItems (item_overflows X.bytes O.most) X.bytes [] I.next_gives iter (empty_bytes (K.default_type O.IS_LARGE)) builder) }
-        ensures err { IfErr result (λ e. MatchGrowth (X.error e) (GivesTooManyItems (item_overflows X.bytes O.most) X.bytes [] I.next_gives iter (empty_bytes (K.default_type O.IS_LARGE))) ⊤) }
+        ensures ok { IfOk result (λ builder. ExtendsByItems (item_overflows X.bytes O.most) X.bytes [] I.next_gives
+            iter (empty_bytes (K.default_type O.IS_LARGE)) builder) }
+        ensures err { IfErr result (λ e.
+            MatchGrowth (X.error e) (GivesTooManyItems (item_overflows X.bytes O.most) X.bytes [] I.next_gives iter
+            (empty_bytes (K.default_type O.IS_LARGE))) ⊤) }
     {
         let mut builder = match MutableByteArray::<K, O>::new(alloc) {
             Ok(builder) => builder,
@@ -86,20 +99,23 @@ impl<K: ByteKind, O: Offset> MutableByteArray<K, O> {
 }
 
 impl<K: ByteKind, O: Offset> MutableByteValuesArray<K, O> {
-    /// The builder of the items that an iterator gives, which holds no mask. The data type is the default. What the
-    /// iterator says of their number is not trusted.
+    /// Creates a builder of the items of an iterator, of the default data type. `size_hint` is only
+    /// used to reserve room.
     ///
     /// # Errors
-    /// `Overflow` where the bytes of a slot would end past the greatest offset, or `OutOfMemory` where memory is
-    /// refused.
+    /// - `Overflow` if an item would end past the greatest offset.
+    /// - `OutOfMemory` if an allocation fails.
     pub fn from_iter<X: ByteItem<K> + ItemError, I: Iterator<Item = X>>(
         alloc: Global,
         iter: I,
     ) -> Result<Self, X::Error>
         requires can { I.can_next iter }
         requires ends { IsFinite (I.remaining iter) }
-        ensures ok { IfOk result (λ builder. ExtendsByItems (item_overflows X.bytes O.most) X.bytes [] I.next_gives iter (empty_bytes (K.default_type O.IS_LARGE)) builder) }
-        ensures err { IfErr result (λ e. MatchGrowth (X.error e) (GivesTooManyItems (item_overflows X.bytes O.most) X.bytes [] I.next_gives iter (empty_bytes (K.default_type O.IS_LARGE))) ⊤) }
+        ensures ok { IfOk result (λ builder. ExtendsByItems (item_overflows X.bytes O.most) X.bytes [] I.next_gives
+            iter (empty_bytes (K.default_type O.IS_LARGE)) builder) }
+        ensures err { IfErr result (λ e.
+            MatchGrowth (X.error e) (GivesTooManyItems (item_overflows X.bytes O.most) X.bytes [] I.next_gives iter
+            (empty_bytes (K.default_type O.IS_LARGE))) ⊤) }
     {
         let mut builder = match MutableByteValuesArray::<K, O>::new(alloc) {
             Ok(builder) => builder,
@@ -111,33 +127,38 @@ impl<K: ByteKind, O: Offset> MutableByteValuesArray<K, O> {
         }
     }
 
-    /// The builder of the items that an iterator gives, as `from_iter`.
+    /// Creates a builder of the items of an iterator, as `from_iter`.
     ///
     /// # Errors
-    /// `Overflow` where the bytes of a slot would end past the greatest offset, or `OutOfMemory` where memory is
-    /// refused.
+    /// As `from_iter`.
     pub fn try_from_iter<X: ByteItem<K> + ItemError, I: Iterator<Item = X>>(
         alloc: Global,
         iter: I,
     ) -> Result<Self, X::Error>
         requires can { I.can_next iter }
         requires ends { IsFinite (I.remaining iter) }
-        ensures ok { IfOk result (λ builder. ExtendsByItems (item_overflows X.bytes O.most) X.bytes [] I.next_gives iter (empty_bytes (K.default_type O.IS_LARGE)) builder) }
-        ensures err { IfErr result (λ e. MatchGrowth (X.error e) (GivesTooManyItems (item_overflows X.bytes O.most) X.bytes [] I.next_gives iter (empty_bytes (K.default_type O.IS_LARGE))) ⊤) }
+        ensures ok { IfOk result (λ builder. ExtendsByItems (item_overflows X.bytes O.most) X.bytes [] I.next_gives
+            iter (empty_bytes (K.default_type O.IS_LARGE)) builder) }
+        ensures err { IfErr result (λ e.
+            MatchGrowth (X.error e) (GivesTooManyItems (item_overflows X.bytes O.most) X.bytes [] I.next_gives iter
+            (empty_bytes (K.default_type O.IS_LARGE))) ⊤) }
     {
         MutableByteValuesArray::<K, O>::from_iter(alloc, iter)
     }
 }
 
 impl<K: ByteKind, O: Offset> ByteArray<K, O> {
-    /// The array of these items, which holds no mask. The data type is the default.
+    /// Creates an array of these items, without a mask, of the default data type.
     ///
     /// # Errors
-    /// `Overflow` where the bytes of a slot would end past the greatest offset, or `OutOfMemory` where memory is
-    /// refused.
+    /// - `Overflow` if an item would end past the greatest offset.
+    /// - `OutOfMemory` if an allocation fails.
     pub fn from_slice<X: ByteItem<K>>(alloc: Global, slice: &[X]) -> Result<Self, Error>
-        ensures ok { IfOk result (λ array. FreezesItems (item_overflows X.bytes O.most) X.bytes [] (empty_bytes (K.default_type O.IS_LARGE)) slice.now array) }
-        ensures err { IfErr result (λ e. MatchGrowth e (ItemsOverflow (item_overflows X.bytes O.most) X.bytes [] slice.now (empty_bytes (K.default_type O.IS_LARGE))) ⊤) }
+        ensures ok { IfOk result (λ array. FreezesItems (item_overflows X.bytes O.most) X.bytes []
+            (empty_bytes (K.default_type O.IS_LARGE)) slice.now array) }
+        ensures err { IfErr result (λ e.
+            MatchGrowth e (ItemsOverflow (item_overflows X.bytes O.most) X.bytes [] slice.now
+            (empty_bytes (K.default_type O.IS_LARGE))) ⊤) }
     {
         let mut builder = MutableByteArray::<K, O>::new(alloc)?;
         match builder.column.extend_from_values(slice) {
@@ -146,14 +167,18 @@ impl<K: ByteKind, O: Offset> ByteArray<K, O> {
         }
     }
 
-    /// The array of these slots, which holds a mask exactly where one is null. The data type is the default.
+    /// Creates an array of these slots, which holds a mask exactly if one is null, of the default
+    /// data type.
     ///
     /// # Errors
-    /// `Overflow` where the bytes of a slot would end past the greatest offset, or `OutOfMemory` where memory is
-    /// refused.
+    /// - `Overflow` if the bytes of a slot would end past the greatest offset.
+    /// - `OutOfMemory` if an allocation fails.
     pub fn from<X: ByteItem<K>>(alloc: Global, slots: &[Option<X>]) -> Result<Self, Error>
-        ensures ok { IfOk result (λ array. FreezesSlots (item_overflows X.bytes O.most) X.bytes [] (empty_bytes (K.default_type O.IS_LARGE)) slots.now array) }
-        ensures err { IfErr result (λ e. MatchGrowth e (SlotsOverflow (item_overflows X.bytes O.most) X.bytes [] slots.now (empty_bytes (K.default_type O.IS_LARGE))) ⊤) }
+        ensures ok { IfOk result (λ array. FreezesSlots (item_overflows X.bytes O.most) X.bytes []
+            (empty_bytes (K.default_type O.IS_LARGE)) slots.now array) }
+        ensures err { IfErr result (λ e.
+            MatchGrowth e (SlotsOverflow (item_overflows X.bytes O.most) X.bytes [] slots.now
+            (empty_bytes (K.default_type O.IS_LARGE))) ⊤) }
     {
         match MutableByteArray::<K, O>::from(alloc, slots) {
             Ok(builder) => builder.freeze(),
@@ -161,20 +186,23 @@ impl<K: ByteKind, O: Offset> ByteArray<K, O> {
         }
     }
 
-    /// The array of the slots that an iterator gives, which holds a mask exactly where one is null. The data type is the
-    /// default. What the iterator says of the number of slots is not trusted.
+    /// Creates an array of the slots of an iterator, which holds a mask exactly if one is null, of
+    /// the default data type. `size_hint` is only used to reserve room.
     ///
     /// # Errors
-    /// `Overflow` where the bytes of a slot would end past the greatest offset, or `OutOfMemory` where memory is
-    /// refused.
+    /// - `Overflow` if the bytes of a slot would end past the greatest offset.
+    /// - `OutOfMemory` if an allocation fails.
     pub fn from_iter<X: ByteItem<K> + ItemError, I: Iterator<Item = Option<X>>>(
         alloc: Global,
         iter: I,
     ) -> Result<Self, X::Error>
         requires can { I.can_next iter }
         requires ends { IsFinite (I.remaining iter) }
-        ensures ok { IfOk result (λ array. FreezesBySlots (item_overflows X.bytes O.most) X.bytes [] I.next_gives iter (empty_bytes (K.default_type O.IS_LARGE)) array) }
-        ensures err { IfErr result (λ e. MatchGrowth (X.error e) (GivesTooManySlots (item_overflows X.bytes O.most) X.bytes [] I.next_gives iter (empty_bytes (K.default_type O.IS_LARGE))) ⊤) }
+        ensures ok { IfOk result (λ array. FreezesBySlots (item_overflows X.bytes O.most) X.bytes [] I.next_gives
+            iter (empty_bytes (K.default_type O.IS_LARGE)) array) }
+        ensures err { IfErr result (λ e.
+            MatchGrowth (X.error e) (GivesTooManySlots (item_overflows X.bytes O.most) X.bytes [] I.next_gives iter
+            (empty_bytes (K.default_type O.IS_LARGE))) ⊤) }
     {
         match MutableByteArray::<K, O>::from_iter(alloc, iter) {
             Ok(builder) => match builder.freeze() {
@@ -185,20 +213,23 @@ impl<K: ByteKind, O: Offset> ByteArray<K, O> {
         }
     }
 
-    /// The array of the items that an iterator gives, which holds no mask. The data type is the default. What the
-    /// iterator says of their number is not trusted.
+    /// Creates an array of the items of an iterator, without a mask, of the default data type.
+    /// `size_hint` is only used to reserve room.
     ///
     /// # Errors
-    /// `Overflow` where the bytes of a slot would end past the greatest offset, or `OutOfMemory` where memory is
-    /// refused.
+    /// - `Overflow` if an item would end past the greatest offset.
+    /// - `OutOfMemory` if an allocation fails.
     pub fn from_iter_values<X: ByteItem<K> + ItemError, I: Iterator<Item = X>>(
         alloc: Global,
         iter: I,
     ) -> Result<Self, X::Error>
         requires can { I.can_next iter }
         requires ends { IsFinite (I.remaining iter) }
-        ensures ok { IfOk result (λ array. ExtendsByItems (item_overflows X.bytes O.most) X.bytes [] I.next_gives iter (empty_bytes (K.default_type O.IS_LARGE)) array) }
-        ensures err { IfErr result (λ e. MatchGrowth (X.error e) (GivesTooManyItems (item_overflows X.bytes O.most) X.bytes [] I.next_gives iter (empty_bytes (K.default_type O.IS_LARGE))) ⊤) }
+        ensures ok { IfOk result (λ array. ExtendsByItems (item_overflows X.bytes O.most) X.bytes [] I.next_gives
+            iter (empty_bytes (K.default_type O.IS_LARGE)) array) }
+        ensures err { IfErr result (λ e.
+            MatchGrowth (X.error e) (GivesTooManyItems (item_overflows X.bytes O.most) X.bytes [] I.next_gives iter
+            (empty_bytes (K.default_type O.IS_LARGE))) ⊤) }
     {
         match MutableByteValuesArray::<K, O>::from_iter(alloc, iter) {
             Ok(builder) => match builder.freeze() {
@@ -209,14 +240,16 @@ impl<K: ByteKind, O: Offset> ByteArray<K, O> {
         }
     }
 
-    /// So many null slots that store no byte, and a mask. The type has to be one of the array's physical type.
+    /// Creates an array of `length` null slots that store no byte, with a mask. The data type must
+    /// have the array's physical type.
     ///
     /// # Errors
-    /// `OutOfMemory` where memory is refused.
+    /// `OutOfMemory` if an allocation fails.
     pub fn new_null(alloc: Global, data_type: DataType, length: usize) -> Result<Self, Error>
         requires { IsRightType (K.layout O.IS_LARGE) (logical_type data_type) }
-        ensures ok { IfOk result (λ array. array ≡ column_with (logical_type data_type) nothing_around (replicate length []) (Some (replicate length false))) }
-        ensures err { IfErr result (λ e. e ≡ Error.OutOfMemory) }
+        ensures ok { IfOk result (λ array. array ≡ column_with (logical_type data_type) nothing_around
+            (replicate length []) (Some (replicate length false))) }
+        ensures err { OnlyOutOfMemory result }
     {
         let values = ByteValues::new_empty_items(alloc, length)?;
         let validity = Bitmap::new_zeroed(alloc, length)?;
@@ -229,7 +262,7 @@ impl<K: ByteKind, O: Offset> ByteArray<K, O> {
 impl<K: ByteKind, O: Offset> From<MutableByteValuesArray<K, O>> for MutableByteArray<K, O> {
     ghost from_gives = { λ values builder. builder ≡ values };
 
-    /// The builder with nulls of the same slots, which holds no mask.
+    /// Converts a builder without nulls into one with nulls of the same slots, which holds no mask.
     fn from(values: MutableByteValuesArray<K, O>) -> Self {
         MutableByteArray {
             column: values.column,

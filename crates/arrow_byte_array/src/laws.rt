@@ -1,5 +1,5 @@
-//! Laws of arrays and builders of items of bytes, stated over the definitions for all values. Each is the contract of a
-//! function that does nothing.
+//! Laws of arrays and builders of bytes and of text, stated over the definitions for all values.
+//! Each is the contract of a function with an empty body.
 ghost use Rattle.std.specs.Prelude.{◌≡◌, ◌∷◌, [], ℕ, ◌≤◌, Bool, length, None};
 ghost use Rattle.arrow_types.specs.Types.{IsRightType, Refusal};
 ghost use Rattle.arrow_types.specs.declared.physical_type.PhysicalType.{PhysicalType};
@@ -9,31 +9,35 @@ ghost use Rattle.arrow_bytes.specs.Column.{ByteColumn, byte_column, bytes_held, 
 ghost use Rattle.arrow_bytes.specs.Kinds.{AreItems};
 ghost use Rattle.arrow_byte_array.specs.Acceptance.{array_tests, builder_tests, values_builder_tests};
 
-/// The parts of an array, which `into_inner` returns, are accepted by `try_new` and make the same array again: they pass
-/// its tests, and the column that they make is the one they were taken from.
+/// The parts of an array, which `into_inner` returns, pass the tests of `try_new` and make the same
+/// array again.
 pub fn array_again()
     ensures accepted { (text : Bool) (layout : PhysicalType) (wrong_type : Refusal) (c : ByteColumn)
         → AreItems text (stored_values c) → IsRightType layout c.data_type
-        → Passes (array_tests text layout wrong_type c.data_type (offsets_held c) (bytes_held c) (mask_of c)) }
+        → Passes (array_tests text layout wrong_type c.data_type
+        (offsets_held c) (bytes_held c) (mask_of c)) }
     ensures same { (c : ByteColumn) → IsColumn c
         → byte_column c.data_type (offsets_held c) (bytes_held c) (mask_of c) ≡ c }
 {}
 
-/// The parts of a builder, behind whose last slot no byte lies, are accepted by `try_new` and make the same builder again.
+/// The parts of a builder, after whose last slot no byte lies, pass the tests of `try_new` and make
+/// the same builder again.
 pub fn builder_again()
     ensures accepted { (text : Bool) (layout : PhysicalType) (wrong_type : Refusal) (c : ByteColumn)
         → c.around.tail ≡ [] → AreItems text (stored_values c) → IsRightType layout c.data_type
-        → Passes (builder_tests text layout wrong_type c.data_type (offsets_held c) (bytes_held c) (mask_of c)) }
+        → Passes (builder_tests text layout wrong_type c.data_type
+        (offsets_held c) (bytes_held c) (mask_of c)) }
     ensures same { (c : ByteColumn) → IsColumn c
         → byte_column c.data_type (offsets_held c) (bytes_held c) (mask_of c) ≡ c }
 {}
 
-/// The parts of a builder without nulls, behind whose last item no byte lies, are accepted by `try_new` and make the same
-/// builder again.
+/// The parts of a builder without nulls, after whose last item no byte lies, pass the tests of
+/// `try_new` and make the same builder again.
 pub fn values_builder_again()
     ensures accepted { (text : Bool) (layout : PhysicalType) (wrong_type : Refusal) (c : ByteColumn)
         → c.around.tail ≡ [] → AreItems text (stored_values c) → IsRightType layout c.data_type
-        → Passes (values_builder_tests text layout wrong_type c.data_type (offsets_held c) (bytes_held c)) }
+        → Passes (values_builder_tests text layout wrong_type c.data_type
+        (offsets_held c) (bytes_held c)) }
     ensures same { (c : ByteColumn) → IsColumn c → mask_of c ≡ None
         → byte_column c.data_type (offsets_held c) (bytes_held c) None ≡ c }
 {}

@@ -1,5 +1,5 @@
-//! Arrays of items of bytes and their builders, over a kind of item: bytes, or text (Arrow columnar format, "Variable-size
-//! Binary Layout").
+//! Arrays of bytes and of text and their builders, written once over a kind of items (Arrow
+//! columnar format, "Variable-size Binary Layout").
 #![tactic(auto)]
 
 mod array;
@@ -9,6 +9,7 @@ mod change;
 mod equality;
 mod extend;
 mod from_natural;
+mod items;
 pub mod laws;
 mod parts;
 mod utf8;
@@ -16,4 +17,5 @@ mod values_builder;
 
 pub use array::ByteArray;
 pub use builder::MutableByteArray;
+pub use items::ByteItems;
 pub use values_builder::MutableByteValuesArray;

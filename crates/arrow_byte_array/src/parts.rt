@@ -1,11 +1,12 @@
-//! Arrays and builders made of parts from outside, which are tested.
+//! Arrays and builders made of parts from outside, which are checked.
 ghost use Rattle.std.specs.Prelude.{◌≡◌, None, IfOk, IfErr};
 ghost use Rattle.arrow_types.specs.Types.{logical_type, refusal};
 ghost use Rattle.arrow_column.specs.Acceptance.{IsFirstFailure, Passes, accept};
 ghost use Rattle.arrow_bytes.specs.Pieces.{pieces_of};
 ghost use Rattle.arrow_bytes.specs.Column.{byte_column};
 ghost use Rattle.arrow_bytes.specs.Kinds.{BuilderCosts, Costs, TestsOnce};
-ghost use Rattle.arrow_byte_array.specs.Acceptance.{array_tests, builder_tests, typed_tests, values_builder_tests, values_tests};
+ghost use Rattle.arrow_byte_array.specs.Acceptance.{array_tests, builder_tests, typed_tests};
+ghost use Rattle.arrow_byte_array.specs.Acceptance.{values_builder_tests, values_tests};
 
 use crate::{ByteArray, MutableByteArray, MutableByteValuesArray};
 use arrow_bytes::{ByteKind, ByteValues, MutableByteValues};
@@ -19,21 +20,22 @@ use arrow_types::data_type::DataType;
 use arrow_types::error::Error;
 use arrow_types::offset::Offset;
 
-/// The text of the refusal of an array's mask.
+/// The text of the error about an array's mask.
 const UNFIT_MASK: &str = "validity mask length must match the number of values";
 
-/// The text of the refusal of a builder's mask.
+/// The text of the error about a builder's mask.
 const UNFIT_BUILDER_MASK: &str = "validity's length must be equal to the number of values";
 
-/// The stored values of an array's parts, each of which has to be an item of the kind. What the test costs is added to the
-/// counts.
+/// Returns the stored values of an array's parts, each of which must be an item of the kind. Adds
+/// the cost of the test to the counts.
 fn array_values<K: ByteKind, O: Offset>(
     offsets: OffsetsBuffer<O>,
     values: Buffer<u8>,
     cost: &mut TextCost,
 ) -> Result<ByteValues<K, O>, Error>
     ensures ok { IfOk result (λ stored.
-        Passes (values_tests K.is_text offsets values accept) × (stored ≡ pieces_of offsets values)) }
+        Passes (values_tests K.is_text offsets values accept)
+        × (stored ≡ pieces_of offsets values)) }
     ensures err { IfErr result (λ e.
         IsFirstFailure (values_tests K.is_text offsets values accept) (refusal e)) }
     ensures counted { TestsOnce offsets values cost.old cost.new }
@@ -45,13 +47,13 @@ fn array_values<K: ByteKind, O: Offset>(
 }
 
 impl<K: ByteKind, O: Offset> ByteArray<K, O> {
-    /// Creates an array from its parts. Bytes before the first offset and after the last are allowed and are not
-    /// validated.
+    /// Creates an array from its parts. Bytes before the first offset and after the last are
+    /// allowed and are not validated.
     ///
     /// # Errors
-    /// `OutOfSpec` where the last offset is past the values; or else where a slot is no item of the kind (text that is not
-    /// UTF-8 by itself); or else where a mask has another number of marks than there are slots; or else where the type is
-    /// none of the array's physical type.
+    /// `OutOfSpec` with the first of these that fails: the last offset is at most the number of
+    /// values; every slot is an item of the kind (text is UTF-8 by itself); a mask has a mark for
+    /// each slot; the data type has the array's physical type.
     pub fn try_new(
         data_type: DataType,
         offsets: OffsetsBuffer<O>,
@@ -59,22 +61,24 @@ impl<K: ByteKind, O: Offset> ByteArray<K, O> {
         validity: Option<Bitmap>,
     ) -> Result<Self, Error>
         ensures ok { let t = logical_type data_type in IfOk result (λ array.
-            Passes (array_tests K.is_text (K.layout O.IS_LARGE) K.wrong_type t offsets values validity)
+            Passes (array_tests K.is_text (K.layout O.IS_LARGE) K.wrong_type t
+            offsets values validity)
             × (array ≡ byte_column t offsets values validity)) }
         ensures err { let t = logical_type data_type in IfErr result (λ e. IsFirstFailure
-            (array_tests K.is_text (K.layout O.IS_LARGE) K.wrong_type t offsets values validity)
+            (array_tests K.is_text (K.layout O.IS_LARGE) K.wrong_type t
+            offsets values validity)
             (refusal e)) }
     {
         let mut cost = TextCost::new();
         ByteArray::try_new_counted(data_type, offsets, values, validity, &mut cost)
     }
 
-    /// The array of such parts, as `try_new`. What the test of text costs is added to the counts: for all slots
-    /// together one test whether bytes are ASCII, and where they are not one whether they are UTF-8, and one look at most
-    /// for each offset between two slots.
+    /// Creates an array from its parts, as `try_new`, and adds the cost of the test of text to the
+    /// counts: for all slots together one test for ASCII, one for UTF-8 if they are not ASCII, and
+    /// at most one look for each offset between two slots.
     ///
     /// # Errors
-    /// As of `try_new`; the counts may have risen.
+    /// As `try_new`; the counts may have risen.
     pub fn try_new_counted(
         data_type: DataType,
         offsets: OffsetsBuffer<O>,
@@ -83,10 +87,12 @@ impl<K: ByteKind, O: Offset> ByteArray<K, O> {
         cost: &mut TextCost,
     ) -> Result<Self, Error>
         ensures ok { let t = logical_type data_type in IfOk result (λ array.
-            Passes (array_tests K.is_text (K.layout O.IS_LARGE) K.wrong_type t offsets values validity)
+            Passes (array_tests K.is_text (K.layout O.IS_LARGE) K.wrong_type t
+            offsets values validity)
             × (array ≡ byte_column t offsets values validity)) }
         ensures err { let t = logical_type data_type in IfErr result (λ e. IsFirstFailure
-            (array_tests K.is_text (K.layout O.IS_LARGE) K.wrong_type t offsets values validity)
+            (array_tests K.is_text (K.layout O.IS_LARGE) K.wrong_type t
+            offsets values validity)
             (refusal e)) }
         ensures counted { TestsOnce offsets values cost.old cost.new }
         ensures exact { Costs K.is_text offsets values cost.old cost.new }
@@ -104,8 +110,8 @@ impl<K: ByteKind, O: Offset> ByteArray<K, O> {
     }
 }
 
-/// The stored values of a builder's parts, each of which has to be an item of the kind, under a type of its physical
-/// type. What the test costs is added to the counts.
+/// Returns the stored values of a builder's parts, each of which must be an item of the kind, under
+/// a data type of the builder's physical type. Adds the cost of the test to the counts.
 fn builder_values<K: ByteKind, O: Offset>(
     data_type: &DataType,
     offsets: Offsets<O>,
@@ -132,13 +138,13 @@ fn builder_values<K: ByteKind, O: Offset>(
 }
 
 impl<K: ByteKind, O: Offset> MutableByteArray<K, O> {
-    /// Creates a builder from its parts. Bytes before the first offset are allowed and are not validated; there are
-    /// none after the last.
+    /// Creates a builder from its parts. Bytes before the first offset are allowed and are not
+    /// validated.
     ///
     /// # Errors
-    /// `OutOfSpec` where the last offset is another than the number of values; or else where a slot is no item of the
-    /// kind (text that is not UTF-8 by itself); or else where the type is none of the builder's physical type; or else
-    /// where a mask has another number of marks than there are slots.
+    /// `OutOfSpec` with the first of these that fails: the last offset is the number of values;
+    /// every slot is an item of the kind (text is UTF-8 by itself); the data type has the builder's
+    /// physical type; a mask has a mark for each slot.
     pub fn try_new(
         data_type: DataType,
         offsets: Offsets<O>,
@@ -158,12 +164,12 @@ impl<K: ByteKind, O: Offset> MutableByteArray<K, O> {
         MutableByteArray::try_new_counted(data_type, offsets, values, validity, &mut cost)
     }
 
-    /// The builder of such parts, as `try_new`. What the test of text costs is added to the counts: for all slots
-    /// together one test whether bytes are ASCII, and where they are not one whether they are UTF-8, and one look at most
-    /// for each offset between two slots.
+    /// Creates a builder from its parts, as `try_new`, and adds the cost of the test of text to the
+    /// counts: for all slots together one test for ASCII, one for UTF-8 if they are not ASCII, and
+    /// at most one look for each offset between two slots.
     ///
     /// # Errors
-    /// As of `try_new`; the counts may have risen.
+    /// As `try_new`; the counts may have risen.
     pub fn try_new_counted(
         data_type: DataType,
         offsets: Offsets<O>,
@@ -193,12 +199,13 @@ impl<K: ByteKind, O: Offset> MutableByteArray<K, O> {
 }
 
 impl<K: ByteKind, O: Offset> MutableByteValuesArray<K, O> {
-    /// Creates a builder from its parts. Bytes before the first offset are allowed and are not validated; there are
-    /// none after the last.
+    /// Creates a builder from its parts. Bytes before the first offset are allowed and are not
+    /// validated.
     ///
     /// # Errors
-    /// `OutOfSpec` where the last offset is another than the number of values; or else where an item is none of the
-    /// kind (text that is not UTF-8 by itself); or else where the type is none of the builder's physical type.
+    /// `OutOfSpec` with the first of these that fails: the last offset is the number of values;
+    /// every item is one of the kind (text is UTF-8 by itself); the data type has the builder's
+    /// physical type.
     pub fn try_new(data_type: DataType, offsets: Offsets<O>, values: Vec<u8>) -> Result<Self, Error>
         ensures ok { let t = logical_type data_type in IfOk result (λ builder.
             Passes (values_builder_tests K.is_text (K.layout O.IS_LARGE) K.wrong_builder_type t
@@ -213,12 +220,12 @@ impl<K: ByteKind, O: Offset> MutableByteValuesArray<K, O> {
         MutableByteValuesArray::try_new_counted(data_type, offsets, values, &mut cost)
     }
 
-    /// The builder of such parts, as `try_new`. What the test of text costs is added to the counts: for all items
-    /// together one test whether bytes are ASCII, and where they are not one whether they are UTF-8, and one look at most
-    /// for each offset between two items.
+    /// Creates a builder from its parts, as `try_new`, and adds the cost of the test of text to the
+    /// counts: for all items together one test for ASCII, one for UTF-8 if they are not ASCII, and
+    /// at most one look for each offset between two items.
     ///
     /// # Errors
-    /// As of `try_new`; the counts may have risen.
+    /// As `try_new`; the counts may have risen.
     pub fn try_new_counted(
         data_type: DataType,
         offsets: Offsets<O>,

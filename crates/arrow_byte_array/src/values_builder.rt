@@ -1,7 +1,10 @@
-//! The builder of arrays of one kind without nulls.
-ghost use Rattle.std.specs.Prelude.{◌≡◌, ◌≤◌, [], false, is_some, IsTrue, length, None, Some, OnOk, IfOk, IfErr, option_map, IsOk};
+//! Builders without nulls of arrays of bytes and of text.
+ghost use Rattle.std.specs.Prelude.{◌≡◌, ◌≤◌, [], false, is_some, IsTrue, length, None, Some, OnOk, IfOk, IfErr};
+ghost use Rattle.std.specs.Prelude.{option_map, IsOk};
+ghost use Rattle.arrow_types.specs.Failures.{OnlyOutOfMemory, OutOfMemoryKeeps};
 ghost use Rattle.arrow_types.specs.Types.{logical_type, IsRightType};
-ghost use Rattle.arrow_column.specs.Column.{all_valid, append_slot, last_slot, stored_values, without_last, without_needless_mask};
+ghost use Rattle.arrow_column.specs.Column.{all_valid, append_slot, last_slot, stored_values, without_last};
+ghost use Rattle.arrow_column.specs.Column.{without_needless_mask};
 ghost use Rattle.arrow_memory.specs.Offsets.{last_of};
 ghost use Rattle.arrow_check.specs.Pieces.{items_of};
 ghost use Rattle.arrow_bytes.specs.Column.{byte_column, bytes_held, empty_bytes, offsets_held};
@@ -18,8 +21,8 @@ use arrow_types::offset::Offset;
 use std::alloc::Global;
 use std::marker::Model;
 
-/// A list of items of one kind, none of which is null, that grows. Bytes may lie before the first of them, and none lie
-/// behind the last.
+/// A growing array of byte strings of one kind, none of which is null. Bytes may lie before the
+/// first of them; none lie after the last.
 #[derive(Drop)]
 pub struct MutableByteValuesArray<K: ByteKind, O: Offset> {
     pub(crate) column: GrowingColumn<MutableByteValues<K, O>>,
@@ -35,11 +38,13 @@ impl<K: ByteKind, O: Offset> Model for MutableByteValuesArray<K, O> {
 
     ghost view = { λ builder. builder.column };
 
-    ghost invariant = { λ builder. IsRightType (K.layout O.IS_LARGE) builder.column.data_type × (builder.column.held ≡ false) };
+    ghost invariant = { λ builder. IsRightType (K.layout O.IS_LARGE) builder.column.data_type
+        × (builder.column.held ≡ false) };
 }
 
 impl<K: ByteKind, O: Offset> MutableByteValuesArray<K, O> {
-    /// The data type unless another is given: the kind's own, and its large one over large offsets.
+    /// Returns the default data type: `Binary` or `Utf8`, or the large type if the offset type is
+    /// large.
     pub fn default_data_type() -> DataType
         ensures value { logical_type result ≡ K.default_type O.IS_LARGE }
         ensures right { IsRightType (K.layout O.IS_LARGE) (logical_type result) }
@@ -47,46 +52,46 @@ impl<K: ByteKind, O: Offset> MutableByteValuesArray<K, O> {
         K::default_type(O::IS_LARGE)
     }
 
-    /// No item; the data type is the default.
+    /// Creates a builder of no items, of the default data type.
     ///
     /// # Errors
-    /// `OutOfMemory` where memory is refused.
+    /// `OutOfMemory` if an allocation fails.
     pub fn new(alloc: Global) -> Result<Self, Error>
         ensures ok { IfOk result (λ builder. builder ≡ empty_bytes (K.default_type O.IS_LARGE)) }
-        ensures err { IfErr result (λ e. e ≡ Error.OutOfMemory) }
+        ensures err { OnlyOutOfMemory result }
     {
         MutableByteValuesArray::with_capacities(alloc, 0, 0)
     }
 
-    /// No item; the data type is the default.
+    /// Creates a builder of no items, as [`MutableByteValuesArray::new`].
     ///
     /// # Errors
-    /// `OutOfMemory` where memory is refused.
+    /// `OutOfMemory` if an allocation fails.
     pub fn default(alloc: Global) -> Result<Self, Error>
         ensures ok { IfOk result (λ builder. builder ≡ empty_bytes (K.default_type O.IS_LARGE)) }
-        ensures err { IfErr result (λ e. e ≡ Error.OutOfMemory) }
+        ensures err { OnlyOutOfMemory result }
     {
         MutableByteValuesArray::new(alloc)
     }
 
-    /// No item, with room for so many.
+    /// Creates a builder of no items with room for at least `capacity` items.
     ///
     /// # Errors
-    /// `OutOfMemory` where memory is refused.
+    /// `OutOfMemory` if an allocation fails.
     pub fn with_capacity(alloc: Global, capacity: usize) -> Result<Self, Error>
         ensures ok { IfOk result (λ builder. builder ≡ empty_bytes (K.default_type O.IS_LARGE)) }
-        ensures err { IfErr result (λ e. e ≡ Error.OutOfMemory) }
+        ensures err { OnlyOutOfMemory result }
     {
         MutableByteValuesArray::with_capacities(alloc, capacity, 0)
     }
 
-    /// No item, with room for so many and for so many bytes.
+    /// Creates a builder of no items with room for at least `capacity` items and `values` bytes.
     ///
     /// # Errors
-    /// `OutOfMemory` where memory is refused.
+    /// `OutOfMemory` if an allocation fails.
     pub fn with_capacities(alloc: Global, capacity: usize, values: usize) -> Result<Self, Error>
         ensures ok { IfOk result (λ builder. builder ≡ empty_bytes (K.default_type O.IS_LARGE)) }
-        ensures err { IfErr result (λ e. e ≡ Error.OutOfMemory) }
+        ensures err { OnlyOutOfMemory result }
     {
         let values = MutableByteValues::with_capacities(alloc, capacity, values)?;
         Ok(MutableByteValuesArray {
@@ -94,7 +99,7 @@ impl<K: ByteKind, O: Offset> MutableByteValuesArray<K, O> {
         })
     }
 
-    /// The data type, the offsets, and all bytes.
+    /// Returns the data type, the offsets, and all bytes.
     pub fn into_inner(self) -> (DataType, Offsets<O>, Vec<u8>)
         ensures data_type { logical_type result.0 ≡ self.data_type }
         ensures offsets { result.1 ≡ offsets_held self }
@@ -109,7 +114,7 @@ impl<K: ByteKind, O: Offset> MutableByteValuesArray<K, O> {
         (data_type, offsets, values)
     }
 
-    /// The number of items.
+    /// Returns the number of items.
     #[inline(always)]
     pub fn len(&self) -> usize
         ensures { result ≡ length self.now.rows }
@@ -117,14 +122,14 @@ impl<K: ByteKind, O: Offset> MutableByteValuesArray<K, O> {
         self.column.len()
     }
 
-    /// How many items there is room for without a growth of the offsets; their bytes may have less.
+    /// Returns the number of items for whose offsets there is room; their bytes may have less.
     pub fn capacity(&self) -> usize
         ensures { length self.now.rows ≤ result }
     {
         self.column.values().capacity()
     }
 
-    /// All bytes, those before the first item too. Every item is one of the kind.
+    /// Returns all bytes, including those before the first item. Every item is one of the kind.
     #[inline(always)]
     pub fn values(&self) -> &Vec<u8>
         ensures value { result.now.items ≡ bytes_held self.now }
@@ -134,7 +139,7 @@ impl<K: ByteKind, O: Offset> MutableByteValuesArray<K, O> {
         self.column.values().bytes()
     }
 
-    /// The offsets: where each item begins and ends in the bytes.
+    /// Returns the offsets: where each item begins and ends in the bytes.
     #[inline(always)]
     pub fn offsets(&self) -> &Offsets<O>
         ensures { result.now ≡ offsets_held self.now }
@@ -142,7 +147,7 @@ impl<K: ByteKind, O: Offset> MutableByteValuesArray<K, O> {
         self.column.values().offsets()
     }
 
-    /// The data type.
+    /// Returns the data type.
     #[inline(always)]
     pub fn data_type(&self) -> &DataType
         ensures value { logical_type result.now ≡ self.now.data_type }
@@ -158,39 +163,41 @@ impl<K: ByteKind, O: Offset> MutableByteValuesArray<K, O> {
     /// Appends an empty item.
     ///
     /// # Errors
-    /// `OutOfMemory` where a growth is refused; the builder is then as before.
+    /// `OutOfMemory` if an allocation fails; the builder is then unchanged.
     #[inline(always)]
     pub fn push_null(&mut self) -> Result<(), Error>
         ensures ok { OnOk result (self.new ≡ append_slot [] self.old (Some [])) }
-        ensures err { IfErr result (λ e. (e ≡ Error.OutOfMemory) × (self.new ≡ self.old)) }
+        ensures err { OutOfMemoryKeeps result self.old self.new }
     {
         self.column.push_unmasked_default()
     }
 
-    /// Removes the last item and answers a copy of it; `None` where there is none, which takes no memory.
+    /// Removes the last item and returns a copy of it; `None` if there is none, for which nothing
+    /// is allocated.
     ///
     /// # Errors
-    /// `OutOfMemory` where the copy is refused; the builder is then as before.
+    /// `OutOfMemory` if the copy cannot be allocated; the builder is then unchanged.
     pub fn pop(&mut self) -> Result<Option<K::Owned>, Error>
         ensures ok { OnOk result (self.new ≡ without_last self.old) }
         ensures slot { IfOk result (λ slot. option_map K.owned slot ≡ last_slot self.old) }
-        ensures err { IfErr result (λ e. (e ≡ Error.OutOfMemory) × IsTrue (is_some (last_slot self.old)) × (self.new ≡ self.old)) }
+        ensures err { IfErr result (λ e. (e ≡ Error.OutOfMemory) × IsTrue (is_some (last_slot self.old))
+            × (self.new ≡ self.old)) }
     {
         pop_slot(&mut self.column)
     }
 
-    /// Makes room for so many items more, and for so many bytes more.
+    /// Reserves room for at least `additional` more items and `additional_values` more bytes.
     ///
     /// # Errors
-    /// `OutOfMemory` where a growth is refused.
+    /// `OutOfMemory` if an allocation fails.
     pub fn reserve(&mut self, additional: usize, additional_values: usize) -> Result<(), Error>
         ensures kept { self.new ≡ self.old }
-        ensures err { IfErr result (λ e. e ≡ Error.OutOfMemory) }
+        ensures err { OnlyOutOfMemory result }
     {
         self.column.reserve_items(additional, additional_values)
     }
 
-    /// Gives back the room that is not used.
+    /// Gives unused room back to the allocator, if it takes it.
     ///
     /// # Errors
     /// Never: if the allocator refuses a smaller allocation, the room stays.
@@ -201,27 +208,28 @@ impl<K: ByteKind, O: Offset> MutableByteValuesArray<K, O> {
         self.column.shrink_to_fit()
     }
 
-    /// A copy of the builder.
+    /// Returns a copy.
     ///
     /// # Errors
-    /// `OutOfMemory` where memory is refused.
+    /// `OutOfMemory` if an allocation fails.
     pub fn clone(&self) -> Result<Self, Error>
         ensures ok { IfOk result (λ copy. copy ≡ self.now) }
-        ensures err { IfErr result (λ e. e ≡ Error.OutOfMemory) }
+        ensures err { OnlyOutOfMemory result }
     {
         Ok(MutableByteValuesArray {
             column: self.column.clone()?,
         })
     }
 
-    /// The array of the same items, which holds no mask. No byte is copied.
+    /// Converts the builder into an array of the same items without copying bytes. The array holds
+    /// no mask.
     ///
     /// # Errors
-    /// `OutOfMemory` where memory is refused; the builder is then lost.
+    /// `OutOfMemory` if an allocation fails; the builder is then dropped.
     pub fn freeze(self) -> Result<ByteArray<K, O>, Error>
         ensures ok { IfOk result (λ array. array ≡ self) }
         ensures needless { IfOk result (λ array. array ≡ without_needless_mask self) }
-        ensures err { IfErr result (λ e. e ≡ Error.OutOfMemory) }
+        ensures err { OnlyOutOfMemory result }
     {
         let (data_type, values, _) = self.column.into_inner();
         Ok(ByteArray {

@@ -14,6 +14,7 @@ mod values;
 
 use arrow_byte_array::{ByteArray, MutableByteArray, MutableByteValuesArray};
 use arrow_bytes::{Binary, Utf8};
+use arrow_check::accessor::ArrayAccessor;
 use arrow_memory::bitmap::{Bitmap, MutableBitmap};
 use arrow_memory::buffer::Buffer;
 use arrow_memory::offset::{Offsets, OffsetsBuffer};
@@ -35,6 +36,15 @@ const NOTHING: Pieces = (&[0], b"", "none");
 const SLOTS: Pieces = (&[0, 2, 2, 7], b"\xC3\xA9there", "101");
 
 const ITEMS: Pieces = (&[0, 2, 2, 7], b"\xC3\xA9there", "none");
+
+/// The item at a place of what lends its items, where there is one.
+fn lent<'a, A: ArrayAccessor<'a>>(array: &'a A, index: usize) -> Option<A::Item> {
+    if index < array.len() {
+        Some(array.value(index))
+    } else {
+        None
+    }
+}
 
 /// An array or a builder.
 trait Shows: Drop {

@@ -36,4 +36,5 @@ item_overflows shown most around items item = overflows_by most around items (le
 
 -- whether the slots of another column are more than offsets up to a greatest number can tell the end of
 abbrev pub joins_overflow : ℕ → ByteColumn → ByteColumn → Bool
-joins_overflow most column other = overflows_by most column.around (stored_values column) (length (concat (stored_values other)))
+joins_overflow most column other = overflows_by most column.around (stored_values column)
+    (length (concat (stored_values other)))

@@ -17,7 +17,8 @@ lead-twice lead items a n b low =
     )
 
 tail-twice : (tail : List ℕ) (items : List (List ℕ)) (a n p : ℕ) → p ≤ n
-    → concat (drop p (take n (drop a items))) ++ (concat (drop (a + n) items) ++ tail) ≡ concat (drop (a + p) items) ++ tail
+    → concat (drop p (take n (drop a items))) ++ (concat (drop (a + n) items) ++ tail) ≡ concat (drop (a + p) items)
+    ++ tail
 tail-twice tail items a n p low =
     let k = n - p in
     let all : n ≡ p + k = omega arith in

@@ -25,14 +25,20 @@ AreItems false items = ⊤
 abbrev pub CutItems : Bool → List ℕ → List ℕ → Type 0
 CutItems text offsets bytes = (last_of offsets ≤ length bytes) × AreItems text (items_of offsets bytes)
 
--- from some counts of what text checks cost to later ones: of these bytes the window was tested once at most, whether it
+-- from some counts of what text checks cost to later ones: of these bytes the window was tested once at most,
+-- whether it
 -- is ASCII and whether it is UTF-8, and each inner offset was looked at once at most
 abbrev pub TestsOnce : List ℕ → List ℕ → Cost → Cost → Type 0
-TestsOnce offsets bytes old new = ReadsAtMost 1 1 (length offsets - 2) (record { bytes = bytes; cost = old }) (record { bytes = bytes; cost = new })
+TestsOnce offsets bytes old new = ReadsAtMost 1 1 (length offsets - 2) (record { bytes = bytes; cost = old })
+    (record { bytes = bytes; cost = new })
 
 -- what the test of an array's parts costs: of text what reading the window once costs, of bytes nothing
 abbrev pub Costs : Bool → List ℕ → List ℕ → Cost → Cost → Type 0
-Costs true offsets bytes old new = ReadsOnce (CutItems true offsets bytes) offsets (record { bytes = bytes; cost = old }) (record { bytes = bytes; cost = new })
+Costs true offsets bytes old new = ReadsOnce (CutItems true offsets bytes) offsets (record {
+  bytes = bytes;
+  cost =
+      old;
+}) (record { bytes = bytes; cost = new })
 Costs false offsets bytes old new = new ≡ old
 
 -- and that of a builder's parts: nothing is read unless the last offset is the end of the bytes
@@ -58,11 +64,14 @@ text_layout large = if large then physical.LargeUtf8 else physical.Utf8
 
 -- the refusal of another type for an array of bytes
 abbrev pub wrong_binary_type : Refusal
-wrong_binary_type = out_of_spec (codes "BinaryArray can only be initialized with DataType::Binary or DataType::LargeBinary")
+wrong_binary_type = out_of_spec
+    (codes "BinaryArray can only be initialized with DataType::Binary or DataType::LargeBinary")
 
 -- the refusal of another type for a builder of bytes
 abbrev pub wrong_binary_builder_type : Refusal
-wrong_binary_builder_type = out_of_spec (codes "MutableBinaryValuesArray can only be initialized with DataType::Binary or DataType::LargeBinary")
+wrong_binary_builder_type =
+    out_of_spec (codes
+    "MutableBinaryValuesArray can only be initialized with DataType::Binary or DataType::LargeBinary")
 
 -- the refusal of another type for an array of text
 abbrev pub wrong_text_type : Refusal
@@ -70,4 +79,5 @@ wrong_text_type = out_of_spec (codes "Utf8Array can only be initialized with Dat
 
 -- the refusal of another type for a builder of text
 abbrev pub wrong_text_builder_type : Refusal
-wrong_text_builder_type = out_of_spec (codes "MutableUtf8ValuesArray can only be initialized with DataType::Utf8 or DataType::LargeUtf8")
+wrong_text_builder_type =
+    out_of_spec (codes "MutableUtf8ValuesArray can only be initialized with DataType::Utf8 or DataType::LargeUtf8")

@@ -1,8 +1,8 @@
-//! What lies around items, as contracts see it.
+//! What contracts see around items.
 use std::marker::Model;
 
-/// What contracts see around items of bytes: the bytes before the first of them, and those behind the last. It stands
-/// where a type has to be named; no call makes one.
+/// What contracts see around items of bytes: the bytes before the first of them and those after the
+/// last. It names a type; no call makes one.
 #[derive(Drop)]
 pub struct BytesAround {
     lead: Vec<u8>,

@@ -1,27 +1,23 @@
-//! Bytes: any bytes are an item.
+//! The kind of bytes, of which any bytes are an item.
 ghost use Rattle.std.specs.Prelude.{◌≡◌};
-ghost use Rattle.arrow_check.specs.Items.{IsWithin, rest_of};
 
-use crate::{ByteItem, ByteItems, ByteKind, ByteValues, ItemError, MutableByteValues};
-use arrow_check::accessor::{ArrayAccessor, Bytes};
+use crate::{ByteItem, ByteKind, ItemError};
 use arrow_check::cost::TextCost;
-use arrow_check::values_iter::ArrayValuesIter;
-use arrow_memory::list_iter::ListIter;
 use arrow_types::data_type::DataType;
 use arrow_types::error::Error;
 use arrow_types::offset::Offset;
 use arrow_types::physical_type::PhysicalType;
 use std::alloc::Global;
 
-/// Bytes. Any list of bytes is an item.
+/// The kind of bytes. Any list of bytes is an item.
 #[derive(Copy, Clone)]
 pub struct Binary;
 
-/// The text of the refusal of an array's type.
+/// The text of the error about an array's data type.
 const WRONG_TYPE: &str =
     "BinaryArray can only be initialized with DataType::Binary or DataType::LargeBinary";
 
-/// The text of the refusal of a builder's type.
+/// The text of the error about a builder's data type.
 const WRONG_BUILDER_TYPE: &str =
     "MutableBinaryValuesArray can only be initialized with DataType::Binary or DataType::LargeBinary";
 
@@ -101,143 +97,5 @@ impl<'a> ItemError for &'a [u8] {
         ensures { result ≡ refused }
     {
         refused
-    }
-}
-
-impl<'a, O: Offset> ArrayAccessor<'a> for ByteValues<Binary, O> {
-    ghost use Rattle.std.specs.Prelude.{◌≡◌, ◌<◌, List, ℕ, Some, length, slice_get};
-
-    type Item = &'a [u8];
-
-    ghost Seen = { List ℕ };
-
-    ghost seen = { λ item. item.now };
-
-    ghost items = { λ values. values.items };
-
-    #[inline(always)]
-    fn value(&'a self, index: usize) -> &'a [u8]
-        requires { index < length self.now.items }
-        ensures { slice_get self.now.items index ≡ Some result.now }
-    {
-        self.value(index)
-    }
-
-    #[inline(always)]
-    fn len(&self) -> usize
-        ensures { result ≡ length self.now.items }
-    {
-        self.len()
-    }
-}
-
-impl<'a, O: Offset> ByteValues<Binary, O> {
-    /// The items in order.
-    #[inline(always)]
-    pub fn iter(&'a self) -> ByteItems<'a, ByteValues<Binary, O>>
-        ensures ready { IsWithin (λ values. values.items) result.items }
-        ensures all { rest_of (λ values. values.items) result.items ≡ self.now.items }
-    {
-        ByteItems {
-            items: ArrayValuesIter::new(self),
-        }
-    }
-}
-
-impl<'a, O: Offset> ListIter for ByteItems<'a, ByteValues<Binary, O>> {
-    ghost use Rattle.arrow_check.specs.Items.{IsWithin, rest_of};
-
-    type Item = &'a [u8];
-
-    type Seen = Bytes;
-
-    ghost seen = { λ item. item.now };
-
-    ghost rest = { λ left. rest_of (λ values. values.items) left.items };
-
-    ghost can_take = { λ left. IsWithin (λ values. values.items) left.items };
-
-    #[inline(always)]
-    fn take_first(&mut self) -> Option<&'a [u8]> {
-        self.items.next()
-    }
-
-    #[inline(always)]
-    fn take_last(&mut self) -> Option<&'a [u8]> {
-        self.items.next_back()
-    }
-
-    #[inline(always)]
-    fn count_left(&self) -> usize {
-        self.items.len()
-    }
-}
-
-impl<'a, O: Offset> ArrayAccessor<'a> for MutableByteValues<Binary, O> {
-    ghost use Rattle.std.specs.Prelude.{◌≡◌, ◌<◌, List, ℕ, Some, length, slice_get};
-
-    type Item = &'a [u8];
-
-    ghost Seen = { List ℕ };
-
-    ghost seen = { λ item. item.now };
-
-    ghost items = { λ values. values.items };
-
-    #[inline(always)]
-    fn value(&'a self, index: usize) -> &'a [u8]
-        requires { index < length self.now.items }
-        ensures { slice_get self.now.items index ≡ Some result.now }
-    {
-        self.value(index)
-    }
-
-    #[inline(always)]
-    fn len(&self) -> usize
-        ensures { result ≡ length self.now.items }
-    {
-        self.len()
-    }
-}
-
-impl<'a, O: Offset> MutableByteValues<Binary, O> {
-    /// The items in order.
-    #[inline(always)]
-    pub fn iter(&'a self) -> ByteItems<'a, MutableByteValues<Binary, O>>
-        ensures ready { IsWithin (λ values. values.items) result.items }
-        ensures all { rest_of (λ values. values.items) result.items ≡ self.now.items }
-    {
-        ByteItems {
-            items: ArrayValuesIter::new(self),
-        }
-    }
-}
-
-impl<'a, O: Offset> ListIter for ByteItems<'a, MutableByteValues<Binary, O>> {
-    ghost use Rattle.arrow_check.specs.Items.{IsWithin, rest_of};
-
-    type Item = &'a [u8];
-
-    type Seen = Bytes;
-
-    ghost seen = { λ item. item.now };
-
-    ghost rest = { λ left. rest_of (λ values. values.items) left.items };
-
-    ghost can_take = { λ left. IsWithin (λ values. values.items) left.items };
-
-    #[inline(always)]
-    fn take_first(&mut self) -> Option<&'a [u8]> {
-        self.items.next()
-    }
-
-    #[inline(always)]
-    fn take_last(&mut self) -> Option<&'a [u8]> {
-        self.items.next_back()
-    }
-
-    #[inline(always)]
-    fn count_left(&self) -> usize {
-        self.items.len()
     }
 }

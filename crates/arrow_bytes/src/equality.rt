@@ -1,4 +1,4 @@
-//! Equality of stored values of bytes, place by place.
+//! Comparison of stored byte strings at a place.
 use crate::{ByteKind, MutableByteValues};
 use arrow_column::EqualValues;
 use arrow_types::offset::Offset;

@@ -1,5 +1,6 @@
-//! Stored values of bytes that grow.
+//! Growing lists of byte strings.
 ghost use Rattle.std.specs.Prelude.{◌≡◌, ◌<◌, ◌≤◌, [], length, slice_get, Some, IfOk, IfErr};
+ghost use Rattle.arrow_types.specs.Failures.{OnlyOutOfMemory};
 ghost use Rattle.arrow_memory.specs.Offsets.{last_of, IsOffsets};
 ghost use Rattle.arrow_check.specs.Pieces.{bytes_of, items_of, offsets_of};
 ghost use Rattle.arrow_bytes.specs.Kinds.{AreItems, IsItem};
@@ -16,7 +17,8 @@ use arrow_types::offset::Offset;
 use std::alloc::Global;
 use std::marker::{Model, PhantomData};
 
-/// Stored values of bytes that grow. There may be bytes before the first of them, and there are none behind the last.
+/// The byte strings that a builder stores. Bytes may lie before the first of them; none lie after
+/// the last.
 #[derive(Drop)]
 pub struct MutableByteValues<K: ByteKind, O: Offset> {
     pub(crate) offsets: Offsets<O>,
@@ -36,12 +38,13 @@ impl<K: ByteKind, O: Offset> Model for MutableByteValues<K, O> {
 
     ghost view = { λ values. pieces_of values.offsets values.bytes.items };
 
-    ghost invariant = { λ values. IsOffsets values.offsets × (last_of values.offsets ≡ length values.bytes.items) × AreItems K.is_text (items_of values.offsets values.bytes.items) };
+    ghost invariant = { λ values. IsOffsets values.offsets × (last_of values.offsets ≡ length values.bytes.items)
+        × AreItems K.is_text (items_of values.offsets values.bytes.items) };
 }
 
 #[tactic(auto, using(crate::proofs::PieceLemmas::piece_reads, crate::proofs::PieceLemmas::piece_growth, crate::proofs::KindLemmas::kind_growth))]
 impl<K: ByteKind, O: Offset> MutableByteValues<K, O> {
-    /// The items that offsets cut out of bytes, which end at the last offset.
+    /// Creates the items between offsets of bytes that end at the last offset.
     #[inline(always)]
     pub fn new(offsets: Offsets<O>, bytes: Vec<u8>) -> Self
         requires ends { last_of offsets ≡ length bytes.items }
@@ -57,13 +60,13 @@ impl<K: ByteKind, O: Offset> MutableByteValues<K, O> {
         }
     }
 
-    /// No item, with room for so many, and for so many bytes.
+    /// Creates a list of no items with room for at least `capacity` items and `values` bytes.
     ///
     /// # Errors
-    /// `OutOfMemory` where memory is refused.
+    /// `OutOfMemory` if an allocation fails.
     pub fn with_capacities(alloc: Global, capacity: usize, values: usize) -> Result<Self, Error>
         ensures ok { IfOk result (λ values. values ≡ record { around = nothing_around; items = [] }) }
-        ensures err { IfErr result (λ e. e ≡ Error.OutOfMemory) }
+        ensures err { OnlyOutOfMemory result }
     {
         let offsets = Offsets::with_capacity(alloc, capacity)?;
         let bytes = Vec::with_capacity(alloc, values)?;
@@ -74,7 +77,7 @@ impl<K: ByteKind, O: Offset> MutableByteValues<K, O> {
         })
     }
 
-    /// The offsets, and all bytes.
+    /// Returns the offsets and all bytes.
     #[inline(always)]
     pub fn into_inner(self) -> (Offsets<O>, Vec<u8>)
         ensures offsets { result.0 ≡ offsets_of (length self.around.lead) self.items }
@@ -86,7 +89,7 @@ impl<K: ByteKind, O: Offset> MutableByteValues<K, O> {
         (self.offsets, self.bytes)
     }
 
-    /// The offsets.
+    /// Returns the offsets.
     #[inline(always)]
     pub fn offsets(&self) -> &Offsets<O>
         ensures { result.now ≡ offsets_of (length self.now.around.lead) self.now.items }
@@ -94,7 +97,7 @@ impl<K: ByteKind, O: Offset> MutableByteValues<K, O> {
         &self.offsets
     }
 
-    /// All bytes, those before the first item too.
+    /// Returns all bytes, including those before the first item.
     #[inline(always)]
     pub fn bytes(&self) -> &Vec<u8>
         ensures value { result.now.items ≡ bytes_of self.now.around.lead self.now.items self.now.around.tail }
@@ -104,7 +107,7 @@ impl<K: ByteKind, O: Offset> MutableByteValues<K, O> {
         &self.bytes
     }
 
-    /// The number of items.
+    /// Returns the number of items.
     #[inline(always)]
     pub fn len(&self) -> usize
         ensures { result ≡ length self.now.items }
@@ -112,7 +115,7 @@ impl<K: ByteKind, O: Offset> MutableByteValues<K, O> {
         self.offsets.len_proxy()
     }
 
-    /// The item at a place.
+    /// Returns the item at `i`.
     #[inline(always)]
     pub fn value(&self, i: usize) -> &[u8]
         requires { i < length self.now.items }
@@ -123,20 +126,20 @@ impl<K: ByteKind, O: Offset> MutableByteValues<K, O> {
         &self.bytes.as_slice()[start..end]
     }
 
-    /// How many items there is room for without a growth of the offsets; their bytes may have less.
+    /// Returns the number of items for whose offsets there is room; their bytes may have less.
     pub fn capacity(&self) -> usize
         ensures { length self.now.items ≤ result }
     {
         self.offsets.capacity()
     }
 
-    /// The same items, which no longer change. No byte is copied.
+    /// Converts the items into immutable ones without copying bytes.
     ///
     /// # Errors
-    /// `OutOfMemory` where memory is refused; the items are then lost.
+    /// `OutOfMemory` if an allocation fails; the items are then dropped.
     pub fn freeze(self) -> Result<ByteValues<K, O>, Error>
         ensures ok { IfOk result (λ frozen. frozen ≡ self) }
-        ensures err { IfErr result (λ e. e ≡ Error.OutOfMemory) }
+        ensures err { OnlyOutOfMemory result }
     {
         let MutableByteValues { offsets, bytes, .. } = self;
         let offsets = offsets.freeze()?;

@@ -1,23 +1,26 @@
-//! Laws of offsets and the items that they cut out of bytes, stated over the definitions for all values. Each is the
-//! contract of a function that does nothing.
+//! Laws of offsets and the items between them, stated over the definitions for all values. Each is
+//! the contract of a function with an empty body.
 ghost use Rattle.std.specs.Prelude.{◌≡◌, ◌+◌, ◌++◌, ◌≤◌, ℕ, List, length};
 ghost use Rattle.std.specs.List.{concat};
 ghost use Rattle.arrow_memory.specs.Offsets.{IsOffsets, first_of, last_of};
 ghost use Rattle.arrow_check.specs.Pieces.{bytes_of, items_of, lead_of, offsets_of, tail_of};
 ghost use Rattle.arrow_bytes.specs.Pieces.{Around, pieces_of};
 
-/// Bytes are what lies before the first item, the items joined, and what lies behind the last. The first piece is as long
-/// as the first offset says, and the offsets are its length and then the running sums of the items' lengths.
+/// Bytes are what lies before the first item, the items joined, and what lies after the last. The
+/// first piece is as long as the first offset, and the offsets are its length followed by the
+/// running sums of the items' lengths.
 pub fn pieces_of_bytes()
     ensures bytes { (offsets bytes : List ℕ) → IsOffsets offsets → last_of offsets ≤ length bytes
-        → lead_of offsets bytes ++ (concat (items_of offsets bytes) ++ tail_of offsets bytes) ≡ bytes }
+        → lead_of offsets bytes ++ (concat (items_of offsets bytes) ++ tail_of offsets bytes)
+        ≡ bytes }
     ensures lead { (offsets bytes : List ℕ) → IsOffsets offsets → last_of offsets ≤ length bytes
         → length (lead_of offsets bytes) ≡ first_of offsets }
     ensures offsets { (offsets bytes : List ℕ) → IsOffsets offsets → last_of offsets ≤ length bytes
         → offsets_of (length (lead_of offsets bytes)) (items_of offsets bytes) ≡ offsets }
 {}
 
-/// The way back: the offsets and bytes of any three pieces are legal, lie within each other, and cut the pieces out again.
+/// The way back: the offsets of any three pieces are legal, lie within their bytes, and cut the
+/// same pieces out of them.
 pub fn bytes_of_pieces()
     ensures legal { (start : ℕ) (items : List (List ℕ)) → IsOffsets (offsets_of start items) }
     ensures last { (start : ℕ) (items : List (List ℕ))

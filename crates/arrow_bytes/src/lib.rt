@@ -1,12 +1,11 @@
-//! Stored values of bytes, of one kind: offsets, and the bytes that they cut into items. Arrays of bytes and of text share
-//! them (Arrow columnar format, "Variable-size Binary Layout").
+//! Stored byte strings of one kind: offsets, and the bytes between them. Arrays of bytes and of
+//! text share them (Arrow columnar format, "Variable-size Binary Layout").
 #![tactic(auto)]
 
 mod around;
 mod binary;
 mod equality;
 mod growing;
-mod items;
 mod kind;
 pub mod laws;
 mod thaw;
@@ -16,7 +15,6 @@ mod values;
 pub use around::BytesAround;
 pub use binary::Binary;
 pub use growing::MutableByteValues;
-pub use items::ByteItems;
 pub use kind::{ByteItem, ByteKind, ItemError};
 pub use thaw::into_mut_values;
 pub use utf8::Utf8;

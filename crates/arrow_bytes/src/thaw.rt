@@ -1,4 +1,4 @@
-//! Stored values of bytes that are thawed with their mask.
+//! Thawing of stored byte strings together with their mask.
 ghost use Rattle.std.specs.Prelude.{◌≡◌};
 ghost use Rattle.either.specs.Either.{MatchEither};
 ghost use Rattle.arrow_bytes.specs.Pieces.{without_tail};
@@ -10,14 +10,16 @@ use arrow_types::offset::Offset;
 use either::{Either, Left, Right};
 use std::marker::PhantomData;
 
-/// The same items and the same mask to change, where no one else has any of them and all are shown from the first on;
-/// bytes behind the last item are cut off. Else the parts as given.
+/// Converts items and a mask into growing ones without copying them, if none of their buffers is
+/// shared and all begin at the first place. Bytes after the last item are cut off. Otherwise
+/// returns the parts unchanged.
 #[tactic(auto, using(crate::proofs::PieceLemmas::piece_reads, crate::proofs::PieceLemmas::piece_thaws))]
 pub fn into_mut_values<K: ByteKind, O: Offset>(
     values: ByteValues<K, O>,
     validity: Option<Bitmap>,
 ) -> Either<(ByteValues<K, O>, Option<Bitmap>), (MutableByteValues<K, O>, Option<MutableBitmap>)>
-    ensures { MatchEither result (λ parts. (parts.0 ≡ values) × (parts.1 ≡ validity)) (λ parts. (parts.0 ≡ without_tail values) × (parts.1 ≡ validity)) }
+    ensures { MatchEither result (λ parts. (parts.0 ≡ values) × (parts.1 ≡ validity)) (λ parts.
+        (parts.0 ≡ without_tail values) × (parts.1 ≡ validity)) }
 {
     let ByteValues { offsets, bytes, .. } = values;
     match into_mut_bytes(offsets, bytes, validity) {

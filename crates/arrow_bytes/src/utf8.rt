@@ -1,30 +1,26 @@
-//! Text: an item is UTF-8 by itself.
+//! The kind of text, whose items are UTF-8 by themselves.
 ghost use Rattle.std.specs.Prelude.{◌≡◌, ◌<◌, Some, length, slice_get};
-ghost use Rattle.arrow_check.specs.Items.{IsWithin, rest_of};
 ghost use Rattle.arrow_check.specs.Utf8.{IsWellFormed};
 
-use crate::{ByteItem, ByteItems, ByteKind, ByteValues, ItemError, MutableByteValues};
-use arrow_check::accessor::{ArrayAccessor, Bytes};
+use crate::{ByteItem, ByteKind, ByteValues, ItemError, MutableByteValues};
 use arrow_check::cost::{TextBytes, TextCost};
 use arrow_check::laws::well_formed_is_utf8;
 use arrow_check::text::check_utf8;
-use arrow_check::values_iter::ArrayValuesIter;
-use arrow_memory::list_iter::ListIter;
 use arrow_types::data_type::DataType;
 use arrow_types::error::Error;
 use arrow_types::offset::Offset;
 use arrow_types::physical_type::PhysicalType;
 use std::alloc::Global;
 
-/// Text. A list of bytes is an item where it is UTF-8.
+/// The kind of text. A list of bytes is an item if it is UTF-8.
 #[derive(Copy, Clone)]
 pub struct Utf8;
 
-/// The text of the refusal of an array's type.
+/// The text of the error about an array's data type.
 const WRONG_TYPE: &str =
     "Utf8Array can only be initialized with DataType::Utf8 or DataType::LargeUtf8";
 
-/// The text of the refusal of a builder's type.
+/// The text of the error about a builder's data type.
 const WRONG_BUILDER_TYPE: &str =
     "MutableUtf8ValuesArray can only be initialized with DataType::Utf8 or DataType::LargeUtf8";
 
@@ -110,7 +106,7 @@ impl<'a> ItemError for &'a str {
     }
 }
 
-/// These bytes as text, which they are.
+/// Returns bytes that are text as a `&str`, without a test.
 #[inline(always)]
 fn text_of(bytes: &[u8]) -> &str
     requires { IsWellFormed bytes.now }
@@ -122,7 +118,7 @@ fn text_of(bytes: &[u8]) -> &str
 }
 
 impl<O: Offset> ByteValues<Utf8, O> {
-    /// The text at a place.
+    /// Returns the text at `i`.
     #[inline(always)]
     pub fn text(&self, i: usize) -> &str
         requires { i < length self.now.items }
@@ -133,150 +129,12 @@ impl<O: Offset> ByteValues<Utf8, O> {
 }
 
 impl<O: Offset> MutableByteValues<Utf8, O> {
-    /// The text at a place.
+    /// Returns the text at `i`.
     #[inline(always)]
     pub fn text(&self, i: usize) -> &str
         requires { i < length self.now.items }
         ensures { slice_get self.now.items i ≡ Some result.now }
     {
         text_of(self.value(i))
-    }
-}
-
-impl<'a, O: Offset> ArrayAccessor<'a> for ByteValues<Utf8, O> {
-    ghost use Rattle.std.specs.Prelude.{◌≡◌, ◌<◌, List, ℕ, Some, length, slice_get};
-
-    type Item = &'a str;
-
-    ghost Seen = { List ℕ };
-
-    ghost seen = { λ item. item.now };
-
-    ghost items = { λ values. values.items };
-
-    #[inline(always)]
-    fn value(&'a self, index: usize) -> &'a str
-        requires { index < length self.now.items }
-        ensures { slice_get self.now.items index ≡ Some result.now }
-    {
-        self.text(index)
-    }
-
-    #[inline(always)]
-    fn len(&self) -> usize
-        ensures { result ≡ length self.now.items }
-    {
-        self.len()
-    }
-}
-
-impl<'a, O: Offset> ByteValues<Utf8, O> {
-    /// The items in order.
-    #[inline(always)]
-    pub fn iter(&'a self) -> ByteItems<'a, ByteValues<Utf8, O>>
-        ensures ready { IsWithin (λ values. values.items) result.items }
-        ensures all { rest_of (λ values. values.items) result.items ≡ self.now.items }
-    {
-        ByteItems {
-            items: ArrayValuesIter::new(self),
-        }
-    }
-}
-
-impl<'a, O: Offset> ListIter for ByteItems<'a, ByteValues<Utf8, O>> {
-    ghost use Rattle.arrow_check.specs.Items.{IsWithin, rest_of};
-
-    type Item = &'a str;
-
-    type Seen = Bytes;
-
-    ghost seen = { λ item. item.now };
-
-    ghost rest = { λ left. rest_of (λ values. values.items) left.items };
-
-    ghost can_take = { λ left. IsWithin (λ values. values.items) left.items };
-
-    #[inline(always)]
-    fn take_first(&mut self) -> Option<&'a str> {
-        self.items.next()
-    }
-
-    #[inline(always)]
-    fn take_last(&mut self) -> Option<&'a str> {
-        self.items.next_back()
-    }
-
-    #[inline(always)]
-    fn count_left(&self) -> usize {
-        self.items.len()
-    }
-}
-
-impl<'a, O: Offset> ArrayAccessor<'a> for MutableByteValues<Utf8, O> {
-    ghost use Rattle.std.specs.Prelude.{◌≡◌, ◌<◌, List, ℕ, Some, length, slice_get};
-
-    type Item = &'a str;
-
-    ghost Seen = { List ℕ };
-
-    ghost seen = { λ item. item.now };
-
-    ghost items = { λ values. values.items };
-
-    #[inline(always)]
-    fn value(&'a self, index: usize) -> &'a str
-        requires { index < length self.now.items }
-        ensures { slice_get self.now.items index ≡ Some result.now }
-    {
-        self.text(index)
-    }
-
-    #[inline(always)]
-    fn len(&self) -> usize
-        ensures { result ≡ length self.now.items }
-    {
-        self.len()
-    }
-}
-
-impl<'a, O: Offset> MutableByteValues<Utf8, O> {
-    /// The items in order.
-    #[inline(always)]
-    pub fn iter(&'a self) -> ByteItems<'a, MutableByteValues<Utf8, O>>
-        ensures ready { IsWithin (λ values. values.items) result.items }
-        ensures all { rest_of (λ values. values.items) result.items ≡ self.now.items }
-    {
-        ByteItems {
-            items: ArrayValuesIter::new(self),
-        }
-    }
-}
-
-impl<'a, O: Offset> ListIter for ByteItems<'a, MutableByteValues<Utf8, O>> {
-    ghost use Rattle.arrow_check.specs.Items.{IsWithin, rest_of};
-
-    type Item = &'a str;
-
-    type Seen = Bytes;
-
-    ghost seen = { λ item. item.now };
-
-    ghost rest = { λ left. rest_of (λ values. values.items) left.items };
-
-    ghost can_take = { λ left. IsWithin (λ values. values.items) left.items };
-
-    #[inline(always)]
-    fn take_first(&mut self) -> Option<&'a str> {
-        self.items.next()
-    }
-
-    #[inline(always)]
-    fn take_last(&mut self) -> Option<&'a str> {
-        self.items.next_back()
-    }
-
-    #[inline(always)]
-    fn count_left(&self) -> usize {
-        self.items.len()
     }
 }

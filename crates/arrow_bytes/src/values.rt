@@ -1,5 +1,6 @@
-//! Stored values of bytes that don't change.
+//! Immutable lists of byte strings.
 ghost use Rattle.std.specs.Prelude.{◌≡◌, ◌<◌, ◌≤◌, [], length, replicate, slice_get, Some, IfOk, IfErr};
+ghost use Rattle.arrow_types.specs.Failures.{OnlyOutOfMemory};
 ghost use Rattle.arrow_memory.specs.Offsets.{last_of, IsOffsets};
 ghost use Rattle.arrow_check.specs.Pieces.{bytes_of, items_of, offsets_of};
 ghost use Rattle.arrow_bytes.specs.Kinds.{AreItems, CutItems, IsItem};
@@ -16,7 +17,8 @@ use arrow_types::offset::Offset;
 use std::alloc::Global;
 use std::marker::{Model, PhantomData};
 
-/// Stored values of bytes that share their memory. There may be bytes before the first of them, and behind the last.
+/// The byte strings that an array stores, whose clones and slices share memory. Bytes may lie
+/// before the first of them and after the last.
 #[derive(Drop)]
 pub struct ByteValues<K: ByteKind, O: Offset> {
     pub(crate) offsets: OffsetsBuffer<O>,
@@ -36,12 +38,13 @@ impl<K: ByteKind, O: Offset> Model for ByteValues<K, O> {
 
     ghost view = { λ values. pieces_of values.offsets values.bytes };
 
-    ghost invariant = { λ values. IsOffsets values.offsets × (last_of values.offsets ≤ length values.bytes) × AreItems K.is_text (items_of values.offsets values.bytes) };
+    ghost invariant = { λ values. IsOffsets values.offsets × (last_of values.offsets ≤ length values.bytes)
+        × AreItems K.is_text (items_of values.offsets values.bytes) };
 }
 
 #[tactic(auto, using(crate::proofs::PieceLemmas::piece_reads, crate::proofs::PieceLemmas::piece_zeros, crate::proofs::KindLemmas::kind_zeros))]
 impl<K: ByteKind, O: Offset> ByteValues<K, O> {
-    /// The items that offsets cut out of bytes, in which they lie.
+    /// Creates the items between offsets of bytes.
     #[inline(always)]
     pub fn new(offsets: OffsetsBuffer<O>, bytes: Buffer<u8>) -> Self
         requires { CutItems K.is_text offsets bytes }
@@ -56,13 +59,13 @@ impl<K: ByteKind, O: Offset> ByteValues<K, O> {
         }
     }
 
-    /// So many empty items.
+    /// Creates `length` empty items.
     ///
     /// # Errors
-    /// `OutOfMemory` where memory is refused.
+    /// `OutOfMemory` if an allocation fails.
     pub fn new_empty_items(alloc: Global, length: usize) -> Result<Self, Error>
         ensures ok { IfOk result (λ values. values ≡ record { around = nothing_around; items = replicate length [] }) }
-        ensures err { IfErr result (λ e. e ≡ Error.OutOfMemory) }
+        ensures err { OnlyOutOfMemory result }
     {
         let offsets = Offsets::new_zeroed(alloc, length)?.freeze()?;
         let bytes = Buffer::new(alloc)?;
@@ -73,7 +76,7 @@ impl<K: ByteKind, O: Offset> ByteValues<K, O> {
         })
     }
 
-    /// The offsets, and all bytes.
+    /// Returns the offsets and all bytes.
     #[inline(always)]
     pub fn into_inner(self) -> (OffsetsBuffer<O>, Buffer<u8>)
         ensures offsets { result.0 ≡ offsets_of (length self.around.lead) self.items }
@@ -84,7 +87,7 @@ impl<K: ByteKind, O: Offset> ByteValues<K, O> {
         (self.offsets, self.bytes)
     }
 
-    /// The offsets.
+    /// Returns the offsets.
     #[inline(always)]
     pub fn offsets(&self) -> &OffsetsBuffer<O>
         ensures { result.now ≡ offsets_of (length self.now.around.lead) self.now.items }
@@ -92,7 +95,7 @@ impl<K: ByteKind, O: Offset> ByteValues<K, O> {
         &self.offsets
     }
 
-    /// All bytes, those before the first item and behind the last too.
+    /// Returns all bytes, including those before the first item and after the last.
     #[inline(always)]
     pub fn bytes(&self) -> &Buffer<u8>
         ensures value { result.now ≡ bytes_of self.now.around.lead self.now.items self.now.around.tail }
@@ -101,7 +104,7 @@ impl<K: ByteKind, O: Offset> ByteValues<K, O> {
         &self.bytes
     }
 
-    /// The number of items.
+    /// Returns the number of items.
     #[inline(always)]
     pub fn len(&self) -> usize
         ensures { result ≡ length self.now.items }
@@ -109,7 +112,7 @@ impl<K: ByteKind, O: Offset> ByteValues<K, O> {
         self.offsets.len_proxy()
     }
 
-    /// The item at a place.
+    /// Returns the item at `i`.
     #[inline(always)]
     pub fn value(&self, i: usize) -> &[u8]
         requires { i < length self.now.items }

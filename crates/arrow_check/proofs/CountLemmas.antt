@@ -1,13 +1,15 @@
 -- How often acts were done, one after the other.
-use Rattle.std.proofs.Common.{◌≡◌, ℕ, zero, suc, ◌+◌, ◌<◌, ◌-◌, ◌≤◌, ◌^◌, min, refl, sym, subst, ap, ◌∙◌, arith}
+use Rattle.std.proofs.Common.{◌≡◌, ℕ, zero, suc, ◌+◌, ◌≤◌, refl, sym, subst, ap, ◌∙◌, arith}
 use Rattle.std.proofs.lemmas.Bool.Decides.{nat_tests}
-use Rattle.arrow_check.specs.Reading.{Reading, LooksAtMost, RisesAtMost, ReadsAtMost, many_more, one_more, after_ascii, after_whole_test, after_look, after_looks}
+use Rattle.arrow_check.specs.Reading.{Reading, LooksAtMost, RisesAtMost, ReadsAtMost, many_more, one_more}
+use Rattle.arrow_check.specs.Reading.{after_ascii, after_whole_test, after_look, after_looks}
 
 rises-then : (a b old now new : ℕ) → RisesAtMost a old now → RisesAtMost b now new → RisesAtMost (a + b) old new
 rises-then a b old now new first then = record { never_falls = omega arith; most = omega arith }
 
 -- one run of acts and then another
-reads-then : (a w l a2 w2 l2 : ℕ) (old now new : Reading) → ReadsAtMost a w l old now → ReadsAtMost a2 w2 l2 now new → ReadsAtMost (a + a2) (w + w2) (l + l2) old new
+reads-then : (a w l a2 w2 l2 : ℕ) (old now new : Reading) → ReadsAtMost a w l old now → ReadsAtMost a2 w2 l2 now new
+    → ReadsAtMost (a + a2) (w + w2) (l + l2) old new
 reads-then a w l a2 w2 l2 old now new first then = record {
   bytes = then.bytes ∙ first.bytes;
   ascii = rises-then a a2 _ _ _ first.ascii then.ascii;
@@ -16,7 +18,8 @@ reads-then a w l a2 w2 l2 old now new first then = record {
 }
 
 -- at most so often is at most more often
-reads-within : (a w l a2 w2 l2 : ℕ) (old new : Reading) → a ≤ a2 → w ≤ w2 → l ≤ l2 → ReadsAtMost a w l old new → ReadsAtMost a2 w2 l2 old new
+reads-within : (a w l a2 w2 l2 : ℕ) (old new : Reading) → a ≤ a2 → w ≤ w2 → l ≤ l2 → ReadsAtMost a w l old new
+    → ReadsAtMost a2 w2 l2 old new
 reads-within a w l a2 w2 l2 old new fewer-a fewer-w fewer-l done = record {
   bytes = done.bytes;
   ascii = record { never_falls = done.ascii.never_falls; most = omega (arith, done.ascii.most) };
@@ -30,28 +33,41 @@ rises-one n = record { never_falls = grind (arith, nat_tests); most = grind (ari
 stays : (n : ℕ) → RisesAtMost 0 n n
 stays n = record { never_falls = omega arith; most = omega arith }
 
-one-behind : (c n : ℕ) → c < 2 ^ 64 → one_more (min (c + n) (2 ^ 64 - 1)) ≡ min (c + suc n) (2 ^ 64 - 1)
-one-behind c n fits = grind (arith, nat_tests)
-
 looks-read : (n : ℕ) (r : Reading) → ReadsAtMost 0 0 n r (after_looks n r)
 looks-read zero r = record { bytes = refl; ascii = stays _; whole = stays _; looked = stays _ }
 looks-read (suc n) r =
-    let one : ReadsAtMost 0 0 1 (after_looks n r) (after_look (after_looks n r)) = record { bytes = refl; ascii = stays _; whole = stays _; looked = rises-one _ } in
-    reads-within 0 0 (n + 1) 0 0 (suc n) r (after_looks (suc n) r) (omega arith) (omega arith) (omega arith) (reads-then 0 0 n 0 0 1 r (after_looks n r) _ (looks-read n r) one)
+    let one : ReadsAtMost 0 0 1 (after_looks n r) (after_look (after_looks n r)) =
+    record { bytes = refl; ascii = stays _; whole = stays _; looked = rises-one _ } in
+    reads-within 0 0 (n + 1) 0 0 (suc n) r (after_looks (suc n) r) (omega arith) (omega arith) (omega arith)
+    (reads-then 0 0 n 0 0 1 r (after_looks n r) _ (looks-read n r) one)
 
 -- one test whether bytes are ASCII was made
 pub reads-ascii : (most : ℕ) (r : Reading) → ReadsAtMost 1 1 most r (after_ascii r)
-reads-ascii most r = reads-within 1 0 0 1 1 most r (after_ascii r) (omega arith) (omega arith) (omega arith) (record { bytes = refl; ascii = rises-one _; whole = stays _; looked = stays _ })
+reads-ascii most r = reads-within 1 0 0 1 1 most r (after_ascii r) (omega arith) (omega arith) (omega arith)
+    (record { bytes = refl; ascii = rises-one _; whole = stays _; looked = stays _ })
 
 -- both tests were made, and looks
-pub reads-all : (most : ℕ) (r new : Reading) → LooksAtMost most (after_whole_test (after_ascii r)) new → ReadsAtMost 1 1 most r new
+pub reads-all : (most : ℕ) (r new : Reading) → LooksAtMost most (after_whole_test (after_ascii r)) new
+    → ReadsAtMost 1 1 most r new
 reads-all most r new looked =
-    let both : ReadsAtMost 1 1 0 r (after_whole_test (after_ascii r)) = record { bytes = refl; ascii = rises-one _; whole = rises-one _; looked = stays _ } in
+    let both : ReadsAtMost 1 1 0 r (after_whole_test (after_ascii r)) = record {
+      bytes = refl;
+      ascii = rises-one _;
+      whole = rises-one _;
+      looked = stays _;
+    } in
     let looks = looks-read looked.looks (after_whole_test (after_ascii r)) in
     subst (ReadsAtMost 1 1 most r) (sym looked.is)
-    (reads-within 1 1 (0 + looked.looks) 1 1 most r _ (omega arith) (omega arith) (omega (arith, looked.few)) (reads-then 1 1 0 0 0 looked.looks r _ _ both looks))
+    (reads-within 1 1 (0 + looked.looks) 1 1 most r _ (omega arith) (omega arith) (omega (arith, looked.few))
+    (reads-then 1 1 0 0 0 looked.looks r _ _ both looks))
 
--- steps one after the other are counted as all of them at once
-pub many-at-once : (steps count : ℕ) → count < 2 ^ 64 → many_more steps count ≡ min (count + steps) (2 ^ 64 - 1)
-many-at-once zero count fits = let e : count ≡ min (count + 0) (2 ^ 64 - 1) = omega arith in e
-many-at-once (suc steps) count fits = ap one_more (many-at-once steps count fits) ∙ one-behind count steps fits
+many-more : (n m count : ℕ) → many_more n (many_more m count) ≡ many_more (n + m) count
+many-more zero m count = ap (λ k. many_more k count) (let e : m ≡ 0 + m = omega arith in e)
+many-more (suc n) m count = ap one_more (many-more n m count)
+    ∙ ap (λ k. many_more k count) (let e : suc (n + m) ≡ suc n + m = omega arith in e)
+
+-- looks in two goes
+pub looks-then : (n m all : ℕ) (r : Reading) → n + m ≡ all → after_looks n (after_looks m r) ≡ after_looks all r
+looks-then n m all r both =
+    (λ k. record r { cost = record r.cost { bytes_looked = many-more n m r.cost.bytes_looked k } })
+    ∙ ap (λ k. after_looks k r) both

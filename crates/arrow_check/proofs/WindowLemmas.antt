@@ -1,24 +1,28 @@
 -- One test of a window and a look at each inner offset are a test of each item.
-use Rattle.std.proofs.Common.{◌≡◌, ℕ, zero, suc, ◌+◌, ◌-◌, ◌<◌, ◌≤◌, ◌↔◌, ◌≢◌, Some, slice_get, List, [], ◌∷◌, ◌++◌, length, take, drop, get_or, sym, ap, ◌∙◌, subst, inl, inr, arith, length-take, length-drop}
-use Rattle.std.proofs.lemmas.Bool.{cases_lt}
+use Rattle.std.proofs.Common.{◌≡◌, ℕ, zero, suc, ◌+◌, ◌-◌, ◌<◌, ◌≤◌, ◌↔◌, Bool, true, false, not, ◌&&◌, IsTrue}
+use Rattle.std.proofs.Common.{Some, slice_get, List, [], ◌∷◌, ◌++◌, length, take, drop, get_or, refl, sym, ap, ◌∙◌}
+use Rattle.std.proofs.Common.{subst, inl, inr, arith, length-take, length-drop}
+use Rattle.std.proofs.lemmas.Bool.{cases_lt, false≢true}
 use Rattle.std.proofs.lemmas.List.{drop-drop, drop-take, take-take, take-append-drop, get_or-take, get_or-drop}
 use Rattle.std.proofs.lemmas.Option.{get_or_from_slice_get}
 use Rattle.std.proofs.lemmas.List.Elements.{All-from_recursion, recursion_from_All, All-from_get_or, All-get_or}
-use Rattle.std.proofs.lemmas.Str.{IsUtf8-append, IsUtf8-nil, IsUtf8-take, IsUtf8-drop, IsCharBoundary-start, IsUtf8-from_ascii}
+use Rattle.std.proofs.lemmas.Str.{IsUtf8-append, IsUtf8-nil, IsUtf8-take, IsUtf8-drop, IsCharBoundary-start}
+use Rattle.std.proofs.lemmas.Str.{IsUtf8-from_ascii}
 use Rattle.std.specs.List.{All, AllByRecursion}
 use Rattle.std.specs.Str.{IsAscii, IsNotAscii, IsCharBoundary}
 use Rattle.arrow_memory.specs.Offsets.{first_of, last_of, NeverFalls, IsOffsets}
 use Rattle.arrow_check.specs.Pieces.{bytes_between, items_after, items_of}
 use Rattle.arrow_check.specs.Texts.{AreTexts, CutTexts}
 use Rattle.arrow_check.specs.Utf8.{IsWellFormed}
-use Rattle.arrow_check.specs.Windows.{IsContinuation, window_of, CutsBetween, CutsOne, InnerCutBetween, PassesWhole}
+use Rattle.arrow_check.specs.Windows.{IsContinuation, window_of, AllBegin, CutsBetween, InnerCutBetween, PassesWhole}
 use Rattle.arrow_check.proofs.Utf8Lemmas.{well_formed-IsUtf8}
 
 -- ---- texts that are joined and cut
 
 pub texts-join : (a b : List ℕ) → IsWellFormed a → IsWellFormed b → IsWellFormed (a ++ b)
 texts-join a b first second =
-    (well_formed-IsUtf8 (a ++ b)).1 (IsUtf8-append a b ((well_formed-IsUtf8 a).0 first) ((well_formed-IsUtf8 b).0 second))
+    (well_formed-IsUtf8 (a ++ b)).1 (IsUtf8-append a b ((well_formed-IsUtf8 a).0 first)
+    ((well_formed-IsUtf8 b).0 second))
 
 pub no-bytes : IsWellFormed []
 no-bytes = (well_formed-IsUtf8 []).1 IsUtf8-nil
@@ -29,10 +33,14 @@ ascii-text bytes ascii = (well_formed-IsUtf8 bytes).1 (IsUtf8-from_ascii bytes a
 -- a place that is the end, or where no continuation byte stands
 boundary : (bytes : List ℕ) (n : ℕ) → n ≤ length bytes → CutsBetween (length bytes) bytes n → IsCharBoundary bytes n
 boundary bytes n within (inl end) = (within, λ more. absurd (omega (arith, end)))
-boundary bytes n within (inr start) =
-    (within, λ more high. elim (cases_lt (get_or bytes n 0) 192) [ inl low ↦ absurd (start (omega arith, omega arith)) | inr other ↦ other ])
+boundary bytes n within (inr start) = (
+  within,
+  λ more high. elim (cases_lt (get_or bytes n 0) 192)
+      [ inl low ↦ absurd (start (omega arith, omega arith)) | inr other ↦ other ],
+)
 
-pub text-cut : (bytes : List ℕ) (n : ℕ) → IsWellFormed bytes → n ≤ length bytes → CutsBetween (length bytes) bytes n → IsWellFormed (take n bytes) × IsWellFormed (drop n bytes)
+pub text-cut : (bytes : List ℕ) (n : ℕ) → IsWellFormed bytes → n ≤ length bytes → CutsBetween (length bytes) bytes n
+    → IsWellFormed (take n bytes) × IsWellFormed (drop n bytes)
 text-cut bytes n text within cuts =
     let utf8 = (well_formed-IsUtf8 bytes).0 text in
     let at = boundary bytes n within cuts in (
@@ -80,14 +88,19 @@ rise-le : (last start : ℕ) (ends : List ℕ) → Rise last start ends → star
 rise-le last start [] same = omega (arith, same)
 rise-le last start (end ∷ ends) (up, more) = omega (arith, up, rise-le last end ends more)
 
-rise : (last start : ℕ) (ends : List ℕ) → NeverFalls (start ∷ ends) → last ≡ get_or (start ∷ ends) (length ends) 0 → Rise last start ends
+rise : (last start : ℕ) (ends : List ℕ) → NeverFalls (start ∷ ends) → last ≡ get_or (start ∷ ends) (length ends) 0
+    → Rise last start ends
 rise last start [] order same = sym same
-rise last start (end ∷ ends) order same =
-    (order 0 1 (omega arith) (omega arith), rise last end ends (λ i j up within. order (suc i) (suc j) (omega arith) (omega arith)) same)
+rise last start (end ∷ ends) order same = (
+  order 0 1 (omega arith) (omega arith),
+  rise last end ends (λ i j up within.
+      order (suc i) (suc j) (omega arith) (omega arith)) same,
+)
 
 module _ (bytes : List ℕ) (last : ℕ) (within : last ≤ length bytes) where
   -- the items are texts, so what they make up is, and no offset cuts a character of it
-  joined : (start : ℕ) (ends : List ℕ) → Rise last start ends → AllByRecursion IsWellFormed (items_after start ends bytes)
+  joined : (start : ℕ) (ends : List ℕ) → Rise last start ends
+      → AllByRecursion IsWellFormed (items_after start ends bytes)
       → IsWellFormed (bytes_between start last bytes) × AllByRecursion (CutsBetween last bytes) ends
   joined start [] same all =
       let none : last - start ≡ 0 = omega (arith, same) in
@@ -97,9 +110,11 @@ module _ (bytes : List ℕ) (last : ℕ) (within : last ≤ length bytes) where
       let below = rise-le last end ends more in
       let cuts : CutsBetween last bytes end = elim (cases_lt end last) [
         | inl inner ↦ inr (
-            let some : 0 < length (bytes_between end last bytes) = omega (arith, length-window bytes end last below within) in
+            let some : 0 < length (bytes_between end last bytes) =
+            omega (arith, length-window bytes end last below within) in
             let place : end + 0 ≡ end = omega arith in
-            subst (λ b. ¬ IsContinuation b) (byte-window bytes end last 0 (omega arith) ∙ ap (λ k. get_or bytes k 0) place) (text-start (bytes_between end last bytes) rest.0 some))
+            subst (λ b. ¬ IsContinuation b) (byte-window bytes end last 0 (omega arith)
+            ∙ ap (λ k. get_or bytes k 0) place) (text-start (bytes_between end last bytes) rest.0 some))
         | inr past ↦ inl (let same : end ≡ last = omega arith in same)
       ] in
       (subst IsWellFormed (whole bytes start end last up below) (texts-join _ _ all.0 rest.0), (cuts, rest.1))
@@ -111,34 +126,44 @@ module _ (bytes : List ℕ) (last : ℕ) (within : last ≤ length bytes) where
   parted start (end ∷ ends) (up, more) text (cuts, others) =
       let below = rise-le last end ends more in
       let long = length-window bytes start last (omega (arith, up, below)) within in
-      let at : CutsBetween (length (bytes_between start last bytes)) (bytes_between start last bytes) (end - start) = elim cuts [
-        | inl same ↦ inl (let e : end - start ≡ length (bytes_between start last bytes) = omega (arith, long, same) in e)
+      let at : CutsBetween (length (bytes_between start last bytes)) (bytes_between start last bytes) (end - start)
+      = elim cuts [
+        | inl same ↦ inl (let e : end - start ≡ length (bytes_between start last bytes) =
+            omega (arith, long, same) in e)
         | inr begins ↦ elim (cases_lt end last) [
           | inl inner ↦ inr (
               let place : start + (end - start) ≡ end = omega arith in
-              subst (λ b. ¬ IsContinuation b) (sym (byte-window bytes start last (end - start) (omega arith) ∙ ap (λ k. get_or bytes k 0) place)) begins)
+              subst (λ b. ¬ IsContinuation b) (sym (byte-window bytes start last (end - start) (omega arith)
+              ∙ ap (λ k. get_or bytes k 0) place)) begins)
           | inr past ↦ inl (let e : end - start ≡ length (bytes_between start last bytes) = omega (arith, long) in e)
         ]
       ] in
-      let both = text-cut (bytes_between start last bytes) (end - start) text (omega (arith, long)) at in
-      (subst IsWellFormed (front bytes start end last up below) both.0, parted end ends more (subst IsWellFormed (back bytes start end last up below) both.1) others)
+      let both = text-cut (bytes_between start last bytes) (end - start) text (omega (arith, long)) at in (
+        subst IsWellFormed (front bytes start end last up below) both.0,
+        parted end ends more (subst IsWellFormed (back bytes start end last up below) both.1) others,
+      )
 
 -- ---- the inner offsets by their places
 
-cuts-all : (start : ℕ) (ends bytes : List ℕ) → InnerCutBetween (start ∷ ends) bytes → All (CutsBetween (last_of (start ∷ ends)) bytes) ends
+cuts-all : (start : ℕ) (ends bytes : List ℕ) → InnerCutBetween (start ∷ ends) bytes
+    → All (CutsBetween (last_of (start ∷ ends)) bytes) ends
 cuts-all start ends bytes inner =
     All-from_get_or (CutsBetween (last_of (start ∷ ends)) bytes) ends 0 (λ i low.
     elim (cases_lt (i + 1) (length ends)) [
       | inl more ↦ inner (suc i) (omega arith) (omega arith)
-      | inr end ↦ inl (ap (λ k. get_or (start ∷ ends) k 0) (let e : suc i ≡ length (start ∷ ends) - 1 = omega arith in e))
+      | inr end ↦ inl (ap (λ k. get_or (start ∷ ends) k 0) (let e : suc i ≡ length (start ∷ ends) - 1 =
+          omega arith in e))
     ])
 
-inner-cut : (start : ℕ) (ends bytes : List ℕ) → All (CutsBetween (last_of (start ∷ ends)) bytes) ends → InnerCutBetween (start ∷ ends) bytes
+inner-cut : (start : ℕ) (ends bytes : List ℕ) → All (CutsBetween (last_of (start ∷ ends)) bytes) ends
+    → InnerCutBetween (start ∷ ends) bytes
 inner-cut start ends bytes all zero some more = absurd (omega arith)
-inner-cut start ends bytes all (suc i) some more = All-get_or (CutsBetween (last_of (start ∷ ends)) bytes) ends i 0 (omega arith) all
+inner-cut start ends bytes all (suc i) some more = All-get_or (CutsBetween (last_of (start ∷ ends)) bytes) ends i 0
+    (omega arith) all
 
 last-is : (start : ℕ) (ends : List ℕ) → last_of (start ∷ ends) ≡ get_or (start ∷ ends) (length ends) 0
-last-is start ends = ap (λ k. get_or (start ∷ ends) k 0) (let e : length (start ∷ ends) - 1 ≡ length ends = omega arith in e)
+last-is start ends = ap (λ k. get_or (start ∷ ends) k 0) (let e : length (start ∷ ends) - 1 ≡ length ends =
+    omega arith in e)
 
 -- one test of the window, and where the inner offsets stand, are a test of each item
 pub slots-by-window : (offsets bytes : List ℕ) → IsOffsets offsets → last_of offsets ≤ length bytes
@@ -148,76 +173,65 @@ slots-by-window (start ∷ ends) bytes legal within =
     let last = last_of (start ∷ ends) in
     let up = rise last start ends legal.order (last-is start ends) in
     let P = CutsBetween last bytes in (
-      λ all. (let both = joined bytes last within start ends up (recursion_from_All IsWellFormed (items_after start ends bytes) all) in
+      λ all. (let both = joined bytes last within start ends up
+          (recursion_from_All IsWellFormed (items_after start ends bytes) all) in
           (both.0, inner-cut start ends bytes (All-from_recursion (CutsBetween last bytes) ends both.1))),
       λ both. All-from_recursion IsWellFormed (items_after start ends bytes)
-          (parted bytes last within start ends up both.0 (recursion_from_All (CutsBetween last bytes) ends (cuts-all start ends bytes both.1))),
+          (parted bytes last within start ends up both.0 (recursion_from_All (CutsBetween last bytes) ends
+          (cuts-all start ends bytes both.1))),
     )
 
 -- ---- a window as the code reads it
 
-pub window-read : (offsets bytes : List ℕ) (start end : ℕ) → start ≡ first_of offsets → end ≡ last_of offsets → bytes_between start end bytes ≡ window_of offsets bytes
+pub window-read : (offsets bytes : List ℕ) (start end : ℕ) → start ≡ first_of offsets → end ≡ last_of offsets
+    → bytes_between start end bytes ≡ window_of offsets bytes
 window-read offsets bytes start end from upto = λ k. bytes_between (from k) (upto k) bytes
 
-module _ (numbers old now : List ℕ) (end : ℕ) (stays : now ≡ old) (last : end ≡ last_of numbers) where
-  -- the inner offsets up to the last of them cut no character
-  pub inner-cut-all : (i : ℕ) → length numbers ≤ i + 1 → ((k : ℕ) → 0 < k → k < i → CutsBetween end now (get_or numbers k 0)) → InnerCutBetween numbers old
-  inner-cut-all i all so_far k some more =
-      subst (λ e. CutsBetween e old (get_or numbers k 0)) last (subst (λ b. CutsBetween end b (get_or numbers k 0)) stays (so_far k some (omega arith)))
+byte-at : (numbers old now : List ℕ) (i place byte : ℕ) → now ≡ old → place ≡ get_or numbers i 0
+    → slice_get now place ≡ Some byte
+    → byte ≡ get_or old (get_or numbers i 0) 0
+byte-at numbers old now i place byte stays is found = sym (get_or_from_slice_get now place byte 0 found)
+    ∙ (λ k. get_or (stays k) (is k) 0)
 
-  -- one cuts a character
-  pub inner-broken : (i place byte : ℕ) → 0 < i → i + 1 < length numbers → place ≡ get_or numbers i 0 → place ≢ end → slice_get now place ≡ Some byte → IsContinuation byte → ¬ (InnerCutBetween numbers old)
-  inner-broken i place byte some more is other found goes inner =
-      elim (inner i some more) [
-        | inl same ↦ other (let e : place ≡ end = omega (arith, is, same, last) in e)
-        | inr begins ↦ begins (subst IsContinuation (sym (get_or_from_slice_get now place byte 0 found) ∙ (λ k. get_or (stays k) (is k) 0)) goes)
-      ]
+-- one offset more was looked at
+pub begin-more : (numbers old now : List ℕ) (from i place byte : ℕ) (begins goes : Bool) → now ≡ old → from ≤ i
+    → place ≡ get_or numbers i 0 → slice_get now place ≡ Some byte → (IsTrue goes ↔ IsContinuation byte)
+    → (IsTrue begins ↔ AllBegin from i numbers old) → (IsTrue (begins && not goes) ↔ AllBegin from (i + 1) numbers old)
+begin-more numbers old now from i place byte false goes stays past is found says so_far =
+    (λ no. absurd (false≢true no), λ all. so_far.1 (λ k low high. all k low (omega arith)))
+begin-more numbers old now from i place byte true true stays past is found says so_far = (
+  λ no. absurd (false≢true no),
+  λ all.
+      absurd (all i past (omega arith) (subst IsContinuation (byte-at numbers old now i place byte stays is found)
+      (says.0 refl))),
+)
+begin-more numbers old now from i place byte true false stays past is found says so_far =
+    let here : ¬ IsContinuation (get_or old (get_or numbers i 0) 0) = λ goes.
+    false≢true (says.1 (subst IsContinuation (sym (byte-at numbers old now i place byte stays is found)) goes))
+    in (
+      λ _ k low high. elim (cases_lt k i) [
+        | inl before ↦ so_far.0 refl k low before
+        | inr past ↦ (let e : i ≡ k = omega arith in
+            subst (λ j. ¬ IsContinuation (get_or old (get_or numbers j 0) 0)) e here)
+      ],
+      λ _. refl,
+    )
 
-  -- one that was looked at cuts none
-  pub inner-begins : (i place byte : ℕ) → place ≡ get_or numbers i 0 → slice_get now place ≡ Some byte → ¬ (IsContinuation byte) → CutsBetween end old (get_or numbers i 0)
-  inner-begins i place byte is found begins =
-      inr (λ goes. begins (subst IsContinuation ((λ k. get_or (sym stays k) (sym is k) 0) ∙ get_or_from_slice_get now place byte 0 found) goes))
-
--- the inner offsets before one, and this one
-pub cuts-more : (numbers bytes : List ℕ) (end i : ℕ) → ((k : ℕ) → 0 < k → k < i → CutsBetween end bytes (get_or numbers k 0)) → CutsBetween end bytes (get_or numbers i 0)
-    → (k : ℕ) → 0 < k → k < i + 1 → CutsBetween end bytes (get_or numbers k 0)
-cuts-more numbers bytes end i so_far here k some low =
-    elim (cases_lt k i) [
-      | inl before ↦ so_far k some before
-      | inr past ↦ (let e : i ≡ k = omega arith in subst (λ j. CutsBetween end bytes (get_or numbers j 0)) e here)
-    ]
-
-module _ (numbers bytes : List ℕ) (end : ℕ) (last : end ≡ last_of numbers) where
-  -- what was looked at in two goes begins characters, and what follows is the end
-  pub looked-all : IsOffsets numbers → (first second : ℕ)
-      → ((k : ℕ) → 0 < k → k ≤ first → ¬ IsContinuation (get_or bytes (get_or numbers k 0) 0))
-      → ((k : ℕ) → first < k → k ≤ second → ¬ IsContinuation (get_or bytes (get_or numbers k 0) 0))
-      → (second + 2 < length numbers → end ≤ get_or numbers (second + 1) 0) → InnerCutBetween numbers bytes
-  looked-all legal first second before behind far k some more =
-      elim (cases_lt first k) [
-        | inr early ↦ inr (before k some early)
-        | inl later ↦ elim (cases_lt second k) [
-          | inr next ↦ inr (behind k later next)
-          | inl past ↦ inl (
-              let low = far (omega arith) in
-              let up = legal.order (second + 1) k (omega arith) (omega arith) in
-              let high = legal.order k (length numbers - 1) (omega arith) (omega arith) in
-              let e : get_or numbers k 0 ≡ last_of numbers = omega (arith, low, up, high, last) in e)
-        ]
-      ]
-
-  -- one that lies before the end cuts a character
-  pub cuts-one : CutsOne numbers bytes end → ¬ (InnerCutBetween numbers bytes)
-  cuts-one cut inner =
-      elim (inner cut.at cut.some cut.more) [
-        | inl same ↦ omega (arith, same, last, cut.before)
-        | inr begins ↦ begins cut.goes_on
-      ]
-
--- what is refused doesn't pass
-pub refused : (accepts : List ℕ → Type 0) (numbers old now : List ℕ) → now ≡ old → ¬ (accepts (window_of numbers now) × InnerCutBetween numbers now) → ¬ (PassesWhole accepts numbers old)
-refused accepts numbers old now stays fails passes =
-    fails (subst (λ b. accepts (window_of numbers b)) (sym stays) passes.window, subst (InnerCutBetween numbers) (sym stays) passes.inner)
+-- what was looked at in two goes
+pub begin-join : (numbers old now : List ℕ) (from i upto : ℕ) (first second : Bool) → now ≡ old → from ≤ i → i ≤ upto
+    → (IsTrue first ↔ AllBegin from i numbers old) → (IsTrue second ↔ AllBegin i upto numbers now)
+    → (IsTrue (first && second) ↔ AllBegin from upto numbers old)
+begin-join numbers old now from i upto false second stays low high before behind =
+    (λ no. absurd (false≢true no), λ all. before.1 (λ k some few. all k some (omega arith)))
+begin-join numbers old now from i upto true second stays low high before behind = (
+  λ yes k some few. elim (cases_lt k i) [
+    | inl early ↦ before.0 refl k some early
+    | inr later ↦ subst (λ b. ¬ IsContinuation (get_or b (get_or numbers k 0) 0)) stays
+        (behind.0 yes k (omega arith) few)
+  ],
+  λ all. behind.1 (λ k some few. subst (λ b. ¬ IsContinuation (get_or b (get_or numbers k 0) 0)) (sym stays)
+      (all k (omega arith) few)),
+)
 
 -- ---- a window of ASCII
 
@@ -225,24 +239,29 @@ pub not-ascii : (bytes : List ℕ) → IsNotAscii bytes → ¬ (IsAscii bytes)
 not-ascii bytes high ascii = omega (arith, ascii high.0, high.1)
 
 -- no inner offset cuts a character of it
-pub ascii-cuts : (offsets bytes : List ℕ) → IsOffsets offsets → IsAscii (window_of offsets bytes) → InnerCutBetween offsets bytes
+pub ascii-cuts : (offsets bytes : List ℕ) → IsOffsets offsets → IsAscii (window_of offsets bytes)
+    → InnerCutBetween offsets bytes
 ascii-cuts offsets bytes legal ascii i some more =
     let low = legal.order 0 i (omega arith) (omega arith) in
     let high = legal.order i (length offsets - 1) (omega arith) (omega arith) in
     elim (cases_lt (get_or offsets i 0) (last_of offsets)) [
       | inl inner ↦ inr (λ both.
           (let place : first_of offsets + (get_or offsets i 0 - first_of offsets) ≡ get_or offsets i 0 = omega arith in
-          let byte = byte-window bytes (first_of offsets) (last_of offsets) (get_or offsets i 0 - first_of offsets) (omega arith) ∙ ap (λ k. get_or bytes k 0) place in
+          let byte = byte-window bytes (first_of offsets) (last_of offsets) (get_or offsets i 0 - first_of offsets)
+          (omega arith) ∙ ap (λ k. get_or bytes k 0) place in
           omega (arith, byte, ascii (get_or offsets i 0 - first_of offsets), both.0)))
       | inr end ↦ inl (let e : get_or offsets i 0 ≡ last_of offsets = omega arith in e)
     ]
 
 -- ---- the judge whose rule is Unicode's
 
-pub cuts-texts : (offsets bytes : List ℕ) → IsOffsets offsets → PassesWhole IsWellFormed offsets bytes → CutTexts offsets bytes
-cuts-texts offsets bytes legal passes = (passes.within, (slots-by-window offsets bytes legal passes.within).1 (passes.window, passes.inner))
+pub cuts-texts : (offsets bytes : List ℕ) → IsOffsets offsets → PassesWhole IsWellFormed offsets bytes
+    → CutTexts offsets bytes
+cuts-texts offsets bytes legal passes =
+    (passes.within, (slots-by-window offsets bytes legal passes.within).1 (passes.window, passes.inner))
 
-pub passes-whole : (offsets bytes : List ℕ) → IsOffsets offsets → CutTexts offsets bytes → PassesWhole IsWellFormed offsets bytes
+pub passes-whole : (offsets bytes : List ℕ) → IsOffsets offsets → CutTexts offsets bytes
+    → PassesWhole IsWellFormed offsets bytes
 passes-whole offsets bytes legal cuts =
     let both = (slots-by-window offsets bytes legal cuts.0).0 cuts.1 in
     record { within = cuts.0; window = both.0; inner = both.1 }

@@ -11,5 +11,6 @@ is_place length key = option_map_or (λ index. nat_lt index length) (index_of ke
 -- the refusal of a number that is no such place: it is no index, or else an index past the items
 abbrev pub key_refusal : ℤ → Refusal
 key_refusal key =
-    if is_some (index_of key) then out_of_spec (codes "a dictionary key must be below the length of the dictionary values")
+    if is_some (index_of key)
+    then out_of_spec (codes "a dictionary key must be below the length of the dictionary values")
     else out_of_spec (codes "the dictionary key must fit in a usize")

@@ -1,5 +1,5 @@
 -- What is left of an iterator over an array's items.
-use Rattle.std.specs.Prelude.{ℕ, ◌-◌, ◌≤◌, List, length, take, drop}
+use Rattle.std.specs.Prelude.{◌-◌, ◌≤◌, List, length, take, drop}
 use Rattle.arrow_check.specs.declared.values_iter.ArrayValuesIter.{ArrayValuesIter}
 
 module _ {A S : Type 0} (items : A → List S) where

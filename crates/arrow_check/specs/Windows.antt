@@ -21,7 +21,21 @@ CutsBetween end bytes offset = (offset ≡ end) ⊎ (¬ IsContinuation (slice_in
 
 -- the inner offsets, which are all but the first and the last, cut no character
 abbrev pub InnerCutBetween : List ℕ → List ℕ → Type 0
-InnerCutBetween offsets bytes = (i : ℕ) → 0 < i → i + 1 < length offsets → CutsBetween (last_of offsets) bytes (slice_index offsets i)
+InnerCutBetween offsets bytes = (i : ℕ) → 0 < i → i + 1 < length offsets
+    → CutsBetween (last_of offsets) bytes (slice_index offsets i)
+
+-- a character may begin at each of the offsets from one place up to another
+abbrev pub AllBegin : ℕ → ℕ → List ℕ → List ℕ → Type 0
+AllBegin from upto offsets bytes = (i : ℕ) → from ≤ i → i < upto
+    → ¬ IsContinuation (slice_index bytes (slice_index offsets i))
+
+-- the offsets from one place up to another lie before an end
+abbrev pub LieBefore : ℕ → ℕ → ℕ → List ℕ → Type 0
+LieBefore from upto end offsets = (i : ℕ) → from ≤ i → i < upto → slice_index offsets i < end
+
+-- the inner offsets from one place on are the end
+abbrev pub LieAt : ℕ → ℕ → List ℕ → Type 0
+LieAt from end offsets = (i : ℕ) → from ≤ i → i + 1 < length offsets → slice_index offsets i ≡ end
 
 -- the offsets lie within the bytes, a judge accepts their window, and the inner ones cut no character of it
 pub record PassesWhole (Accepts : List ℕ → Type 0) (offsets bytes : List ℕ) : Type 0 where
@@ -37,19 +51,14 @@ inner_of offsets = take (length offsets - 2) (drop 1 offsets)
 abbrev pub inner_before_end : List ℕ → ℕ
 inner_before_end offsets = count_by (λ offset. nat_lt offset (last_of offsets)) (inner_of offsets)
 
--- what a check of offsets reads: nothing where the last of them is past the bytes; of a window that is ASCII nothing but
+-- what a check of offsets reads: nothing where the last of them is past the bytes; of a window that is ASCII
+-- nothing but
 -- that it is, by one test; any other window by one test more, and of the inner offsets' bytes each once at most. Where
 -- the offsets pass, each inner offset before the window's end was looked at
 pub record ReadsOnce (Passes : Type 0) (offsets : List ℕ) (old new : Reading) : Type 0 where
   pub past : length old.bytes < last_of offsets → new ≡ old
   pub ascii : last_of offsets ≤ length old.bytes → IsAscii (window_of offsets old.bytes) → new ≡ after_ascii old
-  pub other : last_of offsets ≤ length old.bytes → ¬ IsAscii (window_of offsets old.bytes) → LooksAtMost (length offsets - 2) (after_whole_test (after_ascii old)) new
-  pub passed : Passes → ¬ IsAscii (window_of offsets old.bytes) → new ≡ after_looks (inner_before_end offsets) (after_whole_test (after_ascii old))
-
--- an inner offset before a place stands at a continuation byte
-pub record CutsOne (offsets bytes : List ℕ) (place : ℕ) : Type 0 where
-  pub at : ℕ
-  pub some : 0 < at
-  pub more : at + 1 < length offsets
-  pub before : slice_index offsets at < place
-  pub goes_on : IsContinuation (slice_index bytes (slice_index offsets at))
+  pub other : last_of offsets ≤ length old.bytes → ¬ IsAscii (window_of offsets old.bytes)
+      → LooksAtMost (length offsets - 2) (after_whole_test (after_ascii old)) new
+  pub passed : Passes → ¬ IsAscii (window_of offsets old.bytes)
+      → new ≡ after_looks (inner_before_end offsets) (after_whole_test (after_ascii old))

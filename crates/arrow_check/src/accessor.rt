@@ -1,34 +1,34 @@
-//! Arrays whose items are lent.
+//! Arrays that lend their items.
 ghost use Rattle.std.specs.Prelude.{◌≡◌, ◌<◌, List, length, slice_get, Some};
 
 use std::marker::Model;
 
-/// An array whose items are lent.
+/// An array that lends its items.
 pub trait ArrayAccessor<'a> {
-    /// What is lent.
+    /// The type of a lent item.
     type Item: 'a;
 
     /// What contracts see of an item.
     ghost Seen: { Type 0 };
 
-    /// What an item shows.
+    /// What contracts see of this item.
     ghost seen: { Self.Item → Seen };
 
-    /// The items, in order.
+    /// The items in order.
     ghost items: { Self → List Seen };
 
-    /// The item at a place.
+    /// Returns the item at `index`.
     fn value(&'a self, index: usize) -> Self::Item
         requires { index < length (items self.now) }
         ensures { slice_get (items self.now) index ≡ Some (seen result) };
 
-    /// The number of items.
+    /// Returns the number of items.
     fn len(&self) -> usize
         ensures { result ≡ length (items self.now) };
 }
 
-/// What contracts see of an item of bytes or of text: its bytes. It stands where a type has to be named;
-/// no call makes one.
+/// What contracts see of an item of bytes or of text: its bytes. It names a type; no call makes
+/// one.
 #[derive(Drop)]
 pub struct Bytes {
     bytes: Vec<u8>,

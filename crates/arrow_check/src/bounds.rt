@@ -1,30 +1,41 @@
-//! Whether offsets fit the values that they point into.
-ghost use Rattle.std.specs.Prelude.{◌≡◌, ◌≢◌, ◌<◌, ◌≤◌, OnOk, IfErr};
+//! Checks that offsets fit the values that they point into.
+ghost use Rattle.std.specs.Prelude.{◌≡◌, ◌≢◌, ◌<◌, ◌≤◌, length, slice_index, OnOk, IfErr};
 ghost use Rattle.arrow_types.specs.Types.{refusal};
-ghost use Rattle.arrow_memory.specs.Offsets.{last_of, numbers_of, KeepsOffsets};
-ghost use Rattle.arrow_check.specs.Bounds.{past_values, not_at_end};
+ghost use Rattle.arrow_memory.specs.Offsets.{last_of, numbers_of};
+ghost use Rattle.arrow_check.specs.Bounds.{AreLegal, past_values, not_at_end};
 
 use arrow_types::error::Error;
 use arrow_types::offset::Offset;
 
-/// The last of legal offsets, where the last slot ends.
+/// Returns the number of the offset at `index`.
 #[inline(always)]
-pub(crate) fn last_number<O: Offset>(offsets: &[O]) -> usize
-    requires { KeepsOffsets O.number O.most offsets.now }
-    ensures { result ≡ last_of (numbers_of O.number offsets.now) }
+pub(crate) fn number_at<O: Offset>(offsets: &[O], index: usize) -> usize
+    requires legal { AreLegal O.number offsets.now }
+    requires within { index < length offsets.now }
+    ensures { result ≡ slice_index (numbers_of O.number offsets.now) index }
 {
-    offsets[offsets.len() - 1].to_usize()
+    offsets[index].to_usize()
 }
 
-/// Whether legal offsets lie within so many values: as they never fall, whether the last does
-/// (Arrow columnar format, "Variable-size Binary Layout").
+/// Returns the number of the last offset, where the last slot ends.
+#[inline(always)]
+pub(crate) fn last_number<O: Offset>(offsets: &[O]) -> usize
+    requires { AreLegal O.number offsets.now }
+    ensures { result ≡ last_of (numbers_of O.number offsets.now) }
+{
+    number_at(offsets, offsets.len() - 1)
+}
+
+/// Checks that legal offsets lie within `values_len` values. Offsets never fall, so it is enough
+/// that the last one does (Arrow columnar format, "Variable-size Binary Layout").
 ///
 /// # Errors
-/// `OutOfSpec` where the last offset is above the number of values.
+/// `OutOfSpec` if the last offset is above `values_len`.
 pub fn check_bounds<O: Offset>(offsets: &[O], values_len: usize) -> Result<(), Error>
-    requires { KeepsOffsets O.number O.most offsets.now }
+    requires { AreLegal O.number offsets.now }
     ensures ok { OnOk result (last_of (numbers_of O.number offsets.now) ≤ values_len) }
-    ensures err { IfErr result (λ e. (values_len < last_of (numbers_of O.number offsets.now)) × (refusal e ≡ past_values)) }
+    ensures err { IfErr result (λ e. (values_len < last_of (numbers_of O.number offsets.now))
+        × (refusal e ≡ past_values)) }
 {
     if last_number(offsets) > values_len {
         return Err(Error::OutOfSpec("offsets must not exceed the values length"));
@@ -32,14 +43,15 @@ pub fn check_bounds<O: Offset>(offsets: &[O], values_len: usize) -> Result<(), E
     Ok(())
 }
 
-/// Whether the last of legal offsets is where so many values end.
+/// Checks that the last of legal offsets is `values_len`.
 ///
 /// # Errors
-/// `OutOfSpec` where the last offset is another than the number of values.
+/// `OutOfSpec` if it is not.
 pub fn check_last<O: Offset>(offsets: &[O], values_len: usize) -> Result<(), Error>
-    requires { KeepsOffsets O.number O.most offsets.now }
+    requires { AreLegal O.number offsets.now }
     ensures ok { OnOk result (last_of (numbers_of O.number offsets.now) ≡ values_len) }
-    ensures err { IfErr result (λ e. (last_of (numbers_of O.number offsets.now) ≢ values_len) × (refusal e ≡ not_at_end)) }
+    ensures err { IfErr result (λ e. (last_of (numbers_of O.number offsets.now) ≢ values_len)
+        × (refusal e ≡ not_at_end)) }
 {
     if last_number(offsets) != values_len {
         return Err(Error::OutOfSpec("the last offset must equal the values length"));

@@ -1,15 +1,14 @@
-//! Bytes that checks of text read, and what the reading costs.
+//! Bytes that text checks read by counted acts.
 ghost use Rattle.std.specs.Prelude.{◌≡◌, ◌+◌, ◌<◌, ◌≤◌, ◌↔◌, IsTrue, MatchBool, length, take, drop, slice_get, Some};
 ghost use Rattle.std.specs.Str.{IsAscii, IsNotAscii};
-ghost use Rattle.arrow_check.specs.Reading.{no_cost, many_more, one_more, after_ascii, after_whole_test, after_look, after_looks};
+ghost use Rattle.arrow_check.specs.Reading.{no_cost, one_more, after_ascii, after_whole_test, after_look};
 ghost use Rattle.arrow_check.specs.Utf8.{IsWellFormed};
 
 use crate::judge::Judge;
-use crate::window::is_cut_text;
-use arrow_types::offset::Offset;
 use std::marker::Model;
+use std::simd::prelude::*;
 
-/// One more, up to the greatest number.
+/// Returns the next count, which stays at the greatest number.
 #[inline(always)]
 fn one_more(count: u64) -> u64
     ensures { result ≡ one_more count }
@@ -17,15 +16,7 @@ fn one_more(count: u64) -> u64
     count.saturating_add(1)
 }
 
-/// So many more, up to the greatest number.
-#[inline(always)]
-fn many_more(count: u64, steps: usize) -> u64
-    ensures { result ≡ many_more steps count }
-{
-    count.saturating_add(steps as u64)
-}
-
-/// Whether bytes are UTF-8.
+/// Returns whether bytes are UTF-8.
 #[inline(always)]
 fn is_text(bytes: &[u8]) -> bool
     ensures { IsTrue result ↔ IsWellFormed bytes.now }
@@ -33,8 +24,16 @@ fn is_text(bytes: &[u8]) -> bool
     simdutf8::is_utf8(bytes)
 }
 
-/// Whether bytes are ASCII. The halves are read side by side, since memory is read ahead faster at two places than at
-/// one.
+/// Returns whether a block of bytes is ASCII.
+#[inline(always)]
+fn is_ascii_block(block: u8x64) -> bool
+    ensures { MatchBool result (IsAscii block) (IsNotAscii block) }
+{
+    block.simd_ge(u8x64::splat(0x80)).to_bitmask() == 0
+}
+
+/// Returns whether bytes are ASCII. Both halves are read side by side, 64 bytes of each under one
+/// test, because memory is prefetched faster at two places than at one.
 fn is_ascii_by_halves(bytes: &[u8]) -> bool
     ensures { MatchBool result (IsAscii bytes.now) (IsNotAscii bytes.now) }
 {
@@ -43,10 +42,9 @@ fn is_ascii_by_halves(bytes: &[u8]) -> bool
     let back = &bytes[half..];
     let mut at = 0;
     while half - at >= 64 {
-        if !front[at..at + 64].is_ascii() {
-            return false;
-        }
-        if !back[at..at + 64].is_ascii() {
+        let first = is_ascii_block(u8x64::from_slice(&front[at..]));
+        let second = is_ascii_block(u8x64::from_slice(&back[at..]));
+        if !(first & second) {
             return false;
         }
         at += 64;
@@ -57,7 +55,7 @@ fn is_ascii_by_halves(bytes: &[u8]) -> bool
     back[at..].is_ascii()
 }
 
-/// What checks of text cost: how often each act of reading was done. Each count stays at `u64::MAX`.
+/// The cost of text checks: how often each act of reading was done. Each count stays at `u64::MAX`.
 #[derive(Clone, Copy, Debug, Drop, PartialEq, Eq)]
 pub struct TextCost {
     ascii_tests: u64,
@@ -71,13 +69,23 @@ impl Model for TextCost {
 
     ghost Value = { Cost };
 
-    ghost view = { λ c. record { ascii_tests = c.ascii_tests; whole_tests = c.whole_tests; bytes_looked = c.bytes_looked } };
+    ghost view = { λ c. record {
+      ascii_tests = c.ascii_tests;
+      whole_tests = c.whole_tests;
+      bytes_looked =
+          c.bytes_looked;
+    } };
 
-    ghost inverse = { λ c. record { ascii_tests = c.ascii_tests; whole_tests = c.whole_tests; bytes_looked = c.bytes_looked } };
+    ghost inverse = { λ c. record {
+      ascii_tests = c.ascii_tests;
+      whole_tests = c.whole_tests;
+      bytes_looked =
+          c.bytes_looked;
+    } };
 }
 
 impl TextCost {
-    /// No act was done yet.
+    /// Creates counts of zero.
     pub fn new() -> Self
         ensures { result ≡ no_cost }
     {
@@ -88,21 +96,21 @@ impl TextCost {
         }
     }
 
-    /// How often bytes were tested for ASCII.
+    /// Returns how often bytes were tested for ASCII.
     pub fn ascii_tests(&self) -> u64
         ensures { result ≡ self.now.ascii_tests }
     {
         self.ascii_tests
     }
 
-    /// How often bytes were tested for UTF-8.
+    /// Returns how often bytes were tested for UTF-8.
     pub fn whole_tests(&self) -> u64
         ensures { result ≡ self.now.whole_tests }
     {
         self.whole_tests
     }
 
-    /// How often one byte was looked at.
+    /// Returns how often one byte was looked at.
     pub fn bytes_looked(&self) -> u64
         ensures { result ≡ self.now.bytes_looked }
     {
@@ -110,7 +118,7 @@ impl TextCost {
     }
 }
 
-/// Bytes that a check of text reads by three acts, each of which is counted. It lends no byte otherwise.
+/// Bytes that a text check reads by three counted acts, and by these alone.
 #[derive(Drop)]
 pub struct TextBytes<'a> {
     bytes: &'a [u8],
@@ -127,7 +135,7 @@ impl<'a> Model for TextBytes<'a> {
 }
 
 impl<'a> TextBytes<'a> {
-    /// These bytes, with what was counted before.
+    /// Creates a judge of these bytes, which counts on from `cost`.
     #[inline(always)]
     pub fn new(bytes: &'a [u8], cost: TextCost) -> Self
         ensures bytes { result.bytes ≡ bytes.entry.now }
@@ -136,7 +144,7 @@ impl<'a> TextBytes<'a> {
         TextBytes { bytes, cost }
     }
 
-    /// What was counted, in all.
+    /// Returns the counts.
     #[inline(always)]
     pub fn cost(&self) -> TextCost
         ensures { result ≡ self.now.cost }
@@ -144,7 +152,7 @@ impl<'a> TextBytes<'a> {
         self.cost
     }
 
-    /// The number of bytes.
+    /// Returns the number of bytes.
     #[inline(always)]
     pub fn len(&self) -> usize
         ensures { result ≡ length self.now.bytes }
@@ -152,45 +160,30 @@ impl<'a> TextBytes<'a> {
         self.bytes.len()
     }
 
-    /// Counts one test for UTF-8.
-    #[inline(always)]
-    fn count_whole_test(&mut self)
-        ensures { self.new ≡ after_whole_test self.old }
-    {
-        self.cost.whole_tests = one_more(self.cost.whole_tests);
-    }
-
-    /// Counts so many looks at a byte.
-    #[inline(always)]
-    fn count_looks(&mut self, looks: usize)
-        ensures { self.new ≡ after_looks looks self.old }
-    {
-        self.cost.bytes_looked = many_more(self.cost.bytes_looked, looks);
-    }
-
-    /// Whether the `len` bytes from `offset` on are ASCII: all below 80 (hexadecimal).
+    /// Returns whether the `len` bytes from `offset` on are ASCII: all below 80 (hexadecimal).
     #[inline(always)]
     pub fn ascii(&mut self, offset: usize, len: usize) -> bool
         requires { offset + len ≤ length self.old.bytes }
-        ensures answer { MatchBool result (IsAscii (take len (drop offset self.old.bytes))) (IsNotAscii (take len (drop offset self.old.bytes))) }
+        ensures answer { MatchBool result (IsAscii (take len (drop offset self.old.bytes)))
+            (IsNotAscii (take len (drop offset self.old.bytes))) }
         ensures counted { self.new ≡ after_ascii self.old }
     {
         self.cost.ascii_tests = one_more(self.cost.ascii_tests);
         is_ascii_by_halves(&self.bytes[offset..offset + len])
     }
 
-    /// Whether the `len` bytes from `offset` on are UTF-8.
+    /// Returns whether the `len` bytes from `offset` on are UTF-8.
     #[inline(always)]
     pub fn whole_test(&mut self, offset: usize, len: usize) -> bool
         requires { offset + len ≤ length self.old.bytes }
         ensures answer { IsTrue result ↔ IsWellFormed (take len (drop offset self.old.bytes)) }
         ensures counted { self.new ≡ after_whole_test self.old }
     {
-        self.count_whole_test();
+        self.cost.whole_tests = one_more(self.cost.whole_tests);
         is_text(&self.bytes[offset..offset + len])
     }
 
-    /// The byte at a place.
+    /// Returns the byte at `place`.
     #[inline(always)]
     pub fn look(&mut self, place: usize) -> u8
         requires { place < length self.old.bytes }
@@ -246,14 +239,5 @@ impl<'a> Judge for TextBytes<'a> {
     #[inline(always)]
     fn bytes_looked(&self) -> u64 {
         self.cost.bytes_looked
-    }
-
-    /// Each part of the bytes is tested and then looked at, while it is at hand.
-    #[inline(always)]
-    fn test_cut<O: Offset>(&mut self, offsets: &[O]) -> bool {
-        let (is_cut, looks) = is_cut_text(self.bytes, offsets);
-        self.count_whole_test();
-        self.count_looks(looks);
-        is_cut
     }
 }

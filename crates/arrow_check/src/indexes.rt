@@ -1,4 +1,4 @@
-//! Whether keys point at items.
+//! Checks that keys are indexes of items.
 ghost use Rattle.std.specs.Prelude.{◌≡◌, ◌<◌, not, find, All, IfNone, IsOk, IsErrAnd, IsSomeAnd, MatchOption, OnOk};
 ghost use Rattle.std.specs.Option.{option_copied};
 ghost use Rattle.arrow_types.specs.IndexKey.{index_of};
@@ -8,7 +8,7 @@ ghost use Rattle.arrow_check.specs.Indexes.{is_place, key_refusal};
 use arrow_types::error::Error;
 use arrow_types::index_key::IndexKey;
 
-/// Whether a key points at an item of a list of this length.
+/// Returns whether a key is an index below `len`.
 #[inline(always)]
 fn points_at_item<K: IndexKey>(key: &K, len: usize) -> bool
     ensures { result ≡ is_place len (K.number key.now) }
@@ -17,7 +17,7 @@ fn points_at_item<K: IndexKey>(key: &K, len: usize) -> bool
     key.to_index().unwrap_or(usize::MAX) < len
 }
 
-/// Why a key that points at no item is refused.
+/// Returns the error about a key that is no index below the length.
 #[cold]
 #[inline(never)]
 fn key_fault<K: IndexKey>(key: &K) -> Error
@@ -31,7 +31,7 @@ fn key_fault<K: IndexKey>(key: &K) -> Error
     }
 }
 
-/// The first key that points at no item of a list of this length.
+/// Returns the first key that is no index below `len`.
 #[inline(always)]
 fn first_astray<K: IndexKey>(keys: &[K], len: usize) -> Option<&K>
     ensures first { option_copied result ≡ find (λ key. not (is_place len (K.number key))) keys.now }
@@ -40,15 +40,15 @@ fn first_astray<K: IndexKey>(keys: &[K], len: usize) -> Option<&K>
     keys.iter().find(|key| !points_at_item(*key, len))
 }
 
-/// Whether every key points at an item of a list of this length, as a dictionary's keys at its values
-/// (Arrow columnar format, "Dictionary-encoded Layout"). Keys behind the first that doesn't are not
-/// looked at.
+/// Checks that every key is an index below `len`, as those of a dictionary must be (Arrow columnar
+/// format, "Dictionary-encoded Layout"). Keys after the first that is not are not read.
 ///
 /// # Errors
-/// `OutOfSpec` with the fault of the first key that points at no item: it is negative or doesn't fit in a
-/// `usize`, or else it is not below the length.
+/// `OutOfSpec` with the fault of the first key that is no such index: it is negative or does not
+/// fit in a `usize`, or else it is not below `len`.
 pub fn check_indexes<K: IndexKey>(keys: &[K], len: usize) -> Result<(), Error>
-    ensures first { MatchOption (find (λ key. not (is_place len (K.number key))) keys.now) (IsOk result) (λ key. IsErrAnd result (λ e. refusal e ≡ key_refusal (K.number key))) }
+    ensures first { MatchOption (find (λ key. not (is_place len (K.number key))) keys.now) (IsOk result) (λ key.
+        IsErrAnd result (λ e. refusal e ≡ key_refusal (K.number key))) }
     ensures ok { OnOk result (All (λ key. IsSomeAnd (index_of (K.number key)) (λ index. index < len)) keys.now) }
 {
     match first_astray(keys, len) {

@@ -9,4 +9,3 @@ pub mod judge;
 pub mod laws;
 pub mod text;
 pub mod values_iter;
-mod window;

@@ -1,4 +1,4 @@
-//! The items of an array, from both ends.
+//! Iterators over the items of an array.
 ghost use Rattle.std.specs.Prelude.{◌≡◌, ◌-◌, length, Some, IfSome};
 ghost use Rattle.std.specs.Iterator.{MakesProgress, YieldsFirstBy, YieldsLastBy, at_most, UpTo};
 ghost use Rattle.std.specs.Iterator.SizeHint.{IsWithinCount};
@@ -7,7 +7,7 @@ ghost use Rattle.arrow_check.specs.Items.{IsWithin, rest_of};
 
 use crate::accessor::ArrayAccessor;
 
-/// An iterator over the items of an array, from both ends.
+/// A double-ended iterator over the items of an array.
 #[derive(Drop)]
 pub struct ArrayValuesIter<'a, A> {
     array: &'a A,
@@ -17,7 +17,7 @@ pub struct ArrayValuesIter<'a, A> {
 
 #[tactic(auto, using(crate::proofs::ItemLemmas::rest_steps))]
 impl<'a, A: ArrayAccessor<'a>> ArrayValuesIter<'a, A> {
-    /// All items of an array.
+    /// Creates an iterator over all items of an array.
     #[inline(always)]
     pub fn new(array: &'a A) -> Self
         ensures within { IsWithin A.items result }
@@ -30,7 +30,7 @@ impl<'a, A: ArrayAccessor<'a>> ArrayValuesIter<'a, A> {
         }
     }
 
-    /// The number of items left.
+    /// Returns the number of items left.
     #[inline(always)]
     pub fn len(&self) -> usize
         requires { IsWithin A.items self.now }
@@ -39,8 +39,8 @@ impl<'a, A: ArrayAccessor<'a>> ArrayValuesIter<'a, A> {
         self.end - self.index
     }
 
-    /// Passes over so many items and gives the next; where no more than those are left, all are passed
-    /// over and there is none.
+    /// Skips `n` items and returns the next one. If no more than `n` are left, the iterator is at
+    /// its end and the result is `None`.
     #[inline(always)]
     pub fn nth(&mut self, n: usize) -> Option<A::Item>
         requires { IsWithin A.items self.old }
@@ -56,7 +56,7 @@ impl<'a, A: ArrayAccessor<'a>> ArrayValuesIter<'a, A> {
         self.next()
     }
 
-    /// The same items left.
+    /// Returns an iterator over the same items.
     #[inline(always)]
     pub fn clone(&self) -> Self
         ensures { result ≡ self.now }
@@ -94,10 +94,11 @@ impl<'a, A: ArrayAccessor<'a>> Iterator for ArrayValuesIter<'a, A> {
         Some(item)
     }
 
-    /// Both parts are the number of items left.
+    /// Returns the number of items left, in both parts.
     #[inline(always)]
     fn size_hint(&self) -> (usize, Option<usize>)
-        ensures exact { IsWithin A.items self.now → result ≡ (length (rest_of A.items self.now), Some (length (rest_of A.items self.now))) }
+        ensures exact { IsWithin A.items self.now
+            → result ≡ (length (rest_of A.items self.now), Some (length (rest_of A.items self.now))) }
         ensures lower { IsWithinCount result.0 (at_most (self.now.end - self.now.index)) }
         ensures upper { IfSome result.1 (UpTo (at_most (self.now.end - self.now.index))) }
     {

@@ -3,7 +3,7 @@ use crate::judges::{AnyBytes, AsciiBytes};
 use arrow_check::cost::{TextBytes, TextCost};
 use arrow_check::judge::Judge;
 use arrow_check::text::{check_text, check_utf8};
-use arrow_testing::{offsets_of, tells};
+use arrow_testing::{frozen_offsets, offsets_of, tells};
 use std::alloc::{AllocError, Global};
 
 const PAST: &str = "offsets must not exceed the values length";
@@ -181,6 +181,25 @@ fn a_window_is_tested_once(rt: HostRuntime) {
     assert!(rt; is_hundred_once(rt.alloc()));
 }
 
+/// What `check_text` answers of frozen offsets over these bytes, by the judge of text.
+fn frozen_answer(alloc: Global, offsets: &[usize], bytes: &[u8]) -> &'static str {
+    match frozen_offsets::<i64>(alloc, offsets) {
+        Ok(offsets) => {
+            let mut text = TextBytes::new(bytes, TextCost::new());
+            tells(check_text(offsets.buffer().as_slice(), &mut text))
+        }
+        Err(_) => "no offsets",
+    }
+}
+
+#[test]
+fn frozen_offsets_are_checked(rt: HostRuntime) {
+    let whole = frozen_answer(rt.alloc(), [0, 2, 4].as_slice(), "éè".as_bytes());
+    let cut = frozen_answer(rt.alloc(), [0, 1, 4].as_slice(), "éè".as_bytes());
+    let past = frozen_answer(rt.alloc(), [0, 5].as_slice(), "éè".as_bytes());
+    assert!(rt; (whole == "made") & (cut == NO_TEXT) & (past == PAST));
+}
+
 const BY_ASCII: &[Case] = &[
     (&[0, 2], &[0xC3, 0xA9], NO_TEXT, [1, 1, 0]),
     (&[0, 1, 2], &[0x61, 0x62], "made", [1, 0, 0]),
@@ -195,7 +214,7 @@ fn a_judge_says_what_is_text(rt: HostRuntime) {
 
 const BY_ANY: &[Case] = &[
     (&[0, 1, 3, 3, 3], &[0xFF, 0xC3, 0x61], "made", [1, 1, 1]),
-    (&[0, 1, 2, 3], &[0xFF, 0xBF, 0x61], NO_TEXT, [1, 1, 1]),
+    (&[0, 1, 2, 3], &[0xFF, 0xBF, 0x61], NO_TEXT, [1, 1, 2]),
     (&[0, 1, 2, 3], &[0xFF, 0x7F, 0x80], NO_TEXT, [1, 1, 2]),
     (&[0, 1, 2, 3], &[0xFF, 0x7F, 0xC0], "made", [1, 1, 2]),
     (&[1, 3], &[0xFF, 0x80, 0x80], "made", [1, 1, 0]),

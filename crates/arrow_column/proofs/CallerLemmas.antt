@@ -4,7 +4,8 @@ use Rattle.arrow_memory.specs.Rows.{FitsMask}
 use Rattle.arrow_column.specs.Column.{ColumnWith, IsColumn, column_with, mask_of, stored_values}
 use Rattle.arrow_column.proofs.ColumnLemmas.{fits_by_held}
 use Rattle.arrow_column.proofs.ColumnLemmas as column
--- A column without a mask: its rows are all valid, valid slots that are appended to it are values that are appended, and it
+-- A column without a mask: its rows are all valid, valid slots that are appended to it are values that are
+-- appended, and it
 -- holds no needless mask.
 pub use Rattle.arrow_column.proofs.ColumnLemmas.{all-bare, appended-values, needless-bare}
 -- The slots of valid rows are their stored values; where no mask is held, all rows are valid.

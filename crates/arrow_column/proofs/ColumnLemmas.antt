@@ -1,14 +1,15 @@
 -- Lemmas about columns.
-use Rattle.std.proofs.Common.{◌≡◌, ℕ, zero, suc, ◌+◌, ◌-◌, ◌<◌, ◌≤◌, Bool, true, false, ◌&&◌, IsTrue, if◌then◌else◌, ap₂, List, [], ◌∷◌, ◌++◌, length, map, take, drop, min, length-take, length-drop, slice_get, Option, Some, None, option_and_then, option_map, IfSome, refl, sym, ap, ◌∙◌, arith, append_assoc}
-use Rattle.std.specs.Prelude.{⊤, not, replicate}
-use Rattle.std.specs.Iterator.{MakesProgress, item_count}
-use Rattle.std.specs.List.{list_all, zip}
-use Rattle.std.proofs.lemmas.List.{length-map, map-append, append-nil, length_push, take_at, drop_at, take-take, drop-drop, drop-take}
-use Rattle.std.proofs.lemmas.Slice.Zip.{length-zip}
+use Rattle.std.proofs.Common.{◌≡◌, ℕ, zero, suc, ◌-◌, ◌<◌, Bool, true, false, ◌&&◌, IsTrue, if◌then◌else◌}
+use Rattle.std.proofs.Common.{ap₂, List, [], ◌∷◌, ◌++◌, length, map, take}
+use Rattle.std.proofs.Common.{slice_get, Option, Some, None, option_and_then, refl, sym, ap}
+use Rattle.std.proofs.Common.{◌∙◌, arith, append_assoc}
+use Rattle.std.specs.Prelude.{not, replicate}
+use Rattle.std.specs.List.{list_all}
+use Rattle.std.proofs.lemmas.List.{length-map, append-nil, length_push, take_at}
 use Rattle.arrow_types.specs.Types.{LogicalType}
-use Rattle.arrow_memory.specs.MarkWrites.{TakesLastMark}
 use Rattle.arrow_memory.specs.Rows.{FitsMask, Row, slot, rows_of}
-use Rattle.arrow_column.specs.Column.{ColumnWith, IsColumn, column_with, all_valid, append_nulls, append_slot, append_slots, append_values, last_slot, without_needless_mask, without_last}
+use Rattle.arrow_column.specs.Column.{ColumnWith, IsColumn, column_with, append_nulls, append_slot}
+use Rattle.arrow_column.specs.Column.{append_slots, append_values, last_slot, without_needless_mask, without_last}
 
 -- ---- columns
 
@@ -21,54 +22,68 @@ and-right true b h = h
 and-right false b h = cc
 
 -- rows whose marks are set show their values
-pub slots_valid : {S : Type 0} (rows : List (Row S)) → IsTrue (list_all (λ row. row.1) rows) → map slot rows ≡ map Some (map (λ row. row.0) rows)
+pub slots_valid : {S : Type 0} (rows : List (Row S)) → IsTrue (list_all (λ row. row.1) rows)
+    → map slot rows ≡ map Some (map (λ row. row.0) rows)
 slots_valid [] h = refl
 slots_valid (row ∷ rows) h =
     let set : row.1 ≡ true = and-left row.1 _ h in
     ap₂ ◌∷◌ (ap (λ v. slot (row.0, v)) set) (slots_valid rows (and-right row.1 _ h))
 
-rows_valid : {S : Type 0} (rows : List (Row S)) → IsTrue (list_all (λ row. row.1) rows) → rows_of (map (λ row. row.0) rows) None ≡ rows
+rows_valid : {S : Type 0} (rows : List (Row S)) → IsTrue (list_all (λ row. row.1) rows)
+    → rows_of (map (λ row. row.0) rows) None ≡ rows
 rows_valid [] h = refl
 rows_valid (row ∷ rows) h =
     let set : row.1 ≡ true = and-left row.1 _ h in
     ap₂ ◌∷◌ (ap (λ v. (row.0, v)) (sym set)) (rows_valid rows (and-right row.1 _ h))
 
-rows_marked : {S : Type 0} (rows : List (Row S)) → rows_of (map (λ row. row.0) rows) (Some (map (λ row. row.1) rows)) ≡ rows
+rows_marked : {S : Type 0} (rows : List (Row S))
+    → rows_of (map (λ row. row.0) rows) (Some (map (λ row. row.1) rows)) ≡ rows
 rows_marked [] = refl
 rows_marked (row ∷ rows) = ap (λ rest. row ∷ rest) (rows_marked rows)
 
-pub rows_by_held : {S : Type 0} (held : Bool) (rows : List (Row S)) → (held ≡ false → IsTrue (list_all (λ row. row.1) rows))
+pub rows_by_held : {S : Type 0} (held : Bool) (rows : List (Row S))
+    → (held ≡ false → IsTrue (list_all (λ row. row.1) rows))
     → rows_of (map (λ row. row.0) rows) (if held then Some (map (λ row. row.1) rows) else None) ≡ rows
 rows_by_held true rows h = rows_marked rows
 rows_by_held false rows h = rows_valid rows (h refl)
 
-pub fits_by_held : {S : Type 0} (held : Bool) (rows : List (Row S)) → FitsMask (map (λ row. row.0) rows) (if held then Some (map (λ row. row.1) rows) else None)
+pub fits_by_held : {S : Type 0} (held : Bool) (rows : List (Row S))
+    → FitsMask (map (λ row. row.0) rows) (if held then Some (map (λ row. row.1) rows) else None)
 fits_by_held true rows = length-map rows (λ row. row.1) ∙ sym (length-map rows (λ row. row.0))
 fits_by_held false rows = tt
 
-pub column_again : {A S : Type 0} (t : LogicalType) (around : A) (held : Bool) (rows : List (Row S)) → (held ≡ false → IsTrue (list_all (λ row. row.1) rows))
-    → column_with t around (map (λ row. row.0) rows) (if held then Some (map (λ row. row.1) rows) else None) ≡ record { data_type = t; around = around; rows = rows; held = held }
-column_again t around true rows h = ap (λ xs. record { data_type = t; around = around; rows = xs; held = true }) (rows_marked rows)
-column_again t around false rows h = ap (λ xs. record { data_type = t; around = around; rows = xs; held = false }) (rows_valid rows (h refl))
+pub column_again : {A S : Type 0} (t : LogicalType) (around : A) (held : Bool) (rows : List (Row S))
+    → (held ≡ false → IsTrue (list_all (λ row. row.1) rows))
+    → column_with t around (map (λ row. row.0) rows) (if held then Some (map (λ row. row.1) rows) else None)
+    ≡ record { data_type = t; around = around; rows = rows; held = held }
+column_again t around true rows h = ap (λ xs. record { data_type = t; around = around; rows = xs; held = true })
+    (rows_marked rows)
+column_again t around false rows h = ap (λ xs. record { data_type = t; around = around; rows = xs; held = false })
+    (rows_valid rows (h refl))
 
-pub valid_by_held : (held : Bool) {S : Type 0} (rows : List (Row S)) → (held ≡ false → IsTrue (list_all (λ row. row.1) rows))
+pub valid_by_held : (held : Bool) {S : Type 0} (rows : List (Row S))
+    → (held ≡ false → IsTrue (list_all (λ row. row.1) rows))
     → (if held then Some (map (λ row. row.1) rows) else None) ≡ None → IsTrue (list_all (λ row. row.1) rows)
 valid_by_held true rows h none = cc
 valid_by_held false rows h none = h refl
 
 -- the last row, and the others
 last-push : {X : Type 0} (xs : List X) (x : X) → slice_get (xs ++ x ∷ []) (length (xs ++ x ∷ []) - 1) ≡ Some x
-last-push {X = X} xs x = ap (slice_get (xs ++ x ∷ [])) (let e : length (xs ++ x ∷ []) - 1 ≡ length xs = omega (arith, length_push xs x) in e) ∙ at_end xs
+last-push {X = X} xs x = ap (slice_get (xs ++ x ∷ [])) (let e : length (xs ++ x ∷ []) - 1 ≡ length xs =
+    omega (arith, length_push xs x) in e) ∙ at_end xs
   where
     at_end : (ys : List X) → slice_get (ys ++ x ∷ []) (length ys) ≡ Some x
     at_end [] = refl
     at_end (y ∷ ys) = at_end ys
 
 rest-push : {X : Type 0} (xs : List X) (x : X) → take (length (xs ++ x ∷ []) - 1) (xs ++ x ∷ []) ≡ xs
-rest-push xs x = take_at xs (x ∷ []) (length (xs ++ x ∷ []) - 1) (let e : length xs ≡ length (xs ++ x ∷ []) - 1 = omega (arith, length_push xs x) in e)
+rest-push xs x = take_at xs (x ∷ []) (length (xs ++ x ∷ []) - 1) (let e : length xs ≡ length (xs ++ x ∷ []) - 1 =
+    omega (arith, length_push xs x) in e)
 
 -- the slot at a place
-slot-at : {S : Type 0} (rows : List (Row S)) (i : ℕ) (v : S) (m : Bool) → slice_get (map (λ (row : Row S). row.0) rows) i ≡ Some v → slice_get (map (λ (row : Row S). row.1) rows) i ≡ Some m
+slot-at : {S : Type 0} (rows : List (Row S)) (i : ℕ) (v : S) (m : Bool)
+    → slice_get (map (λ (row : Row S). row.0) rows) i ≡ Some v
+    → slice_get (map (λ (row : Row S). row.1) rows) i ≡ Some m
     → slice_get (map slot rows) i ≡ Some (if m then Some v else None)
 slot-at [] i v m e f = cc
 slot-at (row ∷ rows) zero v m e f =
@@ -79,31 +94,40 @@ slot-at (row ∷ rows) (suc i) v m e f = slot-at rows i v m e f
 
 -- ---- slots of columns
 
-pub masked-slot : {S : Type 0} (held : Bool) (rows : List (Row S)) (mask : List Bool) (i : ℕ) (v : S) (m : Bool) → (if held then Some (map (λ (row : Row S). row.1) rows) else None) ≡ Some mask
-    → slice_get (map (λ (row : Row S). row.0) rows) i ≡ Some v → slice_get mask i ≡ Some m → slice_get (map slot rows) i ≡ Some (if m then Some v else None)
+pub masked-slot : {S : Type 0} (held : Bool) (rows : List (Row S)) (mask : List Bool) (i : ℕ) (v : S) (m : Bool)
+    → (if held then Some (map (λ (row : Row S). row.1) rows) else None) ≡ Some mask
+    → slice_get (map (λ (row : Row S). row.0) rows) i ≡ Some v → slice_get mask i ≡ Some m
+    → slice_get (map slot rows) i ≡ Some (if m then Some v else None)
 masked-slot true rows mask i v m e f g =
     let same : map (λ row. row.1) rows ≡ mask = cc in
     slot-at rows i v m f (ap (λ marks. slice_get marks i) same ∙ g)
 masked-slot false rows mask i v m e f g = cc
 
-valid-slot : {S : Type 0} (rows : List (Row S)) (i : ℕ) (v : S) → IsTrue (list_all (λ row. row.1) rows) → slice_get (map (λ row. row.0) rows) i ≡ Some v → slice_get (map slot rows) i ≡ Some (Some v)
-valid-slot rows i v all e = ap (λ slots. slice_get slots i) (slots_valid rows all) ∙ some-at (map (λ row. row.0) rows) i v e
+valid-slot : {S : Type 0} (rows : List (Row S)) (i : ℕ) (v : S) → IsTrue (list_all (λ row. row.1) rows)
+    → slice_get (map (λ row. row.0) rows) i ≡ Some v → slice_get (map slot rows) i ≡ Some (Some v)
+valid-slot rows i v all e = ap (λ slots. slice_get slots i) (slots_valid rows all)
+    ∙ some-at (map (λ row. row.0) rows) i v e
   where
-    some-at : {S : Type 0} (values : List S) (i : ℕ) (v : S) → slice_get values i ≡ Some v → slice_get (map Some values) i ≡ Some (Some v)
+    some-at : {S : Type 0} (values : List S) (i : ℕ) (v : S) → slice_get values i ≡ Some v
+        → slice_get (map Some values) i ≡ Some (Some v)
     some-at [] i v e = cc
     some-at (x ∷ values) zero v e = ap Some e
     some-at (x ∷ values) (suc i) v e = some-at values i v e
 
-pub bare-slot : {S : Type 0} (held : Bool) (rows : List (Row S)) (i : ℕ) (v : S) → (held ≡ false → list_all (λ (row : Row S). row.1) rows ≡ true) → (if held then Some (map (λ (row : Row S). row.1) rows) else None) ≡ None
+pub bare-slot : {S : Type 0} (held : Bool) (rows : List (Row S)) (i : ℕ) (v : S)
+    → (held ≡ false → list_all (λ (row : Row S). row.1) rows ≡ true)
+    → (if held then Some (map (λ (row : Row S). row.1) rows) else None) ≡ None
     → slice_get (map (λ (row : Row S). row.0) rows) i ≡ Some v → slice_get (map slot rows) i ≡ Some (Some v)
 bare-slot true rows i v is_column e f = cc
 bare-slot false rows i v is_column e f = valid-slot rows i v (is_column refl) f
 
-pub pushed-slot : {A S : Type 0} (default : S) (column : ColumnWith A S) (shown : Option S) → last_slot (append_slot default column shown) ≡ shown
+pub pushed-slot : {A S : Type 0} (default : S) (column : ColumnWith A S) (shown : Option S)
+    → last_slot (append_slot default column shown) ≡ shown
 pushed-slot default column None = ap (option_and_then slot) (last-push column.rows (default, false))
 pushed-slot default column (Some v) = ap (option_and_then slot) (last-push column.rows (v, true))
 
-pub pushed-rows : {A S : Type 0} (default : S) (column : ColumnWith A S) (shown : Option S) → (without_last (append_slot default column shown)).rows ≡ column.rows
+pub pushed-rows : {A S : Type 0} (default : S) (column : ColumnWith A S) (shown : Option S)
+    → (without_last (append_slot default column shown)).rows ≡ column.rows
 pushed-rows default column None = rest-push column.rows (default, false)
 pushed-rows default column (Some v) = rest-push column.rows (v, true)
 
@@ -114,21 +138,28 @@ pub appended-items : {A S X : Type 0} (shown : X → S) (default : S) (column : 
 appended-items shown default column [] = ap (λ rows. record column { rows = rows }) (sym (append-nil column.rows))
 appended-items shown default column (x ∷ items) =
     appended-items shown default (append_slot default column (Some (shown x))) items
-    ∙ ap (λ rows. record column { rows = rows }) (append_assoc column.rows ((shown x, true) ∷ []) (rows_of (map shown items) None))
+    ∙ ap (λ rows. record column { rows = rows }) (append_assoc column.rows ((shown x, true) ∷ [])
+    (rows_of (map shown items) None))
 
-pub appended-values : {A S : Type 0} (default : S) (column : ColumnWith A S) (values : List S) → append_slots default column (map Some values) ≡ append_values column values
+pub appended-values : {A S : Type 0} (default : S) (column : ColumnWith A S) (values : List S)
+    → append_slots default column (map Some values) ≡ append_values column values
 appended-values default column [] = ap (λ rows. record column { rows = rows }) (sym (append-nil column.rows))
 appended-values default column (x ∷ values) =
     appended-values default (append_slot default column (Some x)) values
     ∙ ap (λ rows. record column { rows = rows }) (append_assoc column.rows ((x, true) ∷ []) (rows_of values None))
 
-pub appended-masked : {A S : Type 0} (default : S) (column : ColumnWith A S) (n : ℕ) → append_slots default (record column { held = true }) (replicate n None) ≡ append_nulls column (replicate n default)
-appended-masked default column zero = ap (λ rows. record column { rows = rows; held = true }) (sym (append-nil column.rows))
+pub appended-masked : {A S : Type 0} (default : S) (column : ColumnWith A S) (n : ℕ)
+    → append_slots default (record column { held = true }) (replicate n None)
+    ≡ append_nulls column (replicate n default)
+appended-masked default column zero = ap (λ rows. record column { rows = rows; held = true })
+    (sym (append-nil column.rows))
 appended-masked default column (suc n) =
     appended-masked default (record column { rows = column.rows ++ (default, false) ∷ [] }) n
-    ∙ ap (λ rows. record column { rows = rows; held = true }) (append_assoc column.rows ((default, false) ∷ []) (map (λ value. (value, false)) (replicate n default)))
+    ∙ ap (λ rows. record column { rows = rows; held = true }) (append_assoc column.rows ((default, false) ∷ [])
+    (map (λ value. (value, false)) (replicate n default)))
 
-pub appended-nulls : {A S : Type 0} (default : S) (column : ColumnWith A S) (n : ℕ) → 0 < n → append_slots default column (replicate n None) ≡ append_nulls column (replicate n default)
+pub appended-nulls : {A S : Type 0} (default : S) (column : ColumnWith A S) (n : ℕ) → 0 < n
+    → append_slots default column (replicate n None) ≡ append_nulls column (replicate n default)
 appended-nulls default column zero some = let none : ⊥ = omega (arith, some) in absurd none
 appended-nulls default column (suc n) some = appended-masked default column (suc n)
 
@@ -136,5 +167,6 @@ pub all-bare : {S : Type 0} (values : List S) → IsTrue (list_all (λ row. row.
 all-bare [] = refl
 all-bare (x ∷ values) = all-bare values
 
-pub needless-bare : {A S : Type 0} (column : ColumnWith A S) → IsColumn column → column.held ≡ false → without_needless_mask column ≡ column
+pub needless-bare : {A S : Type 0} (column : ColumnWith A S) → IsColumn column → column.held ≡ false
+    → without_needless_mask column ≡ column
 needless-bare column is_column bare = ap (λ held. record column { held = held }) (ap not (is_column bare) ∙ sym bare)

@@ -15,4 +15,5 @@ Passes (test Condition why tests) = Condition × Passes tests
 -- this is the refusal of the first condition that fails
 abbrev pub IsFirstFailure : Tests → Refusal → Type 0
 IsFirstFailure accept refused = ⊥
-IsFirstFailure (test Condition why tests) refused = ((Condition → ⊥) → refused ≡ why) × (Condition → IsFirstFailure tests refused)
+IsFirstFailure (test Condition why tests) refused = ((Condition → ⊥) → refused ≡ why) × (Condition
+    → IsFirstFailure tests refused)

@@ -1,22 +1,27 @@
--- Slots and items that are appended one after the other, where any growth may be refused: `overflows` says which item is more
+-- Slots and items that are appended one after the other, where any growth may be refused: `overflows` says which
+-- item is more
 -- than can be counted, `shown` what is stored of an item, and `default` what a null stores.
 use Rattle.std.specs.Prelude.{◌≡◌, Bool, true, List, ◌∷◌, ◌++◌, map, Option, Some, option_map}
 use Rattle.std.specs.Iterator.{Drains, YieldsThen}
 use Rattle.arrow_types.specs.declared.error.Error.{Error}
-use Rattle.arrow_column.specs.Column.{ColumnWith, append_slots, refused_growth, slot_overflows, slots_fit, stored_values, without_needless_mask}
+use Rattle.arrow_column.specs.Column.{ColumnWith, append_slots, refused_growth, slot_overflows, slots_fit}
+use Rattle.arrow_column.specs.Column.{stored_values, without_needless_mask}
 
 module _ {A S X : Type 0} (overflows : A → List S → X → Bool) (shown : X → S) (default : S) where
   -- all of these can be counted, and are appended
   abbrev pub AppendsSlots : ColumnWith A S → List (Option X) → ColumnWith A S → Type 0
-  AppendsSlots old slots new = (slots_fit overflows shown default old slots ≡ true) × (new ≡ append_slots default old (map (option_map shown) slots))
+  AppendsSlots old slots new = (slots_fit overflows shown default old slots ≡ true)
+      × (new ≡ append_slots default old (map (option_map shown) slots))
 
   abbrev pub AppendsItems : ColumnWith A S → List X → ColumnWith A S → Type 0
-  AppendsItems old items new = (slots_fit overflows shown default old (map Some items) ≡ true) × (new ≡ append_slots default old (map (λ x. Some (shown x)) items))
+  AppendsItems old items new = (slots_fit overflows shown default old (map Some items) ≡ true)
+      × (new ≡ append_slots default old (map (λ x. Some (shown x)) items))
 
   -- an array of all of these behind those of a column, which holds a mask exactly where a slot is null
   abbrev pub FreezesSlots : ColumnWith A S → List (Option X) → ColumnWith A S → Type 0
   FreezesSlots old slots array =
-      (slots_fit overflows shown default old slots ≡ true) × (array ≡ without_needless_mask (append_slots default old (map (option_map shown) slots)))
+      (slots_fit overflows shown default old slots ≡ true)
+      × (array ≡ without_needless_mask (append_slots default old (map (option_map shown) slots)))
 
   abbrev pub FreezesItems : ColumnWith A S → List X → ColumnWith A S → Type 0
   FreezesItems old items array =
@@ -38,10 +43,12 @@ module _ {A S X : Type 0} (overflows : A → List S → X → Bool) (shown : X �
 
   -- the same of a list
   abbrev pub StopsAmongSlots : List (Option X) → ColumnWith A S → ColumnWith A S → Error → Type 0
-  StopsAmongSlots slots old new e = (begun rest : List (Option X)) × (last : Option X) × (slots ≡ begun ++ last ∷ rest) × StopsAtSlot old begun last new e
+  StopsAmongSlots slots old new e = (begun rest : List (Option X)) × (last : Option X)
+      × (slots ≡ begun ++ last ∷ rest) × StopsAtSlot old begun last new e
 
   abbrev pub StopsAmongItems : List X → ColumnWith A S → ColumnWith A S → Error → Type 0
-  StopsAmongItems items old new e = (begun rest : List X) × (last : X) × (items ≡ begun ++ last ∷ rest) × StopsAtItem old begun last new e
+  StopsAmongItems items old new e = (begun rest : List X) × (last : X) × (items ≡ begun ++ last ∷ rest)
+      × StopsAtItem old begun last new e
 
   -- all before the last of these can be counted, and that can't
   abbrev pub SlotsOverflow : List (Option X) → ColumnWith A S → Type 0
@@ -65,15 +72,19 @@ module _ {A S X : Type 0} (overflows : A → List S → X → Bool) (shown : X �
     ExtendsByItems gives iter old new = (items : List X) × Drains gives iter items × AppendsItems old items new
 
     abbrev pub FreezesBySlots : (I → Option (Option X) → I → Type 0) → I → ColumnWith A S → ColumnWith A S → Type 0
-    FreezesBySlots gives iter old array = (slots : List (Option X)) × Drains gives iter slots × FreezesSlots old slots array
+    FreezesBySlots gives iter old array = (slots : List (Option X)) × Drains gives iter slots
+        × FreezesSlots old slots array
 
-    abbrev pub StopsInSlots : (I → Option (Option X) → I → Type 0) → I → ColumnWith A S → ColumnWith A S → Error → Type 0
+    abbrev pub StopsInSlots : (I → Option (Option X) → I → Type 0) → I → ColumnWith A S → ColumnWith A S → Error
+        → Type 0
     StopsInSlots gives iter old new e =
-        (begun : List (Option X)) × (last : Option X) × (rest : I) × YieldsThen gives iter begun (Some last) rest × StopsAtSlot old begun last new e
+        (begun : List (Option X)) × (last : Option X) × (rest : I) × YieldsThen gives iter begun (Some last) rest
+        × StopsAtSlot old begun last new e
 
     abbrev pub StopsInItems : (I → Option X → I → Type 0) → I → ColumnWith A S → ColumnWith A S → Error → Type 0
     StopsInItems gives iter old new e =
-        (begun : List X) × (last : X) × (rest : I) × YieldsThen gives iter begun (Some last) rest × StopsAtItem old begun last new e
+        (begun : List X) × (last : X) × (rest : I) × YieldsThen gives iter begun (Some last) rest
+        × StopsAtItem old begun last new e
 
     abbrev pub GivesTooManySlots : (I → Option (Option X) → I → Type 0) → I → ColumnWith A S → Type 0
     GivesTooManySlots gives iter old =

@@ -1,5 +1,7 @@
 -- A column: what an array or a builder is, apart from how it is kept.
-use Rattle.std.specs.Prelude.{⊤, ◌≡◌, ◌||◌, ◌&&◌, slice_set, option_map, replicate, ℕ, ◌-◌, ◌≤◌, Bool, true, false, not, List, [], ◌∷◌, ◌++◌, length, map, take, drop, Option, Some, None, option_and_then, is_some, IfSome, slice_get, codes, if◌then◌else◌, IsTrue}
+use Rattle.std.specs.Prelude.{⊤, ◌≡◌, ◌||◌, ◌&&◌, slice_set, option_map, ℕ, ◌-◌, ◌≤◌, Bool, true, false}
+use Rattle.std.specs.Prelude.{not, List, [], ◌∷◌, ◌++◌, length, map, take, drop, Option, Some, None}
+use Rattle.std.specs.Prelude.{option_and_then, is_some, slice_get, codes, if◌then◌else◌, IsTrue}
 use Rattle.std.specs.List.{fold, list_all, zip}
 use Rattle.arrow_types.specs.Types.{LogicalType, Refusal, out_of_spec}
 use Rattle.arrow_types.specs.declared.error.Error.{Error}
@@ -29,7 +31,13 @@ Column S = ColumnWith ⊤ S
 -- the column of the parts that an array or a builder is made of: its type, what is around its stored values, these,
 -- and its mask
 abbrev pub column_with : {A S : Type 0} → LogicalType → A → List S → Option (List Bool) → ColumnWith A S
-column_with t around values mask = record { data_type = t; around = around; rows = rows_of values mask; held = is_some mask }
+column_with t around values mask = record {
+  data_type = t;
+  around = around;
+  rows = rows_of values mask;
+  held =
+      is_some mask;
+}
 
 -- the same with nothing around the stored values
 abbrev pub column_of_parts : {S : Type 0} → LogicalType → List S → Option (List Bool) → Column S
@@ -70,7 +78,11 @@ FitsCut column a n = (a ≤ length column.rows) × (n ≤ length column.rows - a
 -- the n rows from place a on; the type stays, and so does whether a mask is held; what is then around the stored
 -- values depends on what was around them, on them, a and n
 abbrev pub cut_with : {A S : Type 0} → (A → List S → ℕ → ℕ → A) → ColumnWith A S → ℕ → ℕ → ColumnWith A S
-cut_with around column a n = record column { around = around column.around (stored_values column) a n; rows = take n (drop a column.rows) }
+cut_with around column a n = record column {
+  around = around column.around (stored_values column) a n;
+  rows =
+      take n (drop a column.rows);
+}
 
 -- the same where nothing is around
 abbrev pub cut : {S : Type 0} → Column S → ℕ → ℕ → Column S
@@ -125,7 +137,8 @@ with_stored column values = record column { rows = zip values (marks_of column) 
 -- the stored values once they were written over; a list of another length is written from the first on, as far as
 -- there are values
 abbrev pub with_written : {A S : Type 0} → ColumnWith A S → List S → ColumnWith A S
-with_written column values = with_stored column (take (length column.rows) (values ++ drop (length values) (stored_values column)))
+with_written column values =
+    with_stored column (take (length column.rows) (values ++ drop (length values) (stored_values column)))
 
 -- another type
 abbrev pub with_type : {A S : Type 0} → ColumnWith A S → LogicalType → ColumnWith A S
@@ -141,6 +154,8 @@ slot_overflows overflows column (Some x) = overflows column.around (stored_value
 slot_overflows overflows column None = false
 
 -- whether none of these slots, appended one after the other, is more than can be counted
-abbrev pub slots_fit : {A S X : Type 0} → (A → List S → X → Bool) → (X → S) → S → ColumnWith A S → List (Option X) → Bool
+abbrev pub slots_fit : {A S X : Type 0} → (A → List S → X → Bool) → (X → S) → S → ColumnWith A S → List (Option X)
+    → Bool
 slots_fit overflows shown default column [] = true
-slots_fit overflows shown default column (x ∷ xs) = not (slot_overflows overflows column x) && slots_fit overflows shown default (append_slot default column (option_map shown x)) xs
+slots_fit overflows shown default column (x ∷ xs) = not (slot_overflows overflows column x) && slots_fit overflows
+    shown default (append_slot default column (option_map shown x)) xs

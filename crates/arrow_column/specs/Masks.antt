@@ -1,4 +1,4 @@
--- What becomes of masks as columns change. Only private functions cite this.
+-- What becomes of masks as columns change. Only private functions cite this, those of kernels too.
 use Rattle.std.specs.Prelude.{ℕ, Bool, true, List, ◌++◌, replicate, Option, Some, None, if◌then◌else◌}
 use Rattle.std.specs.List.{list_all}
 

@@ -1,21 +1,28 @@
 -- Whether two lists of slots are the same, as a test: what `==` of builders answers.
-use Rattle.std.specs.Prelude.{⊤, ◌≡◌, ◌<◌, ℕ, length, slice_get, List, Option, None, Some, Bool, true, is_some, unwrap_or, refl}
+use Rattle.std.specs.Prelude.{◌≡◌, List, Option, None, Some, Bool, is_some}
+use Rattle.std.specs.Prelude.{unwrap_or, refl}
 use Rattle.std.specs.Bool.{Decides}
 use Rattle.std.specs.Cmp.Lexicographic.{pointwise, pointwise_decides}
 use Rattle.std.specs.Option.{option_eq}
 use Rattle.std.proofs.Common.{sym, ap, true≢false}
 
 -- two slots are the same if both are null, or both show values that the test holds of
-same_slot-Decides : {X : Type 0} (test : X → X → Bool) → ((x y : X) → Decides (test x y) (x ≡ y)) → (s t : Option X) → Decides (option_eq test s t) (s ≡ t)
+same_slot-Decides : {X : Type 0} (test : X → X → Bool) → ((x y : X) → Decides (test x y) (x ≡ y)) → (s t : Option X)
+    → Decides (option_eq test s t) (s ≡ t)
 same_slot-Decides test decides None None = (λ e. refl, λ e. refl)
 same_slot-Decides test decides None (Some y) = (λ e. absurd (true≢false (sym e)), λ e. ap is_some e)
 same_slot-Decides test decides (Some x) None = (λ e. absurd (true≢false (sym e)), λ e. sym (ap is_some e))
-same_slot-Decides test decides (Some x) (Some y) = (λ e. ap (λ v. Some v) ((decides x y).0 e), λ e. (decides x y).1 (ap (λ o. unwrap_or o x) e))
+same_slot-Decides test decides (Some x) (Some y) = (
+  λ e. ap (λ v. Some v) ((decides x y).0 e),
+  λ e.
+      (decides x y).1 (ap (λ o. unwrap_or o x) e),
+)
 
 -- as many slots, each the same as the other list's
 abbrev pub same_slots : {X : Type 0} → (X → X → Bool) → List (Option X) → List (Option X) → Bool
 same_slots test = pointwise (option_eq test)
 
 -- where the test decides equality of values, this one decides equality of slots
-pub same_slots-Decides : {X : Type 0} (test : X → X → Bool) → ((x y : X) → Decides (test x y) (x ≡ y)) → (ss ts : List (Option X)) → Decides (same_slots test ss ts) (ss ≡ ts)
+pub same_slots-Decides : {X : Type 0} (test : X → X → Bool) → ((x y : X) → Decides (test x y) (x ≡ y))
+    → (ss ts : List (Option X)) → Decides (same_slots test ss ts) (ss ≡ ts)
 same_slots-Decides test decides ss ts = pointwise_decides (same_slot-Decides test decides) ss ts

@@ -1,5 +1,6 @@
-//! Columns that are changed in place.
+//! Changes of columns in place.
 ghost use Rattle.std.specs.Prelude.{◌≡◌, ◌<◌, length, OnOk, IfErr, option_map};
+ghost use Rattle.arrow_types.specs.Failures.{OutOfMemoryKeeps};
 ghost use Rattle.arrow_column.specs.Column.{with_slot, with_stored};
 
 use crate::mask::{set_null_mark, set_valid_mark};
@@ -9,17 +10,18 @@ use arrow_types::error::Error;
 
 #[tactic(auto, using(crate::proofs::RowLemmas::row_steps))]
 impl<V: MutableValues> GrowingColumn<V> {
-    /// Replaces the slot at a place. A null stores the default, and a mask is held from then on.
+    /// Replaces the slot at `i`. A null stores the default, and the column holds a mask from then
+    /// on.
     ///
     /// # Errors
-    /// `OutOfMemory` where a mask's memory is refused; the column is then as before.
+    /// `OutOfMemory` if an allocation for the mask fails; the column is then unchanged.
     #[inline(always)]
     pub fn set<X>(&mut self, i: usize, slot: Option<X>) -> Result<(), Error>
     where
         V: SetValue<X>,
         requires { i < length self.old.rows }
         ensures ok { OnOk result (self.new ≡ with_slot V.default self.old i (option_map V.shown slot)) }
-        ensures err { IfErr result (λ e. (e ≡ Error.OutOfMemory) × (self.new ≡ self.old)) }
+        ensures err { OutOfMemoryKeeps result self.old self.new }
     {
         match slot {
             Some(value) => {
@@ -36,7 +38,7 @@ impl<V: MutableValues> GrowingColumn<V> {
         }
     }
 
-    /// Replaces the stored values by as many others. The marks stay.
+    /// Replaces the stored values by equally many others. The marks stay.
     #[inline(always)]
     pub fn set_values(&mut self, values: V)
         requires around { V.around values ≡ self.old.around }
@@ -49,7 +51,7 @@ impl<V: MutableValues> GrowingColumn<V> {
 
 #[tactic(auto, using(crate::proofs::RowLemmas::row_steps))]
 impl<V: Values> FrozenColumn<V> {
-    /// Replaces the stored values by as many others. The marks stay.
+    /// Replaces the stored values by equally many others. The marks stay.
     #[inline(always)]
     pub fn set_values(&mut self, values: V)
         requires around { V.around values ≡ self.old.around }

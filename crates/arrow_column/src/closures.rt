@@ -1,8 +1,9 @@
-//! Columns whose values or marks are changed by a closure.
+//! Changes of columns by closures.
 ghost use Rattle.std.specs.Prelude.{◌≡◌, List, Bool, Some, length, IfSome, IsTrue, MatchOption, OnOk, IfErr, vec_len};
 ghost use Rattle.std.specs.Bool.{OnFalse};
 ghost use Rattle.std.specs.Borrow.{MutBor};
 ghost use Rattle.std.specs.Fn.{FnOnceReturnsAtMut};
+ghost use Rattle.arrow_types.specs.Failures.{OutOfMemoryKeeps};
 ghost use Rattle.arrow_column.specs.Column.{mask_of, stored_values, with_mask, with_stored};
 
 use crate::values::{MutableValues, Values};
@@ -15,11 +16,14 @@ use std::mem;
 
 #[tactic(auto, using(crate::proofs::RowLemmas::row_steps))]
 impl<V: Values> FrozenColumn<V> {
-    /// Replaces a held mask by what the closure makes of it; without a mask nothing is done.
+    /// Replaces a held mask by what the closure returns for it. Does nothing if no mask is held.
     pub fn apply_validity<F: FnOnce(Bitmap) -> Bitmap + Drop>(&mut self, change: F)
         requires callable { IfSome (mask_of self.old) (λ marks. F.pre change marks) }
-        requires keeps { IfSome (mask_of self.old) (λ marks. (changed : List Bool) → F.post change marks changed → length changed ≡ length marks) }
-        ensures { MatchOption (mask_of self.old) (self.new ≡ self.old) (λ marks. (changed : List Bool) × F.post change marks changed × (length changed ≡ length marks) × (self.new ≡ with_mask self.old (Some changed))) }
+        requires keeps { IfSome (mask_of self.old) (λ marks. (changed : List Bool) → F.post change marks changed
+            → length changed ≡ length marks) }
+        ensures { MatchOption (mask_of self.old) (self.new ≡ self.old) (λ marks. (changed : List Bool)
+            × F.post change marks changed × (length changed ≡ length marks)
+            × (self.new ≡ with_mask self.old (Some changed))) }
     {
         if let Some(validity) = self.validity.take() {
             self.validity = Some(change(validity));
@@ -29,11 +33,14 @@ impl<V: Values> FrozenColumn<V> {
 
 #[tactic(auto, using(crate::proofs::RowLemmas::row_steps))]
 impl<V: MutableValues> GrowingColumn<V> {
-    /// Replaces a held mask by what the closure makes of it; without a mask nothing is done.
+    /// Replaces a held mask by what the closure returns for it. Does nothing if no mask is held.
     pub fn apply_validity<F: FnOnce(MutableBitmap) -> MutableBitmap + Drop>(&mut self, change: F)
         requires callable { IfSome (mask_of self.old) (λ marks. F.pre change marks) }
-        requires keeps { IfSome (mask_of self.old) (λ marks. (changed : List Bool) → F.post change marks changed → length changed ≡ length marks) }
-        ensures { MatchOption (mask_of self.old) (self.new ≡ self.old) (λ marks. (changed : List Bool) × F.post change marks changed × (length changed ≡ length marks) × (self.new ≡ with_mask self.old (Some changed))) }
+        requires keeps { IfSome (mask_of self.old) (λ marks. (changed : List Bool) → F.post change marks changed
+            → length changed ≡ length marks) }
+        ensures { MatchOption (mask_of self.old) (self.new ≡ self.old) (λ marks. (changed : List Bool)
+            × F.post change marks changed × (length changed ≡ length marks)
+            × (self.new ≡ with_mask self.old (Some changed))) }
     {
         if let Some(validity) = self.validity.take() {
             self.validity = Some(change(validity));
@@ -43,11 +50,14 @@ impl<V: MutableValues> GrowingColumn<V> {
 
 #[tactic(auto, using(crate::proofs::RowLemmas::row_steps))]
 impl<T: NativeType> GrowingColumn<Vec<T>> {
-    /// Replaces the stored values by what the closure makes of them. The marks stay.
+    /// Replaces the stored values by what the closure returns for them. The marks stay.
     pub fn apply_values<F: Fn(Vec<T>) -> Vec<T>>(&mut self, change: F)
         requires callable { (values : _) → values.items ≡ stored_values self.old → F.pre change values }
-        requires keeps { (values changed : _) → values.items ≡ stored_values self.old → F.post change values changed → vec_len changed ≡ length self.old.rows }
-        ensures { (values : _) × (changed : _) × (values.items ≡ stored_values self.old) × F.post change values changed × (vec_len changed ≡ length self.old.rows) × (self.new ≡ with_stored self.old changed.items) }
+        requires keeps { (values changed : _) → values.items ≡ stored_values self.old → F.post change values changed
+            → vec_len changed ≡ length self.old.rows }
+        ensures { (values : _) × (changed : _) × (values.items ≡ stored_values self.old)
+            × F.post change values changed × (vec_len changed ≡ length self.old.rows)
+            × (self.new ≡ with_stored self.old changed.items) }
     {
         let alloc = *self.values.allocator();
         let values = mem::replace(&mut self.values, Vec::new(alloc));
@@ -57,10 +67,12 @@ impl<T: NativeType> GrowingColumn<Vec<T>> {
 
 #[tactic(auto, using(crate::proofs::RowLemmas::row_steps))]
 impl<T: NativeType> FrozenColumn<Buffer<T>> {
-    /// Lends the stored values to be written to, where no one else has them, and tells whether it did.
+    /// Calls `change` on the stored values if they are not shared, and returns whether it did.
     pub fn get_mut_values<F: FnOnce(&mut [T]) + Drop>(&mut self, change: F) -> bool
         requires { (values : MutBor (List T)) → values.now ≡ stored_values self.old → F.pre change values }
-        ensures changed { IsTrue result → (ws : List T) × FnOnceReturnsAtMut F.FnOnce change (stored_values self.old) tt ws × (length ws ≡ length self.old.rows) × (self.new ≡ with_stored self.old ws) }
+        ensures changed { IsTrue result
+            → (ws : List T) × FnOnceReturnsAtMut F.FnOnce change (stored_values self.old) tt ws
+            × (length ws ≡ length self.old.rows) × (self.new ≡ with_stored self.old ws) }
         ensures unchanged { OnFalse result (self.new ≡ self.old) }
     {
         self.values.get_mut_slice(change)
@@ -69,19 +81,22 @@ impl<T: NativeType> FrozenColumn<Buffer<T>> {
 
 #[tactic(auto, using(crate::proofs::RowLemmas::row_steps))]
 impl FrozenColumn<Bitmap> {
-    /// Replaces the stored truth values by what the closure makes of them, of a copy where someone else has them.
-    /// The marks stay. All memory is taken before the closure is called.
+    /// Replaces the stored truth values by what the closure returns for them. Shared values are
+    /// copied first. The marks stay. All memory is allocated before the closure is called.
     ///
     /// # Errors
-    /// `OutOfMemory` where memory is refused; the closure is then not called, and the column is as before.
+    /// `OutOfMemory` if an allocation fails; the closure is then not called and the column is
+    /// unchanged.
     pub fn apply_values_mut<F: Fn(MutableBitmap) -> MutableBitmap>(
         &mut self,
         change: F,
     ) -> Result<(), Error>
         requires callable { F.pre change (stored_values self.old) }
-        requires keeps { (changed : List Bool) → F.post change (stored_values self.old) changed → length changed ≡ length self.old.rows }
-        ensures ok { OnOk result ((changed : List Bool) × F.post change (stored_values self.old) changed × (length changed ≡ length self.old.rows) × (self.new ≡ with_stored self.old changed)) }
-        ensures err { IfErr result (λ e. (e ≡ Error.OutOfMemory) × (self.new ≡ self.old)) }
+        requires keeps { (changed : List Bool) → F.post change (stored_values self.old) changed
+            → length changed ≡ length self.old.rows }
+        ensures ok { OnOk result ((changed : List Bool) × F.post change (stored_values self.old) changed
+            × (length changed ≡ length self.old.rows) × (self.new ≡ with_stored self.old changed)) }
+        ensures err { OutOfMemoryKeeps result self.old self.new }
     {
         self.values.apply_mut(change)?;
         Ok(())

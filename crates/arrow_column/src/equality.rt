@@ -12,19 +12,19 @@ use crate::values::MutableValues;
 use arrow_memory::bitmap::MutableBitmap;
 use arrow_types::native_type::NativeType;
 
-/// Stored values that can be compared place by place, so that columns of them can be compared.
+/// Stored values that can be compared at each place, so that columns of them can be compared.
 pub trait EqualValues: MutableValues {
-    /// Whether two stored values are the same, as a test.
+    /// Whether two stored values are equal, as a test.
     ghost test: { Self.Stored → Self.Stored → Bool };
 
-    /// Whether both store the same at a place.
+    /// Returns whether both store the same value at `i`.
     fn is_same_at(&self, other: &Self, i: usize) -> bool
         requires here { i < length (Self.stored self.now) }
         requires there { i < length (Self.stored other.now) }
         ensures { IsTrue result ↔ slice_get (Self.stored self.now) i ≡ slice_get (Self.stored other.now) i };
 
-    /// Whether both, of as many values, store the same wherever a slot is valid; without a mask each is. Values that
-    /// are packed can do this many at a time.
+    /// Returns whether both, of equal length, store the same value wherever a slot is valid;
+    /// without a mask every slot is. Packed values can be compared many at a time.
     fn are_same_where(&self, other: &Self, mask: &Option<MutableBitmap>) -> bool
         requires same { length (Self.stored self.now) ≡ length (Self.stored other.now) }
         requires fits { FitsMask (Self.stored self.now) mask.now }
@@ -40,7 +40,7 @@ pub trait EqualValues: MutableValues {
         true
     }
 
-    /// The test of stored values decides whether they are equal.
+    /// The test decides whether stored values are equal.
     ghost test_decides: { (x y : Self.Stored) → Decides (test x y) (x ≡ y) };
 }
 
@@ -66,7 +66,7 @@ impl EqualValues for MutableBitmap {
         self.get(i) == other.get(i)
     }
 
-    /// A byte at a time.
+    /// Compares one byte at a time.
     fn are_same_where(&self, other: &MutableBitmap, mask: &Option<MutableBitmap>) -> bool {
         self.agrees_where(other, mask)
     }
@@ -75,8 +75,8 @@ impl EqualValues for MutableBitmap {
 }
 
 impl<V: EqualValues> GrowingColumn<V> {
-    /// Whether both have the same slots: as many, and at each place two nulls or the same value. Types, held masks
-    /// and values under nulls are not compared.
+    /// Returns whether both have the same slots: equally many, and at each place two nulls or the
+    /// same value. Types, held masks and values under nulls are not compared.
     pub fn has_slots_of(&self, other: &Self) -> bool
         ensures value { result ≡ same_slots V.test (slots_of self.now) (slots_of other.now) }
         ensures decides { IsTrue result ↔ slots_of self.now ≡ slots_of other.now }

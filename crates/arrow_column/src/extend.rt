@@ -1,7 +1,8 @@
-//! Columns that grow by the items of an iterator.
+//! Extension of columns by the items of an iterator.
 ghost use Rattle.std.specs.Prelude.{◌≡◌, Option, OnOk, IfErr};
 ghost use Rattle.std.specs.Iterator.{IsFinite};
-ghost use Rattle.arrow_column.specs.Appends.{AppendsItems, AppendsSlots, ExtendsByItems, ExtendsBySlots, StopsAmongItems, StopsAmongSlots, StopsInItems, StopsInSlots};
+ghost use Rattle.arrow_column.specs.Appends.{AppendsItems, AppendsSlots, ExtendsByItems, ExtendsBySlots};
+ghost use Rattle.arrow_column.specs.Appends.{StopsAmongItems, StopsAmongSlots, StopsInItems, StopsInSlots};
 
 use crate::GrowingColumn;
 use crate::values::{MutableValues, PushValue};
@@ -9,12 +10,14 @@ use arrow_types::error::Error;
 
 #[tactic(auto, using(crate::proofs::RowLemmas::row_steps))]
 impl<V: MutableValues> GrowingColumn<V> {
-    /// Appends the slots that an iterator gives. What it says of their number is not trusted: room for so many is
-    /// asked for first, and where that is refused nothing is told.
+    /// Appends the slots of an iterator. `size_hint` is only used to reserve room; a reservation
+    /// that fails is ignored.
     ///
     /// # Errors
-    /// `Overflow` at the first slot with which there would be more than the values' type can count, or
-    /// `OutOfMemory` where a growth is refused; the slots that came before are then appended.
+    /// - `Overflow` at the first slot that would overflow the values' type.
+    /// - `OutOfMemory` if an allocation fails.
+    ///
+    /// The slots before the failure stay appended.
     pub fn extend<X, I: Iterator<Item = Option<X>>>(&mut self, slots: I) -> Result<(), Error>
     where
         V: PushValue<X>,
@@ -22,7 +25,8 @@ impl<V: MutableValues> GrowingColumn<V> {
         requires ends { IsFinite (I.remaining slots) }
         ensures data_type { self.new.data_type ≡ self.old.data_type }
         ensures ok { OnOk result (ExtendsBySlots V.overflows V.shown V.default I.next_gives slots self.old self.new) }
-        ensures err { IfErr result (λ e. StopsInSlots V.overflows V.shown V.default I.next_gives slots self.old self.new e) }
+        ensures err { IfErr result (λ e. StopsInSlots V.overflows V.shown V.default I.next_gives slots self.old
+            self.new e) }
     {
         let (least, _) = slots.size_hint();
         // Where as much is refused at once, each slot asks for its own room.
@@ -33,12 +37,14 @@ impl<V: MutableValues> GrowingColumn<V> {
         Ok(())
     }
 
-    /// Appends valid slots of the values that an iterator gives. What it says of their number is not trusted: room
-    /// for so many is asked for first, and where that is refused nothing is told.
+    /// Appends valid slots with the values of an iterator. `size_hint` is only used to reserve
+    /// room; a reservation that fails is ignored.
     ///
     /// # Errors
-    /// `Overflow` at the first value with which there would be more than the values' type can count, or
-    /// `OutOfMemory` where a growth is refused; the values that came before are then appended.
+    /// - `Overflow` at the first value that would overflow the values' type.
+    /// - `OutOfMemory` if an allocation fails.
+    ///
+    /// The values before the failure stay appended.
     pub fn extend_values<X, I: Iterator<Item = X>>(&mut self, values: I) -> Result<(), Error>
     where
         V: PushValue<X>,
@@ -46,7 +52,8 @@ impl<V: MutableValues> GrowingColumn<V> {
         requires ends { IsFinite (I.remaining values) }
         ensures data_type { self.new.data_type ≡ self.old.data_type }
         ensures ok { OnOk result (ExtendsByItems V.overflows V.shown V.default I.next_gives values self.old self.new) }
-        ensures err { IfErr result (λ e. StopsInItems V.overflows V.shown V.default I.next_gives values self.old self.new e) }
+        ensures err { IfErr result (λ e. StopsInItems V.overflows V.shown V.default I.next_gives values self.old
+            self.new e) }
     {
         let (least, _) = values.size_hint();
         // Where as much is refused at once, each value asks for its own room.
@@ -57,11 +64,13 @@ impl<V: MutableValues> GrowingColumn<V> {
         Ok(())
     }
 
-    /// Appends valid slots of the values of a list.
+    /// Appends valid slots with the values of a slice.
     ///
     /// # Errors
-    /// `Overflow` at the first value with which there would be more than the values' type can count, or
-    /// `OutOfMemory` where a growth is refused; the values that came before are then appended.
+    /// - `Overflow` at the first value that would overflow the values' type.
+    /// - `OutOfMemory` if an allocation fails.
+    ///
+    /// The values before the failure stay appended.
     pub fn extend_from_values<X: Copy>(&mut self, values: &[X]) -> Result<(), Error>
     where
         V: PushValue<X>,
@@ -78,11 +87,13 @@ impl<V: MutableValues> GrowingColumn<V> {
         Ok(())
     }
 
-    /// Appends the slots of a list.
+    /// Appends the slots of a slice.
     ///
     /// # Errors
-    /// `Overflow` at the first slot with which there would be more than the values' type can count, or
-    /// `OutOfMemory` where a growth is refused; the slots that came before are then appended.
+    /// - `Overflow` at the first slot that would overflow the values' type.
+    /// - `OutOfMemory` if an allocation fails.
+    ///
+    /// The slots before the failure stay appended.
     pub fn extend_from_slots<X: Copy>(&mut self, slots: &[Option<X>]) -> Result<(), Error>
     where
         V: PushValue<X>,

@@ -1,9 +1,10 @@
-//! Columns that don't change, of which arrays are made.
+//! Immutable columns, of which arrays are made.
 ghost use Rattle.std.specs.Prelude.{IsTrue, None, ◌≡◌, ◌-◌, ◌<◌, length, not, count_by, slice_get, Some, IfSome};
 ghost use Rattle.std.specs.Option.{option_copied};
 ghost use Rattle.arrow_types.specs.Types.{logical_type};
 ghost use Rattle.arrow_memory.specs.Rows.{FitsMask, rows_of};
-ghost use Rattle.arrow_column.specs.Column.{slots_of, ColumnWith, FitsCut, IsColumn, column_with, cut_with, marks_of, mask_of, stored_values, with_mask, with_type};
+ghost use Rattle.arrow_column.specs.Column.{slots_of, ColumnWith, FitsCut, IsColumn, column_with, cut_with};
+ghost use Rattle.arrow_column.specs.Column.{marks_of, mask_of, stored_values, with_mask, with_type};
 
 use crate::mask::slice_mask;
 use crate::values::Values;
@@ -11,7 +12,8 @@ use arrow_memory::bitmap::{Bitmap, BitmapIter};
 use arrow_types::data_type::DataType;
 use std::marker::Model;
 
-/// A data type, stored values, and a mark for each of them where a mask is held; else every slot is valid.
+/// A data type, stored values, and an optional mask with a mark for each of them. Without a mask
+/// every slot is valid.
 #[derive(Drop)]
 pub struct FrozenColumn<V: Values> {
     pub(super) data_type: DataType,
@@ -27,14 +29,15 @@ impl<V: Values> Model for FrozenColumn<V> {
 
     ghost Value = { ColumnWith V.Around V.Stored };
 
-    ghost view = { λ column. column_with (logical_type column.data_type) (V.around column.values) (V.stored column.values) column.validity };
+    ghost view = { λ column. column_with (logical_type column.data_type) (V.around column.values)
+        (V.stored column.values) column.validity };
 
     ghost invariant = { λ column. FitsMask (V.stored column.values) column.validity };
 }
 
 #[tactic(auto, using(crate::proofs::RowLemmas::row_steps))]
 impl<V: Values> FrozenColumn<V> {
-    /// The column of such parts. A mask has a mark for each value.
+    /// Creates a column from its parts. A mask must have a mark for each value.
     #[inline(always)]
     pub fn new(data_type: DataType, values: V, validity: Option<Bitmap>) -> Self
         requires { FitsMask (V.stored values) validity }
@@ -47,7 +50,7 @@ impl<V: Values> FrozenColumn<V> {
         }
     }
 
-    /// The data type, the stored values and the mask.
+    /// Returns the data type, the stored values and the mask.
     #[inline(always)]
     pub fn into_inner(self) -> (DataType, V, Option<Bitmap>)
         ensures data_type { logical_type result.0 ≡ self.data_type }
@@ -62,7 +65,7 @@ impl<V: Values> FrozenColumn<V> {
         (self.data_type, self.values, self.validity)
     }
 
-    /// The same slots under another type.
+    /// Returns the same slots under another data type.
     #[inline(always)]
     pub fn to(mut self, data_type: DataType) -> Self
         ensures { result ≡ with_type self (logical_type data_type) }
@@ -71,7 +74,7 @@ impl<V: Values> FrozenColumn<V> {
         self
     }
 
-    /// The data type.
+    /// Returns the data type.
     #[inline(always)]
     pub fn data_type(&self) -> &DataType
         ensures { logical_type result.now ≡ self.now.data_type }
@@ -79,7 +82,7 @@ impl<V: Values> FrozenColumn<V> {
         &self.data_type
     }
 
-    /// The number of slots.
+    /// Returns the number of slots.
     #[inline(always)]
     pub fn len(&self) -> usize
         ensures { result ≡ length self.now.rows }
@@ -87,7 +90,7 @@ impl<V: Values> FrozenColumn<V> {
         self.values.count()
     }
 
-    /// The stored values, those of null slots too.
+    /// Returns the stored values, those of null slots included.
     #[inline(always)]
     pub fn values(&self) -> &V
         ensures around { V.around result.now ≡ self.now.around }
@@ -97,7 +100,7 @@ impl<V: Values> FrozenColumn<V> {
         &self.values
     }
 
-    /// The mask, where one is held; else no slot is null.
+    /// Returns the mask if one is held; otherwise no slot is null.
     #[inline(always)]
     pub fn validity(&self) -> Option<&Bitmap>
         ensures mask { option_copied result ≡ mask_of self.now }
@@ -106,7 +109,7 @@ impl<V: Values> FrozenColumn<V> {
         self.validity.as_ref()
     }
 
-    /// The marks in order, where a mask is held.
+    /// Returns an iterator over the marks if a mask is held.
     #[inline(always)]
     pub fn marks(&self) -> Option<BitmapIter<'_>>
         ensures rows { rows_of (stored_values self.now) result ≡ self.now.rows }
@@ -118,7 +121,7 @@ impl<V: Values> FrozenColumn<V> {
         }
     }
 
-    /// Whether the slot at a place is valid, which is not null.
+    /// Returns whether the slot at `i` is valid.
     #[inline(always)]
     pub fn is_valid(&self, i: usize) -> bool
         requires { i < length self.now.rows }
@@ -130,18 +133,19 @@ impl<V: Values> FrozenColumn<V> {
         }
     }
 
-    /// Whether the slot at a place is null; else it shows what is stored there.
+    /// Returns whether the slot at `i` is null.
     #[inline(always)]
     pub fn is_null(&self, i: usize) -> bool
         requires { i < length self.now.rows }
         ensures mark { slice_get (marks_of self.now) i ≡ Some (not result) }
         ensures null { IsTrue result → slice_get (slots_of self.now) i ≡ Some None }
-        ensures valid { IsTrue (not result) → (value : V.Stored) → slice_get (stored_values self.now) i ≡ Some value → slice_get (slots_of self.now) i ≡ Some (Some value) }
+        ensures valid { IsTrue (not result) → (value : V.Stored) → slice_get (stored_values self.now) i ≡ Some value
+            → slice_get (slots_of self.now) i ≡ Some (Some value) }
     {
         !self.is_valid(i)
     }
 
-    /// The number of null slots.
+    /// Returns the number of null slots.
     #[inline(always)]
     pub fn null_count(&self) -> usize
         ensures { result ≡ count_by not (marks_of self.now) }

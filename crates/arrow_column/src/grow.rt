@@ -1,5 +1,6 @@
-//! Columns that grow by many slots at once.
+//! Growth of columns by many slots at once.
 ghost use Rattle.std.specs.Prelude.{◌≡◌, false, OnOk, IfErr};
+ghost use Rattle.arrow_types.specs.Failures.{FailureKeeps};
 ghost use Rattle.arrow_column.specs.Column.{append_nulls, append_values, joined, refused_growth, stored_values};
 
 use crate::GrowingColumn;
@@ -9,17 +10,20 @@ use arrow_types::error::Error;
 
 #[tactic(auto, using(crate::proofs::RowLemmas::row_steps))]
 impl<V: MutableValues> GrowingColumn<V> {
-    /// Appends valid slots of these values.
+    /// Appends valid slots with these values.
     ///
     /// # Errors
-    /// `Overflow` where there would be more than the values' type can count, which is tested first, or
-    /// `OutOfMemory` where a growth is refused; the column is then as before.
+    /// - `Overflow` if the values would overflow their type; this is checked first.
+    /// - `OutOfMemory` if an allocation fails.
+    ///
+    /// The column is unchanged on an error.
     #[inline(always)]
     pub fn grow_valid<X>(&mut self, values: X) -> Result<(), Error>
     where
         V: Grow<X>,
-        ensures ok { OnOk result ((V.overgrows self.old.around (stored_values self.old) values ≡ false) × (self.new ≡ append_values self.old (V.given values))) }
-        ensures err { IfErr result (λ e. (e ≡ refused_growth (V.overgrows self.old.around (stored_values self.old) values)) × (self.new ≡ self.old)) }
+        ensures ok { OnOk result ((V.overgrows self.old.around (stored_values self.old) values ≡ false)
+            × (self.new ≡ append_values self.old (V.given values))) }
+        ensures err { FailureKeeps result (refused_growth (V.overgrows self.old.around (stored_values self.old) values)) self.old self.new }
     {
         let before = self.values.count();
         let count = self.values.grow(values)?;
@@ -32,15 +36,16 @@ impl<V: MutableValues> GrowingColumn<V> {
         }
     }
 
-    /// Appends null slots that store these values. A mask is held from then on.
+    /// Appends null slots that store these values. The column holds a mask from then on.
     ///
     /// # Errors
-    /// As of `grow_valid`.
+    /// As `grow_valid`.
     pub fn grow_null<X>(&mut self, values: X) -> Result<(), Error>
     where
         V: Grow<X>,
-        ensures ok { OnOk result ((V.overgrows self.old.around (stored_values self.old) values ≡ false) × (self.new ≡ append_nulls self.old (V.given values))) }
-        ensures err { IfErr result (λ e. (e ≡ refused_growth (V.overgrows self.old.around (stored_values self.old) values)) × (self.new ≡ self.old)) }
+        ensures ok { OnOk result ((V.overgrows self.old.around (stored_values self.old) values ≡ false)
+            × (self.new ≡ append_nulls self.old (V.given values))) }
+        ensures err { FailureKeeps result (refused_growth (V.overgrows self.old.around (stored_values self.old) values)) self.old self.new }
     {
         let before = self.values.count();
         let alloc = self.values.allocated_by();
@@ -54,14 +59,18 @@ impl<V: MutableValues> GrowingColumn<V> {
         }
     }
 
-    /// Appends another column's rows. The type stays; a mask is held where either column held one.
+    /// Appends the rows of another column. The data type stays; a mask is held if either column
+    /// held one.
     ///
     /// # Errors
-    /// `Overflow` where there would be more than the values' type can count, which is tested first, or
-    /// `OutOfMemory` where a growth is refused; the column is then as before.
+    /// - `Overflow` if the values would overflow their type; this is checked first.
+    /// - `OutOfMemory` if an allocation fails.
+    ///
+    /// The column is unchanged on an error.
     pub fn try_extend_from_self(&mut self, other: &Self) -> Result<(), Error>
-        ensures ok { OnOk result ((V.overjoins self.old.around (stored_values self.old) (stored_values other.now) ≡ false) × (self.new ≡ joined self.old other.now)) }
-        ensures err { IfErr result (λ e. (e ≡ refused_growth (V.overjoins self.old.around (stored_values self.old) (stored_values other.now))) × (self.new ≡ self.old)) }
+        ensures ok { OnOk result ((V.overjoins self.old.around (stored_values self.old) (stored_values other.now)
+            ≡ false) × (self.new ≡ joined self.old other.now)) }
+        ensures err { FailureKeeps result (refused_growth (V.overjoins self.old.around (stored_values self.old) (stored_values other.now))) self.old self.new }
     {
         let before = self.values.count();
         let alloc = self.values.allocated_by();

@@ -1,9 +1,13 @@
-//! Columns that grow, of which builders are made.
-ghost use Rattle.std.specs.Prelude.{IsTrue, slice_get, not, is_some, ◌≡◌, ◌<◌, ◌-◌, length, false, Some, None, OnOk, IfOk, IfErr, IfSome, option_map};
+//! Growing columns, of which builders are made.
+ghost use Rattle.std.specs.Prelude.{IsTrue, slice_get, not, is_some, ◌≡◌, ◌<◌, ◌-◌, length, false, Some, None};
+ghost use Rattle.std.specs.Prelude.{OnOk, IfOk, IfErr, IfSome, option_map};
 ghost use Rattle.std.specs.Option.{option_copied};
+ghost use Rattle.arrow_types.specs.Failures.{FailureKeeps, OnlyOutOfMemory, OutOfMemoryKeeps};
 ghost use Rattle.arrow_types.specs.Types.{logical_type};
 ghost use Rattle.arrow_memory.specs.Rows.{FitsMask, rows_of};
-ghost use Rattle.arrow_column.specs.Column.{slots_of, all_valid, marks_of, slot_overflows, IsColumn, append_slot, column_with, last_slot, mask_of, refused_growth, stored_values, with_mask, with_type, without_last};
+ghost use Rattle.arrow_column.specs.Column.{slots_of, all_valid, marks_of, slot_overflows, IsColumn, append_slot};
+ghost use Rattle.arrow_column.specs.Column.{column_with, last_slot, mask_of, refused_growth, stored_values};
+ghost use Rattle.arrow_column.specs.Column.{with_mask, with_type, without_last};
 
 use crate::mask::{freeze_mask, pop_mark, push_null_mark, push_valid};
 use crate::values::{MutableValues, PushValue};
@@ -12,7 +16,8 @@ use arrow_types::data_type::DataType;
 use arrow_types::error::Error;
 use std::marker::Model;
 
-/// A data type, stored values, and a mark for each of them where a mask is held; else every slot is valid.
+/// A data type, stored values, and an optional mask with a mark for each of them. Without a mask
+/// every slot is valid.
 #[derive(Drop)]
 pub struct GrowingColumn<V: MutableValues> {
     pub(super) data_type: DataType,
@@ -28,14 +33,15 @@ impl<V: MutableValues> Model for GrowingColumn<V> {
 
     ghost Value = { ColumnWith V.Around V.Stored };
 
-    ghost view = { λ column. column_with (logical_type column.data_type) (V.around column.values) (V.stored column.values) column.validity };
+    ghost view = { λ column. column_with (logical_type column.data_type) (V.around column.values)
+        (V.stored column.values) column.validity };
 
     ghost invariant = { λ column. FitsMask (V.stored column.values) column.validity };
 }
 
 #[tactic(auto, using(crate::proofs::RowLemmas::row_steps))]
 impl<V: MutableValues> GrowingColumn<V> {
-    /// The column of such parts. A mask has a mark for each value.
+    /// Creates a column from its parts. A mask must have a mark for each value.
     #[inline(always)]
     pub fn new(data_type: DataType, values: V, validity: Option<MutableBitmap>) -> Self
         requires { FitsMask (V.stored values) validity }
@@ -48,7 +54,7 @@ impl<V: MutableValues> GrowingColumn<V> {
         }
     }
 
-    /// The data type, the stored values and the mask.
+    /// Returns the data type, the stored values and the mask.
     #[inline(always)]
     pub fn into_inner(self) -> (DataType, V, Option<MutableBitmap>)
         ensures data_type { logical_type result.0 ≡ self.data_type }
@@ -63,7 +69,7 @@ impl<V: MutableValues> GrowingColumn<V> {
         (self.data_type, self.values, self.validity)
     }
 
-    /// The same slots under another type.
+    /// Returns the same slots under another data type.
     #[inline(always)]
     pub fn to(mut self, data_type: DataType) -> Self
         ensures { result ≡ with_type self (logical_type data_type) }
@@ -72,7 +78,7 @@ impl<V: MutableValues> GrowingColumn<V> {
         self
     }
 
-    /// The data type.
+    /// Returns the data type.
     #[inline(always)]
     pub fn data_type(&self) -> &DataType
         ensures { logical_type result.now ≡ self.now.data_type }
@@ -80,7 +86,7 @@ impl<V: MutableValues> GrowingColumn<V> {
         &self.data_type
     }
 
-    /// The number of slots.
+    /// Returns the number of slots.
     #[inline(always)]
     pub fn len(&self) -> usize
         ensures { result ≡ length self.now.rows }
@@ -88,7 +94,7 @@ impl<V: MutableValues> GrowingColumn<V> {
         self.values.count()
     }
 
-    /// The stored values, those of null slots too.
+    /// Returns the stored values, those of null slots included.
     #[inline(always)]
     pub fn values(&self) -> &V
         ensures around { V.around result.now ≡ self.now.around }
@@ -98,7 +104,7 @@ impl<V: MutableValues> GrowingColumn<V> {
         &self.values
     }
 
-    /// The mask, where one is held; else no slot is null.
+    /// Returns the mask if one is held; otherwise no slot is null.
     #[inline(always)]
     pub fn validity(&self) -> Option<&MutableBitmap>
         ensures mask { option_copied result ≡ mask_of self.now }
@@ -107,7 +113,7 @@ impl<V: MutableValues> GrowingColumn<V> {
         self.validity.as_ref()
     }
 
-    /// The marks in order, where a mask is held.
+    /// Returns an iterator over the marks if a mask is held.
     #[inline(always)]
     pub fn marks(&self) -> Option<BitmapIter<'_>>
         ensures rows { rows_of (stored_values self.now) result ≡ self.now.rows }
@@ -128,15 +134,15 @@ impl<V: MutableValues> GrowingColumn<V> {
         self.validity = validity;
     }
 
-    /// Appends a null, which stores the default. A mask is held from then on.
+    /// Appends a null, which stores the default. The column holds a mask from then on.
     ///
     /// # Errors
-    /// `OutOfMemory` where a growth is refused; the column is then as before.
+    /// `OutOfMemory` if an allocation fails; the column is then unchanged.
     #[inline(always)]
     pub fn push_null(&mut self) -> Result<(), Error>
         ensures data_type { self.new.data_type ≡ self.old.data_type }
         ensures ok { OnOk result (self.new ≡ append_slot V.default self.old None) }
-        ensures err { IfErr result (λ e. (e ≡ Error.OutOfMemory) × (self.new ≡ self.old)) }
+        ensures err { OutOfMemoryKeeps result self.old self.new }
     {
         let before = self.values.count();
         let alloc = self.values.allocated_by();
@@ -153,15 +159,18 @@ impl<V: MutableValues> GrowingColumn<V> {
     /// Appends a valid slot.
     ///
     /// # Errors
-    /// `Overflow` where there would be more than the values' type can count, which is tested first, or
-    /// `OutOfMemory` where a growth is refused; the column is then as before.
+    /// - `Overflow` if the value would overflow the values' type; this is checked first.
+    /// - `OutOfMemory` if an allocation fails.
+    ///
+    /// The column is unchanged on an error.
     #[inline(always)]
     pub fn push_valid<X>(&mut self, value: X) -> Result<(), Error>
     where
         V: PushValue<X>,
         ensures data_type { self.new.data_type ≡ self.old.data_type }
-        ensures ok { OnOk result ((V.overflows self.old.around (stored_values self.old) value ≡ false) × (self.new ≡ append_slot V.default self.old (Some (V.shown value)))) }
-        ensures err { IfErr result (λ e. (e ≡ refused_growth (V.overflows self.old.around (stored_values self.old) value)) × (self.new ≡ self.old)) }
+        ensures ok { OnOk result ((V.overflows self.old.around (stored_values self.old) value ≡ false)
+            × (self.new ≡ append_slot V.default self.old (Some (V.shown value)))) }
+        ensures err { FailureKeeps result (refused_growth (V.overflows self.old.around (stored_values self.old) value)) self.old self.new }
     {
         let before = self.values.count();
         self.values.push_value(value)?;
@@ -174,18 +183,21 @@ impl<V: MutableValues> GrowingColumn<V> {
         }
     }
 
-    /// Appends a slot. A null stores the default, and a mask is held from then on.
+    /// Appends a slot. A null stores the default, and the column holds a mask from then on.
     ///
     /// # Errors
-    /// `Overflow` where there would be more than the values' type can count, which is tested first, or
-    /// `OutOfMemory` where a growth is refused; the column is then as before.
+    /// - `Overflow` if the value would overflow the values' type; this is checked first.
+    /// - `OutOfMemory` if an allocation fails.
+    ///
+    /// The column is unchanged on an error.
     #[inline(always)]
     pub fn push<X>(&mut self, slot: Option<X>) -> Result<(), Error>
     where
         V: PushValue<X>,
         ensures data_type { self.new.data_type ≡ self.old.data_type }
-        ensures ok { OnOk result ((slot_overflows V.overflows self.old slot ≡ false) × (self.new ≡ append_slot V.default self.old (option_map V.shown slot))) }
-        ensures err { IfErr result (λ e. (e ≡ refused_growth (slot_overflows V.overflows self.old slot)) × (self.new ≡ self.old)) }
+        ensures ok { OnOk result ((slot_overflows V.overflows self.old slot ≡ false)
+            × (self.new ≡ append_slot V.default self.old (option_map V.shown slot))) }
+        ensures err { FailureKeeps result (refused_growth (slot_overflows V.overflows self.old slot)) self.old self.new }
     {
         match slot {
             Some(value) => self.push_valid(value),
@@ -193,20 +205,22 @@ impl<V: MutableValues> GrowingColumn<V> {
         }
     }
 
-    /// Removes the last slot, and answers whether it was valid; it then showed what was stored there.
+    /// Removes the last slot and returns whether it was valid.
     #[inline(always)]
     pub fn remove_last(&mut self) -> bool
         requires { 0 < length self.old.rows }
         ensures mark { slice_get (marks_of self.old) (length self.old.rows - 1) ≡ Some result }
         ensures null { IsTrue (not result) → last_slot self.old ≡ None }
-        ensures valid { IsTrue result → (value : V.Stored) → slice_get (stored_values self.old) (length self.old.rows - 1) ≡ Some value → last_slot self.old ≡ Some value }
+        ensures valid { IsTrue result → (value : V.Stored)
+            → slice_get (stored_values self.old) (length self.old.rows - 1) ≡ Some value
+            → last_slot self.old ≡ Some value }
         ensures rest { self.new ≡ without_last self.old }
     {
         self.values.drop_last();
         pop_mark(&mut self.validity)
     }
 
-    /// Whether the slot at a place is valid, which is not null.
+    /// Returns whether the slot at `i` is valid.
     #[inline(always)]
     pub fn is_valid(&self, i: usize) -> bool
         requires { i < length self.now.rows }
@@ -218,22 +232,23 @@ impl<V: MutableValues> GrowingColumn<V> {
         }
     }
 
-    /// Whether the slot at a place is null; else it shows what is stored there.
+    /// Returns whether the slot at `i` is null.
     #[inline(always)]
     pub fn is_null(&self, i: usize) -> bool
         requires { i < length self.now.rows }
         ensures mark { slice_get (marks_of self.now) i ≡ Some (not result) }
         ensures null { IsTrue result → slice_get (slots_of self.now) i ≡ Some None }
-        ensures valid { IsTrue (not result) → (value : V.Stored) → slice_get (stored_values self.now) i ≡ Some value → slice_get (slots_of self.now) i ≡ Some (Some value) }
+        ensures valid { IsTrue (not result) → (value : V.Stored) → slice_get (stored_values self.now) i ≡ Some value
+            → slice_get (slots_of self.now) i ≡ Some (Some value) }
     {
         !self.is_valid(i)
     }
 
-    /// The data type, the stored values, and the mask of an array of the same slots, which is held only where
-    /// one is null.
+    /// Returns the data type, the stored values, and the mask of an array of the same slots. The
+    /// mask is held exactly if a slot is null.
     ///
     /// # Errors
-    /// `OutOfMemory` where the mask's memory is refused; the column is then lost.
+    /// `OutOfMemory` if an allocation for the mask fails; the column is then dropped.
     #[inline(always)]
     pub fn freeze_mask(self) -> Result<(DataType, V, Option<Bitmap>), Error>
         ensures data_type { IfOk result (λ parts. logical_type parts.0 ≡ self.data_type) }
@@ -241,7 +256,7 @@ impl<V: MutableValues> GrowingColumn<V> {
         ensures fits { IfOk result (λ parts. FitsMask (V.stored parts.1) parts.2) }
         ensures rows { IfOk result (λ parts. rows_of (V.stored parts.1) parts.2 ≡ self.rows) }
         ensures held { IfOk result (λ parts. is_some parts.2 ≡ not (all_valid self)) }
-        ensures err { IfErr result (λ e. e ≡ Error.OutOfMemory) }
+        ensures err { OnlyOutOfMemory result }
     {
         let GrowingColumn {
             data_type,

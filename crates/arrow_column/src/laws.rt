@@ -1,22 +1,30 @@
-//! Laws of columns, stated over their definitions for all values. Each is the contract of a function
-//! that does nothing.
-ghost use Rattle.std.specs.Prelude.{true, false, not, replicate, ◌<◌, ◌||◌, is_some, ◌≡◌, ℕ, ◌+◌, ◌≤◌, Bool, [], List, Option, Some, None, length, map, slice_get, option_map, if◌then◌else◌, ◌↔◌, IsTrue, IsNone};
+//! Laws of columns, stated over the definitions for all values. Each is the contract of a function
+//! with an empty body.
+ghost use Rattle.std.specs.Prelude.{true, false, not, replicate, ◌<◌, ◌||◌, is_some, ◌≡◌, ℕ, ◌+◌, ◌≤◌, Bool, []};
+ghost use Rattle.std.specs.Prelude.{List, Option, Some, None, length, map, slice_get, option_map, if◌then◌else◌};
+ghost use Rattle.std.specs.Prelude.{◌↔◌, IsTrue, IsNone};
 ghost use Rattle.arrow_types.specs.Types.{LogicalType};
 ghost use Rattle.arrow_memory.specs.Rows.{FitsMask, rows_of};
-ghost use Rattle.arrow_column.specs.Column.{ColumnWith, append_nulls, append_slots, append_values, column_with, cut_with, joined, with_mask, with_slot, with_stored, with_type, FitsCut, mask_of, marks_of, slots_of, stored_values, all_valid, IsColumn, append_slot, last_slot, without_last, without_needless_mask};
+ghost use Rattle.arrow_column.specs.Column.{ColumnWith, append_nulls, append_slots, append_values, column_with};
+ghost use Rattle.arrow_column.specs.Column.{cut_with, joined, with_mask, with_slot, with_stored, with_type};
+ghost use Rattle.arrow_column.specs.Column.{FitsCut, mask_of, marks_of, slots_of, stored_values, all_valid};
+ghost use Rattle.arrow_column.specs.Column.{IsColumn, append_slot, last_slot, without_last, without_needless_mask};
 
 use crate::Values;
 
-/// A cut of a cut is one cut, of the rows and of what lies around them, over stored values of every kind.
+/// A cut of a cut is one cut, of the rows and of what lies around them, for stored values of every
+/// kind.
 pub fn cut_of_cut<V: Values>()
-    ensures { (column : ColumnWith V.Around V.Stored) (a n b m : ℕ) → FitsCut column a n → FitsCut (cut_with V.cut_around column a n) b m
+    ensures { (column : ColumnWith V.Around V.Stored) (a n b m : ℕ) → FitsCut column a n
+        → FitsCut (cut_with V.cut_around column a n) b m
         → cut_with V.cut_around (cut_with V.cut_around column a n) b m ≡ cut_with V.cut_around column (a + b) m }
 {}
 
 /// An empty cut fits at every place up to the length, and has no row.
 pub fn empty_cut<A, S>()
     ensures fits { (column : ColumnWith A S) (a : ℕ) → a ≤ length column.rows → FitsCut column a 0 }
-    ensures rows { (around : A → List S → ℕ → ℕ → A) (column : ColumnWith A S) (a : ℕ) → (cut_with around column a 0).rows ≡ [] }
+    ensures rows { (around : A → List S → ℕ → ℕ → A) (column : ColumnWith A S) (a : ℕ)
+        → (cut_with around column a 0).rows ≡ [] }
 {}
 
 /// The bits of a mask are the marks in order.
@@ -26,77 +34,98 @@ pub fn mask_bits<A, S>()
         → slice_get mask i ≡ option_map (λ row. row.1) (slice_get column.rows i) }
 {}
 
-/// Where no mask is held every mark is set, so no slot is null.
+/// If no mask is held, every mark is set and no slot is null.
 pub fn no_mask<A, S>()
     ensures marks { (column : ColumnWith A S) → IsColumn column → mask_of column ≡ None → IsTrue (all_valid column) }
-    ensures slots { (column : ColumnWith A S) → IsColumn column → mask_of column ≡ None → slots_of column ≡ map Some (stored_values column) }
+    ensures slots { (column : ColumnWith A S) → IsColumn column → mask_of column ≡ None
+        → slots_of column ≡ map Some (stored_values column) }
 {}
 
-/// The stored values and the mask tell the rows.
+/// The rows are the stored values and the mask put together.
 pub fn rows_by_parts<A, S>()
-    ensures { (column : ColumnWith A S) → IsColumn column → rows_of (stored_values column) (mask_of column) ≡ column.rows }
+    ensures { (column : ColumnWith A S) → IsColumn column
+        → rows_of (stored_values column) (mask_of column) ≡ column.rows }
 {}
 
-/// The parts of a column make it again: its mask, where one is held, has a mark for each stored value, and the column
-/// of its type, of what lies around its stored values, of these and of its mask is the same.
+/// The parts of a column make it again: its mask, if held, has a mark for each stored value, and
+/// the column of its type, of what lies around its stored values, of these and of its mask is the
+/// same column.
 pub fn parts_again<A, S>()
     ensures fits { (column : ColumnWith A S) → FitsMask (stored_values column) (mask_of column) }
-    ensures same { (column : ColumnWith A S) → IsColumn column → column_with column.data_type column.around (stored_values column) (mask_of column) ≡ column }
+    ensures same { (column : ColumnWith A S) → IsColumn column
+        → column_with column.data_type column.around (stored_values column) (mask_of column) ≡ column }
 {}
 
-/// Whether a mask is held: as one is given with the parts or set; from a null on that is appended or put in a place; in
-/// a column of joined rows where either had one; in an array of a builder's slots only with a null, where it drops a
-/// mask that no slot needs. All else leaves it as it was.
+/// When a mask is held: as given with the parts or set; after a null is appended or written; in a
+/// column of joined rows if either held one; in a frozen column exactly if a slot is null. Other
+/// changes leave it as it was.
 pub fn held_masks<A, S>()
-    ensures parts { (t : LogicalType) (around : A) (values : List S) (mask : Option (List Bool)) → (column_with t around values mask).held ≡ is_some mask }
+    ensures parts { (t : LogicalType) (around : A) (values : List S) (mask : Option (List Bool))
+        → (column_with t around values mask).held ≡ is_some mask }
     ensures set { (column : ColumnWith A S) (mask : Option (List Bool)) → (with_mask column mask).held ≡ is_some mask }
     ensures null { (default : S) (column : ColumnWith A S) → (append_slot default column None).held ≡ true }
     ensures nulls { (column : ColumnWith A S) (values : List S) → (append_nulls column values).held ≡ true }
-    ensures null_in_place { (default : S) (column : ColumnWith A S) (i : ℕ) → (with_slot default column i None).held ≡ true }
+    ensures null_in_place { (default : S) (column : ColumnWith A S) (i : ℕ)
+        → (with_slot default column i None).held ≡ true }
     ensures either { (column other : ColumnWith A S) → (joined column other).held ≡ (column.held || other.held) }
     ensures needed { (column : ColumnWith A S) → (without_needless_mask column).held ≡ not (all_valid column) }
-    ensures value { (default : S) (column : ColumnWith A S) (value : S) → (append_slot default column (Some value)).held ≡ column.held }
+    ensures value { (default : S) (column : ColumnWith A S) (value : S)
+        → (append_slot default column (Some value)).held ≡ column.held }
     ensures values { (column : ColumnWith A S) (values : List S) → (append_values column values).held ≡ column.held }
-    ensures value_in_place { (default : S) (column : ColumnWith A S) (i : ℕ) (value : S) → (with_slot default column i (Some value)).held ≡ column.held }
+    ensures value_in_place { (default : S) (column : ColumnWith A S) (i : ℕ) (value : S)
+        → (with_slot default column i (Some value)).held ≡ column.held }
     ensures stored { (column : ColumnWith A S) (values : List S) → (with_stored column values).held ≡ column.held }
     ensures renamed { (column : ColumnWith A S) (t : LogicalType) → (with_type column t).held ≡ column.held }
     ensures shorter { (column : ColumnWith A S) → (without_last column).held ≡ column.held }
-    ensures piece { (around : A → List S → ℕ → ℕ → A) (column : ColumnWith A S) (a n : ℕ) → (cut_with around column a n).held ≡ column.held }
+    ensures piece { (around : A → List S → ℕ → ℕ → A) (column : ColumnWith A S) (a n : ℕ)
+        → (cut_with around column a n).held ≡ column.held }
 {}
 
-/// A slot is its stored value where its mark is set or no mask is held, else it is null.
+/// A slot is its stored value where its mark is set or no mask is held, and null otherwise.
 pub fn slot_by_value<A, S>()
-    ensures masked { (column : ColumnWith A S) (mask : List Bool) (i : ℕ) (value : S) (mark : Bool) → mask_of column ≡ Some mask
+    ensures masked { (column : ColumnWith A S) (mask : List Bool) (i : ℕ) (value : S) (mark : Bool)
+        → mask_of column ≡ Some mask
         → slice_get (stored_values column) i ≡ Some value → slice_get mask i ≡ Some mark
         → slice_get (slots_of column) i ≡ Some (if mark then Some value else None) }
     ensures bare { (column : ColumnWith A S) (i : ℕ) (value : S) → IsColumn column → mask_of column ≡ None
         → slice_get (stored_values column) i ≡ Some value → slice_get (slots_of column) i ≡ Some (Some value) }
 {}
 
-/// Once frozen, a builder's column has no mask exactly if no slot is null.
+/// A frozen column has no mask exactly if no slot is null.
 pub fn freeze_drops_mask<A, S>()
     ensures { (column : ColumnWith A S) → IsNone (mask_of (without_needless_mask column)) ↔ IsTrue (all_valid column) }
 {}
 
-/// Slots that are appended at once are those that are appended one after the other: valid slots of values, or of what is
-/// shown of items, and nulls, each of which stores the default. Of no null at all a mask is held, too, where nulls are
-/// appended at once.
+/// Slots appended at once are the slots appended one by one: valid slots of values, or of what is
+/// stored of items, and nulls, which store the default. Appending nulls at once holds a mask even
+/// if there are none.
 pub fn one_by_one<A, S, X>()
-    ensures values { (default : S) (column : ColumnWith A S) (values : List S) → append_slots default column (map Some values) ≡ append_values column values }
-    ensures items { (shown : X → S) (default : S) (column : ColumnWith A S) (items : List X) → append_slots default column (map (λ item. Some (shown item)) items) ≡ append_values column (map shown items) }
-    ensures nulls { (default : S) (column : ColumnWith A S) (n : ℕ) → 0 < n → append_slots default column (replicate n None) ≡ append_nulls column (replicate n default) }
-    ensures masked { (default : S) (column : ColumnWith A S) (n : ℕ) → append_slots default (record column { held = true }) (replicate n None) ≡ append_nulls column (replicate n default) }
+    ensures values { (default : S) (column : ColumnWith A S) (values : List S)
+        → append_slots default column (map Some values) ≡ append_values column values }
+    ensures items { (shown : X → S) (default : S) (column : ColumnWith A S) (items : List X)
+        → append_slots default column (map (λ item. Some (shown item)) items)
+        ≡ append_values column (map shown items) }
+    ensures nulls { (default : S) (column : ColumnWith A S) (n : ℕ) → 0 < n
+        → append_slots default column (replicate n None) ≡ append_nulls column (replicate n default) }
+    ensures masked { (default : S) (column : ColumnWith A S) (n : ℕ)
+        → append_slots default (record column { held = true }) (replicate n None)
+        ≡ append_nulls column (replicate n default) }
 {}
 
-/// A column of values without a mask is an empty one to which they are appended, and it holds no needless mask.
+/// A column of values without a mask is an empty column to which they are appended, and it holds no
+/// needless mask.
 pub fn bare_column<A, S>()
-    ensures appended { (t : LogicalType) (around : A) (values : List S) → append_values (column_with t around [] None) values ≡ column_with t around values None }
-    ensures needless { (column : ColumnWith A S) → IsColumn column → column.held ≡ false → without_needless_mask column ≡ column }
+    ensures appended { (t : LogicalType) (around : A) (values : List S)
+        → append_values (column_with t around [] None) values ≡ column_with t around values None }
+    ensures needless { (column : ColumnWith A S) → IsColumn column → column.held ≡ false
+        → without_needless_mask column ≡ column }
     ensures bare { (t : LogicalType) (around : A) (values : List S) → IsColumn (column_with t around values None) }
 {}
 
-/// A push and then a pop leave the rows, and answer the slot that was pushed.
+/// A push followed by a pop leaves the rows as they were and returns the slot that was pushed.
 pub fn push_then_pop<A, S>()
-    ensures slot { (default : S) (column : ColumnWith A S) (slot : Option S) → last_slot (append_slot default column slot) ≡ slot }
-    ensures rows { (default : S) (column : ColumnWith A S) (slot : Option S) → (without_last (append_slot default column slot)).rows ≡ column.rows }
+    ensures slot { (default : S) (column : ColumnWith A S) (slot : Option S)
+        → last_slot (append_slot default column slot) ≡ slot }
+    ensures rows { (default : S) (column : ColumnWith A S) (slot : Option S)
+        → (without_last (append_slot default column slot)).rows ≡ column.rows }
 {}

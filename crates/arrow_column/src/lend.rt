@@ -1,20 +1,20 @@
-//! Columns whose stored values are lent to be written to.
+//! Columns whose stored values can be borrowed for writing.
 ghost use Rattle.std.specs.Prelude.{◌≡◌, List};
 ghost use Rattle.std.specs.Borrow.{Array, Lends, sem};
 
 use crate::GrowingColumn;
 use arrow_types::native_type::NativeType;
 
-/// What lends its values to be written to. It is a trait, since only there can a clause on what is written speak of
-/// a struct with parameters.
+/// A type whose stored values can be borrowed for writing. It is a trait because only a trait's
+/// clause can speak of what is written to a struct with type parameters.
 pub trait LendValues<T> {
-    /// The values that are lent.
+    /// The values that are borrowed.
     ghost lent: { Self → List T };
 
-    /// What it is once they were written over.
+    /// The value after the borrowed values were written.
     ghost written: { Self → List T → Self };
 
-    /// Lends the values.
+    /// Borrows the stored values for writing.
     fn values_mut_slice(&mut self) -> &mut [T]
         ensures* writes_back { sem 𝓛 (Lends Self.row (Array T.row 0) self.entry result (written self.old)) }
         ensures value { result.now ≡ lent self.old };

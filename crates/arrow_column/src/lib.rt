@@ -1,4 +1,4 @@
-//! Columns: stored values and a mask, which is held or not. Arrays and builders of every kind are made of them.
+//! Columns: stored values and an optional mask. Arrays and builders of every kind are made of them.
 #![tactic(auto)]
 
 mod change;

@@ -1,5 +1,8 @@
-//! Masks, which are held or not.
-ghost use Rattle.std.specs.Prelude.{IsTrue, ◌↔◌, slice_set, ◌≡◌, ◌<◌, true, false, [], ◌∷◌, ◌++◌, replicate, Some, option_map, unwrap_or, length, take, drop, ◌+◌, ◌≤◌, IfSome, OnOk, IfOk, IfErr, IsOk};
+//! Optional masks.
+ghost use Rattle.std.specs.Prelude.{IsTrue, ◌↔◌, slice_set, ◌≡◌, ◌<◌, true, false, [], ◌∷◌, ◌++◌, replicate, Some};
+ghost use Rattle.std.specs.Prelude.{option_map, unwrap_or, length, take, drop, ◌+◌, ◌≤◌, IfSome, OnOk, IfOk, IfErr};
+ghost use Rattle.std.specs.Prelude.{IsOk};
+ghost use Rattle.arrow_types.specs.Failures.{OnlyOutOfMemory, OutOfMemoryKeeps};
 ghost use Rattle.arrow_memory.specs.MarkWrites.{TakesLastMark};
 ghost use Rattle.arrow_memory.specs.Rows.{IsValidAt};
 ghost use Rattle.arrow_column.specs.Masks.{joined_mask, mask_with_nulls};
@@ -8,11 +11,11 @@ use arrow_memory::bitmap::{Bitmap, MutableBitmap};
 use arrow_types::error::Error;
 use std::alloc::Global;
 
-/// Appends the mark of a valid slot, where a mask is held.
+/// Appends the mark of a valid slot, if a mask is held.
 #[inline(always)]
 pub(crate) fn push_valid(validity: &mut Option<MutableBitmap>) -> Result<(), Error>
     ensures ok { OnOk result (validity.new ≡ option_map (λ marks. marks ++ true ∷ []) validity.old) }
-    ensures err { IfErr result (λ e. (e ≡ Error.OutOfMemory) × (validity.new ≡ validity.old)) }
+    ensures err { OutOfMemoryKeeps result validity.old validity.new }
 {
     match validity {
         None => Ok(()),
@@ -20,8 +23,8 @@ pub(crate) fn push_valid(validity: &mut Option<MutableBitmap>) -> Result<(), Err
     }
 }
 
-/// Holds a mask of so many valid slots and then a null. It is a call, so that a loop of appends stays small enough for
-/// the compiler to follow.
+/// Creates a mask of `length` valid slots followed by a null. It is not inlined, so that a loop of
+/// appends stays small enough for the compiler to follow.
 #[cold]
 #[inline(never)]
 fn hold_mask(
@@ -30,7 +33,7 @@ fn hold_mask(
     length: usize,
 ) -> Result<(), Error>
     ensures ok { OnOk result (validity.new ≡ Some (replicate length true ++ false ∷ [])) }
-    ensures err { IfErr result (λ e. (e ≡ Error.OutOfMemory) × (validity.new ≡ validity.old)) }
+    ensures err { OutOfMemoryKeeps result validity.old validity.new }
 {
     let mut marks = MutableBitmap::new(alloc);
     marks.extend_constant(length, true)?;
@@ -39,7 +42,8 @@ fn hold_mask(
     Ok(())
 }
 
-/// Appends the mark of a null. Where no mask is held it makes one, in which the earlier slots are valid.
+/// Appends the mark of a null. If no mask is held, creates one in which the earlier slots are
+/// valid.
 #[inline(always)]
 pub(crate) fn push_null_mark(
     alloc: Global,
@@ -47,7 +51,7 @@ pub(crate) fn push_null_mark(
     length: usize,
 ) -> Result<(), Error>
     ensures ok { OnOk result (validity.new ≡ Some (unwrap_or validity.old (replicate length true) ++ false ∷ [])) }
-    ensures err { IfErr result (λ e. (e ≡ Error.OutOfMemory) × (validity.new ≡ validity.old)) }
+    ensures err { OutOfMemoryKeeps result validity.old validity.new }
 {
     match validity {
         Some(marks) => marks.push(false),
@@ -55,7 +59,7 @@ pub(crate) fn push_null_mark(
     }
 }
 
-/// Removes the last slot's mark and answers it; where no mask is held the slot is valid.
+/// Removes and returns the last mark; without a mask the slot is valid.
 #[inline(always)]
 pub(crate) fn pop_mark(validity: &mut Option<MutableBitmap>) -> bool
     requires { IfSome validity.old (λ marks. 0 < length marks) }
@@ -70,7 +74,7 @@ pub(crate) fn pop_mark(validity: &mut Option<MutableBitmap>) -> bool
     }
 }
 
-/// Keeps only the `len` marks from `offset` on, where a mask is held.
+/// Keeps only the `len` marks from `offset` on, if a mask is held.
 #[inline(always)]
 pub(crate) fn slice_mask(validity: &mut Option<Bitmap>, offset: usize, len: usize)
     requires { IfSome validity.old (λ marks. offset + len ≤ length marks) }
@@ -81,10 +85,10 @@ pub(crate) fn slice_mask(validity: &mut Option<Bitmap>, offset: usize, len: usiz
     }
 }
 
-/// The mask of an array, which is held only where a slot is null.
+/// Returns the mask of an array, which is held exactly if a slot is null.
 pub(crate) fn freeze_mask(validity: Option<MutableBitmap>) -> Result<Option<Bitmap>, Error>
     ensures ok { IfOk result (λ mask. mask ≡ mask_with_nulls validity) }
-    ensures err { IfErr result (λ e. e ≡ Error.OutOfMemory) }
+    ensures err { OnlyOutOfMemory result }
 {
     let Some(marks) = validity else {
         return Ok(None);
@@ -97,14 +101,14 @@ pub(crate) fn freeze_mask(validity: Option<MutableBitmap>) -> Result<Option<Bitm
     Ok(Some(marks.freeze_counted(unset)?))
 }
 
-/// Appends the marks of so many valid slots, where a mask is held.
+/// Appends the marks of valid slots, if a mask is held.
 #[inline(always)]
 pub(crate) fn extend_valid_marks(
     validity: &mut Option<MutableBitmap>,
     count: usize,
 ) -> Result<(), Error>
     ensures ok { OnOk result (validity.new ≡ option_map (λ marks. marks ++ replicate count true) validity.old) }
-    ensures err { IfErr result (λ e. (e ≡ Error.OutOfMemory) × (validity.new ≡ validity.old)) }
+    ensures err { OutOfMemoryKeeps result validity.old validity.new }
 {
     match validity {
         None => Ok(()),
@@ -112,10 +116,10 @@ pub(crate) fn extend_valid_marks(
     }
 }
 
-/// A mask of so many valid slots and then so many nulls.
+/// Creates a mask of `length` valid slots followed by `count` nulls.
 fn null_marks(alloc: Global, length: usize, count: usize) -> Result<MutableBitmap, Error>
     ensures ok { IfOk result (λ marks. marks ≡ replicate length true ++ replicate count false) }
-    ensures err { IfErr result (λ e. e ≡ Error.OutOfMemory) }
+    ensures err { OnlyOutOfMemory result }
 {
     let mut marks = MutableBitmap::new(alloc);
     marks.extend_constant(length, true)?;
@@ -123,16 +127,17 @@ fn null_marks(alloc: Global, length: usize, count: usize) -> Result<MutableBitma
     Ok(marks)
 }
 
-/// Appends the marks of so many nulls. Where no mask is held it makes one, in which the `length` earlier slots are
-/// valid.
+/// Appends the marks of nulls. If no mask is held, creates one in which the `length` earlier slots
+/// are valid.
 pub(crate) fn extend_null_marks(
     alloc: Global,
     validity: &mut Option<MutableBitmap>,
     length: usize,
     count: usize,
 ) -> Result<(), Error>
-    ensures ok { OnOk result (validity.new ≡ Some (unwrap_or validity.old (replicate length true) ++ replicate count false)) }
-    ensures err { IfErr result (λ e. (e ≡ Error.OutOfMemory) × (validity.new ≡ validity.old)) }
+    ensures ok { OnOk result (validity.new ≡ Some (unwrap_or validity.old (replicate length true)
+        ++ replicate count false)) }
+    ensures err { OutOfMemoryKeeps result validity.old validity.new }
 {
     match validity {
         Some(marks) => marks.extend_constant(count, false),
@@ -143,14 +148,14 @@ pub(crate) fn extend_null_marks(
     }
 }
 
-/// A mask of so many valid slots and then these marks.
+/// Creates a mask of valid slots followed by these marks.
 fn marks_behind(
     alloc: Global,
     length: usize,
     others: &MutableBitmap,
 ) -> Result<MutableBitmap, Error>
     ensures ok { IfOk result (λ marks. marks ≡ replicate length true ++ others.now) }
-    ensures err { IfErr result (λ e. e ≡ Error.OutOfMemory) }
+    ensures err { OnlyOutOfMemory result }
 {
     let mut marks = MutableBitmap::new(alloc);
     marks.extend_constant(length, true)?;
@@ -158,8 +163,8 @@ fn marks_behind(
     Ok(marks)
 }
 
-/// Appends the mask of `count` other slots to that of `length` slots. A mask is held where either is, and slots
-/// without one are valid in it.
+/// Appends the mask of `count` other slots to that of `length` slots. A mask is held if either is,
+/// and slots without one are valid in it.
 pub(crate) fn join_marks(
     alloc: Global,
     validity: &mut Option<MutableBitmap>,
@@ -168,7 +173,7 @@ pub(crate) fn join_marks(
     count: usize,
 ) -> Result<(), Error>
     ensures ok { OnOk result (validity.new ≡ joined_mask validity.old length others.now count) }
-    ensures err { IfErr result (λ e. (e ≡ Error.OutOfMemory) × (validity.new ≡ validity.old)) }
+    ensures err { OutOfMemoryKeeps result validity.old validity.new }
 {
     match validity {
         Some(marks) => match others {
@@ -185,7 +190,7 @@ pub(crate) fn join_marks(
     }
 }
 
-/// Sets the mark at a place, where a mask is held.
+/// Sets the mark at `i`, if a mask is held.
 #[inline(always)]
 pub(crate) fn set_valid_mark(validity: &mut Option<MutableBitmap>, i: usize)
     requires { IfSome validity.old (λ marks. i < length marks) }
@@ -196,13 +201,13 @@ pub(crate) fn set_valid_mark(validity: &mut Option<MutableBitmap>, i: usize)
     }
 }
 
-/// A mask of so many slots of which the one at a place is null.
+/// Creates a mask of `count` slots of which only the one at `i` is null.
 #[cold]
 #[inline(never)]
 fn null_mark_at(alloc: Global, count: usize, i: usize) -> Result<MutableBitmap, Error>
     requires { i < count }
     ensures ok { IfOk result (λ marks. marks ≡ slice_set (replicate count true) i false) }
-    ensures err { IfErr result (λ e. e ≡ Error.OutOfMemory) }
+    ensures err { OnlyOutOfMemory result }
 {
     let mut marks = MutableBitmap::new(alloc);
     marks.extend_constant(count, true)?;
@@ -210,7 +215,7 @@ fn null_mark_at(alloc: Global, count: usize, i: usize) -> Result<MutableBitmap, 
     Ok(marks)
 }
 
-/// Clears the mark at a place. Where no mask is held it makes one, in which the other slots are valid.
+/// Clears the mark at a place. If no mask is held, creates one in which the other slots are valid.
 #[inline(always)]
 pub(crate) fn set_null_mark(
     alloc: Global,
@@ -221,7 +226,7 @@ pub(crate) fn set_null_mark(
     requires within { i < count }
     requires fits { IfSome validity.old (λ marks. length marks ≡ count) }
     ensures ok { OnOk result (validity.new ≡ Some (slice_set (unwrap_or validity.old (replicate count true)) i false)) }
-    ensures err { IfErr result (λ e. (e ≡ Error.OutOfMemory) × (validity.new ≡ validity.old)) }
+    ensures err { OutOfMemoryKeeps result validity.old validity.new }
 {
     match validity {
         Some(marks) => {
@@ -235,13 +240,13 @@ pub(crate) fn set_null_mark(
     }
 }
 
-/// Makes room for so many marks more, where a mask is held.
+/// Reserves room for more marks, if a mask is held.
 pub(crate) fn reserve_marks(
     validity: &mut Option<MutableBitmap>,
     additional: usize,
 ) -> Result<(), Error>
     ensures kept { validity.new ≡ validity.old }
-    ensures err { IfErr result (λ e. e ≡ Error.OutOfMemory) }
+    ensures err { OnlyOutOfMemory result }
 {
     match validity {
         None => Ok(()),
@@ -249,7 +254,7 @@ pub(crate) fn reserve_marks(
     }
 }
 
-/// Gives back the room that is not used, where a mask is held.
+/// Gives unused room back, if a mask is held.
 pub(crate) fn shrink_marks(validity: &mut Option<MutableBitmap>) -> Result<(), Error>
     ensures kept { validity.new ≡ validity.old }
     ensures ok { IsOk result }
@@ -260,10 +265,10 @@ pub(crate) fn shrink_marks(validity: &mut Option<MutableBitmap>) -> Result<(), E
     }
 }
 
-/// A copy of a builder's mask, where one is held.
+/// Returns a copy of a builder's mask, if one is held.
 pub(crate) fn copy_marks(validity: &Option<MutableBitmap>) -> Result<Option<MutableBitmap>, Error>
     ensures ok { IfOk result (λ copy. copy ≡ validity.now) }
-    ensures err { IfErr result (λ e. e ≡ Error.OutOfMemory) }
+    ensures err { OnlyOutOfMemory result }
 {
     match validity {
         None => Ok(None),
@@ -271,10 +276,10 @@ pub(crate) fn copy_marks(validity: &Option<MutableBitmap>) -> Result<Option<Muta
     }
 }
 
-/// An array's mask once more, where one is held. No mark is copied.
+/// Returns a clone of an array's mask that shares its bytes, if one is held.
 pub(crate) fn share_mask(validity: &Option<Bitmap>) -> Result<Option<Bitmap>, Error>
     ensures ok { IfOk result (λ copy. copy ≡ validity.now) }
-    ensures err { IfErr result (λ e. e ≡ Error.OutOfMemory) }
+    ensures err { OnlyOutOfMemory result }
 {
     match validity {
         None => Ok(None),
@@ -282,7 +287,7 @@ pub(crate) fn share_mask(validity: &Option<Bitmap>) -> Result<Option<Bitmap>, Er
     }
 }
 
-/// Whether a mask, where there is one, has a mark for each of so many slots.
+/// Returns whether a mask, if there is one, has a mark for each of `slots` slots.
 #[inline(always)]
 pub fn is_mask_of(validity: &Option<Bitmap>, slots: usize) -> bool
     ensures { IsTrue result ↔ IfSome validity.now (λ marks. length marks ≡ slots) }
@@ -293,7 +298,7 @@ pub fn is_mask_of(validity: &Option<Bitmap>, slots: usize) -> bool
     }
 }
 
-/// Whether a growing mask, where there is one, has a mark for each of so many slots.
+/// Returns whether a growing mask, if there is one, has a mark for each of `slots` slots.
 #[inline(always)]
 pub fn is_growing_mask_of(validity: &Option<MutableBitmap>, slots: usize) -> bool
     ensures { IsTrue result ↔ IfSome validity.now (λ marks. length marks ≡ slots) }
@@ -304,7 +309,7 @@ pub fn is_growing_mask_of(validity: &Option<MutableBitmap>, slots: usize) -> boo
     }
 }
 
-/// Whether a slot is valid; without a mask each is.
+/// Returns whether a slot is valid; without a mask every slot is.
 #[inline(always)]
 pub(crate) fn is_valid_at(validity: &Option<MutableBitmap>, i: usize) -> bool
     requires { IfSome validity.now (λ marks. i < length marks) }
@@ -316,7 +321,8 @@ pub(crate) fn is_valid_at(validity: &Option<MutableBitmap>, i: usize) -> bool
     }
 }
 
-/// Whether two masks of so many slots mark the same as valid. Marks are compared and counted many at a time.
+/// Returns whether two masks of equally many slots mark the same slots as valid. Marks are compared
+/// and counted many at a time.
 pub(crate) fn same_masks(
     first: &Option<MutableBitmap>,
     second: &Option<MutableBitmap>,

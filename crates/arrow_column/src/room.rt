@@ -1,54 +1,56 @@
-//! The room of columns, and their clones.
+//! Room of columns, and clones.
 ghost use Rattle.std.specs.Prelude.{◌≡◌, IfOk, IfErr, IsOk};
+ghost use Rattle.arrow_types.specs.Failures.{OnlyOutOfMemory};
 
 use crate::mask::{copy_marks, reserve_marks, share_mask, shrink_marks};
 use crate::values::{MutableValues, Values};
 use crate::{FrozenColumn, GrowingColumn};
 use arrow_types::error::Error;
 
-/// Values of several bytes each, so that room is made for both.
+/// Stored values of several bytes each, which reserve room for values and for bytes.
 pub trait ReserveItems: MutableValues {
-    /// Makes room for so many values more, and for so many bytes of theirs.
+    /// Reserves room for at least `additional` more values and `bytes` more bytes of theirs.
     ///
     /// # Errors
-    /// `OutOfMemory` where a growth is refused.
+    /// `OutOfMemory` if an allocation fails.
     fn make_room_of(&mut self, additional: usize, bytes: usize) -> Result<(), Error>
         ensures stored { Self.stored self.new ≡ Self.stored self.old }
         ensures around { Self.around self.new ≡ Self.around self.old }
-        ensures err { IfErr result (λ e. e ≡ Error.OutOfMemory) };
+        ensures err { OnlyOutOfMemory result };
 }
 
 #[tactic(auto, using(crate::proofs::RowLemmas::row_steps))]
 impl<V: MutableValues> GrowingColumn<V> {
-    /// Makes room for so many slots more, in a held mask too, and for so many bytes of their values.
+    /// Reserves room for at least `additional` more slots, in a held mask too, and for `bytes` more
+    /// bytes of their values.
     ///
     /// # Errors
-    /// `OutOfMemory` where a growth is refused.
+    /// `OutOfMemory` if an allocation fails.
     pub fn reserve_items(&mut self, additional: usize, bytes: usize) -> Result<(), Error>
     where
         V: ReserveItems,
         ensures kept { self.new ≡ self.old }
-        ensures err { IfErr result (λ e. e ≡ Error.OutOfMemory) }
+        ensures err { OnlyOutOfMemory result }
     {
         self.values.make_room_of(additional, bytes)?;
         reserve_marks(&mut self.validity, additional)
     }
 
-    /// Makes room for so many slots more, in a held mask too.
+    /// Reserves room for at least `additional` more slots, in a held mask too.
     ///
     /// # Errors
-    /// `OutOfMemory` where a growth is refused.
+    /// `OutOfMemory` if an allocation fails.
     // Out of line, so that the compiler follows the column through the loop that comes behind.
     #[inline(never)]
     pub fn reserve(&mut self, additional: usize) -> Result<(), Error>
         ensures kept { self.new ≡ self.old }
-        ensures err { IfErr result (λ e. e ≡ Error.OutOfMemory) }
+        ensures err { OnlyOutOfMemory result }
     {
         self.values.make_room(additional)?;
         reserve_marks(&mut self.validity, additional)
     }
 
-    /// Gives back the room that is not used.
+    /// Gives unused room back to the allocator, if it takes it.
     ///
     /// # Errors
     /// Never: if the allocator refuses a smaller allocation, the room stays.
@@ -60,13 +62,13 @@ impl<V: MutableValues> GrowingColumn<V> {
         shrink_marks(&mut self.validity)
     }
 
-    /// A copy of the column.
+    /// Returns a copy.
     ///
     /// # Errors
-    /// `OutOfMemory` where memory is refused.
+    /// `OutOfMemory` if an allocation fails.
     pub fn clone(&self) -> Result<Self, Error>
         ensures ok { IfOk result (λ copy. copy ≡ self.now) }
-        ensures err { IfErr result (λ e. e ≡ Error.OutOfMemory) }
+        ensures err { OnlyOutOfMemory result }
     {
         let validity = copy_marks(&self.validity)?;
         let values = self.values.copy()?;
@@ -77,13 +79,13 @@ impl<V: MutableValues> GrowingColumn<V> {
 
 #[tactic(auto, using(crate::proofs::RowLemmas::row_steps))]
 impl<V: Values> FrozenColumn<V> {
-    /// The same column once more. Neither values nor marks are copied.
+    /// Returns a clone that shares values and marks.
     ///
     /// # Errors
-    /// `OutOfMemory` where memory is refused.
+    /// `OutOfMemory` if an allocation fails.
     pub fn clone(&self) -> Result<Self, Error>
         ensures ok { IfOk result (λ copy. copy ≡ self.now) }
-        ensures err { IfErr result (λ e. e ≡ Error.OutOfMemory) }
+        ensures err { OnlyOutOfMemory result }
     {
         let validity = share_mask(&self.validity)?;
         let values = self.values.share()?;

@@ -1,4 +1,4 @@
-//! Columns that are thawed: a builder's made of an array's, where every buffer can be written to.
+//! Thawing: columns of arrays as columns of builders, if no buffer is shared.
 ghost use Rattle.std.specs.Prelude.{◌≡◌};
 ghost use Rattle.either.specs.Either.{MatchEither};
 
@@ -11,8 +11,8 @@ use either::{Either, Left, Right};
 
 #[tactic(auto, using(crate::proofs::RowLemmas::row_steps))]
 impl<T: NativeType> FrozenColumn<Buffer<T>> {
-    /// The same column to change, where no one else has its values or its mask and both are shown from the
-    /// first on; else the column as it is.
+    /// Converts the column into a growing one without copying it, if neither its values nor its
+    /// mask are shared and both begin at the first place. Otherwise returns the column unchanged.
     pub fn into_mut(self) -> Either<Self, GrowingColumn<Vec<T>>>
         ensures { MatchEither result (λ column. column ≡ self) (λ column. column ≡ self) }
     {
@@ -33,8 +33,8 @@ impl<T: NativeType> FrozenColumn<Buffer<T>> {
 
 #[tactic(auto, using(crate::proofs::RowLemmas::row_steps))]
 impl FrozenColumn<Bitmap> {
-    /// The same column to change, where no one else has its values or its mask and both are shown from the
-    /// first on; else the column as it is.
+    /// Converts the column into a growing one without copying it, if neither its values nor its
+    /// mask are shared and both begin at the first place. Otherwise returns the column unchanged.
     pub fn into_mut(self) -> Either<Self, GrowingColumn<MutableBitmap>>
         ensures { MatchEither result (λ column. column ≡ self) (λ column. column ≡ self) }
     {

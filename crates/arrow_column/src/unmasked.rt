@@ -1,6 +1,7 @@
-//! Columns that hold no mask, and grow without a look at one.
+//! Columns that hold no mask, and grow without looking for one.
 ghost use Rattle.std.specs.Prelude.{◌≡◌, false, Some, OnOk, IfErr};
 ghost use Rattle.std.specs.Iterator.{IsFinite};
+ghost use Rattle.arrow_types.specs.Failures.{FailureKeeps, OutOfMemoryKeeps};
 ghost use Rattle.arrow_column.specs.Appends.{ExtendsByItems, StopsInItems};
 ghost use Rattle.arrow_column.specs.Column.{append_slot, refused_growth, stored_values};
 
@@ -10,10 +11,10 @@ use arrow_types::error::Error;
 
 #[tactic(auto, using(crate::proofs::RowLemmas::row_steps))]
 impl<V: MutableValues> GrowingColumn<V> {
-    /// Appends a valid slot where no mask is held.
+    /// Appends a valid slot to a column that holds no mask.
     ///
     /// # Errors
-    /// As of `push_valid`.
+    /// As `push_valid`.
     #[inline(always)]
     pub fn push_unmasked<X>(&mut self, value: X) -> Result<(), Error>
     where
@@ -21,33 +22,36 @@ impl<V: MutableValues> GrowingColumn<V> {
         requires { self.old.held ≡ false }
         ensures data_type { self.new.data_type ≡ self.old.data_type }
         ensures held { self.new.held ≡ false }
-        ensures ok { OnOk result ((V.overflows self.old.around (stored_values self.old) value ≡ false) × (self.new ≡ append_slot V.default self.old (Some (V.shown value)))) }
-        ensures err { IfErr result (λ e. (e ≡ refused_growth (V.overflows self.old.around (stored_values self.old) value)) × (self.new ≡ self.old)) }
+        ensures ok { OnOk result ((V.overflows self.old.around (stored_values self.old) value ≡ false)
+            × (self.new ≡ append_slot V.default self.old (Some (V.shown value)))) }
+        ensures err { FailureKeeps result (refused_growth (V.overflows self.old.around (stored_values self.old) value)) self.old self.new }
     {
         self.values.push_value(value)
     }
 
-    /// Appends a valid slot that stores the default, where no mask is held.
+    /// Appends a valid slot that stores the default to a column that holds no mask.
     ///
     /// # Errors
-    /// `OutOfMemory` where the growth is refused; the column is then as before.
+    /// `OutOfMemory` if an allocation fails; the column is then unchanged.
     #[inline(always)]
     pub fn push_unmasked_default(&mut self) -> Result<(), Error>
         requires { self.old.held ≡ false }
         ensures data_type { self.new.data_type ≡ self.old.data_type }
         ensures held { self.new.held ≡ false }
         ensures ok { OnOk result (self.new ≡ append_slot V.default self.old (Some V.default)) }
-        ensures err { IfErr result (λ e. (e ≡ Error.OutOfMemory) × (self.new ≡ self.old)) }
+        ensures err { OutOfMemoryKeeps result self.old self.new }
     {
         self.values.push_default()
     }
 
-    /// Appends valid slots of the values that an iterator gives, where no mask is held. What it says of their
-    /// number is not trusted: room for so many is asked for first, and where that is refused nothing is told.
+    /// Appends valid slots with the values of an iterator to a column that holds no mask.
+    /// `size_hint` is only used to reserve room; a reservation that fails is ignored.
     ///
     /// # Errors
-    /// `Overflow` at the first value with which there would be more than the values' type can count, or
-    /// `OutOfMemory` where a growth is refused; the values that came before are then appended.
+    /// - `Overflow` at the first value that would overflow the values' type.
+    /// - `OutOfMemory` if an allocation fails.
+    ///
+    /// The values before the failure stay appended.
     pub fn extend_unmasked<X, I: Iterator<Item = X>>(&mut self, values: I) -> Result<(), Error>
     where
         V: PushValue<X>,
@@ -57,7 +61,8 @@ impl<V: MutableValues> GrowingColumn<V> {
         ensures held { self.new.held ≡ false }
         ensures data_type { self.new.data_type ≡ self.old.data_type }
         ensures ok { OnOk result (ExtendsByItems V.overflows V.shown V.default I.next_gives values self.old self.new) }
-        ensures err { IfErr result (λ e. StopsInItems V.overflows V.shown V.default I.next_gives values self.old self.new e) }
+        ensures err { IfErr result (λ e. StopsInItems V.overflows V.shown V.default I.next_gives values self.old
+            self.new e) }
     {
         let (least, _) = values.size_hint();
         // Where as much is refused at once, each value asks for its own room.

@@ -1,5 +1,7 @@
-//! The stored values that columns are made of.
-ghost use Rattle.std.specs.Prelude.{refl, slice_set, replicate, ◌<◌, IfOk, ◌≡◌, ℕ, ◌+◌, ◌-◌, ◌≤◌, List, Bool, false, [], ◌∷◌, ◌++◌, length, take, drop, OnOk, IfErr, IsOk};
+//! Stored values, of which columns are made.
+ghost use Rattle.std.specs.Prelude.{refl, slice_set, replicate, ◌<◌, IfOk, ◌≡◌, ℕ, ◌+◌, ◌-◌, ◌≤◌, List, Bool};
+ghost use Rattle.std.specs.Prelude.{false, [], ◌∷◌, ◌++◌, length, take, drop, OnOk, IfErr, IsOk};
+ghost use Rattle.arrow_types.specs.Failures.{FailureKeeps, OnlyOutOfMemory, OutOfMemoryKeeps};
 ghost use Rattle.arrow_column.specs.Column.{refused_growth};
 
 use arrow_memory::bitmap::{Bitmap, MutableBitmap};
@@ -8,24 +10,24 @@ use arrow_types::error::Error;
 use arrow_types::native_type::NativeType;
 use std::alloc::Global;
 
-/// The stored values of an array's slots, those of null slots too.
+/// The stored values of an array, those of null slots included.
 pub trait Values: Drop {
     /// What contracts see of a stored value.
     type Stored;
 
-    /// What contracts see of what is kept around the stored values.
+    /// What contracts see of what lies around the stored values.
     type Around;
 
     /// The stored values in order.
     ghost stored: { Self → List Self.Stored };
 
-    /// What is kept around them.
+    /// What lies around them.
     ghost around: { Self → Self.Around };
 
-    /// What is then kept around a piece of the stored values: so many, from a place on.
+    /// What lies around a cut of the stored values, of so many values from a place on.
     ghost cut_around: { Self.Around → List Self.Stored → ℕ → ℕ → Self.Around };
 
-    /// The number of stored values.
+    /// Returns the number of stored values.
     fn count(&self) -> usize
         ensures { result ≡ length (stored self.now) };
 
@@ -35,16 +37,16 @@ pub trait Values: Drop {
         ensures stored { stored self.new ≡ take len (drop offset (stored self.old)) }
         ensures around { around self.new ≡ cut_around (around self.old) (stored self.old) offset len };
 
-    /// The same values once more, which are not copied.
+    /// Returns a clone that shares the values.
     ///
     /// # Errors
-    /// `OutOfMemory` where one owner more can't be counted.
+    /// `OutOfMemory` if the number of owners would overflow.
     fn share(&self) -> Result<Self, Error>
         ensures stored { IfOk result (λ copy. stored copy ≡ stored self.now) }
         ensures around { IfOk result (λ copy. around copy ≡ around self.now) }
-        ensures err { IfErr result (λ e. e ≡ Error.OutOfMemory) };
+        ensures err { OnlyOutOfMemory result };
 
-    /// What a piece of a piece has around it is what one piece has.
+    /// A cut of a cut has around it what one cut has.
     ghost cut_twice: { (before : Self.Around) (values : List Self.Stored) (a n b m : ℕ) → b + m ≤ n
         → cut_around (cut_around before values a n) (take n (drop a values)) b m ≡ cut_around before values (a + b) m };
 }
@@ -107,38 +109,38 @@ impl Values for Bitmap {
     ghost cut_twice = { λ before values a n b m within. refl };
 }
 
-/// The stored values of a builder's slots, those of null slots too.
+/// The stored values of a builder, those of null slots included.
 pub trait MutableValues: Drop {
     /// What contracts see of a stored value.
     type Stored;
 
-    /// What contracts see of what is kept around the stored values.
+    /// What contracts see of what lies around the stored values.
     type Around;
 
     /// The stored values in order.
     ghost stored: { Self → List Self.Stored };
 
-    /// What is kept around them.
+    /// What lies around them.
     ghost around: { Self → Self.Around };
 
-    /// What a null stores.
+    /// The value that a null stores.
     ghost default: { Self.Stored };
 
-    /// The number of stored values.
+    /// Returns the number of stored values.
     fn count(&self) -> usize
         ensures { result ≡ length (stored self.now) };
 
-    /// What the values are allocated by.
+    /// Returns the allocator of the values.
     fn allocated_by(&self) -> Global;
 
-    /// Appends what a null stores.
+    /// Appends the value that a null stores.
     ///
     /// # Errors
-    /// `OutOfMemory` where the growth is refused; the values are then as before.
+    /// `OutOfMemory` if an allocation fails; the values are then unchanged.
     fn push_default(&mut self) -> Result<(), Error>
         ensures ok { OnOk result (stored self.new ≡ stored self.old ++ default ∷ []) }
         ensures around { around self.new ≡ around self.old }
-        ensures err { IfErr result (λ e. (e ≡ Error.OutOfMemory) × (stored self.new ≡ stored self.old)) };
+        ensures err { OutOfMemoryKeeps result (stored self.old) (stored self.new) };
 
     /// Keeps only the first `len` values.
     fn keep_first(&mut self, len: usize)
@@ -152,83 +154,92 @@ pub trait MutableValues: Drop {
         ensures stored { stored self.new ≡ take (length (stored self.old) - 1) (stored self.old) }
         ensures around { around self.new ≡ around self.old };
 
-    /// Whether there would be more than the values' type can count with others' behind these.
+    /// Whether these values followed by others would overflow the values' type.
     ghost overjoins: { Self.Around → List Self.Stored → List Self.Stored → Bool };
 
-    /// Appends others' values.
+    /// Appends other values.
     ///
     /// # Errors
-    /// `Overflow` where there would be more than the type can count, which is tested first, or
-    /// `OutOfMemory` where the growth is refused; the values are then as before.
+    /// - `Overflow` if the values would overflow their type; this is checked first.
+    /// - `OutOfMemory` if an allocation fails.
+    ///
+    /// The values are unchanged on an error.
     fn append(&mut self, other: &Self) -> Result<(), Error>
-        ensures ok { OnOk result ((overjoins (around self.old) (stored self.old) (stored other.now) ≡ false) × (stored self.new ≡ stored self.old ++ stored other.now)) }
+        ensures ok { OnOk result ((overjoins (around self.old) (stored self.old) (stored other.now) ≡ false)
+            × (stored self.new ≡ stored self.old ++ stored other.now)) }
         ensures around { around self.new ≡ around self.old }
-        ensures err { IfErr result (λ e. (e ≡ refused_growth (overjoins (around self.old) (stored self.old) (stored other.now))) × (stored self.new ≡ stored self.old)) };
+        ensures err { FailureKeeps result (refused_growth (overjoins (around self.old) (stored self.old) (stored other.now))) (stored self.old) (stored self.new) };
 
-    /// Makes room for so many values more.
+    /// Reserves room for at least `additional` more values.
     ///
     /// # Errors
-    /// `OutOfMemory` where the growth is refused.
+    /// `OutOfMemory` if an allocation fails.
     fn make_room(&mut self, additional: usize) -> Result<(), Error>
         ensures stored { stored self.new ≡ stored self.old }
         ensures around { around self.new ≡ around self.old }
-        ensures err { IfErr result (λ e. e ≡ Error.OutOfMemory) };
+        ensures err { OnlyOutOfMemory result };
 
-    /// Gives back the room that is not used.
+    /// Gives unused room back to the allocator, if it takes it.
     ///
     /// # Errors
-    /// `OutOfMemory` where that asks for memory which is refused. What keeps vectors never does: the room then stays.
+    /// Never: if the allocator refuses a smaller allocation, the room stays.
     fn drop_room(&mut self) -> Result<(), Error>
         ensures stored { stored self.new ≡ stored self.old }
         ensures around { around self.new ≡ around self.old }
         ensures ok { IsOk result };
 
-    /// A copy of the values.
+    /// Returns a copy.
     ///
     /// # Errors
-    /// `OutOfMemory` where memory is refused.
+    /// `OutOfMemory` if an allocation fails.
     fn copy(&self) -> Result<Self, Error>
         ensures stored { IfOk result (λ copy. stored copy ≡ stored self.now) }
         ensures around { IfOk result (λ copy. around copy ≡ around self.now) }
-        ensures err { IfErr result (λ e. e ≡ Error.OutOfMemory) };
+        ensures err { OnlyOutOfMemory result };
 }
 
-/// Values to which one more is appended.
+/// Values to which one value can be appended.
 pub trait PushValue<X>: MutableValues {
-    /// What is stored of it.
+    /// The stored value of what is appended.
     ghost shown: { X → Self.Stored };
 
-    /// Whether there would be more than the values' type can count.
+    /// Whether the value would overflow the values' type.
     ghost overflows: { Self.Around → List Self.Stored → X → Bool };
 
     /// Appends a value.
     ///
     /// # Errors
-    /// `Overflow` where there would be more than the type can count, which is tested first, or
-    /// `OutOfMemory` where the growth is refused; the values are then as before.
+    /// - `Overflow` if the value would overflow the values' type; this is checked first.
+    /// - `OutOfMemory` if an allocation fails.
+    ///
+    /// The values are unchanged on an error.
     fn push_value(&mut self, value: X) -> Result<(), Error>
-        ensures ok { OnOk result ((overflows (Self.around self.old) (Self.stored self.old) value ≡ false) × (Self.stored self.new ≡ Self.stored self.old ++ shown value ∷ [])) }
+        ensures ok { OnOk result ((overflows (Self.around self.old) (Self.stored self.old) value ≡ false)
+            × (Self.stored self.new ≡ Self.stored self.old ++ shown value ∷ [])) }
         ensures around { Self.around self.new ≡ Self.around self.old }
-        ensures err { IfErr result (λ e. (e ≡ refused_growth (overflows (Self.around self.old) (Self.stored self.old) value)) × (Self.stored self.new ≡ Self.stored self.old)) };
+        ensures err { FailureKeeps result (refused_growth (overflows (Self.around self.old) (Self.stored self.old) value)) (Self.stored self.old) (Self.stored self.new) };
 }
 
-/// Values to which many are appended at a time.
+/// Values to which many values can be appended at once.
 pub trait Grow<X>: MutableValues {
-    /// What is stored of them.
+    /// The stored values of what is appended.
     ghost given: { X → List Self.Stored };
 
-    /// Whether there would be more than the values' type can count.
+    /// Whether the values would overflow their type.
     ghost overgrows: { Self.Around → List Self.Stored → X → Bool };
 
-    /// Appends values, and answers how many.
+    /// Appends values and returns their number.
     ///
     /// # Errors
-    /// `Overflow` where there would be more than the type can count, which is tested first, or
-    /// `OutOfMemory` where the growth is refused; the values are then as before.
+    /// - `Overflow` if the values would overflow their type; this is checked first.
+    /// - `OutOfMemory` if an allocation fails.
+    ///
+    /// The values are unchanged on an error.
     fn grow(&mut self, values: X) -> Result<usize, Error>
-        ensures ok { IfOk result (λ count. (overgrows (Self.around self.old) (Self.stored self.old) values ≡ false) × (count ≡ length (given values)) × (Self.stored self.new ≡ Self.stored self.old ++ given values)) }
+        ensures ok { IfOk result (λ count. (overgrows (Self.around self.old) (Self.stored self.old) values ≡ false)
+            × (count ≡ length (given values)) × (Self.stored self.new ≡ Self.stored self.old ++ given values)) }
         ensures around { Self.around self.new ≡ Self.around self.old }
-        ensures err { IfErr result (λ e. (e ≡ refused_growth (overgrows (Self.around self.old) (Self.stored self.old) values)) × (Self.stored self.new ≡ Self.stored self.old)) };
+        ensures err { FailureKeeps result (refused_growth (overgrows (Self.around self.old) (Self.stored self.old) values)) (Self.stored self.old) (Self.stored self.new) };
 }
 
 impl<T: NativeType> MutableValues for Vec<T> {
@@ -376,13 +387,13 @@ impl PushValue<bool> for MutableBitmap {
 
 /// Values that can be changed in place.
 pub trait SetValue<X>: PushValue<X> {
-    /// Stores a value at a place.
+    /// Stores a value at `i`.
     fn set_value(&mut self, i: usize, value: X)
         requires { i < length (Self.stored self.old) }
         ensures stored { Self.stored self.new ≡ slice_set (Self.stored self.old) i (Self.shown value) }
         ensures around { Self.around self.new ≡ Self.around self.old };
 
-    /// Stores what a null stores at a place.
+    /// Stores the value of a null at `i`.
     fn set_default(&mut self, i: usize)
         requires { i < length (Self.stored self.old) }
         ensures stored { Self.stored self.new ≡ slice_set (Self.stored self.old) i Self.default }
@@ -425,12 +436,12 @@ impl<'a, T: NativeType> Grow<&'a [T]> for Vec<T> {
     }
 }
 
-/// A value so many times.
+/// A value repeated `count` times.
 #[derive(Clone, Copy)]
 pub struct Repeated<T> {
     /// The value.
     pub value: T,
-    /// How often.
+    /// The number of times.
     pub count: usize,
 }
 

@@ -1,4 +1,5 @@
 pub mod BitLemmas
+pub mod CallerLemmas
 pub mod ChoiceLemmas
 pub mod ItemLemmas
 pub mod RunLemmas

@@ -1,12 +1,17 @@
 -- Lemmas about runs of set bits of words, and about runs of rows that are asked for.
-use Rattle.std.proofs.Common.{◌≡◌, ℕ, zero, suc, ◌+◌, ◌-◌, ◌*◌, ◌/◌, ◌%◌, ◌^◌, ◌<◌, ◌≤◌, ◌==◌, min, bit_and, w64, Bool, true, false, List, [], ◌∷◌, ◌++◌, length, replicate, take, slice_get, Some, refl, sym, subst, ap, ap₂, ◌∙◌, inl, inr, arith, add_comm, append_assoc, mul-le-mul_right}
+use Rattle.std.proofs.Common.{◌≡◌, ℕ, zero, suc, ◌+◌, ◌-◌, ◌*◌, ◌/◌, ◌%◌, ◌^◌, ◌<◌, ◌≤◌, ◌==◌, min, bit_and, w64}
+use Rattle.std.proofs.Common.{Bool, true, false, List, [], ◌∷◌, ◌++◌, length, replicate, take, slice_get, Some}
+use Rattle.std.proofs.Common.{refl, sym, subst, ap, ap₂, ◌∙◌, inl, inr, arith, add_comm, append_assoc}
+use Rattle.std.proofs.Common.{mul-le-mul_right}
 use Rattle.std.specs.Int.{bit_at, bit_not, trailing_ones, trailing_zeros}
 use Rattle.std.proofs.Math.Nat.{pow-le-pow_right}
 use Rattle.std.proofs.Math.Seq.{take-length}
 use Rattle.std.proofs.lemmas.Bool.{cases_eq, cases_lt}
 use Rattle.std.proofs.lemmas.List.{append-nil, length-replicate, length-take-le, replicate_more}
 use Rattle.std.proofs.lemmas.Nat.{and_le_r, pow-add, shl_whole, shr-shr, shr_below, shr_le}
-use Rattle.std.proofs.lemmas.Nat.Bits.{bit_at_above, bit_at_and, bit_at_cat_high, bit_at_cat_low, bit_at_lowest, bit_at_ones, bit_at-trailing_ones, bit_at-trailing_zeros, bit_at-zero, ones_shr}
+use Rattle.std.proofs.lemmas.Nat.Bits.{bit_at_above, bit_at_and, bit_at_cat_high, bit_at_cat_low, bit_at_lowest}
+use Rattle.std.proofs.lemmas.Nat.Bits.{bit_at_ones, bit_at-trailing_ones, bit_at-trailing_zeros, bit_at-zero}
+use Rattle.std.proofs.lemmas.Nat.Bits.{ones_shr}
 use Rattle.std.proofs.lemmas.Option.{slice_get_within}
 use Rattle.arrow_memory.specs.Marks.{bits_of}
 use Rattle.arrow_kernels.specs.Kernels.{where_set}
@@ -21,7 +26,8 @@ pub moved-bit : (word from k : ℕ) → bit_at (word / 2 ^ from) k ≡ bit_at wo
 moved-bit word from k = ap (λ n. n % 2) (shr-shr word from k)
 
 from-place : (word from k : ℕ) → from ≤ k → bit_at word k ≡ bit_at (word / 2 ^ from) (k - from)
-from-place word from k low = ap (bit_at word) (let e : k ≡ from + (k - from) = omega arith in e) ∙ sym (moved-bit word from (k - from))
+from-place word from k low = ap (bit_at word) (let e : k ≡ from + (k - from) = omega arith in e)
+    ∙ sym (moved-bit word from (k - from))
 
 module _ (word from : ℕ) (fits : word < 2 ^ 64) where
   -- where no bit is left
@@ -33,17 +39,23 @@ module _ (word from : ℕ) (fits : word < 2 ^ 64) where
     moved-fits = omega (arith, fits, shr_le word from)
 
     pub next-is-set : bit_at word (from + trailing_zeros w64 (word / 2 ^ from)) ≡ 1
-    next-is-set = sym (moved-bit word from (trailing_zeros w64 (word / 2 ^ from))) ∙ (bit_at-trailing_zeros w64 (word / 2 ^ from) some moved-fits).1
+    next-is-set = sym (moved-bit word from (trailing_zeros w64 (word / 2 ^ from)))
+        ∙ (bit_at-trailing_zeros w64 (word / 2 ^ from) some moved-fits).1
 
     pub next-within : from + trailing_zeros w64 (word / 2 ^ from) < 64
     next-within = elim (cases_lt (from + trailing_zeros w64 (word / 2 ^ from)) 64) [
       | inl low ↦ low
-      | inr past ↦ absurd (omega (arith, next-is-set, bit_at_above word 64 (from + trailing_zeros w64 (word / 2 ^ from)) fits past))
+      | inr past ↦ absurd (omega (
+        arith,
+        next-is-set,
+        bit_at_above word 64 (from + trailing_zeros w64 (word / 2 ^ from)) fits past,
+      ))
     ]
 
     pub next-gap : (k : ℕ) → from ≤ k → k < from + trailing_zeros w64 (word / 2 ^ from) → bit_at word k ≡ 0
     next-gap k low high =
-        from-place word from k low ∙ (bit_at-trailing_zeros w64 (word / 2 ^ from) some moved-fits).2 (k - from) (omega arith)
+        from-place word from k low ∙ (bit_at-trailing_zeros w64 (word / 2 ^ from) some moved-fits).2 (k - from)
+        (omega arith)
 
 -- all bits of a word are set
 full : (n : ℕ) → n < 2 ^ 64 → 2 ^ 64 ≤ n + 1 → n ≡ 18446744073709551615
@@ -57,7 +69,8 @@ module _ (word first : ℕ) (fits : word < 2 ^ 64) (within : first < 64) (set : 
   moved = word / 2 ^ first
 
   narrow : word / 2 ^ first < 2 ^ (64 - first)
-  narrow = shr_below word (64 - first) first (subst (λ n. word < 2 ^ n) (let e : 64 ≡ 64 - first + first = omega arith in e) fits)
+  narrow = shr_below word (64 - first) first (subst (λ n. word < 2 ^ n) (let e : 64 ≡ 64 - first + first =
+      omega arith in e) fits)
 
   here : bit_at (word / 2 ^ first) 0 ≡ 1
   here = moved-bit word first 0 ∙ ap (bit_at word) (let e : first + 0 ≡ first = omega arith in e) ∙ set
@@ -66,22 +79,41 @@ module _ (word first : ℕ) (fits : word < 2 ^ 64) (within : first < 64) (set : 
   all-first : word / 2 ^ first ≡ 18446744073709551615 → first ≡ 0
   all-first e = elim (cases_eq first 0) [
     | inl none ↦ none
-    | inr some ↦ absurd (omega (arith, e, narrow, pow-le-pow_right {n = 2} (omega arith) {i = 64 - first} {j = 63} (omega (arith, some))))
+    | inr some ↦ absurd (omega (
+      arith,
+      e,
+      narrow,
+      pow-le-pow_right {n = 2} (omega arith) {i = 64 - first} {j =
+          63} (omega (arith, some)),
+    ))
   ]
 
   pub run-more : 0 < trailing_ones w64 (word / 2 ^ first)
   run-more = elim (cases_lt (word / 2 ^ first + 1) (2 ^ 64)) [
     | inl less ↦ elim (cases_eq (trailing_ones w64 (word / 2 ^ first)) 0) [
-      | inl none ↦ absurd (omega (arith, here, sym (ap (bit_at (word / 2 ^ first)) none) ∙ (bit_at-trailing_ones w64 (word / 2 ^ first) less).1))
+      | inl none ↦ absurd (omega (
+        arith,
+        here,
+        sym (ap (bit_at (word / 2 ^ first)) none)
+            ∙ (bit_at-trailing_ones w64 (word / 2 ^ first) less).1,
+      ))
       | inr some ↦ omega (arith, some)
     ]
-    | inr top ↦ omega (arith, full-ones (word / 2 ^ first) (full (word / 2 ^ first) (omega (arith, fits, shr_le word first)) top))
+    | inr top ↦ omega (
+      arith,
+      full-ones (word / 2 ^ first) (full (word / 2 ^ first) (omega (arith, fits, shr_le word first)) top),
+    )
   ]
 
   pub run-within : first + trailing_ones w64 (word / 2 ^ first) ≤ 64
   run-within = elim (cases_lt (word / 2 ^ first + 1) (2 ^ 64)) [
     | inl less ↦ elim (cases_lt (64 - first) (trailing_ones w64 (word / 2 ^ first))) [
-      | inl past ↦ absurd (omega (arith, bit_at_above (word / 2 ^ first) (64 - first) (64 - first) narrow (omega arith), (bit_at-trailing_ones w64 (word / 2 ^ first) less).2 (64 - first) past))
+      | inl past ↦ absurd (omega (
+        arith,
+        bit_at_above (word / 2 ^ first) (64 - first) (64 - first) narrow
+            (omega arith),
+        (bit_at-trailing_ones w64 (word / 2 ^ first) less).2 (64 - first) past,
+      ))
       | inr low ↦ omega (arith, low, within)
     ]
     | inr top ↦
@@ -94,13 +126,16 @@ module _ (word first : ℕ) (fits : word < 2 ^ 64) (within : first < 64) (set : 
     | inl less ↦ (bit_at-trailing_ones w64 (word / 2 ^ first) less).2 (k - first) (omega arith)
     | inr top ↦
         let e = full (word / 2 ^ first) (omega (arith, fits, shr_le word first)) top in
-        ap (λ n. bit_at n (k - first)) e ∙ bit_at_ones 64 (k - first) (omega (arith, high, full-ones (word / 2 ^ first) e))
+        ap (λ n. bit_at n (k - first)) e
+        ∙ bit_at_ones 64 (k - first) (omega (arith, high, full-ones (word / 2 ^ first) e))
   ]
 
 -- ---- rows that are asked for one behind the other
 
-rows-run : (rows : List Bool) (n c : ℕ) → ((k : ℕ) → k < c → slice_get rows (n + k) ≡ Some true) → take (n + c) rows ≡ take n rows ++ replicate c true
-rows-run rows n zero set = ap (λ k. take k rows) (let e : n + zero ≡ n = omega arith in e) ∙ sym (append-nil (take n rows))
+rows-run : (rows : List Bool) (n c : ℕ) → ((k : ℕ) → k < c → slice_get rows (n + k) ≡ Some true)
+    → take (n + c) rows ≡ take n rows ++ replicate c true
+rows-run rows n zero set = ap (λ k. take k rows) (let e : n + zero ≡ n = omega arith in e)
+    ∙ sym (append-nil (take n rows))
 rows-run rows n (suc c) set =
     ap (λ k. take k rows) (let e : n + suc c ≡ n + c + 1 = omega arith in e)
     ∙ taken-more rows (n + c) true (set c (omega arith))
@@ -116,35 +151,43 @@ where-each (suc c) [] e = cc
 where-each (suc c) (x ∷ xs) e = ap (λ rest. x ∷ rest) (where-each c xs (let f : length xs ≡ c = omega (arith, e) in f))
 
 -- the rows of a word
-module _ {X : Type 0} (rows : List Bool) (xs : List X) (start word : ℕ) (same : length rows ≡ length xs) (inside : start + 64 ≤ length rows)
+module _ {X : Type 0} (rows : List Bool) (xs : List X) (start word : ℕ) (same : length rows ≡ length xs)
+    (inside : start + 64 ≤ length rows)
     (read : (k : ℕ) → k < 64 → slice_get rows (start + k) ≡ Some (bit_at word k == 1)) where
   mark : (k : ℕ) → start ≤ k → k < start + 64 → (b : ℕ) → bit_at word (k - start) ≡ b → slice_get rows k ≡ Some (b == 1)
   mark k low high b is =
-      ap (slice_get rows) (let e : k ≡ start + (k - start) = omega arith in e) ∙ read (k - start) (omega arith) ∙ ap (λ n. Some (n == 1)) is
+      ap (slice_get rows) (let e : k ≡ start + (k - start) = omega arith in e) ∙ read (k - start) (omega arith)
+      ∙ ap (λ n. Some (n == 1)) is
 
   -- up to the first set bit nothing is asked for
   pub run-starts : (first : ℕ) → first ≤ 64 → ((k : ℕ) → 0 ≤ k → k < first → bit_at word k ≡ 0)
       → where_set (take start rows) (take start xs) ≡ where_set (take (start + first) rows) (take (start + first) xs)
   run-starts first up clear =
-      sym (where-gap-up rows xs start (start + first) (omega arith) (λ k low high. mark k low (omega (arith, up, high)) 0 (clear (k - start) (omega arith) (omega arith))))
+      sym (where-gap-up rows xs start (start + first) (omega arith) (λ k low high.
+      mark k low (omega (arith, up, high)) 0 (clear (k - start) (omega arith) (omega arith))))
 
   -- a run, and what is not asked for behind it
-  pub run-next : (first end next : ℕ) (ys : List X) → first < end → end ≤ next → next ≤ 64 → ((k : ℕ) → first ≤ k → k < end → bit_at word k ≡ 1) → ((k : ℕ) → end ≤ k → k < next → bit_at word k ≡ 0)
+  pub run-next : (first end next : ℕ) (ys : List X) → first < end → end ≤ next → next ≤ 64
+      → ((k : ℕ) → first ≤ k → k < end → bit_at word k ≡ 1) → ((k : ℕ) → end ≤ k → k < next → bit_at word k ≡ 0)
       → take (start + end) xs ≡ take (start + first) xs ++ ys → length ys ≡ end - first
-      → where_set (take (start + first) rows) (take (start + first) xs) ++ ys ≡ where_set (take (start + next) rows) (take (start + next) xs)
+      → where_set (take (start + first) rows) (take (start + first) xs) ++ ys ≡ where_set (take (start + next) rows)
+      (take (start + next) xs)
   run-next first end next ys up beyond high set clear cut long =
       sym (
-      where-gap-up rows xs (start + end) (start + next) (omega arith) (λ k low up_to. mark k (omega arith) (omega arith) 0 (clear (k - start) (omega arith) (omega arith)))
+      where-gap-up rows xs (start + end) (start + next) (omega arith) (λ k low up_to.
+      mark k (omega arith) (omega arith) 0 (clear (k - start) (omega arith) (omega arith)))
       ∙ ap₂ where_set (ap (λ n. take n rows) there ∙ rows-run rows (start + first) (end - first) each) cut
       ∙ where-append (take (start + first) rows) (replicate (end - first) true) (take (start + first) xs) ys lengths
-      ∙ ap (λ zs. where_set (take (start + first) rows) (take (start + first) xs) ++ zs) (where-each (end - first) ys long)
+      ∙ ap (λ zs. where_set (take (start + first) rows) (take (start + first) xs) ++ zs)
+      (where-each (end - first) ys long)
       )
     where
       there : start + end ≡ start + first + (end - first)
       there = omega (arith, up)
 
       each : (k : ℕ) → k < end - first → slice_get rows (start + first + k) ≡ Some true
-      each k low = mark (start + first + k) (omega arith) (omega (arith, low, beyond, high)) 1 (set (start + first + k - start) (omega arith) (omega (arith, low)))
+      each k low = mark (start + first + k) (omega arith) (omega (arith, low, beyond, high)) 1
+          (set (start + first + k - start) (omega arith) (omega (arith, low)))
 
       lengths : length (take (start + first) rows) ≡ length (take (start + first) xs)
       lengths =
@@ -153,39 +196,60 @@ module _ {X : Type 0} (rows : List Bool) (xs : List X) (start word : ℕ) (same 
 
 -- ---- a run of bits, put above others
 
-module _ (kept count run n new : ℕ) (small : kept < 2 ^ count) (low : run < 2 ^ n) (room : count + n ≤ 64) (put : new ≡ kept + run * 2 ^ count % 2 ^ 64) where
+module _ (kept count run n new : ℕ) (small : kept < 2 ^ count) (low : run < 2 ^ n) (room : count + n ≤ 64)
+    (put : new ≡ kept + run * 2 ^ count % 2 ^ 64) where
   plain : new ≡ run * 2 ^ count + kept
-  plain = put ∙ ap (λ m. kept + m) (shl_whole run n count 64 low (omega (arith, room))) ∙ add_comm kept (run * 2 ^ count)
+  plain = put ∙ ap (λ m. kept + m) (shl_whole run n count 64 low (omega (arith, room)))
+      ∙ add_comm kept (run * 2 ^ count)
 
   pub run-small : new < 2 ^ (count + n)
-  run-small = omega (arith, plain, small, mul-le-mul_right (2 ^ count) (let le : run + 1 ≤ 2 ^ n = omega (arith, low) in le), pow-add 2 count n)
+  run-small = omega (
+    arith,
+    plain,
+    small,
+    mul-le-mul_right (2 ^ count) (let le : run + 1 ≤ 2 ^ n =
+        omega (arith, low) in le),
+    pow-add 2 count n,
+  )
 
   pub run-fits : new < 2 ^ 64
   run-fits = omega (arith, run-small, pow-le-pow_right {n = 2} (omega arith) {i = count + n} {j = 64} room)
 
   below : (k : ℕ) → k < count → slice_get (bits_of new (count + n)) (0 + k) ≡ Some (bit_at kept k == 1)
-  below k inner = slice_get-bits new (count + n) k (omega (arith, inner)) ∙ ap (λ b. Some (b == 1)) (ap (λ m. bit_at m k) plain ∙ bit_at_cat_low run count kept k inner)
+  below k inner = slice_get-bits new (count + n) k (omega (arith, inner))
+      ∙ ap (λ b. Some (b == 1)) (ap (λ m. bit_at m k) plain ∙ bit_at_cat_low run count kept k inner)
 
   above : (k : ℕ) → k < n → slice_get (bits_of new (count + n)) (count + k) ≡ Some (bit_at run k == 1)
   above k inner =
       ap (slice_get (bits_of new (count + n))) (let e : count + k ≡ 0 + (count + k) = omega arith in e)
       ∙ slice_get-bits new (count + n) (count + k) (omega (arith, inner))
-      ∙ ap (λ b. Some (b == 1)) (ap (λ m. bit_at m (count + k)) plain ∙ bit_at_cat_high run count kept (count + k) small (omega arith) ∙ ap (bit_at run) (let e : count + k - count ≡ k = omega arith in e))
+      ∙ ap (λ b. Some (b == 1)) (ap (λ m. bit_at m (count + k)) plain
+      ∙ bit_at_cat_high run count kept (count + k) small (omega arith)
+      ∙ ap (bit_at run) (let e : count + k - count ≡ k = omega arith in e))
 
   pub run-bits : bits_of new (count + n) ≡ bits_of kept count ++ bits_of run n
   run-bits =
       sym (take-length (bits_of new (count + n)))
       ∙ ap (λ m. take m (bits_of new (count + n))) (length-bits new (count + n))
       ∙ take-bits (bits_of new (count + n)) count n run above
-      ∙ ap (λ xs. xs ++ bits_of run n) (ap (λ m. take m (bits_of new (count + n))) (let e : count ≡ 0 + count = omega arith in e) ∙ take-bits (bits_of new (count + n)) 0 count kept below)
+      ∙ ap (λ xs. xs ++ bits_of run n) (ap (λ m. take m (bits_of new (count + n))) (let e : count ≡ 0 + count =
+      omega arith in e) ∙ take-bits (bits_of new (count + n)) 0 count kept below)
 
 -- the bits of a run
-module _ (marks first n run : ℕ) (some : 0 < n) (within : first + n ≤ 64) (is : run ≡ bit_and (marks / 2 ^ first) (18446744073709551615 / 2 ^ (64 - n))) where
+module _ (marks first n run : ℕ) (some : 0 < n) (within : first + n ≤ 64) (is : run ≡ bit_and (marks / 2 ^ first)
+    (18446744073709551615 / 2 ^ (64 - n))) where
   ones : 18446744073709551615 / 2 ^ (64 - n) ≡ 2 ^ n - 1
-  ones = ones_shr 64 (64 - n) (omega arith) ∙ ap (λ k. 2 ^ k - 1) (let e : 64 - (64 - n) ≡ n = omega (arith, within) in e)
+  ones = ones_shr 64 (64 - n) (omega arith) ∙ ap (λ k. 2 ^ k - 1) (let e : 64 - (64 - n) ≡ n =
+      omega (arith, within) in e)
 
   pub run-low : run < 2 ^ n
-  run-low = omega (arith, is, ones, and_le_r (marks / 2 ^ first) (18446744073709551615 / 2 ^ (64 - n)), pow-le-pow_right {n = 2} (omega arith) {i = 0} {j = n} (omega arith))
+  run-low = omega (
+    arith,
+    is,
+    ones,
+    and_le_r (marks / 2 ^ first) (18446744073709551615 / 2 ^ (64 - n)),
+    pow-le-pow_right {n = 2} (omega arith) {i = 0} {j = n} (omega arith),
+  )
 
   run-bit : (k : ℕ) → k < n → bit_at run k ≡ bit_at marks (first + k)
   run-bit k inner =
@@ -197,7 +261,8 @@ module _ (marks first n run : ℕ) (some : 0 < n) (within : first + n ≤ 64) (i
       below-one : (b : ℕ) → b < 2 → min b 1 ≡ b
       below-one b small = omega (arith, small)
 
-  pub run-cut : (end : ℕ) → end ≡ first + n → take (0 + end) (bits_of marks 64) ≡ take (0 + first) (bits_of marks 64) ++ bits_of run n
+  pub run-cut : (end : ℕ) → end ≡ first + n
+      → take (0 + end) (bits_of marks 64) ≡ take (0 + first) (bits_of marks 64) ++ bits_of run n
   run-cut end e =
       ap (λ m. take m (bits_of marks 64)) (let f : 0 + end ≡ first + n = omega (arith, e) in f)
       ∙ take-bits (bits_of marks 64) first n run (λ k inner.

@@ -1,6 +1,7 @@
 -- What kernels make of columns: a column of some of the rows of another, those for which a filter asks, or those at the
 -- places that keys tell.
-use Rattle.std.specs.Prelude.{◌&&◌, ℕ, ℤ, Bool, false, not, nat_lt, List, length, map, find, Option, slice_get, option_and_then, unwrap_or}
+use Rattle.std.specs.Prelude.{◌&&◌, ℕ, ℤ, Bool, false, not, nat_lt, List, length, map, find, Option, slice_get}
+use Rattle.std.specs.Prelude.{option_and_then, unwrap_or}
 use Rattle.std.specs.List.{concat, filter_map, zip}
 use Rattle.arrow_types.specs.IndexKey.{index_of}
 use Rattle.arrow_memory.specs.Offsets.{last_of}

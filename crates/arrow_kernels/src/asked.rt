@@ -1,6 +1,8 @@
-//! For which rows a filter asks.
-ghost use Rattle.std.specs.Prelude.{◌≡◌, ℕ, ◌+◌, ◌*◌, ◌^◌, ◌<◌, ◌≤◌, ◌==◌, true, false, not, count_by, length, slice_get, Some, IfOk, IfErr};
+//! The rows that a filter selects.
+ghost use Rattle.std.specs.Prelude.{◌≡◌, ℕ, ◌+◌, ◌*◌, ◌^◌, ◌<◌, ◌≤◌, ◌==◌, true, false, not, count_by, length};
+ghost use Rattle.std.specs.Prelude.{slice_get, Some, IfOk, IfErr};
 ghost use Rattle.std.specs.Int.{bit_at};
+ghost use Rattle.arrow_types.specs.Failures.{OnlyOutOfMemory};
 ghost use Rattle.arrow_kernels.specs.Kernels.{asked, set_in_both};
 
 use arrow_boolean::BooleanArray;
@@ -9,7 +11,7 @@ use arrow_types::error::Error;
 use std::alloc::Global;
 use std::marker::Model;
 
-/// Whether both of two lists of as many marks have a set mark at a place.
+/// Returns whether both lists have a set mark at `i`.
 fn is_set_in_both(values: &Bitmap, validity: &Bitmap, i: usize) -> bool
     requires same { length validity.now ≡ length values.now }
     requires within { i < length values.now }
@@ -22,12 +24,12 @@ fn is_set_in_both(values: &Bitmap, validity: &Bitmap, i: usize) -> bool
     }
 }
 
-/// A mark for each place of two lists of as many marks: set where both have a set mark, 64 places at a time. Room is made
-/// once, with a word more, since the last marks come as a whole word.
+/// Returns the marks that are set in both of two lists of equal length, 64 at a time. Room is
+/// reserved once, with a word more, since the last marks come as a whole word.
 fn mark_both(alloc: Global, values: &Bitmap, validity: &Bitmap) -> Result<Bitmap, Error>
     requires { length validity.now ≡ length values.now }
     ensures ok { IfOk result (λ marks. marks ≡ set_in_both values.now validity.now) }
-    ensures err { IfErr result (λ e. e ≡ Error.OutOfMemory) }
+    ensures err { OnlyOutOfMemory result }
 {
     let mut marks = MutableBitmap::with_capacity(alloc, values.len().saturating_add(64))?;
     let words = values.len() / 64;
@@ -40,11 +42,11 @@ fn mark_both(alloc: Global, values: &Bitmap, validity: &Bitmap) -> Result<Bitmap
     marks.freeze()
 }
 
-/// A mark for each row: set where the filter's slot is valid and true. Where no slot of the filter is null these are its
-/// values, which are not copied.
+/// Returns a mark for each row, set where the filter's slot is valid and true. If no slot of the
+/// filter is null these are its values, which are shared.
 fn asked_rows(alloc: Global, filter: &BooleanArray) -> Result<Bitmap, Error>
     ensures ok { IfOk result (λ marks. marks ≡ asked filter.now) }
-    ensures err { IfErr result (λ e. e ≡ Error.OutOfMemory) }
+    ensures err { OnlyOutOfMemory result }
 {
     let Some(validity) = filter.validity() else {
         return filter.values().clone();
@@ -55,7 +57,7 @@ fn asked_rows(alloc: Global, filter: &BooleanArray) -> Result<Bitmap, Error>
     mark_both(alloc, filter.values(), validity)
 }
 
-/// The rows for which a filter asks, a mark for each row.
+/// The rows that a filter selects, as a mark for each row.
 #[derive(Drop)]
 pub(crate) struct Asked {
     bitmap: Bitmap,
@@ -71,17 +73,17 @@ impl Model for Asked {
 }
 
 impl Asked {
-    /// The rows for which a filter asks.
+    /// Creates the selection of a filter.
     pub(crate) fn of(alloc: Global, filter: &BooleanArray) -> Result<Self, Error>
         ensures ok { IfOk result (λ rows. rows ≡ asked filter.now) }
-        ensures err { IfErr result (λ e. e ≡ Error.OutOfMemory) }
+        ensures err { OnlyOutOfMemory result }
     {
         Ok(Asked {
             bitmap: asked_rows(alloc, filter)?,
         })
     }
 
-    /// The number of rows.
+    /// Returns the number of rows.
     #[inline(always)]
     pub(crate) fn len(&self) -> usize
         ensures { result ≡ length self.now }
@@ -89,7 +91,7 @@ impl Asked {
         self.bitmap.len()
     }
 
-    /// The number of rows that are not asked for.
+    /// Returns the number of rows that are not selected.
     #[inline(always)]
     pub(crate) fn unset_bits(&self) -> usize
         ensures { result ≡ count_by not self.now }
@@ -97,7 +99,7 @@ impl Asked {
         self.bitmap.unset_bits()
     }
 
-    /// The marks of the 64 rows from row `64 * at` on, as the bits of a word.
+    /// Returns the marks of the 64 rows from row `64 * at` on as the bits of a word.
     #[inline(always)]
     pub(crate) fn word(&self, at: usize) -> u64
         requires within { 64 * at + 64 ≤ length self.now }
@@ -107,7 +109,7 @@ impl Asked {
         self.bitmap.word(64 * at)
     }
 
-    /// The next row that is asked for, from a place on; where there is none, the number of rows.
+    /// Returns the next selected row from `from` on, or the number of rows if there is none.
     #[inline(always)]
     pub(crate) fn next(&self, from: usize) -> usize
         requires { from ≤ length self.now }

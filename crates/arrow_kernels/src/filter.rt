@@ -1,6 +1,8 @@
-//! The rows for which a filter asks: those at which its slot is valid and true, in order. Types and stored values stay; the
-//! new array has nothing around its slots, and holds a mask exactly where one of them is null.
+//! Filters: the rows at which a filter is valid and true, in order. Data types and stored values
+//! stay; the new array has no bytes around its slots, and holds a mask exactly if one of them is
+//! null.
 ghost use Rattle.std.specs.Prelude.{◌≡◌, length, IfOk, IfErr};
+ghost use Rattle.arrow_types.specs.Failures.{OnlyOutOfMemory};
 ghost use Rattle.arrow_bytes.specs.Pieces.{nothing_around};
 ghost use Rattle.arrow_kernels.specs.Kernels.{filtered};
 
@@ -18,10 +20,11 @@ use arrow_types::offset::Offset;
 use arrow_utf8::Utf8Array;
 use std::alloc::Global;
 
-/// The slots of native values for which a filter of as many slots asks.
+/// Returns the slots of `array` where `filter` is valid and true. Both must have equally many
+/// slots.
 ///
 /// # Errors
-/// `OutOfMemory` where memory is refused.
+/// `OutOfMemory` if an allocation fails.
 pub fn filter_primitive<T: NativeType>(
     alloc: Global,
     array: &PrimitiveArray<T>,
@@ -29,7 +32,7 @@ pub fn filter_primitive<T: NativeType>(
 ) -> Result<PrimitiveArray<T>, Error>
     requires { length filter.now.rows ≡ length array.now.rows }
     ensures ok { IfOk result (λ kept. kept ≡ filtered tt array.now filter.now) }
-    ensures err { IfErr result (λ e. e ≡ Error.OutOfMemory) }
+    ensures err { OnlyOutOfMemory result }
 {
     let asked = Asked::of(alloc, filter)?;
     let values = keep_values(alloc, array.values().as_slice(), &asked)?;
@@ -38,10 +41,11 @@ pub fn filter_primitive<T: NativeType>(
     Ok(PrimitiveArray::new(data_type, Buffer::from_vec(values)?, mask))
 }
 
-/// The slots of truth values for which a filter of as many slots asks.
+/// Returns the slots of `array` where `filter` is valid and true. Both must have equally many
+/// slots.
 ///
 /// # Errors
-/// `OutOfMemory` where memory is refused.
+/// `OutOfMemory` if an allocation fails.
 pub fn filter_boolean(
     alloc: Global,
     array: &BooleanArray,
@@ -49,7 +53,7 @@ pub fn filter_boolean(
 ) -> Result<BooleanArray, Error>
     requires { length filter.now.rows ≡ length array.now.rows }
     ensures ok { IfOk result (λ kept. kept ≡ filtered tt array.now filter.now) }
-    ensures err { IfErr result (λ e. e ≡ Error.OutOfMemory) }
+    ensures err { OnlyOutOfMemory result }
 {
     let asked = Asked::of(alloc, filter)?;
     let values = keep_marks(alloc, array.values(), &asked)?;
@@ -58,8 +62,8 @@ pub fn filter_boolean(
     Ok(BooleanArray::new(data_type, values, mask))
 }
 
-/// The slots of items of a kind for which a filter of as many slots asks. Nothing is tested: some of the items of a kind
-/// are items of the kind.
+/// Returns the slots of `array` where `filter` is valid and true. Items are not checked again: some
+/// of the items of a kind are items of the kind.
 fn filter_items<K: ByteKind, O: Offset>(
     alloc: Global,
     array: &ByteArray<K, O>,
@@ -67,7 +71,7 @@ fn filter_items<K: ByteKind, O: Offset>(
 ) -> Result<ByteArray<K, O>, Error>
     requires { length filter.now.rows ≡ length array.now.rows }
     ensures ok { IfOk result (λ kept. kept ≡ filtered nothing_around array.now filter.now) }
-    ensures err { IfErr result (λ e. e ≡ Error.OutOfMemory) }
+    ensures err { OnlyOutOfMemory result }
 {
     let asked = Asked::of(alloc, filter)?;
     let (offsets, bytes) = kept_pieces(alloc, array, &asked)?;
@@ -76,10 +80,11 @@ fn filter_items<K: ByteKind, O: Offset>(
     Ok(ByteArray::new(data_type, offsets, bytes, mask))
 }
 
-/// The slots of bytes for which a filter of as many slots asks.
+/// Returns the slots of `array` where `filter` is valid and true. Both must have equally many
+/// slots.
 ///
 /// # Errors
-/// `OutOfMemory` where memory is refused.
+/// `OutOfMemory` if an allocation fails.
 pub fn filter_binary<O: Offset>(
     alloc: Global,
     array: &BinaryArray<O>,
@@ -87,15 +92,16 @@ pub fn filter_binary<O: Offset>(
 ) -> Result<BinaryArray<O>, Error>
     requires { length filter.now.rows ≡ length array.now.rows }
     ensures ok { IfOk result (λ kept. kept ≡ filtered nothing_around array.now filter.now) }
-    ensures err { IfErr result (λ e. e ≡ Error.OutOfMemory) }
+    ensures err { OnlyOutOfMemory result }
 {
     filter_items(alloc, array, filter)
 }
 
-/// The slots of text for which a filter of as many slots asks. No text is tested.
+/// Returns the slots of `array` where `filter` is valid and true. Both must have equally many
+/// slots.
 ///
 /// # Errors
-/// `OutOfMemory` where memory is refused.
+/// `OutOfMemory` if an allocation fails.
 pub fn filter_utf8<O: Offset>(
     alloc: Global,
     array: &Utf8Array<O>,
@@ -103,7 +109,7 @@ pub fn filter_utf8<O: Offset>(
 ) -> Result<Utf8Array<O>, Error>
     requires { length filter.now.rows ≡ length array.now.rows }
     ensures ok { IfOk result (λ kept. kept ≡ filtered nothing_around array.now filter.now) }
-    ensures err { IfErr result (λ e. e ≡ Error.OutOfMemory) }
+    ensures err { OnlyOutOfMemory result }
 {
     filter_items(alloc, array, filter)
 }

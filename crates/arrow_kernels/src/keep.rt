@@ -1,8 +1,10 @@
-//! What a filter leaves of stored values, of marks and of items: those with a set mark.
-ghost use Rattle.std.specs.Prelude.{◌≡◌, ◌+◌, ◌*◌, ◌^◌, ◌<◌, ◌≤◌, count_by, length, not, option_map, take, IfOk, IfErr, IfSome, OnOk};
+//! The stored values, marks and items that a selection keeps.
+ghost use Rattle.std.specs.Prelude.{◌≡◌, ◌+◌, ◌*◌, ◌^◌, ◌<◌, ◌≤◌, count_by, length, not, option_map, take, IfOk};
+ghost use Rattle.std.specs.Prelude.{IfErr, IfSome, OnOk};
 ghost use Rattle.std.specs.List.{concat};
 ghost use Rattle.std.specs.Option.{option_copied};
 ghost use Rattle.std.specs.Vec.{vec_capacity};
+ghost use Rattle.arrow_types.specs.Failures.{OnlyOutOfMemory};
 ghost use Rattle.arrow_column.specs.Masks.{mask_with_nulls};
 ghost use Rattle.arrow_column.specs.Column.{stored_values};
 ghost use Rattle.arrow_memory.specs.Marks.{bits_of};
@@ -26,8 +28,8 @@ use arrow_types::native_type::NativeType;
 use arrow_types::offset::Offset;
 use std::alloc::Global;
 
-/// Appends the values that are asked for of 64 rows, from row `64 * at` on, behind those of the rows before them. All
-/// values of a word that asks for all are copied at once, and of another the set bits are looked for.
+/// Appends the selected values of 64 rows, from row `64 * at` on. If all are selected they are
+/// copied at once; otherwise the set bits are visited.
 #[inline(always)]
 fn keep_word<T: NativeType>(kept: &mut Vec<T>, values: &[T], asked: &Asked, at: usize)
     requires same { length asked.now ≡ length values.now }
@@ -52,7 +54,7 @@ fn keep_word<T: NativeType>(kept: &mut Vec<T>, values: &[T], asked: &Asked, at: 
     }
 }
 
-/// Appends the values that are asked for from a row on, behind those of the rows before it.
+/// Appends the selected values from row `start` on.
 fn keep_last<T: NativeType>(kept: &mut Vec<T>, values: &[T], asked: &Asked, start: usize)
     requires same { length asked.now ≡ length values.now }
     requires within { start ≤ length asked.now }
@@ -67,7 +69,7 @@ fn keep_last<T: NativeType>(kept: &mut Vec<T>, values: &[T], asked: &Asked, star
     }
 }
 
-/// The values that are asked for, 64 rows at a time. Room is made once.
+/// Returns the selected values, 64 rows at a time. Room is reserved once.
 fn keep_each_value<T: NativeType>(
     alloc: Global,
     values: &[T],
@@ -75,7 +77,7 @@ fn keep_each_value<T: NativeType>(
 ) -> Result<Vec<T>, Error>
     requires { length asked.now ≡ length values.now }
     ensures ok { IfOk result (λ kept. kept.items ≡ where_set asked.now values.now) }
-    ensures err { IfErr result (λ e. e ≡ Error.OutOfMemory) }
+    ensures err { OnlyOutOfMemory result }
 {
     let mut kept = Vec::with_capacity(alloc, asked.len() - asked.unset_bits())?;
     let words = asked.len() / 64;
@@ -86,7 +88,7 @@ fn keep_each_value<T: NativeType>(
     Ok(kept)
 }
 
-/// The values that are asked for.
+/// Returns the selected values.
 pub(crate) fn keep_values<T: NativeType>(
     alloc: Global,
     values: &[T],
@@ -94,7 +96,7 @@ pub(crate) fn keep_values<T: NativeType>(
 ) -> Result<Vec<T>, Error>
     requires { length asked.now ≡ length values.now }
     ensures ok { IfOk result (λ kept. kept.items ≡ where_set asked.now values.now) }
-    ensures err { IfErr result (λ e. e ≡ Error.OutOfMemory) }
+    ensures err { OnlyOutOfMemory result }
 {
     if asked.unset_bits() == 0 {
         let mut all = Vec::new(alloc);
@@ -107,8 +109,7 @@ pub(crate) fn keep_values<T: NativeType>(
     keep_each_value(alloc, values, asked)
 }
 
-/// The bits of a word of marks where a word of asked rows has set bits, one behind the other, and how many they are: run by
-/// run.
+/// Returns the selected bits of a word of marks, packed, and their number: run by run.
 fn kept_runs(asked: u64, marks: u64) -> (u64, usize)
     ensures count { result.1 ≤ 64 }
     ensures bits { bits_of result.0 result.1 ≡ where_set (bits_of asked 64) (bits_of marks 64) }
@@ -126,7 +127,7 @@ fn kept_runs(asked: u64, marks: u64) -> (u64, usize)
     (kept, count)
 }
 
-/// The same, bit by bit.
+/// Returns the selected bits of a word of marks, packed, and their number: bit by bit.
 #[inline(always)]
 fn kept_bits(asked: u64, marks: u64) -> (u64, usize)
     ensures count { result.1 ≤ 64 }
@@ -143,7 +144,8 @@ fn kept_bits(asked: u64, marks: u64) -> (u64, usize)
     (kept, count)
 }
 
-/// The same, in the way that suits the word of asked rows.
+/// Returns the selected bits of a word of marks, packed, and their number, in the way that suits
+/// the selection.
 #[inline(always)]
 fn kept_word(asked: u64, marks: u64) -> (u64, usize)
     ensures count { result.1 ≤ 64 }
@@ -159,7 +161,7 @@ fn kept_word(asked: u64, marks: u64) -> (u64, usize)
     }
 }
 
-/// Appends the marks that are asked for of 64 rows, from row `64 * at` on, behind those of the rows before them.
+/// Appends the selected marks of 64 rows, from row `64 * at` on.
 #[inline(always)]
 fn keep_word_marks(
     kept: &mut MutableBitmap,
@@ -172,7 +174,7 @@ fn keep_word_marks(
     requires fits { length asked.now < 2 ^ 64 }
     requires so_far { kept.old ≡ where_set (take (64 * at) asked.now) (take (64 * at) marks.now) }
     ensures ok { OnOk result (kept.new ≡ where_set (take (64 * at + 64) asked.now) (take (64 * at + 64) marks.now)) }
-    ensures err { IfErr result (λ e. e ≡ Error.OutOfMemory) }
+    ensures err { OnlyOutOfMemory result }
 {
     let (bits, count) = kept_word(asked.word(at), marks.word(64 * at));
     if count == 0 {
@@ -181,7 +183,7 @@ fn keep_word_marks(
     kept.extend_from_word(bits, count)
 }
 
-/// Appends the marks that are asked for from a row on, behind those of the rows before it.
+/// Appends the selected marks from a row on.
 fn keep_last_marks(
     kept: &mut MutableBitmap,
     marks: &Bitmap,
@@ -192,7 +194,7 @@ fn keep_last_marks(
     requires within { start ≤ length asked.now }
     requires so_far { kept.old ≡ where_set (take start asked.now) (take start marks.now) }
     ensures ok { OnOk result (kept.new ≡ where_set asked.now marks.now) }
-    ensures err { IfErr result (λ e. e ≡ Error.OutOfMemory) }
+    ensures err { OnlyOutOfMemory result }
 {
     let mut i = asked.next(start);
     while i < asked.len() {
@@ -202,11 +204,12 @@ fn keep_last_marks(
     Ok(())
 }
 
-/// The marks that are asked for, 64 rows at a time. Room is made once, with a word more, since marks come as whole words.
+/// Returns the selected marks, 64 rows at a time. Room is reserved once, with a word more, since
+/// marks come as whole words.
 fn keep_each_mark(alloc: Global, marks: &Bitmap, asked: &Asked) -> Result<Bitmap, Error>
     requires { length asked.now ≡ length marks.now }
     ensures ok { IfOk result (λ kept. kept ≡ where_set asked.now marks.now) }
-    ensures err { IfErr result (λ e. e ≡ Error.OutOfMemory) }
+    ensures err { OnlyOutOfMemory result }
 {
     let count = asked.len() - asked.unset_bits();
     let mut kept = MutableBitmap::with_capacity(alloc, count.saturating_add(64))?;
@@ -218,11 +221,11 @@ fn keep_each_mark(alloc: Global, marks: &Bitmap, asked: &Asked) -> Result<Bitmap
     kept.freeze()
 }
 
-/// The marks that are asked for.
+/// Returns the selected marks.
 pub(crate) fn keep_marks(alloc: Global, marks: &Bitmap, asked: &Asked) -> Result<Bitmap, Error>
     requires { length asked.now ≡ length marks.now }
     ensures ok { IfOk result (λ kept. kept ≡ where_set asked.now marks.now) }
-    ensures err { IfErr result (λ e. e ≡ Error.OutOfMemory) }
+    ensures err { OnlyOutOfMemory result }
 {
     if asked.unset_bits() == 0 {
         return marks.clone();
@@ -233,16 +236,17 @@ pub(crate) fn keep_marks(alloc: Global, marks: &Bitmap, asked: &Asked) -> Result
     keep_each_mark(alloc, marks, asked)
 }
 
-/// The mask of the rows that are asked for, which is held only where one of them is null. Where no row is null, none is
-/// made.
+/// Returns the mask of the selected rows, which is held exactly if one of them is null. If no row
+/// is null, none is made.
 pub(crate) fn keep_mask(
     alloc: Global,
     validity: Option<&Bitmap>,
     asked: &Asked,
 ) -> Result<Option<Bitmap>, Error>
     requires { IfSome (option_copied validity) (λ marks. length asked.now ≡ length marks) }
-    ensures ok { IfOk result (λ mask. mask ≡ mask_with_nulls (option_map (where_set asked.now) (option_copied validity.entry))) }
-    ensures err { IfErr result (λ e. e ≡ Error.OutOfMemory) }
+    ensures ok { IfOk result (λ mask.
+        mask ≡ mask_with_nulls (option_map (where_set asked.now) (option_copied validity.entry))) }
+    ensures err { OnlyOutOfMemory result }
 {
     match validity {
         None => Ok(None),
@@ -255,8 +259,8 @@ pub(crate) fn keep_mask(
     }
 }
 
-/// Appends the items that are asked for of 64 rows, from row `64 * at` on, behind those of the rows before them: run by run,
-/// whose bytes are copied at once.
+/// Appends the selected items of 64 rows, from row `64 * at` on, run by run: the bytes of a run are
+/// copied at once.
 #[inline(never)]
 fn keep_runs<O: Offset>(
     kept: &mut Offsets<O>,
@@ -270,11 +274,16 @@ fn keep_runs<O: Offset>(
     requires held { last_of offsets.now ≤ length bytes.now }
     requires within { 64 * at + 64 ≤ length asked.now }
     requires fits { length asked.now < 2 ^ 64 }
-    requires ends { kept.old ≡ offsets_of 0 (where_set (take (64 * at) asked.now) (take (64 * at) (items_of offsets.now bytes.now))) }
-    requires joined { kept_bytes.old.items ≡ concat (where_set (take (64 * at) asked.now) (take (64 * at) (items_of offsets.now bytes.now))) }
-    ensures ends { OnOk result (kept.new ≡ offsets_of 0 (where_set (take (64 * at + 64) asked.now) (take (64 * at + 64) (items_of offsets.now bytes.now)))) }
-    ensures joined { OnOk result (kept_bytes.new.items ≡ concat (where_set (take (64 * at + 64) asked.now) (take (64 * at + 64) (items_of offsets.now bytes.now)))) }
-    ensures err { IfErr result (λ e. e ≡ Error.OutOfMemory) }
+    requires ends { kept.old
+        ≡ offsets_of 0 (where_set (take (64 * at) asked.now) (take (64 * at) (items_of offsets.now bytes.now))) }
+    requires joined { kept_bytes.old.items
+        ≡ concat (where_set (take (64 * at) asked.now) (take (64 * at) (items_of offsets.now bytes.now))) }
+    ensures ends { OnOk result (kept.new
+        ≡ offsets_of 0 (where_set (take (64 * at + 64) asked.now)
+        (take (64 * at + 64) (items_of offsets.now bytes.now)))) }
+    ensures joined { OnOk result (kept_bytes.new.items
+        ≡ concat (where_set (take (64 * at + 64) asked.now) (take (64 * at + 64) (items_of offsets.now bytes.now)))) }
+    ensures err { OnlyOutOfMemory result }
 {
     let word = asked.word(at);
     let mut first = next_set(word, 0);
@@ -290,7 +299,7 @@ fn keep_runs<O: Offset>(
     Ok(())
 }
 
-/// The same, item by item.
+/// Appends the selected items of 64 rows, from row `64 * at` on, item by item.
 #[inline(always)]
 fn keep_each_item<O: Offset>(
     kept: &mut Offsets<O>,
@@ -304,11 +313,16 @@ fn keep_each_item<O: Offset>(
     requires held { last_of offsets.now ≤ length bytes.now }
     requires within { 64 * at + 64 ≤ length asked.now }
     requires fits { length asked.now < 2 ^ 64 }
-    requires ends { kept.old ≡ offsets_of 0 (where_set (take (64 * at) asked.now) (take (64 * at) (items_of offsets.now bytes.now))) }
-    requires joined { kept_bytes.old.items ≡ concat (where_set (take (64 * at) asked.now) (take (64 * at) (items_of offsets.now bytes.now))) }
-    ensures ends { OnOk result (kept.new ≡ offsets_of 0 (where_set (take (64 * at + 64) asked.now) (take (64 * at + 64) (items_of offsets.now bytes.now)))) }
-    ensures joined { OnOk result (kept_bytes.new.items ≡ concat (where_set (take (64 * at + 64) asked.now) (take (64 * at + 64) (items_of offsets.now bytes.now)))) }
-    ensures err { IfErr result (λ e. e ≡ Error.OutOfMemory) }
+    requires ends { kept.old
+        ≡ offsets_of 0 (where_set (take (64 * at) asked.now) (take (64 * at) (items_of offsets.now bytes.now))) }
+    requires joined { kept_bytes.old.items
+        ≡ concat (where_set (take (64 * at) asked.now) (take (64 * at) (items_of offsets.now bytes.now))) }
+    ensures ends { OnOk result (kept.new
+        ≡ offsets_of 0 (where_set (take (64 * at + 64) asked.now)
+        (take (64 * at + 64) (items_of offsets.now bytes.now)))) }
+    ensures joined { OnOk result (kept_bytes.new.items
+        ≡ concat (where_set (take (64 * at + 64) asked.now) (take (64 * at + 64) (items_of offsets.now bytes.now)))) }
+    ensures err { OnlyOutOfMemory result }
 {
     let mut left = asked.word(at);
     while left != 0 {
@@ -324,7 +338,8 @@ fn keep_each_item<O: Offset>(
     Ok(())
 }
 
-/// The same, in the way that suits the rows.
+/// Appends the selected items of 64 rows, from row `64 * at` on, in the way that suits the
+/// selection.
 #[inline(always)]
 fn keep_word_items<O: Offset>(
     kept: &mut Offsets<O>,
@@ -338,11 +353,16 @@ fn keep_word_items<O: Offset>(
     requires held { last_of offsets.now ≤ length bytes.now }
     requires within { 64 * at + 64 ≤ length asked.now }
     requires fits { length asked.now < 2 ^ 64 }
-    requires ends { kept.old ≡ offsets_of 0 (where_set (take (64 * at) asked.now) (take (64 * at) (items_of offsets.now bytes.now))) }
-    requires joined { kept_bytes.old.items ≡ concat (where_set (take (64 * at) asked.now) (take (64 * at) (items_of offsets.now bytes.now))) }
-    ensures ends { OnOk result (kept.new ≡ offsets_of 0 (where_set (take (64 * at + 64) asked.now) (take (64 * at + 64) (items_of offsets.now bytes.now)))) }
-    ensures joined { OnOk result (kept_bytes.new.items ≡ concat (where_set (take (64 * at + 64) asked.now) (take (64 * at + 64) (items_of offsets.now bytes.now)))) }
-    ensures err { IfErr result (λ e. e ≡ Error.OutOfMemory) }
+    requires ends { kept.old
+        ≡ offsets_of 0 (where_set (take (64 * at) asked.now) (take (64 * at) (items_of offsets.now bytes.now))) }
+    requires joined { kept_bytes.old.items
+        ≡ concat (where_set (take (64 * at) asked.now) (take (64 * at) (items_of offsets.now bytes.now))) }
+    ensures ends { OnOk result (kept.new
+        ≡ offsets_of 0 (where_set (take (64 * at + 64) asked.now)
+        (take (64 * at + 64) (items_of offsets.now bytes.now)))) }
+    ensures joined { OnOk result (kept_bytes.new.items
+        ≡ concat (where_set (take (64 * at + 64) asked.now) (take (64 * at + 64) (items_of offsets.now bytes.now)))) }
+    ensures err { OnlyOutOfMemory result }
 {
     if has_few_runs(asked.word(at)) {
         keep_runs(kept, kept_bytes, offsets, bytes, asked, at)
@@ -351,7 +371,7 @@ fn keep_word_items<O: Offset>(
     }
 }
 
-/// Appends the items that are asked for from a row on, behind those of the rows before it.
+/// Appends the selected items from a row on.
 fn keep_last_items<O: Offset>(
     kept: &mut Offsets<O>,
     kept_bytes: &mut Vec<u8>,
@@ -363,11 +383,14 @@ fn keep_last_items<O: Offset>(
     requires count { length asked.now + 1 ≡ length offsets.now }
     requires held { last_of offsets.now ≤ length bytes.now }
     requires within { start ≤ length asked.now }
-    requires ends { kept.old ≡ offsets_of 0 (where_set (take start asked.now) (take start (items_of offsets.now bytes.now))) }
-    requires joined { kept_bytes.old.items ≡ concat (where_set (take start asked.now) (take start (items_of offsets.now bytes.now))) }
+    requires ends { kept.old
+        ≡ offsets_of 0 (where_set (take start asked.now) (take start (items_of offsets.now bytes.now))) }
+    requires joined { kept_bytes.old.items
+        ≡ concat (where_set (take start asked.now) (take start (items_of offsets.now bytes.now))) }
     ensures ends { OnOk result (kept.new ≡ offsets_of 0 (where_set asked.now (items_of offsets.now bytes.now))) }
-    ensures joined { OnOk result (kept_bytes.new.items ≡ concat (where_set asked.now (items_of offsets.now bytes.now))) }
-    ensures err { IfErr result (λ e. e ≡ Error.OutOfMemory) }
+    ensures joined { OnOk result (kept_bytes.new.items
+        ≡ concat (where_set asked.now (items_of offsets.now bytes.now))) }
+    ensures err { OnlyOutOfMemory result }
 {
     let mut i = asked.next(start);
     while i < asked.len() {
@@ -382,7 +405,7 @@ fn keep_last_items<O: Offset>(
     Ok(())
 }
 
-/// Room for the bytes of so many of the items, were each as long as the items are on average, and for a word more.
+/// Returns the number of bytes of `count` items of average length, and of a word more.
 fn room_for<O: Offset>(offsets: &OffsetsBuffer<O>, count: usize) -> usize {
     let all = offsets.last().to_usize() - offsets.first().to_usize();
     let slots = offsets.len_proxy();
@@ -393,7 +416,7 @@ fn room_for<O: Offset>(offsets: &OffsetsBuffer<O>, count: usize) -> usize {
     some.min(all).saturating_add(16)
 }
 
-/// The items that are asked for, as offsets and bytes of their own, 64 rows at a time.
+/// Returns the selected items as offsets and bytes of their own, 64 rows at a time.
 pub(crate) fn keep_items<O: Offset>(
     alloc: Global,
     offsets: &OffsetsBuffer<O>,
@@ -402,9 +425,10 @@ pub(crate) fn keep_items<O: Offset>(
 ) -> Result<(Offsets<O>, Vec<u8>), Error>
     requires count { length asked.now + 1 ≡ length offsets.now }
     requires within { last_of offsets.now ≤ length bytes.now }
-    ensures offsets { IfOk result (λ kept. kept.0 ≡ offsets_of 0 (where_set asked.now (items_of offsets.now bytes.now))) }
+    ensures offsets { IfOk result (λ kept.
+        kept.0 ≡ offsets_of 0 (where_set asked.now (items_of offsets.now bytes.now))) }
     ensures bytes { IfOk result (λ kept. kept.1.items ≡ concat (where_set asked.now (items_of offsets.now bytes.now))) }
-    ensures err { IfErr result (λ e. e ≡ Error.OutOfMemory) }
+    ensures err { OnlyOutOfMemory result }
 {
     let count = asked.len() - asked.unset_bits();
     let mut kept = Offsets::with_capacity(alloc, count)?;
@@ -424,7 +448,7 @@ pub(crate) fn keep_items<O: Offset>(
     Ok((kept, kept_bytes))
 }
 
-/// The items of an array that are asked for, as offsets and bytes of their own.
+/// Returns the selected items of an array as offsets and bytes of their own.
 pub(crate) fn kept_pieces<K: ByteKind, O: Offset>(
     alloc: Global,
     array: &ByteArray<K, O>,
@@ -434,7 +458,7 @@ pub(crate) fn kept_pieces<K: ByteKind, O: Offset>(
     ensures cut { IfOk result (λ kept. CutItems K.is_text kept.0 kept.1) }
     ensures around { IfOk result (λ kept. around_of kept.0 kept.1 ≡ nothing_around) }
     ensures items { IfOk result (λ kept. items_of kept.0 kept.1 ≡ where_set asked.now (stored_values array.now)) }
-    ensures err { IfErr result (λ e. e ≡ Error.OutOfMemory) }
+    ensures err { OnlyOutOfMemory result }
 {
     let (offsets, bytes) = keep_items(alloc, array.offsets(), array.values().as_slice(), asked)?;
     let offsets = offsets.freeze()?;

@@ -1,6 +1,5 @@
-//! Kernels over arrays: the rows for which a filter asks, the rows at the places that keys tell, and the same rows over
-//! offsets of the other width. They stand on the
-//! public calls of arrays and builders, and their proofs on the contracts of these.
+//! Kernels: filter, take, and arrays over offsets of the other width. They use the public calls of
+//! arrays and builders alone, and their proofs rest on the contracts of these.
 #![tactic(auto)]
 
 mod asked;

@@ -1,7 +1,9 @@
-//! What keys take of stored values, of marks and of items: for each key what stands at its place.
-ghost use Rattle.std.specs.Prelude.{◌≡◌, ◌+◌, ◌<◌, ◌≤◌, false, true, length, option_map, All, Some, IfOk, IfErr, IfSome, IsSomeAnd, OnOk};
+//! The stored values, marks and items at the indexes that keys are.
+ghost use Rattle.std.specs.Prelude.{◌≡◌, ◌+◌, ◌<◌, ◌≤◌, false, true, length, option_map, All, Some, IfOk, IfErr};
+ghost use Rattle.std.specs.Prelude.{IfSome, IsSomeAnd, OnOk};
 ghost use Rattle.std.specs.List.{concat};
 ghost use Rattle.std.specs.Option.{option_copied};
+ghost use Rattle.arrow_types.specs.Failures.{OnlyOutOfMemory};
 ghost use Rattle.arrow_types.specs.IndexKey.{index_of};
 ghost use Rattle.arrow_column.specs.Masks.{mask_with_nulls};
 ghost use Rattle.arrow_column.specs.Column.{stored_values};
@@ -25,7 +27,7 @@ use arrow_types::native_type::NativeType;
 use arrow_types::offset::Offset;
 use std::alloc::Global;
 
-/// The place that a key tells.
+/// Returns the index that a key is.
 #[inline(always)]
 fn place_of<K: IndexKey>(key: &K, len: usize) -> usize
     requires { IsSomeAnd (index_of (K.number key.now)) (λ index. index < len) }
@@ -38,7 +40,7 @@ fn place_of<K: IndexKey>(key: &K, len: usize) -> usize
     }
 }
 
-/// The values at the keys' places. Room is made once.
+/// Returns the values at the keys. Room is reserved once.
 pub(crate) fn pick_values<T: NativeType, K: IndexKey>(
     alloc: Global,
     values: &[T],
@@ -46,7 +48,7 @@ pub(crate) fn pick_values<T: NativeType, K: IndexKey>(
 ) -> Result<Vec<T>, Error>
     requires { All (λ key. IsSomeAnd (index_of (K.number key)) (λ index. index < length values.now)) keys.now }
     ensures ok { IfOk result (λ picked. picked.items ≡ at_keys K.number keys.now values.now) }
-    ensures err { IfErr result (λ e. e ≡ Error.OutOfMemory) }
+    ensures err { OnlyOutOfMemory result }
 {
     let mut picked = Vec::with_capacity(alloc, keys.len())?;
     for key in keys {
@@ -55,7 +57,7 @@ pub(crate) fn pick_values<T: NativeType, K: IndexKey>(
     Ok(picked)
 }
 
-/// The marks at the places of at most 64 keys, as the bits of a word.
+/// Returns the marks at at most 64 keys as the bits of a word.
 #[inline(always)]
 fn picked_word<K: IndexKey>(marks: &Bitmap, keys: &[K]) -> u64
     requires few { length keys.now ≤ 64 }
@@ -72,7 +74,8 @@ fn picked_word<K: IndexKey>(marks: &Bitmap, keys: &[K]) -> u64
     word
 }
 
-/// The marks at the keys' places, 64 at a time. Room is made once, with a word more, since marks come as whole words.
+/// Returns the marks at the keys, 64 at a time. Room is reserved once, with a word more, since
+/// marks come as whole words.
 pub(crate) fn pick_marks<K: IndexKey>(
     alloc: Global,
     marks: &Bitmap,
@@ -80,7 +83,7 @@ pub(crate) fn pick_marks<K: IndexKey>(
 ) -> Result<Bitmap, Error>
     requires { All (λ key. IsSomeAnd (index_of (K.number key)) (λ index. index < length marks.now)) keys.now }
     ensures ok { IfOk result (λ picked. picked ≡ at_keys K.number keys.now marks.now) }
-    ensures err { IfErr result (λ e. e ≡ Error.OutOfMemory) }
+    ensures err { OnlyOutOfMemory result }
 {
     let mut picked = MutableBitmap::with_capacity(alloc, keys.len().saturating_add(64))?;
     let words = keys.len() / 64;
@@ -93,16 +96,18 @@ pub(crate) fn pick_marks<K: IndexKey>(
     picked.freeze()
 }
 
-/// The mask of the rows at the keys' places, which is held only where one of them is null. Where no row is null, none is
-/// made.
+/// Returns the mask of the rows at the keys, which is held exactly if one of them is null. If no
+/// row is null, none is made.
 pub(crate) fn pick_mask<K: IndexKey>(
     alloc: Global,
     validity: Option<&Bitmap>,
     keys: &[K],
 ) -> Result<Option<Bitmap>, Error>
-    requires { IfSome (option_copied validity) (λ marks. All (λ key. IsSomeAnd (index_of (K.number key)) (λ index. index < length marks)) keys.now) }
-    ensures ok { IfOk result (λ mask. mask ≡ mask_with_nulls (option_map (at_keys K.number keys.now) (option_copied validity.entry))) }
-    ensures err { IfErr result (λ e. e ≡ Error.OutOfMemory) }
+    requires { IfSome (option_copied validity) (λ marks.
+        All (λ key. IsSomeAnd (index_of (K.number key)) (λ index. index < length marks)) keys.now) }
+    ensures ok { IfOk result (λ mask.
+        mask ≡ mask_with_nulls (option_map (at_keys K.number keys.now) (option_copied validity.entry))) }
+    ensures err { OnlyOutOfMemory result }
 {
     match validity {
         None => Ok(None),
@@ -115,16 +120,19 @@ pub(crate) fn pick_mask<K: IndexKey>(
     }
 }
 
-/// How many bytes the items at the keys' places have together.
+/// Returns the number of bytes of the items at the keys.
 fn picked_length<O: Offset, K: IndexKey>(
     offsets: &OffsetsBuffer<O>,
     bytes: &[u8],
     keys: &[K],
 ) -> Result<usize, Error>
-    requires keys { All (λ key. IsSomeAnd (index_of (K.number key)) (λ index. index + 1 < length offsets.now)) keys.now }
+    requires keys { All (λ key. IsSomeAnd (index_of (K.number key)) (λ index. index + 1 < length offsets.now))
+        keys.now }
     requires within { last_of offsets.now ≤ length bytes.now }
-    ensures ok { IfOk result (λ total. (total ≤ O.most) × (total ≡ length (concat (at_keys K.number keys.now (items_of offsets.now bytes.now))))) }
-    ensures err { IfErr result (λ e. (e ≡ Error.Overflow) × (O.most < length (concat (at_keys K.number keys.now (items_of offsets.now bytes.now))))) }
+    ensures ok { IfOk result (λ total. (total ≤ O.most)
+        × (total ≡ length (concat (at_keys K.number keys.now (items_of offsets.now bytes.now))))) }
+    ensures err { IfErr result (λ e. (e ≡ Error.Overflow)
+        × (O.most < length (concat (at_keys K.number keys.now (items_of offsets.now bytes.now))))) }
 {
     let most = O::max().to_usize();
     let mut total = 0;
@@ -138,23 +146,24 @@ fn picked_length<O: Offset, K: IndexKey>(
     Ok(total)
 }
 
-/// How many bytes the items of an array have together at the places of keys, each of which tells one.
+/// Returns the number of bytes of the items at keys, all of which are indexes.
 ///
 /// # Errors
-/// `Overflow` where they have more than an offset can tell.
+/// `Overflow` if the number is above the greatest offset.
 pub(crate) fn items_length<K: ByteKind, O: Offset, I: IndexKey>(
     array: &ByteArray<K, O>,
     keys: &[I],
 ) -> Result<usize, Error>
     requires { All (λ key. IsSomeAnd (index_of (I.number key)) (λ index. index < length array.now.rows)) keys.now }
     ensures ok { OnOk result (taking_overflows O.most I.number array.now keys.now ≡ false) }
-    ensures err { IfErr result (λ e. (e ≡ Error.Overflow) × (taking_overflows O.most I.number array.now keys.now ≡ true)) }
+    ensures err { IfErr result (λ e. (e ≡ Error.Overflow)
+        × (taking_overflows O.most I.number array.now keys.now ≡ true)) }
 {
     picked_length(array.offsets(), array.values().as_slice(), keys)
 }
 
-/// The items at the keys' places, as offsets and bytes of their own. Together they end at what an offset can tell; so many
-/// bytes are made room for.
+/// Returns the items at the keys as offsets and bytes of their own. Together they end at most at
+/// the greatest offset; room for their bytes is reserved once.
 fn pick_items<O: Offset, K: IndexKey>(
     alloc: Global,
     offsets: &OffsetsBuffer<O>,
@@ -162,11 +171,14 @@ fn pick_items<O: Offset, K: IndexKey>(
     keys: &[K],
     room: usize,
 ) -> Result<(Offsets<O>, Vec<u8>), Error>
-    requires keys { All (λ key. IsSomeAnd (index_of (K.number key)) (λ index. index + 1 < length offsets.now)) keys.now }
+    requires keys { All (λ key. IsSomeAnd (index_of (K.number key)) (λ index. index + 1 < length offsets.now))
+        keys.now }
     requires within { last_of offsets.now ≤ length bytes.now }
-    ensures offsets { IfOk result (λ picked. picked.0 ≡ offsets_of 0 (at_keys K.number keys.now (items_of offsets.now bytes.now))) }
-    ensures bytes { IfOk result (λ picked. picked.1.items ≡ concat (at_keys K.number keys.now (items_of offsets.now bytes.now))) }
-    ensures err { IfErr result (λ e. e ≡ Error.OutOfMemory) }
+    ensures offsets { IfOk result (λ picked.
+        picked.0 ≡ offsets_of 0 (at_keys K.number keys.now (items_of offsets.now bytes.now))) }
+    ensures bytes { IfOk result (λ picked.
+        picked.1.items ≡ concat (at_keys K.number keys.now (items_of offsets.now bytes.now))) }
+    ensures err { OnlyOutOfMemory result }
 {
     let mut picked = Offsets::with_capacity(alloc, keys.len())?;
     let mut picked_bytes = Vec::with_capacity(alloc, room)?;
@@ -181,8 +193,8 @@ fn pick_items<O: Offset, K: IndexKey>(
     Ok((picked, picked_bytes))
 }
 
-/// The items of an array at the places of keys, each of which tells one, as offsets and bytes of their own. Together they end
-/// at what an offset can tell; so many bytes are made room for.
+/// Returns the items of an array at keys, all of which are indexes, as offsets and bytes of their
+/// own. Together they end at most at the greatest offset; room for their bytes is reserved once.
 pub(crate) fn picked_pieces<K: ByteKind, O: Offset, I: IndexKey>(
     alloc: Global,
     array: &ByteArray<K, O>,
@@ -192,8 +204,9 @@ pub(crate) fn picked_pieces<K: ByteKind, O: Offset, I: IndexKey>(
     requires { All (λ key. IsSomeAnd (index_of (I.number key)) (λ index. index < length array.now.rows)) keys.now }
     ensures cut { IfOk result (λ picked. CutItems K.is_text picked.0 picked.1) }
     ensures around { IfOk result (λ picked. around_of picked.0 picked.1 ≡ nothing_around) }
-    ensures items { IfOk result (λ picked. items_of picked.0 picked.1 ≡ at_keys I.number keys.now (stored_values array.now)) }
-    ensures err { IfErr result (λ e. e ≡ Error.OutOfMemory) }
+    ensures items { IfOk result (λ picked.
+        items_of picked.0 picked.1 ≡ at_keys I.number keys.now (stored_values array.now)) }
+    ensures err { OnlyOutOfMemory result }
 {
     let bytes = array.values().as_slice();
     let (offsets, bytes) = pick_items(alloc, array.offsets(), bytes, keys, room)?;

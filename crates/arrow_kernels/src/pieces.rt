@@ -1,4 +1,4 @@
-//! Items that offsets cut out of bytes.
+//! Items between offsets of bytes.
 ghost use Rattle.std.specs.Prelude.{◌≡◌, ◌+◌, ◌<◌, ◌≤◌, length, slice_get, Some};
 ghost use Rattle.arrow_memory.specs.Offsets.{last_of};
 ghost use Rattle.arrow_check.specs.Pieces.{items_of};
@@ -6,7 +6,7 @@ ghost use Rattle.arrow_check.specs.Pieces.{items_of};
 use arrow_memory::offset::OffsetsBuffer;
 use arrow_types::offset::Offset;
 
-/// The item at a place.
+/// Returns the item at an index.
 #[inline(always)]
 pub(crate) fn item_at<'a, O: Offset>(
     offsets: &OffsetsBuffer<O>,

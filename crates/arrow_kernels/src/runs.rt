@@ -2,7 +2,7 @@
 ghost use Rattle.std.specs.Prelude.{◌≡◌, ℕ, ◌<◌, ◌≤◌};
 ghost use Rattle.std.specs.Int.{bit_at};
 
-/// The place of the first set bit of a word from a place on; where there is none, 64.
+/// Returns the place of the first set bit from `from` on, or 64 if there is none.
 #[inline(always)]
 pub(crate) fn next_set(word: u64, from: usize) -> usize
     requires { from ≤ 64 }
@@ -21,7 +21,7 @@ pub(crate) fn next_set(word: u64, from: usize) -> usize
     from + rest.trailing_zeros() as usize
 }
 
-/// The place behind the set bits of a word that follow one another from a place on.
+/// Returns the place after the run of set bits that begins at `first`.
 #[inline(always)]
 pub(crate) fn run_end(word: u64, first: usize) -> usize
     requires within { first < 64 }
@@ -33,7 +33,8 @@ pub(crate) fn run_end(word: u64, first: usize) -> usize
     first + (word >> first).trailing_ones() as usize
 }
 
-/// Whether the set bits of a word stand in so few runs that they are better taken run by run than one by one.
+/// Returns whether the set bits stand in so few runs that taking them run by run is faster than one
+/// by one.
 #[inline(always)]
 pub(crate) fn has_few_runs(word: u64) -> bool {
     (word & !(word << 1)).count_ones() <= 8

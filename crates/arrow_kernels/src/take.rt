@@ -1,7 +1,10 @@
-//! The rows at the places that keys tell, in the order of the keys. Types and stored values stay; the new array has nothing
-//! around its slots, and holds a mask exactly where one of them is null. All keys are looked at, and the lengths of all
-//! items, before memory is asked for.
-ghost use Rattle.std.specs.Prelude.{◌≡◌, ◌<◌, ⊤, false, length, All, None, IfOk, IfErr, IsErrAnd, IsSomeAnd, MatchOption};
+//! Takes: the rows at the indexes that keys are, in the order of the keys. Data types and stored
+//! values stay; the new array has no bytes around its slots, and holds a mask exactly if one of
+//! them is null. All keys are checked, and the lengths of all items added, before memory is
+//! allocated.
+ghost use Rattle.std.specs.Prelude.{◌≡◌, ◌<◌, ⊤, false, length, All, None, IfOk, IfErr, IsErrAnd, IsSomeAnd};
+ghost use Rattle.std.specs.Prelude.{MatchOption};
+ghost use Rattle.arrow_types.specs.Failures.{OnlyOutOfMemory};
 ghost use Rattle.arrow_types.specs.IndexKey.{index_of};
 ghost use Rattle.arrow_types.specs.Types.{refusal};
 ghost use Rattle.arrow_column.specs.Column.{refused_growth};
@@ -24,17 +27,19 @@ use arrow_types::offset::Offset;
 use arrow_utf8::Utf8Array;
 use std::alloc::Global;
 
-/// The slots of native values at the keys' places.
+/// Returns the slots of `array` at the keys.
 ///
 /// # Errors
-/// `OutOfSpec` with the fault of the first key that tells no place: it is negative or doesn't fit in a `usize`, or else it is
-/// not below the number of slots. `OutOfMemory` where memory is refused.
+/// - `OutOfSpec` with the fault of the first key that is no index of a slot: it is negative or does
+///   not fit in a `usize`, or else it is not below the number of slots.
+/// - `OutOfMemory` if an allocation fails.
 pub fn take_primitive<T: NativeType, K: IndexKey>(
     alloc: Global,
     array: &PrimitiveArray<T>,
     keys: &[K],
 ) -> Result<PrimitiveArray<T>, Error>
-    ensures astray { MatchOption (first_astray K.number array.now keys.now) ⊤ (λ key. IsErrAnd result (λ e. refusal e ≡ key_refusal (K.number key))) }
+    ensures astray { MatchOption (first_astray K.number array.now keys.now) ⊤ (λ key.
+        IsErrAnd result (λ e. refusal e ≡ key_refusal (K.number key))) }
     ensures ok { IfOk result (λ made. made ≡ taken tt K.number array.now keys.now) }
     ensures err { IfErr result (λ e. first_astray K.number array.now keys.now ≡ None → e ≡ Error.OutOfMemory) }
 {
@@ -46,17 +51,17 @@ pub fn take_primitive<T: NativeType, K: IndexKey>(
     Ok(PrimitiveArray::new(data_type, Buffer::from_vec(values)?, mask))
 }
 
-/// The slots of truth values at the keys' places.
+/// Returns the slots of `array` at the keys.
 ///
 /// # Errors
-/// `OutOfSpec` with the fault of the first key that tells no place: it is negative or doesn't fit in a `usize`, or else it is
-/// not below the number of slots. `OutOfMemory` where memory is refused.
+/// As [`take_primitive`].
 pub fn take_boolean<K: IndexKey>(
     alloc: Global,
     array: &BooleanArray,
     keys: &[K],
 ) -> Result<BooleanArray, Error>
-    ensures astray { MatchOption (first_astray K.number array.now keys.now) ⊤ (λ key. IsErrAnd result (λ e. refusal e ≡ key_refusal (K.number key))) }
+    ensures astray { MatchOption (first_astray K.number array.now keys.now) ⊤ (λ key.
+        IsErrAnd result (λ e. refusal e ≡ key_refusal (K.number key))) }
     ensures ok { IfOk result (λ made. made ≡ taken tt K.number array.now keys.now) }
     ensures err { IfErr result (λ e. first_astray K.number array.now keys.now ≡ None → e ≡ Error.OutOfMemory) }
 {
@@ -67,8 +72,8 @@ pub fn take_boolean<K: IndexKey>(
     Ok(BooleanArray::new(data_type, values, mask))
 }
 
-/// The slots of items of a kind at the places of keys, each of which tells one. Nothing is tested: some of the items of a
-/// kind are items of the kind. So many bytes are made room for.
+/// Returns the slots of `array` at keys, all of which are indexes. Items are not checked again:
+/// some of the items of a kind are items of the kind.
 fn taken_items<K: ByteKind, O: Offset, I: IndexKey>(
     alloc: Global,
     array: &ByteArray<K, O>,
@@ -77,7 +82,7 @@ fn taken_items<K: ByteKind, O: Offset, I: IndexKey>(
 ) -> Result<ByteArray<K, O>, Error>
     requires { All (λ key. IsSomeAnd (index_of (I.number key)) (λ index. index < length array.now.rows)) keys.now }
     ensures ok { IfOk result (λ made. made ≡ taken nothing_around I.number array.now keys.now) }
-    ensures err { IfErr result (λ e. e ≡ Error.OutOfMemory) }
+    ensures err { OnlyOutOfMemory result }
 {
     let (offsets, bytes) = picked_pieces(alloc, array, keys, room)?;
     let mask = pick_mask(alloc, array.validity(), keys)?;
@@ -85,51 +90,61 @@ fn taken_items<K: ByteKind, O: Offset, I: IndexKey>(
     Ok(ByteArray::new(data_type, offsets, bytes, mask))
 }
 
-/// The slots of items of a kind at the keys' places.
+/// Returns the slots of `array` at the keys.
 fn take_items<K: ByteKind, O: Offset, I: IndexKey>(
     alloc: Global,
     array: &ByteArray<K, O>,
     keys: &[I],
 ) -> Result<ByteArray<K, O>, Error>
-    ensures astray { MatchOption (first_astray I.number array.now keys.now) ⊤ (λ key. IsErrAnd result (λ e. refusal e ≡ key_refusal (I.number key))) }
-    ensures ok { IfOk result (λ made. (taking_overflows O.most I.number array.now keys.now ≡ false) × (made ≡ taken nothing_around I.number array.now keys.now)) }
-    ensures err { IfErr result (λ e. first_astray I.number array.now keys.now ≡ None → e ≡ refused_growth (taking_overflows O.most I.number array.now keys.now)) }
+    ensures astray { MatchOption (first_astray I.number array.now keys.now) ⊤ (λ key.
+        IsErrAnd result (λ e. refusal e ≡ key_refusal (I.number key))) }
+    ensures ok { IfOk result (λ made. (taking_overflows O.most I.number array.now keys.now ≡ false)
+        × (made ≡ taken nothing_around I.number array.now keys.now)) }
+    ensures err { IfErr result (λ e. first_astray I.number array.now keys.now ≡ None
+        → e ≡ refused_growth (taking_overflows O.most I.number array.now keys.now)) }
 {
     check_indexes(keys, array.len())?;
     let room = items_length(array, keys)?;
     taken_items(alloc, array, keys, room)
 }
 
-/// The slots of bytes at the keys' places.
+/// Returns the slots of `array` at the keys.
 ///
 /// # Errors
-/// `OutOfSpec` with the fault of the first key that tells no place: it is negative or doesn't fit in a `usize`, or else it is
-/// not below the number of slots. Or else `Overflow` where the items together have more bytes than an offset can tell.
-/// `OutOfMemory` where memory is refused.
+/// - `OutOfSpec` with the fault of the first key that is no index of a slot: it is negative or does
+///   not fit in a `usize`, or else it is not below the number of slots.
+/// - Otherwise `Overflow` if the items together have more bytes than the greatest offset.
+/// - `OutOfMemory` if an allocation fails.
 pub fn take_binary<O: Offset, K: IndexKey>(
     alloc: Global,
     array: &BinaryArray<O>,
     keys: &[K],
 ) -> Result<BinaryArray<O>, Error>
-    ensures astray { MatchOption (first_astray K.number array.now keys.now) ⊤ (λ key. IsErrAnd result (λ e. refusal e ≡ key_refusal (K.number key))) }
-    ensures ok { IfOk result (λ made. (taking_overflows O.most K.number array.now keys.now ≡ false) × (made ≡ taken nothing_around K.number array.now keys.now)) }
-    ensures err { IfErr result (λ e. first_astray K.number array.now keys.now ≡ None → e ≡ refused_growth (taking_overflows O.most K.number array.now keys.now)) }
+    ensures astray { MatchOption (first_astray K.number array.now keys.now) ⊤ (λ key.
+        IsErrAnd result (λ e. refusal e ≡ key_refusal (K.number key))) }
+    ensures ok { IfOk result (λ made. (taking_overflows O.most K.number array.now keys.now ≡ false)
+        × (made ≡ taken nothing_around K.number array.now keys.now)) }
+    ensures err { IfErr result (λ e. first_astray K.number array.now keys.now ≡ None
+        → e ≡ refused_growth (taking_overflows O.most K.number array.now keys.now)) }
 {
     take_items(alloc, array, keys)
 }
 
-/// The slots of text at the keys' places. No text is tested.
+/// Returns the slots of `array` at the keys.
 ///
 /// # Errors
-/// As of [`take_binary`].
+/// As [`take_binary`].
 pub fn take_utf8<O: Offset, K: IndexKey>(
     alloc: Global,
     array: &Utf8Array<O>,
     keys: &[K],
 ) -> Result<Utf8Array<O>, Error>
-    ensures astray { MatchOption (first_astray K.number array.now keys.now) ⊤ (λ key. IsErrAnd result (λ e. refusal e ≡ key_refusal (K.number key))) }
-    ensures ok { IfOk result (λ made. (taking_overflows O.most K.number array.now keys.now ≡ false) × (made ≡ taken nothing_around K.number array.now keys.now)) }
-    ensures err { IfErr result (λ e. first_astray K.number array.now keys.now ≡ None → e ≡ refused_growth (taking_overflows O.most K.number array.now keys.now)) }
+    ensures astray { MatchOption (first_astray K.number array.now keys.now) ⊤ (λ key.
+        IsErrAnd result (λ e. refusal e ≡ key_refusal (K.number key))) }
+    ensures ok { IfOk result (λ made. (taking_overflows O.most K.number array.now keys.now ≡ false)
+        × (made ≡ taken nothing_around K.number array.now keys.now)) }
+    ensures err { IfErr result (λ e. first_astray K.number array.now keys.now ≡ None
+        → e ≡ refused_growth (taking_overflows O.most K.number array.now keys.now)) }
 {
     take_items(alloc, array, keys)
 }

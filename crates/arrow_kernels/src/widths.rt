@@ -1,7 +1,8 @@
-//! Arrays over offsets of one width as arrays over offsets of the other: the same rows with the same bytes around them, and
-//! every offset the same number, under the default type of the other width. Bytes and masks are shared, and no text is
-//! tested again.
+//! Arrays over offsets of one width as arrays over offsets of the other: the same rows with the
+//! same bytes around them, every offset the same number, of the default data type of the other
+//! width. Bytes and masks are shared, and text is not checked again.
 ghost use Rattle.std.specs.Prelude.{◌≡◌, false, true, IfOk, IfErr};
+ghost use Rattle.arrow_types.specs.Failures.{OnlyOutOfMemory};
 ghost use Rattle.arrow_column.specs.Column.{refused_growth, with_type};
 ghost use Rattle.arrow_bytes.specs.Column.{offsets_held};
 ghost use Rattle.arrow_bytes.specs.Kinds.{binary_type, text_type};
@@ -14,81 +15,85 @@ use arrow_memory::offset::OffsetsBuffer;
 use arrow_types::error::Error;
 use arrow_types::offset::Offset;
 use arrow_utf8::Utf8Array;
+use std::alloc::Global;
 
-/// The same slots over offsets of another type, which have the same numbers.
+/// Returns the same slots over offsets of another type, which have the same numbers.
 ///
 /// # Errors
-/// `OutOfMemory` where memory is refused.
+/// `OutOfMemory` if an allocation fails.
 fn over_offsets<K: ByteKind, O: Offset, P: Offset>(
     array: &ByteArray<K, O>,
     offsets: OffsetsBuffer<P>,
 ) -> Result<ByteArray<K, P>, Error>
     requires { offsets ≡ offsets_held array.now }
     ensures ok { IfOk result (λ made. made ≡ with_type array.now (K.default_type P.IS_LARGE)) }
-    ensures err { IfErr result (λ e. e ≡ Error.OutOfMemory) }
+    ensures err { OnlyOutOfMemory result }
 {
     let (_, _, values, validity) = array.clone()?.into_inner();
     Ok(ByteArray::new(K::default_type(P::IS_LARGE), offsets, values, validity))
 }
 
-/// The slots of items of a kind over offsets of 64 bits.
-fn widen<K: ByteKind>(array: &ByteArray<K, i32>) -> Result<ByteArray<K, i64>, Error>
+/// Returns the same slots over offsets of 64 bits.
+fn widen<K: ByteKind>(alloc: Global, array: &ByteArray<K, i32>) -> Result<ByteArray<K, i64>, Error>
     ensures ok { IfOk result (λ wide. wide ≡ with_type array.now (K.default_type true)) }
-    ensures err { IfErr result (λ e. e ≡ Error.OutOfMemory) }
+    ensures err { OnlyOutOfMemory result }
 {
-    over_offsets(array, array.offsets().widen()?)
+    over_offsets(array, OffsetsBuffer::widen(alloc, array.offsets())?)
 }
 
-/// The slots of items of a kind over offsets of 32 bits.
-fn narrow<K: ByteKind>(array: &ByteArray<K, i64>) -> Result<ByteArray<K, i32>, Error>
-    ensures ok { IfOk result (λ narrow. (narrowing_overflows array.now ≡ false) × (narrow ≡ with_type array.now (K.default_type false))) }
+/// Returns the same slots over offsets of 32 bits.
+fn narrow<K: ByteKind>(alloc: Global, array: &ByteArray<K, i64>) -> Result<ByteArray<K, i32>, Error>
+    ensures ok { IfOk result (λ narrow. (narrowing_overflows array.now ≡ false)
+        × (narrow ≡ with_type array.now (K.default_type false))) }
     ensures err { IfErr result (λ e. e ≡ refused_growth (narrowing_overflows array.now)) }
 {
-    over_offsets(array, array.offsets().narrow()?)
+    over_offsets(array, OffsetsBuffer::narrow(alloc, array.offsets())?)
 }
 
-/// The slots of bytes over offsets of 64 bits.
+/// Returns the same slots over offsets of 64 bits.
 ///
 /// # Errors
-/// `OutOfMemory` where memory is refused.
-pub fn widen_binary(array: &BinaryArray<i32>) -> Result<BinaryArray<i64>, Error>
+/// `OutOfMemory` if an allocation fails.
+pub fn widen_binary(alloc: Global, array: &BinaryArray<i32>) -> Result<BinaryArray<i64>, Error>
     ensures ok { IfOk result (λ wide. wide ≡ with_type array.now (binary_type true)) }
-    ensures err { IfErr result (λ e. e ≡ Error.OutOfMemory) }
+    ensures err { OnlyOutOfMemory result }
 {
-    widen(array)
+    widen(alloc, array)
 }
 
-/// The slots of text over offsets of 64 bits.
+/// Returns the same slots over offsets of 64 bits.
 ///
 /// # Errors
-/// `OutOfMemory` where memory is refused.
-pub fn widen_utf8(array: &Utf8Array<i32>) -> Result<Utf8Array<i64>, Error>
+/// `OutOfMemory` if an allocation fails.
+pub fn widen_utf8(alloc: Global, array: &Utf8Array<i32>) -> Result<Utf8Array<i64>, Error>
     ensures ok { IfOk result (λ wide. wide ≡ with_type array.now (text_type true)) }
-    ensures err { IfErr result (λ e. e ≡ Error.OutOfMemory) }
+    ensures err { OnlyOutOfMemory result }
 {
-    widen(array)
+    widen(alloc, array)
 }
 
-/// The slots of bytes over offsets of 32 bits.
+/// Returns the same slots over offsets of 32 bits.
 ///
 /// # Errors
-/// `Overflow` where the last offset is above 2147483647, however many bytes lie behind it, which is found before memory is
-/// asked for; `OutOfMemory` where memory is refused.
-pub fn narrow_binary(array: &BinaryArray<i64>) -> Result<BinaryArray<i32>, Error>
-    ensures ok { IfOk result (λ narrow. (narrowing_overflows array.now ≡ false) × (narrow ≡ with_type array.now (binary_type false))) }
+/// - `Overflow` if the last offset is above 2147483647, however many bytes lie after it; this is
+///   checked before memory is allocated.
+/// - `OutOfMemory` if an allocation fails.
+pub fn narrow_binary(alloc: Global, array: &BinaryArray<i64>) -> Result<BinaryArray<i32>, Error>
+    ensures ok { IfOk result (λ narrow. (narrowing_overflows array.now ≡ false)
+        × (narrow ≡ with_type array.now (binary_type false))) }
     ensures err { IfErr result (λ e. e ≡ refused_growth (narrowing_overflows array.now)) }
 {
-    narrow(array)
+    narrow(alloc, array)
 }
 
-/// The slots of text over offsets of 32 bits.
+/// Returns the same slots over offsets of 32 bits.
 ///
 /// # Errors
-/// `Overflow` where the last offset is above 2147483647, however many bytes lie behind it, which is found before memory is
-/// asked for; `OutOfMemory` where memory is refused.
-pub fn narrow_utf8(array: &Utf8Array<i64>) -> Result<Utf8Array<i32>, Error>
-    ensures ok { IfOk result (λ narrow. (narrowing_overflows array.now ≡ false) × (narrow ≡ with_type array.now (text_type false))) }
+/// As [`narrow_binary`].
+pub fn narrow_utf8(alloc: Global, array: &Utf8Array<i64>) -> Result<Utf8Array<i32>, Error>
+    ensures ok { IfOk result (λ narrow. (narrowing_overflows array.now ≡ false)
+        × (narrow ≡ with_type array.now (text_type false))) }
     ensures err { IfErr result (λ e. e ≡ refused_growth (narrowing_overflows array.now)) }
 {
-    narrow(array)
+    narrow(alloc, array)
 }

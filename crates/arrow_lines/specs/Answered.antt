@@ -1,15 +1,13 @@
 -- What the program's commands ask, and what a table answers to them.
-use Rattle.std.specs.Prelude.{◌≡◌, List, [], ◌∷◌, ◌++◌, ℕ, ℤ, pos, Bool, not, IsTrue, replicate, Option, None, is_some, option_map, string_bytes}
+use Rattle.std.specs.Prelude.{◌≡◌, List, [], ◌∷◌, ◌++◌, ℕ, ℤ, pos, Bool, IsTrue, replicate, Option, None, is_some, string_bytes}
 use Rattle.std.specs.Option.{option_to_list}
 use Rattle.arrow_check.specs.Reading.{no_cost}
 use Rattle.arrow_types.specs.declared.primitive_type.PrimitiveType.TheVariants.{Int64}
 use Rattle.arrow_entry.specs.Answer.{Answer}
 use Rattle.arrow_entry.specs.Both.{Both, BothRequest, IsBothStep}
 use Rattle.arrow_entry.specs.Entry.{Held}
-use Rattle.arrow_entry.specs.Request.{Request}
 use Rattle.arrow_entry.specs.Run.{Runs}
 use Rattle.arrow_lines.specs.declared.answering.Answering.{Answering}
-use Rattle.arrow_lines.specs.Lines.{Line, request_among, request_behind, asked_in, is_bad}
 use Rattle.arrow_words.specs.Text.{text_of}
 
 -- the tables that the program begins with
@@ -36,15 +34,3 @@ Tells answer old new = (new.tables ≡ old.tables) × (string_bytes new.text ≡
 -- what is asked comes to: it was run and answered, where it is anything
 abbrev pub AnswersAsked : Option (BothRequest ℤ) → Answering → Answering → Bool → Type 0
 AnswersAsked given old new good = (is_some given ≡ good) × (IsTrue good → Adds (option_to_list given) old new)
-
--- the same of what words behind a name ask of one table, among these lines
-abbrev pub AnswersNamed : (Request ℤ → BothRequest ℤ) → List Line → List ℕ → List (List ℕ) → Answering → Answering → Bool → Type 0
-AnswersNamed side rows name words = AnswersAsked (option_map side (request_among rows name words))
-
--- the same of words behind a name and a number
-abbrev pub AnswersBehind : (Request ℤ → BothRequest ℤ) → List Line → List ℕ → ℕ → List (List ℕ) → Answering → Answering → Bool → Type 0
-AnswersBehind side rows name number words = AnswersAsked (option_map side (request_behind rows name number words))
-
--- what a line comes to that is good, or is not: it is passed over, or its command was run and answered
-abbrev pub AnswersLine : List ℕ → Answering → Answering → Bool → Type 0
-AnswersLine line old new good = (is_bad line ≡ not good) × (IsTrue good → Adds (option_to_list (asked_in line)) old new)

@@ -1,5 +1,5 @@
 //! The commands that words ask for.
-ghost use Rattle.std.specs.Prelude.{◌≡◌, ℤ, ℕ, IfOk, List, Option, Some, map, option_map};
+ghost use Rattle.std.specs.Prelude.{◌≡◌, ℤ, ℕ, IfOk, List, Option, Some, is_some, map, option_map};
 ghost use Rattle.arrow_entry.specs.Both.{BothRequest};
 ghost use Rattle.arrow_entry.specs.Item.{stored_slot};
 ghost use Rattle.arrow_entry.specs.Request.{Request, all_slots, asked, at, parts_asked, push};
@@ -12,6 +12,7 @@ mod by_length;
 mod changing;
 mod growing;
 mod making;
+mod pass;
 mod telling;
 mod turning;
 
@@ -19,7 +20,8 @@ use crate::answering::Answering;
 use arrow_table::{Command, Item, Parts};
 use arrow_types::offset::Offset;
 use arrow_words::readers::Words;
-pub(crate) use both::run_words;
+pub(crate) use both::on_words;
+pub(crate) use pass::{Pass, Tested};
 use std::alloc::{AllocError, Global};
 
 /// Whether words were a command, which was then run and answered.
@@ -52,6 +54,10 @@ pub(crate) trait Width: Offset {
     /// The offsets that words write; `None` where one of them writes none.
     fn starts_of(alloc: Global, words: &[u8]) -> Result<Option<Vec<Self>>, AllocError>
         ensures { IfOk result (λ read. option_map (λ starts. map Self.number starts.items) read ≡ each offset (words_of words.now)) };
+
+    /// Returns whether each word writes an offset.
+    fn are_starts(words: &[u8]) -> bool
+        ensures { result ≡ is_some (each offset (words_of words.now)) };
 }
 
 impl Width for i32 {
@@ -89,6 +95,10 @@ impl Width for i32 {
 
     fn starts_of(alloc: Global, words: &[u8]) -> Result<Option<Vec<i32>>, AllocError> {
         Vec::<i32>::of_words(alloc, words)
+    }
+
+    fn are_starts(words: &[u8]) -> bool {
+        Vec::<i32>::are_words(words)
     }
 }
 
@@ -128,6 +138,37 @@ impl Width for i64 {
     fn starts_of(alloc: Global, words: &[u8]) -> Result<Option<Vec<i64>>, AllocError> {
         Vec::<i64>::of_words(alloc, words)
     }
+
+    fn are_starts(words: &[u8]) -> bool {
+        Vec::<i64>::are_words(words)
+    }
+}
+
+/// A line of the table of one width whose name and number further words may follow.
+pub(crate) trait Line<O: Width> {
+    /// What these words say, where one type tells it.
+    type Rest: Words;
+
+    /// What a number and words ask, where they are as they should be.
+    ghost reader: { ℕ → List (List ℕ) → Option (Request ℤ) };
+
+    /// Returns whether the words are as they should be. The number is named for the contract.
+    fn is_line(number: usize, words: &[u8]) -> bool
+        ensures { result ≡ is_some (reader number (words_of words.now)) };
+
+    /// Runs the command that a number and words are, and appends its reply to the text.
+    fn run(answering: &mut Answering, number: usize, words: &[u8]) -> Answered
+        ensures { IfOk result (AnswersAsked (option_map O.side (reader number (words_of words.now))) answering.old answering.new) };
+}
+
+/// A line of the table of one width that is its name and a number.
+pub(crate) trait Bare<O: Width> {
+    /// What the number asks.
+    ghost asks: { ℕ → Request ℤ };
+
+    /// Runs the command, and appends its reply to the text.
+    fn run(answering: &mut Answering, number: usize) -> Answered
+        ensures { IfOk result (AnswersAsked (Some (O.side (asks number))) answering.old answering.new) };
 }
 
 /// Runs a command on the table of a width, and appends its reply to the text.
@@ -157,5 +198,9 @@ impl<O: Width> Words for Starts<O> {
             Some(starts) => Ok(Some(Starts(starts))),
             None => Ok(None),
         }
+    }
+
+    fn are_words(words: &[u8]) -> bool {
+        O::are_starts(words)
     }
 }

@@ -1,13 +1,14 @@
 //! The command that a line of the program's input is, and what is answered to it.
-ghost use Rattle.std.specs.Prelude.{◌≡◌, ◌==◌, IfOk, IsTrue};
+ghost use Rattle.std.specs.Prelude.{◌≡◌, ◌==◌, IsFalse, IsTrue, OnOk, not};
 ghost use Rattle.std.specs.List.{list_all};
-ghost use Rattle.arrow_lines.specs.Answered.{AnswersAsked, AnswersLine};
-ghost use Rattle.arrow_lines.specs.Lines.{is_of_lines, request_in};
+ghost use Rattle.std.specs.Option.{option_to_list};
+ghost use Rattle.arrow_lines.specs.Answered.{Adds};
+ghost use Rattle.arrow_lines.specs.Lines.{asked_in, is_bad, is_of_lines};
 ghost use Rattle.arrow_words.specs.Words.{is_comment, is_passed_over, is_printable, lines_of, space};
 
 use crate::answering::Answering;
-use crate::commands::{Answered, run_words};
-use std::alloc::Global;
+use crate::commands::{Tested, on_words};
+use std::alloc::AllocError;
 
 fn is_comment(line: &[u8]) -> bool
     ensures { result ≡ is_comment line.now }
@@ -57,40 +58,33 @@ pub fn all_printable(input: &[u8]) -> bool
     all
 }
 
-/// Runs the command that a line is, and appends its reply to the text. Where it is known that the line has only such bytes,
-/// it isn't asked again.
+/// Returns whether a line is passed over or a command. Makes nothing of it, and runs nothing. Where it is known that the line
+/// has only bytes that lines may have, they are not looked at again.
 #[inline(always)]
-fn run_line(alloc: Global, answering: &mut Answering, line: &[u8], printable: bool) -> Answered
+pub fn is_line(line: &[u8], printable: bool) -> bool
     requires { IsTrue printable → IsTrue (is_printable line.now) }
-    ensures { IfOk result (AnswersAsked (request_in line.now) answering.old answering.new) }
-{
-    if !printable && !is_printable(line) {
-        return Ok(false);
-    }
-    run_words(alloc, answering, line)
-}
-
-/// Runs the command that a line is, unless it is passed over, and appends its reply to the text. Answers whether it is
-/// either. It may be known that the line has only spaces and bytes that words may have.
-#[inline(always)]
-pub fn answer_known(
-    alloc: Global,
-    answering: &mut Answering,
-    line: &[u8],
-    printable: bool,
-) -> Answered
-    requires { IsTrue printable → IsTrue (is_printable line.now) }
-    ensures { IfOk result (AnswersLine line.now answering.old answering.new) }
+    ensures { is_bad line.now ≡ not result }
 {
     if is_passed_over(line) {
-        return Ok(true);
+        return true;
     }
-    run_line(alloc, answering, line, printable)
+    if !printable && !is_printable(line) {
+        return false;
+    }
+    match on_words(&mut Tested, line) {
+        Ok(is_command) => is_command,
+        Err(_) => false,
+    }
 }
 
-/// The same of a line of which nothing is known.
-pub fn answer_line(alloc: Global, answering: &mut Answering, line: &[u8]) -> Answered
-    ensures { IfOk result (AnswersLine line.now answering.old answering.new) }
+/// Runs the command that a line is, unless it is passed over, and appends its reply to the text.
+#[inline(always)]
+pub fn answer_line(answering: &mut Answering, line: &[u8]) -> Result<(), AllocError>
+    requires { IsFalse (is_bad line.now) }
+    ensures { OnOk result (Adds (option_to_list (asked_in line.now)) answering.old answering.new) }
 {
-    answer_known(alloc, answering, line, false)
+    if !is_passed_over(line) {
+        on_words(answering, line)?;
+    }
+    Ok(())
 }

@@ -1,7 +1,7 @@
 -- Lemmas on parts that are written one after the other, with a space between each two.
 use Rattle.std.proofs.Common.{◌≡◌, ◌∙◌, ℕ, zero, suc, ◌+◌, List, [], ◌∷◌, ◌++◌, map, flat_map, take, slice_get, MatchOption, Option, Some, None, refl, sym, ap, append-nil, append_assoc, arith}
 use Rattle.std.specs.List.{join_with_byte}
-use Rattle.arrow_words.proofs.Joined.{joined}
+use Rattle.arrow_words.proofs.CallerLemmas.{joined}
 use Rattle.arrow_listing.specs.Lent.{gap}
 
 module _ {A : Type 0} where

@@ -32,7 +32,7 @@ pub trait Lends: Shown<i64> {
         ensures { slice_get (stored_values (Self.value self.now).column) i ≡ Some (lent_item result) };
 }
 
-#[tactic(auto, using(arrow_entry::proofs::Seen::seen_reads, arrow_entry::proofs::Seen::seen_places))]
+#[tactic(auto, using(arrow_entry::proofs::CallerLemmas::seen_reads, arrow_entry::proofs::CallerLemmas::seen_places))]
 impl Lends for PrimitiveArray<i64> {
     #[inline(always)]
     fn lent_at(&self, i: usize) -> Lent<'_> {
@@ -40,7 +40,7 @@ impl Lends for PrimitiveArray<i64> {
     }
 }
 
-#[tactic(auto, using(arrow_entry::proofs::Seen::seen_reads, arrow_entry::proofs::Seen::seen_places))]
+#[tactic(auto, using(arrow_entry::proofs::CallerLemmas::seen_reads, arrow_entry::proofs::CallerLemmas::seen_places))]
 impl Lends for BooleanArray {
     #[inline(always)]
     fn lent_at(&self, i: usize) -> Lent<'_> {
@@ -48,7 +48,7 @@ impl Lends for BooleanArray {
     }
 }
 
-#[tactic(auto, using(arrow_entry::proofs::Seen::seen_reads, arrow_entry::proofs::Seen::seen_places))]
+#[tactic(auto, using(arrow_entry::proofs::CallerLemmas::seen_reads, arrow_entry::proofs::CallerLemmas::seen_places))]
 impl<O: Offset> Lends for BinaryArray<O> {
     #[inline(always)]
     fn lent_at(&self, i: usize) -> Lent<'_> {
@@ -56,7 +56,7 @@ impl<O: Offset> Lends for BinaryArray<O> {
     }
 }
 
-#[tactic(auto, using(arrow_entry::proofs::Seen::seen_reads, arrow_entry::proofs::Seen::seen_places))]
+#[tactic(auto, using(arrow_entry::proofs::CallerLemmas::seen_reads, arrow_entry::proofs::CallerLemmas::seen_places))]
 impl<O: Offset> Lends for Utf8Array<O> {
     #[inline(always)]
     fn lent_at(&self, i: usize) -> Lent<'_> {
@@ -73,7 +73,7 @@ fn stored_at<T: NativeType>(builder: &MutablePrimitiveArray<T>, i: usize) -> T
     builder.values()[i]
 }
 
-#[tactic(auto, using(arrow_entry::proofs::Seen::seen_counts, arrow_entry::proofs::Seen::seen_reads, arrow_entry::proofs::Seen::seen_places, arrow_entry::proofs::Slots::slot_marks))]
+#[tactic(auto, using(arrow_entry::proofs::CallerLemmas::seen_counts, arrow_entry::proofs::CallerLemmas::seen_reads, arrow_entry::proofs::CallerLemmas::seen_places, arrow_entry::proofs::CallerLemmas::slot_marks))]
 impl Lends for MutablePrimitiveArray<i64> {
     #[inline(always)]
     fn lent_at(&self, i: usize) -> Lent<'_> {
@@ -81,7 +81,7 @@ impl Lends for MutablePrimitiveArray<i64> {
     }
 }
 
-#[tactic(auto, using(arrow_entry::proofs::Seen::seen_counts, arrow_entry::proofs::Seen::seen_reads, arrow_entry::proofs::Seen::seen_places, arrow_entry::proofs::Slots::slot_marks))]
+#[tactic(auto, using(arrow_entry::proofs::CallerLemmas::seen_counts, arrow_entry::proofs::CallerLemmas::seen_reads, arrow_entry::proofs::CallerLemmas::seen_places, arrow_entry::proofs::CallerLemmas::slot_marks))]
 impl Lends for MutableBooleanArray {
     #[inline(always)]
     fn lent_at(&self, i: usize) -> Lent<'_> {
@@ -89,7 +89,7 @@ impl Lends for MutableBooleanArray {
     }
 }
 
-#[tactic(auto, using(arrow_entry::proofs::Seen::seen_reads, arrow_entry::proofs::Seen::seen_places, arrow_entry::proofs::Slots::slot_marks))]
+#[tactic(auto, using(arrow_entry::proofs::CallerLemmas::seen_reads, arrow_entry::proofs::CallerLemmas::seen_places, arrow_entry::proofs::CallerLemmas::slot_marks))]
 impl<O: Offset> Lends for MutableBinaryArray<O> {
     #[inline(always)]
     fn lent_at(&self, i: usize) -> Lent<'_> {
@@ -97,7 +97,7 @@ impl<O: Offset> Lends for MutableBinaryArray<O> {
     }
 }
 
-#[tactic(auto, using(arrow_entry::proofs::Seen::seen_reads, arrow_entry::proofs::Seen::seen_places, arrow_entry::proofs::Slots::slot_marks))]
+#[tactic(auto, using(arrow_entry::proofs::CallerLemmas::seen_reads, arrow_entry::proofs::CallerLemmas::seen_places, arrow_entry::proofs::CallerLemmas::slot_marks))]
 impl<O: Offset> Lends for MutableUtf8Array<O> {
     #[inline(always)]
     fn lent_at(&self, i: usize) -> Lent<'_> {
@@ -105,7 +105,7 @@ impl<O: Offset> Lends for MutableUtf8Array<O> {
     }
 }
 
-#[tactic(auto, using(arrow_entry::proofs::Seen::seen_reads, arrow_entry::proofs::Seen::seen_places, arrow_entry::proofs::Slots::slot_marks))]
+#[tactic(auto, using(arrow_entry::proofs::CallerLemmas::seen_reads, arrow_entry::proofs::CallerLemmas::seen_places, arrow_entry::proofs::CallerLemmas::slot_marks))]
 impl<O: Offset> Lends for MutableBinaryValuesArray<O> {
     #[inline(always)]
     fn lent_at(&self, i: usize) -> Lent<'_> {
@@ -113,7 +113,7 @@ impl<O: Offset> Lends for MutableBinaryValuesArray<O> {
     }
 }
 
-#[tactic(auto, using(arrow_entry::proofs::Seen::seen_reads, arrow_entry::proofs::Seen::seen_places, arrow_entry::proofs::Slots::slot_marks))]
+#[tactic(auto, using(arrow_entry::proofs::CallerLemmas::seen_reads, arrow_entry::proofs::CallerLemmas::seen_places, arrow_entry::proofs::CallerLemmas::slot_marks))]
 impl<O: Offset> Lends for MutableUtf8ValuesArray<O> {
     #[inline(always)]
     fn lent_at(&self, i: usize) -> Lent<'_> {

@@ -24,7 +24,7 @@ fn push_lent(text: &mut String, item: Lent<'_>) -> Result<(), AllocError>
 }
 
 /// Appends the text of the slot at a place.
-#[tactic(auto, using(arrow_entry::proofs::Slots::slot_reads))]
+#[tactic(auto, using(arrow_entry::proofs::CallerLemmas::slot_reads))]
 #[inline(always)]
 fn push_slot_at<K: Lends>(text: &mut String, kept: &K, i: usize) -> Result<(), AllocError>
     requires { i < length (K.value kept.now).column.rows }

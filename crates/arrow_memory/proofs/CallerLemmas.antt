@@ -1,6 +1,7 @@
 -- What proofs of callers cite about lists of offsets and cuts of lists.
 
--- Offsets that are read one by one: the list of their numbers is as long as the values, a value that is read at a place has
+-- Offsets that are read one by one: the list of their numbers is as long as the values, a value that is read at a
+-- place has
 -- the number at that place, and it is not negative.
 pub use Rattle.arrow_memory.proofs.OffsetLemmas.{length-numbers, value-at, not-negative}
 -- A cut of legal offsets is legal offsets.

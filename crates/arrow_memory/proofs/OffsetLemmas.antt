@@ -1,12 +1,18 @@
 -- Lemmas about offsets.
-use Rattle.std.proofs.Common.{◌≡◌, ℕ, zero, suc, ◌+◌, ◌-◌, ◌<◌, ◌≤◌, ℤ, pos, negsuc, Bool, true, false, List, [], ◌∷◌, ◌++◌, length, map, take, drop, set, replicate, get_or, ◌≤ℤ◌, ◌+ℤ◌, ap₂, append_assoc, length-drop, Option, Some, None, MatchOption, nat_lt, if◌then◌else◌, refl, sym, ap, ◌∙◌, arith, inl, inr, length-append}
+use Rattle.std.proofs.Common.{◌≡◌, ℕ, zero, suc, ◌+◌, ◌-◌, ◌<◌, ◌≤◌, ℤ, pos, negsuc, Bool, true, false, List, []}
+use Rattle.std.proofs.Common.{◌∷◌, ◌++◌, length, map, take, drop, set, replicate, get_or, ◌≤ℤ◌, ◌+ℤ◌, ap₂}
+use Rattle.std.proofs.Common.{append_assoc, length-drop, Option, Some, None, MatchOption, nat_lt, if◌then◌else◌}
+use Rattle.std.proofs.Common.{refl, sym, ap, ◌∙◌, arith, inl, inr, length-append}
 use Rattle.std.specs.Int.RustNames.{unsigned_abs}
 use Rattle.std.proofs.lemmas.Bool.{true≢false, or_parts, or_from, ltb-false, le-ltb, cases_lt}
-use Rattle.std.proofs.lemmas.List.{get_or-map, length-map, map-append, get_or_append_left, get_or-append_right, get_or-take, get_or-drop, get_or-replicate, length-replicate, take-map, take_more_set, take_more, take_all, take_at, ext_get_or}
+use Rattle.std.proofs.lemmas.List.{get_or-map, length-map, map-append, get_or_append_left, get_or-append_right}
+use Rattle.std.proofs.lemmas.List.{get_or-take, get_or-drop, get_or-replicate, length-replicate, take-map}
+use Rattle.std.proofs.lemmas.List.{take_more_set, take_more, take_all, take_at, ext_get_or}
 use Rattle.std.proofs.lemmas.Int.{ints}
 use Rattle.std.specs.List.{drop-map}
 use Rattle.arrow_memory.proofs.PieceLemmas.{length-piece}
-use Rattle.arrow_memory.specs.Offsets.{first_of, last_of, NeverFalls, IsOffsets, falls_after, first_fault, numbers_of, KeepsOffsets, moved_behind}
+use Rattle.arrow_memory.specs.Offsets.{first_of, last_of, NeverFalls, IsOffsets, falls_after, first_fault}
+use Rattle.arrow_memory.specs.Offsets.{numbers_of, KeepsOffsets, moved_behind}
 
 -- ---- integers that are handed in
 
@@ -30,7 +36,8 @@ order-after x (pos n ∷ zs) h zero (suc j) le within =
     le-chain up (order-after n zs (or_parts _ _ h).1 zero j (omega arith) (omega arith))
 order-after x (negsuc n ∷ zs) h zero (suc j) le within = absurd (true≢false h)
 order-after x [] h zero (suc j) le within = absurd (omega arith)
-order-after x (pos n ∷ zs) h (suc i) (suc j) le within = order-after n zs (or_parts _ _ h).1 i j (omega arith) (omega arith)
+order-after x (pos n ∷ zs) h (suc i) (suc j) le within =
+    order-after n zs (or_parts _ _ h).1 i j (omega arith) (omega arith)
 order-after x (negsuc n ∷ zs) h (suc i) (suc j) le within = absurd (true≢false h)
 order-after x [] h (suc i) (suc j) le within = absurd (omega arith)
 order-after x zs h (suc i) zero le within = absurd (omega arith)
@@ -40,14 +47,16 @@ last-after x [] = refl
 last-after x (z ∷ zs) = last-after (unsigned_abs z) zs
 
 pub last_of-after : (x : ℕ) (zs : List ℤ) → last_after x zs ≡ last_of (x ∷ map unsigned_abs zs)
-last_of-after x zs = last-after x zs ∙ ap (λ i. get_or (x ∷ map unsigned_abs zs) i 0) (let e : length zs ≡ suc (length (map unsigned_abs zs)) - 1 = omega (arith, length-map zs unsigned_abs) in e)
+last_of-after x zs = last-after x zs ∙ ap (λ i. get_or (x ∷ map unsigned_abs zs) i 0) (let e : length zs
+    ≡ suc (length (map unsigned_abs zs)) - 1 = omega (arith, length-map zs unsigned_abs) in e)
 
 no-fault-2 : (a b : Bool) (s t : List ℕ) → (if a then Some s else (if b then Some t else None)) ≡ None → b ≡ false
 no-fault-2 true b s t h = absurd (cc)
 no-fault-2 false true s t h = absurd (cc)
 no-fault-2 false false s t h = refl
 
-no-faults : (a b : Bool) (s t : List ℕ) → a ≡ false → b ≡ false → (if a then Some s else (if b then Some t else None)) ≡ None
+no-faults : (a b : Bool) (s t : List ℕ) → a ≡ false → b ≡ false
+    → (if a then Some s else (if b then Some t else None)) ≡ None
 no-faults true b s t h k = absurd (true≢false h)
 no-faults false true s t h k = absurd (true≢false k)
 no-faults false false s t h k = refl
@@ -56,44 +65,59 @@ no-faults false false s t h k = refl
 pub faultless-whole : (zs : List ℤ) → first_fault zs ≡ None → zs ≡ map pos (map unsigned_abs zs)
 faultless-whole [] h = absurd (cc)
 faultless-whole (negsuc n ∷ zs) h = absurd (cc)
-faultless-whole (pos n ∷ zs) h = ap (λ ys. pos n ∷ ys) (whole-after n zs (no-fault-2 (nat_lt n 0) (falls_after (pos n) zs) _ _ h))
+faultless-whole (pos n ∷ zs) h =
+    ap (λ ys. pos n ∷ ys) (whole-after n zs (no-fault-2 (nat_lt n 0) (falls_after (pos n) zs) _ _ h))
 
 pub faultless-legal : (zs : List ℤ) → first_fault zs ≡ None → IsOffsets (map unsigned_abs zs)
 faultless-legal [] h = absurd (cc)
 faultless-legal (negsuc n ∷ zs) h = absurd (cc)
-faultless-legal (pos n ∷ zs) h = record { some = omega arith; order = order-after n zs (no-fault-2 (nat_lt n 0) (falls_after (pos n) zs) _ _ h) }
+faultless-legal (pos n ∷ zs) h = record {
+  some = omega arith;
+  order =
+      order-after n zs (no-fault-2 (nat_lt n 0) (falls_after (pos n) zs) _ _ h);
+}
 
 never-after : (n : ℕ) (ns : List ℕ) → NeverFalls (n ∷ ns) → falls_after (pos n) (map pos ns) ≡ false
 never-after n [] order = refl
 never-after n (m ∷ ms) order =
     let up : n ≤ m = order zero 1 (omega arith) (omega arith) in
-    or_from (nat_lt m n) (falls_after (pos m) (map pos ms)) (le-ltb m n up) (never-after m ms (λ i j le within. order (suc i) (suc j) (omega arith) (omega arith)))
+    or_from (nat_lt m n) (falls_after (pos m) (map pos ms)) (le-ltb m n up) (never-after m ms (λ i j le within.
+    order (suc i) (suc j) (omega arith) (omega arith)))
 
 -- legal offsets have no fault
 pub legal-faultless : (ns : List ℕ) → IsOffsets ns → first_fault (map pos ns) ≡ None
 legal-faultless [] h = absurd (omega (arith, h.some))
-legal-faultless (n ∷ ns) h = no-faults (nat_lt n 0) (falls_after (pos n) (map pos ns)) _ _ (le-ltb n 0 (omega arith)) (never-after n ns h.order)
+legal-faultless (n ∷ ns) h = no-faults (nat_lt n 0) (falls_after (pos n) (map pos ns)) _ _
+    (le-ltb n 0 (omega arith)) (never-after n ns h.order)
 
 -- where the last of what was looked at is at most the greatest number, so is the last offset
-pub end-within : {O : Type 0} (number : O → ℤ) (xs : List O) (start before most : ℕ) → before ≡ last_after start (map number xs) → before ≤ most → last_of (numbers_of number xs) ≤ most
+pub end-within : {O : Type 0} (number : O → ℤ) (xs : List O) (start before most : ℕ)
+    → before ≡ last_after start (map number xs) → before ≤ most → last_of (numbers_of number xs) ≤ most
 end-within number [] start before most e le = omega arith
-end-within number (x ∷ xs) start before most e le = omega (arith, last_of-after (unsigned_abs (number x)) (map number xs), e)
+end-within number (x ∷ xs) start before most e le =
+    omega (arith, last_of-after (unsigned_abs (number x)) (map number xs), e)
 
 -- ---- offsets that are kept as values
 
 pub length-numbers : {O : Type 0} (number : O → ℤ) (xs : List O) → length (numbers_of number xs) ≡ length xs
 length-numbers number xs = length-map (map number xs) unsigned_abs ∙ length-map xs number
 
-pub value-at : {O : Type 0} (number : O → ℤ) (xs : List O) (x : O) (i : ℕ) → map number xs ≡ map pos (numbers_of number xs) → i < length xs → x ≡ get_or xs i x → number x ≡ pos (get_or (numbers_of number xs) i 0)
+pub value-at : {O : Type 0} (number : O → ℤ) (xs : List O) (x : O) (i : ℕ)
+    → map number xs ≡ map pos (numbers_of number xs) → i < length xs → x ≡ get_or xs i x
+    → number x ≡ pos (get_or (numbers_of number xs) i 0)
 value-at number xs x i whole within is =
     ap number is ∙ sym (get_or-map number xs i x (number x) within)
     ∙ ap (λ zs. get_or zs i (number x)) whole
-    ∙ get_or-map pos (numbers_of number xs) i 0 (number x) (let e : i < length (numbers_of number xs) = omega (arith, length-numbers number xs) in e)
+    ∙ get_or-map pos (numbers_of number xs) i 0 (number x) (let e : i < length (numbers_of number xs) =
+    omega (arith, length-numbers number xs) in e)
 
-pub value-last : {O : Type 0} (number : O → ℤ) (most : ℕ) (xs : List O) (x : O) (i : ℕ) → KeepsOffsets number most xs → i + 1 ≡ length xs → x ≡ get_or xs i x → number x ≡ pos (last_of (numbers_of number xs))
+pub value-last : {O : Type 0} (number : O → ℤ) (most : ℕ) (xs : List O) (x : O) (i : ℕ)
+    → KeepsOffsets number most xs → i + 1 ≡ length xs → x ≡ get_or xs i x
+    → number x ≡ pos (last_of (numbers_of number xs))
 value-last number most xs x i keeps at is =
     value-at number xs x i keeps.whole (omega arith) is
-    ∙ ap (λ k. pos (get_or (numbers_of number xs) k 0)) (let e : i ≡ length (numbers_of number xs) - 1 = omega (arith, length-numbers number xs) in e)
+    ∙ ap (λ k. pos (get_or (numbers_of number xs) k 0)) (let e : i ≡ length (numbers_of number xs) - 1 =
+    omega (arith, length-numbers number xs) in e)
 
 pub not-negative : (z : ℤ) (n : ℕ) → z ≡ pos n → pos 0 ≤ℤ z
 not-negative z n e = rw e (omega (arith, ints))
@@ -101,7 +125,9 @@ not-negative z n e = rw e (omega (arith, ints))
 pub ruleset offset_reads = (value-at, length-numbers)
 
 -- the offset behind another is not below it
-pub order-at : {O : Type 0} (number : O → ℤ) (most : ℕ) (xs : List O) (x y : O) (i : ℕ) → KeepsOffsets number most xs → i + 1 < length xs → x ≡ get_or xs i x → y ≡ get_or xs (i + 1) y → number x ≤ℤ number y
+pub order-at : {O : Type 0} (number : O → ℤ) (most : ℕ) (xs : List O) (x y : O) (i : ℕ)
+    → KeepsOffsets number most xs → i + 1 < length xs → x ≡ get_or xs i x → y ≡ get_or xs (i + 1) y
+    → number x ≤ℤ number y
 order-at number most xs x y i keeps within first second =
     let long = length-numbers number xs in
     let start = value-at number xs x i keeps.whole (omega arith) first in
@@ -110,12 +136,15 @@ order-at number most xs x y i keeps within first second =
     omega (arith, ints, start, end, up)
 
 -- where the offset behind another lies so far from it, that end is within the last offset
-pub slot-end : {O : Type 0} (number : O → ℤ) (most : ℕ) (xs : List O) (x y : O) (i d : ℕ) → KeepsOffsets number most xs → i + 1 < length xs → x ≡ get_or xs i x → y ≡ get_or xs (i + 1) y → number y ≡ number x +ℤ pos d → get_or (numbers_of number xs) i 0 + d ≤ last_of (numbers_of number xs)
+pub slot-end : {O : Type 0} (number : O → ℤ) (most : ℕ) (xs : List O) (x y : O) (i d : ℕ)
+    → KeepsOffsets number most xs → i + 1 < length xs → x ≡ get_or xs i x → y ≡ get_or xs (i + 1) y
+    → number y ≡ number x +ℤ pos d → get_or (numbers_of number xs) i 0 + d ≤ last_of (numbers_of number xs)
 slot-end number most xs x y i d keeps within first second far =
     let long = length-numbers number xs in
     let start = value-at number xs x i keeps.whole (omega arith) first in
     let end = value-at number xs y (i + 1) keeps.whole (omega arith) second in
-    let up = keeps.legal.order (i + 1) (length (numbers_of number xs) - 1) (omega (arith, long)) (omega (arith, long)) in
+    let up = keeps.legal.order (i + 1) (length (numbers_of number xs) - 1) (omega (arith, long))
+    (omega (arith, long)) in
     omega (arith, ints, start, end, far, up)
 
 -- ---- pieces
@@ -131,41 +160,59 @@ order-piece ns o n legal inside i j up within =
     omega (arith, start, end, legal.order (o + i) (o + j) (omega arith) (omega arith))
 
 pub legal-piece : (ns : List ℕ) (o n : ℕ) → IsOffsets ns → 1 ≤ n → o + n ≤ length ns → IsOffsets (take n (drop o ns))
-legal-piece ns o n legal some inside = record { some = omega (arith, length-piece ns o n inside); order = order-piece ns o n legal inside }
+legal-piece ns o n legal some inside = record {
+  some = omega (arith, length-piece ns o n inside);
+  order =
+      order-piece ns o n legal inside;
+}
 
-pub last-piece : (ns : List ℕ) (o n : ℕ) → IsOffsets ns → 1 ≤ n → o + n ≤ length ns → last_of (take n (drop o ns)) ≤ last_of ns
+pub last-piece : (ns : List ℕ) (o n : ℕ) → IsOffsets ns → 1 ≤ n → o + n ≤ length ns
+    → last_of (take n (drop o ns)) ≤ last_of ns
 last-piece ns o n legal some inside =
     let long = length-piece ns o n inside in
     let end = read-piece ns o n (length (take n (drop o ns)) - 1) (omega arith) in
-    omega (arith, end, long, legal.order (o + (length (take n (drop o ns)) - 1)) (length ns - 1) (omega arith) (omega arith))
+    omega (
+      arith,
+      end,
+      long,
+      legal.order (o + (length (take n (drop o ns)) - 1)) (length ns - 1) (omega arith)
+          (omega arith),
+    )
 
 map-piece : {X Y : Type 0} (f : X → Y) (xs : List X) (o n : ℕ) → map f (take n (drop o xs)) ≡ take n (drop o (map f xs))
 map-piece f xs o n = sym (take-map f n (drop o xs)) ∙ ap (take n) (sym (drop-map f o xs))
 
-pub numbers-piece : {O : Type 0} (number : O → ℤ) (xs : List O) (o n : ℕ) → numbers_of number (take n (drop o xs)) ≡ take n (drop o (numbers_of number xs))
-numbers-piece number xs o n = ap (map unsigned_abs) (map-piece number xs o n) ∙ map-piece unsigned_abs (map number xs) o n
+pub numbers-piece : {O : Type 0} (number : O → ℤ) (xs : List O) (o n : ℕ)
+    → numbers_of number (take n (drop o xs)) ≡ take n (drop o (numbers_of number xs))
+numbers-piece number xs o n = ap (map unsigned_abs) (map-piece number xs o n)
+    ∙ map-piece unsigned_abs (map number xs) o n
 
-pub keeps-piece : {O : Type 0} (number : O → ℤ) (most : ℕ) (xs : List O) (o n : ℕ) → KeepsOffsets number most xs → 1 ≤ n → o + n ≤ length xs → KeepsOffsets number most (take n (drop o xs))
+pub keeps-piece : {O : Type 0} (number : O → ℤ) (most : ℕ) (xs : List O) (o n : ℕ) → KeepsOffsets number most xs
+    → 1 ≤ n → o + n ≤ length xs → KeepsOffsets number most (take n (drop o xs))
 keeps-piece number most xs o n keeps some inside =
     let e = numbers-piece number xs o n in
     let long = length-numbers number xs in
     record {
-      whole = map-piece number xs o n ∙ ap (λ zs. take n (drop o zs)) keeps.whole ∙ sym (map-piece pos (numbers_of number xs) o n) ∙ ap (map pos) (sym e);
+      whole = map-piece number xs o n ∙ ap (λ zs. take n (drop o zs)) keeps.whole
+          ∙ sym (map-piece pos (numbers_of number xs) o n) ∙ ap (map pos) (sym e);
       legal = rw e (legal-piece (numbers_of number xs) o n keeps.legal some (omega arith));
       within = rw e (omega (arith, last-piece (numbers_of number xs) o n keeps.legal some (omega arith), keeps.within));
     }
 
 -- ---- zeros
 
-map-zeros : {O : Type 0} (number : O → ℤ) (x : O) (k : ℕ) → number x ≡ pos 0 → map number (replicate k x) ≡ map pos (replicate k 0)
+map-zeros : {O : Type 0} (number : O → ℤ) (x : O) (k : ℕ) → number x ≡ pos 0
+    → map number (replicate k x) ≡ map pos (replicate k 0)
 map-zeros number x zero is = refl
-map-zeros number x (suc k) is = ap (λ z. z ∷ map number (replicate k x)) is ∙ ap (λ zs. pos 0 ∷ zs) (map-zeros number x k is)
+map-zeros number x (suc k) is = ap (λ z. z ∷ map number (replicate k x)) is
+    ∙ ap (λ zs. pos 0 ∷ zs) (map-zeros number x k is)
 
 abs-pos : (ns : List ℕ) → map unsigned_abs (map pos ns) ≡ ns
 abs-pos [] = refl
 abs-pos (n ∷ ns) = ap (λ xs. n ∷ xs) (abs-pos ns)
 
-pub numbers-zeros : {O : Type 0} (number : O → ℤ) (x : O) (k : ℕ) → number x ≡ pos 0 → numbers_of number (replicate k x) ≡ replicate k 0
+pub numbers-zeros : {O : Type 0} (number : O → ℤ) (x : O) (k : ℕ) → number x ≡ pos 0
+    → numbers_of number (replicate k x) ≡ replicate k 0
 numbers-zeros number x k is = ap (map unsigned_abs) (map-zeros number x k is) ∙ abs-pos (replicate k 0)
 
 zero-at : (k i : ℕ) → i < k → get_or {A = ℕ} (replicate k 0) i 0 ≡ 0
@@ -177,10 +224,15 @@ length-zeros k = length-replicate k 0
 legal-zeros : (k : ℕ) → 0 < k → IsOffsets (replicate k 0)
 legal-zeros k some = record {
   some = omega (arith, length-zeros k);
-  order = λ i j up within. let long = length-zeros k in omega (arith, zero-at k i (omega arith), zero-at k j (omega arith));
+  order = λ i j up within. let long = length-zeros k in omega (
+    arith,
+    zero-at k i (omega arith),
+    zero-at k j (omega arith),
+  );
 }
 
-pub keeps-zeros : {O : Type 0} (number : O → ℤ) (most : ℕ) (x : O) (k : ℕ) → 0 < k → number x ≡ pos 0 → KeepsOffsets number most (replicate k x)
+pub keeps-zeros : {O : Type 0} (number : O → ℤ) (most : ℕ) (x : O) (k : ℕ) → 0 < k → number x ≡ pos 0
+    → KeepsOffsets number most (replicate k x)
 keeps-zeros number most x k some is =
     let e = numbers-zeros number x k is in
     let long = length-zeros k in
@@ -195,32 +247,39 @@ keeps-zeros number most x k some is =
 length-moved : (last : ℕ) (ns : List ℕ) → length (moved_behind last ns) ≡ length ns - 1
 length-moved last ns = length-map (drop 1 ns) _ ∙ length-drop 1 ns
 
-pub moved-at : (last : ℕ) (ns : List ℕ) (i : ℕ) → i + 1 < length ns → get_or (moved_behind last ns) i 0 ≡ last + (get_or ns (i + 1) 0 - first_of ns)
+pub moved-at : (last : ℕ) (ns : List ℕ) (i : ℕ) → i + 1 < length ns
+    → get_or (moved_behind last ns) i 0 ≡ last + (get_or ns (i + 1) 0 - first_of ns)
 moved-at last ns i low =
     get_or-map (λ n. last + (n - first_of ns)) (drop 1 ns) i 0 0 (omega (arith, length-drop 1 ns))
-    ∙ ap (λ n. last + (n - first_of ns)) (get_or-drop 1 ns i 0 ∙ ap (λ k. get_or ns k 0) (let e : 1 + i ≡ i + 1 = omega arith in e))
+    ∙ ap (λ n. last + (n - first_of ns)) (get_or-drop 1 ns i 0 ∙ ap (λ k. get_or ns k 0) (let e : 1 + i ≡ i + 1 =
+    omega arith in e))
 
 -- behind the offset that they begin at, nothing moves
 unmoved : (ns : List ℕ) → IsOffsets ns → moved_behind (first_of ns) ns ≡ drop 1 ns
 unmoved ns legal =
-    let same : length (moved_behind (first_of ns) ns) ≡ length (drop 1 ns) = length-moved (first_of ns) ns ∙ sym (length-drop 1 ns) in
+    let same : length (moved_behind (first_of ns) ns) ≡ length (drop 1 ns) = length-moved (first_of ns) ns
+    ∙ sym (length-drop 1 ns) in
     ext_get_or 0 (moved_behind (first_of ns) ns) (drop 1 ns) same (λ i low.
     let inside : i + 1 < length ns = omega (arith, length-moved (first_of ns) ns) in
     let rises : first_of ns ≤ get_or ns (i + 1) 0 = legal.order 0 (i + 1) (omega arith) inside in
-    let there : get_or (drop 1 ns) i 0 ≡ get_or ns (i + 1) 0 = get_or-drop 1 ns i 0 ∙ ap (λ k. get_or ns k 0) (let e : 1 + i ≡ i + 1 = omega arith in e) in
+    let there : get_or (drop 1 ns) i 0 ≡ get_or ns (i + 1) 0 = get_or-drop 1 ns i 0
+    ∙ ap (λ k. get_or ns k 0) (let e : 1 + i ≡ i + 1 = omega arith in e) in
     moved-at (first_of ns) ns i inside ∙ (omega (arith, rises, there)))
 
-pub copied : {O : Type 0} (number : O → ℤ) (most last : ℕ) (old other : List O) → KeepsOffsets number most other → last ≡ first_of (numbers_of number other)
+pub copied : {O : Type 0} (number : O → ℤ) (most last : ℕ) (old other : List O) → KeepsOffsets number most other
+    → last ≡ first_of (numbers_of number other)
     → map number (old ++ drop 1 other) ≡ map number old ++ map pos (moved_behind last (numbers_of number other))
 copied number most last old other keeps here =
     let ns = numbers_of number other in
     map-append number old (drop 1 other) ∙ ap (λ zs. map number old ++ zs)
-    (sym (drop-map number 1 other) ∙ ap (drop 1) keeps.whole ∙ drop-map pos 1 ns ∙ ap (map pos) (sym (unmoved ns keeps.legal) ∙ ap (λ n. moved_behind n ns) (sym here)))
+    (sym (drop-map number 1 other) ∙ ap (drop 1) keeps.whole ∙ drop-map pos 1 ns
+    ∙ ap (map pos) (sym (unmoved ns keeps.legal) ∙ ap (λ n. moved_behind n ns) (sym here)))
 
 pub moved-step : {O : Type 0} (number : O → ℤ) (before xs : List O) (place i last : ℕ) (v : O) (ns : List ℕ)
     → place + i < length xs → i + 1 < length ns → number v ≡ pos (last + (get_or ns (i + 1) 0 - first_of ns))
     → map number (take (place + i) xs) ≡ map number (take place before) ++ map pos (take i (moved_behind last ns))
-    → map number (take (place + (i + 1)) (set xs (place + i) v)) ≡ map number (take place before) ++ map pos (take (i + 1) (moved_behind last ns))
+    → map number (take (place + (i + 1)) (set xs (place + i) v)) ≡ map number (take place before)
+    ++ map pos (take (i + 1) (moved_behind last ns))
 moved-step number before xs place i last v ns inside low is done =
     let zs = moved_behind last ns in
     let long : i < length zs = omega (arith, length-moved last ns) in
@@ -229,14 +288,19 @@ moved-step number before xs place i last v ns inside low is done =
     ∙ map-append number (take (place + i) xs) (v ∷ [])
     ∙ ap₂ (λ front z. front ++ z ∷ []) done (is ∙ ap pos (sym (moved-at last ns i low)))
     ∙ append_assoc (map number (take place before)) (map pos (take i zs)) (pos (get_or zs i 0) ∷ [])
-    ∙ ap (λ end. map number (take place before) ++ end) (sym (ap (map pos) (take_more zs i 0 long) ∙ map-append pos (take i zs) (get_or zs i 0 ∷ [])))
+    ∙ ap (λ end. map number (take place before) ++ end) (sym (ap (map pos) (take_more zs i 0 long)
+    ∙ map-append pos (take i zs) (get_or zs i 0 ∷ [])))
 
-end-at : (ns other : List ℕ) (k : ℕ) → length ns ≤ k → k + 1 < length ns + length other → get_or (ns ++ moved_behind (last_of ns) other) k 0 ≡ last_of ns + (get_or other (k - length ns + 1) 0 - first_of other)
+end-at : (ns other : List ℕ) (k : ℕ) → length ns ≤ k → k + 1 < length ns + length other
+    → get_or (ns ++ moved_behind (last_of ns) other) k 0
+    ≡ last_of ns + (get_or other (k - length ns + 1) 0 - first_of other)
 end-at ns other k past within =
-    get_or-append_right ns (moved_behind (last_of ns) other) (length ns) k 0 refl past ∙ moved-at (last_of ns) other (k - length ns) (omega arith)
+    get_or-append_right ns (moved_behind (last_of ns) other) (length ns) k 0 refl past
+    ∙ moved-at (last_of ns) other (k - length ns) (omega arith)
 
 length-joined : (ns other : List ℕ) → length (ns ++ moved_behind (last_of ns) other) ≡ length ns + (length other - 1)
-length-joined ns other = length-append ns (moved_behind (last_of ns) other) ∙ ap (λ k. length ns + k) (length-moved (last_of ns) other)
+length-joined ns other = length-append ns (moved_behind (last_of ns) other)
+    ∙ ap (λ k. length ns + k) (length-moved (last_of ns) other)
 
 order-joined : (ns other : List ℕ) → IsOffsets ns → IsOffsets other → NeverFalls (ns ++ moved_behind (last_of ns) other)
 order-joined ns other legal added i j up within =
@@ -254,20 +318,32 @@ order-joined ns other legal added i j up within =
                 omega (arith, low, end, legal.order i (length ns - 1) (omega arith) (omega arith))
             | inr too ↦
                 let start = end-at ns other i too (omega arith) in
-                omega (arith, start, end, added.order (i - length ns + 1) (j - length ns + 1) (omega arith) (omega arith))
+                omega (
+                  arith,
+                  start,
+                  end,
+                  added.order (i - length ns + 1) (j - length ns + 1) (omega arith)
+                      (omega arith),
+                )
           ]
     ]
 
 legal-joined : (ns other : List ℕ) → IsOffsets ns → IsOffsets other → IsOffsets (ns ++ moved_behind (last_of ns) other)
-legal-joined ns other legal added = record { some = omega (arith, length-joined ns other, legal.some); order = order-joined ns other legal added }
+legal-joined ns other legal added = record {
+  some = omega (arith, length-joined ns other, legal.some);
+  order =
+      order-joined ns other legal added;
+}
 
-last-joined : (ns other : List ℕ) → IsOffsets ns → IsOffsets other → last_of (ns ++ moved_behind (last_of ns) other) ≡ last_of ns + (last_of other - first_of other)
+last-joined : (ns other : List ℕ) → IsOffsets ns → IsOffsets other
+    → last_of (ns ++ moved_behind (last_of ns) other) ≡ last_of ns + (last_of other - first_of other)
 last-joined ns other legal added =
     let long = length-joined ns other in
     let k : ℕ = length (ns ++ moved_behind (last_of ns) other) - 1 in
     elim (cases_lt 1 (length other)) [
       | inl more ↦
-          let place : length (ns ++ moved_behind (last_of ns) other) - 1 - length ns + 1 ≡ length other - 1 = omega (arith, legal.some) in
+          let place : length (ns ++ moved_behind (last_of ns) other) - 1 - length ns + 1 ≡ length other - 1 =
+          omega (arith, legal.some) in
           end-at ns other (length (ns ++ moved_behind (last_of ns) other) - 1) (omega arith) (omega arith)
           ∙ ap (λ i. last_of ns + (get_or other i 0 - first_of other)) place
       | inr one ↦
@@ -280,13 +356,18 @@ last-joined ns other legal added =
     ]
 
 -- values of which the numbers are known
-pub numbers-known : {O : Type 0} (number : O → ℤ) (xs : List O) (ns : List ℕ) → map number xs ≡ map pos ns → numbers_of number xs ≡ ns
+pub numbers-known : {O : Type 0} (number : O → ℤ) (xs : List O) (ns : List ℕ) → map number xs ≡ map pos ns
+    → numbers_of number xs ≡ ns
 numbers-known number xs ns is = ap (map unsigned_abs) is ∙ abs-pos ns
 
-pub joined-known : {O : Type 0} (number : O → ℤ) (old new : List O) (ms : List ℕ) → map number old ≡ map pos (numbers_of number old) → map number new ≡ map number old ++ map pos ms → map number new ≡ map pos (numbers_of number old ++ ms)
-joined-known number old new ms whole is = is ∙ ap (λ zs. zs ++ map pos ms) whole ∙ sym (map-append pos (numbers_of number old) ms)
+pub joined-known : {O : Type 0} (number : O → ℤ) (old new : List O) (ms : List ℕ)
+    → map number old ≡ map pos (numbers_of number old) → map number new ≡ map number old ++ map pos ms
+    → map number new ≡ map pos (numbers_of number old ++ ms)
+joined-known number old new ms whole is = is ∙ ap (λ zs. zs ++ map pos ms) whole
+    ∙ sym (map-append pos (numbers_of number old) ms)
 
-pub keeps-joined : {O : Type 0} (number : O → ℤ) (most : ℕ) (old new : List O) (other : List ℕ) → KeepsOffsets number most old → IsOffsets other
+pub keeps-joined : {O : Type 0} (number : O → ℤ) (most : ℕ) (old new : List O) (other : List ℕ)
+    → KeepsOffsets number most old → IsOffsets other
     → last_of (numbers_of number old) + (last_of other - first_of other) ≤ most
     → map number new ≡ map number old ++ map pos (moved_behind (last_of (numbers_of number old)) other)
     → KeepsOffsets number most new
@@ -300,11 +381,15 @@ keeps-joined number most old new other keeps added le is =
       within = rw e (rw (last-joined ns other keeps.legal added) le);
     }
 
-pub numbers-joined : {O : Type 0} (number : O → ℤ) (old new : List O) (ms : List ℕ) → map number old ≡ map pos (numbers_of number old) → map number new ≡ map number old ++ map pos ms → numbers_of number new ≡ numbers_of number old ++ ms
-numbers-joined number old new ms whole is = numbers-known number new (numbers_of number old ++ ms) (joined-known number old new ms whole is)
+pub numbers-joined : {O : Type 0} (number : O → ℤ) (old new : List O) (ms : List ℕ)
+    → map number old ≡ map pos (numbers_of number old) → map number new ≡ map number old ++ map pos ms
+    → numbers_of number new ≡ numbers_of number old ++ ms
+numbers-joined number old new ms whole is =
+    numbers-known number new (numbers_of number old ++ ms) (joined-known number old new ms whole is)
 
 -- values that are known by their numbers, where those are legal
-pub keeps-known : {O : Type 0} (number : O → ℤ) (most : ℕ) (xs : List O) (ns : List ℕ) → IsOffsets ns → last_of ns ≤ most → map number xs ≡ map pos ns → KeepsOffsets number most xs
+pub keeps-known : {O : Type 0} (number : O → ℤ) (most : ℕ) (xs : List O) (ns : List ℕ) → IsOffsets ns
+    → last_of ns ≤ most → map number xs ≡ map pos ns → KeepsOffsets number most xs
 keeps-known number most xs ns legal le is =
     let e = numbers-known number xs ns is in
     record {
@@ -316,12 +401,14 @@ keeps-known number most xs ns legal le is =
 -- ---- numbers that are written over values of another type
 
 -- no number is above the last
-pub number-within : {O : Type 0} (number : O → ℤ) (most : ℕ) (xs : List O) (i : ℕ) → KeepsOffsets number most xs → i < length xs → get_or (numbers_of number xs) i 0 ≤ last_of (numbers_of number xs)
+pub number-within : {O : Type 0} (number : O → ℤ) (most : ℕ) (xs : List O) (i : ℕ) → KeepsOffsets number most xs
+    → i < length xs → get_or (numbers_of number xs) i 0 ≤ last_of (numbers_of number xs)
 number-within number most xs i keeps within =
     let long = length-numbers number xs in
     keeps.legal.order i (length (numbers_of number xs) - 1) (omega (arith, long)) (omega (arith, long))
 
-pub number-step : {O : Type 0} (number : O → ℤ) (xs : List O) (i : ℕ) (v : O) (ns : List ℕ) → i < length xs → i < length ns → number v ≡ pos (get_or ns i 0)
+pub number-step : {O : Type 0} (number : O → ℤ) (xs : List O) (i : ℕ) (v : O) (ns : List ℕ) → i < length xs
+    → i < length ns → number v ≡ pos (get_or ns i 0)
     → map number (take i xs) ≡ map pos (take i ns) → map number (take (i + 1) (set xs i v)) ≡ map pos (take (i + 1) ns)
 number-step number xs i v ns inside low is done =
     ap (map number) (take_more_set xs i v inside)
@@ -332,23 +419,29 @@ number-step number xs i v ns inside low is done =
 -- ---- what vectors say
 
 -- a vector that was empty and was filled up
-pub filled : {O : Type 0} (count n : ℕ) (xs ys : List O) (x : O) → xs ≡ [] → n ≡ 0 → ys ≡ take count xs ++ replicate (count - n) x → ys ≡ replicate count x
+pub filled : {O : Type 0} (count n : ℕ) (xs ys : List O) (x : O) → xs ≡ [] → n ≡ 0
+    → ys ≡ take count xs ++ replicate (count - n) x → ys ≡ replicate count x
 filled count n xs ys x empty nought is =
-    is ∙ ap₂ (λ ys k. take count ys ++ replicate (count - k) x) empty nought ∙ ap (λ ys. ys ++ replicate (count - 0) x) (take_all count [] (omega arith))
+    is ∙ ap₂ (λ ys k. take count ys ++ replicate (count - k) x) empty nought
+    ∙ ap (λ ys. ys ++ replicate (count - 0) x) (take_all count [] (omega arith))
     ∙ ap (λ k. replicate k x) (let e : count - 0 ≡ count = omega arith in e)
 
 -- a vector that was made longer begins as it was
 pub begins : {O : Type 0} (count n : ℕ) (xs ys : List O) → n ≡ length xs → n ≤ count → take n (take count xs ++ ys) ≡ xs
-begins count n xs ys long le = ap (λ zs. take n (zs ++ ys)) (take_all count xs (omega arith)) ∙ take_at xs ys n (sym long)
+begins count n xs ys long le = ap (λ zs. take n (zs ++ ys)) (take_all count xs (omega arith))
+    ∙ take_at xs ys n (sym long)
 
 -- what was written to its slice
 pub written-back : {O : Type 0} (n : ℕ) (ws xs : List O) → length ws ≡ n → take n (ws ++ drop (length ws) xs) ≡ ws
 written-back n ws xs long = take_at ws (drop (length ws) xs) n long
 
 -- what is popped where there is a slot
-pub popped : {O : Type 0} (number : O → ℤ) (most : ℕ) (xs after : List O) (ns : List ℕ) (n m : ℕ) (r : Option O) (P : Type 0) → KeepsOffsets number most xs → numbers_of number xs ≡ ns → n ≡ length xs → 1 < n
-    → MatchOption r ((n ≡ 0) × (m ≡ 0)) (λ _. m + 1 ≡ n) → ((d : O) → 0 < n → r ≡ Some (get_or xs (n - 1) d)) → after ≡ take (n - 1) xs
-    → MatchOption r P (λ offset. (1 < length ns) × (number offset ≡ pos (last_of ns)) × (numbers_of number after ≡ take (length ns - 1) ns))
+pub popped : {O : Type 0} (number : O → ℤ) (most : ℕ) (xs after : List O) (ns : List ℕ) (n m : ℕ) (r : Option O)
+    (P : Type 0) → KeepsOffsets number most xs → numbers_of number xs ≡ ns → n ≡ length xs → 1 < n
+    → MatchOption r ((n ≡ 0) × (m ≡ 0)) (λ _. m + 1 ≡ n) → ((d : O) → 0 < n → r ≡ Some (get_or xs (n - 1) d))
+    → after ≡ take (n - 1) xs
+    → MatchOption r P (λ offset. (1 < length ns) × (number offset ≡ pos (last_of ns))
+    × (numbers_of number after ≡ take (length ns - 1) ns))
 popped number most xs after ns n m None P keeps is long more cases value rest = absurd (omega (arith, cases.0))
 popped number most xs after ns n m (Some x) P keeps is long more cases value rest =
     let found = value x (omega arith) in

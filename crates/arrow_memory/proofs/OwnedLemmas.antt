@@ -1,5 +1,6 @@
 -- Pieces of a list that lose an end.
-use Rattle.std.proofs.Common.{◌≡◌, ℕ, zero, suc, ◌+◌, ◌-◌, ◌<◌, ◌≤◌, List, [], ◌∷◌, ◌++◌, length, take, drop, slice_get, Some, ap, ◌∙◌, arith, length-take, length-drop, get_or}
+use Rattle.std.proofs.Common.{◌≡◌, ℕ, zero, suc, ◌+◌, ◌-◌, ◌<◌, ◌≤◌, List, [], ◌∷◌, ◌++◌, length, take, drop}
+use Rattle.std.proofs.Common.{slice_get, Some, ap, ◌∙◌, arith, length-take, length-drop, get_or}
 use Rattle.std.proofs.lemmas.Grind.{take_at_read}
 use Rattle.std.proofs.lemmas.List.{get_or-drop}
 use Rattle.std.proofs.lemmas.Option.{get_or_from_slice_get, slice_get_read}
@@ -29,10 +30,13 @@ piece_last xs i e x low high at =
     let one : e - i ≡ n + 1 = omega arith in
     let place : i + n ≡ e - 1 = omega arith in
     let long : n < length (drop i xs) = simp length-drop (omega arith) in
-    let read : get_or (drop i xs) n x ≡ x = get_or-drop i xs n x ∙ ap (λ k. get_or xs k x) place ∙ get_or_from_slice_get xs (e - 1) x x at in
-    ap (λ k. take k (drop i xs)) one ∙ (take_at_read (drop i xs) n x long).1 ∙ ap (λ v. take n (drop i xs) ++ v ∷ []) read
+    let read : get_or (drop i xs) n x ≡ x = get_or-drop i xs n x ∙ ap (λ k. get_or xs k x) place
+    ∙ get_or_from_slice_get xs (e - 1) x x at in
+    ap (λ k. take k (drop i xs)) one ∙ (take_at_read (drop i xs) n x long).1
+    ∙ ap (λ v. take n (drop i xs) ++ v ∷ []) read
 
-pub length_piece : {S : Type 0} (xs : List S) (i e : ℕ) → i ≤ e → e ≤ length xs → length (take (e - i) (drop i xs)) ≡ e - i
+pub length_piece : {S : Type 0} (xs : List S) (i e : ℕ) → i ≤ e → e ≤ length xs
+    → length (take (e - i) (drop i xs)) ≡ e - i
 length_piece xs i e low high = simp (length-take, length-drop) (omega arith)
 
 pub ruleset owned_steps = (piece_none, piece_first, piece_last, length_piece, slice_get_read)

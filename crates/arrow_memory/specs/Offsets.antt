@@ -1,6 +1,7 @@
 -- Offsets: n slots have n + 1 of them, and slot i is the bytes from offset i up to offset i + 1
 -- (Arrow columnar format, "Variable-size Binary Layout").
-use Rattle.std.specs.Prelude.{◌≡◌, ℕ, ◌+◌, ◌-◌, ◌<◌, ◌≤◌, ℤ, pos, Bool, false, ◌||◌, List, [], ◌∷◌, length, map, drop, slice_index, Option, Some, None, codes, if◌then◌else◌, int_lt, unsigned_abs}
+use Rattle.std.specs.Prelude.{◌≡◌, ℕ, ◌+◌, ◌-◌, ◌<◌, ◌≤◌, ℤ, pos, Bool, false, ◌||◌, List, [], ◌∷◌, length, map}
+use Rattle.std.specs.Prelude.{drop, slice_index, Option, Some, None, codes, if◌then◌else◌, int_lt, unsigned_abs}
 use Rattle.arrow_types.specs.declared.error.Error.{Error}
 use Rattle.arrow_types.specs.declared.error.Error.TheVariants as error
 

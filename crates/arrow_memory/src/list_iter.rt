@@ -1,4 +1,4 @@
-//! Iterators that give, from either end, the items of a list that contracts know.
+//! Double-ended iterators whose remaining items contracts know as a list.
 ghost use Rattle.std.specs.Prelude.{◌≡◌, ◌<◌, Bool, List, [], ◌∷◌, ◌++◌, length, ⊤};
 ghost use Rattle.std.specs.Iterator.{YieldsFirstBy, YieldsLastBy};
 
@@ -7,53 +7,53 @@ use std::iter::Copied;
 use std::slice::Iter;
 use std::vec::IntoIter;
 
-/// An iterator from both ends whose items that are left are a known list.
+/// A double-ended iterator whose remaining items are a known list.
 pub trait ListIter: Drop {
-    /// What it gives.
+    /// The type of the items.
     type Item;
 
     /// What contracts see of an item.
     type Seen;
 
-    /// What an item shows.
+    /// What contracts see of this item.
     ghost seen: { Self.Item → Self.Seen };
 
     /// The items that are left, in order.
     ghost rest: { Self → List Self.Seen };
 
-    /// What holds of an iterator that may be called; it stays so.
+    /// The condition of a call; every call keeps it.
     ghost can_take: { Self → Type 0 } = { λ _. ⊤ };
 
-    /// The next item from the front.
+    /// Removes and returns the first item that is left.
     fn take_first(&mut self) -> Option<Self::Item>
         requires { can_take self.old }
         ensures keeps { can_take self.new }
         ensures first { YieldsFirstBy seen rest self.old result self.new };
 
-    /// The next item from the back.
+    /// Removes and returns the last item that is left.
     fn take_last(&mut self) -> Option<Self::Item>
         requires { can_take self.old }
         ensures keeps { can_take self.new }
         ensures last { YieldsLastBy seen rest self.old result self.new };
 
-    /// How many items are left.
+    /// Returns the number of items left.
     fn count_left(&self) -> usize
         requires { can_take self.now }
         ensures { result ≡ length (rest self.now) };
 }
 
-/// An iterator from both ends over marks that contracts know. Whoever knows that a mark is left asks
-/// for it without an `Option`.
+/// A double-ended iterator over marks. A caller that knows that a mark is left gets it without an
+/// `Option`.
 pub trait MarkIter: Drop {
     /// The marks that are left, in order.
     ghost marks: { Self → List Bool };
 
-    /// Passes over the first mark that is left, and answers it.
+    /// Removes and returns the first mark that is left.
     fn pass(&mut self) -> bool
         requires { 0 < length (marks self.old) }
         ensures { marks self.old ≡ result ∷ marks self.new };
 
-    /// Passes over the last mark that is left, and answers it.
+    /// Removes and returns the last mark that is left.
     fn pass_back(&mut self) -> bool
         requires { 0 < length (marks self.old) }
         ensures { marks self.old ≡ marks self.new ++ result ∷ [] };

@@ -1,4 +1,4 @@
-//! Offsets of the variable-size layout: where each slot's bytes begin and end.
+//! Offsets of the variable-size layout: where the bytes of each slot begin and end.
 mod faults;
 mod growing;
 mod items;

@@ -11,14 +11,15 @@ use either::{Either, Left, Right};
 use std::mem;
 use std::rc::Rc;
 
-/// Takes two vectors out where that is asked for and no one else has either. Both are held for writing before
-/// one is taken, and empty ones, which need no memory, are left.
+/// Takes two vectors out of their shared owners if `wanted` and neither is shared. Both are
+/// borrowed for writing before either is taken, and empty vectors, which need no memory, are left.
 fn take_two<S, T>(
     asked: bool,
     first: &mut Rc<Vec<S>>,
     second: &mut Rc<Vec<T>>,
 ) -> Option<(Vec<S>, Vec<T>)>
-    ensures { MatchOption result ((first.new.value ≡ first.old.value) × (second.new.value ≡ second.old.value)) (λ taken. IsTrue asked × (taken.0 ≡ first.old.value) × (taken.1 ≡ second.old.value)) }
+    ensures { MatchOption result ((first.new.value ≡ first.old.value) × (second.new.value ≡ second.old.value))
+        (λ taken. IsTrue asked × (taken.0 ≡ first.old.value) × (taken.1 ≡ second.old.value)) }
 {
     if !asked {
         return None;
@@ -37,14 +38,16 @@ fn take_two<S, T>(
     ))
 }
 
-/// Takes three vectors out, likewise.
+/// Takes three vectors out, as [`take_two`].
 fn take_three<S, T, U>(
     asked: bool,
     first: &mut Rc<Vec<S>>,
     second: &mut Rc<Vec<T>>,
     third: &mut Rc<Vec<U>>,
 ) -> Option<(Vec<S>, Vec<T>, Vec<U>)>
-    ensures { MatchOption result ((first.new.value ≡ first.old.value) × (second.new.value ≡ second.old.value) × (third.new.value ≡ third.old.value)) (λ taken. IsTrue asked × (taken.0 ≡ first.old.value) × (taken.1 ≡ second.old.value) × (taken.2 ≡ third.old.value)) }
+    ensures { MatchOption result ((first.new.value ≡ first.old.value) × (second.new.value ≡ second.old.value)
+        × (third.new.value ≡ third.old.value)) (λ taken. IsTrue asked × (taken.0 ≡ first.old.value)
+        × (taken.1 ≡ second.old.value) × (taken.2 ≡ third.old.value)) }
 {
     if !asked {
         return None;
@@ -73,7 +76,8 @@ fn thaw_values<T: Drop>(
     values: Buffer<T>,
     mask: Bitmap,
 ) -> Either<(Buffer<T>, Bitmap), (Vec<T>, MutableBitmap)>
-    ensures { MatchEither result (λ parts. (parts.0 ≡ values) × (parts.1 ≡ mask)) (λ parts. (parts.0.items ≡ values) × (parts.1 ≡ mask)) }
+    ensures { MatchEither result (λ parts. (parts.0 ≡ values) × (parts.1 ≡ mask)) (λ parts. (parts.0.items ≡ values)
+        × (parts.1 ≡ mask)) }
 {
     let (mut items, offset, length) = values.into_parts();
     let (mut bytes, first, marks, unset) = mask.into_parts();
@@ -87,13 +91,15 @@ fn thaw_values<T: Drop>(
     }
 }
 
-/// The vector of the values and the marks to change, where no one else has either and both are shown
-/// from the first on, the values whole; else the parts as given.
+/// Converts values and their mask into a vector and a growing bitmap, without copying them, if
+/// neither is shared, the values show all of their vector, and the mask begins at its first bit.
+/// Otherwise returns both unchanged.
 pub fn into_mut_values<T: Drop>(
     values: Buffer<T>,
     validity: Option<Bitmap>,
 ) -> Either<(Buffer<T>, Option<Bitmap>), (Vec<T>, Option<MutableBitmap>)>
-    ensures { MatchEither result (λ parts. (parts.0 ≡ values) × (parts.1 ≡ validity)) (λ parts. (parts.0.items ≡ values) × (parts.1 ≡ validity)) }
+    ensures { MatchEither result (λ parts. (parts.0 ≡ values) × (parts.1 ≡ validity)) (λ parts.
+        (parts.0.items ≡ values) × (parts.1 ≡ validity)) }
 {
     match validity {
         None => match values.into_mut() {
@@ -107,12 +113,13 @@ pub fn into_mut_values<T: Drop>(
     }
 }
 
-/// Thaws bits and their mask.
+/// Thaws truth values and their mask.
 fn thaw_bits(
     values: Bitmap,
     mask: Bitmap,
 ) -> Either<(Bitmap, Bitmap), (MutableBitmap, MutableBitmap)>
-    ensures { MatchEither result (λ parts. (parts.0 ≡ values) × (parts.1 ≡ mask)) (λ parts. (parts.0 ≡ values) × (parts.1 ≡ mask)) }
+    ensures { MatchEither result (λ parts. (parts.0 ≡ values) × (parts.1 ≡ mask)) (λ parts. (parts.0 ≡ values)
+        × (parts.1 ≡ mask)) }
 {
     let (mut bits, offset, length, clear) = values.into_parts();
     let (mut bytes, first, marks, unset) = mask.into_parts();
@@ -128,13 +135,14 @@ fn thaw_bits(
     }
 }
 
-/// The bits and the marks to change, where no one else has either and both are shown from the first on;
-/// else the parts as given.
+/// Converts two bitmaps, values and mask, into growing ones, without copying them, if neither is
+/// shared and both begin at their first bit. Otherwise returns both unchanged.
 pub fn into_mut_bits(
     values: Bitmap,
     validity: Option<Bitmap>,
 ) -> Either<(Bitmap, Option<Bitmap>), (MutableBitmap, Option<MutableBitmap>)>
-    ensures { MatchEither result (λ parts. (parts.0 ≡ values) × (parts.1 ≡ validity)) (λ parts. (parts.0 ≡ values) × (parts.1 ≡ validity)) }
+    ensures { MatchEither result (λ parts. (parts.0 ≡ values) × (parts.1 ≡ validity)) (λ parts. (parts.0 ≡ values)
+        × (parts.1 ≡ validity)) }
 {
     match validity {
         None => match values.into_mut() {
@@ -154,7 +162,8 @@ fn thaw_slots<O: Offset>(
     values: Buffer<u8>,
 ) -> Either<(OffsetsBuffer<O>, Buffer<u8>), (Offsets<O>, Vec<u8>)>
     requires { last_of offsets ≤ length values }
-    ensures { MatchEither result (λ parts. (parts.0 ≡ offsets) × (parts.1 ≡ values)) (λ parts. (parts.0 ≡ offsets) × (parts.1.items ≡ take (last_of offsets) values)) }
+    ensures { MatchEither result (λ parts. (parts.0 ≡ offsets) × (parts.1 ≡ values)) (λ parts. (parts.0 ≡ offsets)
+        × (parts.1.items ≡ take (last_of offsets) values)) }
 {
     let end = offsets.last().to_usize();
     let OffsetsBuffer { offsets } = offsets;
@@ -183,7 +192,8 @@ fn thaw_slots_with_mask<O: Offset>(
     mask: Bitmap,
 ) -> Either<(OffsetsBuffer<O>, Buffer<u8>, Bitmap), (Offsets<O>, Vec<u8>, MutableBitmap)>
     requires { last_of offsets ≤ length values }
-    ensures { MatchEither result (λ parts. (parts.0 ≡ offsets) × (parts.1 ≡ values) × (parts.2 ≡ mask)) (λ parts. (parts.0 ≡ offsets) × (parts.1.items ≡ take (last_of offsets) values) × (parts.2 ≡ mask)) }
+    ensures { MatchEither result (λ parts. (parts.0 ≡ offsets) × (parts.1 ≡ values) × (parts.2 ≡ mask)) (λ parts.
+        (parts.0 ≡ offsets) × (parts.1.items ≡ take (last_of offsets) values) × (parts.2 ≡ mask)) }
 {
     let end = offsets.last().to_usize();
     let OffsetsBuffer { offsets } = offsets;
@@ -208,8 +218,9 @@ fn thaw_slots_with_mask<O: Offset>(
     }
 }
 
-/// The offsets, the bytes up to the last of them and the marks to change, where no one else has any of
-/// these and all are shown from the first on, the offsets whole; else the parts as given.
+/// Converts offsets, bytes and a mask into growing ones, without copying them, if none is shared,
+/// the offsets show all of their vector, and bytes and mask begin at the first place. Bytes after
+/// the last offset are cut off. Otherwise returns all unchanged.
 pub fn into_mut_bytes<O: Offset>(
     offsets: OffsetsBuffer<O>,
     values: Buffer<u8>,
@@ -219,7 +230,8 @@ pub fn into_mut_bytes<O: Offset>(
     (Offsets<O>, Vec<u8>, Option<MutableBitmap>),
 >
     requires { last_of offsets ≤ length values }
-    ensures { MatchEither result (λ parts. (parts.0 ≡ offsets) × (parts.1 ≡ values) × (parts.2 ≡ validity)) (λ parts. (parts.0 ≡ offsets) × (parts.1.items ≡ take (last_of offsets) values) × (parts.2 ≡ validity)) }
+    ensures { MatchEither result (λ parts. (parts.0 ≡ offsets) × (parts.1 ≡ values) × (parts.2 ≡ validity))
+        (λ parts. (parts.0 ≡ offsets) × (parts.1.items ≡ take (last_of offsets) values) × (parts.2 ≡ validity)) }
 {
     match validity {
         None => match thaw_slots(offsets, values) {

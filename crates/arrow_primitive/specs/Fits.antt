@@ -9,7 +9,8 @@ use Rattle.arrow_column.specs.Column.{unfit_mask}
 
 -- the refusal of a type of another physical type
 abbrev pub wrong_type : Refusal
-wrong_type = out_of_spec (codes "PrimitiveArray can only be initialized with a DataType whose physical type is Primitive")
+wrong_type = out_of_spec
+    (codes "PrimitiveArray can only be initialized with a DataType whose physical type is Primitive")
 
 -- the tests of parts, in order: a mask has a mark for each value, and the type is one of the array's physical type
 abbrev pub parts_tests : {T : Type 0} → PrimitiveType → LogicalType → List T → Option (List Bool) → Tests

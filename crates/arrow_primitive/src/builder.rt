@@ -1,9 +1,12 @@
-//! The builder of arrays of native values.
+//! Builders of arrays of native values.
 ghost use Rattle.std.specs.Prelude.{◌≡◌, ◌<◌, ◌≤◌, length, Some, None, OnOk, IfOk, IfErr, IsOk};
 ghost use Rattle.std.specs.Option.{option_copied};
+ghost use Rattle.arrow_types.specs.Failures.{OnlyOutOfMemory, OutOfMemoryKeeps};
 ghost use Rattle.arrow_types.specs.Types.{logical_type, IsRightType, default_logical_type};
 ghost use Rattle.arrow_memory.specs.Rows.{FitsMask};
-ghost use Rattle.arrow_column.specs.Column.{Column, IsColumn, append_slot, column_of_parts, empty_column, without_needless_mask, last_slot, mask_of, stored_values, with_slot, with_type, without_last};
+ghost use Rattle.arrow_column.specs.Column.{Column, IsColumn, append_slot, column_of_parts, empty_column};
+ghost use Rattle.arrow_column.specs.Column.{without_needless_mask, last_slot, mask_of, stored_values, with_slot};
+ghost use Rattle.arrow_column.specs.Column.{with_type, without_last};
 
 use crate::PrimitiveArray;
 use arrow_column::GrowingColumn;
@@ -16,7 +19,7 @@ use arrow_types::physical_type::PhysicalType;
 use std::alloc::Global;
 use std::marker::Model;
 
-/// A list of native values, each of which may be null, that can be changed and grow.
+/// A growing array of native values, each of which may be null: the builder of [`PrimitiveArray`].
 #[derive(Drop)]
 pub struct MutablePrimitiveArray<T: NativeType> {
     pub(crate) column: GrowingColumn<Vec<T>>,
@@ -36,7 +39,8 @@ impl<T: NativeType> Model for MutablePrimitiveArray<T> {
 }
 
 impl<T: NativeType> MutablePrimitiveArray<T> {
-    /// No slot, and no mask; the data type is the default of the native type.
+    /// Creates a builder of no slots, without a mask, of the native type's default data type. Does
+    /// not allocate.
     #[inline(always)]
     pub fn new(alloc: Global) -> Self
         ensures { result ≡ empty_column (default_logical_type T.PRIMITIVE) }
@@ -44,14 +48,15 @@ impl<T: NativeType> MutablePrimitiveArray<T> {
         MutablePrimitiveArray::from_vec(Vec::new(alloc))
     }
 
-    /// No slot, and no mask; the data type is the default of the native type.
+    /// Creates a builder of no slots, as [`MutablePrimitiveArray::new`].
     pub fn default(alloc: Global) -> Self
         ensures { result ≡ empty_column (default_logical_type T.PRIMITIVE) }
     {
         MutablePrimitiveArray::new(alloc)
     }
 
-    /// Valid slots of these values, and no mask; the data type is the default of the native type.
+    /// Creates a builder of valid slots with the values of a vector, without copying them and
+    /// without a mask, of the native type's default data type.
     #[inline(always)]
     pub fn from_vec(values: Vec<T>) -> Self
         ensures { result ≡ column_of_parts (default_logical_type T.PRIMITIVE) values.items None }
@@ -61,7 +66,8 @@ impl<T: NativeType> MutablePrimitiveArray<T> {
         }
     }
 
-    /// No slot, and no mask. The type has to be one of the builder's physical type.
+    /// Creates a builder of no slots, without a mask. The data type must have the builder's
+    /// physical type.
     pub fn from_data_type(alloc: Global, data_type: DataType) -> Self
         requires { IsRightType (PhysicalType.Primitive T.PRIMITIVE) (logical_type data_type) }
         ensures { result ≡ empty_column (logical_type data_type) }
@@ -71,21 +77,22 @@ impl<T: NativeType> MutablePrimitiveArray<T> {
         }
     }
 
-    /// No slot and no mask, with room for so many slots.
+    /// Creates a builder of no slots, without a mask, with room for at least `capacity` slots.
     ///
     /// # Errors
-    /// `OutOfMemory` where memory is refused.
+    /// `OutOfMemory` if an allocation fails.
     pub fn with_capacity(alloc: Global, capacity: usize) -> Result<Self, Error>
         ensures ok { IfOk result (λ builder. builder ≡ empty_column (default_logical_type T.PRIMITIVE)) }
-        ensures err { IfErr result (λ e. e ≡ Error.OutOfMemory) }
+        ensures err { OnlyOutOfMemory result }
     {
         Ok(MutablePrimitiveArray::from_vec(Vec::with_capacity(alloc, capacity)?))
     }
 
-    /// No slot and no mask, with room for so many slots. The type has to be one of the builder's physical type.
+    /// Creates a builder of no slots, without a mask, with room for at least `capacity` slots. The
+    /// data type must have the builder's physical type.
     ///
     /// # Errors
-    /// `OutOfMemory` where memory is refused.
+    /// `OutOfMemory` if an allocation fails.
     pub fn with_capacity_from(
         alloc: Global,
         capacity: usize,
@@ -93,14 +100,14 @@ impl<T: NativeType> MutablePrimitiveArray<T> {
     ) -> Result<Self, Error>
         requires { IsRightType (PhysicalType.Primitive T.PRIMITIVE) (logical_type data_type) }
         ensures ok { IfOk result (λ builder. builder ≡ empty_column (logical_type data_type)) }
-        ensures err { IfErr result (λ e. e ≡ Error.OutOfMemory) }
+        ensures err { OnlyOutOfMemory result }
     {
         Ok(MutablePrimitiveArray {
             column: GrowingColumn::new(data_type, Vec::with_capacity(alloc, capacity)?, None),
         })
     }
 
-    /// The data type, the stored values, and the mask where one is held.
+    /// Returns the data type, the stored values, and the mask if one is held.
     pub fn into_inner(self) -> (DataType, Vec<T>, Option<MutableBitmap>)
         ensures data_type { logical_type result.0 ≡ self.data_type }
         ensures values { result.1.items ≡ stored_values self }
@@ -113,7 +120,7 @@ impl<T: NativeType> MutablePrimitiveArray<T> {
         self.column.into_inner()
     }
 
-    /// The same slots under another type, which has to be one of the builder's physical type.
+    /// Returns the same slots under another data type, which must have the builder's physical type.
     pub fn to(self, data_type: DataType) -> Self
         requires { IsRightType (PhysicalType.Primitive T.PRIMITIVE) (logical_type data_type) }
         ensures { result ≡ with_type self (logical_type data_type) }
@@ -123,7 +130,7 @@ impl<T: NativeType> MutablePrimitiveArray<T> {
         }
     }
 
-    /// The number of slots.
+    /// Returns the number of slots.
     #[inline(always)]
     pub fn len(&self) -> usize
         ensures { result ≡ length self.now.rows }
@@ -131,14 +138,14 @@ impl<T: NativeType> MutablePrimitiveArray<T> {
         self.column.len()
     }
 
-    /// How many values there is room for without a growth of the values; a mask may have less.
+    /// Returns the number of values for which there is room; a mask may have less.
     pub fn capacity(&self) -> usize
         ensures { length self.now.rows ≤ result }
     {
         self.column.values().capacity()
     }
 
-    /// The stored values, those of null slots too.
+    /// Returns the stored values, those of null slots included.
     #[inline(always)]
     pub fn values(&self) -> &Vec<T>
         ensures { result.now.items ≡ stored_values self.now }
@@ -146,7 +153,7 @@ impl<T: NativeType> MutablePrimitiveArray<T> {
         self.column.values()
     }
 
-    /// The mask, where one is held; else no slot is null.
+    /// Returns the mask if one is held; otherwise no slot is null.
     #[inline(always)]
     pub fn validity(&self) -> Option<&MutableBitmap>
         ensures mask { option_copied result ≡ mask_of self.now }
@@ -155,7 +162,7 @@ impl<T: NativeType> MutablePrimitiveArray<T> {
         self.column.validity()
     }
 
-    /// The data type.
+    /// Returns the data type.
     #[inline(always)]
     pub fn data_type(&self) -> &DataType
         ensures value { logical_type result.now ≡ self.now.data_type }
@@ -164,14 +171,14 @@ impl<T: NativeType> MutablePrimitiveArray<T> {
         self.column.data_type()
     }
 
-    /// Appends a slot. A null stores the default value, and a mask is held from then on.
+    /// Appends a slot. A null stores the default value, and the builder holds a mask from then on.
     ///
     /// # Errors
-    /// `OutOfMemory` where a growth is refused; the builder is then as before.
+    /// `OutOfMemory` if an allocation fails; the builder is then unchanged.
     #[inline(always)]
     pub fn push(&mut self, value: Option<T>) -> Result<(), Error>
         ensures ok { OnOk result (self.new ≡ append_slot T.zero self.old value) }
-        ensures err { IfErr result (λ e. (e ≡ Error.OutOfMemory) × (self.new ≡ self.old)) }
+        ensures err { OutOfMemoryKeeps result self.old self.new }
     {
         match value {
             Some(value) => self.column.push_valid(value),
@@ -179,14 +186,14 @@ impl<T: NativeType> MutablePrimitiveArray<T> {
         }
     }
 
-    /// Appends a slot, as `push` does.
+    /// Appends a slot, as [`MutablePrimitiveArray::push`].
     ///
     /// # Errors
-    /// `OutOfMemory` where a growth is refused; the builder is then as before.
+    /// As `push`.
     #[inline(always)]
     pub fn try_push(&mut self, value: Option<T>) -> Result<(), Error>
         ensures ok { OnOk result (self.new ≡ append_slot T.zero self.old value) }
-        ensures err { IfErr result (λ e. (e ≡ Error.OutOfMemory) × (self.new ≡ self.old)) }
+        ensures err { OutOfMemoryKeeps result self.old self.new }
     {
         self.push(value)
     }
@@ -194,16 +201,16 @@ impl<T: NativeType> MutablePrimitiveArray<T> {
     /// Appends a null.
     ///
     /// # Errors
-    /// `OutOfMemory` where a growth is refused; the builder is then as before.
+    /// `OutOfMemory` if an allocation fails; the builder is then unchanged.
     #[inline(always)]
     pub fn push_null(&mut self) -> Result<(), Error>
         ensures ok { OnOk result (self.new ≡ append_slot T.zero self.old None) }
-        ensures err { IfErr result (λ e. (e ≡ Error.OutOfMemory) × (self.new ≡ self.old)) }
+        ensures err { OutOfMemoryKeeps result self.old self.new }
     {
         self.column.push_null()
     }
 
-    /// Removes the last slot and answers it; `None` where it is null, and where there is none.
+    /// Removes the last slot and returns it; `None` if it is null or there is none.
     #[inline(always)]
     pub fn pop(&mut self) -> Option<T>
         ensures slot { result ≡ last_slot self.old }
@@ -214,31 +221,32 @@ impl<T: NativeType> MutablePrimitiveArray<T> {
         self.column.remove_last().then_some(value)
     }
 
-    /// Replaces the slot at a place. A null stores the default value, and a mask is held from then on.
+    /// Replaces the slot at `i`. A null stores the default value, and the builder holds a mask from
+    /// then on.
     ///
     /// # Errors
-    /// `OutOfMemory` where a mask's memory is refused; the builder is then as before.
+    /// `OutOfMemory` if an allocation for the mask fails; the builder is then unchanged.
     #[inline(always)]
     pub fn set(&mut self, i: usize, value: Option<T>) -> Result<(), Error>
         requires { i < length self.old.rows }
         ensures ok { OnOk result (self.new ≡ with_slot T.zero self.old i value) }
-        ensures err { IfErr result (λ e. (e ≡ Error.OutOfMemory) × (self.new ≡ self.old)) }
+        ensures err { OutOfMemoryKeeps result self.old self.new }
     {
         self.column.set(i, value)
     }
 
-    /// Makes room for so many slots more, in a held mask too.
+    /// Reserves room for at least `additional` more slots, in a held mask too.
     ///
     /// # Errors
-    /// `OutOfMemory` where a growth is refused.
+    /// `OutOfMemory` if an allocation fails.
     pub fn reserve(&mut self, additional: usize) -> Result<(), Error>
         ensures kept { self.new ≡ self.old }
-        ensures err { IfErr result (λ e. e ≡ Error.OutOfMemory) }
+        ensures err { OnlyOutOfMemory result }
     {
         self.column.reserve(additional)
     }
 
-    /// Gives back the room that is not used.
+    /// Gives unused room back to the allocator, if it takes it.
     ///
     /// # Errors
     /// Never: if the allocator refuses a smaller allocation, the room stays.
@@ -249,26 +257,27 @@ impl<T: NativeType> MutablePrimitiveArray<T> {
         self.column.shrink_to_fit()
     }
 
-    /// A copy of the builder.
+    /// Returns a copy.
     ///
     /// # Errors
-    /// `OutOfMemory` where memory is refused.
+    /// `OutOfMemory` if an allocation fails.
     pub fn clone(&self) -> Result<Self, Error>
         ensures ok { IfOk result (λ copy. copy ≡ self.now) }
-        ensures err { IfErr result (λ e. e ≡ Error.OutOfMemory) }
+        ensures err { OnlyOutOfMemory result }
     {
         Ok(MutablePrimitiveArray {
             column: self.column.clone()?,
         })
     }
 
-    /// The array of the same slots, which holds a mask exactly where a slot is null.
+    /// Converts the builder into an array of the same slots, which holds a mask exactly if a slot
+    /// is null.
     ///
     /// # Errors
-    /// `OutOfMemory` where a growth is refused; the builder is then lost.
+    /// `OutOfMemory` if an allocation fails; the builder is then dropped.
     pub fn freeze(self) -> Result<PrimitiveArray<T>, Error>
         ensures ok { IfOk result (λ array. array ≡ without_needless_mask self) }
-        ensures err { IfErr result (λ e. e ≡ Error.OutOfMemory) }
+        ensures err { OnlyOutOfMemory result }
     {
         let (data_type, values, validity) = self.column.freeze_mask()?;
         Ok(PrimitiveArray::new(data_type, Buffer::from_vec(values)?, validity))

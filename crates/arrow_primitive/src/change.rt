@@ -1,4 +1,4 @@
-//! Arrays and builders whose values or masks are replaced, and arrays that are thawed.
+//! Replacement of values and masks, and thawing of arrays.
 ghost use Rattle.std.specs.Prelude.{◌≡◌, List, Bool, Some, length, IfSome, IsTrue, MatchOption, vec_len};
 ghost use Rattle.std.specs.Bool.{OnFalse};
 ghost use Rattle.std.specs.Borrow.{MutBor};
@@ -14,7 +14,7 @@ use arrow_types::native_type::NativeType;
 use either::{Either, Left, Right};
 
 impl<T: NativeType> PrimitiveArray<T> {
-    /// Replaces the mask, which has a mark for each slot; without one every slot is valid.
+    /// Replaces the mask, which must have a mark for each slot; without one every slot is valid.
     pub fn set_validity(&mut self, validity: Option<Bitmap>)
         requires { IfSome validity (λ marks. length marks ≡ length self.old.rows) }
         ensures { self.new ≡ with_mask self.old validity }
@@ -22,7 +22,8 @@ impl<T: NativeType> PrimitiveArray<T> {
         self.column.set_validity(validity);
     }
 
-    /// The same stored values under another mask, which has a mark for each slot; without one every slot is valid.
+    /// Returns the same stored values under another mask, which must have a mark for each slot;
+    /// without one every slot is valid.
     pub fn with_validity(mut self, validity: Option<Bitmap>) -> Self
         requires { IfSome validity (λ marks. length marks ≡ length self.rows) }
         ensures { result ≡ with_mask self validity }
@@ -31,16 +32,20 @@ impl<T: NativeType> PrimitiveArray<T> {
         self
     }
 
-    /// Replaces a held mask by what the closure makes of it, as many marks; without a mask nothing is done.
+    /// Replaces a held mask by what the closure returns for it, which must have equally many marks.
+    /// Does nothing if no mask is held.
     pub fn apply_validity<F: FnOnce(Bitmap) -> Bitmap + Drop>(&mut self, change: F)
         requires callable { IfSome (mask_of self.old) (λ marks. F.pre change marks) }
-        requires keeps { IfSome (mask_of self.old) (λ marks. (changed : List Bool) → F.post change marks changed → length changed ≡ length marks) }
-        ensures { MatchOption (mask_of self.old) (self.new ≡ self.old) (λ marks. (changed : List Bool) × F.post change marks changed × (length changed ≡ length marks) × (self.new ≡ with_mask self.old (Some changed))) }
+        requires keeps { IfSome (mask_of self.old) (λ marks. (changed : List Bool) → F.post change marks changed
+            → length changed ≡ length marks) }
+        ensures { MatchOption (mask_of self.old) (self.new ≡ self.old) (λ marks. (changed : List Bool)
+            × F.post change marks changed × (length changed ≡ length marks)
+            × (self.new ≡ with_mask self.old (Some changed))) }
     {
         self.column.apply_validity(change);
     }
 
-    /// Replaces the stored values by as many others. The marks stay.
+    /// Replaces the stored values by equally many others. The marks stay.
     pub fn set_values(&mut self, values: Buffer<T>)
         requires { length values ≡ length self.old.rows }
         ensures { self.new ≡ with_stored self.old values }
@@ -48,7 +53,7 @@ impl<T: NativeType> PrimitiveArray<T> {
         self.column.set_values(values);
     }
 
-    /// As many other stored values under the same marks.
+    /// Returns equally many other stored values under the same marks.
     pub fn with_values(mut self, values: Buffer<T>) -> Self
         requires { length values ≡ length self.rows }
         ensures { result ≡ with_stored self values }
@@ -57,18 +62,21 @@ impl<T: NativeType> PrimitiveArray<T> {
         self
     }
 
-    /// Lends the stored values to be written to, where no one else has them, and tells whether it did. The marks
-    /// stay.
+    /// Calls `change` on the stored values if they are not shared, and returns whether it did. The
+    /// marks stay.
     pub fn get_mut_values<F: FnOnce(&mut [T]) + Drop>(&mut self, change: F) -> bool
         requires { (values : MutBor (List T)) → values.now ≡ stored_values self.old → F.pre change values }
-        ensures changed { IsTrue result → (ws : List T) × FnOnceReturnsAtMut F.FnOnce change (stored_values self.old) tt ws × (length ws ≡ length self.old.rows) × (self.new ≡ with_stored self.old ws) }
+        ensures changed { IsTrue result
+            → (ws : List T) × FnOnceReturnsAtMut F.FnOnce change (stored_values self.old) tt ws
+            × (length ws ≡ length self.old.rows) × (self.new ≡ with_stored self.old ws) }
         ensures unchanged { OnFalse result (self.new ≡ self.old) }
     {
         self.column.get_mut_values(change)
     }
 
-    /// The builder of the same slots, where no one else has the values or the mask and both are shown from the
-    /// first on, the values whole; else the array as it is.
+    /// Converts the array into a builder without copying it, if neither values nor mask are shared,
+    /// the values show all of their vector, and the mask begins at its first bit. Otherwise returns
+    /// the array unchanged.
     pub fn into_mut(self) -> Either<Self, MutablePrimitiveArray<T>>
         ensures { MatchEither result (λ array. array ≡ self) (λ builder. builder ≡ self) }
     {
@@ -80,7 +88,7 @@ impl<T: NativeType> PrimitiveArray<T> {
 }
 
 impl<T: NativeType> MutablePrimitiveArray<T> {
-    /// Replaces the mask, which has a mark for each slot; without one every slot is valid.
+    /// Replaces the mask, which must have a mark for each slot; without one every slot is valid.
     pub fn set_validity(&mut self, validity: Option<MutableBitmap>)
         requires { IfSome validity (λ marks. length marks ≡ length self.old.rows) }
         ensures { self.new ≡ with_mask self.old validity }
@@ -88,7 +96,7 @@ impl<T: NativeType> MutablePrimitiveArray<T> {
         self.column.set_validity(validity);
     }
 
-    /// Replaces the stored values by as many others. The marks stay.
+    /// Replaces the stored values by equally many others. The marks stay.
     pub fn set_values(&mut self, values: Vec<T>)
         requires { length values.items ≡ length self.old.rows }
         ensures { self.new ≡ with_stored self.old values.items }
@@ -96,17 +104,21 @@ impl<T: NativeType> MutablePrimitiveArray<T> {
         self.column.set_values(values);
     }
 
-    /// Replaces the stored values by what the closure makes of them, as many. The marks stay.
+    /// Replaces the stored values by what the closure returns for them, which must be equally many.
+    /// The marks stay.
     pub fn apply_values<F: Fn(Vec<T>) -> Vec<T>>(&mut self, change: F)
         requires callable { (values : _) → values.items ≡ stored_values self.old → F.pre change values }
-        requires keeps { (values changed : _) → values.items ≡ stored_values self.old → F.post change values changed → vec_len changed ≡ length self.old.rows }
-        ensures { (values : _) × (changed : _) × (values.items ≡ stored_values self.old) × F.post change values changed × (vec_len changed ≡ length self.old.rows) × (self.new ≡ with_stored self.old changed.items) }
+        requires keeps { (values changed : _) → values.items ≡ stored_values self.old → F.post change values changed
+            → vec_len changed ≡ length self.old.rows }
+        ensures { (values : _) × (changed : _) × (values.items ≡ stored_values self.old)
+            × F.post change values changed × (vec_len changed ≡ length self.old.rows)
+            × (self.new ≡ with_stored self.old changed.items) }
     {
         self.column.apply_values(change);
     }
 }
 
-/// Once its values were written over, a builder has these values under the same marks.
+/// After its values were written, a builder has these values under the same marks.
 impl<T: NativeType> LendValues<T> for MutablePrimitiveArray<T> {
     ghost use Rattle.arrow_column.specs.Column.{stored_values, with_written};
 
@@ -114,7 +126,7 @@ impl<T: NativeType> LendValues<T> for MutablePrimitiveArray<T> {
 
     ghost written = { with_written };
 
-    /// The stored values, to be written to. The marks stay.
+    /// Borrows the stored values for writing. The marks stay.
     #[inline(always)]
     fn values_mut_slice(&mut self) -> &mut [T] {
         self.column.values_mut_slice()

@@ -1,4 +1,4 @@
-//! Equality of builders of native values, which compares slots alone.
+//! Equality of builders, which compares slots alone.
 ghost use Rattle.std.specs.Prelude.{◌≡◌, ◌↔◌, IsTrue};
 ghost use Rattle.arrow_column.specs.Column.{slots_of};
 ghost use Rattle.arrow_column.specs.SlotEquality.{same_slots};
@@ -13,9 +13,11 @@ impl<T: NativeType> PartialEq for MutablePrimitiveArray<T> {
 
     ghost eq = { λ first second. same_slots T.eq (slots_of first) (slots_of second) };
 
-    ghost laws = { on_per slots_of (partial_equiv_from_equiv (decided (same_slots T.eq) (same_slots-Decides T.eq T.same))) };
+    ghost laws = { on_per slots_of
+        (partial_equiv_from_equiv (decided (same_slots T.eq) (same_slots-Decides T.eq T.same))) };
 
-    /// Whether both have the same slots. Types, held masks and values under nulls are not compared.
+    /// Returns whether both have the same slots. Data types, held masks and values under nulls are
+    /// not compared.
     fn eq(&self, other: &Self) -> bool
         ensures value { result ≡ same_slots T.eq (slots_of self.now) (slots_of other.now) }
         ensures decides { IsTrue result ↔ slots_of self.now ≡ slots_of other.now }

@@ -1,6 +1,7 @@
-//! Builders of native values that grow by many slots.
+//! Growth of builders by many slots.
 ghost use Rattle.std.specs.Prelude.{◌≡◌, List, Option, Some, None, map, replicate, IfSome, IfNone, OnOk, IfErr};
 ghost use Rattle.std.specs.Iterator.{Drains, IsFinite, Yields};
+ghost use Rattle.arrow_types.specs.Failures.{OutOfMemoryKeeps};
 ghost use Rattle.arrow_column.specs.Column.{append_nulls, append_slots, append_values, joined};
 
 use crate::MutablePrimitiveArray;
@@ -10,68 +11,76 @@ use arrow_types::native_type::NativeType;
 
 #[tactic(auto, using(crate::proofs::SlotLemmas::slot_steps))]
 impl<T: NativeType> MutablePrimitiveArray<T> {
-    /// Appends the slots that an iterator gives. What it says of their number is not trusted: room for so many is
-    /// asked for first, and where that is refused nothing is told.
+    /// Appends the slots of an iterator. `size_hint` is only used to reserve room; a reservation
+    /// that fails is ignored.
     ///
     /// # Errors
-    /// `OutOfMemory` where a growth is refused; the slots that came before are then appended.
+    /// `OutOfMemory` if an allocation fails; the slots before the failure stay appended.
     pub fn extend<I: Iterator<Item = Option<T>>>(&mut self, iter: I) -> Result<(), Error>
         requires can { I.can_next iter }
         requires ends { IsFinite (I.remaining iter) }
-        ensures ok { OnOk result ((items : List (Option T)) × Drains I.next_gives iter items × (self.new ≡ append_slots T.zero self.old items)) }
-        ensures err { IfErr result (λ e. (e ≡ Error.OutOfMemory) × ((begun : List (Option T)) × (rest : I) × Yields I.next_gives iter begun rest × (self.new ≡ append_slots T.zero self.old begun))) }
+        ensures ok { OnOk result ((items : List (Option T)) × Drains I.next_gives iter items
+            × (self.new ≡ append_slots T.zero self.old items)) }
+        ensures err { IfErr result (λ e. (e ≡ Error.OutOfMemory) × ((begun : List (Option T)) × (rest : I)
+            × Yields I.next_gives iter begun rest × (self.new ≡ append_slots T.zero self.old begun))) }
     {
         self.column.extend(iter)
     }
 
-    /// Appends the slots that an iterator gives, as `extend` does.
+    /// Appends the slots of an iterator, as [`MutablePrimitiveArray::extend`].
     ///
     /// # Errors
-    /// `OutOfMemory` where a growth is refused; the slots that came before are then appended.
+    /// As `extend`.
     pub fn try_extend<I: Iterator<Item = Option<T>>>(&mut self, iter: I) -> Result<(), Error>
         requires can { I.can_next iter }
         requires ends { IsFinite (I.remaining iter) }
-        ensures ok { OnOk result ((items : List (Option T)) × Drains I.next_gives iter items × (self.new ≡ append_slots T.zero self.old items)) }
-        ensures err { IfErr result (λ e. (e ≡ Error.OutOfMemory) × ((begun : List (Option T)) × (rest : I) × Yields I.next_gives iter begun rest × (self.new ≡ append_slots T.zero self.old begun))) }
+        ensures ok { OnOk result ((items : List (Option T)) × Drains I.next_gives iter items
+            × (self.new ≡ append_slots T.zero self.old items)) }
+        ensures err { IfErr result (λ e. (e ≡ Error.OutOfMemory) × ((begun : List (Option T)) × (rest : I)
+            × Yields I.next_gives iter begun rest × (self.new ≡ append_slots T.zero self.old begun))) }
     {
         self.extend(iter)
     }
 
-    /// Appends valid slots of the values that an iterator gives. What it says of their number is not trusted: room
-    /// for so many is asked for first, and where that is refused nothing is told.
+    /// Appends valid slots with the values of an iterator. `size_hint` is only used to reserve
+    /// room; a reservation that fails is ignored.
     ///
     /// # Errors
-    /// `OutOfMemory` where a growth is refused; the values that came before are then appended.
+    /// `OutOfMemory` if an allocation fails; the values before the failure stay appended.
     pub fn extend_values<I: Iterator<Item = T>>(&mut self, iter: I) -> Result<(), Error>
         requires can { I.can_next iter }
         requires ends { IsFinite (I.remaining iter) }
-        ensures ok { OnOk result ((items : List T) × Drains I.next_gives iter items × (self.new ≡ append_slots T.zero self.old (map Some items))) }
-        ensures err { IfErr result (λ e. (e ≡ Error.OutOfMemory) × ((begun : List T) × (rest : I) × Yields I.next_gives iter begun rest × (self.new ≡ append_slots T.zero self.old (map Some begun)))) }
+        ensures ok { OnOk result ((items : List T) × Drains I.next_gives iter items
+            × (self.new ≡ append_slots T.zero self.old (map Some items))) }
+        ensures err { IfErr result (λ e. (e ≡ Error.OutOfMemory)
+            × ((begun : List T) × (rest : I) × Yields I.next_gives iter begun rest
+            × (self.new ≡ append_slots T.zero self.old (map Some begun)))) }
     {
         self.column.extend_values(iter)
     }
 
-    /// Appends valid slots of these values.
+    /// Appends valid slots with the values of a slice.
     ///
     /// # Errors
-    /// `OutOfMemory` where a growth is refused; the builder is then as before.
+    /// `OutOfMemory` if an allocation fails; the builder is then unchanged.
     #[inline(always)]
     pub fn extend_from_slice(&mut self, items: &[T]) -> Result<(), Error>
         ensures ok { OnOk result (self.new ≡ append_values self.old items.now) }
-        ensures err { IfErr result (λ e. (e ≡ Error.OutOfMemory) × (self.new ≡ self.old)) }
+        ensures err { OutOfMemoryKeeps result self.old self.new }
     {
         self.column.grow_valid(items)
     }
 
-    /// Appends so many equal slots. A null stores the default value, and a mask is held from then on, also where no
-    /// slot is appended.
+    /// Appends `additional` equal slots. A null stores the default value, and the builder holds a
+    /// mask from then on, also if no slot is appended.
     ///
     /// # Errors
-    /// `OutOfMemory` where a growth is refused, as one past `usize::MAX` slots is; the builder is then as before.
+    /// `OutOfMemory` if an allocation fails or the length would pass `usize::MAX`; the builder is
+    /// then unchanged.
     pub fn extend_constant(&mut self, additional: usize, value: Option<T>) -> Result<(), Error>
         ensures valid { IfSome value (λ x. OnOk result (self.new ≡ append_values self.old (replicate additional x))) }
         ensures null { IfNone value (OnOk result (self.new ≡ append_nulls self.old (replicate additional T.zero))) }
-        ensures err { IfErr result (λ e. (e ≡ Error.OutOfMemory) × (self.new ≡ self.old)) }
+        ensures err { OutOfMemoryKeeps result self.old self.new }
     {
         match value {
             Some(value) => self.column.grow_valid(Repeated {
@@ -85,13 +94,14 @@ impl<T: NativeType> MutablePrimitiveArray<T> {
         }
     }
 
-    /// Appends another builder's rows. The type stays; a mask is held where either builder held one.
+    /// Appends the rows of another builder. The data type stays; a mask is held if either builder
+    /// held one.
     ///
     /// # Errors
-    /// `OutOfMemory` where a growth is refused; the builder is then as before.
+    /// `OutOfMemory` if an allocation fails; the builder is then unchanged.
     pub fn try_extend_from_self(&mut self, other: &Self) -> Result<(), Error>
         ensures ok { OnOk result (self.new ≡ joined self.old other.now) }
-        ensures err { IfErr result (λ e. (e ≡ Error.OutOfMemory) × (self.new ≡ self.old)) }
+        ensures err { OutOfMemoryKeeps result self.old self.new }
     {
         self.column.try_extend_from_self(&other.column)
     }

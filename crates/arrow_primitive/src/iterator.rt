@@ -1,4 +1,4 @@
-//! Iterators over arrays and builders of native values.
+//! Iterators over arrays and builders.
 ghost use Rattle.std.specs.Prelude.{◌≡◌};
 ghost use Rattle.std.specs.Slice.Iter.{iter_rest};
 ghost use Rattle.arrow_column.specs.Column.{slots_of, stored_values};
@@ -11,7 +11,7 @@ use arrow_types::native_type::NativeType;
 use std::slice::Iter;
 
 impl<T: NativeType> PrimitiveArray<T> {
-    /// The slots in order.
+    /// Returns an iterator over the slots.
     #[inline(always)]
     pub fn iter(&self) -> ZipValidity<Iter<'_, T>, BitmapIter<'_>>
         ensures { result ≡ slots_of self.now }
@@ -19,7 +19,7 @@ impl<T: NativeType> PrimitiveArray<T> {
         ZipValidity::new(self.column.values().as_slice().iter(), self.column.marks())
     }
 
-    /// The stored values in order, those of null slots too.
+    /// Returns an iterator over the stored values, those of null slots included.
     #[inline(always)]
     pub fn values_iter(&self) -> Iter<'_, T>
         ensures { iter_rest result ≡ stored_values self.now }
@@ -29,7 +29,7 @@ impl<T: NativeType> PrimitiveArray<T> {
 }
 
 impl<T: NativeType> MutablePrimitiveArray<T> {
-    /// The slots in order.
+    /// Returns an iterator over the slots.
     #[inline(always)]
     pub fn iter(&self) -> ZipValidity<Iter<'_, T>, BitmapIter<'_>>
         ensures { result ≡ slots_of self.now }
@@ -37,7 +37,7 @@ impl<T: NativeType> MutablePrimitiveArray<T> {
         ZipValidity::new(self.column.values().iter(), self.column.marks())
     }
 
-    /// The stored values in order, those of null slots too.
+    /// Returns an iterator over the stored values, those of null slots included.
     #[inline(always)]
     pub fn values_iter(&self) -> Iter<'_, T>
         ensures { iter_rest result ≡ stored_values self.now }

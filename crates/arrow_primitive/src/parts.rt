@@ -1,4 +1,4 @@
-//! Arrays and builders made of parts from outside, which are tested.
+//! Arrays and builders made of parts from outside, which are checked.
 ghost use Rattle.std.specs.Prelude.{◌≡◌, IfOk, IfErr};
 ghost use Rattle.arrow_types.specs.Types.{logical_type, refusal};
 ghost use Rattle.arrow_column.specs.Acceptance.{IsFirstFailure, Passes};
@@ -14,19 +14,19 @@ use arrow_types::error::Error;
 use arrow_types::native_type::NativeType;
 use arrow_types::physical_type::PhysicalType;
 
-/// The text of the refusal of a mask.
+/// The text of the error about a mask.
 const UNFIT_MASK: &str = "validity mask length must match the number of values";
 
-/// The text of the refusal of a type.
+/// The text of the error about a data type.
 const WRONG_TYPE: &str =
     "PrimitiveArray can only be initialized with a DataType whose physical type is Primitive";
 
 impl<T: NativeType> PrimitiveArray<T> {
-    /// The array of such parts.
+    /// Creates an array from its parts.
     ///
     /// # Errors
-    /// `OutOfSpec` where a mask has another number of marks than there are values, or else where the type is none
-    /// of the array's physical type.
+    /// `OutOfSpec` with the first of these that fails: a mask has a mark for each value; the data
+    /// type has the array's physical type.
     pub fn try_new(
         data_type: DataType,
         values: Buffer<T>,
@@ -46,10 +46,10 @@ impl<T: NativeType> PrimitiveArray<T> {
         Ok(PrimitiveArray::new(data_type, values, validity))
     }
 
-    /// The array of such parts, as `try_new` makes it.
+    /// Creates an array from its parts, as [`PrimitiveArray::try_new`].
     ///
     /// # Errors
-    /// As of `try_new`.
+    /// As `try_new`.
     pub fn from_inner(
         data_type: DataType,
         values: Buffer<T>,
@@ -65,11 +65,11 @@ impl<T: NativeType> PrimitiveArray<T> {
 }
 
 impl<T: NativeType> MutablePrimitiveArray<T> {
-    /// The builder of such parts.
+    /// Creates a builder from its parts.
     ///
     /// # Errors
-    /// `OutOfSpec` where a mask has another number of marks than there are values, or else where the type is none
-    /// of the builder's physical type.
+    /// `OutOfSpec` with the first of these that fails: a mask has a mark for each value; the data
+    /// type has the builder's physical type.
     pub fn try_new(
         data_type: DataType,
         values: Vec<T>,

@@ -372,3 +372,39 @@ fn slots_that_no_memory_holds(rt: HostRuntime) {
     let room = tells(MutableBooleanArray::with_capacity(rt.alloc(), usize::MAX));
     assert!(rt; [nulls, room] == ["out of memory"; 2]);
 }
+
+/// Whether so many slots are appended, for which no memory is asked.
+fn takes(builder: &mut MutableBooleanArray, count: usize, slot: Option<bool>) -> bool {
+    for _ in 0..count {
+        if builder.push(slot).is_err() {
+            return false;
+        }
+    }
+    true
+}
+
+/// Whether values are in room for a hundred, and nulls are once room for them was given in a mask too.
+fn fits(builder: &mut MutableBooleanArray) -> Result<bool, Error> {
+    let is_first = takes(builder, 100, Some(true));
+    builder.push(None)?;
+    builder.reserve(200)?;
+    Ok(is_first & takes(builder, 200, None))
+}
+
+/// Whether they are in a new builder with room.
+fn fits_room(alloc: Global) -> Result<bool, Error> {
+    match MutableBooleanArray::with_capacity(alloc, 100) {
+        Ok(mut builder) => {
+            let answer = fits(&mut builder);
+            drop(builder);
+            answer
+        }
+        Err(refused) => Err(refused),
+    }
+}
+
+/// Whichever allocation is refused, it is none of those pushes that is.
+#[test]
+fn room_that_was_given(rt: HostRuntime) -> Result<(), Fail> {
+    told(fits_room(rt.alloc()))
+}

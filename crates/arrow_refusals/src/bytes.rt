@@ -564,12 +564,25 @@ fn takes_three<K: Known, O: Offset>(builder: &mut MutableByteArray<K, O>) -> boo
     true
 }
 
-/// Whether they are once room for them was given, twice.
+/// Whether a hundred nulls are.
+fn takes_nulls<K: Known, O: Offset>(builder: &mut MutableByteArray<K, O>) -> bool {
+    for _ in 0..100 {
+        if builder.push_null().is_err() {
+            return false;
+        }
+    }
+    true
+}
+
+/// Whether items are once room for them was given, twice, and then nulls, room for which is in the mask too.
 fn fits<K: Known, O: Offset>(builder: &mut MutableByteArray<K, O>) -> Result<bool, Error> {
     builder.reserve(3, 6)?;
     let is_first = takes_three(builder);
     builder.reserve(3, 6)?;
-    Ok(is_first & takes_three(builder))
+    let is_second = takes_three(builder);
+    builder.push_null()?;
+    builder.reserve(100, 0)?;
+    Ok(is_first & is_second & takes_nulls(builder))
 }
 
 /// Whether they are in a new builder, or in one with room.

@@ -73,10 +73,13 @@ impl Acted for BooleanArray {
 }
 
 /// Narrow bytes of wide ones.
-fn narrowed(wide: Result<BinaryArray<i64>, Error>) -> Result<BinaryArray<i32>, Error> {
+fn narrowed(
+    alloc: Global,
+    wide: Result<BinaryArray<i64>, Error>,
+) -> Result<BinaryArray<i32>, Error> {
     match wide {
         Ok(wide) => {
-            let answer = narrow_binary(&wide);
+            let answer = narrow_binary(alloc, &wide);
             drop(wide);
             answer
         }
@@ -99,17 +102,20 @@ impl Acted for BinaryArray<i32> {
         match act {
             Act::Filter if filter.len() == self.len() => filter_binary(alloc, self, filter),
             Act::Take => take_binary(alloc, self, KEYS),
-            Act::Resize => narrowed(widen_binary(self)),
+            Act::Resize => narrowed(alloc, widen_binary(alloc, self)),
             _ => Err(UNFIT),
         }
     }
 }
 
 /// Narrow text of wide.
-fn narrowed_text(wide: Result<Utf8Array<i64>, Error>) -> Result<Utf8Array<i32>, Error> {
+fn narrowed_text(
+    alloc: Global,
+    wide: Result<Utf8Array<i64>, Error>,
+) -> Result<Utf8Array<i32>, Error> {
     match wide {
         Ok(wide) => {
-            let answer = narrow_utf8(&wide);
+            let answer = narrow_utf8(alloc, &wide);
             drop(wide);
             answer
         }
@@ -131,7 +137,7 @@ impl Acted for Utf8Array<i32> {
         match act {
             Act::Filter if filter.len() == self.len() => filter_utf8(alloc, self, filter),
             Act::Take => take_utf8(alloc, self, KEYS),
-            Act::Resize => narrowed_text(widen_utf8(self)),
+            Act::Resize => narrowed_text(alloc, widen_utf8(alloc, self)),
             _ => Err(UNFIT),
         }
     }

@@ -20,6 +20,8 @@ mod overflows;
 #[cfg(test)]
 mod primitive;
 #[cfg(test)]
+mod runs;
+#[cfg(test)]
 mod session;
 #[cfg(test)]
 mod types;

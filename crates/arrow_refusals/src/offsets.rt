@@ -266,17 +266,23 @@ pub(crate) enum Frozen {
 }
 
 /// Others over wide offsets.
-fn widened(offsets: Result<OffsetsBuffer<i32>, Error>) -> Result<OffsetsBuffer<i64>, Error> {
+fn widened(
+    alloc: Global,
+    offsets: Result<OffsetsBuffer<i32>, Error>,
+) -> Result<OffsetsBuffer<i64>, Error> {
     match offsets {
-        Ok(offsets) => offsets.widen(),
+        Ok(offsets) => OffsetsBuffer::widen(alloc, &offsets),
         Err(refused) => Err(refused),
     }
 }
 
 /// Others over narrow offsets.
-fn narrowed(offsets: Result<OffsetsBuffer<i64>, Error>) -> Result<OffsetsBuffer<i32>, Error> {
+fn narrowed(
+    alloc: Global,
+    offsets: Result<OffsetsBuffer<i64>, Error>,
+) -> Result<OffsetsBuffer<i32>, Error> {
     match offsets {
-        Ok(offsets) => offsets.narrow(),
+        Ok(offsets) => OffsetsBuffer::narrow(alloc, &offsets),
         Err(refused) => Err(refused),
     }
 }
@@ -297,8 +303,8 @@ impl Making for OffsetsBuffer<i32> {
             Frozen::New => OffsetsBuffer::new(alloc),
             Frozen::Freeze => freeze(narrow(alloc, [0].as_slice())),
             Frozen::Clone => copy_of(OffsetsBuffer::new(alloc)),
-            Frozen::Widen => narrowed(widened(OffsetsBuffer::new(alloc))),
-            Frozen::Narrow => narrowed(OffsetsBuffer::new(alloc)),
+            Frozen::Widen => narrowed(alloc, widened(alloc, OffsetsBuffer::new(alloc))),
+            Frozen::Narrow => narrowed(alloc, OffsetsBuffer::new(alloc)),
         }
     }
 }

@@ -330,11 +330,24 @@ fn takes_three(builder: &mut MutablePrimitiveArray<i64>) -> bool {
     true
 }
 
-/// Whether they are once room for three was given, twice.
+/// Whether a hundred nulls are.
+fn takes_nulls(builder: &mut MutablePrimitiveArray<i64>) -> bool {
+    for _ in 0..100 {
+        if builder.push_null().is_err() {
+            return false;
+        }
+    }
+    true
+}
+
+/// Whether three values are once room for three was given, twice, and then nulls, room for which is in the mask too.
 fn fits(builder: &mut MutablePrimitiveArray<i64>) -> Result<bool, Error> {
     let is_first = takes_three(builder);
     builder.reserve(3)?;
-    Ok(is_first & takes_three(builder))
+    let is_second = takes_three(builder);
+    builder.push_null()?;
+    builder.reserve(100)?;
+    Ok(is_first & is_second & takes_nulls(builder))
 }
 
 /// Whether they are in a new builder with room.

@@ -1,127 +1,68 @@
-//! Sessions, and runs of a table.
+//! Sessions.
 use arrow_session::counted::Counted;
 use arrow_session::outcome::Outcome;
 use arrow_session::session::session;
-use arrow_table::{Command, Item, Kind, Reply, Table, run};
 use arrow_testing::all_told;
 use arrow_types::error::Error;
 use std::alloc::Global;
+use std::io;
+use std::io::Read;
 use std::test::Fail;
 
-/// How a session over these lines ends, which writes into this room.
-fn session_into(alloc: Global, lines: &str, room: &mut [u8]) -> Outcome {
-    session(
-        alloc,
-        &mut Counted::new(lines.as_bytes()),
-        &mut Counted::new(room),
-    )
+/// Gives the bytes of lines, and notes that it was asked behind the last of them.
+#[derive(Drop)]
+struct Input<'a> {
+    bytes: &'a [u8],
+    is_ended: &'a mut bool,
 }
 
-/// Whether a session says that memory was refused and has written nothing, or a reply says it of its own command.
+impl Read for Input<'_> {
+    fn read(&mut self, buf: &mut [u8]) -> io::Result<usize> {
+        *self.is_ended |= self.bytes.is_empty();
+        self.bytes.read(buf)
+    }
+}
+
+/// How a session over these lines ends, which writes into this room, and whether it has read them to their end.
+fn session_into(alloc: Global, lines: &str, room: &mut [u8]) -> (Outcome, bool) {
+    let mut is_ended = false;
+    let input = Input {
+        bytes: lines.as_bytes(),
+        is_ended: &mut is_ended,
+    };
+    let outcome = session(alloc, &mut Counted::new(input), &mut Counted::new(room));
+    (outcome, is_ended)
+}
+
+/// Whether a session says that memory was refused and has written nothing, or a reply says it of its own command. Where it has
+/// not read its input to the end, memory was refused to it, and nothing else is right.
 fn replies(alloc: Global) -> Result<bool, Error> {
     let mut room = [0; 29];
     let lines = "new 0 mprim\npush 0 v1\nlen 0";
     match session_into(alloc, lines, room.as_mut_slice()) {
-        Outcome::Memory if room == [0; 29] => Err(Error::OutOfMemory),
-        Outcome::Done if room == *b"ok\nrefused: out of memory\n0\n\0" => Err(Error::OutOfMemory),
-        outcome => Ok((outcome == Outcome::Done) & room.starts_with(b"ok\nok\n1\n\0")),
+        (Outcome::Memory, _) if room == [0; 29] => Err(Error::OutOfMemory),
+        (_, false) => Ok(false),
+        (Outcome::Done, true) if room == *b"ok\nrefused: out of memory\n0\n\0" => Err(
+            Error::OutOfMemory,
+        ),
+        (outcome, true) => Ok((outcome == Outcome::Done) & room.starts_with(b"ok\nok\n1\n\0")),
     }
 }
 
-/// Whether the first bad line is named, unless memory is refused before it is found.
+/// Lines of which the last is no command. Those before it need memory.
+const BAD_AT_ITS_END: &str =
+    "new 0 mprim\nextend 0 v1 v2 v3\nnull 1 prim 1000\nitems 2 utf8 t6869\nlist 2\nlen";
+
+/// Whether the first bad line is named, and no line before it is run: no memory is refused but to the reading of the input.
 fn names_line(alloc: Global) -> Result<bool, Error> {
     let mut room = [0; 1];
-    match session_into(alloc, "len 0\n\nlen", room.as_mut_slice()) {
-        Outcome::Memory if room == [0; 1] => Err(Error::OutOfMemory),
-        outcome => Ok((outcome == Outcome::BadLine(3)) & (room == [0; 1])),
-    }
-}
-
-/// Whether a reply may come, where any growth may be refused; follows the length of the entry.
-fn may_come(length: &mut Option<usize>, command: &Command<i64, i32>, reply: &Reply<i64>) -> bool {
-    match (command, *length, reply) {
-        (Command::New(..), None, Reply::Done) => *length = Some(0),
-        (Command::Push(..), Some(n), Reply::Done) => *length = Some(n.saturating_add(1)),
-        (Command::Len(_), Some(n), Reply::Number(answer)) => return *answer == n,
-        (Command::Freeze(_), Some(_), Reply::Done) | (_, None, Reply::NotMet) => (),
-        (Command::Len(_), _, _) => return false,
-        // A builder is lost where it could not be frozen.
-        (Command::Freeze(_), Some(_), Reply::Refused(Error::OutOfMemory)) => *length = None,
-        (_, _, Reply::Refused(Error::OutOfMemory)) => (),
-        _ => return false,
-    }
-    true
-}
-
-/// Whether these replies may come, one after the other.
-fn all_may_come(commands: &[Command<i64, i32>], replies: &[Reply<i64>]) -> bool {
-    let mut length = None;
-    for (command, reply) in commands.iter().zip(replies) {
-        if !may_come(&mut length, command, reply) {
-            return false;
-        }
-    }
-    true
-}
-
-/// Whether the replies say what was done, whichever growth was refused, where a second run does the rest.
-fn ends(
-    table: &mut Table<i64, i32>,
-    commands: &[Command<i64, i32>],
-    replies: &mut Vec<Reply<i64>>,
-) -> Result<bool, Error> {
-    let done = run(table, commands, replies);
-    let rest = run(table, &commands[done..], replies);
-    let is_all = (done.saturating_add(rest) == commands.len()) & (replies.len() == commands.len());
-    if !is_all || !all_may_come(commands, replies) {
-        return Ok(false);
-    }
-    if rest > 0 || replies.iter().any(|it| matches!(it, Reply::Refused(_))) {
-        return Err(Error::OutOfMemory);
-    }
-    Ok(true)
-}
-
-/// A builder is filled and frozen.
-fn commands() -> [Command<i64, i32>; 7] {
-    [
-        Command::New(0, Kind::MutablePrimitive),
-        Command::Push(0, Some(Item::Value(1))),
-        Command::Len(0),
-        Command::Push(0, None),
-        Command::Len(0),
-        Command::Freeze(0),
-        Command::Len(0),
-    ]
-}
-
-/// Whether they do of these commands.
-fn ends_on(alloc: Global, table: &mut Table<i64, i32>) -> Result<bool, Error> {
-    let commands = commands();
-    let mut replies = Vec::new(alloc);
-    let answer = ends(table, &commands, &mut replies);
-    drop(replies);
-    drop(commands);
-    answer
-}
-
-/// Whether they do on a table of one entry.
-fn ends_of_commands(alloc: Global) -> Result<bool, Error> {
-    match Table::<i64, i32>::new(alloc, 1) {
-        Ok(mut table) => {
-            let answer = ends_on(alloc, &mut table);
-            drop(table);
-            answer
-        }
-        Err(_) => Err(Error::OutOfMemory),
+    match session_into(alloc, BAD_AT_ITS_END, room.as_mut_slice()) {
+        (Outcome::Memory, false) if room == [0; 1] => Err(Error::OutOfMemory),
+        (outcome, is_ended) => Ok((outcome == Outcome::BadLine(6)) & is_ended & (room == [0; 1])),
     }
 }
 
 #[test]
-fn sessions_and_runs(rt: HostRuntime) -> Result<(), Fail> {
-    all_told(&[
-        replies(rt.alloc()),
-        names_line(rt.alloc()),
-        ends_of_commands(rt.alloc()),
-    ])
+fn sessions(rt: HostRuntime) -> Result<(), Fail> {
+    all_told(&[replies(rt.alloc()), names_line(rt.alloc())])
 }

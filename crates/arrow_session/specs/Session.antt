@@ -1,11 +1,8 @@
 -- What a session reads, runs and writes.
-use Rattle.std.specs.Prelude.{◌≡◌, ℕ, ◌⊎◌, List, [], ◌++◌, ℤ, codes, decimal, Option, Some, Result, Ok, Err, String, string_bytes, ⊤}
-use Rattle.std.specs.declared.alloc.Global.{Global}
+use Rattle.std.specs.Prelude.{◌≡◌, ℕ, ◌⊎◌, List, [], ◌++◌, ℤ, codes, decimal, Option, Some}
 use Rattle.std.specs.Io.{StartsWith}
 use Rattle.arrow_session.specs.declared.outcome.Outcome.{Outcome}
 use Rattle.arrow_session.specs.declared.outcome.Outcome.TheVariants as outcome
-use Rattle.arrow_session.specs.declared.session.InputError.{InputError}
-use Rattle.arrow_session.specs.declared.session.InputError.TheVariants as error
 use Rattle.arrow_entry.specs.Answer.{Answer}
 use Rattle.arrow_entry.specs.Both.{Both, BothRequest}
 use Rattle.arrow_lines.specs.Answered.{IsProgramRun, at_first}
@@ -21,11 +18,9 @@ IsAnswer input text =
     × IsProgramRun at_first commands replies final
     × (text ≡ text_of replies)
 
--- the text is the answer to the input, and the number is that of its first bad line; memory may always be wanting
-abbrev pub Answers : List ℕ → Result (String Global) InputError → Type 0
-Answers input (Ok text) = IsAnswer input (string_bytes text)
-Answers input (Err (error.BadLine n)) = commands_of input ≡ bad_line n
-Answers input (Err error.Memory) = ⊤
+-- each line of the input is a command or passed over
+abbrev pub AreCommands : List ℕ → Type 0
+AreCommands input = (commands : List (BothRequest ℤ)) × (commands_of input ≡ requests commands)
 
 -- Of a session: the input, what is left of it, what the writer held, and what it holds.
 module _ (input : List ℕ) (left : Option (List ℕ)) (old : List ℕ) (new : Option (List ℕ)) where

@@ -7,8 +7,8 @@ ghost use Rattle.arrow_session.specs.Counted.{fault_count, inside, count_after, 
 use std::io;
 use std::io::{Read, Write};
 
-/// A reader or a writer that counts its faults: reads, writes and flushes that failed, and writes of
-/// a piece that took nothing of it.
+/// A reader or a writer that counts its faults: reads, writes and flushes that failed, and writes
+/// of a non-empty slice that took nothing.
 #[derive(Drop)]
 pub struct Counted<R> {
     inner: R,
@@ -16,7 +16,7 @@ pub struct Counted<R> {
 }
 
 impl<R> Counted<R> {
-    /// A reader or a writer with no faults so far. Needs no memory.
+    /// Creates a reader or a writer with no faults so far. Does not allocate.
     pub fn new(inner: R) -> Self
         ensures count { fault_count result ≡ 0 }
         ensures inside { inside result ≡ inner }
@@ -24,14 +24,14 @@ impl<R> Counted<R> {
         Counted { inner, faults: 0 }
     }
 
-    /// How many faults there were, or `u64::MAX` where there were more.
+    /// Returns the number of faults, or `u64::MAX` if there were more.
     pub fn count(&self) -> u64
         ensures { result ≡ fault_count self.now }
     {
         self.faults
     }
 
-    /// Counts a fault, where there was one.
+    /// Counts a fault if there was one.
     fn note(&mut self, is_fault: bool)
         ensures count { fault_count self.new ≡ count_after is_fault (fault_count self.old) }
         ensures never_less { fault_count self.old ≤ fault_count self.new }

@@ -16,7 +16,7 @@ const PIECE: usize = 65536;
 pub(crate) enum Fault {
     /// The device failed.
     Device,
-    /// Memory was refused.
+    /// An allocation failed.
     Memory,
 }
 
@@ -30,8 +30,8 @@ impl From<AllocError> for Fault {
     }
 }
 
-/// Appends what one read gives, and says whether the input is at its end. A read that was interrupted
-/// gives nothing.
+/// Appends what one read returns, and returns whether the input is at its end. A read that was
+/// interrupted returns nothing.
 fn read_piece<R: Read>(
     input: &mut Counted<R>,
     piece: &mut [u8],
@@ -54,14 +54,14 @@ fn read_piece<R: Read>(
     }
 }
 
-/// Room for a piece of this many bytes.
+/// Returns a buffer of `len` bytes.
 fn room(alloc: Global, len: usize) -> Result<Vec<u8>, AllocError>
     ensures { IfOk result (λ piece. vec_len piece ≡ len) }
 {
     vec![in alloc; 0; len]
 }
 
-/// All that an input has left.
+/// Reads an input to its end.
 pub(crate) fn read_all<R: Read>(alloc: Global, input: &mut Counted<R>) -> Result<Vec<u8>, Fault>
     ensures whole { IfOk result (λ bytes. IsWhole (R.remaining (inside input.old)) (R.remaining (inside input.new)) bytes.items) }
     ensures device { IsErrOf result Fault.Device → Rose (fault_count input.old) (fault_count input.new) }
@@ -76,8 +76,8 @@ pub(crate) fn read_all<R: Read>(alloc: Global, input: &mut Counted<R>) -> Result
     Err(Fault::Device)
 }
 
-/// How many bytes of a text, which are its first, one write took. A write that was interrupted took
-/// none.
+/// Writes a beginning of a text by one write, and returns how many bytes it took. A write that was
+/// interrupted took none.
 fn write_piece<W: Write>(output: &mut Counted<W>, text: &[u8]) -> Result<usize, Fault>
     requires { 0 < length text.now }
     ensures within { IfOk result (λ count. count ≤ length text.now) }
@@ -95,7 +95,7 @@ fn write_piece<W: Write>(output: &mut Counted<W>, text: &[u8]) -> Result<usize, 
     }
 }
 
-/// Writes a text. Where that fails a beginning of it was written.
+/// Writes a text. On an error a beginning of it was written.
 fn write_all<W: Write>(output: &mut Counted<W>, text: &[u8]) -> Result<(), Fault>
     ensures whole { OnOk result (Appends (W.contents (inside output.old)) (W.contents (inside output.new)) text.now) }
     ensures front { PutsFront (W.contents (inside output.old)) (W.contents (inside output.new)) text.now }
@@ -113,7 +113,7 @@ fn write_all<W: Write>(output: &mut Counted<W>, text: &[u8]) -> Result<(), Fault
     Err(Fault::Device)
 }
 
-/// Writes a text and flushes it. Where that fails a beginning of it was written.
+/// Writes a text and flushes it. On an error a beginning of it was written.
 pub(crate) fn send<W: Write>(output: &mut Counted<W>, text: &[u8]) -> Result<(), Fault>
     ensures whole { OnOk result (Appends (W.contents (inside output.old)) (W.contents (inside output.new)) text.now) }
     ensures front { PutsFront (W.contents (inside output.old)) (W.contents (inside output.new)) text.now }

@@ -1,4 +1,4 @@
-//! Sessions of commands on tables of arrays and builders, from lines to lines.
+//! Sessions: lines of commands in, lines of replies out.
 #![tactic(auto)]
 
 pub mod counted;

@@ -9,16 +9,16 @@ use std::fmt;
 pub enum Outcome {
     /// Every command was run and every reply was written.
     Done,
-    /// The line of this number, counted from 1, is no command; nothing was run or written.
+    /// The line of this number, counted from 1, is not a command; nothing was run or written.
     BadLine(usize),
     /// A read, a write or a flush failed.
     Device,
-    /// Memory was refused, but for what a reply says of its own command.
+    /// An allocation failed outside of a command that answers so itself.
     Memory,
 }
 
 impl Outcome {
-    /// The program's exit status.
+    /// Returns the exit status of the program.
     pub fn status(&self) -> u8
         ensures { result ≡ status_of self.now }
     {

@@ -1,64 +1,62 @@
-//! A session: the input is read, its commands are run line by line, and then every reply is written.
-ghost use Rattle.std.specs.Prelude.{◌≡◌, IfSome, ◌⊎◌};
+//! A session: the input is read, every line is checked, the commands are run, and then the replies
+//! are written.
+ghost use Rattle.std.specs.Prelude.{◌≡◌, IfOk, IfSome, MatchOption, ◌⊎◌, string_bytes};
 ghost use Rattle.arrow_session.specs.Counted.{inside, fault_count, Rose};
-ghost use Rattle.arrow_session.specs.Session.{Answers, Ends};
+ghost use Rattle.arrow_lines.specs.Lines.{bad_line, commands_of};
+ghost use Rattle.arrow_session.specs.Session.{AreCommands, Ends, IsAnswer};
 
 use crate::counted::Counted;
 use crate::device::{Fault, read_all, send};
 use crate::outcome::Outcome;
 use arrow_lines::answering::Answering;
-use arrow_lines::parse::{all_printable, answer_known};
+use arrow_lines::parse::{all_printable, answer_line, is_line};
 use arrow_table::Tables;
 use arrow_words::words::cut_line;
 use std::alloc::{AllocError, Global};
 use std::io::{Read, Write};
 
-/// The number of entries of each of a session's tables.
+/// The number of entries of each table of a session.
 const ENTRIES: usize = 16;
 
-/// Why an input is not answered.
-#[derive(Drop)]
-enum InputError {
-    /// The line of this number, counted from 1, is no command.
-    BadLine(usize),
-    /// Memory was refused.
-    Memory,
-}
-
-impl From<AllocError> for InputError {
-    ghost use Rattle.arrow_session.specs.declared.session.InputError.TheVariants.{Memory};
-
-    ghost from_gives = { λ _ e. e ≡ Memory };
-
-    fn from(_refused: AllocError) -> InputError {
-        InputError::Memory
-    }
-}
-
-/// The replies to an input, run on tables of empty entries. Each line is run as soon as it is read, so that no list of
-/// commands or replies is kept; where one is no command the replies so far are let go.
-fn run_lines(alloc: Global, input: &[u8]) -> Result<String, InputError>
-    ensures { Answers input.now result }
+/// Returns the number of the first line that is not a command, counted from 1, or `None` if every
+/// line is one or is passed over. Nothing is run or allocated.
+fn first_bad_line(input: &[u8]) -> Option<usize>
+    ensures { MatchOption result (AreCommands input.now) (λ number. commands_of input.now ≡ bad_line number) }
 {
-    let tables = Tables::new(alloc, ENTRIES).map_err(|_| InputError::Memory)?;
-    let text = String::new(alloc);
-    let mut answering = Answering { tables, text };
     let printable = all_printable(input);
     let mut number = 1;
     let mut rest = Some(input);
     while let Some(lines) = rest {
         let (line, after) = cut_line(lines);
-        if !answer_known(alloc, &mut answering, line, printable)? {
-            return Err(InputError::BadLine(number));
+        if !is_line(line, printable) {
+            return Some(number);
         }
         number += 1;
+        rest = after;
+    }
+    None
+}
+
+/// Runs an input of commands on tables of empty entries and returns the replies. Each line is run
+/// as soon as it is read, so that no list of commands or replies is kept.
+fn run_lines(alloc: Global, input: &[u8]) -> Result<String, AllocError>
+    requires { AreCommands input.now }
+    ensures { IfOk result (λ text. IsAnswer input.now (string_bytes text)) }
+{
+    let tables = Tables::new(alloc, ENTRIES).map_err(|_| AllocError)?;
+    let text = String::new(alloc);
+    let mut answering = Answering { tables, text };
+    let mut rest = Some(input);
+    while let Some(lines) = rest {
+        let (line, after) = cut_line(lines);
+        answer_line(&mut answering, line)?;
         rest = after;
     }
     Ok(answering.text)
 }
 
-/// Reads every line of the input, runs every command on 16 empty entries of each width, and writes a
-/// reply for each. Where a line is no command nothing is written.
+/// Reads every line of the input, runs every command on 16 empty entries of each width, and writes
+/// a reply for each. If a line is not a command, nothing is run or written.
 pub fn session<R: Read, W: Write>(
     alloc: Global,
     input: &mut Counted<R>,
@@ -75,10 +73,11 @@ pub fn session<R: Read, W: Write>(
         Err(Fault::Device) => return Outcome::Device,
         Err(Fault::Memory) => return Outcome::Memory,
     };
-    let text = match run_lines(alloc, &bytes) {
-        Ok(text) => text,
-        Err(InputError::BadLine(number)) => return Outcome::BadLine(number),
-        Err(InputError::Memory) => return Outcome::Memory,
+    if let Some(number) = first_bad_line(&bytes) {
+        return Outcome::BadLine(number);
+    }
+    let Ok(text) = run_lines(alloc, &bytes) else {
+        return Outcome::Memory;
     };
     match send(output, text.as_bytes()) {
         Ok(()) => Outcome::Done,

@@ -145,6 +145,10 @@ indexes
 indexes -1
 indexes 3 v1
 indexes 3 9223372036854775808
+wide
+wide wide len 0
+wide widen 0 0
+widen 0
 Len 0
 lens 0
 le 0
@@ -175,6 +179,14 @@ fn no_commands(rt: HostRuntime) {
     assert!(rt; first == None);
 }
 
+/// A text that is longer than what is looked at at a time, the end of which lies in a character.
+const LONG_TEXT: &str =
+    "items 0 utf8 t61C3A9C3A9C3A9C3A9C3A9C3A9C3A9C3A9C3A9C3A9C3A9C3A9C3A9C3A9C3A9C3A9C3A9C3A9C3A9C3A9C3A9C3A9C3A9C3A9C3A9C3A9C3A9C3A9C3A9C3A9C3A9C3A9C3A9C3A9C3A9C3A9C3A9C3A9C3A9C3A9C3A9C3A9C3A9C3A9C3A9C3A9C3A9C3A9C3A9C3A9";
+
+/// The same, but for its last character.
+const LONG_BROKEN_TEXT: &str =
+    "items 0 utf8 t61C3A9C3A9C3A9C3A9C3A9C3A9C3A9C3A9C3A9C3A9C3A9C3A9C3A9C3A9C3A9C3A9C3A9C3A9C3A9C3A9C3A9C3A9C3A9C3A9C3A9C3A9C3A9C3A9C3A9C3A9C3A9C3A9C3A9C3A9C3A9C3A9C3A9C3A9C3A9C3A9C3A9C3A9C3A9C3A9C3A9C3A9C3A9C3A9C3A9C361";
+
 /// Inputs, and the numbers of their first lines that are no commands, or 0.
 const COUNTED: &[(&str, usize)] = &[
     ("", 0),
@@ -182,6 +194,8 @@ const COUNTED: &[(&str, usize)] = &[
     ("# any \u{e9}\tbyte\n   \n#", 0),
     ("\n# one\n  \nlen 0\nlen\n", 5),
     ("len 0\nlen\nlen", 2),
+    (LONG_TEXT, 0),
+    (LONG_BROKEN_TEXT, 1),
 ];
 
 /// The place of the first of them that has another number; their number where none has.

@@ -5,7 +5,8 @@ use Rattle.std.specs.Cmp.{unsigned_Decides}
 use Rattle.std.proofs.Common.{sym, ◌∙◌, ap, true≢false}
 
 -- where a number tells each value apart, comparing the numbers decides equality
-pub place-Decides : {A : Type 0} (place : A → ℕ) (at : ℕ → A) → ((x : A) → at (place x) ≡ x) → (x y : A) → Decides (place x == place y) (x ≡ y)
+pub place-Decides : {A : Type 0} (place : A → ℕ) (at : ℕ → A) → ((x : A) → at (place x) ≡ x) → (x y : A)
+    → Decides (place x == place y) (x ≡ y)
 place-Decides place at again x y =
     let d = unsigned_Decides (place x) (place y) in
     (λ h. sym (again x) ∙ (ap at (d.0 h) ∙ again y), λ e. d.1 (ap place e))

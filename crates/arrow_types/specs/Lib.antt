@@ -1,3 +1,4 @@
+pub mod Failures
 pub mod Types
 pub mod Decisions
 pub mod TypeEquality

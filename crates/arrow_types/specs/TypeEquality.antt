@@ -1,5 +1,6 @@
 -- Whether two logical types are the same, as a test: what `==` of data types answers.
-use Rattle.std.specs.Prelude.{◌≡◌, ℕ, List, Option, None, Some, Bool, true, false, ◌&&◌, ◌==◌, bytes_eq, is_some, unwrap_or, refl}
+use Rattle.std.specs.Prelude.{◌≡◌, ℕ, List, Option, None, Some, Bool, true, false, ◌&&◌, ◌==◌, bytes_eq, is_some}
+use Rattle.std.specs.Prelude.{unwrap_or, refl}
 use Rattle.std.specs.Bool.{Decides}
 use Rattle.std.specs.Cmp.{unsigned_Decides}
 use Rattle.std.specs.Cmp.Lexicographic.{pointwise, pointwise_decides}
@@ -11,7 +12,9 @@ use Rattle.arrow_types.specs.declared.units.IntervalUnit.{IntervalUnit}
 use Rattle.arrow_types.specs.declared.units.IntervalUnit.TheVariants as interval_unit
 use Rattle.arrow_types.specs.declared.units.TimeUnit.{TimeUnit}
 use Rattle.arrow_types.specs.declared.units.TimeUnit.TheVariants as time_unit
-use Rattle.arrow_types.specs.Types.{Base, Extension, LogicalType, boolean, int8, int16, int32, int64, uint8, uint16, uint32, uint64, date32, date64, time32, time64, timestamp, duration, interval, decimal, decimal256, binary, large_binary, utf8, large_utf8}
+use Rattle.arrow_types.specs.Types.{Base, Extension, LogicalType, boolean, int8, int16, int32, int64, uint8, uint16}
+use Rattle.arrow_types.specs.Types.{uint32, uint64, date32, date64, time32, time64, timestamp, duration, interval}
+use Rattle.arrow_types.specs.Types.{decimal, decimal256, binary, large_binary, utf8, large_utf8}
 
 -- the place of a unit of time, and the unit at a place
 time_unit_place : TimeUnit → ℕ
@@ -72,7 +75,11 @@ same_text-Decides : (s t : Option (List ℕ)) → Decides (same_text s t) (s ≡
 same_text-Decides None None = (λ e. refl, λ e. refl)
 same_text-Decides None (Some t) = (λ e. absurd (true≢false (sym e)), λ e. ap is_some e)
 same_text-Decides (Some s) None = (λ e. absurd (true≢false (sym e)), λ e. sym (ap is_some e))
-same_text-Decides (Some s) (Some t) = (λ e. ap (λ x. Some x) ((bytes_eq-Decides s t).0 e), λ e. (bytes_eq-Decides s t).1 (ap (λ o. unwrap_or o s) e))
+same_text-Decides (Some s) (Some t) = (
+  λ e. ap (λ x. Some x) ((bytes_eq-Decides s t).0 e),
+  λ e.
+      (bytes_eq-Decides s t).1 (ap (λ o. unwrap_or o s) e),
+)
 
 -- are the two base types the same in every part?
 same_base : Base → Base → Bool
@@ -140,11 +147,14 @@ same_base_means date32 date32 h = refl
 same_base_means date64 date64 h = refl
 same_base_means (time32 t) (time32 u) h = ap time32 ((same_time_unit-Decides t u).0 h)
 same_base_means (time64 t) (time64 u) h = ap time64 ((same_time_unit-Decides t u).0 h)
-same_base_means (timestamp t y) (timestamp u z) h = let e = (both-Decides (same_time_unit-Decides t u) (same_text-Decides y z)).0 h in λ i. timestamp (e.0 i) (e.1 i)
+same_base_means (timestamp t y) (timestamp u z) h = let e =
+    (both-Decides (same_time_unit-Decides t u) (same_text-Decides y z)).0 h in λ i. timestamp (e.0 i) (e.1 i)
 same_base_means (duration t) (duration u) h = ap duration ((same_time_unit-Decides t u).0 h)
 same_base_means (interval t) (interval u) h = ap interval ((same_interval_unit-Decides t u).0 h)
-same_base_means (decimal p s) (decimal q t) h = let e = (both-Decides (unsigned_Decides p q) (unsigned_Decides s t)).0 h in λ i. decimal (e.0 i) (e.1 i)
-same_base_means (decimal256 p s) (decimal256 q t) h = let e = (both-Decides (unsigned_Decides p q) (unsigned_Decides s t)).0 h in λ i. decimal256 (e.0 i) (e.1 i)
+same_base_means (decimal p s) (decimal q t) h = let e =
+    (both-Decides (unsigned_Decides p q) (unsigned_Decides s t)).0 h in λ i. decimal (e.0 i) (e.1 i)
+same_base_means (decimal256 p s) (decimal256 q t) h = let e =
+    (both-Decides (unsigned_Decides p q) (unsigned_Decides s t)).0 h in λ i. decimal256 (e.0 i) (e.1 i)
 same_base_means binary binary h = refl
 same_base_means large_binary large_binary h = refl
 same_base_means utf8 utf8 h = refl
@@ -161,8 +171,11 @@ same_extension e f = bytes_eq e.name f.name && same_text e.metadata f.metadata
 same_extension-Decides : (e f : Extension) → Decides (same_extension e f) (e ≡ f)
 unfolding same_extension
 same_extension-Decides e f =
-    let d = both-Decides (bytes_eq-Decides e.name f.name) (same_text-Decides e.metadata f.metadata) in
-    (λ h. let p = d.0 h in λ i. record { name = p.0 i; metadata = p.1 i }, λ p. d.1 (ap (λ x. x.name) p, ap (λ x. x.metadata) p))
+    let d = both-Decides (bytes_eq-Decides e.name f.name) (same_text-Decides e.metadata f.metadata) in (
+      λ h. let p = d.0 h in λ i. record { name = p.0 i; metadata = p.1 i },
+      λ p.
+          d.1 (ap (λ x. x.name) p, ap (λ x. x.metadata) p),
+    )
 
 -- are the two logical types the same in every part?
 pub same_type : LogicalType → LogicalType → Bool
@@ -171,5 +184,9 @@ same_type t u = pointwise same_extension t.extensions u.extensions && same_base 
 pub same_type-Decides : (t u : LogicalType) → Decides (same_type t u) (t ≡ u)
 unfolding same_type
 same_type-Decides t u =
-    let d = both-Decides (pointwise_decides same_extension-Decides t.extensions u.extensions) (same_base-Decides t.base u.base) in
-    (λ h. let p = d.0 h in λ i. record { extensions = p.0 i; base = p.1 i }, λ p. d.1 (ap (λ x. x.extensions) p, ap (λ x. x.base) p))
+    let d = both-Decides (pointwise_decides same_extension-Decides t.extensions u.extensions)
+    (same_base-Decides t.base u.base) in (
+      λ h. let p = d.0 h in λ i. record { extensions = p.0 i; base = p.1 i },
+      λ p.
+          d.1 (ap (λ x. x.extensions) p, ap (λ x. x.base) p),
+    )

@@ -84,7 +84,8 @@ logical_type data_type.Binary = plain binary
 logical_type data_type.LargeBinary = plain large_binary
 logical_type data_type.Utf8 = plain utf8
 logical_type data_type.LargeUtf8 = plain large_utf8
-logical_type (data_type.Extension' name place inner metadata) = extended (string_bytes name) (text_bytes metadata) (logical_type inner)
+logical_type (data_type.Extension' name place inner metadata) =
+    extended (string_bytes name) (text_bytes metadata) (logical_type inner)
 
 -- how the values of a base type lie in memory
 abbrev pub base_physical : Base → PhysicalType

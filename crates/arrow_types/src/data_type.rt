@@ -1,9 +1,9 @@
-//! What the values of an array mean.
+//! Data types: what the values of an array mean.
 use crate::physical_type::PhysicalType;
 use crate::primitive_type::PrimitiveType;
 use crate::units::{IntervalUnit, TimeUnit};
 
-/// The logical types of the Arrow columnar format: what the values of an array mean.
+/// A logical type of the Arrow columnar format: what the values of an array mean.
 #[derive(Debug, Drop)]
 pub enum DataType {
     /// True or false.
@@ -32,15 +32,17 @@ pub enum DataType {
     Time32(TimeUnit),
     /// Times of a day, in 64 bits.
     Time64(TimeUnit),
-    /// Times since the epoch, in the named time zone where there is one.
+    /// Times since the epoch, in a time zone if one is named.
     Timestamp(TimeUnit, Option<String>),
     /// Lengths of time.
     Duration(TimeUnit),
-    /// Lengths of time by the calendar.
+    /// Calendar intervals.
     Interval(IntervalUnit),
-    /// Decimal numbers of 128 bits: how many digits, and how many of them after the point.
+    /// Decimal numbers of 128 bits: the number of digits, and how many of them stand after the
+    /// point.
     Decimal(usize, usize),
-    /// Decimal numbers of 256 bits: how many digits, and how many of them after the point.
+    /// Decimal numbers of 256 bits: the number of digits, and how many of them stand after the
+    /// point.
     Decimal256(usize, usize),
     /// Bytes, with offsets of 32 bits.
     Binary,
@@ -50,7 +52,7 @@ pub enum DataType {
     Utf8,
     /// Text, with offsets of 64 bits.
     LargeUtf8,
-    /// A type of one's own: its name, the type that its values lie as, and its metadata.
+    /// An extension type: its name, its storage type, and its metadata.
     Extension(String, Box<DataType>, Option<String>),
 }
 
@@ -58,14 +60,15 @@ impl DataType {
     ghost use Rattle.std.specs.Prelude.{◌≡◌, IsTrue, ◌↔◌};
     ghost use Rattle.arrow_types.specs.Types.{logical_type, physical_type, IsRightType};
 
-    /// Whether this type is right for values that lie in memory in such a way.
+    /// Returns whether this type's physical type is `physical`.
     pub fn is_right_for(&self, physical: PhysicalType) -> bool
         ensures { IsTrue result ↔ IsRightType physical (logical_type self.now) }
     {
         self.to_physical_type() == physical
     }
 
-    /// How the values of this type lie in memory; an extension's lie as those of what it extends.
+    /// Returns the physical type: how the values of this type lie in memory. An extension's is that
+    /// of its storage type.
     pub fn to_physical_type(&self) -> PhysicalType
         ensures { result ≡ physical_type (logical_type self.now) }
     {

@@ -1,18 +1,18 @@
-//! Why calls are refused.
+//! Errors of arrays and builders.
 ghost use Rattle.std.specs.Prelude.{◌≡◌, Some};
 ghost use Rattle.arrow_types.specs.Types.{refusal, refusal_text};
 
 use std::alloc::{AllocError, AllocFailed};
 use std::fmt;
 
-/// Why a call was refused.
+/// An error of an array or a builder.
 #[derive(Clone, Copy, Debug, PartialEq, Eq)]
 pub enum Error {
-    /// What was handed in breaks a rule of the Arrow columnar format; the text says which.
+    /// The arguments break a rule of the Arrow columnar format; the text says which.
     OutOfSpec(&'static str),
     /// An offset would pass the greatest number of its type.
     Overflow,
-    /// A growth was refused.
+    /// An allocation failed.
     OutOfMemory,
 }
 

@@ -1,19 +1,19 @@
-//! The integers that point at the items of a list.
+//! Integers that are used as indexes.
 ghost use Rattle.std.specs.Prelude.{◌≡◌, ℤ};
 ghost use Rattle.arrow_types.specs.IndexKey.{index_of};
 
-/// An integer that points at an item of a list, as a dictionary's keys do (Arrow columnar format,
+/// An integer that is used as an index, as the keys of a dictionary are (Arrow columnar format,
 /// "Dictionary-encoded Layout").
 pub trait IndexKey {
-    /// The number that a value is.
+    /// The number of a value.
     ghost number: { Self → ℤ };
 
-    /// The index; `None` exactly where the number is negative or doesn't fit in a `usize`.
+    /// Returns the index, or `None` if the number is negative or does not fit in a `usize`.
     fn to_index(&self) -> Option<usize>
         ensures { result ≡ index_of (number self.now) };
 }
 
-/// The index that a signed number is.
+/// Returns the index of a signed number.
 #[inline(always)]
 fn index_of_signed(key: i64) -> Option<usize>
     ensures { result ≡ index_of key }

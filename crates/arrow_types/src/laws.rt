@@ -1,7 +1,10 @@
-//! What each type is in numbers, as ghost members say it that contracts name. Each law is the contract of a function that
-//! does nothing.
+//! The ghost members of each native type, offset type and key type as plain values. Each law is the
+//! contract of a function with an empty body.
 ghost use Rattle.std.specs.Prelude.{◌≡◌, ℕ, ℤ, pos, true, false};
-ghost use Rattle.arrow_types.specs.declared.primitive_type.PrimitiveType.TheVariants.{Int8, Int16, Int32, Int64, Int128, Int256, UInt8, UInt16, UInt32, UInt64, DaysMs, MonthDayNano};
+ghost use Rattle.arrow_types.specs.declared.primitive_type.PrimitiveType.TheVariants.{Int8, Int16, Int32, Int64};
+ghost use Rattle.arrow_types.specs.declared.primitive_type.PrimitiveType.TheVariants.{Int128, Int256, UInt8};
+ghost use Rattle.arrow_types.specs.declared.primitive_type.PrimitiveType.TheVariants.{UInt16, UInt32, UInt64};
+ghost use Rattle.arrow_types.specs.declared.primitive_type.PrimitiveType.TheVariants.{DaysMs, MonthDayNano};
 
 use crate::index_key::IndexKey;
 use crate::native_type::{NativeType, days_ms, i256, months_days_ns};
@@ -83,21 +86,21 @@ pub fn native_months_days_ns()
     ensures nanoseconds { ⟦<months_days_ns as NativeType>⟧.zero.2 ≡ pos 0 }
 {}
 
-/// The offsets of the small layouts are those of `i32` up to its greatest.
+/// The offsets of `i32` are its numbers up to 2147483647, and are not large.
 pub fn offset_i32()
     ensures number { (x : ℤ) → ⟦<i32 as Offset>⟧.number x ≡ x }
     ensures most { ⟦<i32 as Offset>⟧.most ≡ 2147483647 }
     ensures large { ⟦<i32 as Offset>⟧.IS_LARGE ≡ false }
 {}
 
-/// The offsets of the large layouts are those of `i64` up to its greatest.
+/// The offsets of `i64` are its numbers up to 9223372036854775807, and are large.
 pub fn offset_i64()
     ensures number { (x : ℤ) → ⟦<i64 as Offset>⟧.number x ≡ x }
     ensures most { ⟦<i64 as Offset>⟧.most ≡ 9223372036854775807 }
     ensures large { ⟦<i64 as Offset>⟧.IS_LARGE ≡ true }
 {}
 
-/// A key is the number that it is.
+/// The number of a key is its value.
 pub fn keys()
     ensures i8 { (x : ℤ) → ⟦<i8 as IndexKey>⟧.number x ≡ x }
     ensures i16 { (x : ℤ) → ⟦<i16 as IndexKey>⟧.number x ≡ x }

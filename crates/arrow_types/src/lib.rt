@@ -1,4 +1,4 @@
-//! The types of Arrow arrays: what their values mean, how they lie, and why a call is refused.
+//! The types of Arrow arrays: data types, native types, offset types, keys and errors.
 #![tactic(auto)]
 
 pub mod data_type;

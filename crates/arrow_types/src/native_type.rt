@@ -1,26 +1,26 @@
-//! The types whose values primitive arrays hold.
+//! Native types: the types of the values of primitive arrays.
 ghost use Rattle.std.specs.Prelude.{◌≡◌};
 ghost use Rattle.std.specs.Bool.{Decides};
 
 use crate::primitive_type::PrimitiveType;
 
-/// A type whose values a primitive array holds, one for each slot.
+/// A type of the values of a primitive array, which has one for each slot.
 pub trait NativeType: Copy + PartialEq {
     ghost use Rattle.arrow_types.specs.declared.primitive_type.PrimitiveType.{PrimitiveType};
 
-    /// The primitive type that this is.
+    /// The primitive type of this type.
     ghost PRIMITIVE: { PrimitiveType };
 
     const PRIMITIVE: PrimitiveType;
 
-    /// The value that a null slot stores unless another is given.
+    /// The value that a null slot stores by default.
     ghost zero: { Self };
 
-    /// Zero in every part, which is what a null slot stores unless another value is given.
+    /// Returns zero in every part: the value that a null slot stores by default.
     fn default() -> Self
         ensures { result ≡ zero };
 
-    /// Equality holds exactly of the same value.
+    /// Two values are equal exactly if they are the same value.
     ghost same: { (x y : Self) → Decides (Self.eq x y) (x ≡ y) };
 }
 
@@ -191,7 +191,7 @@ impl NativeType for u64 {
     }
 }
 
-/// Signed integers of 256 bits, as a high half and a low half.
+/// A signed integer of 256 bits, as a high half and a low half.
 #[derive(Clone, Copy, Debug, PartialEq, Eq)]
 pub struct i256(pub i128, pub u128);
 

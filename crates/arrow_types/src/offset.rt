@@ -1,9 +1,9 @@
-//! The integers that offsets of the variable-size layout are kept as.
+//! Offset types: the integers of the variable-size layout.
 ghost use Rattle.std.specs.Prelude.{◌≡◌, ◌<◌, ◌≤◌, ◌^◌, ℕ, Bool, ℤ, pos, ◌+ℤ◌, ◌<ℤ◌, ◌≤ℤ◌, MatchOption};
 
-/// An integer that an offset is kept as (Arrow columnar format, "Variable-size Binary Layout").
+/// An integer that an offset is stored as (Arrow columnar format, "Variable-size Binary Layout").
 pub trait Offset: Copy {
-    /// The number that a value is.
+    /// The number of a value.
     ghost number: { Self → ℤ };
 
     /// The greatest number of the type.
@@ -14,15 +14,16 @@ pub trait Offset: Copy {
 
     const IS_LARGE: bool;
 
-    /// The value of the greatest number, which is not negative.
+    /// Returns the greatest number, which is not negative.
     fn max() -> Self
         ensures { number result ≡ pos most };
 
-    /// The value of a number; `None` exactly where it is above the greatest number.
+    /// Converts a number into an offset, or returns `None` if it is above the greatest number.
     fn from_usize(value: usize) -> Option<Self>
         ensures { MatchOption result (most < value) (λ offset. (value ≤ most) × (number offset ≡ pos value)) };
 
-    /// The value of a number that is at most the greatest number. An `impl` may leave out the test.
+    /// Converts a number that is at most the greatest number into an offset. An implementation may
+    /// leave out the test.
     #[inline(always)]
     fn from_as_usize(value: usize) -> Self
         requires { value ≤ most }
@@ -34,18 +35,19 @@ pub trait Offset: Copy {
         }
     }
 
-    /// The number; `None` exactly where it is negative.
+    /// Returns the number, or `None` if it is negative.
     fn try_to_usize(&self) -> Option<usize>
-        ensures { MatchOption result (number self.now <ℤ pos 0) (λ value. (number self.now ≡ pos value) × (value ≤ most)) };
+        ensures { MatchOption result (number self.now <ℤ pos 0) (λ value. (number self.now ≡ pos value)
+            × (value ≤ most)) };
 
-    /// The number of a value that is not negative.
+    /// Returns the number, which must not be negative.
     fn to_usize(&self) -> usize
         requires { pos 0 ≤ℤ number self.now }
         ensures value { number self.now ≡ pos result }
         ensures within { result ≤ most };
 
-    /// How far `end` lies behind this offset, which is not negative and not above it. An `impl` may subtract in its own
-    /// width, which spares the widening of one of the two.
+    /// Returns the distance to `end`, which must not be below this offset, nor this offset
+    /// negative. An implementation may subtract in its own width, which saves one conversion.
     #[inline(always)]
     fn distance_to(&self, end: &Self) -> usize
         requires start { pos 0 ≤ℤ number self.now }

@@ -1,19 +1,19 @@
-//! How the values of an array lie in memory.
+//! Physical types: how the values of an array lie in memory.
 use crate::primitive_type::PrimitiveType;
 
-/// How the values of an array lie in memory.
+/// A physical type: how the values of an array lie in memory.
 #[derive(Clone, Copy, Debug, PartialEq, Eq)]
 pub enum PhysicalType {
     /// One bit for each slot (Arrow columnar format, "Fixed-size primitive layout").
     Boolean,
     /// One native value for each slot (Arrow columnar format, "Fixed-size primitive layout").
     Primitive(PrimitiveType),
-    /// Bytes between offsets of 32 bits (Arrow columnar format, "Variable-size binary layout").
+    /// Bytes between offsets of 32 bits (Arrow columnar format, "Variable-size Binary Layout").
     Binary,
     /// Bytes between offsets of 64 bits.
     LargeBinary,
-    /// Bytes of texts between offsets of 32 bits.
+    /// Text between offsets of 32 bits.
     Utf8,
-    /// Bytes of texts between offsets of 64 bits.
+    /// Text between offsets of 64 bits.
     LargeUtf8,
 }

@@ -1,8 +1,8 @@
-//! The native types that primitive arrays hold, and their logical types.
+//! Primitive types: the names of the native types.
 use crate::data_type::DataType;
 use crate::units::IntervalUnit;
 
-/// The native types that primitive arrays hold.
+/// The native type of the values of a primitive array.
 #[derive(Clone, Copy, Debug, PartialEq, Eq)]
 pub enum PrimitiveType {
     /// Signed integers of 8 bits.
@@ -36,8 +36,8 @@ impl PrimitiveType {
     ghost use Rattle.arrow_types.specs.declared.physical_type.PhysicalType.TheVariants as physical;
     ghost use Rattle.arrow_types.specs.Types.{logical_type, default_logical_type, IsRightType};
 
-    /// The logical type of this type's values unless another is given: the type of this name
-    /// where there is one, else the decimals or the interval that lie so.
+    /// Returns the data type that values of this type have unless another is given: the data type
+    /// of the same name, or the decimal or interval type that is stored so.
     pub fn default_data_type(self) -> DataType
         ensures value { logical_type result ≡ default_logical_type self }
         ensures right { IsRightType (physical.Primitive self) (logical_type result) }

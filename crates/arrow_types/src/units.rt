@@ -1,6 +1,6 @@
 //! Units of time and of intervals.
 
-/// The units in which times, timestamps and durations are counted.
+/// The unit in which times, timestamps and durations are counted.
 #[derive(Clone, Copy, Debug, PartialEq, Eq)]
 pub enum TimeUnit {
     /// Seconds.
@@ -13,7 +13,7 @@ pub enum TimeUnit {
     Nanosecond,
 }
 
-/// The units in which intervals are counted.
+/// The unit in which calendar intervals are counted.
 #[derive(Clone, Copy, Debug, PartialEq, Eq)]
 pub enum IntervalUnit {
     /// Whole months.

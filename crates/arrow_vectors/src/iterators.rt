@@ -1,11 +1,12 @@
 //! Iterators: one that lies of its length gives its three items all the same, or, where it says that there are more than
 //! any memory holds, memory is wanting; and one over an array ends for good, however much is passed over.
 use crate::Tiny;
+use crate::raw::{Parts, builds, holds, shows};
 use arrow_boolean::{BooleanArray, MutableBooleanArray};
 use arrow_byte_array::{ByteArray, MutableByteArray, MutableByteValuesArray};
 use arrow_bytes::{Binary, ByteItem, ByteKind, ItemError, Utf8};
 use arrow_primitive::{MutablePrimitiveArray, PrimitiveArray};
-use arrow_testing::{are_offsets, is_mask, seen};
+use arrow_testing::{is_mask, seen};
 use arrow_types::error::Error;
 use arrow_types::offset::Offset;
 use arrow_utf8::Utf8Array;
@@ -102,14 +103,27 @@ const NUMBERS: &[i64] = &[1, 0, 3];
 
 const SLOTS: &[Option<i64>] = &[Some(1), None, Some(3)];
 
-/// Whether a builder stores the three numbers.
-fn stores(builder: &MutablePrimitiveArray<i64>) -> bool {
-    builder.values().as_slice() == NUMBERS
+/// Whether a builder stores the three numbers, under these marks.
+fn stores(builder: &MutablePrimitiveArray<i64>, mask: &str) -> bool {
+    let marks = match builder.validity() {
+        Some(marks) => Some(marks.iter()),
+        None => None,
+    };
+    (builder.values().as_slice() == NUMBERS) & is_mask(marks, mask)
 }
 
 /// Whether an array does.
-fn array_stores(array: &PrimitiveArray<i64>) -> bool {
-    array.values().as_slice() == NUMBERS
+fn array_stores(array: &PrimitiveArray<i64>, mask: &str) -> bool {
+    let marks = match array.validity() {
+        Some(marks) => Some(marks.iter()),
+        None => None,
+    };
+    (array.values().as_slice() == NUMBERS) & is_mask(marks, mask)
+}
+
+/// The marks of three slots that are appended in one of three ways, the last of which appends values.
+fn mask_of(way: usize) -> &'static str {
+    if way == 2 { "none" } else { "101" }
 }
 
 /// Whether a new builder takes them in one of three ways.
@@ -120,7 +134,7 @@ fn extends(alloc: Global, lie: Lie, way: usize) -> bool {
         1 => builder.try_extend(lying(SLOTS, lie)),
         _ => builder.extend_values(lying(NUMBERS, lie)),
     };
-    let are_all = stores(&builder);
+    let are_all = stores(&builder, mask_of(way));
     drop(builder);
     is_taken(answer.and(Ok(are_all)), lie)
 }
@@ -129,15 +143,15 @@ fn extends(alloc: Global, lie: Lie, way: usize) -> bool {
 fn makes(alloc: Global, lie: Lie) -> bool {
     let builder = seen(
         MutablePrimitiveArray::from_iter(alloc, lying(SLOTS, lie)),
-        stores,
+        |builder| stores(builder, "101"),
     );
     let array = seen(
         PrimitiveArray::from_iter(alloc, lying(SLOTS, lie)),
-        array_stores,
+        |array| array_stores(array, "101"),
     );
     let values = seen(
         PrimitiveArray::from_values(alloc, lying(NUMBERS, lie)),
-        array_stores,
+        |array| array_stores(array, "none"),
     );
     is_taken(builder, lie) & is_taken(array, lie) & is_taken(values, lie)
 }
@@ -156,14 +170,22 @@ const MARKS: &[bool] = &[true, false, true];
 
 const MARK_SLOTS: &[Option<bool>] = &[Some(true), None, Some(true)];
 
-/// Whether a builder stores the three truth values.
-fn marks(builder: &MutableBooleanArray) -> bool {
-    is_mask(Some(builder.values_iter()), "101")
+/// Whether a builder stores the three truth values, under these marks.
+fn marks(builder: &MutableBooleanArray, mask: &str) -> bool {
+    let marks = match builder.validity() {
+        Some(marks) => Some(marks.iter()),
+        None => None,
+    };
+    is_mask(Some(builder.values_iter()), "101") & is_mask(marks, mask)
 }
 
 /// Whether an array does.
-fn array_marks(array: &BooleanArray) -> bool {
-    is_mask(Some(array.values_iter()), "101")
+fn array_marks(array: &BooleanArray, mask: &str) -> bool {
+    let marks = match array.validity() {
+        Some(marks) => Some(marks.iter()),
+        None => None,
+    };
+    is_mask(Some(array.values_iter()), "101") & is_mask(marks, mask)
 }
 
 /// Whether a new builder takes them in one of three ways.
@@ -174,7 +196,7 @@ fn extends_marks(alloc: Global, lie: Lie, way: usize) -> bool {
         1 => builder.try_extend(lying(MARK_SLOTS, lie)),
         _ => builder.extend_values(lying(MARKS, lie)),
     };
-    let are_all = marks(&builder);
+    let are_all = marks(&builder, mask_of(way));
     drop(builder);
     is_taken(answer.and(Ok(are_all)), lie)
 }
@@ -183,11 +205,11 @@ fn extends_marks(alloc: Global, lie: Lie, way: usize) -> bool {
 fn makes_marks(alloc: Global, lie: Lie) -> bool {
     let builder = seen(
         MutableBooleanArray::from_iter(alloc, lying(MARK_SLOTS, lie)),
-        marks,
+        |builder| marks(builder, "101"),
     );
     let array = seen(
         BooleanArray::from_iter(alloc, lying(MARK_SLOTS, lie)),
-        array_marks,
+        |array| array_marks(array, "101"),
     );
     is_taken(builder, lie) & is_taken(array, lie)
 }
@@ -238,24 +260,9 @@ impl Listed for Utf8 {
     }
 }
 
-/// Whether offsets are those of the three items.
-fn are_all(offsets: &[i32]) -> bool {
-    are_offsets(offsets, [0, 2, 2, 7].as_slice())
-}
-
-/// Whether a builder has these.
-fn has<K: ByteKind>(builder: &MutableByteArray<K, i32>) -> bool {
-    are_all(builder.offsets().as_slice())
-}
-
-/// Whether an array has.
-fn array_has<K: ByteKind>(array: &ByteArray<K, i32>) -> bool {
-    are_all(array.offsets().buffer().as_slice())
-}
-
-/// Whether a builder without nulls has.
-fn values_have<K: ByteKind>(builder: &MutableByteValuesArray<K, i32>) -> bool {
-    are_all(builder.offsets().as_slice())
+/// The three items, under marks or none.
+fn parts(mask: &'static str) -> Parts {
+    (&[0, 2, 2, 7], b"hithere", mask)
 }
 
 /// Whether a new builder takes them in one of three ways.
@@ -266,7 +273,7 @@ fn extends_bytes<K: Listed>(alloc: Global, rt: &impl Abort, lie: Lie, way: usize
         1 => builder.try_extend(lying(K::slots(), lie)),
         _ => builder.extend_values(lying(K::items(), lie)),
     };
-    let are_all = has(&builder);
+    let are_all = builds(&builder, parts(mask_of(way)));
     drop(builder);
     is_taken(answer.and(Ok(are_all)), lie)
 }
@@ -279,7 +286,7 @@ fn extends_values<K: Listed>(alloc: Global, rt: &impl Abort, lie: Lie, tries: bo
     } else {
         builder.extend(lying(K::items(), lie))
     };
-    let are_all = values_have(&builder);
+    let are_all = holds(&builder, parts("none"));
     drop(builder);
     is_taken(answer.and(Ok(are_all)), lie)
 }
@@ -287,25 +294,25 @@ fn extends_values<K: Listed>(alloc: Global, rt: &impl Abort, lie: Lie, tries: bo
 /// Whether the makers of a builder take them.
 fn makes_builders<K: Listed>(alloc: Global, lie: Lie) -> bool {
     let slots = MutableByteArray::<K, i32>::from_iter(alloc, lying(K::slots(), lie));
-    let is_taken_as_slots = is_taken(seen(slots, has::<K>), lie);
+    let is_taken_as_slots = is_taken(seen(slots, |it| builds(it, parts("101"))), lie);
     let items = MutableByteArray::<K, i32>::from_iter_values(alloc, lying(K::items(), lie));
-    is_taken_as_slots & is_taken(seen(items, has::<K>), lie)
+    is_taken_as_slots & is_taken(seen(items, |it| builds(it, parts("none"))), lie)
 }
 
 /// Whether those of a builder without nulls do.
 fn makes_values<K: Listed>(alloc: Global, lie: Lie) -> bool {
     let made = MutableByteValuesArray::<K, i32>::from_iter(alloc, lying(K::items(), lie));
-    let is_made = is_taken(seen(made, values_have::<K>), lie);
+    let is_made = is_taken(seen(made, |it| holds(it, parts("none"))), lie);
     let tried = MutableByteValuesArray::<K, i32>::try_from_iter(alloc, lying(K::items(), lie));
-    is_made & is_taken(seen(tried, values_have::<K>), lie)
+    is_made & is_taken(seen(tried, |it| holds(it, parts("none"))), lie)
 }
 
 /// Whether those of an array do.
 fn makes_arrays<K: Listed>(alloc: Global, lie: Lie) -> bool {
     let slots = ByteArray::<K, i32>::from_iter(alloc, lying(K::slots(), lie));
-    let is_taken_as_slots = is_taken(seen(slots, array_has::<K>), lie);
+    let is_taken_as_slots = is_taken(seen(slots, |it| shows(it, parts("101"))), lie);
     let items = ByteArray::<K, i32>::from_iter_values(alloc, lying(K::items(), lie));
-    is_taken_as_slots & is_taken(seen(items, array_has::<K>), lie)
+    is_taken_as_slots & is_taken(seen(items, |it| shows(it, parts("none"))), lie)
 }
 
 /// Whether all of them take the items of such an iterator.

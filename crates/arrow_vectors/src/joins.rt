@@ -56,6 +56,29 @@ fn slots_behind_others_keep_their_marks(rt: HostRuntime) {
     }
 }
 
+/// Whether the slots of a builder are a null and a one.
+fn are_null_and_one(builder: &MutablePrimitiveArray<i32>) -> bool {
+    let mut slots = builder.iter();
+    [slots.next(), slots.next(), slots.next()] == [Some(None), Some(Some(&1)), None]
+}
+
+/// Whether the value of a vector is valid behind a null.
+fn joins_vector(alloc: Global, rt: &impl Abort) -> bool {
+    let mut builder = pushed(alloc, rt, [None].as_slice());
+    let other = MutablePrimitiveArray::from_vec([1].to_vec(alloc).expect(rt, "memory"));
+    builder.try_extend_from_self(&other).expect(rt, "memory");
+    drop(other);
+    let are_stored = stores(&builder, [0, 1].as_slice(), "01");
+    let is_joined = are_stored & are_null_and_one(&builder);
+    drop(builder);
+    is_joined
+}
+
+#[test]
+fn values_of_a_vector_are_valid_behind_a_null(rt: HostRuntime) {
+    assert!(rt; joins_vector(rt.alloc(), &rt));
+}
+
 /// The parts of a builder and of another, what is told of the other's slots, and what the first has then.
 type Join = (Parts, Parts, &'static str, Parts);
 

@@ -11,7 +11,7 @@
 //! | what comes of another builder's slots | `joins` |
 //! | which raw parts of bytes and of text are refused, and which of several faults is told | `parts` |
 //! | what happens past the greatest offset, over a type that ends at 100 | `overflow` |
-//! | whether room that was asked for is there | `room` |
+//! | whether room that was asked for is there, and goes once it is given back | `room` |
 //! | what an iterator does that lies of its length, or is asked for more than there is | `iterators` |
 //! | which keys point at an item | `keys` |
 #![tactic(auto)]

@@ -2,6 +2,9 @@
 use crate::Tiny;
 use crate::raw::{Parts, builds, own_array, own_builder, shows, thawed};
 use arrow_bytes::Utf8;
+use arrow_memory::buffer::Buffer;
+use arrow_testing::{frozen_offsets, tells};
+use arrow_types::error::Error;
 use arrow_types::offset::Offset;
 use arrow_utf8::{MutableUtf8Array, Utf8Array};
 use std::alloc::Global;
@@ -57,6 +60,56 @@ fn each_slot_is_text_by_itself(rt: HostRuntime) {
         let narrow = is_cut::<i32>(rt.alloc(), &rt, *parts, *texts);
         let wide = is_cut::<i64>(rt.alloc(), &rt, *parts, *texts);
         assert!(rt; narrow & wide & is_cut::<Tiny>(rt.alloc(), &rt, *parts, *texts));
+    }
+}
+
+const NO_TEXT: &str = "every text between two offsets must be UTF-8";
+
+/// Bytes, and the places at which they can be cut into two texts.
+const PLACES: &[(&[u8], &[usize])] = &[
+    (b"abc", &[0, 1, 2, 3]),
+    (b"\xC3\xA9\xC3\xA8", &[0, 2, 4]),
+    (b"\xE2\x82\xACa", &[0, 3, 4]),
+    (b"\xF0\x9F\x98\x80", &[0, 4]),
+    (b"a\xC3", &[]),
+    (b"\xFFa", &[]),
+    (b"\xED\xA0\x80", &[]),
+    (b"\xF4\x90\x80\x80", &[]),
+];
+
+/// The array of two slots that bytes are cut into at a place.
+fn cut_at<O: Offset>(
+    alloc: Global,
+    rt: &impl Abort,
+    bytes: &[u8],
+    place: usize,
+) -> Result<Utf8Array<O>, Error> {
+    let offsets = frozen_offsets(alloc, [0, place, bytes.len()].as_slice()).expect(rt, "offsets");
+    let values = Buffer::from_vec(bytes.to_vec(alloc).expect(rt, "memory")).expect(rt, "memory");
+    Utf8Array::<O>::try_new(Utf8Array::<O>::default_data_type(), offsets, values, None)
+}
+
+/// Whether bytes are cut into two texts at these places, and at no other.
+fn is_cut_at<O: Offset>(alloc: Global, rt: &impl Abort, bytes: &[u8], places: &[usize]) -> bool {
+    for place in 0..bytes.len() + 1 {
+        let answer = if places.contains(&place) {
+            "made"
+        } else {
+            NO_TEXT
+        };
+        if tells(cut_at::<O>(alloc, rt, bytes, place)) != answer {
+            return false;
+        }
+    }
+    true
+}
+
+#[test]
+fn bytes_are_cut_between_characters(rt: HostRuntime) {
+    for (bytes, places) in PLACES {
+        let narrow = is_cut_at::<i32>(rt.alloc(), &rt, *bytes, *places);
+        let wide = is_cut_at::<i64>(rt.alloc(), &rt, *bytes, *places);
+        assert!(rt; narrow & wide & is_cut_at::<Tiny>(rt.alloc(), &rt, *bytes, *places));
     }
 }
 

@@ -1,4 +1,7 @@
+pub mod CallerLemmas
 pub mod Digits
+pub mod DigitPairs
+pub mod DigitTexts
 pub mod Each
 pub mod Joined
 pub mod Names

@@ -1,5 +1,5 @@
 //! Truth values that one word writes, as a list and packed to bytes.
-ghost use Rattle.std.specs.Prelude.{◌≡◌, ◌≤◌, Bool, List, Option, length, option_map, IfOk};
+ghost use Rattle.std.specs.Prelude.{◌≡◌, ◌≤◌, Bool, List, Option, is_some, length, option_map, IfOk};
 ghost use Rattle.arrow_entry.specs.Request.{Packed, packed_bits};
 ghost use Rattle.arrow_words.specs.Fields.{bit_of, bits_of, byte_of, mask_of, packed_bytes, packed_of, packed_in, packed_mask_in};
 ghost use Rattle.arrow_words.specs.Readers.{each};
@@ -33,6 +33,18 @@ fn digits_of(alloc: Global, word: &[u8]) -> Result<Option<Vec<bool>>, AllocError
     Ok(Some(bits))
 }
 
+/// Returns whether each byte of a word is such a digit.
+fn are_digits(word: &[u8]) -> bool
+    ensures { result ≡ is_some (each bit_of word.now) }
+{
+    for digit in word {
+        if bit_of(*digit).is_none() {
+            return false;
+        }
+    }
+    true
+}
+
 // A digit for each, or `.` for none.
 impl Word for Vec<bool> {
     ghost Meaning = { List Bool };
@@ -46,6 +58,10 @@ impl Word for Vec<bool> {
             return Ok(Some(Vec::new(alloc)));
         }
         digits_of(alloc, word)
+    }
+
+    fn is_word(word: &[u8]) -> bool {
+        is(word, b".") || are_digits(word)
     }
 }
 
@@ -65,6 +81,10 @@ impl Word for Option<Vec<bool>> {
             Some(bits) => Ok(Some(Some(bits))),
             None => Ok(None),
         }
+    }
+
+    fn is_word(word: &[u8]) -> bool {
+        is(word, b"-") || <Vec<bool>>::is_word(word)
     }
 }
 
@@ -117,6 +137,10 @@ impl Word for Bits {
             None => Ok(None),
         }
     }
+
+    fn is_word(word: &[u8]) -> bool {
+        <Vec<bool>>::is_word(word)
+    }
 }
 
 // A packed mask, or none.
@@ -133,5 +157,9 @@ impl Word for Option<Bits> {
             Some(None) => Ok(Some(None)),
             None => Ok(None),
         }
+    }
+
+    fn is_word(word: &[u8]) -> bool {
+        <Option<Vec<bool>>>::is_word(word)
     }
 }

@@ -4,14 +4,27 @@ ghost use Rattle.arrow_types.specs.Types.{LogicalType, logical_type};
 ghost use Rattle.arrow_entry.specs.declared.kind.Kind.{Kind};
 ghost use Rattle.arrow_entry.specs.declared.item.Turn.{Turn};
 ghost use Rattle.arrow_words.specs.Fields.{kind_of, type_of, skip_of, turn_of};
-ghost use Rattle.arrow_words.specs.Words.{number_of, integer_of, offset_of};
+ghost use Rattle.arrow_words.specs.Readers.{first};
+ghost use Rattle.arrow_words.specs.Words.{number_of, integer_of, offset_of, words_of};
 
 use crate::numbers::{integer_of, number_of, offset_of};
 use crate::readers::Word;
-use crate::words::is;
+use crate::words::{is, next_word};
 use arrow_entry::{Kind, Turn};
 use arrow_types::data_type::DataType;
 use std::alloc::{AllocError, Global};
+
+/// Returns the number that the first word writes, and what follows that word.
+#[inline(always)]
+pub fn first_number(text: &[u8]) -> Option<(usize, &[u8])>
+    ensures { option_map (λ x. (x.0, words_of x.1.now)) result ≡ first number_of (words_of text.now) }
+{
+    let (word, rest) = next_word(text)?;
+    match number_of(word) {
+        Some(number) => Some((number, rest)),
+        None => None,
+    }
+}
 
 impl Word for usize {
     ghost Meaning = { ℕ };
@@ -22,6 +35,10 @@ impl Word for usize {
 
     fn of_word(_alloc: Global, word: &[u8]) -> Result<Option<Self>, AllocError> {
         Ok(number_of(word))
+    }
+
+    fn is_word(word: &[u8]) -> bool {
+        number_of(word).is_some()
     }
 }
 
@@ -35,6 +52,10 @@ impl Word for i64 {
     fn of_word(_alloc: Global, word: &[u8]) -> Result<Option<Self>, AllocError> {
         Ok(integer_of(word))
     }
+
+    fn is_word(word: &[u8]) -> bool {
+        integer_of(word).is_some()
+    }
 }
 
 impl Word for i32 {
@@ -46,6 +67,10 @@ impl Word for i32 {
 
     fn of_word(_alloc: Global, word: &[u8]) -> Result<Option<Self>, AllocError> {
         Ok(offset_of(word))
+    }
+
+    fn is_word(word: &[u8]) -> bool {
+        offset_of(word).is_some()
     }
 }
 
@@ -86,6 +111,17 @@ fn kind_of(word: &[u8]) -> Option<Kind>
     None
 }
 
+/// Returns the kind that the first word names, and what follows that word.
+pub fn first_kind(text: &[u8]) -> Option<(Kind, &[u8])>
+    ensures { option_map (λ x. (x.0, words_of x.1.now)) result ≡ first kind_of (words_of text.now) }
+{
+    let (word, rest) = next_word(text)?;
+    match kind_of(word) {
+        Some(kind) => Some((kind, rest)),
+        None => None,
+    }
+}
+
 impl Word for Kind {
     ghost Meaning = { Kind };
 
@@ -95,6 +131,10 @@ impl Word for Kind {
 
     fn of_word(_alloc: Global, word: &[u8]) -> Result<Option<Self>, AllocError> {
         Ok(kind_of(word))
+    }
+
+    fn is_word(word: &[u8]) -> bool {
+        kind_of(word).is_some()
     }
 }
 
@@ -160,6 +200,10 @@ impl Word for DataType {
     fn of_word(_alloc: Global, word: &[u8]) -> Result<Option<Self>, AllocError> {
         Ok(type_of(word))
     }
+
+    fn is_word(word: &[u8]) -> bool {
+        type_of(word).is_some()
+    }
 }
 
 /// `s` and how many items are passed over.
@@ -195,5 +239,9 @@ impl Word for Turn {
 
     fn of_word(_alloc: Global, word: &[u8]) -> Result<Option<Self>, AllocError> {
         Ok(turn_of(word))
+    }
+
+    fn is_word(word: &[u8]) -> bool {
+        turn_of(word).is_some()
     }
 }

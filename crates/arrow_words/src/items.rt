@@ -1,11 +1,12 @@
 //! The items and slots that words write, and named changes of lists of them.
-ghost use Rattle.std.specs.Prelude.{◌≡◌, ℕ, ℤ, true, false, List, Option, Some, None, IfOk, option_map, string_bytes, if◌then◌else◌};
+ghost use Rattle.std.specs.Prelude.{◌≡◌, ℕ, ℤ, true, false, List, Option, Some, None, IfOk, is_some, option_map, string_bytes, if◌then◌else◌};
 ghost use Rattle.std.specs.Str.{is_utf8};
 ghost use Rattle.arrow_entry.specs.Item.{Stored, value, piece, Change, fill, turn, stored_item, stored_slot, change_of};
 ghost use Rattle.arrow_words.specs.Fields.{bytes_in, text_in, bytes_of, lettered, item_of, slot_of, named, change_in};
 ghost use Rattle.arrow_words.specs.Readers.{only, reads, zero};
 ghost use Rattle.arrow_words.specs.Words.{words_of, integer_of};
 
+use crate::hexadecimal::{are_bytes, is_text};
 use crate::numbers::integer_of;
 use crate::readers::{Only, Word, Words};
 use crate::words::{is, next_word};
@@ -59,6 +60,13 @@ impl Word for Vec<u8> {
             Ok(None)
         }
     }
+
+    fn is_word(word: &[u8]) -> bool {
+        match word.split_first() {
+            Some((first, digits)) => *first == b'x' && are_bytes(digits),
+            None => false,
+        }
+    }
 }
 
 /// The item that a number writes.
@@ -101,6 +109,21 @@ fn lettered(alloc: Global, word: &[u8]) -> Result<Option<Item<i64>>, AllocError>
     }
 }
 
+/// Returns whether a word writes an item by its first letter.
+fn is_lettered(word: &[u8]) -> bool
+    ensures { result ≡ is_some (lettered word.now) }
+{
+    let Some((first, rest)) = word.split_first() else {
+        return false;
+    };
+    match *first {
+        b'v' => integer_of(rest).is_some(),
+        b'x' => are_bytes(rest),
+        b't' => is_text(rest),
+        _ => false,
+    }
+}
+
 impl Word for Item<i64> {
     ghost Meaning = { Stored ℤ };
 
@@ -116,6 +139,10 @@ impl Word for Item<i64> {
             return Ok(Some(Item::Bit(true)));
         }
         lettered(alloc, word)
+    }
+
+    fn is_word(word: &[u8]) -> bool {
+        is(word, b"b0") || is(word, b"b1") || is_lettered(word)
     }
 }
 
@@ -135,6 +162,10 @@ impl Word for Option<Item<i64>> {
             Some(item) => Ok(Some(Some(item))),
             None => Ok(None),
         }
+    }
+
+    fn is_word(word: &[u8]) -> bool {
+        is(word, b"_") || <Item<i64>>::is_word(word)
     }
 }
 
@@ -171,6 +202,16 @@ fn named(alloc: Global, name: &[u8], words: &[u8]) -> Result<Option<Named<i64>>,
     Ok(None)
 }
 
+/// Returns whether the words behind a change's name are as they should be.
+fn is_named(name: &[u8], words: &[u8]) -> bool
+    ensures { result ≡ is_some (named name.now (words_of words.now)) }
+{
+    if is(name, b"fill") {
+        return <Only<Item<i64>>>::are_words(words);
+    }
+    is(name, b"reverse") && <()>::are_words(words)
+}
+
 // A change by its name: `fill` and an item, or `reverse`.
 impl Words for Named<i64> {
     ghost Content = { Change (Stored ℤ) };
@@ -183,6 +224,13 @@ impl Words for Named<i64> {
         match next_word(words) {
             Some((name, rest)) => named(alloc, name, rest),
             None => Ok(None),
+        }
+    }
+
+    fn are_words(words: &[u8]) -> bool {
+        match next_word(words) {
+            Some((name, rest)) => is_named(name, rest),
+            None => false,
         }
     }
 }

@@ -3,6 +3,7 @@
 
 pub mod bits;
 pub mod fields;
+mod hexadecimal;
 pub mod items;
 pub mod numbers;
 pub mod print;

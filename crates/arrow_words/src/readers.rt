@@ -1,5 +1,5 @@
 //! How the words behind a command's name are read: each by what it has to say, and none is left over.
-ghost use Rattle.std.specs.Prelude.{◌≡◌, IfOk, ℕ, List, Option, map, option_map};
+ghost use Rattle.std.specs.Prelude.{◌≡◌, IfOk, ℕ, List, Option, is_some, map, option_map};
 ghost use Rattle.arrow_words.specs.Readers.{first, zero, only, each, ◌▸◌};
 ghost use Rattle.arrow_words.specs.Words.{words_of};
 
@@ -19,6 +19,10 @@ pub trait Word: Sized + Drop {
     /// What a word says; `None` where it is not as it should be.
     fn of_word(alloc: Global, word: &[u8]) -> Result<Option<Self>, AllocError>
         ensures { IfOk result (λ read. option_map meaning read ≡ said word.now) };
+
+    /// Returns whether a word is as it should be. Makes nothing of it.
+    fn is_word(word: &[u8]) -> bool
+        ensures { result ≡ is_some (said word.now) };
 }
 
 /// What all words that are left say.
@@ -34,6 +38,10 @@ pub trait Words: Sized + Drop {
     /// What words say; `None` where they are not as they should be.
     fn of_words(alloc: Global, words: &[u8]) -> Result<Option<Self>, AllocError>
         ensures { IfOk result (λ read. option_map content read ≡ reader (words_of words.now)) };
+
+    /// Returns whether words are as they should be. Makes nothing of them.
+    fn are_words(words: &[u8]) -> bool
+        ensures { result ≡ is_some (reader (words_of words.now)) };
 }
 
 /// The last word.
@@ -50,6 +58,25 @@ pub fn next<A: Word>(alloc: Global, text: &[u8]) -> Result<Option<(A, &[u8])>, A
     match A::of_word(alloc, word)? {
         Some(said) => Ok(Some((said, rest))),
         None => Ok(None),
+    }
+}
+
+// No word.
+impl Words for () {
+    ghost use Rattle.std.specs.Prelude.{⊤};
+
+    ghost Content = { ⊤ };
+
+    ghost content = { λ x. x };
+
+    ghost reader = { zero tt };
+
+    fn of_words(_alloc: Global, words: &[u8]) -> Result<Option<Self>, AllocError> {
+        Ok(end(words))
+    }
+
+    fn are_words(words: &[u8]) -> bool {
+        next_word(words).is_none()
     }
 }
 
@@ -82,6 +109,13 @@ impl<A: Word> Words for Only<A> {
             None => Ok(None),
         }
     }
+
+    fn are_words(words: &[u8]) -> bool {
+        match next_word(words) {
+            Some((word, rest)) => end(rest).is_some() && A::is_word(word),
+            None => false,
+        }
+    }
 }
 
 // One word, and what the words behind it say.
@@ -102,6 +136,13 @@ impl<A: Word, B: Words> Words for (A, B) {
         match B::of_words(alloc, rest)? {
             Some(others) => Ok(Some((said, others))),
             None => Ok(None),
+        }
+    }
+
+    fn are_words(words: &[u8]) -> bool {
+        match next_word(words) {
+            Some((word, rest)) => A::is_word(word) && B::are_words(rest),
+            None => false,
         }
     }
 }
@@ -125,5 +166,16 @@ impl<A: Word> Words for Vec<A> {
             rest = after;
         }
         Ok(Some(all))
+    }
+
+    fn are_words(words: &[u8]) -> bool {
+        let mut rest = words;
+        while let Some((word, after)) = next_word(rest) {
+            if !A::is_word(word) {
+                return false;
+            }
+            rest = after;
+        }
+        true
     }
 }

@@ -62,16 +62,18 @@ fn builder_slots<O: Offset>(builder: &MutableBinaryArray<O>) -> bool {
             ])
 }
 
-/// Whether its stored items do.
+/// Whether its stored items do, and are lent by their places.
 fn builder_items<O: Offset>(builder: &MutableBinaryArray<O>) -> bool {
     let (mut items, mut others) = (builder.values_iter(), builder.values_iter());
     let all = [items.next_back(), items.next(), items.next(), others.nth(1)];
-    all == [
-        Some(b"z".as_slice()),
-        Some(b"y".as_slice()),
-        None,
-        Some(b"z".as_slice()),
-    ]
+    let is_all = all
+        == [
+            Some(b"z".as_slice()),
+            Some(b"y".as_slice()),
+            None,
+            Some(b"z".as_slice()),
+        ];
+    is_all & ([lent(builder, 1), lent(builder, 2)] == [Some(b"z".as_slice()), None])
 }
 
 /// Whether the items of a builder without nulls come from both ends, and in a loop.

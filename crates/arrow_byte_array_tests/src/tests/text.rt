@@ -54,11 +54,12 @@ fn builder_slots<O: Offset>(builder: &MutableUtf8Array<O>) -> bool {
             ])
 }
 
-/// Whether its stored items do.
+/// Whether its stored items do, and are lent by their places.
 fn builder_items<O: Offset>(builder: &MutableUtf8Array<O>) -> bool {
     let (mut items, mut others) = (builder.values_iter(), builder.values_iter());
     let all = [items.next_back(), items.next(), items.next(), others.nth(1)];
-    all == [Some("z"), Some("y"), None, Some("z")]
+    (all == [Some("z"), Some("y"), None, Some("z")])
+        & ([lent(builder, 1), lent(builder, 2)] == [Some("z"), None])
 }
 
 /// Whether the items of a builder without nulls come from both ends, and in a loop.

@@ -9,13 +9,12 @@ ghost use Rattle.arrow_entry.specs.declared.item.Turn.{Turn};
 
 use crate::items::{bytes_copied, text_copied};
 use crate::{Item, Turn};
-use arrow_binary::{BinaryArray, MutableBinaryValuesArray};
-use arrow_bytes::{Binary, MutableByteValues, Utf8};
+use arrow_binary::{BinaryArray, MutableBinaryArray, MutableBinaryValuesArray};
 use arrow_check::values_iter::ArrayValuesIter;
 use arrow_memory::bitmap::BitmapIter;
 use arrow_types::native_type::NativeType;
 use arrow_types::offset::Offset;
-use arrow_utf8::{MutableUtf8ValuesArray, Utf8Array};
+use arrow_utf8::{MutableUtf8Array, MutableUtf8ValuesArray, Utf8Array};
 use std::alloc::{AllocError, Global};
 use std::slice::Iter;
 
@@ -155,14 +154,15 @@ impl<'a, T: NativeType, O: Offset> Turned<T> for ArrayValuesIter<'a, BinaryArray
 }
 
 #[tactic(auto, using(crate::proofs::Turns::turn_maps))]
-impl<'a, T: NativeType, O: Offset> Turned<T> for ArrayValuesIter<'a, MutableByteValues<Binary, O>> {
+impl<'a, T: NativeType, O: Offset> Turned<T> for ArrayValuesIter<'a, MutableBinaryArray<O>> {
     ghost use Rattle.std.specs.Prelude.{false, map};
+    ghost use Rattle.arrow_column.specs.Column.{stored_values};
     ghost use Rattle.arrow_check.specs.Items.{IsWithin, rest_of};
     ghost use Rattle.arrow_entry.specs.Item.{piece};
 
-    ghost left = { λ items. map (piece false) (rest_of (λ values. values.items) items) };
+    ghost left = { λ items. map (piece false) (rest_of stored_values items) };
 
-    ghost can_turn = { IsWithin (λ values. values.items) };
+    ghost can_turn = { IsWithin stored_values };
 
     fn first(&mut self, alloc: Global) -> Result<Option<Item<T>>, AllocError> {
         match self.next() {
@@ -253,14 +253,15 @@ impl<'a, T: NativeType, O: Offset> Turned<T> for ArrayValuesIter<'a, Utf8Array<O
 }
 
 #[tactic(auto, using(crate::proofs::Turns::turn_maps))]
-impl<'a, T: NativeType, O: Offset> Turned<T> for ArrayValuesIter<'a, MutableByteValues<Utf8, O>> {
+impl<'a, T: NativeType, O: Offset> Turned<T> for ArrayValuesIter<'a, MutableUtf8Array<O>> {
     ghost use Rattle.std.specs.Prelude.{true, map};
+    ghost use Rattle.arrow_column.specs.Column.{stored_values};
     ghost use Rattle.arrow_check.specs.Items.{IsWithin, rest_of};
     ghost use Rattle.arrow_entry.specs.Item.{piece};
 
-    ghost left = { λ items. map (piece true) (rest_of (λ values. values.items) items) };
+    ghost left = { λ items. map (piece true) (rest_of stored_values items) };
 
-    ghost can_turn = { IsWithin (λ values. values.items) };
+    ghost can_turn = { IsWithin stored_values };
 
     fn first(&mut self, alloc: Global) -> Result<Option<Item<T>>, AllocError> {
         match self.next() {

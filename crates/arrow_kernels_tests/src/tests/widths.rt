@@ -10,50 +10,59 @@ use arrow_utf8::Utf8Array;
 /// A kind of items, and its kernels.
 trait Resized: ByteKind {
     /// The array over wide offsets.
-    fn widen(array: &ByteArray<Self, i32>) -> Result<ByteArray<Self, i64>, Error>;
+    fn widen(alloc: Global, array: &ByteArray<Self, i32>) -> Result<ByteArray<Self, i64>, Error>;
 
     /// The array over narrow offsets.
-    fn narrow(array: &ByteArray<Self, i64>) -> Result<ByteArray<Self, i32>, Error>;
+    fn narrow(alloc: Global, array: &ByteArray<Self, i64>) -> Result<ByteArray<Self, i32>, Error>;
 }
 
 impl Resized for Binary {
-    fn widen(array: &BinaryArray<i32>) -> Result<BinaryArray<i64>, Error> {
-        widen_binary(array)
+    fn widen(alloc: Global, array: &BinaryArray<i32>) -> Result<BinaryArray<i64>, Error> {
+        widen_binary(alloc, array)
     }
 
-    fn narrow(array: &BinaryArray<i64>) -> Result<BinaryArray<i32>, Error> {
-        narrow_binary(array)
+    fn narrow(alloc: Global, array: &BinaryArray<i64>) -> Result<BinaryArray<i32>, Error> {
+        narrow_binary(alloc, array)
     }
 }
 
 impl Resized for Utf8 {
-    fn widen(array: &Utf8Array<i32>) -> Result<Utf8Array<i64>, Error> {
-        widen_utf8(array)
+    fn widen(alloc: Global, array: &Utf8Array<i32>) -> Result<Utf8Array<i64>, Error> {
+        widen_utf8(alloc, array)
     }
 
-    fn narrow(array: &Utf8Array<i64>) -> Result<Utf8Array<i32>, Error> {
-        narrow_utf8(array)
+    fn narrow(alloc: Global, array: &Utf8Array<i64>) -> Result<Utf8Array<i32>, Error> {
+        narrow_utf8(alloc, array)
     }
 }
 
 /// Whether an array has these offsets, bytes and marks over narrow offsets again.
-fn narrows<K: Resized>(wide: &ByteArray<K, i64>, wanted: Written) -> Result<bool, Error> {
-    match K::narrow(wide) {
+fn narrows<K: Resized>(
+    alloc: Global,
+    wide: &ByteArray<K, i64>,
+    wanted: Written,
+) -> Result<bool, Error> {
+    match K::narrow(alloc, wide) {
         Ok(narrow) => Ok(shows(&narrow, wanted) & shows(wide, wanted)),
         Err(refused) => Err(refused),
     }
 }
 
 /// Whether it has them over wide offsets, and over narrow ones again.
-fn stays<K: Resized>(array: &ByteArray<K, i32>, wanted: Written) -> Result<bool, Error> {
-    match K::widen(array) {
-        Ok(wide) => narrows(&wide, wanted),
+fn stays<K: Resized>(
+    alloc: Global,
+    array: &ByteArray<K, i32>,
+    wanted: Written,
+) -> Result<bool, Error> {
+    match K::widen(alloc, array) {
+        Ok(wide) => narrows(alloc, &wide, wanted),
         Err(refused) => Err(refused),
     }
 }
 
 /// The same of the slots of an array from a place on.
 fn rest_stays<K: Resized>(
+    alloc: Global,
     array: &mut ByteArray<K, i32>,
     place: usize,
     wanted: Written,
@@ -62,17 +71,18 @@ fn rest_stays<K: Resized>(
     if place <= count {
         array.slice(place, count - place);
     }
-    stays(array, wanted)
+    stays(alloc, array, wanted)
 }
 
 /// The same of an array that was made.
 fn made_stays<K: Resized>(
+    alloc: Global,
     array: Result<ByteArray<K, i32>, Error>,
     place: usize,
     wanted: Written,
 ) -> Result<bool, Error> {
     match array {
-        Ok(mut array) => rest_stays(&mut array, place, wanted),
+        Ok(mut array) => rest_stays(alloc, &mut array, place, wanted),
         Err(refused) => Err(refused),
     }
 }
@@ -121,11 +131,12 @@ fn named_letters(alloc: Global) -> Result<Utf8Array<i32>, Error> {
 /// The type is the other width's default, whatever it was.
 #[test]
 fn widths(rt: HostRuntime) -> Result<(), Fail> {
+    let alloc = rt.alloc();
     all_told(&[
-        made_stays::<Binary>(array_of(rt.alloc(), ITEMS), 1, LAST),
-        made_stays::<Utf8>(array_of(rt.alloc(), TEXTS), 0, TEXTS),
-        made_stays::<Binary>(array_of(rt.alloc(), NOTHING), 0, NOTHING),
-        made_stays::<Utf8>(array_of(rt.alloc(), NOTHING), 0, NOTHING),
-        made_stays::<Utf8>(named_letters(rt.alloc()), 0, LETTERS),
+        made_stays::<Binary>(alloc, array_of(alloc, ITEMS), 1, LAST),
+        made_stays::<Utf8>(alloc, array_of(alloc, TEXTS), 0, TEXTS),
+        made_stays::<Binary>(alloc, array_of(alloc, NOTHING), 0, NOTHING),
+        made_stays::<Utf8>(alloc, array_of(alloc, NOTHING), 0, NOTHING),
+        made_stays::<Utf8>(alloc, named_letters(alloc), 0, LETTERS),
     ])
 }

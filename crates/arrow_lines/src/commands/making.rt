@@ -1,37 +1,26 @@
 //! The lines that make a value in an empty entry.
 #![tactic(auto, unfolding(crate::specs::Lines::making, crate::specs::Lines::request_behind))]
 
-ghost use Rattle.std.specs.Prelude.{◌≡◌, codes, false, option_map, pos, IfOk};
+ghost use Rattle.std.specs.Prelude.{◌≡◌, false, is_some, option_map, pos, IfOk};
 ghost use Rattle.arrow_types.specs.Types.{logical_type};
 ghost use Rattle.arrow_types.specs.declared.primitive_type.PrimitiveType.TheVariants.{Int64};
 ghost use Rattle.arrow_entry.specs.Entry.{default_type, types};
 ghost use Rattle.arrow_entry.specs.Kind.{native, boolean, pieces, shape};
-ghost use Rattle.arrow_lines.specs.Answered.{AnswersAsked, AnswersBehind};
-ghost use Rattle.arrow_lines.specs.Lines.{making, parts_of};
-ghost use Rattle.arrow_words.specs.Words.{words_of};
+ghost use Rattle.arrow_entry.specs.Request.{items, make, nothing, nulls, slots};
+ghost use Rattle.arrow_lines.specs.Answered.{AnswersAsked};
+ghost use Rattle.arrow_lines.specs.Lines.{parts_of};
+ghost use Rattle.arrow_words.specs.Fields.{item_of, kind_of, slot_of};
+ghost use Rattle.arrow_words.specs.Readers.{each, next, only, reads, ◌▸◌};
+ghost use Rattle.arrow_words.specs.Words.{number_of, words_of};
 
 use crate::answering::Answering;
-use crate::commands::{Answered, Starts, Width, answer};
+use crate::commands::{Answered, Line, Starts, Width, answer};
 use arrow_table::{Bits, Command, Item, Kind, Parts, Raw};
 use arrow_types::data_type::DataType;
 use arrow_types::offset::Offset;
+use arrow_words::fields::first_kind;
 use arrow_words::readers::{Only, Words, next};
 use std::alloc::Global;
-
-/// `new E KIND`
-pub(crate) fn run_new<O: Width>(
-    alloc: Global,
-    answering: &mut Answering,
-    entry: usize,
-    words: &[u8],
-) -> Answered
-    ensures { IfOk result (AnswersBehind O.side (making (types (pos 0) Int64 O.most O.IS_LARGE) O.offset) (codes "new") entry (words_of words.now) answering.old answering.new) }
-{
-    match <Only<Kind>>::of_words(alloc, words)? {
-        Some(Only(kind)) => answer::<O>(answering, Command::New(entry, kind)),
-        None => Ok(false),
-    }
-}
 
 /// The type of a kind's values unless another is given.
 fn default_type<O: Offset>(kind: Kind) -> DataType
@@ -57,25 +46,99 @@ fn default_type<O: Offset>(kind: Kind) -> DataType
     }
 }
 
+/// `new E KIND`
+pub(crate) struct NewLine;
+
+impl<O: Width> Line<O> for NewLine {
+    type Rest = Only<Kind>;
+
+    ghost reader = { λ e. reads (only kind_of) (λ kind. make e (shape kind) nothing) };
+
+    fn is_line(_entry: usize, words: &[u8]) -> bool {
+        Self::Rest::are_words(words)
+    }
+
+    fn run(answering: &mut Answering, entry: usize, words: &[u8]) -> Answered {
+        match Self::Rest::of_words(*answering.text.allocator(), words)? {
+            Some(Only(kind)) => answer::<O>(answering, Command::New(entry, kind)),
+            None => Ok(false),
+        }
+    }
+}
+
 /// `null E KIND N`
-pub(crate) fn run_null<O: Width>(
-    alloc: Global,
-    answering: &mut Answering,
-    entry: usize,
-    words: &[u8],
-) -> Answered
-    ensures { IfOk result (AnswersBehind O.side (making (types (pos 0) Int64 O.most O.IS_LARGE) O.offset) (codes "null") entry (words_of words.now) answering.old answering.new) }
-{
-    match <(Kind, Only<usize>)>::of_words(alloc, words)? {
-        Some((kind, Only(count))) => answer::<O>(
-            answering,
-            Command::NewNull(entry, kind, default_type::<O>(kind), count),
-        ),
-        None => Ok(false),
+pub(crate) struct NullLine;
+
+impl<O: Width> Line<O> for NullLine {
+    type Rest = (Kind, Only<usize>);
+
+    ghost reader = { λ e. reads (kind_of ▸ only number_of) (λ (kind, n). make e (shape kind) (nulls (default_type (types (pos 0) Int64 O.most O.IS_LARGE) (shape kind).sort) n)) };
+
+    fn is_line(_entry: usize, words: &[u8]) -> bool {
+        Self::Rest::are_words(words)
+    }
+
+    fn run(answering: &mut Answering, entry: usize, words: &[u8]) -> Answered {
+        match Self::Rest::of_words(*answering.text.allocator(), words)? {
+            Some((kind, Only(count))) => answer::<O>(
+                answering,
+                Command::NewNull(entry, kind, default_type::<O>(kind), count),
+            ),
+            None => Ok(false),
+        }
+    }
+}
+
+/// `slots E KIND SLOT*`
+pub(crate) struct SlotsLine;
+
+impl<O: Width> Line<O> for SlotsLine {
+    type Rest = (Kind, Vec<Option<Item<i64>>>);
+
+    ghost reader = { λ e. reads (kind_of ▸ each slot_of) (λ (kind, given). make e (shape kind) (slots given)) };
+
+    fn is_line(_entry: usize, words: &[u8]) -> bool {
+        Self::Rest::are_words(words)
+    }
+
+    fn run(answering: &mut Answering, entry: usize, words: &[u8]) -> Answered {
+        match Self::Rest::of_words(*answering.text.allocator(), words)? {
+            Some((kind, slots)) => answer::<O>(answering, Command::FromSlots(entry, kind, slots)),
+            None => Ok(false),
+        }
+    }
+}
+
+/// `items E KIND ITEM*`
+pub(crate) struct ItemsLine;
+
+impl<O: Width> Line<O> for ItemsLine {
+    type Rest = (Kind, Vec<Item<i64>>);
+
+    ghost reader = { λ e. reads (kind_of ▸ each item_of) (λ (kind, given). make e (shape kind) (items given)) };
+
+    fn is_line(_entry: usize, words: &[u8]) -> bool {
+        Self::Rest::are_words(words)
+    }
+
+    fn run(answering: &mut Answering, entry: usize, words: &[u8]) -> Answered {
+        match Self::Rest::of_words(*answering.text.allocator(), words)? {
+            Some((kind, items)) => answer::<O>(answering, Command::FromItems(entry, kind, items)),
+            None => Ok(false),
+        }
     }
 }
 
 /// `TYPE MASK INT*`
+type NativeWords = (DataType, (Option<Bits>, Vec<i64>));
+
+/// `TYPE MASK BITS`
+type BooleanWords = (DataType, (Option<Bits>, Only<Bits>));
+
+/// `TYPE MASK xHEX OFF*`
+type PiecesWords<O> = (DataType, (Option<Bits>, (Vec<u8>, Starts<O>)));
+
+/// Puts what raw native values make.
 fn native_parts<O: Width>(
     alloc: Global,
     answering: &mut Answering,
@@ -103,7 +166,7 @@ fn native_parts<O: Width>(
     }
 }
 
-/// `TYPE MASK BITS`
+/// Puts what raw truth values make.
 fn boolean_parts<O: Width>(
     alloc: Global,
     answering: &mut Answering,
@@ -131,7 +194,7 @@ fn boolean_parts<O: Width>(
     }
 }
 
-/// `TYPE MASK xHEX OFF*`
+/// Puts what raw bytes and offsets make.
 fn pieces_parts<O: Width>(
     alloc: Global,
     answering: &mut Answering,
@@ -166,7 +229,7 @@ fn pieces_parts<O: Width>(
     )
 }
 
-/// The rest of such a line, whose form goes by the kind.
+/// Puts what raw parts of a kind make.
 fn parts_by_kind<O: Width>(
     alloc: Global,
     answering: &mut Answering,
@@ -190,53 +253,49 @@ fn parts_by_kind<O: Width>(
     }
 }
 
-/// `parts E KIND TYPE MASK ..`
-pub(crate) fn run_parts<O: Width>(
-    alloc: Global,
-    answering: &mut Answering,
-    entry: usize,
-    words: &[u8],
-) -> Answered
-    ensures { IfOk result (AnswersBehind O.side (making (types (pos 0) Int64 O.most O.IS_LARGE) O.offset) (codes "parts") entry (words_of words.now) answering.old answering.new) }
+/// Returns whether words are raw parts of a kind. The entry is named for the contract.
+fn are_parts<O: Width>(_entry: usize, kind: Kind, words: &[u8]) -> bool
+    ensures { result ≡ is_some (parts_of O.offset _entry (shape kind) (shape kind).sort (words_of words.now)) }
 {
-    let Some((kind, words)) = next::<Kind>(alloc, words)? else {
-        return Ok(false);
-    };
-    parts_by_kind::<O>(alloc, answering, entry, kind, words)
-}
-
-/// `slots E KIND SLOT*`
-pub(crate) fn run_slots<O: Width>(
-    alloc: Global,
-    answering: &mut Answering,
-    entry: usize,
-    words: &[u8],
-) -> Answered
-    ensures { IfOk result (AnswersBehind O.side (making (types (pos 0) Int64 O.most O.IS_LARGE) O.offset) (codes "slots") entry (words_of words.now) answering.old answering.new) }
-{
-    let Some((kind, words)) = next::<Kind>(alloc, words)? else {
-        return Ok(false);
-    };
-    match <Vec<Option<Item<i64>>>>::of_words(alloc, words)? {
-        Some(slots) => answer::<O>(answering, Command::FromSlots(entry, kind, slots)),
-        None => Ok(false),
+    match kind {
+        Kind::Primitive => NativeWords::are_words(words),
+        Kind::Boolean => BooleanWords::are_words(words),
+        Kind::Binary => <PiecesWords<O>>::are_words(words),
+        Kind::Utf8 => <PiecesWords<O>>::are_words(words),
+        Kind::MutablePrimitive => NativeWords::are_words(words),
+        Kind::MutableBoolean => BooleanWords::are_words(words),
+        Kind::MutableBinary => <PiecesWords<O>>::are_words(words),
+        Kind::MutableUtf8 => <PiecesWords<O>>::are_words(words),
+        Kind::BinaryValues => <PiecesWords<O>>::are_words(words),
+        Kind::Utf8Values => <PiecesWords<O>>::are_words(words),
     }
 }
 
-/// `items E KIND ITEM*`
-pub(crate) fn run_items<O: Width>(
-    alloc: Global,
-    answering: &mut Answering,
-    entry: usize,
-    words: &[u8],
-) -> Answered
-    ensures { IfOk result (AnswersBehind O.side (making (types (pos 0) Int64 O.most O.IS_LARGE) O.offset) (codes "items") entry (words_of words.now) answering.old answering.new) }
-{
-    let Some((kind, words)) = next::<Kind>(alloc, words)? else {
-        return Ok(false);
-    };
-    match <Vec<Item<i64>>>::of_words(alloc, words)? {
-        Some(items) => answer::<O>(answering, Command::FromItems(entry, kind, items)),
-        None => Ok(false),
+/// `parts E KIND TYPE MASK ..`
+pub(crate) struct PartsLine;
+
+impl<O: Width> Line<O> for PartsLine {
+    type Rest = Only<Kind>;
+
+    ghost reader = { λ e. next kind_of (λ kind. parts_of O.offset e (shape kind) (shape kind).sort) };
+
+    fn is_line(entry: usize, words: &[u8]) -> bool {
+        match first_kind(words) {
+            Some((kind, words)) => are_parts::<O>(entry, kind, words),
+            None => false,
+        }
+    }
+
+    fn run(answering: &mut Answering, entry: usize, words: &[u8]) -> Answered {
+        match first_kind(words) {
+            Some((kind, words)) => parts_by_kind::<O>(
+                *answering.text.allocator(),
+                answering,
+                entry,
+                kind,
+                words,
+            ),
+            None => Ok(false),
+        }
     }
 }

@@ -1,128 +1,147 @@
 //! The lines that turn a value into another, and those about two values, about three, and about none.
-#![tactic(auto, unfolding(crate::specs::Lines::turning, crate::specs::Lines::request_behind))]
-
-ghost use Rattle.std.specs.Prelude.{codes, IfOk};
-ghost use Rattle.arrow_lines.specs.Answered.{AnswersBehind};
-ghost use Rattle.arrow_lines.specs.Lines.{turning};
-ghost use Rattle.arrow_words.specs.Words.{words_of};
+ghost use Rattle.arrow_entry.specs.Request.{at, check_indexes, equal, filter_from, freeze, nullable, take_from, thaw, to};
+ghost use Rattle.arrow_words.specs.Fields.{type_of};
+ghost use Rattle.arrow_words.specs.Readers.{each, only, reads, ◌▸◌};
+ghost use Rattle.arrow_words.specs.Words.{integer_of, number_of};
 
 use crate::answering::Answering;
-use crate::commands::{Answered, Width, answer};
+use crate::commands::{Answered, Bare, Line, Width, answer};
 use arrow_table::Command;
 use arrow_types::data_type::DataType;
 use arrow_words::readers::{Only, Words};
-use arrow_words::words::next_word;
-use std::alloc::Global;
 
 /// `freeze E`
-pub(crate) fn run_freeze<O: Width>(
-    answering: &mut Answering,
-    entry: usize,
-    words: &[u8],
-) -> Answered
-    ensures { IfOk result (AnswersBehind O.side turning (codes "freeze") entry (words_of words.now) answering.old answering.new) }
-{
-    if next_word(words).is_some() {
-        return Ok(false);
+pub(crate) struct FreezeLine;
+
+impl<O: Width> Bare<O> for FreezeLine {
+    ghost asks = { λ e. at e freeze };
+
+    fn run(answering: &mut Answering, entry: usize) -> Answered {
+        answer::<O>(answering, Command::Freeze(entry))
     }
-    answer::<O>(answering, Command::Freeze(entry))
 }
 
 /// `thaw E`
-pub(crate) fn run_thaw<O: Width>(answering: &mut Answering, entry: usize, words: &[u8]) -> Answered
-    ensures { IfOk result (AnswersBehind O.side turning (codes "thaw") entry (words_of words.now) answering.old answering.new) }
-{
-    if next_word(words).is_some() {
-        return Ok(false);
+pub(crate) struct ThawLine;
+
+impl<O: Width> Bare<O> for ThawLine {
+    ghost asks = { λ e. at e thaw };
+
+    fn run(answering: &mut Answering, entry: usize) -> Answered {
+        answer::<O>(answering, Command::Thaw(entry))
     }
-    answer::<O>(answering, Command::Thaw(entry))
 }
 
 /// `nullable E`
-pub(crate) fn run_nullable<O: Width>(
-    answering: &mut Answering,
-    entry: usize,
-    words: &[u8],
-) -> Answered
-    ensures { IfOk result (AnswersBehind O.side turning (codes "nullable") entry (words_of words.now) answering.old answering.new) }
-{
-    if next_word(words).is_some() {
-        return Ok(false);
+pub(crate) struct NullableLine;
+
+impl<O: Width> Bare<O> for NullableLine {
+    ghost asks = { λ e. at e nullable };
+
+    fn run(answering: &mut Answering, entry: usize) -> Answered {
+        answer::<O>(answering, Command::Nullable(entry))
     }
-    answer::<O>(answering, Command::Nullable(entry))
 }
 
 /// `to E TYPE`
-pub(crate) fn run_to<O: Width>(
-    alloc: Global,
-    answering: &mut Answering,
-    entry: usize,
-    words: &[u8],
-) -> Answered
-    ensures { IfOk result (AnswersBehind O.side turning (codes "to") entry (words_of words.now) answering.old answering.new) }
-{
-    match <Only<DataType>>::of_words(alloc, words)? {
-        Some(Only(data_type)) => answer::<O>(answering, Command::To(entry, data_type)),
-        None => Ok(false),
+pub(crate) struct ToLine;
+
+impl<O: Width> Line<O> for ToLine {
+    type Rest = Only<DataType>;
+
+    ghost reader = { λ e. reads (only type_of) (λ t. at e (to t)) };
+
+    fn is_line(_entry: usize, words: &[u8]) -> bool {
+        Self::Rest::are_words(words)
+    }
+
+    fn run(answering: &mut Answering, entry: usize, words: &[u8]) -> Answered {
+        match Self::Rest::of_words(*answering.text.allocator(), words)? {
+            Some(Only(data_type)) => answer::<O>(answering, Command::To(entry, data_type)),
+            None => Ok(false),
+        }
     }
 }
 
 /// `equal E F`
-pub(crate) fn run_equal<O: Width>(
-    alloc: Global,
-    answering: &mut Answering,
-    entry: usize,
-    words: &[u8],
-) -> Answered
-    ensures { IfOk result (AnswersBehind O.side turning (codes "equal") entry (words_of words.now) answering.old answering.new) }
-{
-    match <Only<usize>>::of_words(alloc, words)? {
-        Some(Only(other)) => answer::<O>(answering, Command::Equal(entry, other)),
-        None => Ok(false),
+pub(crate) struct EqualLine;
+
+impl<O: Width> Line<O> for EqualLine {
+    type Rest = Only<usize>;
+
+    ghost reader = { λ e. reads (only number_of) (λ f. equal e f) };
+
+    fn is_line(_entry: usize, words: &[u8]) -> bool {
+        Self::Rest::are_words(words)
+    }
+
+    fn run(answering: &mut Answering, entry: usize, words: &[u8]) -> Answered {
+        match Self::Rest::of_words(*answering.text.allocator(), words)? {
+            Some(Only(other)) => answer::<O>(answering, Command::Equal(entry, other)),
+            None => Ok(false),
+        }
     }
 }
 
 /// `filter E F G`
-pub(crate) fn run_filter<O: Width>(
-    alloc: Global,
-    answering: &mut Answering,
-    entry: usize,
-    words: &[u8],
-) -> Answered
-    ensures { IfOk result (AnswersBehind O.side turning (codes "filter") entry (words_of words.now) answering.old answering.new) }
-{
-    match <(usize, Only<usize>)>::of_words(alloc, words)? {
-        Some((filter, Only(made))) => answer::<O>(answering, Command::Filter(entry, filter, made)),
-        None => Ok(false),
+pub(crate) struct FilterLine;
+
+impl<O: Width> Line<O> for FilterLine {
+    type Rest = (usize, Only<usize>);
+
+    ghost reader = { λ e. reads (number_of ▸ only number_of) (λ (f, g). filter_from g e f) };
+
+    fn is_line(_entry: usize, words: &[u8]) -> bool {
+        Self::Rest::are_words(words)
+    }
+
+    fn run(answering: &mut Answering, entry: usize, words: &[u8]) -> Answered {
+        match Self::Rest::of_words(*answering.text.allocator(), words)? {
+            Some((filter, Only(made))) => answer::<O>(
+                answering,
+                Command::Filter(entry, filter, made),
+            ),
+            None => Ok(false),
+        }
     }
 }
 
 /// `take E G INT*`
-pub(crate) fn run_take<O: Width>(
-    alloc: Global,
-    answering: &mut Answering,
-    entry: usize,
-    words: &[u8],
-) -> Answered
-    ensures { IfOk result (AnswersBehind O.side turning (codes "take") entry (words_of words.now) answering.old answering.new) }
-{
-    match <(usize, Vec<i64>)>::of_words(alloc, words)? {
-        Some((made, keys)) => answer::<O>(answering, Command::Take(entry, keys, made)),
-        None => Ok(false),
+pub(crate) struct TakeLine;
+
+impl<O: Width> Line<O> for TakeLine {
+    type Rest = (usize, Vec<i64>);
+
+    ghost reader = { λ e. reads (number_of ▸ each integer_of) (λ (g, keys). take_from g e keys) };
+
+    fn is_line(_entry: usize, words: &[u8]) -> bool {
+        Self::Rest::are_words(words)
+    }
+
+    fn run(answering: &mut Answering, entry: usize, words: &[u8]) -> Answered {
+        match Self::Rest::of_words(*answering.text.allocator(), words)? {
+            Some((made, keys)) => answer::<O>(answering, Command::Take(entry, keys, made)),
+            None => Ok(false),
+        }
     }
 }
 
 /// `indexes LEN INT*`
-pub(crate) fn run_indexes<O: Width>(
-    alloc: Global,
-    answering: &mut Answering,
-    length: usize,
-    words: &[u8],
-) -> Answered
-    ensures { IfOk result (AnswersBehind O.side turning (codes "indexes") length (words_of words.now) answering.old answering.new) }
-{
-    match <Vec<i64>>::of_words(alloc, words)? {
-        Some(keys) => answer::<O>(answering, Command::CheckIndexes(keys, length)),
-        None => Ok(false),
+pub(crate) struct IndexesLine;
+
+impl<O: Width> Line<O> for IndexesLine {
+    type Rest = Vec<i64>;
+
+    ghost reader = { λ n. reads (each integer_of) (λ keys. check_indexes keys n) };
+
+    fn is_line(_length: usize, words: &[u8]) -> bool {
+        Self::Rest::are_words(words)
+    }
+
+    fn run(answering: &mut Answering, length: usize, words: &[u8]) -> Answered {
+        match Self::Rest::of_words(*answering.text.allocator(), words)? {
+            Some(keys) => answer::<O>(answering, Command::CheckIndexes(keys, length)),
+            None => Ok(false),
+        }
     }
 }

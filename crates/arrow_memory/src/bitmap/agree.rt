@@ -1,11 +1,11 @@
-//! Whether lists of marks agree, a byte at a time.
+//! Comparison of lists of marks, one byte at a time.
 ghost use Rattle.std.specs.Prelude.{◌≡◌, ℕ, ◌+◌, ◌*◌, ◌<◌, ◌↔◌, ◌==◌, IsTrue, IfSome, Some, length};
 ghost use Rattle.std.specs.Int.{bit_at};
 ghost use Rattle.arrow_memory.specs.Rows.{AgreeWhere, IsValidAt};
 
 use crate::bitmap::MutableBitmap;
 
-/// The bits of a byte below a place; all eight where the place is past them.
+/// Returns a byte whose first `count` bits are set; all eight if `count` is above 8.
 #[inline(always)]
 fn first_bits(count: usize) -> u8
     ensures { (i : ℕ) → i < 8 → (bit_at result i ≡ 1) ↔ (i < count) }
@@ -13,7 +13,7 @@ fn first_bits(count: usize) -> u8
     if count < 8 { (1 << count) - 1 } else { 255 }
 }
 
-/// Whether two bytes have the same bits wherever a third has a set bit.
+/// Returns whether two bytes have the same bits wherever `kept` has a set bit.
 #[inline(always)]
 fn same_byte(first: u8, second: u8, kept: u8) -> bool
     ensures { IsTrue result ↔ ((i : ℕ) → i < 8 → bit_at kept i ≡ 1 → bit_at first i ≡ bit_at second i) }
@@ -21,8 +21,8 @@ fn same_byte(first: u8, second: u8, kept: u8) -> bool
     first & kept == second & kept
 }
 
-/// The marks of a mask from mark `8 * byte` on, as the bits of a byte; without a mask all are set. Bits past the last
-/// mark don't count.
+/// Returns eight marks of a mask, from mark `8 * byte` on, as the bits of a byte. Without a mask
+/// all bits are set; bits past the last mark may be anything.
 #[inline(always)]
 fn mask_byte(mask: &Option<MutableBitmap>, byte: usize, count: usize) -> u8
     requires within { 8 * byte < count }
@@ -35,7 +35,8 @@ fn mask_byte(mask: &Option<MutableBitmap>, byte: usize, count: usize) -> u8
     }
 }
 
-/// A byte with a set bit for each valid slot of the eight that begin at slot `8 * byte`, of `count` slots.
+/// Returns a byte with a set bit for each valid slot among the eight slots from `8 * byte` on, of
+/// `count` slots.
 #[inline(always)]
 fn valid_bits(mask: &Option<MutableBitmap>, byte: usize, count: usize) -> u8
     requires within { 8 * byte < count }
@@ -45,7 +46,8 @@ fn valid_bits(mask: &Option<MutableBitmap>, byte: usize, count: usize) -> u8
     mask_byte(mask, byte, count) & first_bits(count - 8 * byte)
 }
 
-/// Whether two lists of as many marks agree wherever a mask has a set mark, or everywhere where there is none.
+/// Returns whether two lists of marks of equal length agree wherever a mask has a set mark, or
+/// everywhere without a mask.
 pub(crate) fn agree_where(
     first: &MutableBitmap,
     second: &MutableBitmap,

@@ -1,7 +1,9 @@
-//! Marks that are copied between packed bytes, whole bytes at a time, where the places need not agree
+//! Copies of marks between packed bytes, whole bytes at a time, at places that need not agree
 //! within a byte.
-ghost use Rattle.std.specs.Prelude.{◌≡◌, ℕ, ◌+◌, ◌-◌, ◌*◌, ◌^◌, ◌≤◌, ◌<◌, ◌==◌, slice_index, [], ◌∷◌, length, vec_len, ◌++◌, OnOk, OnErr, IfErr};
+ghost use Rattle.std.specs.Prelude.{◌≡◌, ℕ, ◌+◌, ◌-◌, ◌*◌, ◌^◌, ◌≤◌, ◌<◌, ◌==◌, slice_index, [], ◌∷◌, length};
+ghost use Rattle.std.specs.Prelude.{vec_len, ◌++◌, OnOk, OnErr, IfErr};
 ghost use Rattle.std.specs.Int.{bit_at, div_ceil};
+ghost use Rattle.arrow_types.specs.Failures.{OutOfMemoryKeeps};
 ghost use Rattle.arrow_memory.specs.Marks.{mark_at, marks};
 ghost use Rattle.arrow_memory.specs.MarkWrites.{CopiesMarks};
 
@@ -9,7 +11,7 @@ use arrow_types::error::Error;
 use std::alloc::AllocError;
 use std::rc::Rc;
 
-/// Eight marks of two bytes, from a place in the lower one on.
+/// Returns eight marks of two bytes, from bit `shift` of the lower one on.
 #[inline(always)]
 fn between(low: u8, high: u8, shift: usize) -> u8
     requires { shift < 8 }
@@ -18,7 +20,7 @@ fn between(low: u8, high: u8, shift: usize) -> u8
     low >> shift | high << 1 << (7 - shift)
 }
 
-/// The byte at a place, or one of clear marks past the last.
+/// Returns the byte at `index`, or a byte of clear marks past the end.
 #[inline(always)]
 fn byte_or_clear(bytes: &[u8], index: usize) -> u8
     ensures { result ≡ slice_index bytes.now index }
@@ -26,7 +28,7 @@ fn byte_or_clear(bytes: &[u8], index: usize) -> u8
     bytes.get(index).copied().unwrap_or(0)
 }
 
-/// Eight marks from a place on; those past the bytes are clear.
+/// Returns eight marks from `place` on; marks past the bytes are clear.
 #[inline(always)]
 pub(crate) fn byte_at(bytes: &[u8], place: usize) -> u8
     ensures { (k : ℕ) → k < 8 → (bit_at result k == 1) ≡ mark_at bytes.now (place + k) }
@@ -36,7 +38,7 @@ pub(crate) fn byte_at(bytes: &[u8], place: usize) -> u8
     between(low, high, place % 8)
 }
 
-/// A byte that keeps its bits below one, and has another's bits from that on.
+/// Returns a byte with the bits of `byte` below `from`, and those of `above` from there on.
 #[inline(always)]
 fn joined(byte: u8, from: usize, above: u8) -> u8
     requires { from < 8 }
@@ -46,7 +48,7 @@ fn joined(byte: u8, from: usize, above: u8) -> u8
     byte & !(255 << from) | above << from
 }
 
-/// Writes marks behind the last of so many, up to the end of its byte.
+/// Writes marks behind the first `len` marks, up to the end of the byte in which these end.
 pub(crate) fn join_byte(bytes: &mut Vec<u8>, len: usize, source: &[u8], start: usize)
     requires { len ≤ 8 * vec_len bytes.old }
     ensures marks { CopiesMarks bytes.old.items bytes.new.items source.now len start (8 * div_ceil len 8 - len) }
@@ -58,7 +60,7 @@ pub(crate) fn join_byte(bytes: &mut Vec<u8>, len: usize, source: &[u8], start: u
     }
 }
 
-/// Writes marks from a place on into the bytes behind the first of so many.
+/// Writes whole bytes of marks, read from `place` on, from byte `from` on.
 fn write_bytes(target: &mut [u8], from: usize, source: &[u8], place: usize)
     requires some { from < length target.old }
     requires within { place + 8 * (length target.old - from) < 8 * length source.now + 8 }
@@ -74,7 +76,7 @@ fn write_bytes(target: &mut [u8], from: usize, source: &[u8], place: usize)
     target[from + last] = byte_at(source, place + 8 * last);
 }
 
-/// Appends so many bytes of marks from a place on.
+/// Appends whole bytes of marks, read from a place on.
 fn append_bytes(
     bytes: &mut Vec<u8>,
     source: &[u8],
@@ -85,7 +87,8 @@ fn append_bytes(
     requires within { place + 8 * more < 8 * length source.now + 8 }
     requires fits { place + 8 * more < 2 ^ 64 + 8 }
     requires room_fits { vec_len bytes.old + more < 2 ^ 64 }
-    ensures marks { OnOk result (CopiesMarks bytes.old.items bytes.new.items source.now (8 * vec_len bytes.old) place (8 * more)) }
+    ensures marks { OnOk result (CopiesMarks bytes.old.items bytes.new.items source.now (8 * vec_len bytes.old)
+        place (8 * more)) }
     ensures room { OnOk result (vec_len bytes.new ≡ vec_len bytes.old + more) }
     ensures err { OnErr result (bytes.new.items ≡ bytes.old.items) }
 {
@@ -100,7 +103,7 @@ fn append_bytes(
     Ok(())
 }
 
-/// Appends marks of other bytes, from a place on, behind the first of so many.
+/// Appends marks of other bytes, from a place on, behind the first marks.
 pub(crate) fn extend_from_bytes(
     bytes: &mut Vec<u8>,
     len: usize,
@@ -112,7 +115,8 @@ pub(crate) fn extend_from_bytes(
     requires enough { start + count ≤ 8 * length source.now }
     requires fits { len + count < 2 ^ 64 }
     requires enough_fits { start + count < 2 ^ 64 }
-    ensures ok { OnOk result (marks bytes.new.items 0 (len + count) ≡ marks bytes.old.items 0 len ++ marks source.now start count) }
+    ensures ok { OnOk result (marks bytes.new.items 0 (len + count) ≡ marks bytes.old.items 0 len
+        ++ marks source.now start count) }
     ensures room { OnOk result (len + count ≤ 8 * vec_len bytes.new) }
     ensures kept { marks bytes.new.items 0 len ≡ marks bytes.old.items 0 len }
     ensures room_left { len ≤ 8 * vec_len bytes.new }
@@ -127,14 +131,15 @@ pub(crate) fn extend_from_bytes(
     Ok(())
 }
 
-/// Makes the marks stand from the first on in bytes that no one else has, if need be in a copy.
+/// Moves marks to the front of bytes that are not shared, copying them if they are shared or begin
+/// elsewhere.
 #[tactic(auto, using(crate::proofs::MarkLemmas::mark_steps))]
 pub(crate) fn own_bytes(bytes: &mut Rc<Vec<u8>>, offset: usize, length: usize) -> Result<(), Error>
     requires within { offset + length ≤ 8 * vec_len bytes.old.value }
     requires fits { offset + length < 2 ^ 64 }
     ensures ok { OnOk result (marks bytes.new.value.items 0 length ≡ marks bytes.old.value.items offset length) }
     ensures room { OnOk result (length ≤ 8 * vec_len bytes.new.value) }
-    ensures err { IfErr result (λ e. (e ≡ Error.OutOfMemory) × (bytes.new ≡ bytes.old)) }
+    ensures err { OutOfMemoryKeeps result bytes.old bytes.new }
 {
     if offset == 0 && Rc::strong_count(bytes) == 1 {
         return Ok(());

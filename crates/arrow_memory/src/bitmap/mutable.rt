@@ -1,6 +1,9 @@
-//! Lists of marks that grow.
-ghost use Rattle.std.specs.Prelude.{◌≡◌, ℕ, ◌<◌, ◌+◌, ◌↔◌, ◌==◌, IsTrue, [], ◌∷◌, ◌++◌, count_by, length, not, replicate, slice_get, slice_set, take, Some, IfSome, OnOk, IfOk, IfErr, MatchOption, ◌*◌, ◌≤◌, vec_len, IsOk};
+//! Bitmaps that can be changed and grow.
+ghost use Rattle.std.specs.Prelude.{◌≡◌, ℕ, ◌<◌, ◌+◌, ◌↔◌, ◌==◌, IsTrue, [], ◌∷◌, ◌++◌, count_by, length, not};
+ghost use Rattle.std.specs.Prelude.{replicate, slice_get, slice_set, take, Some, IfSome, OnOk, IfOk, IfErr};
+ghost use Rattle.std.specs.Prelude.{MatchOption, ◌*◌, ◌≤◌, vec_len, IsOk};
 ghost use Rattle.std.specs.Int.{bit_at};
+ghost use Rattle.arrow_types.specs.Failures.{OnlyOutOfMemory, OutOfMemoryKeeps};
 ghost use Rattle.arrow_memory.specs.Marks.{bits_of, marks, bits_past_bytes};
 ghost use Rattle.arrow_memory.specs.Rows.{AgreeWhere};
 ghost use Rattle.arrow_types.specs.Types.{refusal};
@@ -15,8 +18,8 @@ use arrow_types::error::Error;
 use std::alloc::Global;
 use std::marker::Model;
 
-/// A list of marks that can be changed and grow. Marks are packed eight to a byte, the least
-/// significant bit first (Arrow columnar format, "Validity bitmaps").
+/// A growing list of marks, packed eight to a byte, the least significant bit first (Arrow columnar
+/// format, "Validity bitmaps").
 #[derive(Drop)]
 pub struct MutableBitmap {
     bytes: Vec<u8>,
@@ -37,7 +40,7 @@ impl Model for MutableBitmap {
 
 #[tactic(auto, using(crate::proofs::MarkLemmas::mark_steps))]
 impl MutableBitmap {
-    /// No marks.
+    /// Creates an empty bitmap. Does not allocate.
     pub fn new(alloc: Global) -> Self
         ensures { result ≡ [] }
     {
@@ -47,14 +50,14 @@ impl MutableBitmap {
         }
     }
 
-    /// No marks, as [`MutableBitmap::new`].
+    /// Creates an empty bitmap, as [`MutableBitmap::new`].
     pub fn default(alloc: Global) -> Self
         ensures { result ≡ [] }
     {
         MutableBitmap::new(alloc)
     }
 
-    /// The first marks of packed bytes.
+    /// Creates a bitmap of the first `length` marks of packed bytes.
     pub(crate) fn from_bytes(bytes: Vec<u8>, length: usize) -> Self
         requires { length ≤ 8 * vec_len bytes }
         ensures { result ≡ marks bytes.items 0 length }
@@ -62,7 +65,7 @@ impl MutableBitmap {
         MutableBitmap { bytes, length }
     }
 
-    /// The packed bytes of the marks, which are not copied. They may have more bits than there are marks.
+    /// Returns the packed bytes without copying them. They may have more bits than there are marks.
     pub fn into_vec(self) -> Vec<u8>
         ensures room { length self ≤ 8 * vec_len result }
         ensures value { marks result.items 0 (length self) ≡ self }
@@ -71,10 +74,11 @@ impl MutableBitmap {
         bytes
     }
 
-    /// The first `length` marks of packed bytes, which are not copied. The bytes may have more bits.
+    /// Creates a bitmap of the first `length` marks of packed bytes, without copying them. The
+    /// bytes may have more bits.
     ///
     /// # Errors
-    /// `OutOfSpec` where the bytes have fewer bits; they are then lost.
+    /// `OutOfSpec` if the bytes have fewer than `length` bits; they are then dropped.
     pub fn try_new(bytes: Vec<u8>, length: usize) -> Result<Self, Error>
         ensures ok { IfOk result (λ bitmap. (length ≤ 8 * vec_len bytes) × (bitmap ≡ marks bytes.items 0 length)) }
         ensures err { IfErr result (λ e. (8 * vec_len bytes < length) × (refusal e ≡ bits_past_bytes)) }
@@ -83,25 +87,25 @@ impl MutableBitmap {
         Ok(MutableBitmap { bytes, length })
     }
 
-    /// A mark for each truth value.
+    /// Creates a bitmap from truth values.
     ///
     /// # Errors
-    /// `OutOfMemory` where memory is refused.
+    /// `OutOfMemory` if an allocation fails.
     pub fn from_slice(alloc: Global, slice: &[bool]) -> Result<Self, Error>
         ensures ok { IfOk result (λ bitmap. bitmap ≡ slice.now) }
-        ensures err { IfErr result (λ e. e ≡ Error.OutOfMemory) }
+        ensures err { OnlyOutOfMemory result }
     {
         let bytes = pack(alloc, slice)?;
         Ok(MutableBitmap::from_bytes(bytes, slice.len()))
     }
 
-    /// No marks, with room for so many.
+    /// Creates an empty bitmap with room for at least `capacity` marks.
     ///
     /// # Errors
-    /// `OutOfMemory` where memory is refused.
+    /// `OutOfMemory` if an allocation fails.
     pub fn with_capacity(alloc: Global, capacity: usize) -> Result<Self, Error>
         ensures ok { IfOk result (λ bitmap. bitmap ≡ []) }
-        ensures err { IfErr result (λ e. e ≡ Error.OutOfMemory) }
+        ensures err { OnlyOutOfMemory result }
     {
         Ok(MutableBitmap {
             bytes: Vec::with_capacity(alloc, capacity.div_ceil(8))?,
@@ -109,20 +113,20 @@ impl MutableBitmap {
         })
     }
 
-    /// Makes room for so many more marks.
+    /// Reserves room for at least `additional` more marks.
     ///
     /// # Errors
-    /// `OutOfMemory` where the growth is refused.
+    /// `OutOfMemory` if an allocation fails.
     pub fn reserve(&mut self, additional: usize) -> Result<(), Error>
         ensures kept { self.new ≡ self.old }
-        ensures err { IfErr result (λ e. e ≡ Error.OutOfMemory) }
+        ensures err { OnlyOutOfMemory result }
     {
         let needed = self.length.saturating_add(additional).div_ceil(8);
         self.bytes.reserve(needed.saturating_sub(self.bytes.len()))?;
         Ok(())
     }
 
-    /// Gives back room that no mark needs, where the allocator takes it back.
+    /// Gives unused room back to the allocator, if it takes it.
     ///
     /// # Errors
     /// Never: if the allocator refuses a smaller allocation, the room stays.
@@ -135,13 +139,13 @@ impl MutableBitmap {
         Ok(())
     }
 
-    /// A copy of the marks.
+    /// Returns a copy.
     ///
     /// # Errors
-    /// `OutOfMemory` where memory is refused.
+    /// `OutOfMemory` if an allocation fails.
     pub fn clone(&self) -> Result<Self, Error>
         ensures ok { IfOk result (λ bitmap. bitmap ≡ self.now) }
-        ensures err { IfErr result (λ e. e ≡ Error.OutOfMemory) }
+        ensures err { OnlyOutOfMemory result }
     {
         Ok(MutableBitmap {
             bytes: self.bytes.clone()?,
@@ -149,14 +153,14 @@ impl MutableBitmap {
         })
     }
 
-    /// The number of marks.
+    /// Returns the number of marks.
     pub fn len(&self) -> usize
         ensures { result ≡ length self.now }
     {
         self.length
     }
 
-    /// The mark at a place.
+    /// Returns the mark at `index`.
     pub fn get(&self, index: usize) -> bool
         requires { index < length self.now }
         ensures { slice_get self.now index ≡ Some result }
@@ -164,7 +168,7 @@ impl MutableBitmap {
         mark_of(&self.bytes, index)
     }
 
-    /// Writes the mark at a place.
+    /// Sets the mark at `index`.
     pub fn set(&mut self, index: usize, value: bool)
         requires { index < length self.old }
         ensures { self.new ≡ slice_set self.old index value }
@@ -175,11 +179,11 @@ impl MutableBitmap {
     /// Appends a mark.
     ///
     /// # Errors
-    /// `OutOfMemory` where the growth is refused; the marks are then as before.
+    /// `OutOfMemory` if an allocation fails; the marks are then unchanged.
     #[inline(always)]
     pub fn push(&mut self, value: bool) -> Result<(), Error>
         ensures ok { OnOk result (self.new ≡ self.old ++ value ∷ []) }
-        ensures err { IfErr result (λ e. (e ≡ Error.OutOfMemory) × (self.new ≡ self.old)) }
+        ensures err { OutOfMemoryKeeps result self.old self.new }
     {
         let Some(length) = self.length.checked_add(1) else {
             return Err(Error::OutOfMemory);
@@ -189,16 +193,18 @@ impl MutableBitmap {
         Ok(())
     }
 
-    /// The eight marks from place `8 * i` on, as the bits of a byte. Its bits past the last mark don't count.
+    /// Returns the eight marks from mark `8 * i` on as the bits of a byte. Bits past the last mark
+    /// may be anything.
     #[inline(always)]
     pub(crate) fn byte(&self, i: usize) -> u8
         requires { 8 * i < length self.now }
-        ensures { (k : ℕ) → k < 8 → 8 * i + k < length self.now → slice_get self.now (8 * i + k) ≡ Some (bit_at result k == 1) }
+        ensures { (k : ℕ) → k < 8 → 8 * i + k < length self.now
+            → slice_get self.now (8 * i + k) ≡ Some (bit_at result k == 1) }
     {
         self.bytes[i]
     }
 
-    /// Whether both have the same marks, compared a byte at a time.
+    /// Returns whether both lists have the same marks. Compares one byte at a time.
     pub fn has_marks_of(&self, other: &Self) -> bool
         ensures { IsTrue result ↔ self.now ≡ other.now }
     {
@@ -208,8 +214,8 @@ impl MutableBitmap {
         agree_where(self, other, &None)
     }
 
-    /// Whether both lists, of as many marks, have the same mark wherever a mask has a set one, or everywhere where there
-    /// is no mask; compared a byte at a time.
+    /// Returns whether two lists of equal length have the same mark wherever `mask` has a set mark,
+    /// or everywhere without a mask. Compares one byte at a time.
     pub fn agrees_where(&self, other: &Self, mask: &Option<MutableBitmap>) -> bool
         requires same { length self.now ≡ length other.now }
         requires fits { IfSome mask.now (λ marks. length marks ≡ length self.now) }
@@ -218,7 +224,7 @@ impl MutableBitmap {
         agree_where(self, other, mask)
     }
 
-    /// Removes the last mark and answers it; `None` where there is none.
+    /// Removes and returns the last mark; `None` if there is none.
     #[inline(always)]
     pub fn pop(&mut self) -> Option<bool>
         ensures { MatchOption result ((self.old ≡ []) × (self.new ≡ [])) (λ mark. self.old ≡ self.new ++ mark ∷ []) }
@@ -238,20 +244,20 @@ impl MutableBitmap {
         self.length = len;
     }
 
-    /// What the bytes are allocated by.
+    /// Returns the allocator of the bytes.
     pub fn allocator(&self) -> Global {
         *self.bytes.allocator()
     }
 
-    /// Appends so many equal marks, whole bytes at a time.
+    /// Appends `additional` equal marks, whole bytes at a time.
     ///
     /// # Errors
-    /// `OutOfMemory` where the growth is refused, as one past `usize::MAX` marks is; the marks are
-    /// then as before.
+    /// `OutOfMemory` if an allocation fails or the length would pass `usize::MAX`; the marks are
+    /// then unchanged.
     #[inline(always)]
     pub fn extend_constant(&mut self, additional: usize, value: bool) -> Result<(), Error>
         ensures ok { OnOk result (self.new ≡ self.old ++ replicate additional value) }
-        ensures err { IfErr result (λ e. (e ≡ Error.OutOfMemory) × (self.new ≡ self.old)) }
+        ensures err { OutOfMemoryKeeps result self.old self.new }
     {
         let Some(end) = self.length.checked_add(additional) else {
             return Err(Error::OutOfMemory);
@@ -261,14 +267,14 @@ impl MutableBitmap {
         Ok(())
     }
 
-    /// Appends the marks of another list, whole bytes at a time.
+    /// Appends the marks of another bitmap, whole bytes at a time.
     ///
     /// # Errors
-    /// `OutOfMemory` where the growth is refused, as one past `usize::MAX` marks is; the marks are
-    /// then as before.
+    /// `OutOfMemory` if an allocation fails or the length would pass `usize::MAX`; the marks are
+    /// then unchanged.
     pub fn extend_from_bitmap(&mut self, other: &MutableBitmap) -> Result<(), Error>
         ensures ok { OnOk result (self.new ≡ self.old ++ other.now) }
-        ensures err { IfErr result (λ e. (e ≡ Error.OutOfMemory) × (self.new ≡ self.old)) }
+        ensures err { OutOfMemoryKeeps result self.old self.new }
     {
         let Some(end) = self.length.checked_add(other.length) else {
             return Err(Error::OutOfMemory);
@@ -281,13 +287,13 @@ impl MutableBitmap {
     /// Appends the first `count` bits of a word, at most 64, the least significant first.
     ///
     /// # Errors
-    /// `OutOfMemory` where the growth is refused, as one past `usize::MAX` marks is; the marks are
-    /// then as before.
+    /// `OutOfMemory` if an allocation fails or the length would pass `usize::MAX`; the marks are
+    /// then unchanged.
     #[inline(always)]
     pub fn extend_from_word(&mut self, word: u64, count: usize) -> Result<(), Error>
         requires { count ≤ 64 }
         ensures ok { OnOk result (self.new ≡ self.old ++ bits_of word count) }
-        ensures err { IfErr result (λ e. (e ≡ Error.OutOfMemory) × (self.new ≡ self.old)) }
+        ensures err { OutOfMemoryKeeps result self.old self.new }
     {
         let Some(end) = self.length.checked_add(count) else {
             return Err(Error::OutOfMemory);
@@ -297,40 +303,41 @@ impl MutableBitmap {
         Ok(())
     }
 
-    /// The number of clear marks, counted eight bytes at a time.
+    /// Counts the clear marks, eight bytes at a time.
     pub fn unset_bits(&self) -> usize
         ensures { result ≡ count_by not self.now }
     {
         count_clear(&self.bytes, 0, self.length)
     }
 
-    /// The marks in order.
+    /// Returns an iterator over the marks.
     pub fn iter(&self) -> BitmapIter<'_>
         ensures { result ≡ self.now }
     {
         BitmapIter::new(&self.bytes, 0, self.length)
     }
 
-    /// The same marks, which no longer change.
+    /// Converts the bitmap into an immutable one.
     ///
     /// # Errors
-    /// `OutOfMemory` where a growth is refused; the marks are then lost.
+    /// `OutOfMemory` if an allocation fails; the marks are then dropped.
     pub fn freeze(self) -> Result<Bitmap, Error>
         ensures ok { IfOk result (λ bitmap. bitmap ≡ self) }
-        ensures err { IfErr result (λ e. e ≡ Error.OutOfMemory) }
+        ensures err { OnlyOutOfMemory result }
     {
         let MutableBitmap { bytes, length } = self;
         Bitmap::from_bytes(bytes, length)
     }
 
-    /// The same marks, of which so many are clear, which no longer change. They are not counted again.
+    /// Converts the bitmap into an immutable one, given its number of clear marks, which is not
+    /// counted again.
     ///
     /// # Errors
-    /// `OutOfMemory` where a growth is refused; the marks are then lost.
+    /// `OutOfMemory` if an allocation fails; the marks are then dropped.
     pub fn freeze_counted(self, unset: usize) -> Result<Bitmap, Error>
         requires { unset ≡ count_by not self }
         ensures ok { IfOk result (λ bitmap. bitmap ≡ self) }
-        ensures err { IfErr result (λ e. e ≡ Error.OutOfMemory) }
+        ensures err { OnlyOutOfMemory result }
     {
         let MutableBitmap { bytes, length } = self;
         Bitmap::from_counted(bytes, length, unset)

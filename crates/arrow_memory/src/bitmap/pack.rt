@@ -1,11 +1,11 @@
-//! Truth values that are packed to marks, a byte at a time.
+//! Truth values packed to marks, one byte at a time.
 ghost use Rattle.std.specs.Prelude.{◌≡◌, ℕ, ◌*◌, ◌≤◌, ◌<◌, [], ◌∷◌, false, length, vec_len, slice_index_or, IfOk};
 ghost use Rattle.arrow_memory.specs.Marks.{mark_at, marks};
 
 use crate::bitmap::bits::with_bit;
 use std::alloc::{AllocError, Global};
 
-/// Up to eight truth values as a byte.
+/// Packs up to eight truth values into a byte.
 #[inline(always)]
 fn pack_byte(values: &[bool]) -> u8
     requires { length values.now ≤ 8 }
@@ -18,7 +18,7 @@ fn pack_byte(values: &[bool]) -> u8
     byte
 }
 
-/// Truth values as packed bytes.
+/// Packs truth values into bytes.
 pub(crate) fn pack(alloc: Global, values: &[bool]) -> Result<Vec<u8>, AllocError>
     ensures room { IfOk result (λ bytes. length values.now ≤ 8 * vec_len bytes) }
     ensures ok { IfOk result (λ bytes. marks bytes.items 0 (length values.now) ≡ values.now) }

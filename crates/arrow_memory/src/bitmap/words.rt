@@ -1,4 +1,5 @@
-//! Marks that are read and appended 64 at a time, as the bits of a word, the least significant first.
+//! Marks that are read and appended 64 at a time, as the bits of a word, the least significant
+//! first.
 ghost use Rattle.std.specs.Prelude.{◌≡◌, ℕ, ◌+◌, ◌-◌, ◌*◌, ◌^◌, ◌<◌, ◌≤◌, ◌==◌, ◌++◌, length, vec_len, OnOk};
 ghost use Rattle.std.specs.Int.{bit_at};
 ghost use Rattle.arrow_memory.specs.Marks.{bits_of, mark_at, marks};
@@ -6,7 +7,7 @@ ghost use Rattle.arrow_memory.specs.Marks.{bits_of, mark_at, marks};
 use crate::bitmap::copy::join_byte;
 use std::alloc::AllocError;
 
-/// The marks of eight bytes from one on, as the bits of a word.
+/// Returns the marks of eight bytes from byte `first` on as the bits of a word.
 #[inline(always)]
 fn whole_word(bytes: &[u8], first: usize) -> u64
     requires { first + 8 ≤ length bytes.now }
@@ -24,7 +25,8 @@ fn whole_word(bytes: &[u8], first: usize) -> u64
     ])
 }
 
-/// A word's bits from one on, and behind them as many bits of a byte as a word has room for.
+/// Returns the bits of a word from `shift` on, followed by as many bits of the next byte as the
+/// word has room for.
 #[inline(always)]
 fn moved_word(word: u64, next: u8, shift: usize) -> u64
     requires some { 0 < shift }
@@ -35,7 +37,7 @@ fn moved_word(word: u64, next: u8, shift: usize) -> u64
     word >> shift | (next as u64) << (64 - shift)
 }
 
-/// The 64 marks from a place on, as the bits of a word.
+/// Returns the 64 marks from `place` on as the bits of a word.
 #[inline(always)]
 pub(crate) fn word_at(bytes: &[u8], place: usize) -> u64
     requires { place + 64 ≤ 8 * length bytes.now }
@@ -50,8 +52,8 @@ pub(crate) fn word_at(bytes: &[u8], place: usize) -> u64
     moved_word(word, bytes[first + 8], shift)
 }
 
-/// Appends the first bits of a word, behind the first of so many marks: those that fill the last byte, and the others as
-/// eight bytes, of which those that are needed stay.
+/// Appends the first bits of a word behind the first marks: those that fill the last byte, and the
+/// others as eight bytes, of which those that are needed stay.
 pub(crate) fn extend_from_word(
     bytes: &mut Vec<u8>,
     len: usize,
@@ -61,7 +63,8 @@ pub(crate) fn extend_from_word(
     requires within { len ≤ 8 * vec_len bytes.old }
     requires fits { len + count < 2 ^ 64 }
     requires count { count ≤ 64 }
-    ensures ok { OnOk result (marks bytes.new.items 0 (len + count) ≡ marks bytes.old.items 0 len ++ bits_of word count) }
+    ensures ok { OnOk result (marks bytes.new.items 0 (len + count) ≡ marks bytes.old.items 0 len
+        ++ bits_of word count) }
     ensures room { OnOk result (len + count ≤ 8 * vec_len bytes.new) }
     ensures kept { marks bytes.new.items 0 len ≡ marks bytes.old.items 0 len }
     ensures room_left { len ≤ 8 * vec_len bytes.new }

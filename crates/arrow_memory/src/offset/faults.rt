@@ -1,11 +1,11 @@
-//! What is wrong with offsets that are handed in.
+//! The rules that offsets from outside may break.
 ghost use Rattle.std.specs.Prelude.{◌≡◌, ◌≤◌, pos, map, Some, None, int_lt, false};
 ghost use Rattle.std.specs.Option.{option_map};
 ghost use Rattle.arrow_memory.specs.Offsets.{first_fault, last_of, numbers_of};
 
 use arrow_types::offset::Offset;
 
-/// The rule that offsets break first; `None` where they are legal.
+/// Returns the first rule that the offsets break, or `None` if they are legal.
 pub(super) fn first_broken_rule<O: Offset>(offsets: &[O]) -> Option<&'static str>
     ensures text { option_map (λ text. text.now) result ≡ first_fault (map O.number offsets.now) }
     ensures within { result ≡ None → last_of (numbers_of O.number offsets.now) ≤ O.most }
@@ -30,7 +30,7 @@ pub(super) fn first_broken_rule<O: Offset>(offsets: &[O]) -> Option<&'static str
     None
 }
 
-/// The number of an offset, and whether it is negative; its number is then 0.
+/// Returns the number of an offset and whether it is negative; the number is then 0.
 #[inline(always)]
 fn number_of<O: Offset>(offset: &O) -> (usize, bool)
     ensures negative { result.1 ≡ int_lt (O.number offset.now) (pos 0) }

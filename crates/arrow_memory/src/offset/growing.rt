@@ -1,7 +1,10 @@
 //! Offsets that grow.
-ghost use Rattle.std.specs.Prelude.{◌≡◌, ◌+◌, ◌-◌, ◌<◌, ◌≤◌, pos, [], ◌∷◌, ◌++◌, length, map, take, replicate, slice_index, None, OnOk, IfOk, IfErr, MatchOption, IsOk};
+ghost use Rattle.std.specs.Prelude.{◌≡◌, ◌+◌, ◌-◌, ◌<◌, ◌≤◌, pos, [], ◌∷◌, ◌++◌, length, map, take, replicate};
+ghost use Rattle.std.specs.Prelude.{slice_index, None, OnOk, IfOk, IfErr, MatchOption, IsOk};
+ghost use Rattle.arrow_types.specs.Failures.{OnlyOutOfMemory, OutOfMemoryKeeps};
 ghost use Rattle.arrow_types.specs.Types.{refusal, out_of_spec};
-ghost use Rattle.arrow_memory.specs.Offsets.{first_of, last_of, IsOffsets, KeepsOffsets, first_fault, numbers_of, moved_behind, MatchGrowth};
+ghost use Rattle.arrow_memory.specs.Offsets.{first_of, last_of, IsOffsets, KeepsOffsets, first_fault, numbers_of};
+ghost use Rattle.arrow_memory.specs.Offsets.{moved_behind, MatchGrowth};
 
 use crate::buffer::Buffer;
 use crate::offset::OffsetsBuffer;
@@ -12,8 +15,8 @@ use arrow_types::offset::Offset;
 use std::alloc::Global;
 use std::marker::Model;
 
-/// Offsets that can grow: at least one, the first not negative, none below the one before
-/// (Arrow columnar format, "Variable-size Binary Layout").
+/// Growing offsets: at least one, the first not negative, none below the one before it (Arrow
+/// columnar format, "Variable-size Binary Layout").
 #[derive(Drop)]
 pub struct Offsets<O: Offset> {
     pub(crate) offsets: Vec<O>,
@@ -32,24 +35,24 @@ impl<O: Offset> Model for Offsets<O> {
 }
 
 impl<O: Offset> Offsets<O> {
-    /// No slot: the one offset is zero.
+    /// Creates offsets of no slot: one zero.
     ///
     /// # Errors
-    /// `OutOfMemory` where memory is refused.
+    /// `OutOfMemory` if an allocation fails.
     pub fn new(alloc: Global) -> Result<Self, Error>
         ensures ok { IfOk result (λ offsets. offsets ≡ 0 ∷ []) }
-        ensures err { IfErr result (λ e. e ≡ Error.OutOfMemory) }
+        ensures err { OnlyOutOfMemory result }
     {
         Offsets::with_capacity(alloc, 0)
     }
 
-    /// So many empty slots: all offsets are zero.
+    /// Creates offsets of `length` empty slots: all are zero.
     ///
     /// # Errors
-    /// `OutOfMemory` where memory is refused, as one offset more than `usize::MAX` is.
+    /// `OutOfMemory` if an allocation fails or the number of offsets would pass `usize::MAX`.
     pub fn new_zeroed(alloc: Global, length: usize) -> Result<Self, Error>
         ensures ok { IfOk result (λ offsets. offsets ≡ replicate (length + 1) 0) }
-        ensures err { IfErr result (λ e. e ≡ Error.OutOfMemory) }
+        ensures err { OnlyOutOfMemory result }
     {
         let Some(count) = length.checked_add(1) else {
             return Err(Error::OutOfMemory);
@@ -59,13 +62,13 @@ impl<O: Offset> Offsets<O> {
         Ok(Offsets { offsets })
     }
 
-    /// No slot, with room for so many.
+    /// Creates offsets of no slot with room for at least `capacity` slots.
     ///
     /// # Errors
-    /// `OutOfMemory` where memory is refused, as one offset more than `usize::MAX` is.
+    /// `OutOfMemory` if an allocation fails or the number of offsets would pass `usize::MAX`.
     pub fn with_capacity(alloc: Global, capacity: usize) -> Result<Self, Error>
         ensures ok { IfOk result (λ offsets. offsets ≡ 0 ∷ []) }
-        ensures err { IfErr result (λ e. e ≡ Error.OutOfMemory) }
+        ensures err { OnlyOutOfMemory result }
     {
         let Some(count) = capacity.checked_add(1) else {
             return Err(Error::OutOfMemory);
@@ -75,14 +78,16 @@ impl<O: Offset> Offsets<O> {
         Ok(Offsets { offsets })
     }
 
-    /// Takes offsets over, which are not copied.
+    /// Creates offsets from a vector, without copying it.
     ///
     /// # Errors
-    /// `OutOfSpec` where there is none, where the first is negative, or where one is below the one
-    /// before, the first of these that holds. The offsets are then lost.
+    /// `OutOfSpec` with the first rule that is broken: there is at least one offset, the first is
+    /// not negative, and none is below the one before it. The offsets are then dropped.
     pub fn try_from_vec(offsets: Vec<O>) -> Result<Self, Error>
-        ensures ok { IfOk result (λ taken. (first_fault (map O.number offsets.items) ≡ None) × (taken ≡ numbers_of O.number offsets.items)) }
-        ensures err { IfErr result (λ e. MatchOption (first_fault (map O.number offsets.items)) ⊥ (λ text. refusal e ≡ out_of_spec text)) }
+        ensures ok { IfOk result (λ taken. (first_fault (map O.number offsets.items) ≡ None)
+            × (taken ≡ numbers_of O.number offsets.items)) }
+        ensures err { IfErr result (λ e. MatchOption (first_fault (map O.number offsets.items)) ⊥ (λ text.
+            refusal e ≡ out_of_spec text)) }
     {
         match first_broken_rule(&offsets) {
             Some(rule) => Err(Error::OutOfSpec(rule)),
@@ -90,14 +95,14 @@ impl<O: Offset> Offsets<O> {
         }
     }
 
-    /// How many slots there is room for without a growth.
+    /// Returns the number of slots for which there is room.
     pub fn capacity(&self) -> usize
         ensures { length self.now ≤ result + 1 }
     {
         self.offsets.capacity() - 1
     }
 
-    /// The number of slots, one below the number of offsets.
+    /// Returns the number of slots, which is one below the number of offsets.
     #[inline(always)]
     pub fn len_proxy(&self) -> usize
         ensures { result + 1 ≡ length self.now }
@@ -105,7 +110,7 @@ impl<O: Offset> Offsets<O> {
         self.offsets.len() - 1
     }
 
-    /// The first offset, where the first slot begins.
+    /// Returns the first offset, where the first slot begins.
     #[inline(always)]
     pub fn first(&self) -> &O
         ensures value { O.number result.now ≡ pos (first_of self.now) }
@@ -115,7 +120,7 @@ impl<O: Offset> Offsets<O> {
         &self.offsets[0]
     }
 
-    /// The last offset, where the last slot ends.
+    /// Returns the last offset, where the last slot ends.
     #[inline(always)]
     pub fn last(&self) -> &O
         ensures value { O.number result.now ≡ pos (last_of self.now) }
@@ -125,7 +130,7 @@ impl<O: Offset> Offsets<O> {
         &self.offsets[self.offsets.len() - 1]
     }
 
-    /// Where a slot begins and ends.
+    /// Returns where the slot at `index` begins and ends.
     #[inline(always)]
     pub fn start_end(&self, index: usize) -> (usize, usize)
         requires { index + 1 < length self.now }
@@ -137,7 +142,7 @@ impl<O: Offset> Offsets<O> {
         start_end_of(&self.offsets, index)
     }
 
-    /// The offsets.
+    /// Returns the offsets as a slice.
     #[inline(always)]
     pub fn as_slice(&self) -> &[O]
         ensures keeps { KeepsOffsets O.number O.most result.now }
@@ -149,7 +154,7 @@ impl<O: Offset> Offsets<O> {
         self.offsets.as_slice()
     }
 
-    /// The vector of the offsets.
+    /// Returns the vector of the offsets.
     pub fn into_inner(self) -> Vec<O>
         ensures value { map O.number result.items ≡ map pos self }
         ensures legal { first_fault (map O.number result.items) ≡ None }
@@ -158,9 +163,11 @@ impl<O: Offset> Offsets<O> {
         offsets
     }
 
-    /// Removes the last offset and answers it; `None` where there is no slot.
+    /// Removes and returns the last offset; `None` if there is no slot.
     pub fn pop(&mut self) -> Option<O>
-        ensures { MatchOption result ((length self.old ≡ 1) × (self.new ≡ self.old)) (λ offset. (1 < length self.old) × (O.number offset ≡ pos (last_of self.old)) × (self.new ≡ take (length self.old - 1) self.old)) }
+        ensures { MatchOption result ((length self.old ≡ 1) × (self.new ≡ self.old)) (λ offset.
+            (1 < length self.old) × (O.number offset ≡ pos (last_of self.old))
+            × (self.new ≡ take (length self.old - 1) self.old)) }
     {
         if self.len_proxy() == 0 {
             None
@@ -169,7 +176,7 @@ impl<O: Offset> Offsets<O> {
         }
     }
 
-    /// Keeps only the first so many slots.
+    /// Keeps only the first `slots` slots.
     #[inline(always)]
     pub fn truncate(&mut self, slots: usize)
         requires { slots < length self.old }
@@ -178,17 +185,22 @@ impl<O: Offset> Offsets<O> {
         self.offsets.truncate(slots + 1);
     }
 
-    /// Appends the end of a slot of this length.
+    /// Appends the end of a slot of `length` bytes.
     ///
     /// # Errors
-    /// `Overflow` where the end would be above the greatest number of the offset type, which is
-    /// found before memory is asked for; `OutOfMemory` where the growth is refused. The offsets
-    /// are then as before.
+    /// - `Overflow` if the end would be above the greatest number of the offset type; this is
+    ///   checked before memory is allocated.
+    /// - `OutOfMemory` if an allocation fails.
+    ///
+    /// The offsets are unchanged on an error.
     #[inline(always)]
     pub fn try_push_usize(&mut self, length: usize) -> Result<(), Error>
         ensures legal { IsOffsets self.new }
-        ensures ok { OnOk result ((last_of self.old + length ≤ O.most) × (self.new ≡ self.old ++ (last_of self.old + length) ∷ [])) }
-        ensures err { IfErr result (λ e. MatchGrowth e (O.most < last_of self.old + length) (last_of self.old + length ≤ O.most) × (self.new ≡ self.old)) }
+        ensures ok { OnOk result ((last_of self.old + length ≤ O.most)
+            × (self.new ≡ self.old ++ (last_of self.old + length) ∷ [])) }
+        ensures err { IfErr result (λ e.
+            MatchGrowth e (O.most < last_of self.old + length) (last_of self.old + length ≤ O.most)
+            × (self.new ≡ self.old)) }
     {
         let last = self.last().to_usize();
         if length > O::max().to_usize() - last {
@@ -201,12 +213,12 @@ impl<O: Offset> Offsets<O> {
     /// Appends the end of an empty slot.
     ///
     /// # Errors
-    /// `OutOfMemory` where the growth is refused; the offsets are then as before.
+    /// `OutOfMemory` if an allocation fails; the offsets are then unchanged.
     #[inline(always)]
     pub fn push_empty(&mut self) -> Result<(), Error>
         ensures legal { IsOffsets self.new }
         ensures ok { OnOk result (self.new ≡ self.old ++ last_of self.old ∷ []) }
-        ensures err { IfErr result (λ e. (e ≡ Error.OutOfMemory) × (self.new ≡ self.old)) }
+        ensures err { OutOfMemoryKeeps result self.old self.new }
     {
         match self.try_push_usize(0) {
             Ok(()) => Ok(()),
@@ -215,12 +227,16 @@ impl<O: Offset> Offsets<O> {
         }
     }
 
-    /// Appends the slots of offsets that are kept as values, as [`Offsets::try_extend_from_self`].
+    /// Appends the slots of other offsets, as [`Offsets::try_extend_from_self`].
     pub(super) fn try_extend_from_slice(&mut self, other: &[O]) -> Result<(), Error>
         requires { KeepsOffsets O.number O.most other.now }
         ensures legal { IsOffsets self.new }
-        ensures ok { OnOk result (let ends = numbers_of O.number other.now in (last_of self.old + (last_of ends - first_of ends) ≤ O.most) × (self.new ≡ self.old ++ moved_behind (last_of self.old) ends)) }
-        ensures err { IfErr result (λ e. let ends = numbers_of O.number other.now in MatchGrowth e (O.most < last_of self.old + (last_of ends - first_of ends)) (last_of self.old + (last_of ends - first_of ends) ≤ O.most) × (self.new ≡ self.old)) }
+        ensures ok { OnOk result (let ends = numbers_of O.number other.now in
+            (last_of self.old + (last_of ends - first_of ends) ≤ O.most)
+            × (self.new ≡ self.old ++ moved_behind (last_of self.old) ends)) }
+        ensures err { IfErr result (λ e. let ends = numbers_of O.number other.now in
+            MatchGrowth e (O.most < last_of self.old + (last_of ends - first_of ends))
+            (last_of self.old + (last_of ends - first_of ends) ≤ O.most) × (self.new ≡ self.old)) }
     {
         let last = self.last().to_usize();
         let added = number_at(other, other.len() - 1) - number_at(other, 0);
@@ -231,34 +247,39 @@ impl<O: Offset> Offsets<O> {
         Ok(())
     }
 
-    /// Appends the slots of another, which keep their lengths: its offsets move by the distance
-    /// from its first offset to this one's last.
+    /// Appends the slots of other offsets, which keep their lengths: the other offsets move by the
+    /// distance from their first offset to the last of these.
     ///
     /// # Errors
-    /// `Overflow` where the last end would be above the greatest number of the offset type, which
-    /// is found before memory is asked for; `OutOfMemory` where the growth is refused. The offsets
-    /// are then as before.
+    /// - `Overflow` if the last end would be above the greatest number of the offset type; this is
+    ///   checked before memory is allocated.
+    /// - `OutOfMemory` if an allocation fails.
+    ///
+    /// The offsets are unchanged on an error.
     pub fn try_extend_from_self(&mut self, other: &Offsets<O>) -> Result<(), Error>
         ensures legal { IsOffsets self.new }
-        ensures ok { OnOk result ((last_of self.old + (last_of other.now - first_of other.now) ≤ O.most) × (self.new ≡ self.old ++ moved_behind (last_of self.old) other.now)) }
-        ensures err { IfErr result (λ e. MatchGrowth e (O.most < last_of self.old + (last_of other.now - first_of other.now)) (last_of self.old + (last_of other.now - first_of other.now) ≤ O.most) × (self.new ≡ self.old)) }
+        ensures ok { OnOk result ((last_of self.old + (last_of other.now - first_of other.now) ≤ O.most)
+            × (self.new ≡ self.old ++ moved_behind (last_of self.old) other.now)) }
+        ensures err { IfErr result (λ e.
+            MatchGrowth e (O.most < last_of self.old + (last_of other.now - first_of other.now))
+            (last_of self.old + (last_of other.now - first_of other.now) ≤ O.most) × (self.new ≡ self.old)) }
     {
         self.try_extend_from_slice(other.as_slice())
     }
 
-    /// Makes room for so many slots more.
+    /// Reserves room for at least `additional` more slots.
     ///
     /// # Errors
-    /// `OutOfMemory` where the growth is refused.
+    /// `OutOfMemory` if an allocation fails.
     pub fn reserve(&mut self, additional: usize) -> Result<(), Error>
         ensures kept { self.new ≡ self.old }
-        ensures err { IfErr result (λ e. e ≡ Error.OutOfMemory) }
+        ensures err { OnlyOutOfMemory result }
     {
         self.offsets.reserve(additional)?;
         Ok(())
     }
 
-    /// Gives back room that no offset needs, where the allocator takes it back.
+    /// Gives unused room back to the allocator, if it takes it.
     ///
     /// # Errors
     /// Never: if the allocator refuses a smaller allocation, the room stays.
@@ -270,26 +291,26 @@ impl<O: Offset> Offsets<O> {
         Ok(())
     }
 
-    /// The same offsets, copied.
+    /// Returns a copy.
     ///
     /// # Errors
-    /// `OutOfMemory` where memory is refused.
+    /// `OutOfMemory` if an allocation fails.
     pub fn clone(&self) -> Result<Self, Error>
         ensures ok { IfOk result (λ copy. copy ≡ self.now) }
-        ensures err { IfErr result (λ e. e ≡ Error.OutOfMemory) }
+        ensures err { OnlyOutOfMemory result }
     {
         Ok(Offsets {
             offsets: Vec::from_slice(*self.offsets.allocator(), &self.offsets)?,
         })
     }
 
-    /// The same offsets, which no longer change. They are not copied.
+    /// Converts the offsets into immutable ones, without copying them.
     ///
     /// # Errors
-    /// `OutOfMemory` where memory is refused; the offsets are then lost.
+    /// `OutOfMemory` if an allocation fails; the offsets are then dropped.
     pub fn freeze(self) -> Result<OffsetsBuffer<O>, Error>
         ensures ok { IfOk result (λ frozen. frozen ≡ self) }
-        ensures err { IfErr result (λ e. e ≡ Error.OutOfMemory) }
+        ensures err { OnlyOutOfMemory result }
     {
         let Offsets { offsets } = self;
         Ok(OffsetsBuffer {

@@ -1,6 +1,7 @@
-//! Items that are appended together with their ends.
+//! Bytes that are appended together with the ends of their slots.
 ghost use Rattle.std.specs.Prelude.{◌≡◌, ◌+◌, ◌-◌, ◌<◌, ◌≤◌, [], ◌∷◌, ◌++◌, length, take, drop, OnOk, OnErr, IfErr};
-ghost use Rattle.arrow_memory.specs.Offsets.{first_of, last_of, IsOffsets, KeepsOffsets, MatchGrowth, moved_behind, numbers_of};
+ghost use Rattle.arrow_memory.specs.Offsets.{first_of, last_of, IsOffsets, KeepsOffsets, MatchGrowth, moved_behind};
+ghost use Rattle.arrow_memory.specs.Offsets.{numbers_of};
 
 use crate::offset::numbers::number_at;
 use crate::offset::{Offsets, OffsetsBuffer};
@@ -8,7 +9,7 @@ use arrow_types::error::Error;
 use arrow_types::offset::Offset;
 use std::alloc::AllocError;
 
-/// Appends bytes, however many they are.
+/// Appends any number of bytes.
 #[inline(never)]
 fn append_any(values: &mut Vec<u8>, bytes: &[u8]) -> Result<(), AllocError>
     ensures ok { OnOk result (values.new.items ≡ values.old.items ++ bytes.now) }
@@ -17,9 +18,9 @@ fn append_any(values: &mut Vec<u8>, bytes: &[u8]) -> Result<(), AllocError>
     values.extend_from_slice(bytes)
 }
 
-/// Appends bytes. Where there is room for sixteen, from eight to sixteen of them are copied as two words, the first
-/// eight and the last eight, which may lie over one another: that asks for no call that finds out how many there are,
-/// and since nothing can grow then, only the length is written back.
+/// Appends bytes. If there is room for sixteen, eight to sixteen bytes are copied as two words, the
+/// first eight and the last eight, which may overlap. This needs no call of a copy of unknown
+/// length, and as nothing can grow then, the compiler writes back the length alone.
 #[inline(always)]
 fn append_bytes(values: &mut Vec<u8>, bytes: &[u8]) -> Result<(), AllocError>
     ensures ok { OnOk result (values.new.items ≡ values.old.items ++ bytes.now) }
@@ -45,16 +46,23 @@ fn append_bytes(values: &mut Vec<u8>, bytes: &[u8]) -> Result<(), AllocError>
 }
 
 impl<O: Offset> Offsets<O> {
-    /// Appends an item to the values, and the end of a slot as long to the offsets.
+    /// Appends an item to the values, and the end of its slot to the offsets.
     ///
     /// # Errors
-    /// `Overflow` where the end would be above the greatest number of the offset type, which is found before
-    /// memory is asked for; `OutOfMemory` where a growth is refused. Offsets and values are then as before.
+    /// - `Overflow` if the end would be above the greatest number of the offset type; this is
+    ///   checked before memory is allocated.
+    /// - `OutOfMemory` if an allocation fails.
+    ///
+    /// Offsets and values are unchanged on an error.
     #[inline(always)]
     pub fn try_push_item(&mut self, values: &mut Vec<u8>, item: &[u8]) -> Result<(), Error>
         ensures legal { IsOffsets self.new }
-        ensures ok { OnOk result ((last_of self.old + length item.now ≤ O.most) × (self.new ≡ self.old ++ (last_of self.old + length item.now) ∷ []) × (values.new.items ≡ values.old.items ++ item.now)) }
-        ensures err { IfErr result (λ e. MatchGrowth e (O.most < last_of self.old + length item.now) (last_of self.old + length item.now ≤ O.most) × (self.new ≡ self.old) × (values.new.items ≡ values.old.items)) }
+        ensures ok { OnOk result ((last_of self.old + length item.now ≤ O.most)
+            × (self.new ≡ self.old ++ (last_of self.old + length item.now) ∷ [])
+            × (values.new.items ≡ values.old.items ++ item.now)) }
+        ensures err { IfErr result (λ e. MatchGrowth e (O.most < last_of self.old + length item.now)
+            (last_of self.old + length item.now ≤ O.most) × (self.new ≡ self.old)
+            × (values.new.items ≡ values.old.items)) }
     {
         let before = self.len_proxy();
         self.try_push_usize(item.len())?;
@@ -68,7 +76,7 @@ impl<O: Offset> Offsets<O> {
         }
     }
 
-    /// Appends the items that offsets cut out of bytes, as [`Offsets::try_extend_items`].
+    /// Appends the items between offsets of other bytes, as [`Offsets::try_extend_items`].
     fn try_extend_cut(
         &mut self,
         values: &mut Vec<u8>,
@@ -78,8 +86,15 @@ impl<O: Offset> Offsets<O> {
         requires keeps { KeepsOffsets O.number O.most other.now }
         requires held { last_of (numbers_of O.number other.now) ≤ length others.now }
         ensures legal { IsOffsets self.new }
-        ensures ok { OnOk result (let ends = numbers_of O.number other.now in (last_of self.old + (last_of ends - first_of ends) ≤ O.most) × (self.new ≡ self.old ++ moved_behind (last_of self.old) ends) × (values.new.items ≡ values.old.items ++ take (last_of ends - first_of ends) (drop (first_of ends) others.now))) }
-        ensures err { IfErr result (λ e. let ends = numbers_of O.number other.now in MatchGrowth e (O.most < last_of self.old + (last_of ends - first_of ends)) (last_of self.old + (last_of ends - first_of ends) ≤ O.most) × (self.new ≡ self.old) × (values.new.items ≡ values.old.items)) }
+        ensures ok { OnOk result (let ends = numbers_of O.number other.now in
+            (last_of self.old + (last_of ends - first_of ends) ≤ O.most)
+            × (self.new ≡ self.old ++ moved_behind (last_of self.old) ends)
+            × (values.new.items ≡ values.old.items ++ take (last_of ends - first_of ends)
+            (drop (first_of ends) others.now))) }
+        ensures err { IfErr result (λ e. let ends = numbers_of O.number other.now in
+            MatchGrowth e (O.most < last_of self.old + (last_of ends - first_of ends))
+            (last_of self.old + (last_of ends - first_of ends) ≤ O.most) × (self.new ≡ self.old)
+            × (values.new.items ≡ values.old.items)) }
     {
         let before = self.len_proxy();
         let start = number_at(other, 0);
@@ -94,12 +109,15 @@ impl<O: Offset> Offsets<O> {
         }
     }
 
-    /// Appends another's items to the values, and their ends to the offsets: the bytes from the other's first offset
-    /// to its last, and its slots, which keep their lengths.
+    /// Appends other items to the values, and the ends of their slots to the offsets: the bytes
+    /// from the other's first offset to its last, in slots that keep their lengths.
     ///
     /// # Errors
-    /// `Overflow` where the last end would be above the greatest number of the offset type, which is found before
-    /// memory is asked for; `OutOfMemory` where a growth is refused. Offsets and values are then as before.
+    /// - `Overflow` if the last end would be above the greatest number of the offset type; this is
+    ///   checked before memory is allocated.
+    /// - `OutOfMemory` if an allocation fails.
+    ///
+    /// Offsets and values are unchanged on an error.
     pub fn try_extend_items(
         &mut self,
         values: &mut Vec<u8>,
@@ -109,17 +127,23 @@ impl<O: Offset> Offsets<O> {
         requires { last_of other.now ≤ length others.now }
         ensures legal { IsOffsets self.new }
         ensures other { IsOffsets other.now }
-        ensures ok { OnOk result ((last_of self.old + (last_of other.now - first_of other.now) ≤ O.most) × (self.new ≡ self.old ++ moved_behind (last_of self.old) other.now) × (values.new.items ≡ values.old.items ++ take (last_of other.now - first_of other.now) (drop (first_of other.now) others.now))) }
-        ensures err { IfErr result (λ e. MatchGrowth e (O.most < last_of self.old + (last_of other.now - first_of other.now)) (last_of self.old + (last_of other.now - first_of other.now) ≤ O.most) × (self.new ≡ self.old) × (values.new.items ≡ values.old.items)) }
+        ensures ok { OnOk result ((last_of self.old + (last_of other.now - first_of other.now) ≤ O.most)
+            × (self.new ≡ self.old ++ moved_behind (last_of self.old) other.now)
+            × (values.new.items ≡ values.old.items ++ take (last_of other.now - first_of other.now)
+            (drop (first_of other.now) others.now))) }
+        ensures err { IfErr result (λ e.
+            MatchGrowth e (O.most < last_of self.old + (last_of other.now - first_of other.now))
+            (last_of self.old + (last_of other.now - first_of other.now) ≤ O.most) × (self.new ≡ self.old)
+            × (values.new.items ≡ values.old.items)) }
     {
         self.try_extend_cut(values, other.as_slice(), others)
     }
 
-    /// Appends so many of another's items, from one on, to the values, and their ends to the offsets: the bytes between
-    /// the ends of the piece in one copy, and its slots, which keep their lengths.
+    /// Appends `count` items of others, from item `first` on, to the values, and the ends of their
+    /// slots to the offsets. The bytes are copied at once, and the slots keep their lengths.
     ///
     /// # Errors
-    /// As of [`Offsets::try_extend_items`].
+    /// As [`Offsets::try_extend_items`].
     pub fn try_extend_slots(
         &mut self,
         values: &mut Vec<u8>,
@@ -132,8 +156,15 @@ impl<O: Offset> Offsets<O> {
         requires held { last_of other.now ≤ length others.now }
         ensures legal { IsOffsets self.new }
         ensures other { IsOffsets other.now }
-        ensures ok { OnOk result (let piece = take (count + 1) (drop first other.now) in (last_of self.old + (last_of piece - first_of piece) ≤ O.most) × (self.new ≡ self.old ++ moved_behind (last_of self.old) piece) × (values.new.items ≡ values.old.items ++ take (last_of piece - first_of piece) (drop (first_of piece) others.now))) }
-        ensures err { IfErr result (λ e. let piece = take (count + 1) (drop first other.now) in MatchGrowth e (O.most < last_of self.old + (last_of piece - first_of piece)) (last_of self.old + (last_of piece - first_of piece) ≤ O.most) × (self.new ≡ self.old) × (values.new.items ≡ values.old.items)) }
+        ensures ok { OnOk result (let piece = take (count + 1) (drop first other.now) in
+            (last_of self.old + (last_of piece - first_of piece) ≤ O.most)
+            × (self.new ≡ self.old ++ moved_behind (last_of self.old) piece)
+            × (values.new.items ≡ values.old.items ++ take (last_of piece - first_of piece)
+            (drop (first_of piece) others.now))) }
+        ensures err { IfErr result (λ e. let piece = take (count + 1) (drop first other.now) in
+            MatchGrowth e (O.most < last_of self.old + (last_of piece - first_of piece))
+            (last_of self.old + (last_of piece - first_of piece) ≤ O.most) × (self.new ≡ self.old)
+            × (values.new.items ≡ values.old.items)) }
     {
         let offsets = other.buffer().as_slice();
         self.try_extend_cut(values, &offsets[first..first + count + 1], others)

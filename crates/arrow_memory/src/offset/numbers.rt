@@ -1,11 +1,11 @@
-//! The numbers of offsets that are kept as values.
+//! The numbers of offsets that are kept as values of an offset type.
 ghost use Rattle.std.specs.Prelude.{◌≡◌, ◌+◌, ◌-◌, ◌<◌, ◌≤◌, pos, ◌++◌, length, map, take, slice_index, OnOk, OnErr};
 ghost use Rattle.arrow_memory.specs.Offsets.{first_of, last_of, numbers_of, moved_behind, KeepsOffsets};
 
 use arrow_types::offset::Offset;
 use std::alloc::AllocError;
 
-/// The number of the offset at a place.
+/// Returns the number of the offset at `index`.
 #[inline(always)]
 #[tactic(auto, using(crate::proofs::OffsetLemmas::offset_reads))]
 pub fn number_at<O: Offset>(offsets: &[O], index: usize) -> usize
@@ -16,7 +16,7 @@ pub fn number_at<O: Offset>(offsets: &[O], index: usize) -> usize
     offsets[index].to_usize()
 }
 
-/// Where a slot begins and ends.
+/// Returns where the slot at `index` begins and ends.
 #[inline(always)]
 #[tactic(auto, using(crate::proofs::OffsetLemmas::offset_reads))]
 pub fn start_end_of<O: Offset>(offsets: &[O], index: usize) -> (usize, usize)
@@ -32,10 +32,10 @@ pub fn start_end_of<O: Offset>(offsets: &[O], index: usize) -> (usize, usize)
     (start, start + length)
 }
 
-/// Appends the ends of another's slots, moved to lie behind the last offset.
+/// Appends the ends of other slots, moved to lie behind the last offset.
 ///
 /// # Errors
-/// `AllocError` where the growth is refused; the offsets are then as before.
+/// `AllocError` if an allocation fails; the offsets are then unchanged.
 pub(super) fn append_moved<O: Offset>(
     offsets: &mut Vec<O>,
     other: &[O],
@@ -44,8 +44,11 @@ pub(super) fn append_moved<O: Offset>(
     requires keeps { KeepsOffsets O.number O.most offsets.old.items }
     requires other { KeepsOffsets O.number O.most other.now }
     requires last { last ≡ last_of (numbers_of O.number offsets.old.items) }
-    requires within { last + (last_of (numbers_of O.number other.now) - first_of (numbers_of O.number other.now)) ≤ O.most }
-    ensures ok { OnOk result (KeepsOffsets O.number O.most offsets.new.items × (numbers_of O.number offsets.new.items ≡ numbers_of O.number offsets.old.items ++ moved_behind last (numbers_of O.number other.now))) }
+    requires within { last + (last_of (numbers_of O.number other.now) - first_of (numbers_of O.number other.now)) ≤
+        O.most }
+    ensures ok { OnOk result (KeepsOffsets O.number O.most offsets.new.items
+        × (numbers_of O.number offsets.new.items ≡ numbers_of O.number offsets.old.items
+        ++ moved_behind last (numbers_of O.number other.now))) }
     ensures err { OnErr result (offsets.new.items ≡ offsets.old.items) }
 {
     if number_at(other, 0) == last {
@@ -62,12 +65,14 @@ pub(super) fn append_moved<O: Offset>(
     Ok(())
 }
 
-/// Writes the ends of another's slots, from a place up to the end, moved to lie behind an offset.
+/// Writes the ends of other slots from `place` to the end, moved to lie behind the offset `last`.
 fn write_moved<O: Offset>(offsets: &mut [O], place: usize, other: &[O], last: usize)
     requires other { KeepsOffsets O.number O.most other.now }
     requires room { place + length other.now ≡ length offsets.old + 1 }
-    requires within { last + (last_of (numbers_of O.number other.now) - first_of (numbers_of O.number other.now)) ≤ O.most }
-    ensures { map O.number offsets.new ≡ map O.number (take place offsets.old) ++ map pos (moved_behind last (numbers_of O.number other.now)) }
+    requires within { last + (last_of (numbers_of O.number other.now) - first_of (numbers_of O.number other.now)) ≤
+        O.most }
+    ensures { map O.number offsets.new ≡ map O.number (take place offsets.old)
+        ++ map pos (moved_behind last (numbers_of O.number other.now)) }
 {
     let first = number_at(other, 0);
     for i in 0..other.len() - 1 {

@@ -1,6 +1,8 @@
-//! Offsets that don't change, and share their memory.
-ghost use Rattle.std.specs.Prelude.{◌≡◌, ◌+◌, ◌<◌, ◌≤◌, pos, [], ◌∷◌, length, map, take, drop, slice_index, IfOk, IfErr};
+//! Immutable offsets, whose clones and slices share memory.
+ghost use Rattle.std.specs.Prelude.{◌≡◌, ◌+◌, ◌<◌, ◌≤◌, pos, [], ◌∷◌, length, map, take, drop, slice_index, IfOk};
+ghost use Rattle.std.specs.Prelude.{IfErr};
 ghost use Rattle.either.specs.Either.{MatchEither};
+ghost use Rattle.arrow_types.specs.Failures.{OnlyOutOfMemory};
 ghost use Rattle.arrow_memory.specs.Offsets.{first_of, last_of, IsOffsets, KeepsOffsets, numbers_of};
 
 use crate::buffer::Buffer;
@@ -12,8 +14,8 @@ use either::{Either, Left, Right};
 use std::alloc::Global;
 use std::marker::Model;
 
-/// Offsets that don't change: at least one, the first not negative, none below the one before
-/// (Arrow columnar format, "Variable-size Binary Layout").
+/// Immutable offsets: at least one, the first not negative, none below the one before it (Arrow
+/// columnar format, "Variable-size Binary Layout"). Clones and slices share the memory.
 #[derive(Drop)]
 pub struct OffsetsBuffer<O: Offset> {
     pub(crate) offsets: Buffer<O>,
@@ -32,31 +34,31 @@ impl<O: Offset> Model for OffsetsBuffer<O> {
 }
 
 impl<O: Offset> OffsetsBuffer<O> {
-    /// No slot: the one offset is zero.
+    /// Creates offsets of no slot: one zero.
     ///
     /// # Errors
-    /// `OutOfMemory` where memory is refused.
+    /// `OutOfMemory` if an allocation fails.
     pub fn new(alloc: Global) -> Result<Self, Error>
         ensures ok { IfOk result (λ offsets. offsets ≡ 0 ∷ []) }
-        ensures err { IfErr result (λ e. e ≡ Error.OutOfMemory) }
+        ensures err { OnlyOutOfMemory result }
     {
         Offsets::new(alloc)?.freeze()
     }
 
-    /// The same offsets, which are not copied.
+    /// Returns a clone that shares the offsets.
     ///
     /// # Errors
-    /// `OutOfMemory` where one owner more can't be counted.
+    /// `OutOfMemory` if the number of owners would overflow.
     pub fn clone(&self) -> Result<Self, Error>
         ensures ok { IfOk result (λ copy. copy ≡ self.now) }
-        ensures err { IfErr result (λ e. e ≡ Error.OutOfMemory) }
+        ensures err { OnlyOutOfMemory result }
     {
         Ok(OffsetsBuffer {
             offsets: self.offsets.clone()?,
         })
     }
 
-    /// The buffer of the offsets.
+    /// Returns the buffer of the offsets.
     #[inline(always)]
     pub fn buffer(&self) -> &Buffer<O>
         ensures count { length result.now ≡ length self.now }
@@ -69,7 +71,7 @@ impl<O: Offset> OffsetsBuffer<O> {
         &self.offsets
     }
 
-    /// The number of slots, one below the number of offsets.
+    /// Returns the number of slots, which is one below the number of offsets.
     #[inline(always)]
     pub fn len_proxy(&self) -> usize
         ensures { result + 1 ≡ length self.now }
@@ -77,7 +79,7 @@ impl<O: Offset> OffsetsBuffer<O> {
         self.offsets.len() - 1
     }
 
-    /// The first offset, where the first slot begins.
+    /// Returns the first offset, where the first slot begins.
     #[inline(always)]
     pub fn first(&self) -> &O
         ensures value { O.number result.now ≡ pos (first_of self.now) }
@@ -87,7 +89,7 @@ impl<O: Offset> OffsetsBuffer<O> {
         &self.offsets.as_slice()[0]
     }
 
-    /// The last offset, where the last slot ends.
+    /// Returns the last offset, where the last slot ends.
     #[inline(always)]
     pub fn last(&self) -> &O
         ensures value { O.number result.now ≡ pos (last_of self.now) }
@@ -98,7 +100,7 @@ impl<O: Offset> OffsetsBuffer<O> {
         &offsets[offsets.len() - 1]
     }
 
-    /// Where a slot begins and ends.
+    /// Returns where the slot at `index` begins and ends.
     #[inline(always)]
     pub fn start_end(&self, index: usize) -> (usize, usize)
         requires { index + 1 < length self.now }
@@ -110,8 +112,9 @@ impl<O: Offset> OffsetsBuffer<O> {
         start_end_of(self.offsets.as_slice(), index)
     }
 
-    /// Keeps only the `len` offsets from `offset` on, of which there is at least one. No offset is
-    /// copied, and none changes: the first slots then lie in front of the first offset.
+    /// Keeps only the `len` offsets from `offset` on, at least one, without copying any. The
+    /// offsets keep their values, so bytes of slots that go lie before the first offset or after
+    /// the last.
     pub fn slice(&mut self, offset: usize, len: usize)
         requires some { 1 ≤ len }
         requires within { offset + len ≤ length self.old }
@@ -121,8 +124,8 @@ impl<O: Offset> OffsetsBuffer<O> {
         self.offsets.slice(offset, len);
     }
 
-    /// The offsets to be grown, where no one else has them and all of the vector is shown; else
-    /// the same offsets.
+    /// Converts the offsets into growing ones without copying them, if they are not shared and show
+    /// all of their vector. Otherwise returns them unchanged.
     pub fn into_mut(self) -> Either<Self, Offsets<O>>
         ensures { MatchEither result (λ shared. shared ≡ self) (λ offsets. offsets ≡ self) }
     {

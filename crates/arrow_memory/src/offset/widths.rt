@@ -1,5 +1,6 @@
-//! Offsets of one width as those of the other.
+//! Offsets of 32 bits as offsets of 64, and the other way round.
 ghost use Rattle.std.specs.Prelude.{◌≡◌, ◌<◌, ◌≤◌, pos, length, map, IfOk, IfErr};
+ghost use Rattle.arrow_types.specs.Failures.{OnlyOutOfMemory};
 ghost use Rattle.arrow_memory.specs.Offsets.{last_of, KeepsOffsets, MatchGrowth, numbers_of};
 
 use crate::buffer::Buffer;
@@ -7,8 +8,10 @@ use crate::offset::OffsetsBuffer;
 use crate::offset::numbers::number_at;
 use arrow_types::error::Error;
 use arrow_types::offset::Offset;
+use std::alloc::Global;
 
-/// Writes the numbers of offsets over as many offsets of another type, which has each of them.
+/// Writes the numbers of offsets over as many offsets of another type, whose greatest number is at
+/// least each of them.
 fn write_numbers<O: Offset, P: Offset>(offsets: &[O], written: &mut [P])
     requires keeps { KeepsOffsets O.number O.most offsets.now }
     requires within { last_of (numbers_of O.number offsets.now) ≤ P.most }
@@ -25,12 +28,13 @@ fn write_numbers<O: Offset, P: Offset>(offsets: &[O], written: &mut [P])
 }
 
 impl<O: Offset> OffsetsBuffer<O> {
-    /// The same numbers as offsets of another type.
+    /// Returns the same numbers as offsets of another type.
     ///
     /// # Errors
-    /// `Overflow` where the last of them is above that type's greatest number, which is found before memory is asked for;
-    /// `OutOfMemory` where memory is refused.
-    fn as_offsets<P: Offset>(&self) -> Result<OffsetsBuffer<P>, Error>
+    /// - `Overflow` if the last offset is above that type's greatest number; this is checked before
+    ///   memory is allocated.
+    /// - `OutOfMemory` if an allocation fails.
+    fn as_offsets<P: Offset>(&self, alloc: Global) -> Result<OffsetsBuffer<P>, Error>
         ensures ok { IfOk result (λ offsets. (last_of self.now ≤ P.most) × (offsets ≡ self.now)) }
         ensures err { IfErr result (λ e. MatchGrowth e (P.most < last_of self.now) (last_of self.now ≤ P.most)) }
     {
@@ -38,7 +42,7 @@ impl<O: Offset> OffsetsBuffer<O> {
             return Err(Error::Overflow);
         }
         let offsets = self.offsets.as_slice();
-        let mut written = Vec::new(self.offsets.allocator());
+        let mut written = Vec::new(alloc);
         written.resize(offsets.len(), P::from_as_usize(0))?;
         write_numbers(offsets, written.as_mut_slice());
         Ok(OffsetsBuffer {
@@ -47,31 +51,33 @@ impl<O: Offset> OffsetsBuffer<O> {
     }
 }
 
-impl OffsetsBuffer<i32> {
-    /// The same numbers as offsets of 64 bits.
+impl OffsetsBuffer<i64> {
+    /// Creates offsets of 64 bits with the same numbers.
     ///
     /// # Errors
-    /// `OutOfMemory` where memory is refused.
-    pub fn widen(&self) -> Result<OffsetsBuffer<i64>, Error>
-        ensures ok { IfOk result (λ wide. wide ≡ self.now) }
-        ensures err { IfErr result (λ e. e ≡ Error.OutOfMemory) }
+    /// `OutOfMemory` if an allocation fails.
+    pub fn widen(alloc: Global, offsets: &OffsetsBuffer<i32>) -> Result<Self, Error>
+        ensures ok { IfOk result (λ wide. wide ≡ offsets.now) }
+        ensures err { OnlyOutOfMemory result }
     {
         // The last offset is below every number that needs more than 32 bits.
-        self.last();
-        self.as_offsets()
+        offsets.last();
+        offsets.as_offsets(alloc)
     }
 }
 
-impl OffsetsBuffer<i64> {
-    /// The same numbers as offsets of 32 bits.
+impl OffsetsBuffer<i32> {
+    /// Creates offsets of 32 bits with the same numbers.
     ///
     /// # Errors
-    /// `Overflow` where the last offset is above 2147483647, which is found before memory is asked for; `OutOfMemory` where
-    /// memory is refused.
-    pub fn narrow(&self) -> Result<OffsetsBuffer<i32>, Error>
-        ensures ok { IfOk result (λ narrow. (last_of self.now ≤ 2147483647) × (narrow ≡ self.now)) }
-        ensures err { IfErr result (λ e. MatchGrowth e (2147483647 < last_of self.now) (last_of self.now ≤ 2147483647)) }
+    /// - `Overflow` if the last offset is above 2147483647; this is checked before memory is
+    ///   allocated.
+    /// - `OutOfMemory` if an allocation fails.
+    pub fn narrow(alloc: Global, offsets: &OffsetsBuffer<i64>) -> Result<Self, Error>
+        ensures ok { IfOk result (λ narrow. (last_of offsets.now ≤ 2147483647) × (narrow ≡ offsets.now)) }
+        ensures err { IfErr result (λ e.
+            MatchGrowth e (2147483647 < last_of offsets.now) (last_of offsets.now ≤ 2147483647)) }
     {
-        self.as_offsets()
+        offsets.as_offsets(alloc)
     }
 }

@@ -12,15 +12,14 @@ fn narrowed(
     rt: &impl Abort,
     numbers: &[usize],
 ) -> Result<OffsetsBuffer<i32>, Error> {
-    frozen_offsets::<i64>(alloc, numbers)
-        .expect(rt, "offsets")
-        .narrow()
+    let offsets = frozen_offsets::<i64>(alloc, numbers).expect(rt, "offsets");
+    OffsetsBuffer::narrow(alloc, &offsets)
 }
 
 /// Narrow offsets of these numbers as wide ones.
 fn widened(alloc: Global, rt: &impl Abort, numbers: &[usize]) -> OffsetsBuffer<i64> {
     let offsets = frozen_offsets::<i32>(alloc, numbers).expect(rt, "offsets");
-    offsets.widen().expect(rt, "memory")
+    OffsetsBuffer::widen(alloc, &offsets).expect(rt, "memory")
 }
 
 /// Whether offsets are these numbers.

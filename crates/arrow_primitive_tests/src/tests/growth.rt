@@ -69,6 +69,22 @@ fn slots_are_replaced(rt: HostRuntime) -> Result<(), Fail> {
     told(replaced(rt.alloc()))
 }
 
+/// Whether a null that was overwritten leaves a mask, which the array doesn't need.
+fn overwrites(alloc: Global) -> Result<bool, Error> {
+    let mut builder = built(alloc, [None].as_slice())?;
+    if builder.len() != 1 {
+        return Ok(false);
+    }
+    builder.set(0, Some(7))?;
+    let is_held = builds(&builder, [7].as_slice(), "1");
+    Ok(is_held & made_array(builder.freeze(), [7].as_slice(), "none")?)
+}
+
+#[test]
+fn a_null_that_is_overwritten_leaves_an_array_no_mask(rt: HostRuntime) -> Result<(), Fail> {
+    told(overwrites(rt.alloc()))
+}
+
 /// The values from the last to the first.
 fn reversed(values: Vec<i64>) -> Vec<i64>
     ensures { vec_len result ≡ vec_len values }

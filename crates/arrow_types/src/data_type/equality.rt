@@ -27,7 +27,7 @@ impl Eq for DataType {
     ghost laws = { on_equiv logical_type (decided same_type same_type-Decides) };
 }
 
-/// Do the two say the same, each part compared?
+/// Returns whether two data types are the same in every part.
 fn same(first: &DataType, second: &DataType) -> bool
     ensures { IsTrue result ↔ logical_type first.now ≡ logical_type second.now }
 {

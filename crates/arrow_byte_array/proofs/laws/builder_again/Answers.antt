@@ -3,7 +3,8 @@ use Rattle.arrow_byte_array.proofs.AgainLemmas.{are-items, at-end, fits-mask}
 use Rattle.arrow_byte_array.proofs.laws.builder_again.Goals as goal
 
 pub returns-clause-accepted : goal.returns-clause-accepted
-returns-clause-accepted _ = λ text layout wrong_type c none items right. (at-end c none, (are-items text c items, (right, (fits-mask c, tt))))
+returns-clause-accepted _ = λ text layout wrong_type c none items right.
+    (at-end c none, (are-items text c items, (right, (fits-mask c, tt))))
 
 pub returns-clause-same : goal.returns-clause-same
 returns-clause-same _ = column-back

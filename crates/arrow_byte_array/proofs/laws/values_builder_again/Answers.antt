@@ -2,7 +2,8 @@ use Rattle.arrow_byte_array.proofs.AgainLemmas.{are-items, at-end, column-bare}
 use Rattle.arrow_byte_array.proofs.laws.values_builder_again.Goals as goal
 
 pub returns-clause-accepted : goal.returns-clause-accepted
-returns-clause-accepted _ = λ text layout wrong_type c none items right. (at-end c none, (are-items text c items, (right, tt)))
+returns-clause-accepted _ = λ text layout wrong_type c none items right.
+    (at-end c none, (are-items text c items, (right, tt)))
 
 pub returns-clause-same : goal.returns-clause-same
 returns-clause-same _ = column-bare

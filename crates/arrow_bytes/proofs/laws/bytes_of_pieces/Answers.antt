@@ -13,4 +13,5 @@ pub returns-clause-within : goal.returns-clause-within
 returns-clause-within c = within-back
 
 pub returns-clause-pieces : goal.returns-clause-pieces
-returns-clause-pieces c = λ around items. ap₂ (λ a xs. let whole : Pieces = record { around = a; items = xs } in whole) (around-back around items) (items-back around.lead items around.tail)
+returns-clause-pieces c = λ around items. ap₂ (λ a xs. let whole : Pieces = record { around = a; items = xs } in
+    whole) (around-back around items) (items-back around.lead items around.tail)

@@ -8,7 +8,9 @@ pub returns-clause-bytes : goal.returns-clause-bytes
 returns-clause-bytes c = λ offsets bytes legal within. bytes-again offsets bytes legal
 
 pub returns-clause-lead : goal.returns-clause-lead
-returns-clause-lead c = λ offsets bytes legal within. length-take-le (first_of offsets) bytes (omega (arith, legal.order 0 (length offsets - 1) (omega arith) (omega (arith, legal.some)), within))
+returns-clause-lead c = λ offsets bytes legal within.
+    length-take-le (first_of offsets) bytes
+    (omega (arith, legal.order 0 (length offsets - 1) (omega arith) (omega (arith, legal.some)), within))
 
 pub returns-clause-offsets : goal.returns-clause-offsets
 returns-clause-offsets c = offsets-again

@@ -9,5 +9,6 @@ invariant_of-result-in-Right g c =
     let bytes = c.values.inside.bytes in (
       search (rules, piece_reads, piece_thaws),
       search (rules, piece_reads, piece_thaws),
-      rw (c.in-Right.ensures.1, c.in-Right.ensures.0) (kinds-thawed g.K.ByteKind.is_text os bytes c.values.invariant.0 c.values.invariant.1 c.values.invariant.2),
+      rw (c.in-Right.ensures.1, c.in-Right.ensures.0) (kinds-thawed g.K.ByteKind.is_text os bytes
+          c.values.invariant.0 c.values.invariant.1 c.values.invariant.2),
     )

@@ -4,7 +4,9 @@ use Rattle.arrow_check.proofs.WindowLemmas.{cuts-texts, passes-whole}
 use Rattle.arrow_check.proofs.text.check_utf8.Goals as goal
 
 pub returns-clause-ok : goal.returns-clause-ok
-returns-clause-ok g c = on_ok_weaker c.check_text.result (cuts-texts (numbers_of g.O.Offset.number c.args.offsets.now) c.args.text.now.bytes c.requires.legal) c.check_text.ensures.ok
+returns-clause-ok g c = on_ok_weaker c.check_text.result
+    (cuts-texts (numbers_of g.O.Offset.number c.args.offsets.now) c.args.text.now.bytes c.requires.legal)
+    c.check_text.ensures.ok
 
 pub returns-clause-err : goal.returns-clause-err
 returns-clause-err g c =

@@ -12,7 +12,8 @@ returns g c = λ column a n b m outer inner.
     sym (ap (take n) (drop-map (λ row. row.0) a column.rows) ∙ take-map (λ row. row.0) n (drop a column.rows)) in
     ap₂ (λ around rows. record column { around = around; rows = rows })
     (
-    ap (λ values. g.V.Values.cut_around (g.V.Values.cut_around column.around (stored_values column) a n) values b m) stored
+    ap (λ values. g.V.Values.cut_around (g.V.Values.cut_around column.around (stored_values column) a n) values b m)
+    stored
     ∙ g.met.V.Values.cut_twice column.around (stored_values column) a n b m within
     )
     (piece-piece column.rows a n b m within)

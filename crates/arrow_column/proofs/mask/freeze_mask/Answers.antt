@@ -13,4 +13,5 @@ pub returns-clause-ok : goal.returns-clause-ok
 returns-clause-ok c =
     let marks = c.in-Some.marks in
     let clear = (all-by_count marks).1 (λ e. c.if-unset-eq0.false (c.unset_bits-unset.ensures ∙ e)) in
-    ap Some c.in_ok-freeze_counted.ensures.ok ∙ sym (ap mask_with_nulls c.in-Some.is ∙ ap (λ b. if b then None else Some marks) clear)
+    ap Some c.in_ok-freeze_counted.ensures.ok ∙ sym (ap mask_with_nulls c.in-Some.is
+    ∙ ap (λ b. if b then None else Some marks) clear)

@@ -9,8 +9,10 @@ use Rattle.arrow_kernels.proofs.keep.keep_each_item.Given as goal
 abbrev pub invariant-loop-left : goal.invariant-loop-left
 invariant-loop-left g l = record {
   marked : AreLeft l.asked (64 * l.at) l.left;
-  ends : l.kept ≡ offsets_of 0 (where_set (take (64 * l.at + trailing_zeros w64 l.left) l.asked) (take (64 * l.at + trailing_zeros w64 l.left) (items_of l.offsets l.bytes)));
-  joined : l.kept_bytes.items ≡ concat (where_set (take (64 * l.at + trailing_zeros w64 l.left) l.asked) (take (64 * l.at + trailing_zeros w64 l.left) (items_of l.offsets l.bytes)));
+  ends : l.kept ≡ offsets_of 0 (where_set (take (64 * l.at + trailing_zeros w64 l.left) l.asked)
+      (take (64 * l.at + trailing_zeros w64 l.left) (items_of l.offsets l.bytes)));
+  joined : l.kept_bytes.items ≡ concat (where_set (take (64 * l.at + trailing_zeros w64 l.left) l.asked)
+      (take (64 * l.at + trailing_zeros w64 l.left) (items_of l.offsets l.bytes)));
 }
 
 abbrev pub decreases-loop-left : goal.decreases-loop-left

@@ -10,6 +10,8 @@ loop-at-preserved g c =
     let at = c.loop-at.at in
     let next : 64 * at + 64 ≡ 64 * (at + 1) = omega arith in
     record {
-      ends = c.in_ok-keep_word_items.ensures.ends ∙ ap (λ n. offsets_of 0 (where_set (take n c.args.asked.now) (take n items))) next;
-      joined = c.in_ok-keep_word_items.ensures.joined ∙ ap (λ n. concat (where_set (take n c.args.asked.now) (take n items))) next;
+      ends = c.in_ok-keep_word_items.ensures.ends
+          ∙ ap (λ n. offsets_of 0 (where_set (take n c.args.asked.now) (take n items))) next;
+      joined = c.in_ok-keep_word_items.ensures.joined
+          ∙ ap (λ n. concat (where_set (take n c.args.asked.now) (take n items))) next;
     }

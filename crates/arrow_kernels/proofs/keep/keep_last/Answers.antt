@@ -10,7 +10,9 @@ loop-i-init g c =
     record {
       within = first.high;
       marked = first.set;
-      so_far = c.requires.so_far ∙ sym (where-gap-up c.args.asked.now c.args.values.now c.args.start c.next-i.result first.low first.clear);
+      so_far = c.requires.so_far
+          ∙ sym (where-gap-up c.args.asked.now c.args.values.now c.args.start c.next-i.result first.low
+          first.clear);
       room = c.requires.room;
     }
 
@@ -22,7 +24,8 @@ push_reserved-requires g c =
     let x = c.index-values-i.result in
     let low : c.loop-i.i < length asked = omega (arith, c.loop-i-test.true, c.len.ensures) in
     let read = slice_get_read values _ i x c.requires.same low c.index-values-i.is in
-    room-left asked values c.loop-i.kept.items i _ _ x (c.loop-i.invariant.marked low) read c.loop-i.invariant.so_far (omega arith) c.loop-i.invariant.room
+    room-left asked values c.loop-i.kept.items i _ _ x (c.loop-i.invariant.marked low) read
+    c.loop-i.invariant.so_far (omega arith) c.loop-i.invariant.room
 
 pub loop-i-preserved : goal.loop-i-preserved
 loop-i-preserved g c =
@@ -36,7 +39,8 @@ loop-i-preserved g c =
     record {
       within = next.high;
       marked = next.set;
-      so_far = where-grown asked values i c.next-i-in-loop-i.result x _ _ (c.loop-i.invariant.marked low) read next.low next.clear c.loop-i.invariant.so_far c.push_reserved.ensures.items;
+      so_far = where-grown asked values i c.next-i-in-loop-i.result x _ _ (c.loop-i.invariant.marked low) read
+          next.low next.clear c.loop-i.invariant.so_far c.push_reserved.ensures.items;
       room = omega (arith, c.loop-i.invariant.room, c.push_reserved.ensures.capacity);
     }
 
@@ -44,5 +48,10 @@ pub returns : goal.returns
 returns g c =
     let asked = c.args.asked.now in
     let values = c.args.values.now in
-    let all : c.loop-i.i ≡ length asked = omega (arith, c.loop-i-test.false, c.len.ensures, c.loop-i.invariant.within) in
+    let all : c.loop-i.i ≡ length asked = omega (
+      arith,
+      c.loop-i-test.false,
+      c.len.ensures,
+      c.loop-i.invariant.within,
+    ) in
     c.loop-i.invariant.so_far ∙ where-all asked values c.loop-i.i all (all ∙ c.requires.same)

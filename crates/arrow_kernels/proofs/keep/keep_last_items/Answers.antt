@@ -1,9 +1,10 @@
 use Rattle.std.proofs.Common.{◌≡◌, ◌<◌, ap, arith, length, sym, take, ◌∙◌}
 use Rattle.std.specs.List.{concat}
 use Rattle.arrow_check.specs.Pieces.{items_of, offsets_of}
+use Rattle.arrow_bytes.proofs.CallerLemmas.{length-items}
 use Rattle.arrow_kernels.specs.Kernels.{where_set}
 use Rattle.arrow_kernels.proofs.ChoiceLemmas.{where-all, where-gap-up, where-next}
-use Rattle.arrow_kernels.proofs.ItemLemmas.{bytes-more, length-items, offsets-more}
+use Rattle.arrow_kernels.proofs.ItemLemmas.{bytes-more, offsets-more}
 use Rattle.arrow_kernels.proofs.keep.keep_last_items.Goals as goal
 
 pub loop-i-init : goal.loop-i-init
@@ -27,7 +28,8 @@ loop-i-preserved g c =
     let next = c.next-i-in-loop-i.ensures in
     let low : c.loop-i.i < length asked = omega (arith, c.loop-i-test.true, c.len.ensures) in
     let so_far = where_set (take i asked) (take i items) in
-    let more = sym (where-next asked items i c.next-i-in-loop-i.result item (c.loop-i.invariant.marked low) c.item_at-item.ensures next.low next.clear) in
+    let more = sym (where-next asked items i c.next-i-in-loop-i.result item (c.loop-i.invariant.marked low)
+    c.item_at-item.ensures next.low next.clear) in
     let pushed = c.in-Ok.ensures.ok in
     record {
       within = next.high;
@@ -40,14 +42,34 @@ pub returns-clause-ends : goal.returns-clause-ends
 returns-clause-ends g c =
     let asked = c.args.asked.now in
     let items = items_of c.args.offsets.now c.args.bytes.now in
-    let all : c.loop-i.i ≡ length asked = omega (arith, c.loop-i-test.false, c.len.ensures, c.loop-i.invariant.within) in
-    let wide : c.loop-i.i ≡ length items = omega (arith, all, c.requires.count, length-items c.args.offsets.now c.args.bytes.now (omega (arith, c.requires.count))) in
+    let all : c.loop-i.i ≡ length asked = omega (
+      arith,
+      c.loop-i-test.false,
+      c.len.ensures,
+      c.loop-i.invariant.within,
+    ) in
+    let wide : c.loop-i.i ≡ length items = omega (
+      arith,
+      all,
+      c.requires.count,
+      length-items c.args.offsets.now c.args.bytes.now (omega (arith, c.requires.count)),
+    ) in
     c.loop-i.invariant.ends ∙ ap (offsets_of 0) (where-all asked items c.loop-i.i all wide)
 
 pub returns-clause-joined : goal.returns-clause-joined
 returns-clause-joined g c =
     let asked = c.args.asked.now in
     let items = items_of c.args.offsets.now c.args.bytes.now in
-    let all : c.loop-i.i ≡ length asked = omega (arith, c.loop-i-test.false, c.len.ensures, c.loop-i.invariant.within) in
-    let wide : c.loop-i.i ≡ length items = omega (arith, all, c.requires.count, length-items c.args.offsets.now c.args.bytes.now (omega (arith, c.requires.count))) in
+    let all : c.loop-i.i ≡ length asked = omega (
+      arith,
+      c.loop-i-test.false,
+      c.len.ensures,
+      c.loop-i.invariant.within,
+    ) in
+    let wide : c.loop-i.i ≡ length items = omega (
+      arith,
+      all,
+      c.requires.count,
+      length-items c.args.offsets.now c.args.bytes.now (omega (arith, c.requires.count)),
+    ) in
     c.loop-i.invariant.joined ∙ ap concat (where-all asked items c.loop-i.i all wide)

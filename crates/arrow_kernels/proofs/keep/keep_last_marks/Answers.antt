@@ -8,7 +8,8 @@ loop-i-init c =
     record {
       within = first.high;
       marked = first.set;
-      so_far = c.requires.so_far ∙ sym (where-gap-up c.args.asked.now c.args.marks.now c.args.start c.next-i.result first.low first.clear);
+      so_far = c.requires.so_far
+          ∙ sym (where-gap-up c.args.asked.now c.args.marks.now c.args.start c.next-i.result first.low first.clear);
     }
 
 pub loop-i-preserved : goal.loop-i-preserved
@@ -21,11 +22,18 @@ loop-i-preserved c =
     record {
       within = next.high;
       marked = next.set;
-      so_far = where-grown asked marks i c.next-i-in-loop-i.result c.get_bit.result _ _ (c.loop-i.invariant.marked low) c.get_bit.ensures next.low next.clear c.loop-i.invariant.so_far c.in_ok-push.ensures.ok;
+      so_far = where-grown asked marks i c.next-i-in-loop-i.result c.get_bit.result _ _
+          (c.loop-i.invariant.marked low) c.get_bit.ensures next.low next.clear c.loop-i.invariant.so_far
+          c.in_ok-push.ensures.ok;
     }
 
 pub returns-clause-ok : goal.returns-clause-ok
 returns-clause-ok c =
     let asked = c.args.asked.now in
-    let all : c.loop-i.i ≡ length asked = omega (arith, c.loop-i-test.false, c.len.ensures, c.loop-i.invariant.within) in
+    let all : c.loop-i.i ≡ length asked = omega (
+      arith,
+      c.loop-i-test.false,
+      c.len.ensures,
+      c.loop-i.invariant.within,
+    ) in
     c.loop-i.invariant.so_far ∙ where-all asked c.args.marks.now c.loop-i.i all (all ∙ c.requires.same)

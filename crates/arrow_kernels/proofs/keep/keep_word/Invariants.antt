@@ -15,7 +15,8 @@ invariant-loop-row g l = record {
 abbrev pub invariant-loop-left : goal.invariant-loop-left
 invariant-loop-left g l = record {
   marked : AreLeft l.asked (64 * l.at) l.left;
-  so_far : l.kept.items ≡ where_set (take (64 * l.at + trailing_zeros w64 l.left) l.asked) (take (64 * l.at + trailing_zeros w64 l.left) l.values);
+  so_far : l.kept.items ≡ where_set (take (64 * l.at + trailing_zeros w64 l.left) l.asked)
+      (take (64 * l.at + trailing_zeros w64 l.left) l.values);
   room : length l.asked ≤ vec_capacity l.kept + count_by not l.asked;
 }
 

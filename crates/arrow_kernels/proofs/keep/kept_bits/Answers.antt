@@ -5,7 +5,8 @@ use Rattle.arrow_memory.specs.Marks.{bits_of}
 use Rattle.arrow_kernels.specs.Kernels.{where_set}
 use Rattle.arrow_kernels.proofs.BitLemmas.{length-bits, more-bits, more-fits, more-small, slice_get-bits}
 use Rattle.arrow_kernels.proofs.ChoiceLemmas.{where-all}
-use Rattle.arrow_kernels.proofs.WordLemmas.{later, left-next, less-left, lowest-within, no-more, starts-word, word-grown}
+use Rattle.arrow_kernels.proofs.WordLemmas.{later, left-next, less-left, lowest-within, no-more, starts-word}
+use Rattle.arrow_kernels.proofs.WordLemmas.{word-grown}
 use Rattle.arrow_kernels.proofs.keep.kept_bits.Goals as goal
 
 pub loop-left-init : goal.loop-left-init
@@ -15,7 +16,8 @@ loop-left-init c =
       fits = c.ranges.asked.fits;
       room = omega arith;
       small = omega arith;
-      so_far = starts-word (bits_of c.args.asked 64) 0 c.args.asked c.ranges.asked.fits (bits_of c.args.marks 64) (λ k low. slice_get-bits c.args.asked 64 k low);
+      so_far = starts-word (bits_of c.args.asked 64) 0 c.args.asked c.ranges.asked.fits (bits_of c.args.marks 64)
+          (λ k low. slice_get-bits c.args.asked 64 k low);
     }
 
 pub overflow_add-kept : goal.overflow_add-kept
@@ -24,7 +26,14 @@ overflow_add-kept c =
     let row = trailing_zeros w64 left in
     let bit = bit_and (c.args.marks / 2 ^ row) 1 in
     let inner = lowest-within left c.loop-left.invariant.fits (omega arith) in
-    record { fits = more-fits c.loop-left.kept c.loop-left.count bit (c.loop-left.kept + bit * 2 ^ c.loop-left.count % 2 ^ 64) c.loop-left.invariant.small (omega (arith, shr_and_one c.args.marks row, bit_at-lt c.args.marks row)) (omega (arith, c.loop-left.invariant.room, inner)) refl }
+    record {
+      fits = more-fits c.loop-left.kept c.loop-left.count bit (c.loop-left.kept + bit * 2 ^ c.loop-left.count
+          % 2 ^ 64) c.loop-left.invariant.small (omega (
+            arith,
+            shr_and_one c.args.marks row,
+            bit_at-lt c.args.marks row,
+          )) (omega (arith, c.loop-left.invariant.room, inner)) refl;
+    }
 
 pub loop-left-preserved : goal.loop-left-preserved
 loop-left-preserved c =
@@ -38,13 +47,15 @@ loop-left-preserved c =
     let inner = lowest-within left i.fits (omega arith) in
     let single : bit < 2 = omega (arith, shr_and_one c.args.marks row, bit_at-lt c.args.marks row) in
     let new = kept + bit * 2 ^ count % 2 ^ 64 in
-    let read = slice_get-bits c.args.marks 64 row inner ∙ ap (λ b. Some (b == 1)) (sym (shr_and_one c.args.marks row)) in
+    let read = slice_get-bits c.args.marks 64 row inner
+    ∙ ap (λ b. Some (b == 1)) (sym (shr_and_one c.args.marks row)) in
     record {
       marked = left-next rows 0 left i.fits (omega arith) i.marked;
       fits = omega (arith, i.fits, less-left left (omega arith));
       room = omega (arith, i.room, later rows 0 left i.fits (omega arith) i.marked);
       small = more-small kept count bit new i.small single (omega (arith, i.room, inner)) refl;
-      so_far = word-grown rows 0 left i.fits (omega arith) i.marked (bits_of c.args.marks 64) _ _ (bit == 1) read i.so_far (more-bits kept count bit new i.small single (omega (arith, i.room, inner)) refl);
+      so_far = word-grown rows 0 left i.fits (omega arith) i.marked (bits_of c.args.marks 64) _ _ (bit == 1) read
+          i.so_far (more-bits kept count bit new i.small single (omega (arith, i.room, inner)) refl);
     }
 
 pub loop-left-smaller : goal.loop-left-smaller

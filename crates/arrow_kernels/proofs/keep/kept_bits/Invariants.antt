@@ -11,7 +11,8 @@ invariant-loop-left l = record {
   fits : l.left < 2 ^ 64;
   room : l.count ≤ trailing_zeros w64 l.left;
   small : l.kept < 2 ^ l.count;
-  so_far : bits_of l.kept l.count ≡ where_set (take (0 + trailing_zeros w64 l.left) (bits_of l.asked 64)) (take (0 + trailing_zeros w64 l.left) (bits_of l.marks 64));
+  so_far : bits_of l.kept l.count ≡ where_set (take (0 + trailing_zeros w64 l.left) (bits_of l.asked 64))
+      (take (0 + trailing_zeros w64 l.left) (bits_of l.marks 64));
 }
 
 abbrev pub decreases-loop-left : goal.decreases-loop-left

@@ -1,4 +1,5 @@
-use Rattle.std.proofs.Common.{◌≡◌, ◌+◌, ◌-◌, ◌*◌, ◌/◌, ◌%◌, ◌^◌, ◌<◌, ◌≤◌, ◌++◌, bit_and, length, take, ap, arith, refl, sym, ◌∙◌}
+use Rattle.std.proofs.Common.{◌≡◌, ◌+◌, ◌-◌, ◌*◌, ◌/◌, ◌%◌, ◌^◌, ◌<◌, ◌≤◌, ◌++◌, bit_and, length, take, ap, arith}
+use Rattle.std.proofs.Common.{refl, sym, ◌∙◌}
 use Rattle.arrow_memory.specs.Marks.{bits_of}
 use Rattle.arrow_kernels.specs.Kernels.{where_set}
 use Rattle.arrow_kernels.proofs.BitLemmas.{length-bits, slice_get-bits}
@@ -16,7 +17,9 @@ loop-first-init c =
       set = next.set;
       room = omega arith;
       small = omega arith;
-      so_far = run-starts rows marks 0 c.args.asked (length-bits c.args.asked 64 ∙ sym (length-bits c.args.marks 64)) (omega (arith, length-bits c.args.asked 64)) (λ k low. slice_get-bits c.args.asked 64 k low) c.next_set-first.result next.high next.clear;
+      so_far = run-starts rows marks 0 c.args.asked (length-bits c.args.asked 64
+          ∙ sym (length-bits c.args.marks 64)) (omega (arith, length-bits c.args.asked 64)) (λ k low.
+          slice_get-bits c.args.asked 64 k low) c.next_set-first.result next.high next.clear;
     }
 
 pub overflow_add-kept : goal.overflow_add-kept
@@ -26,8 +29,20 @@ overflow_add-kept c =
     let end = c.run_end-end.result in
     let more = c.run_end-end.ensures in
     let run = bit_and (c.args.marks / 2 ^ first) (18446744073709551615 / 2 ^ (64 - (end - first))) in
-    let low = run-low c.args.marks first (end - first) run (omega (arith, more.more)) (omega (arith, more.more, more.high)) refl in
-    record { fits = run-fits c.loop-first.kept c.loop-first.count run (end - first) (c.loop-first.kept + run * 2 ^ c.loop-first.count % 2 ^ 64) i.small low (omega (arith, i.room, more.more, more.high)) refl }
+    let low = run-low c.args.marks first (end - first) run (omega (arith, more.more)) (omega (
+      arith,
+      more.more,
+      more.high,
+    )) refl in
+    record {
+      fits = run-fits c.loop-first.kept c.loop-first.count run (end - first)
+          (c.loop-first.kept + run * 2 ^ c.loop-first.count % 2 ^ 64) i.small low (omega (
+            arith,
+            i.room,
+            more.more,
+            more.high,
+          )) refl;
+    }
 
 pub loop-first-preserved : goal.loop-first-preserved
 loop-first-preserved c =
@@ -56,8 +71,11 @@ loop-first-preserved c =
       so_far =
           run-bits kept count run n new i.small low room refl
           ∙ ap (λ xs. xs ++ bits_of run n) i.so_far
-          ∙ run-next rows marks 0 c.args.asked (length-bits c.args.asked 64 ∙ sym (length-bits c.args.marks 64)) (omega (arith, length-bits c.args.asked 64)) (λ k lower. slice_get-bits c.args.asked 64 k lower) first end c.next_set-first-in-loop-first.result (bits_of run n)
-          more.more next.low next.high more.set next.clear (run-cut c.args.marks first n run some inner refl end there) (length-bits run n);
+          ∙ run-next rows marks 0 c.args.asked (length-bits c.args.asked 64 ∙ sym (length-bits c.args.marks 64))
+          (omega (arith, length-bits c.args.asked 64)) (λ k lower. slice_get-bits c.args.asked 64 k lower) first
+          end c.next_set-first-in-loop-first.result (bits_of run n)
+          more.more next.low next.high more.set next.clear (run-cut c.args.marks first n run some inner refl end
+          there) (length-bits run n);
     }
 
 pub returns-clause-bits : goal.returns-clause-bits

@@ -10,7 +10,8 @@ invariant-loop-first l = record {
   set : l.first < 64 → bit_at l.asked l.first ≡ 1;
   room : l.count ≤ l.first;
   small : l.kept < 2 ^ l.count;
-  so_far : bits_of l.kept l.count ≡ where_set (take (0 + l.first) (bits_of l.asked 64)) (take (0 + l.first) (bits_of l.marks 64));
+  so_far : bits_of l.kept l.count ≡ where_set (take (0 + l.first) (bits_of l.asked 64))
+      (take (0 + l.first) (bits_of l.marks 64));
 }
 
 abbrev pub decreases-loop-first : goal.decreases-loop-first

@@ -8,17 +8,25 @@ use Rattle.arrow_kernels.proofs.pick.items_length.Goals as goal
 pub picked_length-requires-clause-keys : goal.picked_length-requires-clause-keys
 picked_length-requires-clause-keys g c =
     let array = c.args.array.now in
-    keys-below g.I.IndexKey.number c.args.keys.now (length array.rows) (length c.offsets.result.now) 1 (omega (arith, count-held array c.offsets.result.now (length array.rows) c.offsets.ensures refl)) c.requires
+    keys-below g.I.IndexKey.number c.args.keys.now (length array.rows) (length c.offsets.result.now) 1
+    (omega (arith, count-held array c.offsets.result.now (length array.rows) c.offsets.ensures refl)) c.requires
 
 pub picked_length-requires-clause-within : goal.picked_length-requires-clause-within
-picked_length-requires-clause-within g c = within-held c.args.array.now c.offsets.result.now c.as_slice.result.now c.offsets.ensures (c.as_slice.ensures ∙ c.values.ensures.value)
+picked_length-requires-clause-within g c = within-held c.args.array.now c.offsets.result.now c.as_slice.result.now
+    c.offsets.ensures (c.as_slice.ensures ∙ c.values.ensures.value)
 
 pub returns-clause-ok : goal.returns-clause-ok
 returns-clause-ok g c =
-    let held = items-of-held c.args.array.now c.offsets.result.now c.as_slice.result.now c.offsets.ensures (c.as_slice.ensures ∙ c.values.ensures.value) in
-    some-fit c.picked_length.result g.O.Offset.most _ _ (ap (λ items. length (concat (at_keys g.I.IndexKey.number c.args.keys.now items))) held) c.picked_length.ensures.ok
+    let held = items-of-held c.args.array.now c.offsets.result.now c.as_slice.result.now c.offsets.ensures
+    (c.as_slice.ensures ∙ c.values.ensures.value) in
+    some-fit c.picked_length.result g.O.Offset.most _ _
+    (ap (λ items. length (concat (at_keys g.I.IndexKey.number c.args.keys.now items))) held)
+    c.picked_length.ensures.ok
 
 pub returns-clause-err : goal.returns-clause-err
 returns-clause-err g c =
-    let held = items-of-held c.args.array.now c.offsets.result.now c.as_slice.result.now c.offsets.ensures (c.as_slice.ensures ∙ c.values.ensures.value) in
-    some-overflow c.picked_length.result g.O.Offset.most _ _ (ap (λ items. length (concat (at_keys g.I.IndexKey.number c.args.keys.now items))) held) c.picked_length.ensures.err
+    let held = items-of-held c.args.array.now c.offsets.result.now c.as_slice.result.now c.offsets.ensures
+    (c.as_slice.ensures ∙ c.values.ensures.value) in
+    some-overflow c.picked_length.result g.O.Offset.most _ _
+    (ap (λ items. length (concat (at_keys g.I.IndexKey.number c.args.keys.now items))) held)
+    c.picked_length.ensures.err

@@ -14,7 +14,8 @@ loop-key-preserved g c =
     let i = c.loop-key.key-index in
     let item = c.item_at-item.result.now in
     let so_far = at_keys number (take i keys) items in
-    let found = key-place items (number c.key-item.result) c.place_of.result item c.place_of.ensures.place c.item_at-item.ensures in
+    let found = key-place items (number c.key-item.result) c.place_of.result item c.place_of.ensures.place
+    c.item_at-item.ensures in
     let more = sym (keys-more number keys items i c.key-item.result item c.loop-key-test.true c.key-item.is found) in
     let pushed = c.in-Ok.ensures.ok in (
       offsets-more c.loop-key.picked _ so_far item c.loop-key.invariant.0 pushed.1 ∙ ap (offsets_of 0) more,

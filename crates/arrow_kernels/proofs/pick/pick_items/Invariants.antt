@@ -7,4 +7,5 @@ use Rattle.arrow_kernels.proofs.pick.pick_items.Given as goal
 abbrev pub invariant-loop-key : goal.invariant-loop-key
 invariant-loop-key g l =
     (l.picked ≡ offsets_of 0 (at_keys g.K.IndexKey.number (take l.key-index l.keys) (items_of l.offsets l.bytes)))
-    × (l.picked_bytes.items ≡ concat (at_keys g.K.IndexKey.number (take l.key-index l.keys) (items_of l.offsets l.bytes)))
+    × (l.picked_bytes.items ≡ concat (at_keys g.K.IndexKey.number (take l.key-index l.keys)
+    (items_of l.offsets l.bytes)))

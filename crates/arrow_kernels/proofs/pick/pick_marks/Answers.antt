@@ -16,9 +16,12 @@ loop-at-preserved g c =
     let word = c.picked_word.result in
     let e : 64 * at + 64 - 64 * at ≡ 64 = omega arith in
     let long : length (take (64 * at + 64 - 64 * at) (drop (64 * at) keys)) ≡ 64 =
-    ap (λ n. length (take n (drop (64 * at) keys))) e ∙ length-take-le 64 (drop (64 * at) keys) (omega (arith, length-drop (64 * at) keys, c.loop-at-test.true)) in
+    ap (λ n. length (take n (drop (64 * at) keys))) e
+    ∙ length-take-le 64 (drop (64 * at) keys) (omega (arith, length-drop (64 * at) keys, c.loop-at-test.true))
+    in
     let bits : bits_of word 64 ≡ at_keys number (take 64 (drop (64 * at) keys)) marks =
-    ap (bits_of word) (sym long) ∙ c.picked_word.ensures ∙ ap (λ n. at_keys number (take n (drop (64 * at) keys)) marks) e in
+    ap (bits_of word) (sym long) ∙ c.picked_word.ensures
+    ∙ ap (λ n. at_keys number (take n (drop (64 * at) keys)) marks) e in
     c.in_ok-extend_from_word.ensures.ok
     ∙ ap (λ ms. ms ++ bits_of word 64) c.loop-at.invariant
     ∙ ap (λ ms. at_keys number (take (64 * at) keys) marks ++ ms) bits
@@ -37,7 +40,9 @@ returns-clause-ok g c =
     MatchResult-weaker c.freeze.result c.freeze.ensures.ok (λ made e.
     e
     ∙ c.in_ok-extend_from_word-2.ensures.ok
-    ∙ ap (λ ms. ms ++ bits_of c.picked_word-2.result (length (take (length keys - 64 * (length keys / 64)) (drop (64 * (length keys / 64)) keys)))) (c.loop-at.invariant ∙ ap (λ n. at_keys number (take (64 * n) keys) marks) all)
+    ∙ ap (λ ms. ms ++ bits_of c.picked_word-2.result
+    (length (take (length keys - 64 * (length keys / 64)) (drop (64 * (length keys / 64)) keys))))
+    (c.loop-at.invariant ∙ ap (λ n. at_keys number (take (64 * n) keys) marks) all)
     ∙ ap (λ ms. at_keys number (take (64 * words) keys) marks ++ ms) c.picked_word-2.ensures
     ∙ sym (keys-append number keys marks (64 * words) rest)
     ∙ ap (λ n. at_keys number (take n keys) marks) whole

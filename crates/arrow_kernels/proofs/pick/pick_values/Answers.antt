@@ -11,7 +11,8 @@ loop-key-preserved g c =
     let read = slice_get_read values _ c.place_of.result x refl c.place_of.ensures.within c.index-values-place_of.is in
     let found = key-place values (number c.key-item.result) c.place_of.result x c.place_of.ensures.place read in
     record {
-      so_far = keys-grown number c.args.keys.now values c.loop-key.key-index c.key-item.result x _ _ c.loop-key-test.true c.key-item.is found c.loop-key.invariant.so_far c.push_reserved.ensures.items;
+      so_far = keys-grown number c.args.keys.now values c.loop-key.key-index c.key-item.result x _ _
+          c.loop-key-test.true c.key-item.is found c.loop-key.invariant.so_far c.push_reserved.ensures.items;
       len = omega (arith, c.loop-key.invariant.len, c.push_reserved.ensures.len);
       room = omega (arith, c.loop-key.invariant.room, c.push_reserved.ensures.capacity);
     }

@@ -13,13 +13,24 @@ returns-then-item-most-clause-err g c =
     let items = items_of c.args.offsets.now c.args.bytes.now in
     let i = c.loop-key.key-index in
     let item = c.item_at-item.result.now in
-    let found = key-place items (number c.key-item.result) c.place_of.result item c.place_of.ensures.place c.item_at-item.ensures in
+    let found = key-place items (number c.key-item.result) c.place_of.result item c.place_of.ensures.place
+    c.item_at-item.ensures in
     let more = keys-more number keys items i c.key-item.result item c.loop-key-test.true c.key-item.is found in
     let so_far = at_keys number (take i keys) items in
     let grown : length (concat (at_keys number (take (i + 1) keys) items)) ≡ length (concat so_far) + length item =
     ap (λ xs. length (concat xs)) more ∙ ap length (bytes-push so_far item) ∙ length-append (concat so_far) item in
-    let same : c.to_usize-most.result ≡ g.O.Offset.most = cc in
-    (refl, omega (arith, grown, same, keys-length number (i + 1) keys items, c.if-item-most.true, c.loop-key.invariant.0, c.loop-key.invariant.1))
+    let same : c.to_usize-most.result ≡ g.O.Offset.most = cc in (
+      refl,
+      omega (
+        arith,
+        grown,
+        same,
+        keys-length number (i + 1) keys items,
+        c.if-item-most.true,
+        c.loop-key.invariant.0,
+        c.loop-key.invariant.1,
+      ),
+    )
 
 pub loop-key-preserved : goal.loop-key-preserved
 loop-key-preserved g c =
@@ -28,7 +39,8 @@ loop-key-preserved g c =
     let items = items_of c.args.offsets.now c.args.bytes.now in
     let i = c.loop-key.key-index in
     let item = c.item_at-item.result.now in
-    let found = key-place items (number c.key-item.result) c.place_of.result item c.place_of.ensures.place c.item_at-item.ensures in
+    let found = key-place items (number c.key-item.result) c.place_of.result item c.place_of.ensures.place
+    c.item_at-item.ensures in
     let more = keys-more number keys items i c.key-item.result item c.loop-key-test.true c.key-item.is found in
     let so_far = at_keys number (take i keys) items in
     let grown : length (concat (at_keys number (take (i + 1) keys) items)) ≡ length (concat so_far) + length item =

@@ -20,5 +20,6 @@ loop-key-preserved g c =
     record {
       counted = omega (arith, i.counted);
       small = more-small word count bit new i.small single room refl;
-      so_far = keys-grown number c.args.keys.now marks c.loop-key.key-index c.key-item.result (bit == 1) _ _ c.loop-key-test.true c.key-item.is found i.so_far (more-bits word count bit new i.small single room refl);
+      so_far = keys-grown number c.args.keys.now marks c.loop-key.key-index c.key-item.result (bit == 1) _ _
+          c.loop-key-test.true c.key-item.is found i.so_far (more-bits word count bit new i.small single room refl);
     }

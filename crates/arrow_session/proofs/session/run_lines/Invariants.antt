@@ -1,18 +1,11 @@
-use Rattle.std.proofs.Common.{◌≡◌, ◌+◌, ◌≤◌, true, length, string_bytes}
-use Rattle.std.specs.Prelude.{IsTrue}
-use Rattle.std.specs.List.{list_all}
-use Rattle.arrow_words.proofs.Pieces.{length_after}
-use Rattle.arrow_words.specs.Words.{is_printable}
+use Rattle.std.proofs.Common.{string_bytes}
+use Rattle.arrow_words.proofs.CallerLemmas.{length_after}
 use Rattle.arrow_session.proofs.Reading.{lines_after}
 use Rattle.arrow_session.proofs.Runs.{IsRunTo}
 use Rattle.arrow_session.proofs.session.run_lines.Given as goal
 
 abbrev pub invariant-loop-rest : goal.invariant-loop-rest
-invariant-loop-rest l = record {
-  run : IsRunTo l.fn.input l.number (lines_after l.rest) l.answering.tables (string_bytes l.answering.text);
-  known : IsTrue l.printable → IsTrue (list_all is_printable (lines_after l.rest));
-  room : l.number + length_after l.rest ≤ length l.fn.input + 2;
-}
+invariant-loop-rest l = IsRunTo l.fn.input (lines_after l.rest) l.answering.tables (string_bytes l.answering.text)
 
 abbrev pub decreases-loop-rest : goal.decreases-loop-rest
 decreases-loop-rest l = length_after l.rest

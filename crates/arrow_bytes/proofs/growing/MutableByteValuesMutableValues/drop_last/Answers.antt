@@ -12,6 +12,12 @@ invariant_of-self g c =
     let within : last_of os ≤ length bytes = omega (arith, c.self.invariant.1) in
     let low : c.len_proxy.result - 1 < length os = omega (arith, c.len_proxy.ensures) in (
       c.last.ensures.legal,
-      rw (c.truncate-2.ensures.items, end, c.truncate.ensures) (ends-short (c.len_proxy.result - 1) os bytes c.self.invariant.0 within low),
-      rw (c.truncate-2.ensures.items, end, c.truncate.ensures) (kinds-short g.K.ByteKind.is_text (c.len_proxy.result - 1) os bytes c.self.invariant.0 within low c.self.invariant.2),
+      rw (c.truncate-2.ensures.items, end, c.truncate.ensures) (ends-short (c.len_proxy.result - 1) os bytes
+          c.self.invariant.0 within low),
+      rw (
+        c.truncate-2.ensures.items,
+        end,
+        c.truncate.ensures,
+      ) (kinds-short g.K.ByteKind.is_text (c.len_proxy.result - 1) os bytes c.self.invariant.0
+          within low c.self.invariant.2),
     )

@@ -8,5 +8,7 @@ pub returns-clause-item : goal.returns-clause-item
 returns-clause-item g c =
     let start = c.start_end-start.result.0 in
     let end = c.start_end-start.result.1 in
-    let found : slice_get (items_of c.self.inside.offsets c.self.inside.bytes) c.args.i ≡ Some (take (end - start) (drop start c.as_slice.result.now)) = search (rules, piece_reads) in
-    item-at g.K.ByteKind.is_text (items_of c.self.inside.offsets c.self.inside.bytes) c.args.i _ found c.self.invariant.2
+    let found : slice_get (items_of c.self.inside.offsets c.self.inside.bytes) c.args.i
+    ≡ Some (take (end - start) (drop start c.as_slice.result.now)) = search (rules, piece_reads) in
+    item-at g.K.ByteKind.is_text (items_of c.self.inside.offsets c.self.inside.bytes) c.args.i _ found
+    c.self.invariant.2

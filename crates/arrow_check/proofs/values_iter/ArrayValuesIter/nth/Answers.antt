@@ -7,4 +7,8 @@ returns-clause-steps g c =
     let s = c.args.self.now in
     let items = g.A.ArrayAccessor.items s.array.now in
     let left = length_piece items s.index s.end c.requires.0 c.requires.1 in
-    skips g.A.ArrayAccessor.seen items s.index s.end c.args.n c.next.result _ (omega (arith, left, c.len-left.ensures)) c.requires.1 c.next.ensures.steps
+    skips g.A.ArrayAccessor.seen items s.index s.end c.args.n c.next.result _ (omega (
+      arith,
+      left,
+      c.len-left.ensures,
+    )) c.requires.1 c.next.ensures.steps

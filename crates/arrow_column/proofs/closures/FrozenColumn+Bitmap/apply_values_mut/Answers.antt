@@ -11,6 +11,13 @@ returns-clause-ok g c =
     let t = logical_type column.data_type in
     let fits = c.self.invariant in
     let ran = c.in_ok-apply_mut.ensures.ok in
-    let stored : stored_values now ≡ column.values = stored-column t tt column.values column.validity now fits c.self.view_is in
-    let long : length c.apply_mut.new.self ≡ length now.rows = ran.1 ∙ sym (length-rows column.values column.validity fits) ∙ ap (λ whole. length whole.rows) c.self.view_is in
-    (c.apply_mut.new.self, rw stored ran.0, long, replaced-column t tt tt column.values c.apply_mut.new.self column.validity now fits c.self.view_is refl long)
+    let stored : stored_values now ≡ column.values = stored-column t tt column.values column.validity now fits
+    c.self.view_is in
+    let long : length c.apply_mut.new.self ≡ length now.rows = ran.1
+    ∙ sym (length-rows column.values column.validity fits) ∙ ap (λ whole. length whole.rows) c.self.view_is in (
+      c.apply_mut.new.self,
+      rw stored ran.0,
+      long,
+      replaced-column t tt tt column.values c.apply_mut.new.self
+          column.validity now fits c.self.view_is refl long,
+    )

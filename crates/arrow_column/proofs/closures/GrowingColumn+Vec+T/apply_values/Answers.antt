@@ -11,7 +11,15 @@ returns g c =
     let t = logical_type column.data_type in
     let values = c.replace-values.result in
     let changed = c.change.result in
-    let stored : values.items ≡ stored_values now = ap (λ v. v.items) c.replace-values.ensures.value ∙ sym (stored-column t tt column.values.items column.validity now c.self.invariant c.self.view_is) in
+    let stored : values.items ≡ stored_values now = ap (λ v. v.items) c.replace-values.ensures.value
+    ∙ sym (stored-column t tt column.values.items column.validity now c.self.invariant c.self.view_is) in
     let kept : vec_len changed ≡ length now.rows = c.requires.keeps values changed stored c.change.ensures in
-    let long : length changed.items ≡ length now.rows = omega (arith, kept, changed.ok.0) in
-    (values, changed, stored, c.change.ensures, kept, replaced-column t tt tt column.values.items changed.items column.validity now c.self.invariant c.self.view_is refl long)
+    let long : length changed.items ≡ length now.rows = omega (arith, kept, changed.ok.0) in (
+      values,
+      changed,
+      stored,
+      c.change.ensures,
+      kept,
+      replaced-column t tt tt column.values.items changed.items
+          column.validity now c.self.invariant c.self.view_is refl long,
+    )

@@ -11,7 +11,9 @@ set true e = refl
 set false e = cc
 
 pub returns-clause-null : goal.returns-clause-null
-returns-clause-null g c = λ null. null-at c.args.self.now.rows c.args.i c.requires (c.is_valid.ensures ∙ ap Some (clear c.is_valid.result null))
+returns-clause-null g c = λ null. null-at c.args.self.now.rows c.args.i c.requires (c.is_valid.ensures
+    ∙ ap Some (clear c.is_valid.result null))
 
 pub returns-clause-valid : goal.returns-clause-valid
-returns-clause-valid g c = λ valid value stored. slot-at c.args.self.now.rows c.args.i value true stored (c.is_valid.ensures ∙ ap Some (set c.is_valid.result valid))
+returns-clause-valid g c = λ valid value stored. slot-at c.args.self.now.rows c.args.i value true stored
+    (c.is_valid.ensures ∙ ap Some (set c.is_valid.result valid))

@@ -6,5 +6,6 @@ pub returns : goal.returns
 returns g c =
     let column = c.self.inside in
     let V = g.V.Values in
-    replaced-column (logical_type column.data_type) (V.around column.values) (V.around c.args.values) (V.stored column.values) (V.stored c.args.values) column.validity c.args.self.now
+    replaced-column (logical_type column.data_type) (V.around column.values) (V.around c.args.values)
+    (V.stored column.values) (V.stored c.args.values) column.validity c.args.self.now
     c.self.invariant c.self.view_is c.requires.around c.requires.count

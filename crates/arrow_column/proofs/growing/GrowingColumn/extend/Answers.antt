@@ -11,7 +11,9 @@ loop-slot-preserved g c =
     let pushed = c.in_ok-push.ensures.ok in
     let xs = c.loop-slot.yielded in
     let x = c.in-Some.slot in (
-      pushed.1 ∙ ap (λ column. append_slot V.default column (option_map P.shown x)) so_far.0 ∙ sym (appended-more P.shown V.default c.args.self.now xs x),
-      fit-more P.overflows P.shown V.default c.args.self.now xs x so_far.1 (ap (λ column. slot_overflows P.overflows column x) (sym so_far.0) ∙ pushed.0),
+      pushed.1 ∙ ap (λ column. append_slot V.default column (option_map P.shown x)) so_far.0
+          ∙ sym (appended-more P.shown V.default c.args.self.now xs x),
+      fit-more P.overflows P.shown V.default c.args.self.now xs x so_far.1
+          (ap (λ column. slot_overflows P.overflows column x) (sym so_far.0) ∙ pushed.0),
       c.in_ok-push.ensures.data_type ∙ so_far.2,
     )

@@ -15,8 +15,10 @@ loop-slot-preserved g c =
     let i = c.loop-slot.slot-index in
     let x = c.slot-item.result in
     let more = take_more slots i x c.loop-slot-test.true ∙ ap (λ y. take i slots ++ y ∷ []) (sym c.slot-item.is) in (
-      pushed.1 ∙ ap (λ column. append_slot V.default column (option_map P.shown x)) so_far.0 ∙ sym (appended-to P.shown V.default c.args.self.now (take i slots) (take (i + 1) slots) x more),
-      fit-to P.overflows P.shown V.default c.args.self.now (take i slots) (take (i + 1) slots) x more so_far.1 (ap (λ column. slot_overflows P.overflows column x) (sym so_far.0) ∙ pushed.0),
+      pushed.1 ∙ ap (λ column. append_slot V.default column (option_map P.shown x)) so_far.0
+          ∙ sym (appended-to P.shown V.default c.args.self.now (take i slots) (take (i + 1) slots) x more),
+      fit-to P.overflows P.shown V.default c.args.self.now (take i slots) (take (i + 1) slots) x more so_far.1
+          (ap (λ column. slot_overflows P.overflows column x) (sym so_far.0) ∙ pushed.0),
       c.in-Ok.ensures.data_type ∙ so_far.2,
     )
 
@@ -28,5 +30,17 @@ returns-in-Err-clause-err g c =
     let slots = c.args.slots.now in
     let i = c.loop-slot.slot-index in
     let x = c.slot-item.result in
-    let split = sym (take-append-drop i slots) ∙ ap (λ rest. take i slots ++ rest) (drop-cons slots i x c.loop-slot-test.true ∙ ap (λ y. y ∷ drop (suc i) slots) (sym c.slot-item.is)) in
-    (take i slots, drop (suc i) slots, x, split, (so_far.1, refused.1 ∙ so_far.0, refused.0 ∙ ap (λ column. refused_growth (slot_overflows P.overflows column x)) (sym refused.1)))
+    let split = sym (take-append-drop i slots)
+    ∙ ap (λ rest. take i slots ++ rest) (drop-cons slots i x c.loop-slot-test.true
+    ∙ ap (λ y. y ∷ drop (suc i) slots) (sym c.slot-item.is)) in (
+      take i slots,
+      drop (suc i) slots,
+      x,
+      split,
+      (
+        so_far.1,
+        refused.1 ∙ so_far.0,
+        refused.0
+            ∙ ap (λ column. refused_growth (slot_overflows P.overflows column x)) (sym refused.1),
+      ),
+    )

@@ -4,6 +4,8 @@ use Rattle.arrow_column.proofs.growing.GrowingColumn.extend_from_values.Given as
 
 abbrev pub invariant-loop-value : goal.invariant-loop-value
 invariant-loop-value g l =
-    (l.self ≡ append_slots g.V.MutableValues.default l.fn.self (map (λ x. Some (g.V.PushValue.shown x)) (take l.value-index l.values)))
-    × (slots_fit g.V.PushValue.overflows g.V.PushValue.shown g.V.MutableValues.default l.fn.self (map Some (take l.value-index l.values)) ≡ true)
+    (l.self ≡ append_slots g.V.MutableValues.default l.fn.self (map (λ x. Some (g.V.PushValue.shown x))
+    (take l.value-index l.values)))
+    × (slots_fit g.V.PushValue.overflows g.V.PushValue.shown g.V.MutableValues.default l.fn.self
+    (map Some (take l.value-index l.values)) ≡ true)
     × (l.self.data_type ≡ l.fn.self.data_type)

@@ -11,7 +11,9 @@ loop-value-preserved g c =
     let pushed = c.in_ok-push_valid.ensures.ok in
     let xs = c.loop-value.yielded in
     let x = c.in-Some.value in (
-      pushed.1 ∙ ap (λ column. append_slot V.default column (Some (P.shown x))) so_far.0 ∙ sym (values-more P.shown V.default c.args.self.now xs x),
-      values-fit P.overflows P.shown V.default c.args.self.now xs x so_far.1 (ap (λ column. slot_overflows P.overflows column (Some x)) (sym so_far.0) ∙ pushed.0),
+      pushed.1 ∙ ap (λ column. append_slot V.default column (Some (P.shown x))) so_far.0
+          ∙ sym (values-more P.shown V.default c.args.self.now xs x),
+      values-fit P.overflows P.shown V.default c.args.self.now xs x so_far.1
+          (ap (λ column. slot_overflows P.overflows column (Some x)) (sym so_far.0) ∙ pushed.0),
       c.in_ok-push_valid.ensures.data_type ∙ so_far.2,
     )

@@ -7,6 +7,7 @@ returns-clause-ok g c =
     let column = c.self.inside in
     let V = g.V.MutableValues in
     on-ok c.push_default.result (λ pushed.
-    unmasked-push (logical_type column.data_type) (V.around column.values) (V.around c.push_default.new.self) (V.stored column.values) (V.stored c.push_default.new.self) column.validity V.default c.args.self.now
+    unmasked-push (logical_type column.data_type) (V.around column.values) (V.around c.push_default.new.self)
+    (V.stored column.values) (V.stored c.push_default.new.self) column.validity V.default c.args.self.now
     c.self.view_is c.requires pushed c.push_default.ensures.around
     ) c.push_default.ensures.ok

@@ -14,8 +14,10 @@ returns-clause-mark g c =
     let column = c.self.inside in
     let V = g.V.MutableValues in
     let seen = rw (← c.self.view_is) at c.requires in
-    let some : 0 < length (V.stored column.values) = subst (λ n. 0 < n) (length-rows (V.stored column.values) column.validity c.self.invariant) seen in
-    rw (← c.self.view_is) (popped-mark (V.stored column.values) column.validity c.pop_mark.new.validity c.pop_mark.result c.self.invariant some c.pop_mark.ensures)
+    let some : 0 < length (V.stored column.values) =
+    subst (λ n. 0 < n) (length-rows (V.stored column.values) column.validity c.self.invariant) seen in
+    rw (← c.self.view_is) (popped-mark (V.stored column.values) column.validity c.pop_mark.new.validity
+    c.pop_mark.result c.self.invariant some c.pop_mark.ensures)
 
 pub returns-clause-null : goal.returns-clause-null
 returns-clause-null g c = λ null.
@@ -31,6 +33,8 @@ pub returns-clause-rest : goal.returns-clause-rest
 returns-clause-rest g c =
     let column = c.self.inside in
     let V = g.V.MutableValues in
-    popped-column (logical_type column.data_type) (V.around column.values) (V.around c.drop_last.new.self) (V.stored column.values) (V.stored c.drop_last.new.self)
-    column.validity c.pop_mark.new.validity c.pop_mark.result c.self.invariant c.drop_last.ensures.stored c.pop_mark.ensures c.drop_last.ensures.around
+    popped-column (logical_type column.data_type) (V.around column.values) (V.around c.drop_last.new.self)
+    (V.stored column.values) (V.stored c.drop_last.new.self)
+    column.validity c.pop_mark.new.validity c.pop_mark.result c.self.invariant c.drop_last.ensures.stored
+    c.pop_mark.ensures c.drop_last.ensures.around
     ∙ ap without_last c.self.view_is

@@ -11,5 +11,8 @@ returns c = λ i low. (
       (within, (c.mask_byte.ensures i low within).0 both.1),
   λ is.
       let inside : i < c.args.count - 8 * c.args.byte = omega (arith, is.0) in
-      (both-bits c.mask_byte.result c.first_bits.result i).1 ((c.first_bits.ensures i low).1 inside, (c.mask_byte.ensures i low is.0).1 is.1),
+      (both-bits c.mask_byte.result c.first_bits.result i).1 (
+        (c.first_bits.ensures i low).1 inside,
+        (c.mask_byte.ensures i low is.0).1 is.1,
+      ),
 )

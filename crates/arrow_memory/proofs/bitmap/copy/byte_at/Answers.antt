@@ -4,5 +4,6 @@ use Rattle.arrow_memory.proofs.bitmap.copy.byte_at.Goals as goal
 
 pub returns : goal.returns
 returns c = λ k low.
-    c.between.ensures k low ∙ mark_at-two c.args.bytes.now c.byte_or_clear-low.result c.byte_or_clear-high.result (c.args.place / 8) (c.args.place % 8) c.args.place
+    c.between.ensures k low ∙ mark_at-two c.args.bytes.now c.byte_or_clear-low.result c.byte_or_clear-high.result
+    (c.args.place / 8) (c.args.place % 8) c.args.place
     c.byte_or_clear-low.ensures c.byte_or_clear-high.ensures (omega arith) (omega arith) k low

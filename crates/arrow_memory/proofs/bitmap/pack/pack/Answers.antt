@@ -11,7 +11,9 @@ loop-index-preserved c =
       len = omega arith;
       room = omega arith;
       packed = λ k low. ap (λ bytes. mark_at bytes k) c.push_reserved.ensures.items
-          ∙ packed_byte c.args.values.now c.loop-index.bytes.items c.pack_byte.result index (8 * index) (8 * index + 8 - 8 * index) (8 * (index + 1)) (omega arith) refl (omega arith) (omega arith) c.loop-index.invariant.packed c.pack_byte.ensures k low;
+          ∙ packed_byte c.args.values.now c.loop-index.bytes.items c.pack_byte.result index (8 * index)
+          (8 * index + 8 - 8 * index) (8 * (index + 1)) (omega arith) refl (omega arith) (omega arith)
+          c.loop-index.invariant.packed c.pack_byte.ensures k low;
     }
 
 pub returns-clause-ok : goal.returns-clause-ok
@@ -22,9 +24,13 @@ returns-clause-ok c =
     elim c.if-whole-values.branch [
       | then-whole-values w ↦
           marks-packed values c.if-whole-values.bytes.items (λ k low.
-          ap (λ bytes. mark_at bytes.items k) w.bytes-is ∙ ap (λ bytes. mark_at bytes k) w.push_reserved-then-whole-values.ensures.items
-          ∙ packed_byte values c.loop-index.bytes.items w.pack_byte-then-whole-values.result index (8 * whole) (length values - 8 * whole) (length values) (omega arith) (omega arith) (omega arith) (omega arith) c.loop-index.invariant.packed w.pack_byte-then-whole-values.ensures k low)
+          ap (λ bytes. mark_at bytes.items k) w.bytes-is
+          ∙ ap (λ bytes. mark_at bytes k) w.push_reserved-then-whole-values.ensures.items
+          ∙ packed_byte values c.loop-index.bytes.items w.pack_byte-then-whole-values.result index (8 * whole)
+          (length values - 8 * whole) (length values) (omega arith) (omega arith) (omega arith) (omega arith)
+          c.loop-index.invariant.packed w.pack_byte-then-whole-values.ensures k low)
       | else-whole-values w ↦
           marks-packed values c.if-whole-values.bytes.items (λ k low.
-          ap (λ bytes. mark_at bytes.items k) w.bytes-is ∙ c.loop-index.invariant.packed k (omega (arith, w.if-whole-values.false)))
+          ap (λ bytes. mark_at bytes.items k) w.bytes-is
+          ∙ c.loop-index.invariant.packed k (omega (arith, w.if-whole-values.false)))
     ]

@@ -6,7 +6,8 @@ use Rattle.arrow_memory.proofs.bitmap.words.word_at.Goals as goal
 
 pub returns-then-shift-eq0 : goal.returns-then-shift-eq0
 returns-then-shift-eq0 c k low =
-    c.whole_word-word.ensures k low ∙ ap (mark_at c.args.bytes.now) (let e : 8 * (c.args.place / 8) + k ≡ c.args.place + k = omega arith in e)
+    c.whole_word-word.ensures k low ∙ ap (mark_at c.args.bytes.now) (let e : 8 * (c.args.place / 8) + k
+    ≡ c.args.place + k = omega arith in e)
 
 pub returns : goal.returns
 returns c k low =
@@ -19,5 +20,6 @@ returns c k low =
           ∙ ap (mark_at bytes) (let e : 8 * (c.args.place / 8) + (shift + k) ≡ c.args.place + k = omega arith in e)
       | inr past ↦
           ap (λ b. b == 1) (c.moved_word.ensures.high k low past)
-          ∙ bit-mark bytes (c.args.place / 8 + 8) (get_or bytes (c.args.place / 8 + 8) 0) (shift + k - 64) (c.args.place + k) refl (omega arith) (omega arith)
+          ∙ bit-mark bytes (c.args.place / 8 + 8) (get_or bytes (c.args.place / 8 + 8) 0) (shift + k - 64)
+          (c.args.place + k) refl (omega arith) (omega arith)
     ]

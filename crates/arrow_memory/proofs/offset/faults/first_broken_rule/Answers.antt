@@ -7,5 +7,7 @@ pub returns-clause-within : goal.returns-clause-within
 returns-clause-within g c = λ _.
     let loop = c.loop-offset in
     let number = g.O.Offset.number in
-    let seen = ap (λ xs. last_after loop.before (map number xs)) (drop_all loop.offset-index c.args.offsets.now (omega arith)) in
-    end-within number c.args.offsets.now c.in-Some-try_to_usize.start loop.before g.O.Offset.most (sym seen ∙ loop.invariant.end c.if-falls.false) loop.invariant.within
+    let seen = ap (λ xs. last_after loop.before (map number xs)) (drop_all loop.offset-index c.args.offsets.now
+    (omega arith)) in
+    end-within number c.args.offsets.now c.in-Some-try_to_usize.start loop.before g.O.Offset.most (sym seen
+    ∙ loop.invariant.end c.if-falls.false) loop.invariant.within

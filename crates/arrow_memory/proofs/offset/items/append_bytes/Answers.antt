@@ -13,7 +13,15 @@ returns-clause-ok c =
     let word = c.in-Some-Some.ensures.cases in
     let end : c.len-before.result + length bytes ≡ length old + length bytes = omega (arith, c.len-before.ensures) in
     let twice = c.in_ok-extend_from_slice.ensures.items ∙ ap (λ ys. old ++ ys) c.as_flattened.ensures.value in
-    let fills : 8 ≤ length (first ++ []) = omega (arith, length-append first [], ap length word.same, length-take-le 8 bytes word.enough) in
+    let fills : 8 ≤ length (first ++ []) = omega (
+      arith,
+      length-append first [],
+      ap length word.same,
+      length-take-le 8 bytes word.enough,
+    ) in
     let cut = c.truncate.ensures.items ∙ ap₂ take end twice in
-    words-joined old bytes first (first ++ []) c.truncate.new.self.items word.enough (omega (arith, c.if-bytes-gt16.false)) word.same fills cut
-    last slice (drop (length (take (length slice - 8) slice ++ last)) c.truncate.new.self.items) c.truncate.new.self.len c.in-Some-Some.ensures'.cases.1.same c.as_mut_slice.ensures.value (omega (arith, c.truncate.ensures.len))
+    words-joined old bytes first (first ++ []) c.truncate.new.self.items word.enough
+    (omega (arith, c.if-bytes-gt16.false)) word.same fills cut
+    last slice (drop (length (take (length slice - 8) slice ++ last)) c.truncate.new.self.items)
+    c.truncate.new.self.len c.in-Some-Some.ensures'.cases.1.same c.as_mut_slice.ensures.value
+    (omega (arith, c.truncate.ensures.len))

@@ -8,7 +8,8 @@ loop-i-preserved g c =
     let number = g.O.Offset.number in
     let loop = c.loop-i in
     let ns = numbers_of number c.args.other.now in
-    let end : number c.from_as_usize.result ≡ pos (c.args.last + (c.number_at.result - c.number_at-first.result)) = c.from_as_usize.ensures in
+    let end : number c.from_as_usize.result ≡ pos (c.args.last + (c.number_at.result - c.number_at-first.result)) =
+    c.from_as_usize.ensures in
     moved-step number c.args.offsets.now loop.offsets c.args.place loop.i c.args.last c.from_as_usize.result ns
     (omega arith)
     (omega (arith, length-numbers number c.args.other.now))

@@ -6,4 +6,5 @@ use Rattle.arrow_memory.proofs.offset.numbers.write_moved.Given as goal
 abbrev pub invariant-loop-i : goal.invariant-loop-i
 invariant-loop-i g l =
     let number = g.O.Offset.number in
-    map number (take (l.place + l.i) l.offsets) ≡ map number (take l.place l.fn.offsets) ++ map pos (take l.i (moved_behind l.last (numbers_of number l.other)))
+    map number (take (l.place + l.i) l.offsets) ≡ map number (take l.place l.fn.offsets)
+    ++ map pos (take l.i (moved_behind l.last (numbers_of number l.other)))

@@ -4,7 +4,19 @@ use Rattle.arrow_primitive.proofs.SlotLemmas.{if-err, on-ok, never-over, same-sl
 use Rattle.arrow_primitive.proofs.builder.MutablePrimitiveArray.extend.Goals as goal
 
 pub returns-clause-ok : goal.returns-clause-ok
-returns-clause-ok g c = rw (← c.self.view_is) (on-ok c.extend.result (λ done. (done.0, done.1, done.2.1 ∙ ap (append_slots g.T.NativeType.zero c.self.inside.column) (same-slots done.0))) c.extend.ensures.ok)
+returns-clause-ok g c = rw (← c.self.view_is) (on-ok c.extend.result (λ done.
+    (done.0, done.1, done.2.1 ∙ ap (append_slots g.T.NativeType.zero c.self.inside.column) (same-slots done.0)))
+    c.extend.ensures.ok)
 
 pub returns-clause-err : goal.returns-clause-err
-returns-clause-err g c = rw (← c.self.view_is) (if-err c.extend.result (λ e refused. (refused.4.2 ∙ ap refused_growth (never-over c.extend.new.self refused.1), (refused.0, refused.3.0, refused.3.1, refused.4.1 ∙ ap (append_slots g.T.NativeType.zero c.self.inside.column) (same-slots refused.0)))) c.extend.ensures.err)
+returns-clause-err g c =
+    rw (← c.self.view_is) (if-err c.extend.result (λ e refused. (
+      refused.4.2 ∙ ap refused_growth (never-over c.extend.new.self refused.1),
+      (
+        refused.0,
+        refused.3.0,
+        refused.3.1,
+        refused.4.1 ∙ ap (append_slots g.T.NativeType.zero c.self.inside.column) (same-slots refused.0),
+      ),
+    ))
+    c.extend.ensures.err)

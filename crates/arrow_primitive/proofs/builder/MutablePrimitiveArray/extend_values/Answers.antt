@@ -2,7 +2,10 @@ use Rattle.arrow_primitive.proofs.SlotLemmas.{if-err, on-ok}
 use Rattle.arrow_primitive.proofs.builder.MutablePrimitiveArray.extend_values.Goals as goal
 
 pub returns-clause-ok : goal.returns-clause-ok
-returns-clause-ok g c = rw (← c.self.view_is) (on-ok c.extend_values.result (λ done. (done.0, done.1, done.2.1)) c.extend_values.ensures.ok)
+returns-clause-ok g c = rw (← c.self.view_is) (on-ok c.extend_values.result (λ done. (done.0, done.1, done.2.1))
+    c.extend_values.ensures.ok)
 
 pub returns-clause-err : goal.returns-clause-err
-returns-clause-err g c = rw (← c.self.view_is) (if-err c.extend_values.result (λ e refused. (refused.4.2, (refused.0, refused.3.0, refused.3.1, refused.4.1))) c.extend_values.ensures.err)
+returns-clause-err g c =
+    rw (← c.self.view_is) (if-err c.extend_values.result (λ e refused.
+    (refused.4.2, (refused.0, refused.3.0, refused.3.1, refused.4.1))) c.extend_values.ensures.err)

@@ -9,7 +9,13 @@ returns c =
     let index = c.self.inside.index in
     let end = c.self.inside.end in
     let same : c.as_slice.result.now ≡ bytes = search rules in
-    let some : index < end = omega (arith, c.requires, length-marks bytes index (end - index), ap length c.self.view_is) in
+    let some : index < end = omega (
+      arith,
+      c.requires,
+      length-marks bytes index (end - index),
+      ap length c.self.view_is,
+    ) in
     let place : index + (end - 1 - index) ≡ end - 1 = omega (arith, some) in
     sym c.self.view_is ∙ marks-last bytes index (end - 1 - index) (end - index) (omega (arith, some))
-    ∙ ap (λ v. marks bytes index (end - 1 - index) ++ v ∷ []) (ap (mark_at bytes) place ∙ ap (λ xs. mark_at xs (end - 1)) (sym same) ∙ sym c.mark_of.ensures)
+    ∙ ap (λ v. marks bytes index (end - 1 - index) ++ v ∷ []) (ap (mark_at bytes) place
+    ∙ ap (λ xs. mark_at xs (end - 1)) (sym same) ∙ sym c.mark_of.ensures)

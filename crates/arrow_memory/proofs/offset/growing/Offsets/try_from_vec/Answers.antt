@@ -7,7 +7,8 @@ pub invariant_of-result : goal.invariant_of-result
 invariant_of-result g c =
     let number = g.O.Offset.number in
     let told = (c.in-None.ensures).text in
-    let calm : first_fault (map number c.args.offsets.items) ≡ None = ap (λ xs. first_fault (map number xs)) (sym c.deref.ensures.value) ∙ sym told in
+    let calm : first_fault (map number c.args.offsets.items) ≡ None =
+    ap (λ xs. first_fault (map number xs)) (sym c.deref.ensures.value) ∙ sym told in
     record {
       whole = faultless-whole _ calm;
       legal = faultless-legal _ calm;

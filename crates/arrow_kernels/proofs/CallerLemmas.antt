@@ -1,0 +1,4 @@
+-- What proofs of callers cite about kernels.
+
+-- Some of a list, as a filter or keys choose them: what is said of each of these is said of each of the list first.
+pub use Rattle.arrow_kernels.proofs.ChoiceLemmas.{keys-map, where-map}

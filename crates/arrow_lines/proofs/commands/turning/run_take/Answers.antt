@@ -1,8 +1,0 @@
-use Rattle.std.proofs.Common.{arith}
-use Rattle.std.proofs.lemmas.List.{map-id}
-use Rattle.arrow_lines.specs.Lines.{turning, request_behind}
-use Rattle.arrow_lines.proofs.commands.turning.run_take.Goals as goal
-
-pub returns-in-Some : goal.returns-in-Some
-unfolding turning request_behind
-returns-in-Some g c = grind (arith, map-id c.in-Some.keys.items)
