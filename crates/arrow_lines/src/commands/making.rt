@@ -275,7 +275,7 @@ fn are_parts<O: Width>(_entry: usize, kind: Kind, words: &[u8]) -> bool
 pub(crate) struct PartsLine;
 
 impl<O: Width> Line<O> for PartsLine {
-    type Rest = Only<Kind>;
+    type Rest = ();
 
     ghost reader = { λ e. next kind_of (λ kind. parts_of O.offset e (shape kind) (shape kind).sort) };
 

@@ -43,20 +43,23 @@ impl<O: Width> Bare<O> for NullableLine {
     }
 }
 
+/// The words of `to E TYPE` behind the number.
+type ToWords = Only<DataType>;
+
 /// `to E TYPE`
 pub(crate) struct ToLine;
 
 impl<O: Width> Line<O> for ToLine {
-    type Rest = Only<DataType>;
+    type Rest = ();
 
     ghost reader = { λ e. reads (only type_of) (λ t. at e (to t)) };
 
     fn is_line(_entry: usize, words: &[u8]) -> bool {
-        Self::Rest::are_words(words)
+        ToWords::are_words(words)
     }
 
     fn run(answering: &mut Answering, entry: usize, words: &[u8]) -> Answered {
-        match Self::Rest::of_words(*answering.text.allocator(), words)? {
+        match ToWords::of_words(*answering.text.allocator(), words)? {
             Some(Only(data_type)) => answer::<O>(answering, Command::To(entry, data_type)),
             None => Ok(false),
         }
