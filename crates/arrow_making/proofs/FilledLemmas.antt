@@ -1,6 +1,6 @@
 -- A new value that slots are appended to: it is what they make, and then an array of them where one is asked for; or
 -- none, where not all of them could be appended.
-use Rattle.std.proofs.Common.{◌≡◌, suc, Bool, true, false, not, ◌&&◌, nat_eq, List, [], ◌∷◌, length, map, take, Option, Some, None, if◌then◌else◌, refl, sym, ap, subst, ◌∙◌, arith, true≢false}
+use Rattle.std.proofs.Common.{◌≡◌, ℕ, suc, Bool, true, false, not, ◌&&◌, nat_eq, List, [], ◌∷◌, length, map, take, Option, Some, None, if◌then◌else◌, refl, sym, ap, ap₂, subst, ◌∙◌, arith, true≢false}
 use Rattle.std.proofs.lemmas.Bool.{eqb-true}
 use Rattle.std.proofs.lemmas.List.{take_all}
 use Rattle.std.proofs.lemmas.List.Folds.{list_all-append}
@@ -125,25 +125,33 @@ module _ {T : Type 0} (c : Types T) (sort : Sort) where
   valid-items d column (x ∷ items) =
       valid-items d (append_slot d column (Some x)) items ∙ list_all-append (λ row. row.1) column.rows ((x, true) ∷ []) ∙ and-yes (all_valid column)
 
-  needless : (column : ColumnWith Around (Stored T)) → column.held ≡ false → all_valid column ≡ true → without_needless_mask column ≡ column
-  needless column bare valid = ap (λ (held : Bool). record column { held = held }) (ap not valid ∙ sym bare)
+  around-items : (d : Stored T) (column : ColumnWith Around (Stored T)) (items : List (Stored T)) → (append_slots d column (map Some items)).around ≡ column.around
+  around-items d column [] = refl
+  around-items d column (x ∷ items) = around-items d (append_slot d column (Some x)) items
 
-  either-way : (b : Bool) (column : ColumnWith Around (Stored T)) → without_needless_mask column ≡ column → (if b then column else without_needless_mask column) ≡ column
-  either-way true column e = refl
-  either-way false column e = e
+  -- where nothing lies behind them and no mask is held, an array has the same column
+  abbrev tailless : ColumnWith Around (Stored T) → ColumnWith Around (Stored T)
+  tailless column = record column { around = record column.around { tail = [] } }
 
-  frozen-items : (column : ColumnWith Around (Stored T)) (items : List (Stored T)) → column.held ≡ false → all_valid column ≡ true
+  same-column : (b : Bool) (column : ColumnWith Around (Stored T)) → column.held ≡ false → all_valid column ≡ true → column.around.tail ≡ []
+      → (if b then tailless column else without_needless_mask (tailless column)) ≡ column
+  same-column true column bare valid none = ap (λ (tail : List ℕ). record column { around = record column.around { tail = tail } }) (sym none)
+  same-column false column bare valid none = ap₂ (λ (held : Bool) (tail : List ℕ). record column { held = held; around = record column.around { tail = tail } }) (ap not valid ∙ sym bare) (sym none)
+
+  frozen-items : (column : ColumnWith Around (Stored T)) (items : List (Stored T)) → column.held ≡ false → all_valid column ≡ true → column.around.tail ≡ []
       → frozen_value (grown c (of_group with_nulls column) (map Some items)) ≡ grown c (of_group frozen column) (map Some items)
-  frozen-items column items bare valid =
+  frozen-items column items bare valid none =
       let d = default_item c sort in
-      ap (of_group frozen) (either-way (is_boolean (shaped with_nulls sort)) (append_slots d column (map Some items)) (needless (append_slots d column (map Some items)) (held-items d column items ∙ bare) (valid-items d column items ∙ valid)))
+      ap (of_group frozen)
+      (same-column (is_boolean (shaped with_nulls sort)) (append_slots d column (map Some items)) (held-items d column items ∙ bare) (valid-items d column items ∙ valid)
+      (ap (λ (around : Around). around.tail) (around-items d column items) ∙ none))
 
   pub items-made : (group : Group) (items : List (Stored T)) (reply : Answer T) (kept : Option (Value T))
       → Filled c (empty_value c (shaped (builder_group group) sort)) (map Some items) (λ w. if same_group group frozen then frozen_value w else w) reply kept
       → Filled c (empty_value c (shaped group sort)) (map Some items) (λ w. w) reply kept
   items-made frozen items reply kept h =
       let column = (empty_value c (shaped frozen sort)).column in
-      other-group with_nulls frozen column (map Some items) (λ w. frozen_value w) (λ w. w) reply kept (frozen-items column items refl refl) h
+      other-group with_nulls frozen column (map Some items) (λ w. frozen_value w) (λ w. w) reply kept (frozen-items column items refl refl refl) h
   items-made with_nulls items reply kept h = h
   items-made values_alone items reply kept h = h
 

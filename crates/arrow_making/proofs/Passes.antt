@@ -1,151 +1,111 @@
--- How a row of tests follows from what a call says of each test, and what the test of texts costs.
-use Rattle.std.proofs.Common.{◌≡◌, ◌≢◌, ◌<◌, ◌≤◌, ◌∙◌, ◌==◌, ℕ, ℤ, Bool, true, false, not, ◌||◌, is_none, List, [], ◌∷◌, length, map, option_map, unsigned_abs, IfSome, MatchOption, arith, Option, Some, None, Result, Ok, Err, refl, sym, ap, subst, IsErrAnd, IsOkAnd}
-use Rattle.std.proofs.lemmas.Bool.{eqb-true, eq-eqb, false≢true}
-use Rattle.std.proofs.lemmas.List.{length-map}
-use Rattle.arrow_types.specs.Types.{LogicalType, IsRightType, Refusal, refusal, out_of_spec, out_of_memory}
+-- How a row of tests follows from what a call says of them, and what the test of texts costs.
+use Rattle.std.proofs.Common.{◌≡◌, ◌∙◌, ℕ, ℤ, Bool, true, false, not, ◌||◌, is_none, List, [], map, option_map, unsigned_abs, unwrap_or, IfSome, IfOk, IfErr, MatchOption, Option, Some, None, Result, Ok, Err, refl, sym, ap, subst, subst₂, inl, inr}
+use Rattle.std.specs.Prelude.{⊤}
+use Rattle.arrow_types.specs.Types.{LogicalType, Refusal, refusal, out_of_spec, out_of_memory}
 use Rattle.arrow_types.specs.declared.error.Error.{Error}
 use Rattle.arrow_types.specs.declared.error.Error.TheVariants as error
 use Rattle.arrow_types.specs.declared.physical_type.PhysicalType.{PhysicalType}
-use Rattle.arrow_types.specs.declared.physical_type.PhysicalType.TheVariants as physical
-use Rattle.arrow_memory.specs.Rows.{FitsMask}
-use Rattle.arrow_column.specs.Column.{Column, column_of_parts, column_with, unfit_mask, unfit_builder_mask}
+use Rattle.arrow_column.specs.Acceptance.{Tests, accept, test, Passes, IsFirstFailure}
+use Rattle.arrow_column.specs.Column.{Column, column_of_parts}
 use Rattle.arrow_memory.specs.Marks.{bits_past_bytes}
-use Rattle.arrow_memory.specs.Offsets.{first_fault, last_of}
-use Rattle.arrow_check.specs.Bounds.{past_values, not_at_end}
+use Rattle.arrow_memory.specs.Offsets.{first_fault}
 use Rattle.arrow_check.specs.Pieces.{items_of}
 use Rattle.arrow_check.specs.Reading.{Cost}
-use Rattle.arrow_check.specs.Texts.{not_text}
 use Rattle.arrow_bytes.specs.Column.{ByteColumn, byte_column}
-use Rattle.arrow_bytes.specs.Kinds.{AreItems, BuilderCosts, Costs, CutItems, TestsOnce}
+use Rattle.arrow_bytes.specs.Kinds.{BuilderCosts, Costs}
 use Rattle.arrow_bytes.specs.Pieces.{around_of, nothing_around}
 use Rattle.arrow_primitive.specs.Fits as primitive
-use Rattle.arrow_entry.specs.Answer.{Answer, refused, is_memory, is_not_met}
-use Rattle.arrow_entry.specs.Entry.{Value, Types, native_value, boolean_value, piece_value}
+use Rattle.arrow_entry.specs.declared.kind.Kind.{Kind}
+use Rattle.arrow_entry.specs.declared.kind.Kind.TheVariants as kind
+use Rattle.arrow_entry.specs.Answer.{not_met, refused, is_memory, is_not_met}
+use Rattle.arrow_entry.specs.Entry.{Value, Types, layout, native_value, boolean_value, piece_value}
 use Rattle.arrow_entry.specs.Item.{value, bit, piece}
-use Rattle.arrow_entry.specs.Kind.{Group, native, boolean, pieces, Shape, shaped, frozen, is_frozen, is_pieces, is_text, is_values_alone}
+use Rattle.arrow_entry.specs.Kind.{Group, frozen, with_nulls, values_alone, native, boolean, pieces, shape, shaped, is_frozen, is_pieces, is_text, is_values_alone}
 use Rattle.arrow_entry.specs.Request.{Packed, make, packed, parts, cut_pieces}
 use Rattle.arrow_entry.specs.Request as given
-use Rattle.arrow_entry.specs.Parts.{BitsFit, PartsCost, PartsRow, bits_tested, marks_in, offsets_tested, wrong_type}
-use Rattle.arrow_entry.specs.Row.{Row, leaves, memory, passes}
-use Rattle.arrow_entry.specs.Run.{CostsAtMost}
+use Rattle.arrow_entry.specs.Parts.{BitsFit, PartsCost, PartsRow, accepted, bits_test, boolean_tests, made, marks_in, offsets_test, pieces_tests, wrong_type}
+use Rattle.arrow_entry.specs.Row.{memory}
 use Rattle.arrow_entry.specs.Outcome.{IsKindOf, MadeBy, Untaken, UnlessMemory, reply_of}
-use Rattle.arrow_entry.proofs.Seen.{parts-seen}
-use Rattle.arrow_entry.proofs.Costs.{costs-still}
+use Rattle.arrow_entry.proofs.CallerLemmas.{parts-seen}
 
-module _ {T A : Type 0} (value : A → Value T) where
-  refused-row : (result : Result A Error) (why : Refusal) → IsErrAnd result (λ e. refusal e ≡ why) → MadeBy value result (λ reply new. (reply ≡ refused why) × (new ≡ None))
-  refused-row (Ok a) why e = absurd e
-  refused-row (Err error) why e = (ap refused e, refl)
+-- a call says that what it made passed all tests, or else which is the first that failed
+pub record Says {A : Type 0} (tests : Tests) (column : A) (result : Result A Error) : Type 0 where
+  pub ok : IfOk result (λ a. Passes tests × (a ≡ column))
+  pub err : IfErr result (λ e. IsFirstFailure tests (refusal e))
 
-  -- one test, and the rest
-  pub passes-row : (P : Type 0) (why : Refusal) (row : Row T) (result : Result A Error)
-      → ((P → ⊥) → IsErrAnd result (λ e. refusal e ≡ why)) → (P → MadeBy value result row) → MadeBy value result (passes None P why row)
-  passes-row P why row result fails holds = (holds, λ not. refused-row result why (fails not))
+-- a test before these that is passed
+pub after : {A : Type 0} (P : Type 0) (why : Refusal) (tests : Tests) (column : A) (result : Result A Error) → P → Says tests column result → Says (test P why tests) column result
+after P why tests column (Ok a) p says = record { ok = ((p, says.ok.0), says.ok.1); err = tt }
+after P why tests column (Err e) p says = record { ok = tt; err = (λ no. absurd (no p), λ _. says.err) }
 
-  -- all tests are passed
-  pub made-row : (v : Value T) (result : Result A Error) → IsOkAnd result (λ a. value a ≡ v) → MadeBy value result (leaves v)
-  made-row v (Ok a) e = (refl, ap Some e)
-  made-row v (Err error) e = absurd e
+-- one that fails
+unfit : (P : Type 0) (why r : Refusal) (tests : Tests) → (P → ⊥) × (r ≡ why) → IsFirstFailure (test P why tests) r
+unfit P why r tests h = (λ _. h.1, λ p. absurd (h.0 p))
 
-  -- want of memory is another matter
-  pub memory-row : (row : Row T) (result : Result A Error) → MadeBy value result row → MadeBy value result (memory None row)
-  memory-row row (Ok a) h = h
-  memory-row row (Err (error.OutOfSpec t)) h = h
-  memory-row row (Err error.Overflow) h = h
-  memory-row row (Err error.OutOfMemory) h = refl
+module _ {T : Type 0} (v : Value T) (tests : Tests) where
+  -- then the row of these tests holds
+  pub said-row : {A : Type 0} (shown : A → Value T) (column : A) (result : Result A Error) → shown column ≡ v → Says tests column result → MadeBy shown result (memory None (accepted tests v))
+  said-row shown column (Ok a) is says = inl (says.ok.0, (refl, ap Some (ap shown says.ok.1 ∙ is)))
+  said-row shown column (Err (error.OutOfSpec text)) is says = inr (out_of_spec text.now, says.err, (refl, refl))
+  said-row shown column (Err error.Overflow) is says = inr (refusal error.Overflow, says.err, (refl, refl))
+  said-row shown column (Err error.OutOfMemory) is says = refl
 
-  -- a test that is known to be passed
-  pub passed-row : (P : Type 0) (why : Refusal) (row : Row T) (result : Result A Error) → P → MadeBy value result row → MadeBy value result (passes None P why row)
-  passed-row P why row result p h = (λ _. h, λ not. absurd (not p))
+  -- and of vectors that are not taken
+  failed-row : (e : Error) → UnlessMemory e (IsFirstFailure tests (refusal e)) → memory None (accepted tests v) (refused (refusal e)) None
+  failed-row (error.OutOfSpec text) fails = inr (out_of_spec text.now, fails, (refl, refl))
+  failed-row error.Overflow fails = inr (refusal error.Overflow, fails, (refl, refl))
+  failed-row error.OutOfMemory fails = refl
 
-  ok-and : {P Q : A → Type 0} (result : Result A Error) → ((a : A) → P a → Q a) → IsOkAnd result P → IsOkAnd result Q
-  ok-and (Ok a) f p = f a p
-  ok-and (Err e) f p = p
+unless : {P Q : Type 0} (e : Error) → (P → Q) → UnlessMemory e P → UnlessMemory e Q
+unless (error.OutOfSpec text) f p = f p
+unless error.Overflow f p = f p
+unless error.OutOfMemory f p = tt
 
-  -- offsets that are known to be legal
-  legal-row : (c : Types T) (s : Shape) (t : LogicalType) (mask : Option Packed) (numbers : List ℤ) (row : Row T) (result : Result A Error)
-      → first_fault numbers ≡ None → MadeBy value result row → MadeBy value result (offsets_tested c s t mask numbers row)
-  legal-row c s t mask numbers row result e h = rw e h
+-- bits that are past their bytes
+bits-row : {T : Type 0} (v : Value T) (bits : Option Packed) (tests : Tests) (e : Error) → UnlessMemory e ((IfSome bits BitsFit → ⊥) × (refusal e ≡ bits_past_bytes))
+    → memory None (accepted (bits_test bits tests) v) (refused (refusal e)) None
+bits-row v bits tests e h = failed-row v (bits_test bits tests) e (unless e (unfit (IfSome bits BitsFit) bits_past_bytes (refusal e) tests) h)
 
-  -- two tests, of which the second is made where the first is passed
-  two-tests : (P Q : Type 0) (why₁ why₂ : Refusal) (column : A) (v : Value T) (result : Result A Error) → value column ≡ v
-      → (P → Q → IsOkAnd result (λ a. a ≡ column))
-      → ((P → ⊥) → IsErrAnd result (λ e. refusal e ≡ why₁))
-      → (P → (Q → ⊥) → IsErrAnd result (λ e. refusal e ≡ why₂))
-      → MadeBy value result (passes None P why₁ (passes None Q why₂ (leaves v)))
-  two-tests P Q why₁ why₂ column v result is fit first second =
-      passes-row P why₁ (passes None Q why₂ (leaves v)) result first (λ p.
-      passes-row Q why₂ (leaves v) result (second p) (λ q.
-      made-row v result (ok-and result (λ a e. ap value e ∙ is) (fit p q))))
+-- the same of a mask, where the bits of the values before it are not
+mask-row : {T : Type 0} (v : Value T) (bits mask : Option Packed) (tests : Tests) (e : Error) → IfSome bits BitsFit → UnlessMemory e ((IfSome mask BitsFit → ⊥) × (refusal e ≡ bits_past_bytes))
+    → memory None (accepted (bits_test bits (bits_test mask tests)) v) (refused (refusal e)) None
+mask-row v bits mask tests e fit h =
+    failed-row v (bits_test bits (bits_test mask tests)) e (unless e (λ fails. (λ no. absurd (no fit), λ _. unfit (IfSome mask BitsFit) bits_past_bytes (refusal e) tests fails)) h)
 
-  -- four tests, of which each is made where those before are passed
-  four-tests : (P₁ P₂ P₃ P₄ : Type 0) (why₁ why₂ why₃ why₄ : Refusal) (column : A) (v : Value T) (result : Result A Error) → value column ≡ v
-      → (P₁ → P₂ → P₃ → P₄ → IsOkAnd result (λ a. a ≡ column))
-      → ((P₁ → ⊥) → IsErrAnd result (λ e. refusal e ≡ why₁))
-      → (P₁ → (P₂ → ⊥) → IsErrAnd result (λ e. refusal e ≡ why₂))
-      → (P₁ → P₂ → (P₃ → ⊥) → IsErrAnd result (λ e. refusal e ≡ why₃))
-      → (P₁ → P₂ → P₃ → (P₄ → ⊥) → IsErrAnd result (λ e. refusal e ≡ why₄))
-      → MadeBy value result (passes None P₁ why₁ (passes None P₂ why₂ (passes None P₃ why₃ (passes None P₄ why₄ (leaves v)))))
-  four-tests P₁ P₂ P₃ P₄ why₁ why₂ why₃ why₄ column v result is fit first second third fourth =
-      passes-row P₁ why₁ (passes None P₂ why₂ (passes None P₃ why₃ (passes None P₄ why₄ (leaves v)))) result first (λ p₁.
-      passes-row P₂ why₂ (passes None P₃ why₃ (passes None P₄ why₄ (leaves v))) result (second p₁) (λ p₂.
-      two-tests P₃ P₄ why₃ why₄ column v result is (fit p₁ p₂) (third p₁ p₂) (fourth p₁ p₂)))
+-- offsets that are at fault, or a mask
+untaken : (numbers : List ℤ) (mask : Option Packed) (tests : Tests) (r : Refusal) (found : Option (List ℕ)) → first_fault numbers ≡ found
+    → MatchOption found ((IfSome mask BitsFit → ⊥) × (r ≡ bits_past_bytes)) (λ fault. r ≡ out_of_spec fault) → IsFirstFailure (offsets_test numbers (bits_test mask tests)) r
+untaken numbers mask tests r None e h = (λ no. absurd (no e), λ _. unfit (IfSome mask BitsFit) bits_past_bytes r tests h)
+untaken numbers mask tests r (Some fault) e h = (λ _. h ∙ ap (λ (found : Option (List ℕ)). out_of_spec (unwrap_or found [])) (sym e), λ none. absurd (clash fault (sym e ∙ none)))
+  where
+    clash : (fault : List ℕ) → Some fault ≡ None → ⊥
+    clash fault e = cc
 
--- a vector that is not taken since its bits are past its bytes, unless for want of memory
-pub untaken-row : {T : Type 0} (P : Type 0) (why : Refusal) (row : Row T) (e : Error) → UnlessMemory e ((P → ⊥) × (refusal e ≡ why)) → memory None (passes None P why row) (refused (refusal e)) None
-untaken-row P why row (error.OutOfSpec t) h = (λ p. absurd (h.0 p), λ _. (ap refused h.1, refl))
-untaken-row P why row error.Overflow h = (λ p. absurd (h.0 p), λ _. (ap refused h.1, refl))
-untaken-row P why row error.OutOfMemory h = refl
+untaken-row : {T : Type 0} (v : Value T) (numbers : List ℤ) (mask : Option Packed) (tests : Tests) (e : Error) → Untaken mask numbers e
+    → memory None (accepted (offsets_test numbers (bits_test mask tests)) v) (refused (refusal e)) None
+untaken-row v numbers mask tests e h = failed-row v (offsets_test numbers (bits_test mask tests)) e (unless e (untaken numbers mask tests (refusal e) (first_fault numbers) refl) h)
 
--- native values and truth values of parts: what `try_new` says of each test makes their row
-module _ {T : Type 0} (c : Types T) (group : Group) (t u : LogicalType) (mask : Option Packed) (marks : Option (List Bool)) (is-type : u ≡ t) (bits : IfSome mask BitsFit) (is-marks : marks ≡ option_map marks_in mask) where
-  pub values-row : (xs values : List T) (result : Result (Column T) Error) → values ≡ xs
-      → (FitsMask values marks → IsRightType (physical.Primitive c.primitive) u → IsOkAnd result (λ a. a ≡ column_of_parts u values marks))
-      → ((FitsMask values marks → ⊥) → IsErrAnd result (λ e. refusal e ≡ unfit_mask))
-      → (FitsMask values marks → (IsRightType (physical.Primitive c.primitive) u → ⊥) → IsErrAnd result (λ e. refusal e ≡ primitive.wrong_type))
+-- native values and truth values of parts: what `try_new` says of the tests makes their row
+module _ {T : Type 0} (c : Types T) (group : Group) (t : LogicalType) (mask : Option Packed) (marks : Option (List Bool)) (fit : IfSome mask BitsFit) (is-marks : marks ≡ option_map marks_in mask) where
+  pub values-made : (xs values : List T) (result : Result (Column T) Error) → values ≡ xs → Says (primitive.parts_tests c.primitive t values marks) (column_of_parts t values marks) result
       → MadeBy (native_value group) result (PartsRow c (shaped group native) t mask (given.values xs))
-  values-row xs values result is-values fit first second =
-      let v : Value T = record { shape = shaped group native; column = column_with u nothing_around (map value values) marks } in
-      let tested : Row T = passes None (FitsMask values marks) unfit_mask (passes None (IsRightType (physical.Primitive c.primitive) u) primitive.wrong_type (leaves v)) in
-      let whole : MadeBy (native_value group) result (memory None (passes None (IfSome mask BitsFit) bits_past_bytes tested)) =
-      memory-row (native_value group) (passes None (IfSome mask BitsFit) bits_past_bytes tested) result
-      (passed-row (native_value group) (IfSome mask BitsFit) bits_past_bytes tested result bits
-      (two-tests (native_value group) (FitsMask values marks) (IsRightType (physical.Primitive c.primitive) u) unfit_mask primitive.wrong_type (column_of_parts u values marks) v result
-      (ap (λ column. let w : Value T = record { shape = shaped group native; column = column } in w) (parts-seen (λ _. nothing_around) value u tt values marks))
-      fit first second)) in
-      rw (← is-type, ← is-values, ← is-marks) whole
+  values-made xs values result is-values says =
+      let tests = primitive.parts_tests c.primitive t values marks in
+      let v : Value T = native_value group (column_of_parts t values marks) in
+      let whole : MadeBy (native_value group) result (memory None (accepted (bits_test mask tests) v)) =
+      said-row v (bits_test mask tests) (native_value group) (column_of_parts t values marks) result refl (after (IfSome mask BitsFit) bits_past_bytes tests (column_of_parts t values marks) result fit says) in
+      rw (← is-values, ← is-marks, ← parts-seen {T = T} (λ _. nothing_around) value t tt values marks) whole
 
-  pub bits-row : (wrong : Refusal) (p : Packed) (values : List Bool) (result : Result (Column Bool) Error)
-      → wrong ≡ wrong_type boolean (is_frozen (shaped group boolean)) → BitsFit p → values ≡ marks_in p
-      → (FitsMask values marks → IsRightType physical.Boolean u → IsOkAnd result (λ a. a ≡ column_of_parts u values marks))
-      → ((FitsMask values marks → ⊥) → IsErrAnd result (λ e. refusal e ≡ unfit_mask))
-      → (FitsMask values marks → (IsRightType physical.Boolean u → ⊥) → IsErrAnd result (λ e. refusal e ≡ wrong))
+  pub bits-made : (p : Packed) (values : List Bool) (result : Result (Column Bool) Error) → BitsFit p → values ≡ marks_in p → Says (boolean_tests group t values marks) (column_of_parts t values marks) result
       → MadeBy (boolean_value group) result (PartsRow c (shaped group boolean) t mask (packed p))
-  bits-row wrong p values result is-wrong bits₁ is-values fit first second =
-      let v : Value T = record { shape = shaped group boolean; column = column_with u nothing_around (map bit values) marks } in
-      let tested : Row T = passes None (FitsMask values marks) unfit_mask (passes None (IsRightType physical.Boolean u) wrong (leaves v)) in
-      let masked : Row T = passes None (IfSome mask BitsFit) bits_past_bytes tested in
-      let whole : MadeBy (boolean_value group) result (memory None (passes None (BitsFit p) bits_past_bytes masked)) =
-      memory-row (boolean_value group) (passes None (BitsFit p) bits_past_bytes masked) result
-      (passed-row (boolean_value group) (BitsFit p) bits_past_bytes masked result bits₁
-      (passed-row (boolean_value group) (IfSome mask BitsFit) bits_past_bytes tested result bits
-      (two-tests (boolean_value group) (FitsMask values marks) (IsRightType physical.Boolean u) unfit_mask wrong (column_of_parts u values marks) v result
-      (ap (λ column. let w : Value T = record { shape = shaped group boolean; column = column } in w) (parts-seen (λ _. nothing_around) bit u tt values marks))
-      fit first second))) in
-      rw (← is-type, ← is-wrong, ← is-values, ← is-marks) whole
-
--- vectors that are not taken
-module _ {T : Type 0} (c : Types T) (s : Shape) (t : LogicalType) (mask : Option Packed) (numbers : List ℤ) where
-  faulty-row : (row : Row T) (r : Refusal) (found : Option (List ℕ)) → first_fault numbers ≡ found
-      → MatchOption found ((IfSome mask BitsFit → ⊥) × (r ≡ bits_past_bytes)) (λ fault. r ≡ out_of_spec fault)
-      → offsets_tested c s t mask numbers (bits_tested c s t mask mask row) (refused r) None
-  faulty-row row r None e h = rw e (λ bits. absurd (h.0 bits), λ _. (ap refused h.1, refl))
-  faulty-row row r (Some fault) e h = rw e (ap refused h, refl)
-
-  pub faults-row : (row : Row T) (e : Error) → Untaken mask numbers e → memory None (offsets_tested c s t mask numbers (bits_tested c s t mask mask row)) (refused (refusal e)) None
-  faults-row row (error.OutOfSpec x) h = faulty-row row (out_of_spec x.now) (first_fault numbers) refl h
-  faults-row row error.Overflow h = faulty-row row (refusal error.Overflow) (first_fault numbers) refl h
-  faults-row row error.OutOfMemory h = refl
+  bits-made p values result fits is-values says =
+      let tests = boolean_tests group t values marks in
+      let column = column_of_parts t values marks in
+      let v : Value T = boolean_value group column in
+      let whole : MadeBy (boolean_value group) result (memory None (accepted (bits_test (Some p) (bits_test mask tests)) v)) =
+      said-row v (bits_test (Some p) (bits_test mask tests)) (boolean_value group) column result refl
+      (after (IfSome (Some p) BitsFit) bits_past_bytes (bits_test mask tests) column result fits (after (IfSome mask BitsFit) bits_past_bytes tests column result fit says)) in
+      rw (← is-values, ← is-marks, ← parts-seen {T = T} (λ _. nothing_around) bit t tt values marks) whole
 
 -- of what is cut out of bytes it is known which kind it is
 pieces-sort : (group : Group) (text : Bool) → is_pieces (shaped group (pieces text)) ≡ true
@@ -157,188 +117,105 @@ text-sort group true = refl
 text-sort group false = refl
 
 -- no test is refused for want of memory
-wrong-other : (text is_frozen : Bool) → wrong_type (pieces text) is_frozen ≢ out_of_memory
+abbrev NoMemory : Tests → Type 0
+NoMemory accept = ⊤
+NoMemory (test P why tests) = (why ≡ out_of_memory → ⊥) × NoMemory tests
+
+never : (tests : Tests) → NoMemory tests → IsFirstFailure tests out_of_memory → ⊥
+never accept other fails = fails
+never (test P why tests) other fails = other.0 (sym (fails.0 (λ p. never tests other.1 (fails.1 p))))
+
+not-memory : (T : Type 0) {A : Type 0} (tests : Tests) (column : A) (result : Result A Error) → NoMemory tests → Says tests column result → is_memory (reply_of {T = T} result) ≡ false
+not-memory T tests column (Ok a) other says = refl
+not-memory T tests column (Err (error.OutOfSpec text)) other says = refl
+not-memory T tests column (Err error.Overflow) other says = refl
+not-memory T tests column (Err error.OutOfMemory) other says = absurd (never tests other says.err)
+
+wrong-other : (text is_frozen : Bool) → wrong_type (pieces text) is_frozen ≡ out_of_memory → ⊥
 wrong-other true true e = cc
 wrong-other true false e = cc
 wrong-other false true e = cc
 wrong-other false false e = cc
 
-refusal-in : {T : Type 0} → Answer T → Refusal
-refusal-in (refused r) = r
-refusal-in _ = out_of_memory
+spec-other : (text : List ℕ) → out_of_spec text ≡ out_of_memory → ⊥
+spec-other text e = cc
 
-passes-other : {T : Type 0} (P : Type 0) (why : Refusal) (row : Row T) → why ≢ out_of_memory → (row (refused out_of_memory) None → ⊥) → passes None P why row (refused out_of_memory) None → ⊥
-unfolding refusal-in
-passes-other P why row other rest h = other (sym (ap refusal-in (h.1 (λ p. rest (h.0 p))).0))
-
-leaves-other : {T : Type 0} (v : Value T) → leaves v (refused out_of_memory) None → ⊥
-leaves-other v h = cc
-
-four-other : {T A : Type 0} (value : A → Value T) (P₁ P₂ P₃ P₄ : Type 0) (why₁ why₂ why₃ why₄ : Refusal) (v : Value T) (result : Result A Error)
-    → why₁ ≢ out_of_memory → why₂ ≢ out_of_memory → why₃ ≢ out_of_memory → why₄ ≢ out_of_memory
-    → MadeBy value result (passes None P₁ why₁ (passes None P₂ why₂ (passes None P₃ why₃ (passes None P₄ why₄ (leaves v)))))
-    → is_memory (reply_of {T = T} result) ≡ false
-four-other of P₁ P₂ P₃ P₄ why₁ why₂ why₃ why₄ v (Ok a) o₁ o₂ o₃ o₄ h = refl
-four-other of P₁ P₂ P₃ P₄ why₁ why₂ why₃ why₄ v (Err (error.OutOfSpec x)) o₁ o₂ o₃ o₄ h = refl
-four-other of P₁ P₂ P₃ P₄ why₁ why₂ why₃ why₄ v (Err error.Overflow) o₁ o₂ o₃ o₄ h = refl
-four-other of P₁ P₂ P₃ P₄ why₁ why₂ why₃ why₄ v (Err error.OutOfMemory) o₁ o₂ o₃ o₄ h =
-    absurd (passes-other P₁ why₁ (passes None P₂ why₂ (passes None P₃ why₃ (passes None P₄ why₄ (leaves v)))) o₁
-    (passes-other P₂ why₂ (passes None P₃ why₃ (passes None P₄ why₄ (leaves v))) o₂
-    (passes-other P₃ why₃ (passes None P₄ why₄ (leaves v)) o₃ (passes-other P₄ why₄ (leaves v) o₄ (leaves-other v)))) h)
+pieces-other : {T : Type 0} (c : Types T) (group : Group) (text : Bool) (t : LogicalType) (offsets bytes : List ℕ) (marks : Option (List Bool)) → NoMemory (pieces_tests c group text t offsets bytes marks)
+pieces-other c frozen text t offsets bytes marks = (spec-other _, (spec-other _, (spec-other _, (wrong-other text true, tt))))
+pieces-other c with_nulls text t offsets bytes marks = (spec-other _, (spec-other _, (wrong-other text false, (spec-other _, tt))))
+pieces-other c values_alone text t offsets bytes marks = (spec-other _, (spec-other _, (wrong-other text false, tt)))
 
 met : (T : Type 0) {A : Type 0} (result : Result A Error) → is_not_met (reply_of {T = T} result) ≡ false
 met T (Ok a) = refl
 met T (Err e) = refl
 
--- bytes and texts of parts: what `try_new_counted` says of each test makes their row, and its answer is not want of memory
-module _ {T : Type 0} (c : Types T) (text : Bool) (t u : LogicalType) (mask : Option Packed) (marks : Option (List Bool)) (numbers : List ℤ) (held offsets bytes : List ℕ)
-    (is-type : u ≡ t) (bits : IfSome mask BitsFit) (is-marks : marks ≡ option_map marks_in mask)
-    (legal : first_fault numbers ≡ None) (is-offsets : offsets ≡ map unsigned_abs numbers) (is-bytes : bytes ≡ held)
-    (lies : PhysicalType) (wrong : Refusal) (result : Result ByteColumn Error) where
-  abbrev pub column : ByteColumn
-  column = byte_column u offsets bytes marks
-
-  abbrev pub items : List (List ℕ)
-  items = items_of offsets bytes
-
-  -- what is made
-  abbrev pub made-value : Group → Value T
-  made-value group = record { shape = shaped group (pieces text); column = column_with u (around_of offsets bytes) (map (piece text) items) marks }
-
-  made-is : (group : Group) → piece_value {T = T} group text column ≡ made-value group
-  made-is group = ap (λ (column : _). let w : Value T = record { shape = shaped group (pieces text); column = column } in w) (parts-seen (λ around. around) (piece text) u (around_of offsets bytes) items marks)
-
-  -- its tests
-  abbrev pub frozen-tests : Row T
-  frozen-tests = passes None (last_of offsets ≤ length bytes) past_values (passes None (AreItems text items) not_text (passes None (FitsMask items marks) unfit_mask (passes None (IsRightType lies u) wrong (leaves (made-value frozen)))))
-
-  abbrev pub growing-tests : Group → Row T
-  growing-tests group = passes None (last_of offsets ≡ length bytes) not_at_end (passes None (AreItems text items) not_text (passes None (IsRightType lies u) wrong (passes None (FitsMask items marks) unfit_builder_mask (leaves (made-value group)))))
-
-  frozen-tested :
-      (CutItems text offsets bytes → FitsMask (items_of offsets bytes) marks → IsRightType lies u → IsOkAnd result (λ array. array ≡ byte_column u offsets bytes marks))
-      → (length bytes < last_of offsets → IsErrAnd result (λ e. refusal e ≡ past_values))
-      → (last_of offsets ≤ length bytes → (AreItems text (items_of offsets bytes) → ⊥) → IsErrAnd result (λ e. refusal e ≡ not_text))
-      → (CutItems text offsets bytes → (FitsMask (items_of offsets bytes) marks → ⊥) → IsErrAnd result (λ e. refusal e ≡ unfit_mask))
-      → (CutItems text offsets bytes → FitsMask (items_of offsets bytes) marks → (IsRightType lies u → ⊥) → IsErrAnd result (λ e. refusal e ≡ wrong))
-      → MadeBy (piece_value frozen text) result frozen-tests
-  frozen-tested fit bounds each masks right =
-      four-tests (piece_value frozen text) (last_of offsets ≤ length bytes) (AreItems text items) (FitsMask items marks) (IsRightType lies u)
-      past_values not_text unfit_mask wrong column (made-value frozen) result (made-is frozen)
-      (λ within are. fit (within, are)) (λ not. bounds (omega (arith, not))) each (λ within are. masks (within, are)) (λ within are. right (within, are))
-
-  growing-tested : (group : Group)
-      → (last_of offsets ≡ length bytes → AreItems text (items_of offsets bytes) → IsRightType lies u → FitsMask (items_of offsets bytes) marks → IsOkAnd result (λ builder. builder ≡ byte_column u offsets bytes marks))
-      → (last_of offsets ≢ length bytes → IsErrAnd result (λ e. refusal e ≡ not_at_end))
-      → (last_of offsets ≡ length bytes → (AreItems text (items_of offsets bytes) → ⊥) → IsErrAnd result (λ e. refusal e ≡ not_text))
-      → (last_of offsets ≡ length bytes → AreItems text (items_of offsets bytes) → (IsRightType lies u → ⊥) → IsErrAnd result (λ e. refusal e ≡ wrong))
-      → (last_of offsets ≡ length bytes → AreItems text (items_of offsets bytes) → IsRightType lies u → (FitsMask (items_of offsets bytes) marks → ⊥) → IsErrAnd result (λ e. refusal e ≡ unfit_builder_mask))
-      → MadeBy (piece_value group text) result (growing-tests group)
-  growing-tested group fit bounds each right masks =
-      four-tests (piece_value group text) (last_of offsets ≡ length bytes) (AreItems text items) (IsRightType lies u) (FitsMask items marks)
-      not_at_end not_text wrong unfit_builder_mask column (made-value group) result (made-is group)
-      fit bounds each right masks
-
-  -- the row and the cost of an array
-  frozen-row : IsKindOf c (pieces text) true lies wrong → MadeBy (piece_value frozen text) result frozen-tests
-      → MadeBy (piece_value frozen text) result (PartsRow c (shaped frozen (pieces text)) t mask (cut_pieces numbers held))
-  frozen-row kind tested =
-      let value : ByteColumn → Value T = piece_value frozen text in
-      let masked : Row T = passes None (IfSome mask BitsFit) bits_past_bytes frozen-tests in
-      let whole = memory-row value (offsets_tested c (shaped frozen (pieces text)) t mask numbers masked) result
-      (legal-row value c (shaped frozen (pieces text)) t mask numbers masked result legal
-      (passed-row value (IfSome mask BitsFit) bits_past_bytes frozen-tests result bits tested)) in
-      rw (pieces-sort frozen text, text-sort frozen text, ← is-offsets, ← is-bytes, ← is-marks, ← is-type, ← kind.0, ← kind.1) whole
-
-  frozen-cost : {old new : Cost} → IsKindOf c (pieces text) true lies wrong → MadeBy (piece_value frozen text) result frozen-tests → Costs text offsets bytes old new
-      → PartsCost {T = T} (shaped frozen (pieces text)) mask numbers held (reply_of result) old new
-  frozen-cost {old} {new} kind tested costs =
-      let other = four-other (piece_value {T = T} frozen text) (last_of offsets ≤ length bytes) (AreItems text items) (FitsMask items marks) (IsRightType lies u)
-      past_values not_text unfit_mask wrong (made-value frozen) result (λ e. cc) (λ e. cc) (λ e. cc) (λ e. wrong-other text true (sym kind.1 ∙ e)) tested in
-      let of-text = subst (λ b. Costs b offsets bytes old new) (sym (text-sort frozen text)) costs in
-      let of-parts = subst (λ n. Costs (is_text (shaped frozen (pieces text))) n bytes old new) is-offsets of-text in
-      let of-held = subst (λ b. Costs (is_text (shaped frozen (pieces text))) (map unsigned_abs numbers) b old new) is-bytes of-parts in
-      (λ _. of-held, λ not. absurd (not (met T result, other, legal, bits)))
-
-  -- and of a builder
-  growing-row : (group : Group) → is_frozen (shaped group (pieces text)) ≡ false → (not (is_values_alone (shaped group (pieces text))) || is_none mask) ≡ true
-      → IsKindOf c (pieces text) false lies wrong → MadeBy (piece_value group text) result (growing-tests group)
+-- bytes and texts of parts: what `try_new_counted` says of the tests makes their row, and its answer is not want of memory
+module _ {T : Type 0} (c : Types T) (group : Group) (text : Bool) (t : LogicalType) (mask : Option Packed) (marks : Option (List Bool)) (numbers : List ℤ) (held offsets bytes : List ℕ)
+    (fit : IfSome mask BitsFit) (is-marks : marks ≡ option_map marks_in mask) (legal : first_fault numbers ≡ None) (is-offsets : offsets ≡ map unsigned_abs numbers) (is-bytes : bytes ≡ held)
+    (result : Result ByteColumn Error) (says : Says (pieces_tests c group text t offsets bytes marks) (byte_column t offsets bytes marks) result) where
+  pub pieces-made : (not (is_values_alone (shaped group (pieces text))) || is_none mask) ≡ true
       → MadeBy (piece_value group text) result (PartsRow c (shaped group (pieces text)) t mask (cut_pieces numbers held))
-  growing-row group grows masked kind tested =
-      let of : ByteColumn → Value T = piece_value group text in
-      let after : Row T = passes None (IfSome mask BitsFit) bits_past_bytes (growing-tests group) in
-      let whole = memory-row of (offsets_tested c (shaped group (pieces text)) t mask numbers after) result
-      (legal-row of c (shaped group (pieces text)) t mask numbers after result legal
-      (passed-row of (IfSome mask BitsFit) bits_past_bytes (growing-tests group) result bits tested)) in
-      rw (pieces-sort group text, masked, text-sort group text, grows, ← is-offsets, ← is-bytes, ← is-marks, ← is-type, ← kind.0, ← kind.1) whole
+  pieces-made unmasked =
+      let tests = pieces_tests c group text t offsets bytes marks in
+      let column = byte_column t offsets bytes marks in
+      let v : Value T = piece_value group text column in
+      let whole : MadeBy (piece_value group text) result (memory None (accepted (offsets_test numbers (bits_test mask tests)) v)) =
+      said-row v (offsets_test numbers (bits_test mask tests)) (piece_value group text) column result refl
+      (after (first_fault numbers ≡ None) (out_of_spec (unwrap_or (first_fault numbers) [])) (bits_test mask tests) column result legal
+      (after (IfSome mask BitsFit) bits_past_bytes tests column result fit says)) in
+      rw (pieces-sort group text, unmasked, text-sort group text, ← is-offsets, ← is-bytes, ← is-marks, ← parts-seen {T = T} (λ around. around) (piece text) t (around_of offsets bytes) (items_of offsets bytes) marks) whole
 
-  growing-cost : {old new : Cost} → (group : Group) → is_frozen (shaped group (pieces text)) ≡ false
-      → IsKindOf c (pieces text) false lies wrong → MadeBy (piece_value group text) result (growing-tests group) → BuilderCosts text offsets bytes old new
-      → PartsCost {T = T} (shaped group (pieces text)) mask numbers held (reply_of result) old new
-  growing-cost {old} {new} group grows kind tested costs =
-      let other = four-other (piece_value {T = T} group text) (last_of offsets ≡ length bytes) (AreItems text items) (IsRightType lies u) (FitsMask items marks)
-      not_at_end not_text wrong unfit_builder_mask (made-value group) result (λ e. cc) (λ e. cc) (λ e. wrong-other text false (sym kind.1 ∙ e)) (λ e. cc) tested in
+  is-tested : is_memory (reply_of {T = T} result) ≡ false
+  is-tested = not-memory T (pieces_tests c group text t offsets bytes marks) (byte_column t offsets bytes marks) result (pieces-other c group text t offsets bytes marks) says
+
+  pub array-cost : {old new : Cost} → is_frozen (shaped group (pieces text)) ≡ true → Costs text offsets bytes old new → PartsCost {T = T} (shaped group (pieces text)) mask numbers held (reply_of result) old new
+  array-cost {old} {new} array costs =
+      let of-text = subst (λ b. Costs b offsets bytes old new) (sym (text-sort group text)) costs in
+      let of-parts = subst (λ n. Costs (is_text (shaped group (pieces text))) n bytes old new) is-offsets of-text in
+      let of-held = subst (λ b. Costs (is_text (shaped group (pieces text))) (map unsigned_abs numbers) b old new) is-bytes of-parts in
+      (λ _. rw array of-held, λ not. absurd (not (met T result, is-tested, legal, fit)))
+
+  pub builder-cost : {old new : Cost} → is_frozen (shaped group (pieces text)) ≡ false → BuilderCosts text offsets bytes old new → PartsCost {T = T} (shaped group (pieces text)) mask numbers held (reply_of result) old new
+  builder-cost {old} {new} grows costs =
       let of-text = subst (λ b. BuilderCosts b offsets bytes old new) (sym (text-sort group text)) costs in
       let of-parts = subst (λ n. BuilderCosts (is_text (shaped group (pieces text))) n bytes old new) is-offsets of-text in
       let of-held = subst (λ b. BuilderCosts (is_text (shaped group (pieces text))) (map unsigned_abs numbers) b old new) is-bytes of-parts in
-      (λ _. rw grows of-held, λ not. absurd (not (met T result, other, legal, bits)))
+      (λ _. rw grows of-held, λ not. absurd (not (met T result, is-tested, legal, fit)))
 
-  -- both, of an array and of a builder
-  pub frozen-parts : {old new : Cost} → IsKindOf c (pieces text) true lies wrong
-      → (CutItems text offsets bytes → FitsMask (items_of offsets bytes) marks → IsRightType lies u → IsOkAnd result (λ array. array ≡ byte_column u offsets bytes marks))
-      → (length bytes < last_of offsets → IsErrAnd result (λ e. refusal e ≡ past_values))
-      → (last_of offsets ≤ length bytes → (AreItems text (items_of offsets bytes) → ⊥) → IsErrAnd result (λ e. refusal e ≡ not_text))
-      → (CutItems text offsets bytes → (FitsMask (items_of offsets bytes) marks → ⊥) → IsErrAnd result (λ e. refusal e ≡ unfit_mask))
-      → (CutItems text offsets bytes → FitsMask (items_of offsets bytes) marks → (IsRightType lies u → ⊥) → IsErrAnd result (λ e. refusal e ≡ wrong))
-      → Costs text offsets bytes old new
-      → MadeBy (piece_value frozen text) result (PartsRow c (shaped frozen (pieces text)) t mask (cut_pieces numbers held)) × PartsCost {T = T} (shaped frozen (pieces text)) mask numbers held (reply_of result) old new
-  frozen-parts kind fit bounds each masks right costs =
-      let tested = frozen-tested fit bounds each masks right in
-      (frozen-row kind tested, frozen-cost kind tested costs)
+-- what is said of a kind's own layout and refusal is said of those that the table knows
+pub of-kind : {T A : Type 0} (c : Types T) (text array : Bool) (lies : PhysicalType) (wrong : Refusal) (tests : PhysicalType → Refusal → Tests) (column : A) (result : Result A Error)
+    → IsKindOf c (pieces text) array lies wrong → Says (tests lies wrong) column result → Says (tests (layout c (pieces text)) (wrong_type (pieces text) array)) column result
+of-kind c text array lies wrong tests column result of-sort says = subst₂ (λ (lies : PhysicalType) (wrong : Refusal). Says (tests lies wrong) column result) of-sort.0 of-sort.1 says
 
-  pub growing-parts : {old new : Cost} → (group : Group) → is_frozen (shaped group (pieces text)) ≡ false → (not (is_values_alone (shaped group (pieces text))) || is_none mask) ≡ true
-      → IsKindOf c (pieces text) false lies wrong
-      → (last_of offsets ≡ length bytes → AreItems text (items_of offsets bytes) → IsRightType lies u → FitsMask (items_of offsets bytes) marks → IsOkAnd result (λ builder. builder ≡ byte_column u offsets bytes marks))
-      → (last_of offsets ≢ length bytes → IsErrAnd result (λ e. refusal e ≡ not_at_end))
-      → (last_of offsets ≡ length bytes → (AreItems text (items_of offsets bytes) → ⊥) → IsErrAnd result (λ e. refusal e ≡ not_text))
-      → (last_of offsets ≡ length bytes → AreItems text (items_of offsets bytes) → (IsRightType lies u → ⊥) → IsErrAnd result (λ e. refusal e ≡ wrong))
-      → (last_of offsets ≡ length bytes → AreItems text (items_of offsets bytes) → IsRightType lies u → (FitsMask (items_of offsets bytes) marks → ⊥) → IsErrAnd result (λ e. refusal e ≡ unfit_builder_mask))
-      → BuilderCosts text offsets bytes old new
-      → MadeBy (piece_value group text) result (PartsRow c (shaped group (pieces text)) t mask (cut_pieces numbers held)) × PartsCost {T = T} (shaped group (pieces text)) mask numbers held (reply_of result) old new
-  growing-parts group grows masked kind fit bounds each right masks costs =
-      let tested = growing-tested group fit bounds each right masks in
-      (growing-row group grows masked kind tested, growing-cost group grows kind tested costs)
+-- vectors that are not taken
+module _ {T : Type 0} (c : Types T) (group : Group) (t : LogicalType) (mask : Option Packed) (e : Error) where
+  pub values-untaken : (xs : List T) → UnlessMemory e ((IfSome mask BitsFit → ⊥) × (refusal e ≡ bits_past_bytes)) → PartsRow c (shaped group native) t mask (given.values xs) (refused (refusal e)) None
+  values-untaken xs h = bits-row (made c (shaped group native) t mask nothing_around (map value xs)) mask (primitive.parts_tests c.primitive t xs (option_map marks_in mask)) e h
 
--- vectors that are not taken cost nothing
-faulty-cost : (mask : Option Packed) (r : Refusal) (found : Option (List ℕ)) → found ≡ None → IfSome mask BitsFit → MatchOption found ((IfSome mask BitsFit → ⊥) × (r ≡ bits_past_bytes)) (λ fault. r ≡ out_of_spec fault) → ⊥
-faulty-cost mask r None e bits h = h.0 bits
-faulty-cost mask r (Some fault) e bits h = cc
+  pub bits-untaken : (p : Packed) → UnlessMemory e ((BitsFit p → ⊥) × (refusal e ≡ bits_past_bytes)) → PartsRow c (shaped group boolean) t mask (packed p) (refused (refusal e)) None
+  bits-untaken p h =
+      bits-row (made c (shaped group boolean) t mask nothing_around (map bit (marks_in p))) (Some p) (bits_test mask (boolean_tests group t (marks_in p) (option_map marks_in mask))) e h
 
-pub faults-cost : (T : Type 0) (s : Shape) (mask : Option Packed) (numbers : List ℤ) (held : List ℕ) (cost : Cost) (e : Error) → Untaken mask numbers e → PartsCost {T = T} s mask numbers held (refused (refusal e)) cost cost
-faults-cost T s mask numbers held cost (error.OutOfSpec x) h = (λ tested. absurd (faulty-cost mask (out_of_spec x.now) (first_fault numbers) tested.2 tested.3 h), λ _. refl)
-faults-cost T s mask numbers held cost error.Overflow h = (λ tested. absurd (faulty-cost mask (refusal error.Overflow) (first_fault numbers) tested.2 tested.3 h), λ _. refl)
-faults-cost T s mask numbers held cost error.OutOfMemory h = (λ tested. cc, λ _. refl)
+  pub mask-untaken : (p : Packed) → BitsFit p → UnlessMemory e ((IfSome mask BitsFit → ⊥) × (refusal e ≡ bits_past_bytes)) → PartsRow c (shaped group boolean) t mask (packed p) (refused (refusal e)) None
+  mask-untaken p fit h =
+      mask-row (made c (shaped group boolean) t mask nothing_around (map bit (marks_in p))) (Some p) mask (boolean_tests group t (marks_in p) (option_map marks_in mask)) e fit h
 
--- what is counted rises only where there is text
-either-way : {P : Type 0} (a b : ℕ) → (a ≡ b → P) → (a ≢ b → P) → P
-either-way {P} a b if-same if-other = go (a == b) refl
-  where
-    go : (found : Bool) → (a == b) ≡ found → P
-    go true e = if-same (eqb-true a b e)
-    go false e = if-other (λ same. false≢true (sym e ∙ eq-eqb a b same))
+pub untaken-made : {T : Type 0} (c : Types T) (group : Group) (text : Bool) (t : LogicalType) (mask : Option Packed) (numbers : List ℤ) (held : List ℕ) (e : Error)
+    → (not (is_values_alone (shaped group (pieces text))) || is_none mask) ≡ true → Untaken mask numbers e
+    → PartsRow c (shaped group (pieces text)) t mask (cut_pieces numbers held) (refused (refusal e)) None
+untaken-made c group text t mask numbers held e unmasked h = rw (pieces-sort group text, unmasked) (untaken-row _ numbers mask _ e h)
 
-pub still : (text : Bool) (offsets bytes : List ℕ) (old new : Cost) → Costs text offsets bytes old new → text ≡ false → new ≡ old
-still false offsets bytes old new costs e = costs
-still true offsets bytes old new costs e = absurd (false≢true (sym e))
-
-pub tested-once : {T : Type 0} (text : Bool) (group : Group) (t : LogicalType) (mask : Option Packed) (numbers : List ℤ) (held offsets bytes : List ℕ) (old new : Cost)
-    → offsets ≡ map unsigned_abs numbers → (text ≡ false → new ≡ old) → TestsOnce offsets bytes old new
-    → CostsAtMost {T = T} (make 0 (shaped group (pieces text)) (parts t (cut_pieces numbers held) mask) ∷ []) old new
-tested-once true group t mask numbers held offsets bytes old new is-offsets same once =
-    let count : length offsets ≡ length numbers = ap length is-offsets ∙ length-map numbers unsigned_abs in
-    record {
-      ascii = record { never_falls = once.ascii.never_falls; most = omega (arith, once.ascii.most) };
-      whole = record { never_falls = once.whole.never_falls; most = omega (arith, once.whole.most) };
-      looked = record { never_falls = once.looked.never_falls; most = omega (arith, once.looked.most, count) };
-    }
-tested-once false group t mask numbers held offsets bytes old new is-offsets same once = rw (same refl) (costs-still (make 0 (shaped group (pieces false)) (parts t (cut_pieces numbers held) mask) ∷ []) old)
+-- of other kinds than those of bytes and text the condition fails
+pub unmet-pieces : {T : Type 0} (c : Types T) (k : Kind) (t : LogicalType) (mask : Option Packed) (numbers : List ℤ) (held : List ℕ)
+    → (k ≡ kind.Binary → ⊥) → (k ≡ kind.Utf8 → ⊥) → (k ≡ kind.MutableBinary → ⊥) → (k ≡ kind.MutableUtf8 → ⊥) → (k ≡ kind.BinaryValues → ⊥) → (k ≡ kind.Utf8Values → ⊥)
+    → PartsRow c (shape k) t mask (cut_pieces numbers held) not_met None
+unmet-pieces c kind.Primitive t mask numbers held a b d e f g = (refl, refl)
+unmet-pieces c kind.Boolean t mask numbers held a b d e f g = (refl, refl)
+unmet-pieces c kind.MutablePrimitive t mask numbers held a b d e f g = (refl, refl)
+unmet-pieces c kind.MutableBoolean t mask numbers held a b d e f g = (refl, refl)
+unmet-pieces c kind.Binary t mask numbers held a b d e f g = absurd (a refl)
+unmet-pieces c kind.Utf8 t mask numbers held a b d e f g = absurd (b refl)
+unmet-pieces c kind.MutableBinary t mask numbers held a b d e f g = absurd (d refl)
+unmet-pieces c kind.MutableUtf8 t mask numbers held a b d e f g = absurd (e refl)
+unmet-pieces c kind.BinaryValues t mask numbers held a b d e f g = absurd (f refl)
+unmet-pieces c kind.Utf8Values t mask numbers held a b d e f g = absurd (g refl)

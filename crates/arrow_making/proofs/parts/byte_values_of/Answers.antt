@@ -1,28 +1,38 @@
-use Rattle.std.proofs.Common.{None, map, refl}
+use Rattle.std.proofs.Common.{false, None, map, refl}
 use Rattle.arrow_types.specs.Types.{logical_type}
+use Rattle.arrow_bytes.specs.Column.{byte_column}
+use Rattle.arrow_byte_array.specs.Acceptance.{values_builder_tests}
 use Rattle.arrow_entry.specs.Entry.{types}
 use Rattle.arrow_entry.specs.Kind.{values_alone}
-use Rattle.arrow_making.proofs.Passes.{growing-parts}
+use Rattle.arrow_making.proofs.Passes.{builder-cost, of-kind, pieces-made, untaken-made}
 use Rattle.arrow_making.proofs.parts.byte_values_of.Goals as goal
 
 pub returns-in-Ok-clause-row : goal.returns-in-Ok-clause-row
 returns-in-Ok-clause-row g c =
+    let all = types g.T.NativeType.zero g.T.NativeType.PRIMITIVE g.O.Offset.most g.O.Offset.IS_LARGE in
+    let text = g.K.ByteKind.is_text in
+    let t = logical_type c.args.data_type in
     let made = c.in-Ok in
     let is = c.in-Ok.ensures in
     let tested = c.try_new_counted.ensures in
-    (growing-parts (types g.T.NativeType.zero g.T.NativeType.PRIMITIVE g.O.Offset.most g.O.Offset.IS_LARGE) g.K.ByteKind.is_text (logical_type c.args.data_type) (logical_type c.args.data_type)
-    None None (map g.O.Offset.number c.args.offsets.items) c.args.bytes.items made.offsets c.args.bytes.items
-    refl tt refl is.legal is.offsets refl
-    (g.K.ByteKind.layout g.O.Offset.IS_LARGE) g.K.ByteKind.wrong_builder_type c.try_new_counted.result
-    values_alone refl refl c.requires (λ at are right _. tested.fit at are right) tested.bounds tested.items tested.data_type (λ _ _ _ not. absurd (not tt)) tested.exact).0
+    let says = of-kind all text false (g.K.ByteKind.layout g.O.Offset.IS_LARGE) g.K.ByteKind.wrong_builder_type (λ lies wrong. values_builder_tests text lies wrong t made.offsets c.args.bytes.items) (byte_column t made.offsets c.args.bytes.items None)
+    c.try_new_counted.result c.requires (record { ok = tested.ok; err = tested.err }) in
+    pieces-made all values_alone text t None None (map g.O.Offset.number c.args.offsets.items) c.args.bytes.items made.offsets c.args.bytes.items
+    tt refl is.legal is.offsets refl c.try_new_counted.result says refl
 
 pub returns-in-Ok-clause-exact : goal.returns-in-Ok-clause-exact
 returns-in-Ok-clause-exact g c =
+    let all = types g.T.NativeType.zero g.T.NativeType.PRIMITIVE g.O.Offset.most g.O.Offset.IS_LARGE in
+    let text = g.K.ByteKind.is_text in
+    let t = logical_type c.args.data_type in
     let made = c.in-Ok in
     let is = c.in-Ok.ensures in
     let tested = c.try_new_counted.ensures in
-    (growing-parts (types g.T.NativeType.zero g.T.NativeType.PRIMITIVE g.O.Offset.most g.O.Offset.IS_LARGE) g.K.ByteKind.is_text (logical_type c.args.data_type) (logical_type c.args.data_type)
-    None None (map g.O.Offset.number c.args.offsets.items) c.args.bytes.items made.offsets c.args.bytes.items
-    refl tt refl is.legal is.offsets refl
-    (g.K.ByteKind.layout g.O.Offset.IS_LARGE) g.K.ByteKind.wrong_builder_type c.try_new_counted.result
-    values_alone refl refl c.requires (λ at are right _. tested.fit at are right) tested.bounds tested.items tested.data_type (λ _ _ _ not. absurd (not tt)) tested.exact).1
+    let says = of-kind all text false (g.K.ByteKind.layout g.O.Offset.IS_LARGE) g.K.ByteKind.wrong_builder_type (λ lies wrong. values_builder_tests text lies wrong t made.offsets c.args.bytes.items) (byte_column t made.offsets c.args.bytes.items None)
+    c.try_new_counted.result c.requires (record { ok = tested.ok; err = tested.err }) in
+    builder-cost all values_alone text t None None (map g.O.Offset.number c.args.offsets.items) c.args.bytes.items made.offsets c.args.bytes.items
+    tt refl is.legal is.offsets refl c.try_new_counted.result says refl tested.exact
+
+pub returns-in-Err-clause-row : goal.returns-in-Err-clause-row
+returns-in-Err-clause-row g c =
+    untaken-made (types g.T.NativeType.zero g.T.NativeType.PRIMITIVE g.O.Offset.most g.O.Offset.IS_LARGE) values_alone g.K.ByteKind.is_text (logical_type c.args.data_type) None (map g.O.Offset.number c.args.offsets.items) c.args.bytes.items c.in-Err.refused refl c.in-Err.ensures.err

@@ -1,16 +1,18 @@
-use Rattle.std.proofs.Common.{option_map, refl}
+use Rattle.std.proofs.Common.{option_map}
 use Rattle.arrow_types.specs.Types.{logical_type}
 use Rattle.arrow_entry.specs.Entry.{types}
 use Rattle.arrow_entry.specs.Kind.{frozen}
 use Rattle.arrow_entry.specs.Request.{packed_bits}
-use Rattle.arrow_making.proofs.Passes.{values-row}
+use Rattle.arrow_making.proofs.Passes.{values-made, values-untaken}
 use Rattle.arrow_making.proofs.parts.primitive_of.Goals as goal
 
 pub returns-in-Ok-mask_taken : goal.returns-in-Ok-mask_taken
 returns-in-Ok-mask_taken g c =
-    let t = logical_type c.args.data_type in
-    let taken = c.in-Ok-mask_taken in
-    values-row (types g.T.NativeType.zero g.T.NativeType.PRIMITIVE g.O.Offset.most g.O.Offset.IS_LARGE) frozen t t
-    (option_map packed_bits c.args.mask) taken.mask refl taken.ensures.fit taken.ensures.mask
-    c.args.values.items c.in-Ok.values c.try_new.result c.in-Ok.ensures.ok
-    c.try_new.ensures.fit c.try_new.ensures.mask c.try_new.ensures.data_type
+    let tested = c.try_new.ensures in
+    values-made (types g.T.NativeType.zero g.T.NativeType.PRIMITIVE g.O.Offset.most g.O.Offset.IS_LARGE) frozen (logical_type c.args.data_type)
+    (option_map packed_bits c.args.mask) c.in-Ok-mask_taken.mask c.in-Ok-mask_taken.ensures.fit c.in-Ok-mask_taken.ensures.mask
+    c.args.values.items c.in-Ok.values c.try_new.result c.in-Ok.ensures.ok (record { ok = tested.ok; err = tested.err })
+
+pub returns-in-Err : goal.returns-in-Err
+returns-in-Err g c =
+    values-untaken (types g.T.NativeType.zero g.T.NativeType.PRIMITIVE g.O.Offset.most g.O.Offset.IS_LARGE) frozen (logical_type c.args.data_type) (option_map packed_bits c.args.mask) c.in-Err.refused c.args.values.items c.in-Err.ensures.err
