@@ -1,8 +1,6 @@
 -- How a row of tests follows from what a call says of them, and what the test of texts costs.
-use Rattle.std.proofs.Common.{◌≡◌, ◌≢◌, ◌∙◌, ℕ, ℤ, Bool, true, false, not, ◌||◌, is_none, List, [], ◌∷◌, length, map, option_map, unsigned_abs, unwrap_or, IfSome, IfOk, IfErr, MatchOption, arith, Option, Some, None, Result, Ok, Err, refl, sym, ap, subst, subst₂}
-use Rattle.std.specs.Prelude.{⊤, inl, inr}
-use Rattle.std.proofs.lemmas.Bool.{false≢true}
-use Rattle.std.proofs.lemmas.List.{length-map}
+use Rattle.std.proofs.Common.{◌≡◌, ◌∙◌, ℕ, ℤ, Bool, true, false, not, ◌||◌, is_none, List, [], map, option_map, unsigned_abs, unwrap_or, IfSome, IfOk, IfErr, MatchOption, Option, Some, None, Result, Ok, Err, refl, sym, ap, subst, subst₂, inl, inr}
+use Rattle.std.specs.Prelude.{⊤}
 use Rattle.arrow_types.specs.Types.{LogicalType, Refusal, refusal, out_of_spec, out_of_memory}
 use Rattle.arrow_types.specs.declared.error.Error.{Error}
 use Rattle.arrow_types.specs.declared.error.Error.TheVariants as error
@@ -14,20 +12,21 @@ use Rattle.arrow_memory.specs.Offsets.{first_fault}
 use Rattle.arrow_check.specs.Pieces.{items_of}
 use Rattle.arrow_check.specs.Reading.{Cost}
 use Rattle.arrow_bytes.specs.Column.{ByteColumn, byte_column}
-use Rattle.arrow_bytes.specs.Kinds.{BuilderCosts, Costs, TestsOnce}
+use Rattle.arrow_bytes.specs.Kinds.{BuilderCosts, Costs}
 use Rattle.arrow_bytes.specs.Pieces.{around_of, nothing_around}
 use Rattle.arrow_primitive.specs.Fits as primitive
-use Rattle.arrow_entry.specs.Answer.{Answer, refused, is_memory, is_not_met}
+use Rattle.arrow_entry.specs.declared.kind.Kind.{Kind}
+use Rattle.arrow_entry.specs.declared.kind.Kind.TheVariants as kind
+use Rattle.arrow_entry.specs.Answer.{not_met, refused, is_memory, is_not_met}
 use Rattle.arrow_entry.specs.Entry.{Value, Types, layout, native_value, boolean_value, piece_value}
 use Rattle.arrow_entry.specs.Item.{value, bit, piece}
-use Rattle.arrow_entry.specs.Kind.{Group, frozen, with_nulls, values_alone, native, boolean, pieces, Shape, shaped, is_frozen, is_pieces, is_text, is_values_alone}
+use Rattle.arrow_entry.specs.Kind.{Group, frozen, with_nulls, values_alone, native, boolean, pieces, shape, shaped, is_frozen, is_pieces, is_text, is_values_alone}
 use Rattle.arrow_entry.specs.Request.{Packed, make, packed, parts, cut_pieces}
 use Rattle.arrow_entry.specs.Request as given
 use Rattle.arrow_entry.specs.Parts.{BitsFit, PartsCost, PartsRow, accepted, bits_test, boolean_tests, made, marks_in, offsets_test, pieces_tests, wrong_type}
 use Rattle.arrow_entry.specs.Row.{memory}
-use Rattle.arrow_entry.specs.Run.{CostsAtMost}
 use Rattle.arrow_entry.specs.Outcome.{IsKindOf, MadeBy, Untaken, UnlessMemory, reply_of}
-use Rattle.arrow_entry.proofs.CallerLemmas.{costs-still, parts-seen}
+use Rattle.arrow_entry.proofs.CallerLemmas.{parts-seen}
 
 -- a call says that what it made passed all tests, or else which is the first that failed
 pub record Says {A : Type 0} (tests : Tests) (column : A) (result : Result A Error) : Type 0 where
@@ -45,11 +44,11 @@ unfit P why r tests h = (λ _. h.1, λ p. absurd (h.0 p))
 
 module _ {T : Type 0} (v : Value T) (tests : Tests) where
   -- then the row of these tests holds
-  pub said-row : {A : Type 0} (value : A → Value T) (column : A) (result : Result A Error) → value column ≡ v → Says tests column result → MadeBy value result (memory None (accepted tests v))
-  said-row value column (Ok a) is says = inl (says.ok.0, (refl, ap Some (ap value says.ok.1 ∙ is)))
-  said-row value column (Err (error.OutOfSpec text)) is says = inr (out_of_spec text.now, says.err, (refl, refl))
-  said-row value column (Err error.Overflow) is says = inr (refusal error.Overflow, says.err, (refl, refl))
-  said-row value column (Err error.OutOfMemory) is says = refl
+  pub said-row : {A : Type 0} (shown : A → Value T) (column : A) (result : Result A Error) → shown column ≡ v → Says tests column result → MadeBy shown result (memory None (accepted tests v))
+  said-row shown column (Ok a) is says = inl (says.ok.0, (refl, ap Some (ap shown says.ok.1 ∙ is)))
+  said-row shown column (Err (error.OutOfSpec text)) is says = inr (out_of_spec text.now, says.err, (refl, refl))
+  said-row shown column (Err error.Overflow) is says = inr (refusal error.Overflow, says.err, (refl, refl))
+  said-row shown column (Err error.OutOfMemory) is says = refl
 
   -- and of vectors that are not taken
   failed-row : (e : Error) → UnlessMemory e (IsFirstFailure tests (refusal e)) → memory None (accepted tests v) (refused (refusal e)) None
@@ -63,12 +62,12 @@ unless error.Overflow f p = f p
 unless error.OutOfMemory f p = tt
 
 -- bits that are past their bytes
-pub bits-row : {T : Type 0} (v : Value T) (bits : Option Packed) (tests : Tests) (e : Error) → UnlessMemory e ((IfSome bits BitsFit → ⊥) × (refusal e ≡ bits_past_bytes))
+bits-row : {T : Type 0} (v : Value T) (bits : Option Packed) (tests : Tests) (e : Error) → UnlessMemory e ((IfSome bits BitsFit → ⊥) × (refusal e ≡ bits_past_bytes))
     → memory None (accepted (bits_test bits tests) v) (refused (refusal e)) None
 bits-row v bits tests e h = failed-row v (bits_test bits tests) e (unless e (unfit (IfSome bits BitsFit) bits_past_bytes (refusal e) tests) h)
 
 -- the same of a mask, where the bits of the values before it are not
-pub mask-row : {T : Type 0} (v : Value T) (bits mask : Option Packed) (tests : Tests) (e : Error) → IfSome bits BitsFit → UnlessMemory e ((IfSome mask BitsFit → ⊥) × (refusal e ≡ bits_past_bytes))
+mask-row : {T : Type 0} (v : Value T) (bits mask : Option Packed) (tests : Tests) (e : Error) → IfSome bits BitsFit → UnlessMemory e ((IfSome mask BitsFit → ⊥) × (refusal e ≡ bits_past_bytes))
     → memory None (accepted (bits_test bits (bits_test mask tests)) v) (refused (refusal e)) None
 mask-row v bits mask tests e fit h =
     failed-row v (bits_test bits (bits_test mask tests)) e (unless e (λ fails. (λ no. absurd (no fit), λ _. unfit (IfSome mask BitsFit) bits_past_bytes (refusal e) tests fails)) h)
@@ -82,7 +81,7 @@ untaken numbers mask tests r (Some fault) e h = (λ _. h ∙ ap (λ (found : Opt
     clash : (fault : List ℕ) → Some fault ≡ None → ⊥
     clash fault e = cc
 
-pub untaken-row : {T : Type 0} (v : Value T) (numbers : List ℤ) (mask : Option Packed) (tests : Tests) (e : Error) → Untaken mask numbers e
+untaken-row : {T : Type 0} (v : Value T) (numbers : List ℤ) (mask : Option Packed) (tests : Tests) (e : Error) → Untaken mask numbers e
     → memory None (accepted (offsets_test numbers (bits_test mask tests)) v) (refused (refusal e)) None
 untaken-row v numbers mask tests e h = failed-row v (offsets_test numbers (bits_test mask tests)) e (unless e (untaken numbers mask tests (refusal e) (first_fault numbers) refl) h)
 
@@ -126,11 +125,11 @@ never : (tests : Tests) → NoMemory tests → IsFirstFailure tests out_of_memor
 never accept other fails = fails
 never (test P why tests) other fails = other.0 (sym (fails.0 (λ p. never tests other.1 (fails.1 p))))
 
-not-memory : {T A : Type 0} (tests : Tests) (column : A) (result : Result A Error) → NoMemory tests → Says tests column result → is_memory (reply_of {T = T} result) ≡ false
-not-memory tests column (Ok a) other says = refl
-not-memory tests column (Err (error.OutOfSpec text)) other says = refl
-not-memory tests column (Err error.Overflow) other says = refl
-not-memory tests column (Err error.OutOfMemory) other says = absurd (never tests other says.err)
+not-memory : (T : Type 0) {A : Type 0} (tests : Tests) (column : A) (result : Result A Error) → NoMemory tests → Says tests column result → is_memory (reply_of {T = T} result) ≡ false
+not-memory T tests column (Ok a) other says = refl
+not-memory T tests column (Err (error.OutOfSpec text)) other says = refl
+not-memory T tests column (Err error.Overflow) other says = refl
+not-memory T tests column (Err error.OutOfMemory) other says = absurd (never tests other says.err)
 
 wrong-other : (text is_frozen : Bool) → wrong_type (pieces text) is_frozen ≡ out_of_memory → ⊥
 wrong-other true true e = cc
@@ -167,7 +166,7 @@ module _ {T : Type 0} (c : Types T) (group : Group) (text : Bool) (t : LogicalTy
       rw (pieces-sort group text, unmasked, text-sort group text, ← is-offsets, ← is-bytes, ← is-marks, ← parts-seen {T = T} (λ around. around) (piece text) t (around_of offsets bytes) (items_of offsets bytes) marks) whole
 
   is-tested : is_memory (reply_of {T = T} result) ≡ false
-  is-tested = not-memory (pieces_tests c group text t offsets bytes marks) (byte_column t offsets bytes marks) result (pieces-other c group text t offsets bytes marks) says
+  is-tested = not-memory T (pieces_tests c group text t offsets bytes marks) (byte_column t offsets bytes marks) result (pieces-other c group text t offsets bytes marks) says
 
   pub array-cost : {old new : Cost} → is_frozen (shaped group (pieces text)) ≡ true → Costs text offsets bytes old new → PartsCost {T = T} (shaped group (pieces text)) mask numbers held (reply_of result) old new
   array-cost {old} {new} array costs =
@@ -186,44 +185,37 @@ module _ {T : Type 0} (c : Types T) (group : Group) (text : Bool) (t : LogicalTy
 -- what is said of a kind's own layout and refusal is said of those that the table knows
 pub of-kind : {T A : Type 0} (c : Types T) (text array : Bool) (lies : PhysicalType) (wrong : Refusal) (tests : PhysicalType → Refusal → Tests) (column : A) (result : Result A Error)
     → IsKindOf c (pieces text) array lies wrong → Says (tests lies wrong) column result → Says (tests (layout c (pieces text)) (wrong_type (pieces text) array)) column result
-of-kind c text array lies wrong tests column result kind says = subst₂ (λ (lies : PhysicalType) (wrong : Refusal). Says (tests lies wrong) column result) kind.0 kind.1 says
+of-kind c text array lies wrong tests column result of-sort says = subst₂ (λ (lies : PhysicalType) (wrong : Refusal). Says (tests lies wrong) column result) of-sort.0 of-sort.1 says
 
 -- vectors that are not taken
+module _ {T : Type 0} (c : Types T) (group : Group) (t : LogicalType) (mask : Option Packed) (e : Error) where
+  pub values-untaken : (xs : List T) → UnlessMemory e ((IfSome mask BitsFit → ⊥) × (refusal e ≡ bits_past_bytes)) → PartsRow c (shaped group native) t mask (given.values xs) (refused (refusal e)) None
+  values-untaken xs h = bits-row (made c (shaped group native) t mask nothing_around (map value xs)) mask (primitive.parts_tests c.primitive t xs (option_map marks_in mask)) e h
+
+  pub bits-untaken : (p : Packed) → UnlessMemory e ((BitsFit p → ⊥) × (refusal e ≡ bits_past_bytes)) → PartsRow c (shaped group boolean) t mask (packed p) (refused (refusal e)) None
+  bits-untaken p h =
+      bits-row (made c (shaped group boolean) t mask nothing_around (map bit (marks_in p))) (Some p) (bits_test mask (boolean_tests group t (marks_in p) (option_map marks_in mask))) e h
+
+  pub mask-untaken : (p : Packed) → BitsFit p → UnlessMemory e ((IfSome mask BitsFit → ⊥) × (refusal e ≡ bits_past_bytes)) → PartsRow c (shaped group boolean) t mask (packed p) (refused (refusal e)) None
+  mask-untaken p fit h =
+      mask-row (made c (shaped group boolean) t mask nothing_around (map bit (marks_in p))) (Some p) mask (boolean_tests group t (marks_in p) (option_map marks_in mask)) e fit h
+
 pub untaken-made : {T : Type 0} (c : Types T) (group : Group) (text : Bool) (t : LogicalType) (mask : Option Packed) (numbers : List ℤ) (held : List ℕ) (e : Error)
     → (not (is_values_alone (shaped group (pieces text))) || is_none mask) ≡ true → Untaken mask numbers e
     → PartsRow c (shaped group (pieces text)) t mask (cut_pieces numbers held) (refused (refusal e)) None
 untaken-made c group text t mask numbers held e unmasked h = rw (pieces-sort group text, unmasked) (untaken-row _ numbers mask _ e h)
 
--- vectors that are not taken cost nothing
-faulty-cost : (mask : Option Packed) (r : Refusal) (found : Option (List ℕ)) → found ≡ None → IfSome mask BitsFit → MatchOption found ((IfSome mask BitsFit → ⊥) × (r ≡ bits_past_bytes)) (λ fault. r ≡ out_of_spec fault) → ⊥
-faulty-cost mask r None e bits h = h.0 bits
-faulty-cost mask r (Some fault) e bits h = cc
-
-pub faults-cost : (T : Type 0) (s : Shape) (mask : Option Packed) (numbers : List ℤ) (held : List ℕ) (cost : Cost) (e : Error) → Untaken mask numbers e → PartsCost {T = T} s mask numbers held (refused (refusal e)) cost cost
-faults-cost T s mask numbers held cost (error.OutOfSpec x) h = (λ tested. absurd (faulty-cost mask (out_of_spec x.now) (first_fault numbers) tested.2 tested.3 h), λ _. refl)
-faults-cost T s mask numbers held cost error.Overflow h = (λ tested. absurd (faulty-cost mask (refusal error.Overflow) (first_fault numbers) tested.2 tested.3 h), λ _. refl)
-faults-cost T s mask numbers held cost error.OutOfMemory h = (λ tested. cc, λ _. refl)
-
--- what is counted rises only where there is text
-either-way : {P : Type 0} (a b : ℕ) → (a ≡ b → P) → (a ≢ b → P) → P
-either-way {P} a b if-same if-other = go (a == b) refl
-  where
-    go : (found : Bool) → (a == b) ≡ found → P
-    go true e = if-same (eqb-true a b e)
-    go false e = if-other (λ same. false≢true (sym e ∙ eq-eqb a b same))
-
-pub still : (text : Bool) (offsets bytes : List ℕ) (old new : Cost) → Costs text offsets bytes old new → text ≡ false → new ≡ old
-still false offsets bytes old new costs e = costs
-still true offsets bytes old new costs e = absurd (false≢true (sym e))
-
-pub tested-once : {T : Type 0} (text : Bool) (group : Group) (t : LogicalType) (mask : Option Packed) (numbers : List ℤ) (held offsets bytes : List ℕ) (old new : Cost)
-    → offsets ≡ map unsigned_abs numbers → (text ≡ false → new ≡ old) → TestsOnce offsets bytes old new
-    → CostsAtMost {T = T} (make 0 (shaped group (pieces text)) (parts t (cut_pieces numbers held) mask) ∷ []) old new
-tested-once true group t mask numbers held offsets bytes old new is-offsets same once =
-    let count : length offsets ≡ length numbers = ap length is-offsets ∙ length-map numbers unsigned_abs in
-    record {
-      ascii = record { never_falls = once.ascii.never_falls; most = omega (arith, once.ascii.most) };
-      whole = record { never_falls = once.whole.never_falls; most = omega (arith, once.whole.most) };
-      looked = record { never_falls = once.looked.never_falls; most = omega (arith, once.looked.most, count) };
-    }
-tested-once false group t mask numbers held offsets bytes old new is-offsets same once = rw (same refl) (costs-still (make 0 (shaped group (pieces false)) (parts t (cut_pieces numbers held) mask) ∷ []) old)
+-- of other kinds than those of bytes and text the condition fails
+pub unmet-pieces : {T : Type 0} (c : Types T) (k : Kind) (t : LogicalType) (mask : Option Packed) (numbers : List ℤ) (held : List ℕ)
+    → (k ≡ kind.Binary → ⊥) → (k ≡ kind.Utf8 → ⊥) → (k ≡ kind.MutableBinary → ⊥) → (k ≡ kind.MutableUtf8 → ⊥) → (k ≡ kind.BinaryValues → ⊥) → (k ≡ kind.Utf8Values → ⊥)
+    → PartsRow c (shape k) t mask (cut_pieces numbers held) not_met None
+unmet-pieces c kind.Primitive t mask numbers held a b d e f g = (refl, refl)
+unmet-pieces c kind.Boolean t mask numbers held a b d e f g = (refl, refl)
+unmet-pieces c kind.MutablePrimitive t mask numbers held a b d e f g = (refl, refl)
+unmet-pieces c kind.MutableBoolean t mask numbers held a b d e f g = (refl, refl)
+unmet-pieces c kind.Binary t mask numbers held a b d e f g = absurd (a refl)
+unmet-pieces c kind.Utf8 t mask numbers held a b d e f g = absurd (b refl)
+unmet-pieces c kind.MutableBinary t mask numbers held a b d e f g = absurd (d refl)
+unmet-pieces c kind.MutableUtf8 t mask numbers held a b d e f g = absurd (e refl)
+unmet-pieces c kind.BinaryValues t mask numbers held a b d e f g = absurd (f refl)
+unmet-pieces c kind.Utf8Values t mask numbers held a b d e f g = absurd (g refl)

@@ -1,13 +1,14 @@
-use Rattle.std.proofs.Common.{option_map, Some}
+use Rattle.std.proofs.Common.{option_map}
 use Rattle.arrow_types.specs.Types.{logical_type}
 use Rattle.arrow_entry.specs.Entry.{types}
 use Rattle.arrow_entry.specs.Kind.{frozen}
 use Rattle.arrow_entry.specs.Request.{packed_bits}
-use Rattle.arrow_making.proofs.Passes.{bits-made, bits-row, mask-row}
+use Rattle.arrow_making.proofs.Passes.{bits-made, bits-untaken, mask-untaken}
 use Rattle.arrow_making.proofs.parts.boolean_of.Goals as goal
 
 pub returns-in-Err : goal.returns-in-Err
-returns-in-Err g c = bits-row _ (Some (packed_bits c.args.values)) _ c.in-Err.refused c.in-Err.ensures.err
+returns-in-Err g c =
+    bits-untaken (types g.T.NativeType.zero g.T.NativeType.PRIMITIVE g.O.Offset.most g.O.Offset.IS_LARGE) frozen (logical_type c.args.data_type) (option_map packed_bits c.args.mask) c.in-Err.refused (packed_bits c.args.values) c.in-Err.ensures.err
 
 pub returns-in-Ok-mask_taken : goal.returns-in-Ok-mask_taken
 returns-in-Ok-mask_taken g c =
@@ -18,4 +19,4 @@ returns-in-Ok-mask_taken g c =
 
 pub returns-in-Err-mask_taken : goal.returns-in-Err-mask_taken
 returns-in-Err-mask_taken g c =
-    mask-row _ (Some (packed_bits c.args.values)) (option_map packed_bits c.args.mask) _ c.in-Err-mask_taken.refused c.in-Ok.ensures.ok.0 c.in-Err-mask_taken.ensures.err
+    mask-untaken (types g.T.NativeType.zero g.T.NativeType.PRIMITIVE g.O.Offset.most g.O.Offset.IS_LARGE) frozen (logical_type c.args.data_type) (option_map packed_bits c.args.mask) c.in-Err-mask_taken.refused (packed_bits c.args.values) c.in-Ok.ensures.ok.0 c.in-Err-mask_taken.ensures.err

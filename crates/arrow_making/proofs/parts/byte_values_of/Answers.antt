@@ -1,4 +1,4 @@
-use Rattle.std.proofs.Common.{None, map, refl}
+use Rattle.std.proofs.Common.{false, None, map, refl}
 use Rattle.arrow_types.specs.Types.{logical_type}
 use Rattle.arrow_bytes.specs.Column.{byte_column}
 use Rattle.arrow_byte_array.specs.Acceptance.{values_builder_tests}

@@ -1,4 +1,4 @@
-use Rattle.std.proofs.Common.{map, option_map, refl}
+use Rattle.std.proofs.Common.{false, map, option_map, refl}
 use Rattle.arrow_types.specs.Types.{logical_type}
 use Rattle.arrow_bytes.specs.Column.{byte_column}
 use Rattle.arrow_byte_array.specs.Acceptance.{builder_tests}

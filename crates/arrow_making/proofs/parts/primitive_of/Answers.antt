@@ -3,7 +3,7 @@ use Rattle.arrow_types.specs.Types.{logical_type}
 use Rattle.arrow_entry.specs.Entry.{types}
 use Rattle.arrow_entry.specs.Kind.{frozen}
 use Rattle.arrow_entry.specs.Request.{packed_bits}
-use Rattle.arrow_making.proofs.Passes.{bits-row, values-made}
+use Rattle.arrow_making.proofs.Passes.{values-made, values-untaken}
 use Rattle.arrow_making.proofs.parts.primitive_of.Goals as goal
 
 pub returns-in-Ok-mask_taken : goal.returns-in-Ok-mask_taken
@@ -14,4 +14,5 @@ returns-in-Ok-mask_taken g c =
     c.args.values.items c.in-Ok.values c.try_new.result c.in-Ok.ensures.ok (record { ok = tested.ok; err = tested.err })
 
 pub returns-in-Err : goal.returns-in-Err
-returns-in-Err g c = bits-row _ (option_map packed_bits c.args.mask) _ c.in-Err.refused c.in-Err.ensures.err
+returns-in-Err g c =
+    values-untaken (types g.T.NativeType.zero g.T.NativeType.PRIMITIVE g.O.Offset.most g.O.Offset.IS_LARGE) frozen (logical_type c.args.data_type) (option_map packed_bits c.args.mask) c.in-Err.refused c.args.values.items c.in-Err.ensures.err
