@@ -9,7 +9,7 @@ use Rattle.arrow_bytes.specs.Pieces.{Around, nothing_around}
 use Rattle.arrow_bytes.specs.Column.{ByteColumn}
 use Rattle.arrow_check.specs.Indexes.{is_place}
 use Rattle.arrow_kernels.specs.Kernels.{asked, at_keys, column_of_rows, filtered, first_astray, taken, taking_overflows, where_set}
-use Rattle.arrow_kernels.proofs.ChoiceLemmas.{keys-map, where-map}
+use Rattle.arrow_kernels.proofs.CallerLemmas.{keys-map, where-map}
 use Rattle.arrow_entry.specs.Chosen.{bit_in, bits_column, bytes_column}
 use Rattle.arrow_entry.specs.Entry.{seen}
 use Rattle.arrow_entry.specs.Item.{Stored, value, bit, piece, bytes_in}
