@@ -64,8 +64,7 @@ impl Answering {
     pub fn push_narrow(&mut self, e: usize, slot: &Option<Item<i64>>) -> Result<bool, AllocError>
         ensures { IfOk result (AnswersAsked (Some (narrow (at e (push (stored_slot slot.now))))) self.old self.new) }
     {
-        let alloc = *self.text.allocator();
-        let reply = self.tables.push_narrow(alloc, e, slot);
+        let reply = self.tables.push_narrow(e, slot);
         self.tell(reply)
     }
 
@@ -73,8 +72,7 @@ impl Answering {
     pub fn push_wide(&mut self, e: usize, slot: &Option<Item<i64>>) -> Result<bool, AllocError>
         ensures { IfOk result (AnswersAsked (Some (wide (at e (push (stored_slot slot.now))))) self.old self.new) }
     {
-        let alloc = *self.text.allocator();
-        let reply = self.tables.push_wide(alloc, e, slot);
+        let reply = self.tables.push_wide(e, slot);
         self.tell(reply)
     }
 
@@ -101,8 +99,7 @@ impl Answering {
     pub fn answer_widen(&mut self, e: usize, f: usize) -> Result<bool, AllocError>
         ensures { IfOk result (AnswersAsked (Some (widen e f)) self.old self.new) }
     {
-        let alloc = *self.text.allocator();
-        let reply = self.tables.widen(alloc, e, f);
+        let reply = self.tables.widen(e, f);
         self.tell(reply)
     }
 
@@ -110,8 +107,7 @@ impl Answering {
     pub fn answer_narrow_to(&mut self, e: usize, f: usize) -> Result<bool, AllocError>
         ensures { IfOk result (AnswersAsked (Some (narrow_to e f)) self.old self.new) }
     {
-        let alloc = *self.text.allocator();
-        let reply = self.tables.narrow_to(alloc, e, f);
+        let reply = self.tables.narrow_to(e, f);
         self.tell(reply)
     }
 
