@@ -32,7 +32,7 @@ fn chosen<T: NativeType, O: Offset, C: Choice<T, O>>(
 }
 
 /// The filter that an entry is, where it is an array of truth values.
-#[tactic(auto, using(arrow_entry::proofs::Rules::seen_bits))]
+#[tactic(auto, using(arrow_entry::proofs::CallerLemmas::seen_bits))]
 fn filter_of<T: NativeType, O: Offset>(entry: &Entry<T, O>) -> Option<&BooleanArray>
     ensures { MatchOption result (filter_in (Some (value_of entry.now)) ≡ None) (λ filter. filter_in (Some (value_of entry.now)) ≡ Some filter.now) }
 {

@@ -152,7 +152,7 @@ pub fn extend_at<T: NativeType, O: Offset>(
 }
 
 /// Whether two builders of native values have the same slots.
-#[tactic(auto, using(arrow_entry::proofs::Rules::seen_slots))]
+#[tactic(auto, using(arrow_entry::proofs::CallerLemmas::seen_slots))]
 fn same_values<T: NativeType>(
     first: &MutablePrimitiveArray<T>,
     second: &MutablePrimitiveArray<T>,
@@ -170,7 +170,7 @@ fn same_bits<T: NativeType>(first: &MutableBooleanArray, second: &MutableBoolean
 }
 
 /// Whether two builders of bytes, or of texts, have the same slots.
-#[tactic(auto, using(arrow_entry::proofs::Rules::seen_slots))]
+#[tactic(auto, using(arrow_entry::proofs::CallerLemmas::seen_slots))]
 fn same_pieces<T: NativeType, K: ByteKind, O: Offset>(
     first: &MutableByteArray<K, O>,
     second: &MutableByteArray<K, O>,

@@ -12,16 +12,19 @@ use arrow_types::native_type::NativeType;
 use std::alloc::Global;
 
 /// The array of what an entry holds over wide offsets, where that is an array of items.
-#[tactic(auto, using(arrow_entry::proofs::Chosen::seen_choices, arrow_entry::proofs::Rules::seen_changes))]
-fn widened<T: NativeType>(entry: &Entry<T, i32>) -> Result<Entry<T, i64>, Reply<T>>
+#[tactic(auto, using(arrow_entry::proofs::CallerLemmas::seen_choices, arrow_entry::proofs::CallerLemmas::seen_changes))]
+fn widened<T: NativeType>(
+    alloc: Global,
+    entry: &Entry<T, i32>,
+) -> Result<Entry<T, i64>, Reply<T>>
     ensures { EntryBy result (Widens (wide_types T.zero T.PRIMITIVE) (Some (value_of entry.now))) }
 {
     match entry {
-        Entry::Binary(array) => match widen_binary(array) {
+        Entry::Binary(array) => match widen_binary(alloc, array) {
             Ok(wide) => Ok(Entry::Binary(wide)),
             Err(_) => Err(Reply::Refused(Error::OutOfMemory)),
         },
-        Entry::Utf8(array) => match widen_utf8(array) {
+        Entry::Utf8(array) => match widen_utf8(alloc, array) {
             Ok(wide) => Ok(Entry::Utf8(wide)),
             Err(_) => Err(Reply::Refused(Error::OutOfMemory)),
         },
@@ -30,17 +33,20 @@ fn widened<T: NativeType>(entry: &Entry<T, i32>) -> Result<Entry<T, i64>, Reply<
 }
 
 /// The array of what an entry holds over narrow offsets, where that is an array of items.
-#[tactic(auto, using(arrow_entry::proofs::Chosen::seen_choices, arrow_entry::proofs::Rules::seen_changes))]
-fn narrowed<T: NativeType>(entry: &Entry<T, i64>) -> Result<Entry<T, i32>, Reply<T>>
+#[tactic(auto, using(arrow_entry::proofs::CallerLemmas::seen_choices, arrow_entry::proofs::CallerLemmas::seen_changes))]
+fn narrowed<T: NativeType>(
+    alloc: Global,
+    entry: &Entry<T, i64>,
+) -> Result<Entry<T, i32>, Reply<T>>
     ensures { EntryBy result (Narrows (narrow_types T.zero T.PRIMITIVE) (Some (value_of entry.now))) }
 {
     match entry {
-        Entry::Binary(array) => match narrow_binary(array) {
+        Entry::Binary(array) => match narrow_binary(alloc, array) {
             Ok(narrow) => Ok(Entry::Binary(narrow)),
             Err(Error::Overflow) => Err(Reply::Refused(Error::Overflow)),
             Err(_) => Err(Reply::Refused(Error::OutOfMemory)),
         },
-        Entry::Utf8(array) => match narrow_utf8(array) {
+        Entry::Utf8(array) => match narrow_utf8(alloc, array) {
             Ok(narrow) => Ok(Entry::Utf8(narrow)),
             Err(Error::Overflow) => Err(Reply::Refused(Error::Overflow)),
             Err(_) => Err(Reply::Refused(Error::OutOfMemory)),
@@ -63,13 +69,13 @@ impl<'a, T: NativeType> Chooses<T, i64> for Widen<'a, T> {
 
     fn make(
         self,
-        _alloc: Global,
+        alloc: Global,
         _entries: &Vec<Option<Entry<T, i64>>>,
     ) -> Result<Entry<T, i64>, Reply<T>> {
         let Some(from) = held_at(self.0, self.1) else {
             return Err(Reply::NotMet);
         };
-        widened(from)
+        widened(alloc, from)
     }
 }
 
@@ -87,12 +93,12 @@ impl<'a, T: NativeType> Chooses<T, i32> for Narrow<'a, T> {
 
     fn make(
         self,
-        _alloc: Global,
+        alloc: Global,
         _entries: &Vec<Option<Entry<T, i32>>>,
     ) -> Result<Entry<T, i32>, Reply<T>> {
         let Some(from) = held_at(self.0, self.1) else {
             return Err(Reply::NotMet);
         };
-        narrowed(from)
+        narrowed(alloc, from)
     }
 }

@@ -7,8 +7,8 @@ use Rattle.arrow_entry.specs.Entry.{Types, value_of}
 use Rattle.arrow_entry.specs.Kind.{Shape}
 use Rattle.arrow_entry.specs.Request.{Source, make}
 use Rattle.arrow_entry.specs.Step.{AtEntry, Makes_in, StepCosts}
-use Rattle.arrow_entry.proofs.Costs.{costs-anywhere}
-use Rattle.arrow_rows.proofs.Steps.{at-row}
+use Rattle.arrow_entry.proofs.CallerLemmas.{costs-anywhere}
+use Rattle.arrow_rows.proofs.CallerLemmas.{at-row}
 
 pub placed : {T O : Type 0} (c : Types T) (entries : List (Option (Entry T O))) (e : ℕ) (s : Shape) (source : Source T) (x y : Option (Entry T O)) (reply : Answer T) (old new : Cost)
     → slice_get entries e ≡ Some x → Makes_in c s source (option_map value_of x) reply (option_map value_of y) → StepCosts (make 0 s source) reply old new

@@ -6,7 +6,7 @@ use Rattle.arrow_entry.specs.Entry.{State, Types, Value, value_of}
 use Rattle.arrow_entry.specs.Kind.{any_kind}
 use Rattle.arrow_entry.specs.Request.{all_slots}
 use Rattle.arrow_entry.specs.Step.{AtEntry, Does_to, entry_at}
-use Rattle.arrow_rows.proofs.Steps.{set-same}
+use Rattle.arrow_rows.proofs.CallerLemmas.{set-same}
 use Rattle.arrow_table.specs.Listed.{listed}
 
 module _ {T O : Type 0} (c : Types T) where

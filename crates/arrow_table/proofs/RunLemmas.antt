@@ -12,7 +12,7 @@ use Rattle.arrow_entry.specs.Entry.{Held, Types}
 use Rattle.arrow_entry.specs.Step.{IsStep}
 use Rattle.arrow_entry.specs.Run.{Runs, IsRun, CostsAtMost, total, texts_of, inner_offsets_of}
 use Rattle.arrow_entry.specs.Both.{Both, BothRequest, narrow, wide, widen, narrow_to, both_asked, narrow_of, wide_of, IsBothStep}
-use Rattle.arrow_entry.proofs.Costs.{costs-still}
+use Rattle.arrow_entry.proofs.CallerLemmas.{costs-still}
 
 -- ---- any steps
 

@@ -1,5 +1,5 @@
 //! A table, and the run of a list of commands on it.
-ghost use Rattle.std.specs.Prelude.{◌≡◌, ◌<◌, ◌≤◌, ◌∷◌, [], length, map, replicate, take, vec_capacity, vec_len, IfErr, IfOk, None, option_copied, option_map};
+ghost use Rattle.std.specs.Prelude.{◌≡◌, ◌<◌, ◌≤◌, ◌∷◌, [], length, map, replicate, take, vec_capacity, vec_len, IfErr, IfOk, IfSome, None, option_copied, option_map};
 ghost use Rattle.arrow_check.specs.Reading.{no_cost};
 ghost use Rattle.arrow_entry.specs.Answer.{told};
 ghost use Rattle.arrow_entry.specs.Entry.{table_of, types, value_of};
@@ -8,6 +8,7 @@ ghost use Rattle.arrow_entry.specs.Kind.{shape};
 ghost use Rattle.arrow_entry.specs.Request.{all_slots, asked, at, parts_asked, push};
 ghost use Rattle.arrow_entry.specs.Run.{AppendsRun, CostsAtMost};
 ghost use Rattle.arrow_entry.specs.Step.{IsStep, entry_at};
+ghost use Rattle.arrow_entry.specs.Values.{IsValue};
 ghost use Rattle.arrow_table.specs.Listed.{listed};
 
 use crate::sequence::{Steps, run_all};
@@ -78,20 +79,29 @@ impl<T: NativeType, O: Offset> Table<T, O> {
     }
 
     /// What an entry holds, lent to a caller who reads it where it lies; `None` where the entry is empty or past the table.
-    /// Its slots are what the command `Slots` tells, which copies them.
+    /// Its slots are what the command `Slots` tells, which copies them. What is held is a value.
     #[inline(always)]
     pub fn get(&self, i: usize) -> Option<&Entry<T, O>>
         ensures held { entry_at self.now.entries i ≡ option_map value_of (option_copied result) }
         ensures step { IsStep (types T.zero T.PRIMITIVE O.most O.IS_LARGE) self.now (at i all_slots) (listed (option_copied result)) self.now }
+        ensures value { IfSome (option_copied result) (λ held. IsValue (types T.zero T.PRIMITIVE O.most O.IS_LARGE) (value_of held)) }
     {
-        held_at(&self.entries, i)
+        match held_at(&self.entries, i) {
+            Some(held) => {
+                // Its contract says that what is held is a value.
+                held.prove_value();
+                Some(held)
+            }
+            None => None,
+        }
     }
 
     /// Does the command that appends a slot to the builder in an entry, and answers, with no command made for it.
     #[inline(always)]
-    pub fn push_at(&mut self, alloc: Global, i: usize, slot: &Option<Item<T>>) -> Reply<T>
+    pub fn push_at(&mut self, i: usize, slot: &Option<Item<T>>) -> Reply<T>
         ensures { IsStep (types T.zero T.PRIMITIVE O.most O.IS_LARGE) self.old (at i (push (stored_slot slot.now))) (told result) self.new }
     {
+        let alloc = *self.entries.allocator();
         at(alloc, &mut self.entries, i, OfBuilder(Push(slot)))
     }
 

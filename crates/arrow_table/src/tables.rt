@@ -80,18 +80,18 @@ impl<T: NativeType> Tables<T> {
 
     /// Appends a slot to the builder in a narrow entry, as the command for it does, and answers.
     #[inline(always)]
-    pub fn push_narrow(&mut self, alloc: Global, e: usize, slot: &Option<Item<T>>) -> Reply<T>
+    pub fn push_narrow(&mut self, e: usize, slot: &Option<Item<T>>) -> Reply<T>
         ensures { IsBothStep T.zero T.PRIMITIVE self.old (narrow (at e (push (stored_slot slot.now)))) (told result) self.new }
     {
-        self.narrow.push_at(alloc, e, slot)
+        self.narrow.push_at(e, slot)
     }
 
     /// The same of a wide entry.
     #[inline(always)]
-    pub fn push_wide(&mut self, alloc: Global, e: usize, slot: &Option<Item<T>>) -> Reply<T>
+    pub fn push_wide(&mut self, e: usize, slot: &Option<Item<T>>) -> Reply<T>
         ensures { IsBothStep T.zero T.PRIMITIVE self.old (wide (at e (push (stored_slot slot.now)))) (told result) self.new }
     {
-        self.wide.push_at(alloc, e, slot)
+        self.wide.push_at(e, slot)
     }
 
     /// Puts what raw parts make into a narrow entry, as the command for it does, and answers. The parts are taken, not copied.
@@ -113,17 +113,19 @@ impl<T: NativeType> Tables<T> {
     }
 
     /// Puts the array of items of a narrow entry, over wide offsets, into a wide entry, which is empty, and answers.
-    pub fn widen(&mut self, alloc: Global, e: usize, f: usize) -> Reply<T>
+    pub fn widen(&mut self, e: usize, f: usize) -> Reply<T>
         ensures { IsBothStep T.zero T.PRIMITIVE self.old (widen e f) (told result) self.new }
     {
+        let alloc = *self.wide.entries.allocator();
         let row = Widen(&self.narrow.entries, e);
         put_at(alloc, &mut self.wide.entries, f, row)
     }
 
     /// Puts the array of items of a wide entry, over narrow offsets, into a narrow entry, which is empty, and answers.
-    pub fn narrow_to(&mut self, alloc: Global, e: usize, f: usize) -> Reply<T>
+    pub fn narrow_to(&mut self, e: usize, f: usize) -> Reply<T>
         ensures { IsBothStep T.zero T.PRIMITIVE self.old (narrow_to e f) (told result) self.new }
     {
+        let alloc = *self.narrow.entries.allocator();
         let row = Narrow(&self.wide.entries, e);
         put_at(alloc, &mut self.narrow.entries, f, row)
     }

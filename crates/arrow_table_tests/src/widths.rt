@@ -111,13 +111,13 @@ fn wide(alloc: Global, tables: &mut Tables<i64>, command: &Command<i64, i64>) ->
 }
 
 /// What is answered where the array of a narrow entry goes to a wide one.
-fn widened(alloc: Global, tables: &mut Tables<i64>, e: usize, f: usize) -> &'static str {
-    named(tables.widen(alloc, e, f))
+fn widened(tables: &mut Tables<i64>, e: usize, f: usize) -> &'static str {
+    named(tables.widen(e, f))
 }
 
 /// What is answered where it goes the other way.
-fn narrowed(alloc: Global, tables: &mut Tables<i64>, e: usize, f: usize) -> &'static str {
-    named(tables.narrow_to(alloc, e, f))
+fn narrowed(tables: &mut Tables<i64>, e: usize, f: usize) -> &'static str {
+    named(tables.narrow_to(e, f))
 }
 
 /// Whether a builder on either side is made and frozen, step by step.
@@ -125,7 +125,7 @@ fn are_frozen(alloc: Global, tables: &mut Tables<i64>) -> bool {
     let made = [
         narrow(alloc, tables, &Command::New(0, Kind::MutableBinary)),
         wide(alloc, tables, &Command::New(1, Kind::MutableBinary)),
-        widened(alloc, tables, 0, 0),
+        widened(tables, 0, 0),
         narrow(alloc, tables, &Command::Freeze(0)),
         wide(alloc, tables, &Command::Freeze(1)),
     ];
@@ -135,7 +135,7 @@ fn are_frozen(alloc: Global, tables: &mut Tables<i64>) -> bool {
 /// Whether they are, and the array of either side goes to the other.
 fn steps(alloc: Global, tables: &mut Tables<i64>) -> bool {
     let are_frozen = are_frozen(alloc, tables);
-    let gone = [widened(alloc, tables, 0, 0), narrowed(alloc, tables, 1, 1)];
+    let gone = [widened(tables, 0, 0), narrowed(tables, 1, 1)];
     let seen = [
         wide(alloc, tables, &Command::Len(0)),
         narrow(alloc, tables, &Command::TypeOf(1)),
@@ -152,19 +152,19 @@ fn steps_of_new(alloc: Global, rt: &impl Abort) -> bool {
 }
 
 /// What is answered where a slot is pushed to the first entry of either side, with no command made for it.
-fn pushed(alloc: Global, tables: &mut Tables<i64>, slot: &Option<Item<i64>>) -> [&'static str; 2] {
+fn pushed(tables: &mut Tables<i64>, slot: &Option<Item<i64>>) -> [&'static str; 2] {
     [
-        named(tables.push_narrow(alloc, 0, slot)),
-        named(tables.push_wide(alloc, 0, slot)),
+        named(tables.push_narrow(0, slot)),
+        named(tables.push_wide(0, slot)),
     ]
 }
 
 /// Whether a value and a null are pushed to a builder on the wide side, and to no entry that holds none.
 fn pushes(alloc: Global, tables: &mut Tables<i64>) -> bool {
-    let missing = pushed(alloc, tables, &None);
+    let missing = pushed(tables, &None);
     let made = wide(alloc, tables, &Command::New(0, Kind::MutablePrimitive));
-    let values = pushed(alloc, tables, &Some(Item::Value(7)));
-    let nulls = pushed(alloc, tables, &None);
+    let values = pushed(tables, &Some(Item::Value(7)));
+    let nulls = pushed(tables, &None);
     let count = wide(alloc, tables, &Command::Len(0));
     (missing == ["not met", "not met"])
         & (values == ["not met", "done"])

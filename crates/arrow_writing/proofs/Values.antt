@@ -7,7 +7,7 @@ use Rattle.arrow_column.specs.Column.{ColumnWith, stored_values, with_stored}
 use Rattle.arrow_bytes.specs.Pieces.{Around}
 use Rattle.arrow_entry.specs.Entry.{seen}
 use Rattle.arrow_entry.specs.Item.{Stored}
-use Rattle.arrow_entry.proofs.Seen.{map-slice_set, stored-seen, with-stored-seen}
+use Rattle.arrow_entry.proofs.CallerLemmas.{map-slice_set, stored-seen, with-stored-seen}
 
 pub map-replicate : {A B : Type 0} (h : A → B) (n : ℕ) (x : A) → map h (replicate n x) ≡ replicate n (h x)
 map-replicate h zero x = refl

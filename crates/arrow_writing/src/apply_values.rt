@@ -55,7 +55,7 @@ fn turned_marks(mut marks: MutableBitmap) -> MutableBitmap
 }
 
 /// Changes the stored values of a builder of native values.
-#[tactic(auto, using(arrow_entry::proofs::Seen::seen_reads, arrow_entry::proofs::Rules::seen_changes, crate::proofs::Values::seen_turns))]
+#[tactic(auto, using(arrow_entry::proofs::CallerLemmas::seen_reads, arrow_entry::proofs::CallerLemmas::seen_changes, crate::proofs::Values::seen_turns))]
 fn change_builder<T: NativeType, O: Offset>(
     builder: &mut MutablePrimitiveArray<T>,
     change: &Named<T>,
@@ -93,7 +93,7 @@ fn reverse_values<T: NativeType>(builder: &mut MutablePrimitiveArray<T>)
 }
 
 /// Changes the stored values of an array of truth values.
-#[tactic(auto, using(arrow_entry::proofs::Seen::seen_reads, arrow_entry::proofs::Rules::seen_changes, crate::proofs::Values::seen_turns))]
+#[tactic(auto, using(arrow_entry::proofs::CallerLemmas::seen_reads, arrow_entry::proofs::CallerLemmas::seen_changes, crate::proofs::Values::seen_turns))]
 fn change_bits<T: NativeType, O: Offset>(array: &mut BooleanArray, change: &Named<T>) -> Reply<T>
     ensures { Does (types T.zero T.PRIMITIVE O.most O.IS_LARGE) (boolean_value frozen array.old) (ask.apply_values (change_of change.now)) (told result) (Some (boolean_value frozen array.new)) }
 {

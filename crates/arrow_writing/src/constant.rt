@@ -16,7 +16,7 @@ use arrow_types::offset::Offset;
 use std::alloc::Global;
 
 /// Appends so many equal slots to a builder of native values.
-#[tactic(auto, using(arrow_entry::proofs::Rules::seen_changes, crate::proofs::Values::seen_lists))]
+#[tactic(auto, using(arrow_entry::proofs::CallerLemmas::seen_changes, crate::proofs::Values::seen_lists))]
 fn extend_natives<T: NativeType, O: Offset>(
     builder: &mut MutablePrimitiveArray<T>,
     n: usize,

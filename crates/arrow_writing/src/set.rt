@@ -41,7 +41,7 @@ fn bit_slot<T: NativeType>(slot: &Option<Item<T>>) -> Option<Option<bool>>
 }
 
 /// Replaces a slot of a builder of native values.
-#[tactic(auto, using(arrow_entry::proofs::Seen::seen_reads, arrow_entry::proofs::Rules::seen_changes))]
+#[tactic(auto, using(arrow_entry::proofs::CallerLemmas::seen_reads, arrow_entry::proofs::CallerLemmas::seen_changes))]
 fn set_native<T: NativeType, O: Offset>(
     builder: &mut MutablePrimitiveArray<T>,
     i: usize,
@@ -62,7 +62,7 @@ fn set_native<T: NativeType, O: Offset>(
 }
 
 /// Replaces a slot of a builder of truth values.
-#[tactic(auto, using(arrow_entry::proofs::Seen::seen_reads, arrow_entry::proofs::Rules::seen_changes))]
+#[tactic(auto, using(arrow_entry::proofs::CallerLemmas::seen_reads, arrow_entry::proofs::CallerLemmas::seen_changes))]
 fn set_bit<T: NativeType, O: Offset>(
     builder: &mut MutableBooleanArray,
     i: usize,

@@ -120,7 +120,7 @@ fn shared_bits<T>(alloc: Global, items: &[Item<T>]) -> Result<Bitmap, Error>
 }
 
 /// Replaces the stored values of an array of native values.
-#[tactic(auto, using(arrow_entry::proofs::Seen::seen_reads, arrow_entry::proofs::Rules::seen_changes))]
+#[tactic(auto, using(arrow_entry::proofs::CallerLemmas::seen_reads, arrow_entry::proofs::CallerLemmas::seen_changes))]
 fn set_array<T: NativeType, O: Offset>(
     alloc: Global,
     array: &mut PrimitiveArray<T>,
@@ -141,7 +141,7 @@ fn set_array<T: NativeType, O: Offset>(
 }
 
 /// Replaces the stored values of a builder of native values.
-#[tactic(auto, using(arrow_entry::proofs::Seen::seen_reads, arrow_entry::proofs::Rules::seen_changes))]
+#[tactic(auto, using(arrow_entry::proofs::CallerLemmas::seen_reads, arrow_entry::proofs::CallerLemmas::seen_changes))]
 fn set_builder<T: NativeType, O: Offset>(
     alloc: Global,
     builder: &mut MutablePrimitiveArray<T>,
@@ -162,7 +162,7 @@ fn set_builder<T: NativeType, O: Offset>(
 }
 
 /// Replaces the stored values of an array of truth values.
-#[tactic(auto, using(arrow_entry::proofs::Seen::seen_reads, arrow_entry::proofs::Rules::seen_changes))]
+#[tactic(auto, using(arrow_entry::proofs::CallerLemmas::seen_reads, arrow_entry::proofs::CallerLemmas::seen_changes))]
 fn set_bits<T: NativeType, O: Offset>(
     alloc: Global,
     array: &mut BooleanArray,

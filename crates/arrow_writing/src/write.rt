@@ -35,7 +35,7 @@ fn write_to<T: NativeType>(builder: &mut MutablePrimitiveArray<T>, i: usize, x: 
 }
 
 /// Writes a stored value of an array of native values.
-#[tactic(auto, using(arrow_entry::proofs::Seen::seen_reads, arrow_entry::proofs::Rules::seen_changes, crate::proofs::Values::seen_lists))]
+#[tactic(auto, using(arrow_entry::proofs::CallerLemmas::seen_reads, arrow_entry::proofs::CallerLemmas::seen_changes, crate::proofs::Values::seen_lists))]
 fn write_array<T: NativeType, O: Offset>(
     array: &mut PrimitiveArray<T>,
     i: usize,
@@ -59,7 +59,7 @@ fn write_array<T: NativeType, O: Offset>(
 }
 
 /// Writes a stored value of a builder of native values.
-#[tactic(auto, using(arrow_entry::proofs::Seen::seen_reads, arrow_entry::proofs::Rules::seen_changes, crate::proofs::Values::seen_lists))]
+#[tactic(auto, using(arrow_entry::proofs::CallerLemmas::seen_reads, arrow_entry::proofs::CallerLemmas::seen_changes, crate::proofs::Values::seen_lists))]
 fn write_builder<T: NativeType, O: Offset>(
     builder: &mut MutablePrimitiveArray<T>,
     i: usize,

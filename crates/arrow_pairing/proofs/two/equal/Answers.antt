@@ -2,7 +2,7 @@ use Rattle.std.proofs.Common.{◌<◌, length, map, option_map, arith}
 use Rattle.arrow_entry.specs.Answer.{told}
 use Rattle.arrow_entry.specs.Entry.{types, value_of}
 use Rattle.arrow_entry.specs.Step.{Compares_to, entry_at}
-use Rattle.arrow_rows.proofs.Steps.{got, stays-row}
+use Rattle.arrow_rows.proofs.CallerLemmas.{got, stays-row}
 use Rattle.arrow_pairing.proofs.two.equal.Goals as goal
 
 pub returns : goal.returns

@@ -2,7 +2,7 @@ use Rattle.std.proofs.Common.{◌<◌, length, map, option_map, slice_set, ap, a
 use Rattle.arrow_entry.specs.Answer.{told}
 use Rattle.arrow_entry.specs.Entry.{types, value_of}
 use Rattle.arrow_entry.specs.Step.{Joins_to, other_at}
-use Rattle.arrow_rows.proofs.Steps.{at-row, got, others-stay, set-twice}
+use Rattle.arrow_rows.proofs.CallerLemmas.{at-row, got, others-stay, set-twice}
 use Rattle.arrow_pairing.proofs.two.extend_at.Goals as goal
 
 pub returns : goal.returns

@@ -1,4 +1,4 @@
-use Rattle.arrow_entry.proofs.Seen.{same-bits}
+use Rattle.arrow_entry.proofs.CallerLemmas.{same-bits}
 use Rattle.arrow_pairing.proofs.two.same_bits.Goals as goal
 
 pub returns : goal.returns

@@ -3,8 +3,8 @@ use Rattle.arrow_entry.specs.Answer.{told}
 use Rattle.arrow_entry.specs.Entry.{types}
 use Rattle.arrow_entry.specs.Kind.{shape}
 use Rattle.arrow_entry.specs.Request.{source_of}
-use Rattle.arrow_entry.proofs.Costs.{most-anywhere}
-use Rattle.arrow_rows.proofs.Steps.{got}
+use Rattle.arrow_entry.proofs.CallerLemmas.{most-anywhere}
+use Rattle.arrow_rows.proofs.CallerLemmas.{got}
 use Rattle.arrow_step.proofs.Placed.{placed}
 use Rattle.arrow_step.proofs.step.parts_at.Goals as goal
 
