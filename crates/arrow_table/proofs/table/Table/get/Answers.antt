@@ -1,4 +1,4 @@
-use Rattle.std.proofs.Common.{map, option_copied, option_map, refl, None, Some}
+use Rattle.std.proofs.Common.{map, None, option_copied, option_map, refl, Some}
 use Rattle.arrow_entry.specs.Entry.{types, value_of}
 use Rattle.arrow_table.proofs.Listing.{tells}
 use Rattle.arrow_table.proofs.table.Table.get.Goals as goal
@@ -13,4 +13,4 @@ pub returns-in-None-clause-step : goal.returns-in-None-clause-step
 returns-in-None-clause-step g c =
     let state = map (option_map value_of) c.self.inside.entries.items in
     let all = types g.T.NativeType.zero g.T.NativeType.PRIMITIVE g.O.Offset.most g.O.Offset.IS_LARGE in
-    rw (← c.self.view_is) (tells all state c.args.i (option_copied None) c.in-None.ensures, refl)
+    rw (← c.self.view_is) (tells {O = g.row.O.Denot} all state c.args.i None c.in-None.ensures, refl)
