@@ -13,10 +13,7 @@ use std::alloc::Global;
 
 /// The array of what an entry holds over wide offsets, where that is an array of items.
 #[tactic(auto, using(arrow_entry::proofs::CallerLemmas::seen_choices, arrow_entry::proofs::CallerLemmas::seen_changes))]
-fn widened<T: NativeType>(
-    alloc: Global,
-    entry: &Entry<T, i32>,
-) -> Result<Entry<T, i64>, Reply<T>>
+fn widened<T: NativeType>(alloc: Global, entry: &Entry<T, i32>) -> Result<Entry<T, i64>, Reply<T>>
     ensures { EntryBy result (Widens (wide_types T.zero T.PRIMITIVE) (Some (value_of entry.now))) }
 {
     match entry {
@@ -34,10 +31,7 @@ fn widened<T: NativeType>(
 
 /// The array of what an entry holds over narrow offsets, where that is an array of items.
 #[tactic(auto, using(arrow_entry::proofs::CallerLemmas::seen_choices, arrow_entry::proofs::CallerLemmas::seen_changes))]
-fn narrowed<T: NativeType>(
-    alloc: Global,
-    entry: &Entry<T, i64>,
-) -> Result<Entry<T, i32>, Reply<T>>
+fn narrowed<T: NativeType>(alloc: Global, entry: &Entry<T, i64>) -> Result<Entry<T, i32>, Reply<T>>
     ensures { EntryBy result (Narrows (narrow_types T.zero T.PRIMITIVE) (Some (value_of entry.now))) }
 {
     match entry {
