@@ -24,7 +24,7 @@ pub trait Values: Drop {
     /// What lies around them.
     ghost around: { Self → Self.Around };
 
-    /// What lies around a cut of the stored values, of so many values from a place on.
+    /// What lies around a cut of the stored values, from a place on.
     ghost cut_around: { Self.Around → List Self.Stored → ℕ → ℕ → Self.Around };
 
     /// Returns the number of stored values.

@@ -146,7 +146,7 @@ impl Width for i64 {
 
 /// A line of the table of one width whose name and number further words may follow.
 pub(crate) trait Line<O: Width> {
-    /// What these words say; `()` where that is told beside the line.
+    /// The type of these words; `()` if the line reads them itself.
     type Rest: Words;
 
     /// What a number and words ask, where they are as they should be.

@@ -373,7 +373,7 @@ fn slots_that_no_memory_holds(rt: HostRuntime) {
     assert!(rt; [nulls, room] == ["out of memory"; 2]);
 }
 
-/// Whether so many slots are appended, for which no memory is asked.
+/// Appends `count` equal slots and returns whether every push succeeded.
 fn takes(builder: &mut MutableBooleanArray, count: usize, slot: Option<bool>) -> bool {
     for _ in 0..count {
         if builder.push(slot).is_err() {

@@ -1,5 +1,5 @@
 //! Runs of a table, whichever allocation is refused: the command that asked for it says so, and leaves its entry as it was,
-//! or empty where it freezes it; what needs no memory is never refused for it, and an overflow is told in its place.
+//! or empty where it freezes it; what needs no memory is never refused for it, and neither is what overflows.
 //!
 //! Replies are written as words: `ok`, `-` where a condition does not hold, `refused` and `overflow`, numbers, `_` for a
 //! null, `=` and what an item writes, and a comma behind each of a list of slots.
