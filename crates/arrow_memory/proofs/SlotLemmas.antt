@@ -6,7 +6,7 @@ use Rattle.std.specs.Iterator.{MakesProgress, item_count}
 use Rattle.std.specs.List.{zip}
 use Rattle.std.proofs.lemmas.List.{length-map, map-append, length_push}
 use Rattle.std.proofs.lemmas.Slice.Zip.{length-zip}
-use Rattle.arrow_memory.specs.MarkWrites.{TakesLastMark}
+use Rattle.arrow_bitmap.specs.MarkWrites.{TakesLastMark}
 use Rattle.arrow_memory.specs.Rows.{slot, rows_of}
 
 pub length-rows_of : {S : Type 0} (values : List S) (mask : Option (List Bool))

@@ -1,8 +1,9 @@
 //! Double-ended iterators whose remaining items contracts know as a list.
-ghost use Rattle.std.specs.Prelude.{◌≡◌, ◌<◌, Bool, List, [], ◌∷◌, ◌++◌, length, ⊤};
+ghost use Rattle.std.specs.Prelude.{◌≡◌, List, length, ⊤};
 ghost use Rattle.std.specs.Iterator.{YieldsFirstBy, YieldsLastBy};
 
-use crate::bitmap::{BitmapIntoIter, BitmapIter};
+pub use arrow_bitmap::MarkIter;
+use arrow_bitmap::{BitmapIntoIter, BitmapIter};
 use std::iter::Copied;
 use std::slice::Iter;
 use std::vec::IntoIter;
@@ -40,23 +41,6 @@ pub trait ListIter: Drop {
     fn count_left(&self) -> usize
         requires { can_take self.now }
         ensures { result ≡ length (rest self.now) };
-}
-
-/// A double-ended iterator over marks. A caller that knows that a mark is left gets it without an
-/// `Option`.
-pub trait MarkIter: Drop {
-    /// The marks that are left, in order.
-    ghost marks: { Self → List Bool };
-
-    /// Removes and returns the first mark that is left.
-    fn pass(&mut self) -> bool
-        requires { 0 < length (marks self.old) }
-        ensures { marks self.old ≡ result ∷ marks self.new };
-
-    /// Removes and returns the last mark that is left.
-    fn pass_back(&mut self) -> bool
-        requires { 0 < length (marks self.old) }
-        ensures { marks self.old ≡ marks self.new ++ result ∷ [] };
 }
 
 impl<'a, T> ListIter for Iter<'a, T> {

@@ -3,9 +3,9 @@ ghost use Rattle.std.specs.Prelude.{◌≡◌, ◌≤◌, length, take, MatchOpt
 ghost use Rattle.either.specs.Either.{MatchEither};
 ghost use Rattle.arrow_memory.specs.Offsets.{last_of};
 
-use crate::bitmap::{Bitmap, MutableBitmap};
 use crate::buffer::Buffer;
 use crate::offset::{Offsets, OffsetsBuffer};
+use arrow_bitmap::{Bitmap, MutableBitmap};
 use arrow_types::offset::Offset;
 use either::{Either, Left, Right};
 use std::mem;

@@ -1,0 +1,4 @@
+mod AgreeLemmas
+mod CopyLemmas
+pub mod MarkLemmas
+pub mod ByteWords

@@ -1,0 +1,4 @@
+pub mod Items
+pub mod Marks
+pub mod Masks
+pub mod MarkWrites

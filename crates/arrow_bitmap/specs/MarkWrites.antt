@@ -1,0 +1,19 @@
+-- What private functions do to marks: writes to packed bytes, and the last mark that is taken.
+use Rattle.std.specs.Prelude.{◌≡◌, ◌+◌, ◌++◌, ◌<◌, ◌≤◌, ℕ, Bool, true, List, [], ◌∷◌, Option, Some, None, IsSomeAnd}
+use Rattle.arrow_bitmap.specs.Marks.{mark_at}
+
+-- the marks from a place up to another are this value, and every other mark is as it was
+pub record FillsMarks (old new : List ℕ) (start end : ℕ) (value : Bool) : Type 0 where
+  pub inside : (i : ℕ) → start ≤ i → i < end → mark_at new i ≡ value
+  pub below : (i : ℕ) → i < start → mark_at new i ≡ mark_at old i
+  pub above : (i : ℕ) → end ≤ i → mark_at new i ≡ mark_at old i
+
+-- behind the first so many marks, which stay, stand other bytes' marks from a place on, so many
+pub record CopiesMarks (old new source : List ℕ) (length place count : ℕ) : Type 0 where
+  pub kept : (i : ℕ) → i < length → mark_at new i ≡ mark_at old i
+  pub copied : (i : ℕ) → i < count → mark_at new (length + i) ≡ mark_at source (place + i)
+
+-- the last mark was taken from the marks, where there are any; without marks every slot is valid
+abbrev pub TakesLastMark : Option (List Bool) → Option (List Bool) → Bool → Type 0
+TakesLastMark None new mark = (new ≡ None) × (mark ≡ true)
+TakesLastMark (Some marks) new mark = IsSomeAnd new (λ rest. marks ≡ rest ++ mark ∷ [])

@@ -1,0 +1,18 @@
+//! Bitmaps: lists of marks, packed eight to a byte (Arrow columnar format, "Validity bitmaps"), which
+//! contracts see as lists of truth values.
+#![tactic(auto)]
+
+mod agree;
+mod bits;
+mod copy;
+mod immutable;
+mod iterator;
+mod mark_iter;
+mod mutable;
+mod pack;
+mod words;
+
+pub use immutable::Bitmap;
+pub use iterator::{BitmapIntoIter, BitmapIter};
+pub use mark_iter::MarkIter;
+pub use mutable::MutableBitmap;
