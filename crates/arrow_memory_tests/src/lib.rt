@@ -2,8 +2,6 @@
 #![tactic(auto)]
 
 #[cfg(test)]
-mod bitmap;
-#[cfg(test)]
 mod buffer;
 #[cfg(test)]
 mod offset;

@@ -1,8 +1,8 @@
 // Bit maps of given bytes, clones, and what comes of them. Bytes were packed by hand.
 ghost use Rattle.std.specs.Prelude.{◌≡◌, length};
 
-use crate::bitmap::{cut, frozen, gives};
-use arrow_memory::bitmap::{Bitmap, MutableBitmap};
+use crate::tests::{cut, frozen, gives};
+use arrow_bitmap::{Bitmap, MutableBitmap};
 use std::alloc::Global;
 use std::process::Abort;
 

@@ -4,7 +4,7 @@ mod mutable;
 mod shared;
 mod words;
 
-use arrow_memory::bitmap::{Bitmap, BitmapIter, MutableBitmap};
+use arrow_bitmap::{Bitmap, BitmapIter, MutableBitmap};
 use std::alloc::Global;
 use std::process::Abort;
 

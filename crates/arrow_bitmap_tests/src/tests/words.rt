@@ -1,7 +1,7 @@
 // Marks as words. Words and marks were worked out by hand: the nine bytes below are the number 0xff_efcd_ab89_6745_2301, of
 // which a word from place p on is the 64 bits above the lowest p.
-use crate::bitmap::{cut, gives};
-use arrow_memory::bitmap::{Bitmap, MutableBitmap};
+use crate::tests::{cut, gives};
+use arrow_bitmap::{Bitmap, MutableBitmap};
 use std::alloc::Global;
 use std::process::Abort;
 

@@ -1,6 +1,6 @@
 // The bytes below were packed by hand: mark i is bit i mod 8, the least significant first, of byte i / 8.
-use crate::bitmap::{gives, pushed};
-use arrow_memory::bitmap::MutableBitmap;
+use crate::tests::{gives, pushed};
+use arrow_bitmap::MutableBitmap;
 use std::alloc::Global;
 use std::process::Abort;
 

@@ -1,7 +1,7 @@
 // Truth values that are packed by whole bytes. Marks are written as texts, in which '1' is a set mark; bytes
 // were packed by hand.
-use crate::bitmap::gives;
-use arrow_memory::bitmap::{Bitmap, MutableBitmap};
+use crate::tests::gives;
+use arrow_bitmap::{Bitmap, MutableBitmap};
 use std::alloc::Global;
 use std::process::Abort;
 

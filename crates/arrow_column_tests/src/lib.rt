@@ -1,6 +1,0 @@
-//! Tests of `arrow_column`, in a crate of their own, since the gate proves a crate with tests twice. What columns do is
-//! tested through the arrays and builders that are made of them.
-#![tactic(auto)]
-
-#[cfg(test)]
-mod laws;
