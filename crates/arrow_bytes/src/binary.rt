@@ -1,7 +1,7 @@
 //! The kind of bytes, of which any bytes are an item.
 ghost use Rattle.std.specs.Prelude.{◌≡◌};
 
-use crate::{ByteItem, ByteKind, ItemError};
+use crate::{BorrowItem, ByteItem, ByteKind, ItemError};
 use arrow_check::cost::TextCost;
 use arrow_types::data_type::DataType;
 use arrow_types::error::Error;
@@ -84,6 +84,15 @@ impl<'a> ByteItem<Binary> for &'a [u8] {
     #[inline(always)]
     fn bytes(&self) -> &[u8] {
         self
+    }
+}
+
+impl<'a> BorrowItem<'a> for Binary {
+    type Borrowed = &'a [u8];
+
+    #[inline(always)]
+    fn borrow_item(bytes: &'a [u8]) -> &'a [u8] {
+        bytes
     }
 }
 

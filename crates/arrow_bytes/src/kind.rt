@@ -91,6 +91,18 @@ pub trait ByteItem<K: ByteKind>: Copy {
         ensures item { IsItem K.is_text result.now };
 }
 
+/// A kind whose items can be borrowed for `'a`. What arrays and builders of both kinds lend and take
+/// is written once, over this trait.
+pub trait BorrowItem<'a>: ByteKind {
+    /// A borrowed item: `&'a [u8]` or `&'a str`.
+    type Borrowed: ByteItem<Self> + 'a;
+
+    /// Returns bytes that are an item of the kind as one. They are not tested.
+    fn borrow_item(bytes: &'a [u8]) -> Self::Borrowed
+        requires { IsItem Self.is_text bytes.now }
+        ensures { Self.Borrowed.bytes result ≡ bytes.now };
+}
+
 /// An item that names the error of calls that take such items from an iterator, which is `Error`.
 /// They name it by the item because the borrow checker takes no iterator with two lifetimes, such
 /// as `slots.iter().copied()` over borrowed items, where a signature names the `'static` text of

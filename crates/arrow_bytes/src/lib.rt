@@ -15,7 +15,7 @@ mod values;
 pub use around::BytesAround;
 pub use binary::Binary;
 pub use growing::MutableByteValues;
-pub use kind::{ByteItem, ByteKind, ItemError};
+pub use kind::{BorrowItem, ByteItem, ByteKind, ItemError};
 pub use thaw::into_mut_values;
 pub use utf8::Utf8;
 pub use values::ByteValues;

@@ -1,8 +1,8 @@
 //! The kind of text, whose items are UTF-8 by themselves.
-ghost use Rattle.std.specs.Prelude.{◌≡◌, ◌<◌, Some, length, slice_get};
+ghost use Rattle.std.specs.Prelude.{◌≡◌};
 ghost use Rattle.arrow_check.specs.Utf8.{IsWellFormed};
 
-use crate::{ByteItem, ByteKind, ByteValues, ItemError, MutableByteValues};
+use crate::{BorrowItem, ByteItem, ByteKind, ItemError};
 use arrow_check::cost::{TextBytes, TextCost};
 use arrow_check::laws::well_formed_is_utf8;
 use arrow_check::text::check_utf8;
@@ -93,6 +93,15 @@ impl<'a> ByteItem<Utf8> for &'a str {
     }
 }
 
+impl<'a> BorrowItem<'a> for Utf8 {
+    type Borrowed = &'a str;
+
+    #[inline(always)]
+    fn borrow_item(bytes: &'a [u8]) -> &'a str {
+        text_of(bytes)
+    }
+}
+
 impl<'a> ItemError for &'a str {
     type Error = Error;
 
@@ -115,26 +124,4 @@ fn text_of(bytes: &[u8]) -> &str
     // Text by Unicode's table is text for std, too. So no byte is looked at: the unchecked call asks for that proof.
     well_formed_is_utf8();
     unsafe { std::str::from_utf8_unchecked(bytes) }
-}
-
-impl<O: Offset> ByteValues<Utf8, O> {
-    /// Returns the text at `i`.
-    #[inline(always)]
-    pub fn text(&self, i: usize) -> &str
-        requires { i < length self.now.items }
-        ensures { slice_get self.now.items i ≡ Some result.now }
-    {
-        text_of(self.value(i))
-    }
-}
-
-impl<O: Offset> MutableByteValues<Utf8, O> {
-    /// Returns the text at `i`.
-    #[inline(always)]
-    pub fn text(&self, i: usize) -> &str
-        requires { i < length self.now.items }
-        ensures { slice_get self.now.items i ≡ Some result.now }
-    {
-        text_of(self.value(i))
-    }
 }

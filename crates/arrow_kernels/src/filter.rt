@@ -62,9 +62,12 @@ pub fn filter_boolean(
     Ok(BooleanArray::new(data_type, values, mask))
 }
 
-/// Returns the slots of `array` where `filter` is valid and true. Items are not checked again: some
-/// of the items of a kind are items of the kind.
-fn filter_items<K: ByteKind, O: Offset>(
+/// Returns the slots of `array` where `filter` is valid and true. Both must have equally many
+/// slots. Items are not checked again: some of the items of a kind are items of the kind.
+///
+/// # Errors
+/// `OutOfMemory` if an allocation fails.
+pub fn filter_items<K: ByteKind, O: Offset>(
     alloc: Global,
     array: &ByteArray<K, O>,
     filter: &BooleanArray,

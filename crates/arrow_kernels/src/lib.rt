@@ -12,6 +12,6 @@ mod runs;
 mod take;
 mod widths;
 
-pub use filter::{filter_binary, filter_boolean, filter_primitive, filter_utf8};
-pub use take::{take_binary, take_boolean, take_primitive, take_utf8};
-pub use widths::{narrow_binary, narrow_utf8, widen_binary, widen_utf8};
+pub use filter::{filter_binary, filter_boolean, filter_items, filter_primitive, filter_utf8};
+pub use take::{take_binary, take_boolean, take_items, take_primitive, take_utf8};
+pub use widths::{narrow_binary, narrow_items, narrow_utf8, widen_binary, widen_items, widen_utf8};

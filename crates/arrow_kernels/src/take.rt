@@ -91,7 +91,13 @@ fn taken_items<K: ByteKind, O: Offset, I: IndexKey>(
 }
 
 /// Returns the slots of `array` at the keys.
-fn take_items<K: ByteKind, O: Offset, I: IndexKey>(
+///
+/// # Errors
+/// - `OutOfSpec` with the fault of the first key that is no index of a slot: it is negative or does
+///   not fit in a `usize`, or else it is not below the number of slots.
+/// - Otherwise `Overflow` if the items together have more bytes than the greatest offset.
+/// - `OutOfMemory` if an allocation fails.
+pub fn take_items<K: ByteKind, O: Offset, I: IndexKey>(
     alloc: Global,
     array: &ByteArray<K, O>,
     keys: &[I],
@@ -111,10 +117,7 @@ fn take_items<K: ByteKind, O: Offset, I: IndexKey>(
 /// Returns the slots of `array` at the keys.
 ///
 /// # Errors
-/// - `OutOfSpec` with the fault of the first key that is no index of a slot: it is negative or does
-///   not fit in a `usize`, or else it is not below the number of slots.
-/// - Otherwise `Overflow` if the items together have more bytes than the greatest offset.
-/// - `OutOfMemory` if an allocation fails.
+/// As [`take_items`].
 pub fn take_binary<O: Offset, K: IndexKey>(
     alloc: Global,
     array: &BinaryArray<O>,
@@ -133,7 +136,7 @@ pub fn take_binary<O: Offset, K: IndexKey>(
 /// Returns the slots of `array` at the keys.
 ///
 /// # Errors
-/// As [`take_binary`].
+/// As [`take_items`].
 pub fn take_utf8<O: Offset, K: IndexKey>(
     alloc: Global,
     array: &Utf8Array<O>,

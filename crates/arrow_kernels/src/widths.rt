@@ -34,7 +34,13 @@ fn over_offsets<K: ByteKind, O: Offset, P: Offset>(
 }
 
 /// Returns the same slots over offsets of 64 bits.
-fn widen<K: ByteKind>(alloc: Global, array: &ByteArray<K, i32>) -> Result<ByteArray<K, i64>, Error>
+///
+/// # Errors
+/// `OutOfMemory` if an allocation fails.
+pub fn widen_items<K: ByteKind>(
+    alloc: Global,
+    array: &ByteArray<K, i32>,
+) -> Result<ByteArray<K, i64>, Error>
     ensures ok { IfOk result (λ wide. wide ≡ with_type array.now (K.default_type true)) }
     ensures err { OnlyOutOfMemory result }
 {
@@ -42,7 +48,15 @@ fn widen<K: ByteKind>(alloc: Global, array: &ByteArray<K, i32>) -> Result<ByteAr
 }
 
 /// Returns the same slots over offsets of 32 bits.
-fn narrow<K: ByteKind>(alloc: Global, array: &ByteArray<K, i64>) -> Result<ByteArray<K, i32>, Error>
+///
+/// # Errors
+/// - `Overflow` if the last offset is above 2147483647, however many bytes lie after it; this is
+///   checked before memory is allocated.
+/// - `OutOfMemory` if an allocation fails.
+pub fn narrow_items<K: ByteKind>(
+    alloc: Global,
+    array: &ByteArray<K, i64>,
+) -> Result<ByteArray<K, i32>, Error>
     ensures ok { IfOk result (λ narrow. (narrowing_overflows array.now ≡ false)
         × (narrow ≡ with_type array.now (K.default_type false))) }
     ensures err { IfErr result (λ e. e ≡ refused_growth (narrowing_overflows array.now)) }
@@ -58,7 +72,7 @@ pub fn widen_binary(alloc: Global, array: &BinaryArray<i32>) -> Result<BinaryArr
     ensures ok { IfOk result (λ wide. wide ≡ with_type array.now (binary_type true)) }
     ensures err { OnlyOutOfMemory result }
 {
-    widen(alloc, array)
+    widen_items(alloc, array)
 }
 
 /// Returns the same slots over offsets of 64 bits.
@@ -69,31 +83,29 @@ pub fn widen_utf8(alloc: Global, array: &Utf8Array<i32>) -> Result<Utf8Array<i64
     ensures ok { IfOk result (λ wide. wide ≡ with_type array.now (text_type true)) }
     ensures err { OnlyOutOfMemory result }
 {
-    widen(alloc, array)
+    widen_items(alloc, array)
 }
 
 /// Returns the same slots over offsets of 32 bits.
 ///
 /// # Errors
-/// - `Overflow` if the last offset is above 2147483647, however many bytes lie after it; this is
-///   checked before memory is allocated.
-/// - `OutOfMemory` if an allocation fails.
+/// As [`narrow_items`].
 pub fn narrow_binary(alloc: Global, array: &BinaryArray<i64>) -> Result<BinaryArray<i32>, Error>
     ensures ok { IfOk result (λ narrow. (narrowing_overflows array.now ≡ false)
         × (narrow ≡ with_type array.now (binary_type false))) }
     ensures err { IfErr result (λ e. e ≡ refused_growth (narrowing_overflows array.now)) }
 {
-    narrow(alloc, array)
+    narrow_items(alloc, array)
 }
 
 /// Returns the same slots over offsets of 32 bits.
 ///
 /// # Errors
-/// As [`narrow_binary`].
+/// As [`narrow_items`].
 pub fn narrow_utf8(alloc: Global, array: &Utf8Array<i64>) -> Result<Utf8Array<i32>, Error>
     ensures ok { IfOk result (λ narrow. (narrowing_overflows array.now ≡ false)
         × (narrow ≡ with_type array.now (text_type false))) }
     ensures err { IfErr result (λ e. e ≡ refused_growth (narrowing_overflows array.now)) }
 {
-    narrow(alloc, array)
+    narrow_items(alloc, array)
 }
