@@ -7,7 +7,7 @@ use Rattle.arrow_column.specs.Acceptance.{IsFirstFailure, accept}
 use Rattle.arrow_check.specs.Pieces.{items_of}
 use Rattle.arrow_check.specs.Texts.{not_text}
 use Rattle.arrow_bytes.specs.Kinds.{AreItems}
-use Rattle.arrow_byte_array.specs.Acceptance.{array_tests, builder_tests, typed_tests, values_tests}
+use Rattle.arrow_bytes.specs.Acceptance.{array_tests, builder_tests, typed_tests, values_tests}
 
 -- the test that failed among the first of an array's is the first that failed of all
 pub array-first : (text : Bool) (layout : PhysicalType) (wrong_type : Refusal) (t : LogicalType)

@@ -7,7 +7,7 @@ ghost use Rattle.arrow_column.specs.Acceptance.{Passes};
 ghost use Rattle.arrow_column.specs.Column.{IsColumn, mask_of, stored_values};
 ghost use Rattle.arrow_bytes.specs.Column.{ByteColumn, byte_column, bytes_held, offsets_held};
 ghost use Rattle.arrow_bytes.specs.Kinds.{AreItems};
-ghost use Rattle.arrow_byte_array.specs.Acceptance.{array_tests, builder_tests, values_builder_tests};
+ghost use Rattle.arrow_bytes.specs.Acceptance.{array_tests, builder_tests, values_builder_tests};
 
 /// The parts of an array, which `into_inner` returns, pass the tests of `try_new` and make the same
 /// array again.

@@ -5,8 +5,8 @@ ghost use Rattle.arrow_column.specs.Acceptance.{IsFirstFailure, Passes, accept};
 ghost use Rattle.arrow_bytes.specs.Pieces.{pieces_of};
 ghost use Rattle.arrow_bytes.specs.Column.{byte_column};
 ghost use Rattle.arrow_bytes.specs.Kinds.{BuilderCosts, Costs, TestsOnce};
-ghost use Rattle.arrow_byte_array.specs.Acceptance.{array_tests, builder_tests, typed_tests};
-ghost use Rattle.arrow_byte_array.specs.Acceptance.{values_builder_tests, values_tests};
+ghost use Rattle.arrow_bytes.specs.Acceptance.{array_tests, builder_tests, typed_tests};
+ghost use Rattle.arrow_bytes.specs.Acceptance.{values_builder_tests, values_tests};
 
 use crate::{ByteArray, MutableByteArray, MutableByteValuesArray};
 use arrow_bytes::{ByteKind, ByteValues, MutableByteValues};

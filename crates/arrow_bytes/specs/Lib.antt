@@ -3,3 +3,5 @@ pub mod Cuts
 pub mod Equality
 pub mod Kinds
 pub mod Pieces
+pub mod Selection
+pub mod Acceptance

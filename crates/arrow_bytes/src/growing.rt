@@ -198,7 +198,7 @@ impl<K: ByteKind, O: Offset> MutableValues for MutableByteValues<K, O> {
         self.bytes.truncate(end);
     }
 
-    ghost overjoins = { λ around items others. overflows_by O.most around items (length (concat others)) };
+    ghost join_overflows = { λ around items others. overflows_by O.most around items (length (concat others)) };
 
     fn append(&mut self, other: &Self) -> Result<(), Error> {
         self.offsets

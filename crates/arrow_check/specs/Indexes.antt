@@ -5,8 +5,8 @@ use Rattle.arrow_types.specs.IndexKey.{index_of}
 use Rattle.arrow_types.specs.Types.{Refusal, out_of_spec}
 
 -- whether a number is the place of an item in a list of this length
-abbrev pub is_place : ℕ → ℤ → Bool
-is_place length key = option_map_or (λ index. nat_lt index length) (index_of key) false
+abbrev pub in_bounds : ℕ → ℤ → Bool
+in_bounds length key = option_map_or (λ index. nat_lt index length) (index_of key) false
 
 -- the refusal of a number that is no such place: it is no index, or else an index past the items
 abbrev pub key_refusal : ℤ → Refusal

@@ -3,7 +3,7 @@ ghost use Rattle.std.specs.Prelude.{◌≡◌, ◌<◌, not, find, All, IfNone, 
 ghost use Rattle.std.specs.Option.{option_copied};
 ghost use Rattle.arrow_types.specs.IndexKey.{index_of};
 ghost use Rattle.arrow_types.specs.Types.{refusal};
-ghost use Rattle.arrow_check.specs.Indexes.{is_place, key_refusal};
+ghost use Rattle.arrow_check.specs.Indexes.{in_bounds, key_refusal};
 
 use arrow_types::error::Error;
 use arrow_types::index_key::IndexKey;
@@ -11,7 +11,7 @@ use arrow_types::index_key::IndexKey;
 /// Returns whether a key is an index below `len`.
 #[inline(always)]
 fn points_at_item<K: IndexKey>(key: &K, len: usize) -> bool
-    ensures { result ≡ is_place len (K.number key.now) }
+    ensures { result ≡ in_bounds len (K.number key.now) }
 {
     // `usize::MAX` is below no length, so it stands for no index, without a branch.
     key.to_index().unwrap_or(usize::MAX) < len
@@ -33,8 +33,8 @@ fn key_fault<K: IndexKey>(key: &K) -> Error
 
 /// Returns the first key that is no index below `len`.
 #[inline(always)]
-fn first_astray<K: IndexKey>(keys: &[K], len: usize) -> Option<&K>
-    ensures first { option_copied result ≡ find (λ key. not (is_place len (K.number key))) keys.now }
+fn first_out_of_bounds<K: IndexKey>(keys: &[K], len: usize) -> Option<&K>
+    ensures first { option_copied result ≡ find (λ key. not (in_bounds len (K.number key))) keys.now }
     ensures none { IfNone result (All (λ key. IsSomeAnd (index_of (K.number key)) (λ index. index < len)) keys.now) }
 {
     keys.iter().find(|key| !points_at_item(*key, len))
@@ -47,11 +47,11 @@ fn first_astray<K: IndexKey>(keys: &[K], len: usize) -> Option<&K>
 /// `OutOfSpec` with the fault of the first key that is no such index: it is negative or does not
 /// fit in a `usize`, or else it is not below `len`.
 pub fn check_indexes<K: IndexKey>(keys: &[K], len: usize) -> Result<(), Error>
-    ensures first { MatchOption (find (λ key. not (is_place len (K.number key))) keys.now) (IsOk result) (λ key.
+    ensures first { MatchOption (find (λ key. not (in_bounds len (K.number key))) keys.now) (IsOk result) (λ key.
         IsErrAnd result (λ e. refusal e ≡ key_refusal (K.number key))) }
     ensures ok { OnOk result (All (λ key. IsSomeAnd (index_of (K.number key)) (λ index. index < len)) keys.now) }
 {
-    match first_astray(keys, len) {
+    match first_out_of_bounds(keys, len) {
         Some(key) => Err(key_fault(key)),
         None => Ok(()),
     }

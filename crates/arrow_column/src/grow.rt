@@ -68,9 +68,9 @@ impl<V: MutableValues> GrowingColumn<V> {
     ///
     /// The column is unchanged on an error.
     pub fn try_extend_from_self(&mut self, other: &Self) -> Result<(), Error>
-        ensures ok { OnOk result ((V.overjoins self.old.around (stored_values self.old) (stored_values other.now)
+        ensures ok { OnOk result ((V.join_overflows self.old.around (stored_values self.old) (stored_values other.now)
             ≡ false) × (self.new ≡ joined self.old other.now)) }
-        ensures err { FailureKeeps result (refused_growth (V.overjoins self.old.around (stored_values self.old) (stored_values other.now))) self.old self.new }
+        ensures err { FailureKeeps result (refused_growth (V.join_overflows self.old.around (stored_values self.old) (stored_values other.now))) self.old self.new }
     {
         let before = self.values.count();
         let alloc = self.values.allocated_by();

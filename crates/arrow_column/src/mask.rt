@@ -27,7 +27,7 @@ pub(crate) fn push_valid(validity: &mut Option<MutableBitmap>) -> Result<(), Err
 /// appends stays small enough for the compiler to follow.
 #[cold]
 #[inline(never)]
-fn hold_mask(
+fn init_validity(
     alloc: Global,
     validity: &mut Option<MutableBitmap>,
     length: usize,
@@ -55,7 +55,7 @@ pub(crate) fn push_null_mark(
 {
     match validity {
         Some(marks) => marks.push(false),
-        None => hold_mask(alloc, validity, length),
+        None => init_validity(alloc, validity, length),
     }
 }
 

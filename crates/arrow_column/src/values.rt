@@ -155,7 +155,7 @@ pub trait MutableValues: Drop {
         ensures around { around self.new ≡ around self.old };
 
     /// Whether these values followed by others would overflow the values' type.
-    ghost overjoins: { Self.Around → List Self.Stored → List Self.Stored → Bool };
+    ghost join_overflows: { Self.Around → List Self.Stored → List Self.Stored → Bool };
 
     /// Appends other values.
     ///
@@ -165,10 +165,10 @@ pub trait MutableValues: Drop {
     ///
     /// The values are unchanged on an error.
     fn append(&mut self, other: &Self) -> Result<(), Error>
-        ensures ok { OnOk result ((overjoins (around self.old) (stored self.old) (stored other.now) ≡ false)
+        ensures ok { OnOk result ((join_overflows (around self.old) (stored self.old) (stored other.now) ≡ false)
             × (stored self.new ≡ stored self.old ++ stored other.now)) }
         ensures around { around self.new ≡ around self.old }
-        ensures err { FailureKeeps result (refused_growth (overjoins (around self.old) (stored self.old) (stored other.now))) (stored self.old) (stored self.new) };
+        ensures err { FailureKeeps result (refused_growth (join_overflows (around self.old) (stored self.old) (stored other.now))) (stored self.old) (stored self.new) };
 
     /// Reserves room for at least `additional` more values.
     ///
@@ -278,7 +278,7 @@ impl<T: NativeType> MutableValues for Vec<T> {
         let _last = self.pop();
     }
 
-    ghost overjoins = { λ _ _ _. false };
+    ghost join_overflows = { λ _ _ _. false };
 
     #[inline(always)]
     fn append(&mut self, other: &Vec<T>) -> Result<(), Error> {
@@ -351,7 +351,7 @@ impl MutableValues for MutableBitmap {
         self.truncate(self.len() - 1);
     }
 
-    ghost overjoins = { λ _ _ _. false };
+    ghost join_overflows = { λ _ _ _. false };
 
     #[inline(always)]
     fn append(&mut self, other: &MutableBitmap) -> Result<(), Error> {

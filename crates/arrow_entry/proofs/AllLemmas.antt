@@ -5,7 +5,7 @@ use Rattle.std.proofs.lemmas.List.Elements.{All-nil, All-cons, All-head, All-tai
 use Rattle.std.specs.Prelude.{All, IfSome}
 use Rattle.std.specs.List.{cons_option}
 use Rattle.arrow_types.specs.IndexKey.{index_of}
-use Rattle.arrow_kernels.specs.Kernels.{at_key, at_keys, where_set}
+use Rattle.arrow_bytes.specs.Selection.{at_key, at_keys, where_set}
 
 -- tests that hold both
 pub and-first : (a b : Bool) → (a && b) ≡ true → a ≡ true

@@ -7,8 +7,8 @@ use Rattle.arrow_memory.specs.Rows.{Row}
 use Rattle.arrow_column.specs.Column.{Column, ColumnWith}
 use Rattle.arrow_bytes.specs.Pieces.{Around, nothing_around}
 use Rattle.arrow_bytes.specs.Column.{ByteColumn}
-use Rattle.arrow_check.specs.Indexes.{is_place}
-use Rattle.arrow_kernels.specs.Kernels.{asked, at_keys, column_of_rows, filtered, first_astray, taken, taking_overflows, where_set}
+use Rattle.arrow_check.specs.Indexes.{in_bounds}
+use Rattle.arrow_bytes.specs.Selection.{asked, at_keys, column_of_rows, filtered, first_out_of_bounds, taken, taking_overflows, where_set}
 use Rattle.arrow_kernels.proofs.CallerLemmas.{keys-map, where-map}
 use Rattle.arrow_entry.specs.Chosen.{bit_in, bits_column, bytes_column}
 use Rattle.arrow_entry.specs.Entry.{seen}
@@ -38,8 +38,8 @@ module _ {A S T : Type 0} (around : A → Around) (stored : S → Stored T) (not
 
 module _ {A S T : Type 0} (around : A → Around) (stored : S → Stored T) (column : ColumnWith A S) where
   -- as many slots are there, so the same key is the first that tells none
-  pub astray-seen : (keys : List ℤ) → first_astray (λ key. key) (seen around stored column) keys ≡ first_astray (λ key. key) column keys
-  astray-seen keys = ap (λ n. find (λ (key : ℤ). not (is_place n key)) keys) (length-seen around stored column)
+  pub out_of_bounds-seen : (keys : List ℤ) → first_out_of_bounds (λ key. key) (seen around stored column) keys ≡ first_out_of_bounds (λ key. key) column keys
+  out_of_bounds-seen keys = ap (λ n. find (λ (key : ℤ). not (in_bounds n key)) keys) (length-seen around stored column)
 
 -- what has no bytes never has too many
 module _ {S T : Type 0} (stored : S → Stored T) (none : (x : S) → bytes_in (stored x) ≡ []) where
@@ -100,4 +100,4 @@ module _ (T : Type 0) where
   unfolding seen bytes_column
   bytes-seen is_text c = ap (λ rows. let whole : ByteColumn = record { data_type = c.data_type; around = c.around; rows = rows; held = c.held } in whole) (rows-bytes T is_text c.rows)
 
-pub ruleset seen_choices = (filter-value, filter-bit, filter-pieces, take-value, take-bit, take-pieces, over-value, over-bit, bytes-seen, astray-seen)
+pub ruleset seen_choices = (filter-value, filter-bit, filter-pieces, take-value, take-bit, take-pieces, over-value, over-bit, bytes-seen, out_of_bounds-seen)

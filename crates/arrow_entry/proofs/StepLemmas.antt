@@ -7,7 +7,7 @@ use Rattle.arrow_types.specs.Types.{IsRightType, LogicalType}
 use Rattle.arrow_types.specs.declared.physical_type.PhysicalType.TheVariants as physical
 use Rattle.arrow_column.specs.Acceptance.{Tests, Passes}
 use Rattle.arrow_column.specs.Column.{Column, slots_of, marks_of, stored_values, last_slot}
-use Rattle.arrow_kernels.specs.Kernels as kernels
+use Rattle.arrow_bytes.specs.Selection as kernels
 use Rattle.arrow_entry.specs.Answer.{Answer, done, is_memory, not_met, refused}
 use Rattle.arrow_entry.specs.Change.{frozen_value, thawed_value, empty_value, slots_start, null_in, grown, fitting}
 use Rattle.arrow_types.specs.declared.primitive_type.PrimitiveType.{PrimitiveType}
@@ -289,7 +289,7 @@ module _ {T : Type 0} (c : Types T) where
 
     fine-taken : (most : ℕ) (keys : List ℤ) → is_frozen v.shape ≡ true → Fine (Taken most keys v)
     fine-taken most keys array reply new =
-        by-option (kernels.first_astray (λ key. key) v.column keys)
+        by-option (kernels.first_out_of_bounds (λ key. key) v.column keys)
         (λ h. fine-over None _ _ tt (fine-memory None _ tt (fine-gives done (Some _)
         (alone-is c v is (kernels.at_keys (λ key. key) keys v.column.rows) array (keys-all (IsRow v.shape.sort v.column.held) keys v.column.rows is.rows)))) reply new h)
         (λ key got h. fine-gives _ None tt reply new h)

@@ -3,7 +3,7 @@
 use Rattle.std.specs.Prelude.{◌≡◌, ℕ, true, false, ◌&&◌, List, [], ◌∷◌, ◌++◌, map, Option, Some, None, option_and_then, if◌then◌else◌}
 use Rattle.arrow_types.specs.declared.primitive_type.PrimitiveType.{PrimitiveType}
 use Rattle.arrow_column.specs.Column.{with_type}
-use Rattle.arrow_kernels.specs.Kernels.{narrowing_overflows}
+use Rattle.arrow_bytes.specs.Selection.{narrowing_overflows}
 use Rattle.arrow_entry.specs.declared.reply.Reply.{Reply}
 use Rattle.arrow_entry.specs.declared.command.BothCommand.{BothCommand}
 use Rattle.arrow_entry.specs.declared.command.BothCommand.TheVariants as command

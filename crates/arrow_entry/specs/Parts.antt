@@ -10,7 +10,7 @@ use Rattle.arrow_check.specs.Pieces.{items_of}
 use Rattle.arrow_check.specs.Reading.{Cost}
 use Rattle.arrow_bytes.specs.Pieces.{Around, nothing_around, around_of}
 use Rattle.arrow_bytes.specs.Kinds.{Costs, BuilderCosts, wrong_binary_type, wrong_binary_builder_type, wrong_text_type, wrong_text_builder_type}
-use Rattle.arrow_byte_array.specs.Acceptance as byte_array
+use Rattle.arrow_bytes.specs.Acceptance as byte_array
 use Rattle.arrow_primitive.specs.Fits as primitive
 use Rattle.arrow_boolean.specs.Fits as truth
 use Rattle.arrow_entry.specs.Kind.{Group, frozen, with_nulls, values_alone, Sort, native, boolean, pieces, Shape, is_frozen, is_values_alone, is_native, is_boolean, is_pieces, is_text}

@@ -5,11 +5,11 @@ use Rattle.std.specs.List.{list_all}
 use Rattle.std.specs.Option.{option_map_or}
 use Rattle.arrow_types.specs.Types.{IsRightType, overflow}
 use Rattle.arrow_column.specs.Column.{Column, ColumnWith, column_with, slots_of, stored_values, marks_of, append_nulls, append_values, last_slot, without_last, joined, with_slot, with_mask, with_stored, with_type}
-use Rattle.arrow_check.specs.Indexes.{is_place, key_refusal}
+use Rattle.arrow_check.specs.Indexes.{in_bounds, key_refusal}
 use Rattle.arrow_check.specs.Pieces.{bytes_of, offsets_of}
 use Rattle.arrow_check.specs.Reading.{Cost}
 use Rattle.arrow_bytes.specs.Pieces.{Around, nothing_around}
-use Rattle.arrow_kernels.specs.Kernels.{filtered, taken, first_astray, taking_overflows}
+use Rattle.arrow_bytes.specs.Selection.{filtered, taken, first_out_of_bounds, taking_overflows}
 use Rattle.arrow_entry.specs.Kind.{Shape, shaped, with_nulls, any_kind, is_frozen, is_nullable, is_values_alone, is_builder, is_native, is_boolean, is_pieces, is_text, same_kind}
 use Rattle.arrow_entry.specs.Item.{Stored, piece, bytes_in, fits, slot_fits, changed, change_fits, change_of_marks}
 use Rattle.arrow_entry.specs.Request.{Source, Ask, Request, make, at, clone_from, extend_from, equal, filter_from, take_from, check_indexes, cut_pieces}
@@ -137,7 +137,7 @@ module _ {T : Type 0} where
 
   abbrev pub Taken : ℕ → List ℤ → Value T → Row T
   Taken most keys v reply new =
-      MatchOption (first_astray (λ key. key) v.column keys)
+      MatchOption (first_out_of_bounds (λ key. key) v.column keys)
       (unless_over None (taking_overflows most (λ key. key) (bytes_column v.column) keys) (memory None (leaves (with_column v (taken nothing_around (λ key. key) v.column keys)))) reply new)
       (λ key. answers None (refused (key_refusal key)) reply new)
 
@@ -221,7 +221,7 @@ module _ {T : Type 0} (c : Types T) where
   Changes state (filter_from e f k) = AtEntry state e (Puts (Filters (entry_at state f) (entry_at state k)))
   Changes state (take_from e f keys) = AtEntry state e (Puts (Takes c.most keys (entry_at state f)))
   Changes state (check_indexes keys n) = λ reply new.
-      (reply ≡ option_map_or (λ key. refused (key_refusal key)) (find (λ key. not (is_place n key)) keys) done) × (new ≡ state)
+      (reply ≡ option_map_or (λ key. refused (key_refusal key)) (find (λ key. not (in_bounds n key)) keys) done) × (new ≡ state)
 
 -- what its tests of text cost: only parts that are cut out of bytes are tested
 abbrev pub StepCosts : {T : Type 0} → Request T → Answer T → Cost → Cost → Type 0

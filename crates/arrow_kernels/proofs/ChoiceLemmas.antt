@@ -18,9 +18,9 @@ use Rattle.arrow_memory.specs.Rows.{FitsMask, Row, slot}
 use Rattle.arrow_column.specs.Masks.{mask_with_nulls}
 use Rattle.arrow_column.specs.Column.{Column, ColumnWith, IsColumn, column_with, mask_of, stored_values}
 use Rattle.arrow_column.proofs.CallerLemmas.{column_again, slots_valid, valid_by_held}
-use Rattle.arrow_check.specs.Indexes.{is_place}
-use Rattle.arrow_kernels.specs.Kernels.{asked, at_key, at_keys, column_of_rows, filtered, first_astray, set_in_both}
-use Rattle.arrow_kernels.specs.Kernels.{taken, where_set}
+use Rattle.arrow_check.specs.Indexes.{in_bounds}
+use Rattle.arrow_bytes.specs.Selection.{asked, at_key, at_keys, column_of_rows, filtered, first_out_of_bounds, set_in_both}
+use Rattle.arrow_bytes.specs.Selection.{taken, where_set}
 
 -- ---- one more
 
@@ -463,14 +463,14 @@ makes-taken nothing column number keys t values mask is_column same e m =
 -- ---- keys
 
 -- where a key is refused, not every key tells a place
-pub not-astray : {A S K X E : Type 0} (column : ColumnWith A S) (number : K → ℤ) (keys : List K) (n : ℕ) (P : K
+pub not-out_of_bounds : {A S K X E : Type 0} (column : ColumnWith A S) (number : K → ℤ) (keys : List K) (n : ℕ) (P : K
     → Type 0) (Q : E → Type 0) (r : Result X E) → n ≡ length column.rows
-    → MatchOption (find (λ key. not (is_place n (number key))) keys) (false ≡ true) P
-    → IfErr r (λ e. first_astray number column keys ≡ None → Q e)
-not-astray column number keys n P Q (Ok x) same refused = tt
-not-astray column number keys n P Q (Err e) same refused = λ none.
+    → MatchOption (find (λ key. not (in_bounds n (number key))) keys) (false ≡ true) P
+    → IfErr r (λ e. first_out_of_bounds number column keys ≡ None → Q e)
+not-out_of_bounds column number keys n P Q (Ok x) same refused = tt
+not-out_of_bounds column number keys n P Q (Err e) same refused = λ none.
     absurd (false≢true (MatchOption-at_none (false ≡ true) P
-    (ap (λ k. find (λ key. not (is_place k (number key))) keys) same ∙ none) refused))
+    (ap (λ k. find (λ key. not (in_bounds k (number key))) keys) same ∙ none) refused))
 
 weaker : (o : Option ℕ) (m n k : ℕ) → m + k ≤ n → IsSomeAnd o (λ index. index < m)
     → IsSomeAnd o (λ index. index + k < n)

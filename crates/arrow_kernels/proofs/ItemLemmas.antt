@@ -24,7 +24,7 @@ use Rattle.arrow_bytes.specs.Pieces.{Around, around_of, nothing_around}
 use Rattle.arrow_bytes.proofs.CallerLemmas.{bytes-again, ends-joined, items-back, items-joined, last-offset}
 use Rattle.arrow_bytes.proofs.CallerLemmas.{length-offsets}
 use Rattle.arrow_bytes.proofs.CallerLemmas.{offsets-again, window-long, within-back}
-use Rattle.arrow_kernels.specs.Kernels.{at_key, at_keys, where_set}
+use Rattle.arrow_bytes.specs.Selection.{at_key, at_keys, where_set}
 
 -- ---- offsets of items
 

@@ -14,7 +14,7 @@ use Rattle.std.proofs.lemmas.Nat.Bits.{bit_at_ones, bit_at-trailing_ones, bit_at
 use Rattle.std.proofs.lemmas.Nat.Bits.{ones_shr}
 use Rattle.std.proofs.lemmas.Option.{slice_get_within}
 use Rattle.arrow_memory.specs.Marks.{bits_of}
-use Rattle.arrow_kernels.specs.Kernels.{where_set}
+use Rattle.arrow_bytes.specs.Selection.{where_set}
 use Rattle.arrow_kernels.proofs.BitLemmas.{length-bits, slice_get-bits, take-bits, taken-more}
 use Rattle.arrow_kernels.proofs.ChoiceLemmas.{where-append, where-gap-up}
 use Rattle.arrow_kernels.proofs.WordLemmas.{no-more}

@@ -9,7 +9,7 @@ use Rattle.std.proofs.lemmas.List.Sums.{sum_by-cons}
 use Rattle.std.proofs.lemmas.Nat.{and_le_r, trailing_le}
 use Rattle.std.proofs.lemmas.Nat.Bits.{bit_at_and, bit_at_lowest, bit_at_ones, bit_at-suc, bit_at-trailing_zeros}
 use Rattle.std.proofs.lemmas.Nat.Bits.{bit_at-zero}
-use Rattle.arrow_kernels.specs.Kernels.{where_set}
+use Rattle.arrow_bytes.specs.Selection.{where_set}
 use Rattle.arrow_kernels.proofs.ChoiceLemmas.{count-le, where-gap, where-grown}
 
 -- ---- the lowest set bit

@@ -3,7 +3,7 @@ ghost use Rattle.std.specs.Prelude.{◌≡◌, ℕ, ◌+◌, ◌*◌, ◌^◌, �
 ghost use Rattle.std.specs.Prelude.{slice_get, Some, IfOk, IfErr};
 ghost use Rattle.std.specs.Int.{bit_at};
 ghost use Rattle.arrow_types.specs.Failures.{OnlyOutOfMemory};
-ghost use Rattle.arrow_kernels.specs.Kernels.{asked, set_in_both};
+ghost use Rattle.arrow_bytes.specs.Selection.{asked, set_in_both};
 
 use arrow_boolean::BooleanArray;
 use arrow_memory::bitmap::{Bitmap, MutableBitmap};

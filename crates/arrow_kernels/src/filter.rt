@@ -4,7 +4,7 @@
 ghost use Rattle.std.specs.Prelude.{◌≡◌, length, IfOk, IfErr};
 ghost use Rattle.arrow_types.specs.Failures.{OnlyOutOfMemory};
 ghost use Rattle.arrow_bytes.specs.Pieces.{nothing_around};
-ghost use Rattle.arrow_kernels.specs.Kernels.{filtered};
+ghost use Rattle.arrow_bytes.specs.Selection.{filtered};
 
 use crate::asked::Asked;
 use crate::keep::{keep_marks, keep_mask, keep_values, kept_pieces};

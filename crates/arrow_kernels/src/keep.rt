@@ -12,7 +12,7 @@ ghost use Rattle.arrow_memory.specs.Offsets.{last_of};
 ghost use Rattle.arrow_check.specs.Pieces.{items_of, offsets_of};
 ghost use Rattle.arrow_bytes.specs.Kinds.{CutItems};
 ghost use Rattle.arrow_bytes.specs.Pieces.{around_of, nothing_around};
-ghost use Rattle.arrow_kernels.specs.Kernels.{where_set};
+ghost use Rattle.arrow_bytes.specs.Selection.{where_set};
 
 use crate::asked::Asked;
 use crate::mask::needed_mask;

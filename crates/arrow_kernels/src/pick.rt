@@ -12,7 +12,7 @@ ghost use Rattle.arrow_memory.specs.Offsets.{last_of};
 ghost use Rattle.arrow_check.specs.Pieces.{items_of, offsets_of};
 ghost use Rattle.arrow_bytes.specs.Kinds.{CutItems};
 ghost use Rattle.arrow_bytes.specs.Pieces.{around_of, nothing_around};
-ghost use Rattle.arrow_kernels.specs.Kernels.{at_keys, taking_overflows};
+ghost use Rattle.arrow_bytes.specs.Selection.{at_keys, taking_overflows};
 
 use crate::mask::needed_mask;
 use crate::pieces::item_at;

@@ -10,7 +10,7 @@ ghost use Rattle.arrow_types.specs.Types.{refusal};
 ghost use Rattle.arrow_column.specs.Column.{refused_growth};
 ghost use Rattle.arrow_check.specs.Indexes.{key_refusal};
 ghost use Rattle.arrow_bytes.specs.Pieces.{nothing_around};
-ghost use Rattle.arrow_kernels.specs.Kernels.{first_astray, taken, taking_overflows};
+ghost use Rattle.arrow_bytes.specs.Selection.{first_out_of_bounds, taken, taking_overflows};
 
 use crate::pick::{items_length, pick_marks, pick_mask, pick_values, picked_pieces};
 use arrow_binary::BinaryArray;
@@ -38,10 +38,10 @@ pub fn take_primitive<T: NativeType, K: IndexKey>(
     array: &PrimitiveArray<T>,
     keys: &[K],
 ) -> Result<PrimitiveArray<T>, Error>
-    ensures astray { MatchOption (first_astray K.number array.now keys.now) ⊤ (λ key.
+    ensures out_of_bounds { MatchOption (first_out_of_bounds K.number array.now keys.now) ⊤ (λ key.
         IsErrAnd result (λ e. refusal e ≡ key_refusal (K.number key))) }
     ensures ok { IfOk result (λ made. made ≡ taken tt K.number array.now keys.now) }
-    ensures err { IfErr result (λ e. first_astray K.number array.now keys.now ≡ None → e ≡ Error.OutOfMemory) }
+    ensures err { IfErr result (λ e. first_out_of_bounds K.number array.now keys.now ≡ None → e ≡ Error.OutOfMemory) }
 {
     let stored = array.values().as_slice();
     check_indexes(keys, stored.len())?;
@@ -60,10 +60,10 @@ pub fn take_boolean<K: IndexKey>(
     array: &BooleanArray,
     keys: &[K],
 ) -> Result<BooleanArray, Error>
-    ensures astray { MatchOption (first_astray K.number array.now keys.now) ⊤ (λ key.
+    ensures out_of_bounds { MatchOption (first_out_of_bounds K.number array.now keys.now) ⊤ (λ key.
         IsErrAnd result (λ e. refusal e ≡ key_refusal (K.number key))) }
     ensures ok { IfOk result (λ made. made ≡ taken tt K.number array.now keys.now) }
-    ensures err { IfErr result (λ e. first_astray K.number array.now keys.now ≡ None → e ≡ Error.OutOfMemory) }
+    ensures err { IfErr result (λ e. first_out_of_bounds K.number array.now keys.now ≡ None → e ≡ Error.OutOfMemory) }
 {
     check_indexes(keys, array.len())?;
     let values = pick_marks(alloc, array.values(), keys)?;
@@ -102,11 +102,11 @@ pub fn take_items<K: ByteKind, O: Offset, I: IndexKey>(
     array: &ByteArray<K, O>,
     keys: &[I],
 ) -> Result<ByteArray<K, O>, Error>
-    ensures astray { MatchOption (first_astray I.number array.now keys.now) ⊤ (λ key.
+    ensures out_of_bounds { MatchOption (first_out_of_bounds I.number array.now keys.now) ⊤ (λ key.
         IsErrAnd result (λ e. refusal e ≡ key_refusal (I.number key))) }
     ensures ok { IfOk result (λ made. (taking_overflows O.most I.number array.now keys.now ≡ false)
         × (made ≡ taken nothing_around I.number array.now keys.now)) }
-    ensures err { IfErr result (λ e. first_astray I.number array.now keys.now ≡ None
+    ensures err { IfErr result (λ e. first_out_of_bounds I.number array.now keys.now ≡ None
         → e ≡ refused_growth (taking_overflows O.most I.number array.now keys.now)) }
 {
     check_indexes(keys, array.len())?;
@@ -123,11 +123,11 @@ pub fn take_binary<O: Offset, K: IndexKey>(
     array: &BinaryArray<O>,
     keys: &[K],
 ) -> Result<BinaryArray<O>, Error>
-    ensures astray { MatchOption (first_astray K.number array.now keys.now) ⊤ (λ key.
+    ensures out_of_bounds { MatchOption (first_out_of_bounds K.number array.now keys.now) ⊤ (λ key.
         IsErrAnd result (λ e. refusal e ≡ key_refusal (K.number key))) }
     ensures ok { IfOk result (λ made. (taking_overflows O.most K.number array.now keys.now ≡ false)
         × (made ≡ taken nothing_around K.number array.now keys.now)) }
-    ensures err { IfErr result (λ e. first_astray K.number array.now keys.now ≡ None
+    ensures err { IfErr result (λ e. first_out_of_bounds K.number array.now keys.now ≡ None
         → e ≡ refused_growth (taking_overflows O.most K.number array.now keys.now)) }
 {
     take_items(alloc, array, keys)
@@ -142,11 +142,11 @@ pub fn take_utf8<O: Offset, K: IndexKey>(
     array: &Utf8Array<O>,
     keys: &[K],
 ) -> Result<Utf8Array<O>, Error>
-    ensures astray { MatchOption (first_astray K.number array.now keys.now) ⊤ (λ key.
+    ensures out_of_bounds { MatchOption (first_out_of_bounds K.number array.now keys.now) ⊤ (λ key.
         IsErrAnd result (λ e. refusal e ≡ key_refusal (K.number key))) }
     ensures ok { IfOk result (λ made. (taking_overflows O.most K.number array.now keys.now ≡ false)
         × (made ≡ taken nothing_around K.number array.now keys.now)) }
-    ensures err { IfErr result (λ e. first_astray K.number array.now keys.now ≡ None
+    ensures err { IfErr result (λ e. first_out_of_bounds K.number array.now keys.now ≡ None
         → e ≡ refused_growth (taking_overflows O.most K.number array.now keys.now)) }
 {
     take_items(alloc, array, keys)

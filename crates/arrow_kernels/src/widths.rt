@@ -6,7 +6,7 @@ ghost use Rattle.arrow_types.specs.Failures.{OnlyOutOfMemory};
 ghost use Rattle.arrow_column.specs.Column.{refused_growth, with_type};
 ghost use Rattle.arrow_bytes.specs.Column.{offsets_held};
 ghost use Rattle.arrow_bytes.specs.Kinds.{binary_type, text_type};
-ghost use Rattle.arrow_kernels.specs.Kernels.{narrowing_overflows};
+ghost use Rattle.arrow_bytes.specs.Selection.{narrowing_overflows};
 
 use arrow_binary::BinaryArray;
 use arrow_byte_array::ByteArray;

@@ -4,7 +4,7 @@ ghost use Rattle.arrow_types.specs.Types.{refusal};
 ghost use Rattle.arrow_column.specs.Column.{refused_growth};
 ghost use Rattle.arrow_check.specs.Indexes.{key_refusal};
 ghost use Rattle.arrow_bytes.specs.Pieces.{nothing_around};
-ghost use Rattle.arrow_kernels.specs.Kernels.{filtered, first_astray, taken, taking_overflows};
+ghost use Rattle.arrow_bytes.specs.Selection.{filtered, first_out_of_bounds, taken, taking_overflows};
 ghost use Rattle.arrow_entry.specs.Change.{with_column};
 ghost use Rattle.arrow_entry.specs.Chosen.{bytes_column};
 ghost use Rattle.arrow_entry.specs.Entry.{value_of};
@@ -41,9 +41,9 @@ pub trait Chosen<T: NativeType, O: Offset>: Kept<T> {
     /// `OutOfSpec` for the first key that tells no place. Or else `Overflow` where the items together have more bytes than
     /// an offset can tell. `OutOfMemory` where memory is refused.
     fn take(&self, alloc: Global, keys: &[i64]) -> Result<Entry<T, O>, Error>
-        ensures astray { MatchOption (first_astray (λ key. key) (Self.value self.now).column keys.now) ⊤ (λ key. IsErrAnd result (λ e. refusal e ≡ key_refusal key)) }
+        ensures out_of_bounds { MatchOption (first_out_of_bounds (λ key. key) (Self.value self.now).column keys.now) ⊤ (λ key. IsErrAnd result (λ e. refusal e ≡ key_refusal key)) }
         ensures ok { IfOk result (λ made. (taking_overflows O.most (λ key. key) (bytes_column (Self.value self.now).column) keys.now ≡ false) × (value_of made ≡ with_column (Self.value self.now) (taken nothing_around (λ key. key) (Self.value self.now).column keys.now))) }
-        ensures err { IfErr result (λ e. first_astray (λ key. key) (Self.value self.now).column keys.now ≡ None → e ≡ refused_growth (taking_overflows O.most (λ key. key) (bytes_column (Self.value self.now).column) keys.now)) };
+        ensures err { IfErr result (λ e. first_out_of_bounds (λ key. key) (Self.value self.now).column keys.now ≡ None → e ≡ refused_growth (taking_overflows O.most (λ key. key) (bytes_column (Self.value self.now).column) keys.now)) };
 }
 
 #[tactic(auto, using(crate::proofs::Seen::seen_reads, crate::proofs::Chosen::seen_choices))]

@@ -1,7 +1,7 @@
 use Rattle.std.proofs.Common.{ap, length, sym, ◌∙◌}
 use Rattle.std.specs.Option.{option_copied}
 use Rattle.std.proofs.lemmas.Result.{MatchResult-weaker}
-use Rattle.arrow_kernels.specs.Kernels.{set_in_both}
+use Rattle.arrow_bytes.specs.Selection.{set_in_both}
 use Rattle.arrow_kernels.proofs.ChoiceLemmas.{bare-asked, masked-asked, masked-length, valid-asked}
 use Rattle.arrow_kernels.proofs.asked.asked_rows.Goals as goal
 

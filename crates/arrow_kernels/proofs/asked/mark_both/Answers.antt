@@ -2,7 +2,7 @@ use Rattle.std.proofs.Common.{◌≡◌, ◌+◌, ◌*◌, [], ◌∷◌, ◌++�
 use Rattle.std.proofs.Math.Seq.{take-length}
 use Rattle.std.proofs.lemmas.Result.{MatchResult-weaker}
 use Rattle.arrow_memory.specs.Marks.{bits_of}
-use Rattle.arrow_kernels.specs.Kernels.{set_in_both}
+use Rattle.arrow_bytes.specs.Selection.{set_in_both}
 use Rattle.arrow_kernels.proofs.BitLemmas.{both-word, length-both, taken-more}
 use Rattle.arrow_kernels.proofs.asked.mark_both.Goals as goal
 

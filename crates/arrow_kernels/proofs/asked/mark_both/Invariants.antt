@@ -1,5 +1,5 @@
 use Rattle.std.proofs.Common.{◌≡◌, ◌*◌, take}
-use Rattle.arrow_kernels.specs.Kernels.{set_in_both}
+use Rattle.arrow_bytes.specs.Selection.{set_in_both}
 use Rattle.arrow_kernels.proofs.asked.mark_both.Given as goal
 
 abbrev pub invariant-loop-at : goal.invariant-loop-at

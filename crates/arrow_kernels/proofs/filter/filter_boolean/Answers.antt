@@ -1,6 +1,6 @@
 use Rattle.std.proofs.Common.{ap₂, ◌∙◌, option_map}
 use Rattle.arrow_column.specs.Masks.{mask_with_nulls}
-use Rattle.arrow_kernels.specs.Kernels.{where_set}
+use Rattle.arrow_bytes.specs.Selection.{where_set}
 use Rattle.arrow_kernels.proofs.ChoiceLemmas.{fits-filtered, makes-filtered}
 use Rattle.arrow_kernels.proofs.filter.filter_boolean.Goals as goal
 

@@ -4,7 +4,7 @@ use Rattle.arrow_check.specs.Pieces.{items_of}
 use Rattle.arrow_bytes.specs.Pieces.{nothing_around}
 use Rattle.arrow_column.specs.Masks.{mask_with_nulls}
 use Rattle.arrow_column.specs.Column.{column_with, stored_values}
-use Rattle.arrow_kernels.specs.Kernels.{where_set}
+use Rattle.arrow_bytes.specs.Selection.{where_set}
 use Rattle.arrow_kernels.proofs.ChoiceLemmas.{fits-filtered, makes-filtered}
 use Rattle.arrow_kernels.proofs.filter.filter_items.Goals as goal
 

@@ -2,7 +2,7 @@ use Rattle.std.proofs.Common.{◌+◌, ◌*◌, ap, arith, refl, take, w64, ◌�
 use Rattle.std.specs.Int.{trailing_zeros}
 use Rattle.std.specs.List.{concat}
 use Rattle.arrow_check.specs.Pieces.{items_of, offsets_of}
-use Rattle.arrow_kernels.specs.Kernels.{where_set}
+use Rattle.arrow_bytes.specs.Selection.{where_set}
 use Rattle.arrow_kernels.proofs.ItemLemmas.{bytes-more, offsets-more}
 use Rattle.arrow_kernels.proofs.WordLemmas.{left-next, less-left, no-more, starts-word, word-grown}
 use Rattle.arrow_kernels.proofs.keep.keep_each_item.Goals as goal

@@ -2,7 +2,7 @@ use Rattle.std.proofs.Common.{◌≡◌, ◌+◌, ◌*◌, take, w64}
 use Rattle.std.specs.Int.{trailing_zeros}
 use Rattle.std.specs.List.{concat}
 use Rattle.arrow_check.specs.Pieces.{items_of, offsets_of}
-use Rattle.arrow_kernels.specs.Kernels.{where_set}
+use Rattle.arrow_bytes.specs.Selection.{where_set}
 use Rattle.arrow_kernels.proofs.WordLemmas.{AreLeft}
 use Rattle.arrow_kernels.proofs.keep.keep_each_item.Given as goal
 

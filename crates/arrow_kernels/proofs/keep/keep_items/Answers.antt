@@ -1,7 +1,7 @@
 use Rattle.std.proofs.Common.{◌≡◌, ◌+◌, ◌*◌, ap, arith, take, ◌∙◌}
 use Rattle.std.specs.List.{concat}
 use Rattle.arrow_check.specs.Pieces.{items_of, offsets_of}
-use Rattle.arrow_kernels.specs.Kernels.{where_set}
+use Rattle.arrow_bytes.specs.Selection.{where_set}
 use Rattle.arrow_kernels.proofs.keep.keep_items.Goals as goal
 
 pub loop-at-preserved : goal.loop-at-preserved

@@ -1,6 +1,6 @@
 use Rattle.std.proofs.Common.{◌≡◌, ◌+◌, ◌<◌, ◌≤◌, ◌-◌, count_by, length, not, slice_get, Some, true, take}
 use Rattle.std.specs.Vec.{vec_capacity}
-use Rattle.arrow_kernels.specs.Kernels.{where_set}
+use Rattle.arrow_bytes.specs.Selection.{where_set}
 use Rattle.arrow_kernels.proofs.keep.keep_last.Given as goal
 
 abbrev pub invariant-loop-i : goal.invariant-loop-i

@@ -2,7 +2,7 @@ use Rattle.std.proofs.Common.{◌≡◌, ◌<◌, ap, arith, length, sym, take, 
 use Rattle.std.specs.List.{concat}
 use Rattle.arrow_check.specs.Pieces.{items_of, offsets_of}
 use Rattle.arrow_bytes.proofs.CallerLemmas.{length-items}
-use Rattle.arrow_kernels.specs.Kernels.{where_set}
+use Rattle.arrow_bytes.specs.Selection.{where_set}
 use Rattle.arrow_kernels.proofs.ChoiceLemmas.{where-all, where-gap-up, where-next}
 use Rattle.arrow_kernels.proofs.ItemLemmas.{bytes-more, offsets-more}
 use Rattle.arrow_kernels.proofs.keep.keep_last_items.Goals as goal

@@ -1,7 +1,7 @@
 use Rattle.std.proofs.Common.{◌≡◌, ◌<◌, ◌≤◌, ◌-◌, length, slice_get, Some, true, take}
 use Rattle.std.specs.List.{concat}
 use Rattle.arrow_check.specs.Pieces.{items_of, offsets_of}
-use Rattle.arrow_kernels.specs.Kernels.{where_set}
+use Rattle.arrow_bytes.specs.Selection.{where_set}
 use Rattle.arrow_kernels.proofs.keep.keep_last_items.Given as goal
 
 abbrev pub invariant-loop-i : goal.invariant-loop-i

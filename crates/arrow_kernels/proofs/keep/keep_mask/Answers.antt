@@ -1,7 +1,7 @@
 use Rattle.std.proofs.Common.{ap, option_map, sym, ◌∙◌}
 use Rattle.std.specs.Option.{option_copied}
 use Rattle.arrow_column.specs.Masks.{mask_with_nulls}
-use Rattle.arrow_kernels.specs.Kernels.{where_set}
+use Rattle.arrow_bytes.specs.Selection.{where_set}
 use Rattle.arrow_kernels.proofs.ChoiceLemmas.{where-valid-mask}
 use Rattle.arrow_kernels.proofs.keep.keep_mask.Goals as goal
 

@@ -6,7 +6,7 @@ use Rattle.arrow_check.specs.Pieces.{items_of, offsets_of}
 use Rattle.arrow_memory.specs.Offsets.{last_of}
 use Rattle.arrow_memory.proofs.CallerLemmas.{legal-piece}
 use Rattle.arrow_bytes.proofs.CallerLemmas.{items-cut, last-window, length-items}
-use Rattle.arrow_kernels.specs.Kernels.{where_set}
+use Rattle.arrow_bytes.specs.Selection.{where_set}
 use Rattle.arrow_kernels.proofs.ItemLemmas.{bytes-run, offsets-run}
 use Rattle.arrow_kernels.proofs.RunLemmas.{run-next, run-starts}
 use Rattle.arrow_kernels.proofs.keep.keep_runs.Goals as goal

@@ -2,7 +2,7 @@ use Rattle.std.proofs.Common.{◌≡◌, ◌+◌, ◌-◌, ◌*◌, ◌<◌, ◌
 use Rattle.std.specs.Int.{bit_at}
 use Rattle.std.specs.List.{concat}
 use Rattle.arrow_check.specs.Pieces.{items_of, offsets_of}
-use Rattle.arrow_kernels.specs.Kernels.{where_set}
+use Rattle.arrow_bytes.specs.Selection.{where_set}
 use Rattle.arrow_kernels.proofs.keep.keep_runs.Given as goal
 
 abbrev pub invariant-loop-first : goal.invariant-loop-first

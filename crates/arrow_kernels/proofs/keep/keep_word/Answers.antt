@@ -1,7 +1,7 @@
 use Rattle.std.proofs.Common.{◌+◌, ◌*◌, ap, arith, take, w64, ◌∙◌}
 use Rattle.std.specs.Int.{trailing_zeros}
 use Rattle.std.proofs.lemmas.Option.{slice_get_read}
-use Rattle.arrow_kernels.specs.Kernels.{where_set}
+use Rattle.arrow_bytes.specs.Selection.{where_set}
 use Rattle.arrow_kernels.proofs.ChoiceLemmas.{where-grown}
 use Rattle.arrow_kernels.proofs.WordLemmas.{full-word, left-next, less-left, lowest-set, lowest-within, no-more}
 use Rattle.arrow_kernels.proofs.WordLemmas.{none-between, room-left, starts-word, word-grown}

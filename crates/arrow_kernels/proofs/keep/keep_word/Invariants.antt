@@ -1,7 +1,7 @@
 use Rattle.std.proofs.Common.{◌≡◌, ◌+◌, ◌*◌, ◌≤◌, count_by, length, not, take, w64}
 use Rattle.std.specs.Int.{trailing_zeros}
 use Rattle.std.specs.Vec.{vec_capacity}
-use Rattle.arrow_kernels.specs.Kernels.{where_set}
+use Rattle.arrow_bytes.specs.Selection.{where_set}
 use Rattle.arrow_kernels.proofs.WordLemmas.{AreLeft}
 use Rattle.arrow_kernels.proofs.keep.keep_word.Given as goal
 

@@ -2,7 +2,7 @@ use Rattle.std.proofs.Common.{◌+◌, ◌*◌, ◌/◌, ◌%◌, ◌^◌, ◌<�
 use Rattle.std.specs.Int.{trailing_zeros}
 use Rattle.std.proofs.lemmas.Nat.Bits.{bit_at-lt, shr_and_one}
 use Rattle.arrow_memory.specs.Marks.{bits_of}
-use Rattle.arrow_kernels.specs.Kernels.{where_set}
+use Rattle.arrow_bytes.specs.Selection.{where_set}
 use Rattle.arrow_kernels.proofs.BitLemmas.{length-bits, more-bits, more-fits, more-small, slice_get-bits}
 use Rattle.arrow_kernels.proofs.ChoiceLemmas.{where-all}
 use Rattle.arrow_kernels.proofs.WordLemmas.{later, left-next, less-left, lowest-within, no-more, starts-word}

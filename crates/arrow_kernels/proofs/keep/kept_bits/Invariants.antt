@@ -1,7 +1,7 @@
 use Rattle.std.proofs.Common.{◌≡◌, ◌+◌, ◌^◌, ◌<◌, ◌≤◌, take, w64}
 use Rattle.std.specs.Int.{trailing_zeros}
 use Rattle.arrow_memory.specs.Marks.{bits_of}
-use Rattle.arrow_kernels.specs.Kernels.{where_set}
+use Rattle.arrow_bytes.specs.Selection.{where_set}
 use Rattle.arrow_kernels.proofs.WordLemmas.{AreLeft}
 use Rattle.arrow_kernels.proofs.keep.kept_bits.Given as goal
 

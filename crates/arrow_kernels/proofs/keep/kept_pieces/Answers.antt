@@ -1,7 +1,7 @@
 use Rattle.std.proofs.Common.{ap, sym, subst, ◌∙◌, length}
 use Rattle.arrow_bytes.specs.Kinds.{AreItems}
 use Rattle.arrow_check.specs.Pieces.{items_of}
-use Rattle.arrow_kernels.specs.Kernels.{where_set}
+use Rattle.arrow_bytes.specs.Selection.{where_set}
 use Rattle.arrow_kernels.proofs.ItemLemmas.{around-is, count-held, cut-alone, items-are, items-of-held, kinds-where}
 use Rattle.arrow_kernels.proofs.ItemLemmas.{within-held}
 use Rattle.arrow_kernels.proofs.keep.kept_pieces.Goals as goal

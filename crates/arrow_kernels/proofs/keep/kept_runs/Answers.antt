@@ -1,7 +1,7 @@
 use Rattle.std.proofs.Common.{◌≡◌, ◌+◌, ◌-◌, ◌*◌, ◌/◌, ◌%◌, ◌^◌, ◌<◌, ◌≤◌, ◌++◌, bit_and, length, take, ap, arith}
 use Rattle.std.proofs.Common.{refl, sym, ◌∙◌}
 use Rattle.arrow_memory.specs.Marks.{bits_of}
-use Rattle.arrow_kernels.specs.Kernels.{where_set}
+use Rattle.arrow_bytes.specs.Selection.{where_set}
 use Rattle.arrow_kernels.proofs.BitLemmas.{length-bits, slice_get-bits}
 use Rattle.arrow_kernels.proofs.ChoiceLemmas.{where-all}
 use Rattle.arrow_kernels.proofs.RunLemmas.{run-bits, run-cut, run-fits, run-low, run-next, run-small, run-starts}

@@ -1,6 +1,6 @@
 use Rattle.std.proofs.Common.{refl, ap, ◌∙◌, arith, length}
 use Rattle.std.specs.List.{concat}
-use Rattle.arrow_kernels.specs.Kernels.{at_keys}
+use Rattle.arrow_bytes.specs.Selection.{at_keys}
 use Rattle.arrow_kernels.proofs.ChoiceLemmas.{keys-below}
 use Rattle.arrow_kernels.proofs.ItemLemmas.{count-held, items-of-held, some-fit, some-overflow, within-held}
 use Rattle.arrow_kernels.proofs.pick.items_length.Goals as goal

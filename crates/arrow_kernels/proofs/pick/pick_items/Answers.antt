@@ -1,7 +1,7 @@
 use Rattle.std.proofs.Common.{ap, sym, ◌∙◌, take}
 use Rattle.std.specs.List.{concat}
 use Rattle.arrow_check.specs.Pieces.{items_of, offsets_of}
-use Rattle.arrow_kernels.specs.Kernels.{at_keys}
+use Rattle.arrow_bytes.specs.Selection.{at_keys}
 use Rattle.arrow_kernels.proofs.ChoiceLemmas.{key-place, keys-more}
 use Rattle.arrow_kernels.proofs.ItemLemmas.{bytes-more, offsets-more}
 use Rattle.arrow_kernels.proofs.pick.pick_items.Goals as goal

@@ -3,7 +3,7 @@ use Rattle.std.proofs.Math.Seq.{take-length}
 use Rattle.std.proofs.lemmas.List.{length-take-le}
 use Rattle.std.proofs.lemmas.Result.{MatchResult-weaker}
 use Rattle.arrow_memory.specs.Marks.{bits_of}
-use Rattle.arrow_kernels.specs.Kernels.{at_keys}
+use Rattle.arrow_bytes.specs.Selection.{at_keys}
 use Rattle.arrow_kernels.proofs.ChoiceLemmas.{keys-append}
 use Rattle.arrow_kernels.proofs.pick.pick_marks.Goals as goal
 

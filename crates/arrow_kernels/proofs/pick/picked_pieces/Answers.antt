@@ -1,7 +1,7 @@
 use Rattle.std.proofs.Common.{refl, ap, sym, subst, ◌∙◌, arith, length}
 use Rattle.arrow_bytes.specs.Kinds.{AreItems}
 use Rattle.arrow_check.specs.Pieces.{items_of}
-use Rattle.arrow_kernels.specs.Kernels.{at_keys}
+use Rattle.arrow_bytes.specs.Selection.{at_keys}
 use Rattle.arrow_kernels.proofs.ChoiceLemmas.{keys-below}
 use Rattle.arrow_kernels.proofs.ItemLemmas.{around-is, count-held, cut-alone, items-are, items-of-held, kinds-keys}
 use Rattle.arrow_kernels.proofs.ItemLemmas.{within-held}

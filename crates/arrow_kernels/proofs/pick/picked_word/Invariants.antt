@@ -1,6 +1,6 @@
 use Rattle.std.proofs.Common.{◌≡◌, ◌^◌, ◌<◌, take}
 use Rattle.arrow_memory.specs.Marks.{bits_of}
-use Rattle.arrow_kernels.specs.Kernels.{at_keys}
+use Rattle.arrow_bytes.specs.Selection.{at_keys}
 use Rattle.arrow_kernels.proofs.pick.picked_word.Given as goal
 
 abbrev pub invariant-loop-key : goal.invariant-loop-key

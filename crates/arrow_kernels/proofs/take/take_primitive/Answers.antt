@@ -3,13 +3,13 @@ use Rattle.std.proofs.lemmas.List.{length-map}
 use Rattle.arrow_types.specs.Types.{refusal}
 use Rattle.arrow_check.specs.Indexes.{key_refusal}
 use Rattle.arrow_column.specs.Masks.{mask_with_nulls}
-use Rattle.arrow_kernels.specs.Kernels.{at_keys}
-use Rattle.arrow_kernels.proofs.ChoiceLemmas.{fits-picked, makes-taken, not-astray}
+use Rattle.arrow_bytes.specs.Selection.{at_keys}
+use Rattle.arrow_kernels.proofs.ChoiceLemmas.{fits-picked, makes-taken, not-out_of_bounds}
 use Rattle.arrow_kernels.proofs.take.take_primitive.Goals as goal
 
 pub returns-in_err-check_indexes-clause-err : goal.returns-in_err-check_indexes-clause-err
 returns-in_err-check_indexes-clause-err g c =
-    not-astray c.args.array.now g.K.IndexKey.number c.args.keys.now _ (λ key.
+    not-out_of_bounds c.args.array.now g.K.IndexKey.number c.args.keys.now _ (λ key.
     refusal c.in_err-check_indexes.field-0.0 ≡ key_refusal (g.K.IndexKey.number key)) _ c.from_residual.result
     (ap length (c.as_slice-stored.ensures ∙ c.values.ensures) ∙ length-map c.args.array.now.rows (λ row. row.0))
     c.in_err-check_indexes.ensures.first

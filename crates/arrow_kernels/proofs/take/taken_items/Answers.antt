@@ -4,7 +4,7 @@ use Rattle.arrow_check.specs.Pieces.{items_of}
 use Rattle.arrow_bytes.specs.Pieces.{nothing_around}
 use Rattle.arrow_column.specs.Masks.{mask_with_nulls}
 use Rattle.arrow_column.specs.Column.{column_with}
-use Rattle.arrow_kernels.specs.Kernels.{at_keys}
+use Rattle.arrow_bytes.specs.Selection.{at_keys}
 use Rattle.arrow_kernels.proofs.ChoiceLemmas.{fits-picked, makes-taken}
 use Rattle.arrow_kernels.proofs.take.taken_items.Goals as goal
 

@@ -10,4 +10,4 @@ found-none (Some key) over X R S none is made = absurd none
 pub returns-in-Ok : goal.returns-in-Ok
 returns-in-Ok g c =
     let done = c.in-Ok.ensures.ok in
-    rw (← c.deref.ensures.value) (found-none _ _ _ _ _ c.in-Ok.ensures.astray done.0 (refl, ap Some done.1))
+    rw (← c.deref.ensures.value) (found-none _ _ _ _ _ c.in-Ok.ensures.out_of_bounds done.0 (refl, ap Some done.1))

@@ -5,7 +5,7 @@ use Rattle.arrow_entry.specs.Change.{with_column}
 use Rattle.arrow_entry.specs.Entry.{boolean_value}
 use Rattle.arrow_entry.specs.Item.{bit}
 use Rattle.arrow_entry.specs.Kind.{frozen}
-use Rattle.arrow_entry.proofs.Chosen.{astray-seen, over-bit, take-bit}
+use Rattle.arrow_entry.proofs.Chosen.{out_of_bounds-seen, over-bit, take-bit}
 use Rattle.arrow_entry.proofs.kinds.chosen.BooleanArrayChosen.take.Goals as goal
 
 pub returns-in-Ok-clause-ok : goal.returns-in-Ok-clause-ok
@@ -16,5 +16,5 @@ returns-in-Ok-clause-ok g c = (
 
 pub returns-in-Err-clause-err : goal.returns-in-Err-clause-err
 returns-in-Err-clause-err g c = λ none.
-    c.in-Err.ensures.err (sym (astray-seen {T = g.row.T.Denot} (λ _. nothing_around) bit c.args.self.now c.args.keys.now) ∙ none)
+    c.in-Err.ensures.err (sym (out_of_bounds-seen {T = g.row.T.Denot} (λ _. nothing_around) bit c.args.self.now c.args.keys.now) ∙ none)
     ∙ sym (ap refused_growth (over-bit g.row.T.Denot c.args.self.now g.O.Offset.most c.args.keys.now))

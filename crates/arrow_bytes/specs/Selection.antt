@@ -7,7 +7,7 @@ use Rattle.arrow_types.specs.IndexKey.{index_of}
 use Rattle.arrow_memory.specs.Offsets.{last_of}
 use Rattle.arrow_memory.specs.Rows.{Row, slot}
 use Rattle.arrow_column.specs.Column.{Column, ColumnWith, slots_of, stored_values, without_needless_mask}
-use Rattle.arrow_check.specs.Indexes.{is_place}
+use Rattle.arrow_check.specs.Indexes.{in_bounds}
 use Rattle.arrow_bytes.specs.Column.{ByteColumn, offsets_held}
 
 -- a column of these rows alone, under the type of another: nothing lies around them, and a mask is held exactly where a
@@ -44,8 +44,8 @@ abbrev pub taken : {A S K : Type 0} → A → (K → ℤ) → ColumnWith A S →
 taken nothing number column keys = column_of_rows nothing column (at_keys number keys column.rows)
 
 -- the first key, if there is one, that tells no place of a column's rows
-abbrev pub first_astray : {A S K : Type 0} → (K → ℤ) → ColumnWith A S → List K → Option K
-first_astray number column keys = find (λ key. not (is_place (length column.rows) (number key))) keys
+abbrev pub first_out_of_bounds : {A S K : Type 0} → (K → ℤ) → ColumnWith A S → List K → Option K
+first_out_of_bounds number column keys = find (λ key. not (in_bounds (length column.rows) (number key))) keys
 
 -- whether the items that keys take would end past the greatest number of an offset
 abbrev pub taking_overflows : {K : Type 0} → ℕ → (K → ℤ) → ByteColumn → List K → Bool
