@@ -35,10 +35,8 @@ impl MutableBooleanArray {
         ensures err { OnlyOutOfMemory result }
     {
         let mut builder = MutableBooleanArray::new(alloc);
-        match builder.column.extend_from_slots(slots) {
-            Ok(()) => Ok(builder),
-            Err(refused) => Err(refused),
-        }
+        builder.column.extend_from_slots(slots)?;
+        Ok(builder)
     }
 
     /// Creates a builder of the slots of an iterator, which holds a mask exactly if one is null, of
@@ -57,10 +55,8 @@ impl MutableBooleanArray {
         ensures err { OnlyOutOfMemory result }
     {
         let mut builder = MutableBooleanArray::new(alloc);
-        match builder.extend(iter) {
-            Ok(()) => Ok(builder),
-            Err(refused) => Err(refused),
-        }
+        builder.extend(iter)?;
+        Ok(builder)
     }
 
     /// Creates valid slots with the values of a slice, without a mask, of data type `Boolean`.
@@ -114,10 +110,7 @@ impl BooleanArray {
             × (array ≡ append_slots false (empty_column boolean_type) items)) }
         ensures err { OnlyOutOfMemory result }
     {
-        match MutableBooleanArray::from_iter(alloc, iter) {
-            Ok(builder) => builder.freeze(),
-            Err(refused) => Err(refused),
-        }
+        MutableBooleanArray::from_iter(alloc, iter)?.freeze()
     }
 
     /// Creates an array of `length` null slots that store false, with a mask. The data type must

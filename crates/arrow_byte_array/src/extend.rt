@@ -1,9 +1,9 @@
 //! Growth of builders by many slots.
-ghost use Rattle.std.specs.Prelude.{◌≡◌, Option, [], false, OnOk, IfErr};
+ghost use Rattle.std.specs.Prelude.{Option, [], OnOk, IfErr};
 ghost use Rattle.std.specs.Iterator.{IsFinite};
-ghost use Rattle.arrow_types.specs.Failures.{FailureKeeps};
 ghost use Rattle.arrow_column.specs.Appends.{ExtendsByItems, ExtendsBySlots, StopsInItems, StopsInSlots};
-ghost use Rattle.arrow_column.specs.Column.{joined, refused_growth};
+ghost use Rattle.arrow_column.specs.Column.{joined};
+ghost use Rattle.arrow_column.specs.Growth.{Grows, GrowthKeeps};
 ghost use Rattle.arrow_bytes.specs.Column.{item_overflows, joins_overflow};
 
 use crate::{MutableByteArray, MutableByteValuesArray};
@@ -89,10 +89,9 @@ impl<K: ByteKind, O: Offset> MutableByteArray<K, O> {
     ///
     /// The builder is unchanged on an error.
     pub fn try_extend_from_self(&mut self, other: &Self) -> Result<(), Error>
-        ensures ok { OnOk result ((joins_overflow O.most self.old other.now ≡ false)
-            × (self.new ≡ joined self.old other.now)) }
-        ensures err { FailureKeeps result (refused_growth (joins_overflow O.most self.old other.now)) self.old
-            self.new }
+        ensures ok { Grows result (joins_overflow O.most self.old other.now)
+            self.new (joined self.old other.now) }
+        ensures err { GrowthKeeps result (joins_overflow O.most self.old other.now) self.old self.new }
     {
         self.column.try_extend_from_self(&other.column)
     }
@@ -150,10 +149,9 @@ impl<K: ByteKind, O: Offset> MutableByteValuesArray<K, O> {
     ///
     /// The builder is unchanged on an error.
     pub fn try_extend_from_self(&mut self, other: &Self) -> Result<(), Error>
-        ensures ok { OnOk result ((joins_overflow O.most self.old other.now ≡ false)
-            × (self.new ≡ joined self.old other.now)) }
-        ensures err { FailureKeeps result (refused_growth (joins_overflow O.most self.old other.now)) self.old
-            self.new }
+        ensures ok { Grows result (joins_overflow O.most self.old other.now)
+            self.new (joined self.old other.now) }
+        ensures err { GrowthKeeps result (joins_overflow O.most self.old other.now) self.old self.new }
     {
         self.column.try_extend_from_self(&other.column)
     }

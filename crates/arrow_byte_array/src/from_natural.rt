@@ -35,10 +35,8 @@ impl<K: ByteKind, O: Offset> MutableByteArray<K, O> {
             (empty_bytes (K.default_type O.IS_LARGE))) ⊤) }
     {
         let mut builder = MutableByteArray::<K, O>::new(alloc)?;
-        match builder.column.extend_from_slots(slots) {
-            Ok(()) => Ok(builder),
-            Err(refused) => Err(refused),
-        }
+        builder.column.extend_from_slots(slots)?;
+        Ok(builder)
     }
 
     /// Creates a builder of the slots of an iterator, which holds a mask exactly if one is null, of
@@ -161,10 +159,8 @@ impl<K: ByteKind, O: Offset> ByteArray<K, O> {
             (empty_bytes (K.default_type O.IS_LARGE))) ⊤) }
     {
         let mut builder = MutableByteArray::<K, O>::new(alloc)?;
-        match builder.column.extend_from_values(slice) {
-            Ok(()) => builder.freeze(),
-            Err(refused) => Err(refused),
-        }
+        builder.column.extend_from_values(slice)?;
+        builder.freeze()
     }
 
     /// Creates an array of these slots, which holds a mask exactly if one is null, of the default
@@ -180,10 +176,7 @@ impl<K: ByteKind, O: Offset> ByteArray<K, O> {
             MatchGrowth e (SlotsOverflow (item_overflows X.bytes O.most) X.bytes [] slots.now
             (empty_bytes (K.default_type O.IS_LARGE))) ⊤) }
     {
-        match MutableByteArray::<K, O>::from(alloc, slots) {
-            Ok(builder) => builder.freeze(),
-            Err(refused) => Err(refused),
-        }
+        MutableByteArray::<K, O>::from(alloc, slots)?.freeze()
     }
 
     /// Creates an array of the slots of an iterator, which holds a mask exactly if one is null, of
@@ -204,12 +197,10 @@ impl<K: ByteKind, O: Offset> ByteArray<K, O> {
             MatchGrowth (X.error e) (GivesTooManySlots (item_overflows X.bytes O.most) X.bytes [] I.next_gives iter
             (empty_bytes (K.default_type O.IS_LARGE))) ⊤) }
     {
-        match MutableByteArray::<K, O>::from_iter(alloc, iter) {
-            Ok(builder) => match builder.freeze() {
-                Ok(array) => Ok(array),
-                Err(refused) => Err(X::from_error(refused)),
-            },
-            Err(refused) => Err(refused),
+        let builder = MutableByteArray::<K, O>::from_iter(alloc, iter)?;
+        match builder.freeze() {
+            Ok(array) => Ok(array),
+            Err(refused) => Err(X::from_error(refused)),
         }
     }
 
@@ -231,12 +222,10 @@ impl<K: ByteKind, O: Offset> ByteArray<K, O> {
             MatchGrowth (X.error e) (GivesTooManyItems (item_overflows X.bytes O.most) X.bytes [] I.next_gives iter
             (empty_bytes (K.default_type O.IS_LARGE))) ⊤) }
     {
-        match MutableByteValuesArray::<K, O>::from_iter(alloc, iter) {
-            Ok(builder) => match builder.freeze() {
-                Ok(array) => Ok(array),
-                Err(refused) => Err(X::from_error(refused)),
-            },
-            Err(refused) => Err(refused),
+        let builder = MutableByteValuesArray::<K, O>::from_iter(alloc, iter)?;
+        match builder.freeze() {
+            Ok(array) => Ok(array),
+            Err(refused) => Err(X::from_error(refused)),
         }
     }
 

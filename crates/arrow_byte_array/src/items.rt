@@ -1,8 +1,7 @@
 //! The items of arrays and builders, borrowed as their kind has them: `&[u8]` or `&str`.
-ghost use Rattle.std.specs.Prelude.{◌≡◌, ◌<◌, [], false, length, slice_get, Some, OnOk, option_map};
-ghost use Rattle.arrow_types.specs.Failures.{FailureKeeps};
-ghost use Rattle.arrow_column.specs.Column.{append_slot, refused_growth, slot_overflows, slots_of, stored_values};
-ghost use Rattle.arrow_bytes.specs.Pieces.{overflows_by};
+ghost use Rattle.std.specs.Prelude.{◌≡◌, ◌<◌, [], length, slice_get, Some, option_map};
+ghost use Rattle.arrow_column.specs.Column.{append_slot, slot_overflows, slots_of, stored_values};
+ghost use Rattle.arrow_column.specs.Growth.{Grows, GrowthKeeps};
 ghost use Rattle.arrow_bytes.specs.Column.{item_overflows};
 
 use crate::{ByteArray, MutableByteArray, MutableByteValuesArray};
@@ -145,10 +144,9 @@ impl<'a, K: BorrowItem<'a>, O: Offset> MutableByteArray<K, O> {
     /// The builder is unchanged on an error.
     #[inline(always)]
     pub fn push(&mut self, value: Option<K::Borrowed>) -> Result<(), Error>
-        ensures ok { OnOk result ((slot_overflows (item_overflows K.Borrowed.bytes O.most) self.old value ≡ false)
-            × (self.new ≡ append_slot [] self.old (option_map K.Borrowed.bytes value))) }
-        ensures err { FailureKeeps result
-            (refused_growth (slot_overflows (item_overflows K.Borrowed.bytes O.most) self.old value))
+        ensures ok { Grows result (slot_overflows (item_overflows K.Borrowed.bytes O.most) self.old value)
+            self.new (append_slot [] self.old (option_map K.Borrowed.bytes value)) }
+        ensures err { GrowthKeeps result (slot_overflows (item_overflows K.Borrowed.bytes O.most) self.old value)
             self.old self.new }
     {
         self.column.push(value)
@@ -160,10 +158,9 @@ impl<'a, K: BorrowItem<'a>, O: Offset> MutableByteArray<K, O> {
     /// As `push`.
     #[inline(always)]
     pub fn try_push(&mut self, value: Option<K::Borrowed>) -> Result<(), Error>
-        ensures ok { OnOk result ((slot_overflows (item_overflows K.Borrowed.bytes O.most) self.old value ≡ false)
-            × (self.new ≡ append_slot [] self.old (option_map K.Borrowed.bytes value))) }
-        ensures err { FailureKeeps result
-            (refused_growth (slot_overflows (item_overflows K.Borrowed.bytes O.most) self.old value))
+        ensures ok { Grows result (slot_overflows (item_overflows K.Borrowed.bytes O.most) self.old value)
+            self.new (append_slot [] self.old (option_map K.Borrowed.bytes value)) }
+        ensures err { GrowthKeeps result (slot_overflows (item_overflows K.Borrowed.bytes O.most) self.old value)
             self.old self.new }
     {
         // Not by `push`: a call by a bound that names a lifetime gets no proof beside the `'static` text of `Error`.
@@ -190,10 +187,11 @@ impl<'a, K: BorrowItem<'a>, O: Offset> MutableByteValuesArray<K, O> {
     /// The builder is unchanged on an error.
     #[inline(always)]
     pub fn push(&mut self, value: K::Borrowed) -> Result<(), Error>
-        ensures ok { OnOk result ((item_overflows K.Borrowed.bytes O.most self.old.around (stored_values self.old) value
-            ≡ false) × (self.new ≡ append_slot [] self.old (Some (K.Borrowed.bytes value)))) }
-        ensures err { FailureKeeps result
-            (refused_growth (item_overflows K.Borrowed.bytes O.most self.old.around (stored_values self.old) value))
+        ensures ok { Grows result
+            (item_overflows K.Borrowed.bytes O.most self.old.around (stored_values self.old) value)
+            self.new (append_slot [] self.old (Some (K.Borrowed.bytes value))) }
+        ensures err { GrowthKeeps result
+            (item_overflows K.Borrowed.bytes O.most self.old.around (stored_values self.old) value)
             self.old self.new }
     {
         self.column.push_unmasked(value)
@@ -205,10 +203,11 @@ impl<'a, K: BorrowItem<'a>, O: Offset> MutableByteValuesArray<K, O> {
     /// As `push`.
     #[inline(always)]
     pub fn try_push(&mut self, value: K::Borrowed) -> Result<(), Error>
-        ensures ok { OnOk result ((item_overflows K.Borrowed.bytes O.most self.old.around (stored_values self.old) value
-            ≡ false) × (self.new ≡ append_slot [] self.old (Some (K.Borrowed.bytes value)))) }
-        ensures err { FailureKeeps result
-            (refused_growth (item_overflows K.Borrowed.bytes O.most self.old.around (stored_values self.old) value))
+        ensures ok { Grows result
+            (item_overflows K.Borrowed.bytes O.most self.old.around (stored_values self.old) value)
+            self.new (append_slot [] self.old (Some (K.Borrowed.bytes value))) }
+        ensures err { GrowthKeeps result
+            (item_overflows K.Borrowed.bytes O.most self.old.around (stored_values self.old) value)
             self.old self.new }
     {
         // Not by `push`, for the same reason as above.

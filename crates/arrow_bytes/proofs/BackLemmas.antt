@@ -2,11 +2,9 @@
 use Rattle.std.proofs.Common.{◌≡◌, ℕ, zero, suc, ◌+◌, ◌-◌, ◌<◌, ◌≤◌, List, [], ◌∷◌, ◌++◌, length, take, drop}
 use Rattle.std.proofs.Common.{get_or, refl, sym, ap, ap₂, ◌∙◌, arith, append_assoc, length-append}
 use Rattle.std.specs.List.{concat}
-use Rattle.std.specs.Prelude.{Bool, Option}
 use Rattle.std.proofs.lemmas.List.{drop_at, take_at}
-use Rattle.arrow_types.specs.Types.{LogicalType}
 use Rattle.arrow_memory.specs.Offsets.{IsOffsets, NeverFalls, last_of}
-use Rattle.arrow_column.specs.Column.{ColumnWith, IsColumn, column_with, mask_of, stored_values}
+use Rattle.arrow_column.specs.Column.{IsColumn, column_with, mask_of, stored_values}
 use Rattle.arrow_column.proofs.CallerLemmas.{parts_again}
 use Rattle.arrow_check.specs.Pieces.{bytes_between, bytes_of, ends_after, items_after, items_of, lead_of}
 use Rattle.arrow_check.specs.Pieces.{offsets_of, tail_of}

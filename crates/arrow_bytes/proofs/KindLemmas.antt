@@ -1,6 +1,6 @@
 -- Lemmas about lists of items of a kind, and which of them offsets cut out of bytes.
 use Rattle.std.proofs.Common.{◌≡◌, ℕ, ◌+◌, ◌<◌, ◌≤◌, List, [], ◌∷◌, ◌++◌, Bool, true, false, length, take, drop}
-use Rattle.std.proofs.Common.{replicate, slice_get, Some, refl, sym, subst, arith}
+use Rattle.std.proofs.Common.{replicate, slice_get, Some, refl, sym, subst}
 use Rattle.std.proofs.lemmas.List.Elements.{All-nil, All-replicate, All-get_or, All-append, All-push, All-take}
 use Rattle.std.proofs.lemmas.List.Elements.{All-drop}
 use Rattle.std.proofs.lemmas.Option.{get_or_from_slice_get, slice_get_within}

@@ -1,5 +1,5 @@
 -- What a check of texts tells of bytes in which the offsets lie.
-use Rattle.std.proofs.Common.{◌≡◌, ◌≤◌, ◌∙◌, ap, nat_lt, List, ℕ, length, Result, Ok, Err, OnOk, IfErr, sym, subst}
+use Rattle.std.proofs.Common.{◌≡◌, ◌≤◌, ◌∙◌, ap, List, ℕ, length, Result, Ok, Err, OnOk, IfErr, sym, subst}
 use Rattle.std.proofs.Common.{true, if◌then◌else◌}
 use Rattle.std.proofs.lemmas.Bool.{le-ltb}
 use Rattle.arrow_types.specs.declared.error.Error.{Error}

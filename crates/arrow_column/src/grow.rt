@@ -1,7 +1,6 @@
 //! Growth of columns by many slots at once.
-ghost use Rattle.std.specs.Prelude.{◌≡◌, false, OnOk, IfErr};
-ghost use Rattle.arrow_types.specs.Failures.{FailureKeeps};
-ghost use Rattle.arrow_column.specs.Column.{append_nulls, append_values, joined, refused_growth, stored_values};
+ghost use Rattle.arrow_column.specs.Column.{append_nulls, append_values, joined, stored_values};
+ghost use Rattle.arrow_column.specs.Growth.{Grows, GrowthKeeps};
 
 use crate::GrowingColumn;
 use crate::mask::{extend_null_marks, extend_valid_marks, join_marks};
@@ -21,9 +20,10 @@ impl<V: MutableValues> GrowingColumn<V> {
     pub fn grow_valid<X>(&mut self, values: X) -> Result<(), Error>
     where
         V: Grow<X>,
-        ensures ok { OnOk result ((V.overgrows self.old.around (stored_values self.old) values ≡ false)
-            × (self.new ≡ append_values self.old (V.given values))) }
-        ensures err { FailureKeeps result (refused_growth (V.overgrows self.old.around (stored_values self.old) values)) self.old self.new }
+        ensures ok { Grows result (V.overgrows self.old.around (stored_values self.old) values)
+            self.new (append_values self.old (V.given values)) }
+        ensures err { GrowthKeeps result (V.overgrows self.old.around (stored_values self.old) values)
+            self.old self.new }
     {
         let before = self.values.count();
         let count = self.values.grow(values)?;
@@ -43,9 +43,10 @@ impl<V: MutableValues> GrowingColumn<V> {
     pub fn grow_null<X>(&mut self, values: X) -> Result<(), Error>
     where
         V: Grow<X>,
-        ensures ok { OnOk result ((V.overgrows self.old.around (stored_values self.old) values ≡ false)
-            × (self.new ≡ append_nulls self.old (V.given values))) }
-        ensures err { FailureKeeps result (refused_growth (V.overgrows self.old.around (stored_values self.old) values)) self.old self.new }
+        ensures ok { Grows result (V.overgrows self.old.around (stored_values self.old) values)
+            self.new (append_nulls self.old (V.given values)) }
+        ensures err { GrowthKeeps result (V.overgrows self.old.around (stored_values self.old) values)
+            self.old self.new }
     {
         let before = self.values.count();
         let alloc = self.values.allocated_by();
@@ -68,9 +69,16 @@ impl<V: MutableValues> GrowingColumn<V> {
     ///
     /// The column is unchanged on an error.
     pub fn try_extend_from_self(&mut self, other: &Self) -> Result<(), Error>
+<<<<<<< HEAD
         ensures ok { OnOk result ((V.join_overflows self.old.around (stored_values self.old) (stored_values other.now)
             ≡ false) × (self.new ≡ joined self.old other.now)) }
         ensures err { FailureKeeps result (refused_growth (V.join_overflows self.old.around (stored_values self.old) (stored_values other.now))) self.old self.new }
+=======
+        ensures ok { Grows result (V.overjoins self.old.around (stored_values self.old) (stored_values other.now))
+            self.new (joined self.old other.now) }
+        ensures err { GrowthKeeps result
+            (V.overjoins self.old.around (stored_values self.old) (stored_values other.now)) self.old self.new }
+>>>>>>> 8aa34ceb1a0100de45874796d04e611f3436382f
     {
         let before = self.values.count();
         let alloc = self.values.allocated_by();

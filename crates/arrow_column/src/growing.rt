@@ -1,13 +1,14 @@
 //! Growing columns, of which builders are made.
-ghost use Rattle.std.specs.Prelude.{IsTrue, slice_get, not, is_some, ◌≡◌, ◌<◌, ◌-◌, length, false, Some, None};
+ghost use Rattle.std.specs.Prelude.{IsTrue, slice_get, not, is_some, ◌≡◌, ◌<◌, ◌-◌, length, Some, None};
 ghost use Rattle.std.specs.Prelude.{OnOk, IfOk, IfErr, IfSome, option_map};
 ghost use Rattle.std.specs.Option.{option_copied};
-ghost use Rattle.arrow_types.specs.Failures.{FailureKeeps, OnlyOutOfMemory, OutOfMemoryKeeps};
+ghost use Rattle.arrow_types.specs.Failures.{OnlyOutOfMemory, OutOfMemoryKeeps};
 ghost use Rattle.arrow_types.specs.Types.{logical_type};
 ghost use Rattle.arrow_memory.specs.Rows.{FitsMask, rows_of};
 ghost use Rattle.arrow_column.specs.Column.{slots_of, all_valid, marks_of, slot_overflows, IsColumn, append_slot};
-ghost use Rattle.arrow_column.specs.Column.{column_with, last_slot, mask_of, refused_growth, stored_values};
+ghost use Rattle.arrow_column.specs.Column.{column_with, last_slot, mask_of, stored_values};
 ghost use Rattle.arrow_column.specs.Column.{with_mask, with_type, without_last};
+ghost use Rattle.arrow_column.specs.Growth.{Grows, GrowthKeeps};
 
 use crate::mask::{freeze_mask, pop_mark, push_null_mark, push_valid};
 use crate::values::{MutableValues, PushValue};
@@ -168,9 +169,10 @@ impl<V: MutableValues> GrowingColumn<V> {
     where
         V: PushValue<X>,
         ensures data_type { self.new.data_type ≡ self.old.data_type }
-        ensures ok { OnOk result ((V.overflows self.old.around (stored_values self.old) value ≡ false)
-            × (self.new ≡ append_slot V.default self.old (Some (V.shown value)))) }
-        ensures err { FailureKeeps result (refused_growth (V.overflows self.old.around (stored_values self.old) value)) self.old self.new }
+        ensures ok { Grows result (V.overflows self.old.around (stored_values self.old) value)
+            self.new (append_slot V.default self.old (Some (V.shown value))) }
+        ensures err { GrowthKeeps result (V.overflows self.old.around (stored_values self.old) value)
+            self.old self.new }
     {
         let before = self.values.count();
         self.values.push_value(value)?;
@@ -195,9 +197,9 @@ impl<V: MutableValues> GrowingColumn<V> {
     where
         V: PushValue<X>,
         ensures data_type { self.new.data_type ≡ self.old.data_type }
-        ensures ok { OnOk result ((slot_overflows V.overflows self.old slot ≡ false)
-            × (self.new ≡ append_slot V.default self.old (option_map V.shown slot))) }
-        ensures err { FailureKeeps result (refused_growth (slot_overflows V.overflows self.old slot)) self.old self.new }
+        ensures ok { Grows result (slot_overflows V.overflows self.old slot)
+            self.new (append_slot V.default self.old (option_map V.shown slot)) }
+        ensures err { GrowthKeeps result (slot_overflows V.overflows self.old slot) self.old self.new }
     {
         match slot {
             Some(value) => self.push_valid(value),

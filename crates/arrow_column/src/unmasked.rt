@@ -1,9 +1,10 @@
 //! Columns that hold no mask, and grow without looking for one.
 ghost use Rattle.std.specs.Prelude.{◌≡◌, false, Some, OnOk, IfErr};
 ghost use Rattle.std.specs.Iterator.{IsFinite};
-ghost use Rattle.arrow_types.specs.Failures.{FailureKeeps, OutOfMemoryKeeps};
+ghost use Rattle.arrow_types.specs.Failures.{OutOfMemoryKeeps};
 ghost use Rattle.arrow_column.specs.Appends.{ExtendsByItems, StopsInItems};
-ghost use Rattle.arrow_column.specs.Column.{append_slot, refused_growth, stored_values};
+ghost use Rattle.arrow_column.specs.Column.{append_slot, stored_values};
+ghost use Rattle.arrow_column.specs.Growth.{Grows, GrowthKeeps};
 
 use crate::GrowingColumn;
 use crate::values::{MutableValues, PushValue};
@@ -22,9 +23,10 @@ impl<V: MutableValues> GrowingColumn<V> {
         requires { self.old.held ≡ false }
         ensures data_type { self.new.data_type ≡ self.old.data_type }
         ensures held { self.new.held ≡ false }
-        ensures ok { OnOk result ((V.overflows self.old.around (stored_values self.old) value ≡ false)
-            × (self.new ≡ append_slot V.default self.old (Some (V.shown value)))) }
-        ensures err { FailureKeeps result (refused_growth (V.overflows self.old.around (stored_values self.old) value)) self.old self.new }
+        ensures ok { Grows result (V.overflows self.old.around (stored_values self.old) value)
+            self.new (append_slot V.default self.old (Some (V.shown value))) }
+        ensures err { GrowthKeeps result (V.overflows self.old.around (stored_values self.old) value)
+            self.old self.new }
     {
         self.values.push_value(value)
     }

@@ -1,8 +1,8 @@
 //! Stored values, of which columns are made.
 ghost use Rattle.std.specs.Prelude.{refl, slice_set, replicate, ◌<◌, IfOk, ◌≡◌, ℕ, ◌+◌, ◌-◌, ◌≤◌, List, Bool};
 ghost use Rattle.std.specs.Prelude.{false, [], ◌∷◌, ◌++◌, length, take, drop, OnOk, IfErr, IsOk};
-ghost use Rattle.arrow_types.specs.Failures.{FailureKeeps, OnlyOutOfMemory, OutOfMemoryKeeps};
-ghost use Rattle.arrow_column.specs.Column.{refused_growth};
+ghost use Rattle.arrow_types.specs.Failures.{OnlyOutOfMemory, OutOfMemoryKeeps};
+ghost use Rattle.arrow_column.specs.Growth.{Grows, GrowthKeeps};
 
 use arrow_memory::bitmap::{Bitmap, MutableBitmap};
 use arrow_memory::buffer::Buffer;
@@ -165,10 +165,18 @@ pub trait MutableValues: Drop {
     ///
     /// The values are unchanged on an error.
     fn append(&mut self, other: &Self) -> Result<(), Error>
+<<<<<<< HEAD
         ensures ok { OnOk result ((join_overflows (around self.old) (stored self.old) (stored other.now) ≡ false)
             × (stored self.new ≡ stored self.old ++ stored other.now)) }
         ensures around { around self.new ≡ around self.old }
         ensures err { FailureKeeps result (refused_growth (join_overflows (around self.old) (stored self.old) (stored other.now))) (stored self.old) (stored self.new) };
+=======
+        ensures ok { Grows result (overjoins (around self.old) (stored self.old) (stored other.now))
+            (stored self.new) (stored self.old ++ stored other.now) }
+        ensures around { around self.new ≡ around self.old }
+        ensures err { GrowthKeeps result (overjoins (around self.old) (stored self.old) (stored other.now))
+            (stored self.old) (stored self.new) };
+>>>>>>> 8aa34ceb1a0100de45874796d04e611f3436382f
 
     /// Reserves room for at least `additional` more values.
     ///
@@ -214,10 +222,11 @@ pub trait PushValue<X>: MutableValues {
     ///
     /// The values are unchanged on an error.
     fn push_value(&mut self, value: X) -> Result<(), Error>
-        ensures ok { OnOk result ((overflows (Self.around self.old) (Self.stored self.old) value ≡ false)
-            × (Self.stored self.new ≡ Self.stored self.old ++ shown value ∷ [])) }
+        ensures ok { Grows result (overflows (Self.around self.old) (Self.stored self.old) value)
+            (Self.stored self.new) (Self.stored self.old ++ shown value ∷ []) }
         ensures around { Self.around self.new ≡ Self.around self.old }
-        ensures err { FailureKeeps result (refused_growth (overflows (Self.around self.old) (Self.stored self.old) value)) (Self.stored self.old) (Self.stored self.new) };
+        ensures err { GrowthKeeps result (overflows (Self.around self.old) (Self.stored self.old) value)
+            (Self.stored self.old) (Self.stored self.new) };
 }
 
 /// Values to which many values can be appended at once.
@@ -239,7 +248,8 @@ pub trait Grow<X>: MutableValues {
         ensures ok { IfOk result (λ count. (overgrows (Self.around self.old) (Self.stored self.old) values ≡ false)
             × (count ≡ length (given values)) × (Self.stored self.new ≡ Self.stored self.old ++ given values)) }
         ensures around { Self.around self.new ≡ Self.around self.old }
-        ensures err { FailureKeeps result (refused_growth (overgrows (Self.around self.old) (Self.stored self.old) values)) (Self.stored self.old) (Self.stored self.new) };
+        ensures err { GrowthKeeps result (overgrows (Self.around self.old) (Self.stored self.old) values)
+            (Self.stored self.old) (Self.stored self.new) };
 }
 
 impl<T: NativeType> MutableValues for Vec<T> {

@@ -37,10 +37,8 @@ impl<T: NativeType> MutablePrimitiveArray<T> {
         ensures err { OnlyOutOfMemory result }
     {
         let mut builder = MutablePrimitiveArray::masked(alloc);
-        match builder.column.extend_from_slots(slots) {
-            Ok(()) => Ok(builder),
-            Err(refused) => Err(refused),
-        }
+        builder.column.extend_from_slots(slots)?;
+        Ok(builder)
     }
 
     /// Creates a builder of the slots of an iterator, which holds a mask, of the native type's
@@ -57,10 +55,8 @@ impl<T: NativeType> MutablePrimitiveArray<T> {
         ensures err { OnlyOutOfMemory result }
     {
         let mut builder = MutablePrimitiveArray::masked(alloc);
-        match builder.extend(iter) {
-            Ok(()) => Ok(builder),
-            Err(refused) => Err(refused),
-        }
+        builder.extend(iter)?;
+        Ok(builder)
     }
 
     /// Creates valid slots with the values of a slice, without a mask, of the native type's default
@@ -125,10 +121,8 @@ impl<T: NativeType> PrimitiveArray<T> {
         ensures err { OnlyOutOfMemory result }
     {
         let mut builder = MutablePrimitiveArray::new(alloc);
-        match builder.extend_values(iter) {
-            Ok(()) => builder.freeze(),
-            Err(refused) => Err(refused),
-        }
+        builder.extend_values(iter)?;
+        builder.freeze()
     }
 
     /// Creates an array of these slots, which holds a mask exactly if one is null, of the native
@@ -158,10 +152,7 @@ impl<T: NativeType> PrimitiveArray<T> {
             (append_slots T.zero (column_of_parts (default_logical_type T.PRIMITIVE) [] (Some [])) items))) }
         ensures err { OnlyOutOfMemory result }
     {
-        match MutablePrimitiveArray::from_iter(alloc, iter) {
-            Ok(builder) => builder.freeze(),
-            Err(refused) => Err(refused),
-        }
+        MutablePrimitiveArray::from_iter(alloc, iter)?.freeze()
     }
 
     /// Creates an array of `length` null slots that store the default value, with a mask. The data

@@ -76,7 +76,8 @@ impl<T: NativeType> MutablePrimitiveArray<T> {
         validity: Option<MutableBitmap>,
     ) -> Result<Self, Error>
         ensures ok { let t = logical_type data_type in IfOk result (λ builder.
-            Passes (parts_tests T.PRIMITIVE t values.items validity) × (builder ≡ column_of_parts t values.items validity)) }
+            Passes (parts_tests T.PRIMITIVE t values.items validity)
+            × (builder ≡ column_of_parts t values.items validity)) }
         ensures err { IfErr result (λ e.
             IsFirstFailure (parts_tests T.PRIMITIVE (logical_type data_type) values.items validity) (refusal e)) }
     {

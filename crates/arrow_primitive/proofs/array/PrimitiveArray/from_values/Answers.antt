@@ -3,9 +3,9 @@ use Rattle.arrow_types.specs.Types.{default_logical_type}
 use Rattle.arrow_primitive.proofs.SlotLemmas.{made-of-values}
 use Rattle.arrow_primitive.proofs.array.PrimitiveArray.from_values.Goals as goal
 
-pub returns-in-Ok-clause-ok : goal.returns-in-Ok-clause-ok
-returns-in-Ok-clause-ok g c =
-    let done = c.in-Ok.ensures.ok in
+pub returns-clause-ok : goal.returns-clause-ok
+returns-clause-ok g c =
+    let done = c.in_ok-extend_values.ensures.ok in
     IfOk-weaker c.freeze.result _ _ (λ array frozen. (
       done.0,
       done.1,
