@@ -1,0 +1,6 @@
+pub mod CallerLemmas
+mod Chosen
+mod Grown
+mod Masks
+mod Steps
+mod ValueLists

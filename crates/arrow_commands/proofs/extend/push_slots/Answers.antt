@@ -1,0 +1,36 @@
+use Rattle.std.proofs.Common.{rules, ◌≡◌, map, ap, [], ◌∷◌}
+use Rattle.std.proofs.lemmas.List.{nil_from_length}
+use Rattle.arrow_model.specs.Change.{slot_over}
+use Rattle.arrow_model.specs.Value.{types}
+use Rattle.arrow_model.specs.Item.{stored_slot}
+use Rattle.arrow_entry.specs.Entry.{value_of}
+use Rattle.arrow_commands.proofs.Grown.{rest-taken, rest-none, rest-refused}
+use Rattle.arrow_commands.proofs.extend.push_slots.Goals as goal
+
+pub loop-slot-preserved : goal.loop-slot-preserved
+loop-slot-preserved g c =
+    let split : c.loop-slot.rest.now ≡ c.in-Some.slot.now ∷ c.in-Some.others.now = search rules in (
+      search rules,
+      search rules,
+      rest-taken (types g.T.NativeType.zero g.T.NativeType.PRIMITIVE g.O.Offset.most g.O.Offset.IS_LARGE) (value_of c.args.held.now) (map stored_slot c.args.slots.now)
+          (value_of c.loop-slot.held) (value_of c.push_slot.new.self) (map stored_slot c.loop-slot.rest.now) (map stored_slot c.in-Some.others.now) (stored_slot c.in-Some.slot.now)
+          (ap (map stored_slot) split) c.in-Ok.ensures.ok c.loop-slot.invariant.2,
+    )
+
+pub returns-clause-ok : goal.returns-clause-ok
+returns-clause-ok g c =
+    let split : c.loop-slot.rest.now ≡ [] = nil_from_length c.loop-slot.rest.now (search rules) in
+    rest-none (types g.T.NativeType.zero g.T.NativeType.PRIMITIVE g.O.Offset.most g.O.Offset.IS_LARGE) (value_of c.args.held.now) (map stored_slot c.args.slots.now)
+    (value_of c.loop-slot.held) (map stored_slot c.loop-slot.rest.now) (ap (map stored_slot) split) c.loop-slot.invariant.2
+
+pub returns-in-Err-clause-err : goal.returns-in-Err-clause-err
+returns-in-Err-clause-err g c =
+    let split : c.loop-slot.rest.now ≡ c.in-Some.slot.now ∷ c.in-Some.others.now = search rules in
+    let known = types g.T.NativeType.zero g.T.NativeType.PRIMITIVE g.O.Offset.most g.O.Offset.IS_LARGE in
+    let refused = c.in-Err.ensures.err in (
+      slot_over known (value_of c.loop-slot.held) (stored_slot c.in-Some.slot.now),
+      refused.0,
+      rw (refused.0, refused.1)
+          (rest-refused known (value_of c.args.held.now) (map stored_slot c.args.slots.now) (value_of c.loop-slot.held) (map stored_slot c.loop-slot.rest.now) (map stored_slot c.in-Some.others.now) (stored_slot c.in-Some.slot.now)
+          (ap (map stored_slot) split) c.loop-slot.invariant.2),
+    )
