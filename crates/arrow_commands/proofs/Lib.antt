@@ -1,6 +1,5 @@
 pub mod CallerLemmas
 mod Chosen
-mod Grown
 mod Masks
 mod Steps
 mod ValueLists

@@ -1,9 +1,9 @@
 //! What a command is to an entry, and how it is done to the entry of a number.
-ghost use Rattle.std.specs.Prelude.{◌≡◌, Some, option_copied, option_map};
-ghost use Rattle.arrow_commands.specs.Outcome.{outcome, state_of};
-ghost use Rattle.arrow_entry.specs.Entry.{value_of};
+ghost use Rattle.std.specs.Prelude.{Some, option_map};
+ghost use Rattle.arrow_commands.specs.Outcome.{outcome};
+ghost use Rattle.arrow_entry.specs.Entry.{state_of, value_of};
 ghost use Rattle.arrow_model.specs.Request.{Ask};
-ghost use Rattle.arrow_model.specs.Step.{AtEntry, Does, entry_at};
+ghost use Rattle.arrow_model.specs.Step.{AtEntry, Does};
 ghost use Rattle.arrow_model.specs.Value.{types};
 
 use arrow_entry::Entry;
@@ -39,26 +39,6 @@ pub trait ChangesEntry<T: NativeType, O: Offset>: Drop {
     fn run(self, alloc: Global, entry: &mut Option<Entry<T, O>>) -> Result<Reply<T>, Error>
         ensures { Does (types T.zero T.PRIMITIVE O.most O.IS_LARGE) (option_map value_of entry.old) (asks self)
             (outcome result) (option_map value_of entry.new) };
-}
-
-/// Replaces what is in an entry.
-pub fn replace<T: NativeType, O: Offset>(entry: &mut Option<Entry<T, O>>, held: Option<Entry<T, O>>)
-    ensures { entry.new ≡ held }
-{
-    *entry = held;
-}
-
-/// Returns what the entry of a number holds; `None` if it is empty or past the table.
-pub fn held_at<T: NativeType, O: Offset>(
-    entries: &Vec<Option<Entry<T, O>>>,
-    e: usize,
-) -> Option<&Entry<T, O>>
-    ensures { entry_at (state_of entries.now.items) e ≡ option_map value_of (option_copied result) }
-{
-    match entries.get(e)? {
-        Some(held) => Some(held),
-        None => None,
-    }
 }
 
 /// Reads the entry of a number; the command's condition fails if it is empty or past the table.

@@ -41,6 +41,3 @@ pub mod freeze;
 pub mod nullable;
 pub mod thaw;
 pub mod to;
-
-// What several of them need.
-mod fit;

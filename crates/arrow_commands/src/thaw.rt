@@ -6,8 +6,8 @@ ghost use Rattle.arrow_model.specs.Request as ask;
 ghost use Rattle.arrow_model.specs.Step.{Does};
 ghost use Rattle.arrow_model.specs.Value.{types};
 
-use crate::command::{ChangesEntry, replace};
-use arrow_entry::Entry;
+use crate::command::ChangesEntry;
+use arrow_entry::{Entry, replace};
 use arrow_model::Reply;
 use arrow_types::error::Error;
 use arrow_types::native_type::NativeType;

@@ -8,8 +8,8 @@ ghost use Rattle.arrow_model.specs.Value.{types};
 ghost use Rattle.arrow_types.specs.Types.{IsRightType, logical_type};
 ghost use Rattle.arrow_types.specs.declared.physical_type.PhysicalType.TheVariants as PhysicalType;
 
-use crate::command::{ChangesEntry, replace};
-use arrow_entry::Entry;
+use crate::command::ChangesEntry;
+use arrow_entry::{Entry, replace};
 use arrow_model::Reply;
 use arrow_types::data_type::DataType;
 use arrow_types::error::Error;

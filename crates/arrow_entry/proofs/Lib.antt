@@ -1,5 +1,6 @@
 pub mod CallerLemmas
 pub mod EntryLemmas
+pub mod Grown
 pub mod Rules
 pub mod Seen
 pub mod SlotLemmas

@@ -8,7 +8,7 @@ use Rattle.arrow_entry.specs.declared.entry.Entry.{Entry}
 use Rattle.arrow_entry.specs.declared.entry.Entry.TheVariants as entry
 use Rattle.arrow_model.specs.Item.{Stored, value, bit, piece}
 use Rattle.arrow_model.specs.Kind.{Group, native, boolean, pieces, shaped, frozen, with_nulls, values_alone}
-use Rattle.arrow_model.specs.Value.{Value, Held}
+use Rattle.arrow_model.specs.Value.{Value, State, Held}
 
 -- the same column, over what slots store whatever their sort
 unfoldable pub seen : {A S T : Type 0} → (A → Around) → (S → Stored T) → ColumnWith A S → ColumnWith Around (Stored T)
@@ -43,6 +43,9 @@ value_of (entry.MutableUtf8 column) = piece_value with_nulls true column
 value_of (entry.BinaryValues column) = piece_value values_alone false column
 value_of (entry.Utf8Values column) = piece_value values_alone true column
 
--- the table of entries as they are kept, and of counts
+-- the values of entries as they are kept, and the table of these and of counts
+abbrev pub state_of : {T O : Type 0} → List (Option (Entry T O)) → State T
+state_of = map (option_map value_of)
+
 abbrev pub table_of : {T O : Type 0} → List (Option (Entry T O)) → Cost → Held T
-table_of entries cost = record { entries = map (option_map value_of) entries; cost = cost }
+table_of entries cost = record { entries = state_of entries; cost = cost }

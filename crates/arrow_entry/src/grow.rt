@@ -31,7 +31,10 @@ impl<T: NativeType, O: Offset> Entry<T, O> {
             ),
             Some(Item::Value(_)) => matches!(self, Entry::MutablePrimitive(_)),
             Some(Item::Bit(_)) => matches!(self, Entry::MutableBoolean(_)),
-            Some(Item::Bytes(_)) => matches!(self, Entry::MutableBinary(_) | Entry::BinaryValues(_)),
+            Some(Item::Bytes(_)) => matches!(
+                self,
+                Entry::MutableBinary(_) | Entry::BinaryValues(_)
+            ),
             Some(Item::Text(_)) => matches!(self, Entry::MutableUtf8(_) | Entry::Utf8Values(_)),
         }
     }

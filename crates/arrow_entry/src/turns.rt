@@ -147,7 +147,8 @@ impl<'a, T: NativeType, O: Offset> SlotIterator<'a, T> for ArrayValuesIter<'a, B
 }
 
 #[tactic(auto, using(crate::proofs::TurnLemmas::turn_maps))]
-impl<'a, T: NativeType, O: Offset> SlotIterator<'a, T> for ArrayValuesIter<'a, MutableBinaryArray<O>> {
+impl<'a, T: NativeType, O: Offset> SlotIterator<'a, T>
+    for ArrayValuesIter<'a, MutableBinaryArray<O>> {
     ghost use Rattle.std.specs.Prelude.{false, map};
     ghost use Rattle.arrow_column.specs.Column.{stored_values};
     ghost use Rattle.arrow_check.specs.Items.{IsWithin, rest_of};
@@ -180,7 +181,8 @@ impl<'a, T: NativeType, O: Offset> SlotIterator<'a, T> for ArrayValuesIter<'a, M
 }
 
 #[tactic(auto, using(crate::proofs::TurnLemmas::turn_maps))]
-impl<'a, T: NativeType, O: Offset> SlotIterator<'a, T> for ArrayValuesIter<'a, MutableBinaryValuesArray<O>> {
+impl<'a, T: NativeType, O: Offset> SlotIterator<'a, T>
+    for ArrayValuesIter<'a, MutableBinaryValuesArray<O>> {
     ghost use Rattle.std.specs.Prelude.{false, map};
     ghost use Rattle.arrow_column.specs.Column.{stored_values};
     ghost use Rattle.arrow_check.specs.Items.{IsWithin, rest_of};
@@ -246,7 +248,8 @@ impl<'a, T: NativeType, O: Offset> SlotIterator<'a, T> for ArrayValuesIter<'a, U
 }
 
 #[tactic(auto, using(crate::proofs::TurnLemmas::turn_maps))]
-impl<'a, T: NativeType, O: Offset> SlotIterator<'a, T> for ArrayValuesIter<'a, MutableUtf8Array<O>> {
+impl<'a, T: NativeType, O: Offset> SlotIterator<'a, T>
+    for ArrayValuesIter<'a, MutableUtf8Array<O>> {
     ghost use Rattle.std.specs.Prelude.{map, true};
     ghost use Rattle.arrow_column.specs.Column.{stored_values};
     ghost use Rattle.arrow_check.specs.Items.{IsWithin, rest_of};
@@ -279,7 +282,8 @@ impl<'a, T: NativeType, O: Offset> SlotIterator<'a, T> for ArrayValuesIter<'a, M
 }
 
 #[tactic(auto, using(crate::proofs::TurnLemmas::turn_maps))]
-impl<'a, T: NativeType, O: Offset> SlotIterator<'a, T> for ArrayValuesIter<'a, MutableUtf8ValuesArray<O>> {
+impl<'a, T: NativeType, O: Offset> SlotIterator<'a, T>
+    for ArrayValuesIter<'a, MutableUtf8ValuesArray<O>> {
     ghost use Rattle.std.specs.Prelude.{map, true};
     ghost use Rattle.arrow_column.specs.Column.{stored_values};
     ghost use Rattle.arrow_check.specs.Items.{IsWithin, rest_of};
@@ -312,7 +316,10 @@ impl<'a, T: NativeType, O: Offset> SlotIterator<'a, T> for ArrayValuesIter<'a, M
 }
 
 /// Asks an iterator for one turn.
-fn turn_of<'a, T: NativeType, I: SlotIterator<'a, T>>(items: &mut I, turn: Turn) -> Option<SlotRef<'a, T>>
+fn turn_of<'a, T: NativeType, I: SlotIterator<'a, T>>(
+    items: &mut I,
+    turn: Turn,
+) -> Option<SlotRef<'a, T>>
     requires { I.can_turn items.old }
     ensures keeps { I.can_turn items.new }
     ensures gives { (more : List Turn)

@@ -4,7 +4,7 @@ ghost use Rattle.std.specs.List.{list_all};
 ghost use Rattle.arrow_model.specs.Item.{fits, slot_fits, stored_item, stored_slot};
 ghost use Rattle.arrow_model.specs.Kind.{shape};
 
-use arrow_model::{Item, Kind};
+use crate::{Item, Kind};
 use arrow_types::native_type::NativeType;
 
 /// Returns whether an item is of a kind's sort.

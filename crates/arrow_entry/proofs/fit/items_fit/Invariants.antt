@@ -2,7 +2,7 @@ use Rattle.std.proofs.Common.{◌≡◌, length, map}
 use Rattle.std.specs.List.{list_all}
 use Rattle.arrow_model.specs.Item.{fits, stored_item}
 use Rattle.arrow_model.specs.Kind.{shape}
-use Rattle.arrow_commands.proofs.fit.items_fit.Given as goal
+use Rattle.arrow_entry.proofs.fit.items_fit.Given as goal
 
 abbrev pub invariant-loop-item : goal.invariant-loop-item
 invariant-loop-item g l =

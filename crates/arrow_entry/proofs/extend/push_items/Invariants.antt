@@ -5,7 +5,7 @@ use Rattle.arrow_model.specs.Value.{Value, types}
 use Rattle.arrow_model.specs.Item.{fits, stored_item}
 use Rattle.arrow_model.specs.Step.{Extends}
 use Rattle.arrow_entry.specs.Entry.{value_of}
-use Rattle.arrow_commands.proofs.extend_values.push_items.Given as goal
+use Rattle.arrow_entry.proofs.extend.push_items.Given as goal
 
 abbrev pub invariant-loop-item : goal.invariant-loop-item
 invariant-loop-item g l =

@@ -5,7 +5,7 @@ use Rattle.arrow_model.specs.Value.{Value, types}
 use Rattle.arrow_model.specs.Item.{slot_fits, stored_slot}
 use Rattle.arrow_model.specs.Step.{Extends}
 use Rattle.arrow_entry.specs.Entry.{value_of}
-use Rattle.arrow_commands.proofs.extend.push_slots.Given as goal
+use Rattle.arrow_entry.proofs.extend.push_slots.Given as goal
 
 abbrev pub invariant-loop-slot : goal.invariant-loop-slot
 invariant-loop-slot g l =

@@ -2,7 +2,7 @@ use Rattle.std.proofs.Common.{◌≡◌, length, map}
 use Rattle.std.specs.List.{list_all}
 use Rattle.arrow_model.specs.Item.{slot_fits, stored_slot}
 use Rattle.arrow_model.specs.Kind.{shape}
-use Rattle.arrow_commands.proofs.fit.slots_fit.Given as goal
+use Rattle.arrow_entry.proofs.fit.slots_fit.Given as goal
 
 abbrev pub invariant-loop-slot : goal.invariant-loop-slot
 invariant-loop-slot g l =

@@ -4,8 +4,8 @@ use Rattle.arrow_model.specs.Change.{slot_over}
 use Rattle.arrow_model.specs.Value.{types}
 use Rattle.arrow_model.specs.Item.{stored_item}
 use Rattle.arrow_entry.specs.Entry.{value_of}
-use Rattle.arrow_commands.proofs.Grown.{rest-taken, rest-none, rest-refused}
-use Rattle.arrow_commands.proofs.extend_values.push_items.Goals as goal
+use Rattle.arrow_entry.proofs.Grown.{rest-taken, rest-none, rest-refused}
+use Rattle.arrow_entry.proofs.extend.push_items.Goals as goal
 
 pub loop-item-preserved : goal.loop-item-preserved
 loop-item-preserved g c =
