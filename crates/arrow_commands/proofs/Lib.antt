@@ -1,5 +1,5 @@
 pub mod CallerLemmas
-mod Chosen
+mod Extended
 mod Masks
 mod Steps
 mod ValueLists

@@ -2,14 +2,18 @@
 ghost use Rattle.std.specs.Prelude.{◌≡◌, ◌&&◌, ◌||◌, IfErr, IfOk, IsTrue, OnOk, Some, length, replicate, reverse, true};
 ghost use Rattle.arrow_types.specs.Failures.{OnlyOutOfMemory};
 ghost use Rattle.arrow_column.specs.Column.{mask_of, with_mask};
-ghost use Rattle.arrow_entry.specs.Entry.{value_of};
+ghost use Rattle.arrow_entry.specs.Entry.{boolean_value, native_value, piece_value, value_of};
 ghost use Rattle.arrow_model.specs.Change.{with_column};
-ghost use Rattle.arrow_model.specs.Kind.{Shape, is_frozen, is_nullable, is_pieces};
+ghost use Rattle.arrow_model.specs.Kind.{Shape, frozen, is_frozen, is_nullable, is_pieces, with_nulls};
 
 use crate::command::ChangesEntry;
+use arrow_boolean::BooleanArray;
+use arrow_byte_array::{ByteArray, MutableByteArray};
+use arrow_bytes::{Binary, ByteKind, Utf8};
 use arrow_entry::Entry;
 use arrow_memory::bitmap::{BitmapIter, MutableBitmap};
 use arrow_model::{Item, Named, Reply};
+use arrow_primitive::PrimitiveArray;
 use arrow_types::error::Error;
 use arrow_types::native_type::NativeType;
 use arrow_types::offset::Offset;
@@ -94,11 +98,102 @@ fn marks_of<T: NativeType, O: Offset>(held: &Entry<T, O>) -> Option<BitmapIter<'
     }
 }
 
+/// Changes the mask that an array of native values holds to as many other marks.
+///
+/// # Errors
+/// `OutOfMemory` if an allocation fails; nothing is changed then.
+#[tactic(auto, using(arrow_entry::proofs::CallerLemmas::seen_reads, arrow_entry::proofs::CallerLemmas::seen_masks))]
+fn change_natives<T: NativeType>(
+    held: &mut PrimitiveArray<T>,
+    marks: MutableBitmap,
+) -> Result<(), Error>
+    requires held { (native_value frozen held.old).column.held ≡ true }
+    requires fits { length marks ≡ length (native_value frozen held.old).column.rows }
+    ensures ok { OnOk result (native_value frozen held.new
+        ≡ with_column (native_value frozen held.old) (with_mask (native_value frozen held.old).column (Some marks))) }
+    ensures err { IfErr result (λ e. (e ≡ Error.OutOfMemory) × (native_value frozen held.new ≡ native_value frozen held.old)) }
+{
+    let mask = marks.freeze()?;
+    held.apply_validity(
+        |_|
+            ensures { result ≡ mask }
+        { mask },
+    );
+    Ok(())
+}
+
+/// Changes the mask that an array of truth values holds to as many other marks.
+///
+/// # Errors
+/// `OutOfMemory` if an allocation fails; nothing is changed then.
+#[tactic(auto, using(arrow_entry::proofs::CallerLemmas::seen_reads, arrow_entry::proofs::CallerLemmas::seen_masks))]
+fn change_bits<T: NativeType>(held: &mut BooleanArray, marks: MutableBitmap) -> Result<(), Error>
+    requires held { (boolean_value {T = T} frozen held.old).column.held ≡ true }
+    requires fits { length marks ≡ length (boolean_value {T = T} frozen held.old).column.rows }
+    ensures ok { OnOk result (boolean_value {T = T} frozen held.new
+        ≡ with_column (boolean_value {T = T} frozen held.old) (with_mask (boolean_value {T = T} frozen held.old).column (Some marks))) }
+    ensures err { IfErr result (λ e. (e ≡ Error.OutOfMemory) × (boolean_value {T = T} frozen held.new ≡ boolean_value {T = T} frozen held.old)) }
+{
+    let mask = marks.freeze()?;
+    held.apply_validity(
+        |_|
+            ensures { result ≡ mask }
+        { mask },
+    );
+    Ok(())
+}
+
+/// Changes the mask that an array of bytes or text holds to as many other marks.
+///
+/// # Errors
+/// `OutOfMemory` if an allocation fails; nothing is changed then.
+#[tactic(auto, using(arrow_entry::proofs::CallerLemmas::seen_reads, arrow_entry::proofs::CallerLemmas::seen_masks))]
+fn change_items<T: NativeType, K: ByteKind, O: Offset>(
+    held: &mut ByteArray<K, O>,
+    marks: MutableBitmap,
+) -> Result<(), Error>
+    requires held { (piece_value {T = T} frozen K.is_text held.old).column.held ≡ true }
+    requires fits { length marks ≡ length (piece_value {T = T} frozen K.is_text held.old).column.rows }
+    ensures ok { OnOk result (piece_value {T = T} frozen K.is_text held.new
+        ≡ with_column (piece_value {T = T} frozen K.is_text held.old) (with_mask (piece_value {T = T} frozen K.is_text held.old).column (Some marks))) }
+    ensures err { IfErr result (λ e. (e ≡ Error.OutOfMemory) × (piece_value {T = T} frozen K.is_text held.new ≡ piece_value {T = T} frozen K.is_text held.old)) }
+{
+    let mask = marks.freeze()?;
+    held.apply_validity(
+        |_|
+            ensures { result ≡ mask }
+        { mask },
+    );
+    Ok(())
+}
+
+/// Changes the mask that a builder of bytes or text holds to as many other marks.
+///
+/// # Errors
+/// `OutOfMemory` if an allocation fails; nothing is changed then.
+#[tactic(auto, using(arrow_entry::proofs::CallerLemmas::seen_reads, arrow_entry::proofs::CallerLemmas::seen_masks))]
+fn change_builder<T: NativeType, K: ByteKind, O: Offset>(
+    held: &mut MutableByteArray<K, O>,
+    marks: MutableBitmap,
+) -> Result<(), Error>
+    requires held { (piece_value {T = T} with_nulls K.is_text held.old).column.held ≡ true }
+    requires fits { length marks ≡ length (piece_value {T = T} with_nulls K.is_text held.old).column.rows }
+    ensures ok { OnOk result (piece_value {T = T} with_nulls K.is_text held.new
+        ≡ with_column (piece_value {T = T} with_nulls K.is_text held.old) (with_mask (piece_value {T = T} with_nulls K.is_text held.old).column (Some marks))) }
+    ensures err { IfErr result (λ e. (e ≡ Error.OutOfMemory) × (piece_value {T = T} with_nulls K.is_text held.new ≡ piece_value {T = T} with_nulls K.is_text held.old)) }
+{
+    held.apply_validity(
+        |_|
+            ensures { result ≡ marks }
+        { marks },
+    );
+    Ok(())
+}
+
 /// Changes a mask that is held to as many other marks.
 ///
 /// # Errors
 /// `OutOfMemory` if an allocation fails; the entry is then as before.
-#[tactic(auto, using(arrow_entry::proofs::CallerLemmas::seen_reads, arrow_entry::proofs::CallerLemmas::seen_masks))]
 fn change_mask<T: NativeType, O: Offset>(
     held: &mut Entry<T, O>,
     marks: MutableBitmap,
@@ -106,55 +201,19 @@ fn change_mask<T: NativeType, O: Offset>(
     requires kind { IsTrue (let s : Shape = (value_of held.old).shape in is_frozen s || (is_nullable s && is_pieces s)) }
     requires held { (value_of held.old).column.held ≡ true }
     requires fits { length marks ≡ length (value_of held.old).column.rows }
-    ensures ok { OnOk result (value_of held.new ≡ with_column (value_of held.old) (with_mask (value_of held.old).column (Some marks))) }
+    ensures ok { OnOk result (value_of held.new
+        ≡ with_column (value_of held.old) (with_mask (value_of held.old).column (Some marks))) }
     ensures err { IfErr result (λ e. (e ≡ Error.OutOfMemory) × (value_of held.new ≡ value_of held.old)) }
 {
     match held {
-        Entry::Primitive(array) => {
-            let mask = marks.freeze()?;
-            array.apply_validity(
-                |_|
-                    ensures { result ≡ mask }
-                { mask },
-            );
-        }
-        Entry::Boolean(array) => {
-            let mask = marks.freeze()?;
-            array.apply_validity(
-                |_|
-                    ensures { result ≡ mask }
-                { mask },
-            );
-        }
-        Entry::Binary(array) => {
-            let mask = marks.freeze()?;
-            array.apply_validity(
-                |_|
-                    ensures { result ≡ mask }
-                { mask },
-            );
-        }
-        Entry::Utf8(array) => {
-            let mask = marks.freeze()?;
-            array.apply_validity(
-                |_|
-                    ensures { result ≡ mask }
-                { mask },
-            );
-        }
-        Entry::MutableBinary(builder) => builder.apply_validity(
-            |_|
-                ensures { result ≡ marks }
-            { marks },
-        ),
-        Entry::MutableUtf8(builder) => builder.apply_validity(
-            |_|
-                ensures { result ≡ marks }
-            { marks },
-        ),
+        Entry::Primitive(array) => change_natives::<T>(array, marks),
+        Entry::Boolean(array) => change_bits::<T>(array, marks),
+        Entry::Binary(array) => change_items::<T, Binary, O>(array, marks),
+        Entry::Utf8(array) => change_items::<T, Utf8, O>(array, marks),
+        Entry::MutableBinary(builder) => change_builder::<T, Binary, O>(builder, marks),
+        Entry::MutableUtf8(builder) => change_builder::<T, Utf8, O>(builder, marks),
         _ => unreachable!(),
     }
-    Ok(())
 }
 
 /// Changes a mask that is held: all its marks become equal, or are reversed.

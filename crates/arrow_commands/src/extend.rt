@@ -28,7 +28,9 @@ impl<'a, T: NativeType, O: Offset> ChangesEntry<T, O> for Extend<'a, T> {
         if !slots_fit(held.kind(), self.0) {
             return Ok(Reply::NotMet);
         }
-        push_slots(held, self.0)?;
-        Ok(Reply::Done)
+        match push_slots(held, self.0) {
+            Ok(()) => Ok(Reply::Done),
+            Err(refused) => Err(refused),
+        }
     }
 }

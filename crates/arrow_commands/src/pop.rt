@@ -1,6 +1,10 @@
 //! The last slot of a builder.
-ghost use Rattle.std.specs.Prelude.{◌≡◌, false, option_map, string_bytes, true};
+ghost use Rattle.std.specs.Prelude.{◌≡◌, IfErr, IfOk, IsTrue, OnOk, false, is_some, option_map, string_bytes, true};
+ghost use Rattle.arrow_column.specs.Column.{last_slot, without_last};
+ghost use Rattle.arrow_entry.specs.Entry.{value_of};
+ghost use Rattle.arrow_model.specs.Change.{with_column};
 ghost use Rattle.arrow_model.specs.Item.{bit, piece, stored_slot, value};
+ghost use Rattle.arrow_model.specs.Kind.{is_builder, is_pieces};
 
 use crate::command::ChangesEntry;
 use arrow_entry::Entry;
@@ -50,11 +54,35 @@ fn text_item<T>(slot: Option<String>) -> Option<Item<T>>
     }
 }
 
+/// Removes the last slot of a builder and returns it. Bytes and text are copied; no other slot takes memory.
+///
+/// # Errors
+/// `OutOfMemory` if the copy fails; the builder is then as before.
+#[tactic(auto, using(arrow_entry::proofs::CallerLemmas::seen_reads, arrow_entry::proofs::CallerLemmas::seen_grows, arrow_entry::proofs::CallerLemmas::seen_bytes))]
+fn pop_slot<T: NativeType, O: Offset>(held: &mut Entry<T, O>) -> Result<Option<Item<T>>, Error>
+    requires { IsTrue (is_builder (value_of held.old).shape) }
+    ensures ok { OnOk result
+        (value_of held.new ≡ with_column (value_of held.old) (without_last (value_of held.old).column)) }
+    ensures slot { IfOk result (λ slot. stored_slot slot ≡ last_slot (value_of held.old).column) }
+    ensures err { IfErr result (λ e. (e ≡ Error.OutOfMemory) × (value_of held.new ≡ value_of held.old)) }
+    ensures copied { IfErr result (λ _. IsTrue (is_pieces (value_of held.old).shape)
+        × IsTrue (is_some (last_slot (value_of held.old).column))) }
+{
+    match held {
+        Entry::MutablePrimitive(builder) => Ok(value_item(builder.pop())),
+        Entry::MutableBoolean(builder) => Ok(bit_item(builder.pop())),
+        Entry::MutableBinary(builder) => Ok(bytes_item(builder.pop()?)),
+        Entry::MutableUtf8(builder) => Ok(text_item(builder.pop()?)),
+        Entry::BinaryValues(builder) => Ok(bytes_item(builder.pop()?)),
+        Entry::Utf8Values(builder) => Ok(text_item(builder.pop()?)),
+        _ => unreachable!(),
+    }
+}
+
 /// Removes the last slot of a builder and answers it.
 #[derive(Drop)]
 pub struct Pop;
 
-#[tactic(auto, using(arrow_entry::proofs::CallerLemmas::seen_reads, arrow_entry::proofs::CallerLemmas::seen_grows, arrow_entry::proofs::CallerLemmas::seen_bytes))]
 impl<T: NativeType, O: Offset> ChangesEntry<T, O> for Pop {
     ghost use Rattle.arrow_model.specs.Request.{pop};
 
@@ -64,14 +92,9 @@ impl<T: NativeType, O: Offset> ChangesEntry<T, O> for Pop {
         let Some(held) = entry else {
             return Ok(Reply::NotMet);
         };
-        match held {
-            Entry::MutablePrimitive(builder) => Ok(Reply::Slot(value_item(builder.pop()))),
-            Entry::MutableBoolean(builder) => Ok(Reply::Slot(bit_item(builder.pop()))),
-            Entry::MutableBinary(builder) => Ok(Reply::Slot(bytes_item(builder.pop()?))),
-            Entry::MutableUtf8(builder) => Ok(Reply::Slot(text_item(builder.pop()?))),
-            Entry::BinaryValues(builder) => Ok(Reply::Slot(bytes_item(builder.pop()?))),
-            Entry::Utf8Values(builder) => Ok(Reply::Slot(text_item(builder.pop()?))),
-            _ => Ok(Reply::NotMet),
+        if held.is_array() {
+            return Ok(Reply::NotMet);
         }
+        Ok(Reply::Slot(pop_slot(held)?))
     }
 }

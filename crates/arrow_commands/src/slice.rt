@@ -1,4 +1,9 @@
 //! Some of an array's slots.
+ghost use Rattle.std.specs.Prelude.{◌≡◌, ◌≤◌, ◌-◌, IsTrue, length};
+ghost use Rattle.arrow_entry.specs.Entry.{value_of};
+ghost use Rattle.arrow_model.specs.Change.{cut_value};
+ghost use Rattle.arrow_model.specs.Kind.{is_frozen};
+
 use crate::command::ChangesEntry;
 use arrow_entry::Entry;
 use arrow_model::Reply;
@@ -7,11 +12,27 @@ use arrow_types::native_type::NativeType;
 use arrow_types::offset::Offset;
 use std::alloc::Global;
 
+/// Keeps `len` slots of an array, from `offset` on.
+#[tactic(auto, using(arrow_entry::proofs::CallerLemmas::seen_reads, arrow_entry::proofs::CallerLemmas::seen_cuts))]
+fn slice_array<T: NativeType, O: Offset>(held: &mut Entry<T, O>, offset: usize, len: usize)
+    requires array { IsTrue (is_frozen (value_of held.old).shape) }
+    requires from { offset ≤ length (value_of held.old).column.rows }
+    requires room { len ≤ length (value_of held.old).column.rows - offset }
+    ensures { value_of held.new ≡ cut_value (value_of held.old) offset len }
+{
+    match held {
+        Entry::Primitive(array) => array.slice(offset, len),
+        Entry::Boolean(array) => array.slice(offset, len),
+        Entry::Binary(array) => array.slice(offset, len),
+        Entry::Utf8(array) => array.slice(offset, len),
+        _ => unreachable!(),
+    }
+}
+
 /// Keeps some slots of an array: as many as the second number says, from the place of the first on.
 #[derive(Drop)]
 pub struct Slice(pub usize, pub usize);
 
-#[tactic(auto, using(arrow_entry::proofs::CallerLemmas::seen_reads, arrow_entry::proofs::CallerLemmas::seen_cuts))]
 impl<T: NativeType, O: Offset> ChangesEntry<T, O> for Slice {
     ghost use Rattle.arrow_model.specs.Request.{slice};
 
@@ -21,6 +42,9 @@ impl<T: NativeType, O: Offset> ChangesEntry<T, O> for Slice {
         let Some(held) = entry else {
             return Ok(Reply::NotMet);
         };
+        if !held.is_array() {
+            return Ok(Reply::NotMet);
+        }
         let count = held.len();
         // Compared with what is left, since a sum could pass `usize::MAX`.
         if self.0 > count {
@@ -29,13 +53,7 @@ impl<T: NativeType, O: Offset> ChangesEntry<T, O> for Slice {
         if self.1 > count - self.0 {
             return Ok(Reply::NotMet);
         }
-        match held {
-            Entry::Primitive(array) => array.slice(self.0, self.1),
-            Entry::Boolean(array) => array.slice(self.0, self.1),
-            Entry::Binary(array) => array.slice(self.0, self.1),
-            Entry::Utf8(array) => array.slice(self.0, self.1),
-            _ => return Ok(Reply::NotMet),
-        }
+        slice_array(held, self.0, self.1);
         Ok(Reply::Done)
     }
 }

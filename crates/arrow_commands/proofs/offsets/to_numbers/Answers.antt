@@ -1,5 +1,5 @@
 use Rattle.std.proofs.Common.{arith}
-use Rattle.arrow_entry.proofs.Slots.{number-sign}
+use Rattle.arrow_entry.proofs.CallerLemmas.{number-sign}
 use Rattle.arrow_commands.proofs.offsets.to_numbers.Goals as goal
 
 pub to_usize-requires : goal.to_usize-requires
