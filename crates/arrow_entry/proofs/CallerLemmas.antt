@@ -5,16 +5,17 @@ pub use Rattle.arrow_entry.proofs.Seen.{seen_reads}
 -- Reading one place of it, or past its end; and that it has as many stored values as rows.
 pub use Rattle.arrow_entry.proofs.Seen.{seen_places, seen_counts}
 -- What a slot shows, by its mark and stored value; and its mark, by the mask or where none is held.
-pub use Rattle.arrow_entry.proofs.Slots.{slot_reads, slot_marks}
+pub use Rattle.arrow_entry.proofs.SlotLemmas.{slot_reads, slot_marks}
 -- Lists of slots that grow by what is read at each place.
 pub use Rattle.arrow_entry.proofs.Rules.{slot_lists}
 -- Changing a column: parts, appended slots, values and nulls, one slot, the mask, the stored values, the type.
 pub use Rattle.arrow_entry.proofs.Rules.{seen_changes}
 pub use Rattle.arrow_entry.proofs.Seen.{parts-seen, stored-seen, with-stored-seen, map-slice_set}
--- Comparing the slots of two columns, freezing, thawing, and truth values.
-pub use Rattle.arrow_entry.proofs.Rules.{seen_slots, seen_freezes, seen_thaws, seen_bits}
+-- Comparing the slots of two columns, freezing and thawing.
+pub use Rattle.arrow_entry.proofs.Rules.{seen_slots, seen_freezes, seen_thaws}
 pub use Rattle.arrow_entry.proofs.Seen.{same-bits}
--- Choosing rows of a column.
-pub use Rattle.arrow_entry.proofs.Chosen.{seen_choices}
--- Costs of commands that test nothing, and of parts in any entry.
-pub use Rattle.arrow_entry.proofs.Costs.{costs-still, costs-anywhere, most-anywhere}
+-- Changing the rows of a column: pushes, removals and joins, cuts, masks; and the bytes of items.
+pub use Rattle.arrow_entry.proofs.Seen.{seen_pushes, seen_grows, seen_cuts, seen_masks, seen_bytes}
+pub use Rattle.arrow_entry.proofs.Seen.{held-seen, length-seen, mask-seen, frozen-seen}
+-- Lists of the numbers of offsets.
+pub use Rattle.arrow_entry.proofs.SlotLemmas.{number_lists, number-sign}

@@ -10,12 +10,13 @@ use Rattle.arrow_column.specs.Column.{Column, IsColumn, stored_values}
 use Rattle.arrow_bytes.specs.Column.{ByteColumn}
 use Rattle.arrow_bytes.specs.Kinds.{AreItems}
 use Rattle.arrow_check.specs.Utf8.{IsWellFormed}
-use Rattle.arrow_entry.specs.Entry.{Types, layout, seen, native_value, boolean_value, piece_value}
-use Rattle.arrow_entry.specs.Item.{Stored, value, bit, piece}
-use Rattle.arrow_entry.specs.Kind.{Group, Sort, native, boolean, pieces, shaped, is_builder, is_values_alone}
-use Rattle.arrow_entry.specs.Values.{IsStored, IsRow, IsValue}
-use Rattle.arrow_entry.proofs.AllLemmas.{and-first, and-second}
-use Rattle.arrow_entry.proofs.ValueLemmas.{nothing-around}
+use Rattle.arrow_entry.specs.Entry.{seen, native_value, boolean_value, piece_value}
+use Rattle.arrow_model.specs.Value.{Types, layout}
+use Rattle.arrow_model.specs.Item.{Stored, value, bit, piece}
+use Rattle.arrow_model.specs.Kind.{Group, Sort, native, boolean, pieces, shaped, is_builder, is_values_alone}
+use Rattle.arrow_model.specs.Values.{IsStored, IsRow, IsValue}
+use Rattle.arrow_model.proofs.CallerLemmas.{and-first, and-second}
+use Rattle.arrow_model.proofs.CallerLemmas.{nothing-around}
 
 module _ {S T : Type 0} (sort : Sort) (stored : S → Stored T) (each : (x : S) → IsStored sort (stored x)) where
   all-rows : (held : Bool) (rows : List (Row S)) → (held ≡ false → IsTrue (list_all (λ (row : Row S). row.1) rows)) → All (IsRow sort held) (map (λ (row : Row S). (stored row.0, row.1)) rows)

@@ -1,12 +1,7 @@
-pub mod AllLemmas
 pub mod CallerLemmas
-pub mod Chosen
-pub mod Costs
 pub mod EntryLemmas
-pub mod Masks
+pub mod Grown
 pub mod Rules
 pub mod Seen
-pub mod Slots
-pub mod StepLemmas
-pub mod Turns
-pub mod ValueLemmas
+pub mod SlotLemmas
+pub mod TurnLemmas

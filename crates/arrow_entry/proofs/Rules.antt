@@ -1,7 +1,6 @@
 -- What rows use of how columns are seen: rulesets over the laws of `seen`.
 use Rattle.arrow_entry.proofs.Seen.{parts-seen, append-seen, appends-seen, values-seen, nulls-seen, short-seen, frozen-seen, slot-seen, mask-seen, with-stored-seen, with-type-seen, same-values, same-bits, same-pieces, freeze-pieces, freeze-plain, thaw-pieces, thaw-plain}
-use Rattle.arrow_entry.proofs.Slots.{grown-by, whole, length-slots}
-use Rattle.arrow_entry.proofs.Chosen.{bits-seen}
+use Rattle.arrow_entry.proofs.SlotLemmas.{grown-by, whole, length-slots}
 
 pub ruleset seen_changes = (parts-seen, append-seen, appends-seen, values-seen, nulls-seen, short-seen, frozen-seen, slot-seen, mask-seen, with-stored-seen, with-type-seen)
 
@@ -12,5 +11,3 @@ pub ruleset seen_freezes = (freeze-pieces, freeze-plain, thaw-plain)
 pub ruleset seen_thaws = (thaw-pieces, thaw-plain)
 
 pub ruleset slot_lists = (grown-by, whole, length-slots)
-
-pub ruleset seen_bits = (bits-seen)

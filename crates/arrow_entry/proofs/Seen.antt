@@ -7,7 +7,7 @@ use Rattle.arrow_types.specs.Types.{LogicalType}
 use Rattle.arrow_memory.specs.Rows.{Row, slot, rows_of}
 use Rattle.arrow_column.specs.Column.{ColumnWith, Column, cut, column_with, stored_values, marks_of, slots_of, all_valid, cut_with, append_slot, append_slots, append_values, append_nulls, last_slot, without_last, without_needless_mask, joined, with_slot, with_mask, with_stored, with_type}
 use Rattle.arrow_bytes.specs.Pieces.{Around, nothing_around, around_cut}
-use Rattle.arrow_entry.specs.Item.{Stored, value, bit, piece, bytes_in}
+use Rattle.arrow_model.specs.Item.{Stored, value, bit, piece, bytes_in}
 use Rattle.arrow_bytes.specs.Column.{ByteColumn}
 use Rattle.arrow_entry.specs.Entry.{seen}
 

@@ -1,14 +1,2 @@
-pub mod Kind
-pub mod Item
-pub mod Request
-pub mod Answer
 pub mod Entry
-pub mod Row
-pub mod Parts
-pub mod Change
-pub mod Chosen
-pub mod Step
-pub mod Run
-pub mod Outcome
-pub mod Both
-pub mod Values
+pub mod Slot

@@ -1,10 +1,8 @@
 //! The entries of a table.
-ghost use Rattle.std.specs.Prelude.{◌≡◌};
-ghost use Rattle.arrow_entry.specs.Entry.{types, value_of};
-ghost use Rattle.arrow_entry.specs.Kind.{shape};
-ghost use Rattle.arrow_entry.specs.Values.{IsValue};
+ghost use Rattle.arrow_entry.specs.Entry.{value_of};
+ghost use Rattle.arrow_model.specs.Values.{IsValue};
+ghost use Rattle.arrow_model.specs.Value.{types};
 
-use crate::kind::Kind;
 use arrow_binary::{BinaryArray, MutableBinaryArray, MutableBinaryValuesArray};
 use arrow_boolean::{BooleanArray, MutableBooleanArray};
 use arrow_primitive::{MutablePrimitiveArray, PrimitiveArray};
@@ -38,25 +36,7 @@ pub enum Entry<T: NativeType, O: Offset> {
 }
 
 impl<T: NativeType, O: Offset> Entry<T, O> {
-    /// The kind of array or builder that this is.
-    pub fn kind(&self) -> Kind
-        ensures { shape result ≡ (value_of self.now).shape }
-    {
-        match self {
-            Entry::Primitive(_) => Kind::Primitive,
-            Entry::Boolean(_) => Kind::Boolean,
-            Entry::Binary(_) => Kind::Binary,
-            Entry::Utf8(_) => Kind::Utf8,
-            Entry::MutablePrimitive(_) => Kind::MutablePrimitive,
-            Entry::MutableBoolean(_) => Kind::MutableBoolean,
-            Entry::MutableBinary(_) => Kind::MutableBinary,
-            Entry::MutableUtf8(_) => Kind::MutableUtf8,
-            Entry::BinaryValues(_) => Kind::BinaryValues,
-            Entry::Utf8Values(_) => Kind::Utf8Values,
-        }
-    }
-
-    /// Does nothing; its contract says that what is held is a value, by what each kind says of itself.
+    /// Does nothing. Its contract says that the entry holds a value: its type is right, and its slots store what they should.
     #[inline(always)]
     pub fn prove_value(&self)
         ensures { IsValue (types T.zero T.PRIMITIVE O.most O.IS_LARGE) (value_of self.now) }

@@ -1,17 +1,21 @@
-//! What stands in the entries of a table, what is asked of it and answered, and what each command means.
+//! The entries of a table: arrays and builders of ten kinds, seen as one value.
 #![tactic(auto)]
 
-mod command;
+mod entries;
 mod entry;
-mod item;
-pub mod items;
+mod extend;
+mod fit;
+mod freeze;
+mod grow;
 mod kind;
-pub mod kinds;
-pub mod laws;
-mod reply;
+mod read;
+mod slot;
+mod turns;
 
-pub use command::{Bits, BothCommand, Command, Parts, Raw};
+pub use arrow_model::{Item, Kind, Turn};
+pub use entries::{entry_at, replace};
 pub use entry::Entry;
-pub use item::{Item, Named, Turn};
-pub use kind::Kind;
-pub use reply::Reply;
+pub use extend::{push_items, push_slots};
+pub use fit::{items_fit, slots_fit};
+pub use freeze::frozen;
+pub use slot::SlotRef;

@@ -1,12 +1,13 @@
 -- What an entry that is lent tells is what the command that lists slots answers.
 use Rattle.std.proofs.Common.{◌≡◌, ℕ, option_and_then, slice_get, slice_set, Option, Some, None, MatchOption, option_map, refl, sym, arith}
 use Rattle.arrow_entry.specs.declared.entry.Entry.{Entry}
-use Rattle.arrow_entry.specs.Answer.{Answer, not_met}
-use Rattle.arrow_entry.specs.Entry.{State, Types, Value, value_of}
-use Rattle.arrow_entry.specs.Kind.{any_kind}
-use Rattle.arrow_entry.specs.Request.{all_slots}
-use Rattle.arrow_entry.specs.Step.{AtEntry, Does_to, entry_at}
-use Rattle.arrow_rows.proofs.CallerLemmas.{set-same}
+use Rattle.arrow_model.specs.Answer.{Answer, not_met}
+use Rattle.arrow_entry.specs.Entry.{value_of}
+use Rattle.arrow_model.specs.Value.{State, Types, Value}
+use Rattle.arrow_model.specs.Kind.{any_kind}
+use Rattle.arrow_model.specs.Request.{all_slots}
+use Rattle.arrow_model.specs.Step.{AtEntry, Does_to, entry_at}
+use Rattle.arrow_commands.proofs.CallerLemmas.{set-same}
 use Rattle.arrow_table.specs.Listed.{listed}
 
 module _ {T O : Type 0} (c : Types T) where

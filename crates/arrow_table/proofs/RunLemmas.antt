@@ -3,15 +3,15 @@ use Rattle.std.proofs.Common.{◌≡◌, ℤ, ℕ, ◌+◌, ◌<◌, List, [], �
 use Rattle.std.proofs.lemmas.List.{take_more}
 use Rattle.arrow_types.specs.declared.primitive_type.PrimitiveType.{PrimitiveType}
 use Rattle.arrow_check.specs.Reading.{Cost, RisesAtMost}
-use Rattle.arrow_entry.specs.declared.command.BothCommand.{BothCommand}
-use Rattle.arrow_entry.specs.declared.command.Command.{Command}
-use Rattle.arrow_entry.specs.declared.reply.Reply.{Reply}
-use Rattle.arrow_entry.specs.Request.{Request, asked}
-use Rattle.arrow_entry.specs.Answer.{Answer, told}
-use Rattle.arrow_entry.specs.Entry.{Held, Types}
-use Rattle.arrow_entry.specs.Step.{IsStep}
-use Rattle.arrow_entry.specs.Run.{Runs, IsRun, CostsAtMost, total, texts_of, inner_offsets_of}
-use Rattle.arrow_entry.specs.Both.{Both, BothRequest, narrow, wide, widen, narrow_to, both_asked, narrow_of, wide_of, IsBothStep}
+use Rattle.arrow_model.specs.declared.command.BothCommand.{BothCommand}
+use Rattle.arrow_model.specs.declared.command.Command.{Command}
+use Rattle.arrow_model.specs.declared.reply.Reply.{Reply}
+use Rattle.arrow_model.specs.Request.{Request, asked}
+use Rattle.arrow_model.specs.Answer.{Answer, told}
+use Rattle.arrow_model.specs.Value.{Held, Types}
+use Rattle.arrow_model.specs.Step.{IsStep}
+use Rattle.arrow_model.specs.Run.{Runs, IsRun, CostsAtMost, total, texts_of, inner_offsets_of}
+use Rattle.arrow_model.specs.Both.{Both, BothRequest, narrow, wide, widen, narrow_to, both_asked, narrow_of, wide_of, IsBothStep}
 use Rattle.arrow_entry.proofs.CallerLemmas.{costs-still}
 
 -- ---- any steps

@@ -2,7 +2,7 @@
 use Rattle.std.specs.Prelude.{Option, Some, None}
 use Rattle.arrow_column.specs.Column.{slots_of}
 use Rattle.arrow_entry.specs.declared.entry.Entry.{Entry}
-use Rattle.arrow_entry.specs.Answer.{Answer, not_met, slots}
+use Rattle.arrow_model.specs.Answer.{Answer, not_met, slots}
 use Rattle.arrow_entry.specs.Entry.{value_of}
 
 -- its slots, or that nothing is there

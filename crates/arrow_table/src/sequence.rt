@@ -1,7 +1,7 @@
 //! Commands that are done one after the other.
 ghost use Rattle.std.specs.Prelude.{◌≡◌, ◌<◌, ◌≤◌, ◌++◌, List, length, take, vec_capacity, vec_len};
-ghost use Rattle.arrow_entry.specs.Run.{Runs};
-ghost use Rattle.arrow_entry.specs.declared.reply.Reply.{Reply};
+ghost use Rattle.arrow_model.specs.Run.{Runs};
+ghost use Rattle.arrow_model.specs.declared.reply.Reply.{Reply};
 
 use crate::Reply;
 use arrow_types::native_type::NativeType;

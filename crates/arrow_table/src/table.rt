@@ -1,24 +1,25 @@
 //! A table, and the run of a list of commands on it.
 ghost use Rattle.std.specs.Prelude.{◌≡◌, ◌<◌, ◌≤◌, ◌∷◌, [], length, map, replicate, take, vec_capacity, vec_len, IfErr, IfOk, IfSome, None, option_copied, option_map};
 ghost use Rattle.arrow_check.specs.Reading.{no_cost};
-ghost use Rattle.arrow_entry.specs.Answer.{told};
-ghost use Rattle.arrow_entry.specs.Entry.{table_of, types, value_of};
-ghost use Rattle.arrow_entry.specs.Item.{stored_slot};
-ghost use Rattle.arrow_entry.specs.Kind.{shape};
-ghost use Rattle.arrow_entry.specs.Request.{all_slots, asked, at, parts_asked, push};
-ghost use Rattle.arrow_entry.specs.Run.{AppendsRun, CostsAtMost};
-ghost use Rattle.arrow_entry.specs.Step.{IsStep, entry_at};
-ghost use Rattle.arrow_entry.specs.Values.{IsValue};
+ghost use Rattle.arrow_model.specs.Answer.{told};
+ghost use Rattle.arrow_entry.specs.Entry.{table_of, value_of};
+ghost use Rattle.arrow_model.specs.Value.{types};
+ghost use Rattle.arrow_model.specs.Item.{stored_slot};
+ghost use Rattle.arrow_model.specs.Kind.{shape};
+ghost use Rattle.arrow_model.specs.Request.{all_slots, asked, at, parts_asked, push};
+ghost use Rattle.arrow_model.specs.Run.{AppendsRun, CostsAtMost};
+ghost use Rattle.arrow_model.specs.Step.{IsStep, entry_at};
+ghost use Rattle.arrow_model.specs.Values.{IsValue};
 ghost use Rattle.arrow_table.specs.Listed.{listed};
 
 use crate::sequence::{Steps, run_all};
+use crate::step::{reply_of, step};
 use crate::{Command, Entry, Item, Kind, Parts, Reply};
 use arrow_check::cost::TextCost;
-use arrow_finding::kinds::OfBuilder;
-use arrow_rows::builder::Push;
-use arrow_rows::chosen::held_at;
-use arrow_rows::table::at;
-use arrow_step::step::{parts_at, step};
+use arrow_commands::command::run_at;
+use arrow_commands::push::Push;
+use arrow_creation::parts::parts_at;
+use arrow_entry::entry_at;
 use arrow_types::error::Error;
 use arrow_types::native_type::NativeType;
 use arrow_types::offset::Offset;
@@ -34,7 +35,8 @@ pub struct Table<T: NativeType, O: Offset> {
 
 // Contracts see the values of the entries, in order, and the counts.
 impl<T: NativeType, O: Offset> Model for Table<T, O> {
-    ghost use Rattle.arrow_entry.specs.Entry.{Held, table_of};
+    ghost use Rattle.arrow_entry.specs.Entry.{table_of};
+    ghost use Rattle.arrow_model.specs.Value.{Held};
 
     ghost Value = { Held T };
 
@@ -86,7 +88,7 @@ impl<T: NativeType, O: Offset> Table<T, O> {
         ensures step { IsStep (types T.zero T.PRIMITIVE O.most O.IS_LARGE) self.now (at i all_slots) (listed (option_copied result)) self.now }
         ensures value { IfSome (option_copied result) (λ held. IsValue (types T.zero T.PRIMITIVE O.most O.IS_LARGE) (value_of held)) }
     {
-        match held_at(&self.entries, i) {
+        match entry_at(&self.entries, i) {
             Some(held) => {
                 // Its contract says that what is held is a value.
                 held.prove_value();
@@ -102,7 +104,7 @@ impl<T: NativeType, O: Offset> Table<T, O> {
         ensures { IsStep (types T.zero T.PRIMITIVE O.most O.IS_LARGE) self.old (at i (push (stored_slot slot.now))) (told result) self.new }
     {
         let alloc = *self.entries.allocator();
-        at(alloc, &mut self.entries, i, OfBuilder(Push(slot)))
+        reply_of(run_at(alloc, &mut self.entries, i, Push(slot)))
     }
 
     /// Does the command that puts what raw parts make into an entry, and answers. The parts are taken, not copied.
@@ -111,7 +113,7 @@ impl<T: NativeType, O: Offset> Table<T, O> {
         ensures step { IsStep (types T.zero T.PRIMITIVE O.most O.IS_LARGE) self.old (parts_asked O.number i parts) (told result) self.new }
         ensures costs { CostsAtMost (parts_asked O.number i parts ∷ []) self.old.cost self.new.cost }
     {
-        parts_at(&mut self.entries, i, parts, &mut self.cost)
+        reply_of(parts_at(&mut self.entries, i, parts, &mut self.cost))
     }
 
     /// What the table's tests of text cost so far.
@@ -124,11 +126,11 @@ impl<T: NativeType, O: Offset> Table<T, O> {
 
 impl<T: NativeType, O: Offset> Steps<T> for Table<T, O> {
     ghost use Rattle.std.specs.Prelude.{◌∷◌, []};
-    ghost use Rattle.arrow_entry.specs.Answer.{told};
-    ghost use Rattle.arrow_entry.specs.Entry.{types};
-    ghost use Rattle.arrow_entry.specs.Request.{asked};
-    ghost use Rattle.arrow_entry.specs.Run.{CostsAtMost};
-    ghost use Rattle.arrow_entry.specs.Step.{IsStep};
+    ghost use Rattle.arrow_model.specs.Answer.{told};
+    ghost use Rattle.arrow_model.specs.Value.{types};
+    ghost use Rattle.arrow_model.specs.Request.{asked};
+    ghost use Rattle.arrow_model.specs.Run.{CostsAtMost};
+    ghost use Rattle.arrow_model.specs.Step.{IsStep};
 
     type Command = Command<T, O>;
 

@@ -1,16 +1,18 @@
 //! Two tables, one of each width of offsets, and the run of a list of commands on them.
 ghost use Rattle.std.specs.Prelude.{◌≡◌, ◌<◌, ◌≤◌, ◌∷◌, [], length, map, replicate, take, vec_capacity, vec_len, IfErr, IfOk, None};
 ghost use Rattle.arrow_check.specs.Reading.{no_cost};
-ghost use Rattle.arrow_entry.specs.Answer.{told};
-ghost use Rattle.arrow_entry.specs.Both.{AppendsBothRun, IsBothStep, both_asked, narrow, narrow_of, narrow_to, wide, wide_of, widen};
-ghost use Rattle.arrow_entry.specs.Item.{stored_slot};
-ghost use Rattle.arrow_entry.specs.Request.{asked, at, parts_asked, push};
-ghost use Rattle.arrow_entry.specs.Run.{CostsAtMost};
+ghost use Rattle.arrow_model.specs.Answer.{told};
+ghost use Rattle.arrow_model.specs.Both.{AppendsBothRun, IsBothStep, both_asked, narrow, narrow_of, narrow_to, wide, wide_of, widen};
+ghost use Rattle.arrow_model.specs.Item.{stored_slot};
+ghost use Rattle.arrow_model.specs.Request.{asked, at, parts_asked, push};
+ghost use Rattle.arrow_model.specs.Run.{CostsAtMost};
 
 use crate::sequence::{Steps, run_all};
 use crate::{BothCommand, Command, Item, Parts, Reply, Table};
-use arrow_pairing::widths::{Narrow, Widen};
-use arrow_rows::chosen::put_at;
+use crate::step::reply_of;
+use arrow_creation::make::put_at;
+use arrow_creation::narrow::Narrow;
+use arrow_creation::widen::Widen;
 use arrow_types::error::Error;
 use arrow_types::native_type::NativeType;
 use std::alloc::Global;
@@ -25,7 +27,7 @@ pub struct Tables<T: NativeType> {
 
 // Contracts see both.
 impl<T: NativeType> Model for Tables<T> {
-    ghost use Rattle.arrow_entry.specs.Both.{Both};
+    ghost use Rattle.arrow_model.specs.Both.{Both};
 
     ghost Value = { Both T };
 
@@ -118,7 +120,7 @@ impl<T: NativeType> Tables<T> {
     {
         let alloc = *self.wide.entries.allocator();
         let row = Widen(&self.narrow.entries, e);
-        put_at(alloc, &mut self.wide.entries, f, row)
+        reply_of(put_at(alloc, &mut self.wide.entries, f, row))
     }
 
     /// Puts the array of items of a wide entry, over narrow offsets, into a narrow entry, which is empty, and answers.
@@ -127,15 +129,15 @@ impl<T: NativeType> Tables<T> {
     {
         let alloc = *self.narrow.entries.allocator();
         let row = Narrow(&self.wide.entries, e);
-        put_at(alloc, &mut self.narrow.entries, f, row)
+        reply_of(put_at(alloc, &mut self.narrow.entries, f, row))
     }
 }
 
 impl<T: NativeType> Steps<T> for Tables<T> {
     ghost use Rattle.std.specs.Prelude.{◌∷◌, []};
-    ghost use Rattle.arrow_entry.specs.Answer.{told};
-    ghost use Rattle.arrow_entry.specs.Both.{IsBothStep, both_asked, narrow_of, wide_of};
-    ghost use Rattle.arrow_entry.specs.Run.{CostsAtMost};
+    ghost use Rattle.arrow_model.specs.Answer.{told};
+    ghost use Rattle.arrow_model.specs.Both.{IsBothStep, both_asked, narrow_of, wide_of};
+    ghost use Rattle.arrow_model.specs.Run.{CostsAtMost};
 
     type Command = BothCommand<T>;
 
@@ -147,11 +149,11 @@ impl<T: NativeType> Steps<T> for Tables<T> {
             BothCommand::Wide(command) => self.wide.step(alloc, command),
             BothCommand::Widen(e, f) => {
                 let row = Widen(&self.narrow.entries, *e);
-                put_at(alloc, &mut self.wide.entries, *f, row)
+                reply_of(put_at(alloc, &mut self.wide.entries, *f, row))
             }
             BothCommand::NarrowTo(e, f) => {
                 let row = Narrow(&self.wide.entries, *e);
-                put_at(alloc, &mut self.narrow.entries, *f, row)
+                reply_of(put_at(alloc, &mut self.narrow.entries, *f, row))
             }
         }
     }

@@ -1,5 +1,5 @@
 use Rattle.std.proofs.Common.{◌≡◌, ◌≤◌, ◌++◌, take, vec_capacity}
-use Rattle.arrow_entry.specs.Run.{Runs}
+use Rattle.arrow_model.specs.Run.{Runs}
 use Rattle.arrow_table.proofs.sequence.run_all.Given as goal
 
 abbrev pub invariant-loop-command : goal.invariant-loop-command

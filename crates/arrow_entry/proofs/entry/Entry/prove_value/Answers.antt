@@ -1,6 +1,6 @@
 use Rattle.std.proofs.Common.{true, false, refl, sym, true≢false}
-use Rattle.arrow_entry.specs.Entry.{types}
-use Rattle.arrow_entry.specs.Kind.{frozen, values_alone, with_nulls}
+use Rattle.arrow_model.specs.Value.{types}
+use Rattle.arrow_model.specs.Kind.{frozen, values_alone, with_nulls}
 use Rattle.arrow_entry.proofs.EntryLemmas.{boolean-is, native-is, piece-is}
 use Rattle.arrow_entry.proofs.entry.Entry.prove_value.Goals as goal
 

@@ -1,5 +1,6 @@
 use Rattle.std.proofs.Common.{map, None, option_copied, option_map, refl, Some}
-use Rattle.arrow_entry.specs.Entry.{types, value_of}
+use Rattle.arrow_entry.specs.Entry.{value_of}
+use Rattle.arrow_model.specs.Value.{types}
 use Rattle.arrow_table.proofs.Listing.{tells}
 use Rattle.arrow_table.proofs.table.Table.get.Goals as goal
 

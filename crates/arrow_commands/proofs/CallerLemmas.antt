@@ -1,0 +1,1 @@
+-- What proofs of callers cite about commands.

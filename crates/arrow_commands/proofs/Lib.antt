@@ -1,0 +1,5 @@
+pub mod CallerLemmas
+mod Extended
+mod Masks
+mod Steps
+mod ValueLists

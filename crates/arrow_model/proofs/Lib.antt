@@ -1,0 +1,5 @@
+pub mod AllLemmas
+pub mod CallerLemmas
+pub mod Costs
+pub mod StepLemmas
+pub mod ValueLemmas

@@ -1,0 +1,84 @@
+-- Tables of both widths, and what commands do to them. The state is one list, the narrow entries, whose offsets are of 32
+-- bits, and then the wide ones, whose offsets are of 64; it is written as these two halves, each a table.
+use Rattle.std.specs.Prelude.{◌≡◌, ℕ, true, false, ◌&&◌, List, [], ◌∷◌, ◌++◌, map, Option, Some, None, option_and_then, if◌then◌else◌}
+use Rattle.arrow_types.specs.declared.primitive_type.PrimitiveType.{PrimitiveType}
+use Rattle.arrow_column.specs.Column.{with_type}
+use Rattle.arrow_bytes.specs.Selection.{narrowing_overflows}
+use Rattle.arrow_model.specs.declared.reply.Reply.{Reply}
+use Rattle.arrow_model.specs.declared.command.BothCommand.{BothCommand}
+use Rattle.arrow_model.specs.declared.command.BothCommand.TheVariants as command
+use Rattle.arrow_model.specs.Kind.{is_frozen, is_pieces}
+use Rattle.arrow_model.specs.Answer.{Answer, told}
+use Rattle.arrow_model.specs.Value.{Value, Held, Types, types, default_type}
+use Rattle.arrow_model.specs.Request.{Request, asked}
+use Rattle.arrow_model.specs.Row.{Row, leaves, memory, given}
+use Rattle.arrow_model.specs.Change.{with_column}
+use Rattle.arrow_model.specs.Chosen.{bytes_column}
+use Rattle.arrow_model.specs.Step.{IsStep, AtEntry, Puts, entry_at, unless_over}
+use Rattle.arrow_model.specs.Run.{Runs}
+
+-- both halves
+pub record Both (T : Type 0) : Type 0 where
+  pub narrow : Held T
+  pub wide : Held T
+
+-- what is asked: a command of one half; or that an array of a narrow entry be put into a wide one, or the other way round
+pub data BothRequest (T : Type 0) : Type 0 where
+  narrow wide : Request T → BothRequest T
+  widen narrow_to : ℕ → ℕ → BothRequest T
+
+abbrev pub both_asked : {T : Type 0} → BothCommand T → BothRequest T
+both_asked (command.Narrow asks) = narrow (asked (λ offset. offset) asks)
+both_asked (command.Wide asks) = wide (asked (λ offset. offset) asks)
+both_asked (command.Widen e f) = widen e f
+both_asked (command.NarrowTo e f) = narrow_to e f
+
+-- what is asked of either half
+abbrev pub narrow_of : {T : Type 0} → List (BothRequest T) → List (Request T)
+narrow_of [] = []
+narrow_of (narrow asks ∷ requests) = asks ∷ narrow_of requests
+narrow_of (_ ∷ requests) = narrow_of requests
+
+abbrev pub wide_of : {T : Type 0} → List (BothRequest T) → List (Request T)
+wide_of [] = []
+wide_of (wide asks ∷ requests) = asks ∷ wide_of requests
+wide_of (_ ∷ requests) = wide_of requests
+
+module _ {T : Type 0} where
+  -- an array of bytes or text, where what stands in an entry is one
+  abbrev pub items_in : Option (Value T) → Option (Value T)
+  items_in = option_and_then (λ (v : Value T). if is_frozen v.shape && is_pieces v.shape then Some v else None)
+
+  -- the same slots and the same bytes around them, under the default type over other offsets
+  abbrev pub over : Types T → Value T → Value T
+  over c v = with_column v (with_type v.column (default_type c v.shape.sort))
+
+  abbrev pub Widens : Types T → Option (Value T) → Row T
+  Widens c from = given None (items_in from) (λ v. memory None (leaves (over c v)))
+
+  abbrev pub Narrows : Types T → Option (Value T) → Row T
+  Narrows c from = given None (items_in from) (λ v. unless_over None (narrowing_overflows (bytes_column v.column)) (memory None (leaves (over c v))))
+
+-- what is known of either width
+module _ {T : Type 0} (zero : T) (primitive : PrimitiveType) where
+  abbrev pub narrow_types : Types T
+  narrow_types = types zero primitive 2147483647 false
+
+  abbrev pub wide_types : Types T
+  wide_types = types zero primitive 9223372036854775807 true
+
+  -- one command: a step of one half, or a row of an entry of one half, which is empty; the other half stays
+  abbrev pub IsBothStep : Both T → BothRequest T → Answer T → Both T → Type 0
+  IsBothStep old (narrow asks) reply new = IsStep narrow_types old.narrow asks reply new.narrow × (new.wide ≡ old.wide)
+  IsBothStep old (wide asks) reply new = IsStep wide_types old.wide asks reply new.wide × (new.narrow ≡ old.narrow)
+  IsBothStep old (widen e f) reply new =
+      AtEntry old.wide.entries f (Puts (Widens wide_types (entry_at old.narrow.entries e))) reply new.wide.entries
+      × (new.wide.cost ≡ old.wide.cost) × (new.narrow ≡ old.narrow)
+  IsBothStep old (narrow_to e f) reply new =
+      AtEntry old.narrow.entries f (Puts (Narrows narrow_types (entry_at old.wide.entries e))) reply new.narrow.entries
+      × (new.narrow.cost ≡ old.narrow.cost) × (new.wide ≡ old.wide)
+
+  -- a list of commands, whose replies are appended to those that were there
+  abbrev pub AppendsBothRun : Both T → List (BothCommand T) → List (Reply T) → List (Reply T) → Both T → Type 0
+  AppendsBothRun tables commands before after new =
+      (replies : List (Reply T)) × (after ≡ before ++ replies) × Runs IsBothStep tables (map both_asked commands) (map told replies) new

@@ -1,0 +1,88 @@
+-- How the values of entries change.
+use Rattle.std.specs.Prelude.{ℕ, ◌+◌, ◌-◌, suc, Bool, List, [], ◌∷◌, length, map, take, drop, Option, Some, None, slice_get, if◌then◌else◌}
+use Rattle.std.specs.List.{concat}
+use Rattle.arrow_column.specs.Column.{ColumnWith, column_with, cut_with, append_slots, slot_overflows, stored_values, without_needless_mask}
+use Rattle.arrow_check.specs.Pieces.{bytes_of, offsets_of}
+use Rattle.arrow_bytes.specs.Pieces.{Around, nothing_around, around_cut, overflows_by}
+use Rattle.arrow_bytes.specs.Column.{item_overflows}
+use Rattle.arrow_model.specs.declared.item.Turn.{Turn}
+use Rattle.arrow_model.specs.declared.item.Turn.TheVariants as turn
+use Rattle.arrow_model.specs.Kind.{Shape, shaped, frozen, with_nulls, is_boolean, is_native}
+use Rattle.arrow_model.specs.Item.{Stored, bytes_in}
+use Rattle.arrow_model.specs.Value.{Value, Types, default_type, default_item}
+
+-- what each turn of an iterator over these items gives
+abbrev pub turns_of : {S : Type 0} → List Turn → List S → List (Option S)
+turns_of [] items = []
+turns_of (turn.Front ∷ turns) items = slice_get items 0 ∷ turns_of turns (drop 1 items)
+turns_of (turn.Back ∷ turns) items = slice_get items (length items - 1) ∷ turns_of turns (take (length items - 1) items)
+turns_of (turn.Skip n ∷ turns) items = slice_get items n ∷ turns_of turns (drop (n + 1) items)
+
+module _ {T : Type 0} where
+  -- another column of the same kind
+  abbrev pub with_column : Value T → ColumnWith Around (Stored T) → Value T
+  with_column v column = record { shape = v.shape; column = column }
+
+  -- the n rows from place a on: the items around them become part of lead and tail
+  abbrev pub cut_value : Value T → ℕ → ℕ → Value T
+  cut_value v a n = with_column v (cut_with (λ around items. around_cut around (map bytes_in items)) v.column a n)
+
+  -- the same slots, with nothing behind them
+  abbrev pub without_tail : Value T → ColumnWith Around (Stored T)
+  without_tail v = record v.column { around = record v.column.around { tail = [] } }
+
+  -- the array of the same slots, with nothing behind them: a mask is held exactly where a slot is null; of truth values, where
+  -- it was
+  abbrev pub frozen_value : Value T → Value T
+  frozen_value v = record {
+    shape = shaped frozen v.shape.sort;
+    column = if is_boolean v.shape then without_tail v else without_needless_mask (without_tail v);
+  }
+
+  -- the builder of the same slots, with nothing behind them
+  abbrev pub thawed_value : Value T → Value T
+  thawed_value v = record { shape = shaped with_nulls v.shape.sort; column = without_tail v }
+
+  -- the same slots in a builder with nulls, which holds no mask
+  abbrev pub nullable_value : Value T → Value T
+  nullable_value v = record { shape = shaped with_nulls v.shape.sort; column = v.column }
+
+  -- all bytes, those around the slots too; and where each slot begins and ends in them
+  abbrev pub all_bytes : Value T → List ℕ
+  all_bytes v = bytes_of v.column.around.lead (map bytes_in (stored_values v.column)) v.column.around.tail
+
+  abbrev pub all_offsets : Value T → List ℕ
+  all_offsets v = offsets_of (length v.column.around.lead) (map bytes_in (stored_values v.column))
+
+  module _ (c : Types T) where
+    -- a value of this kind with no slot and no mask
+    abbrev pub empty_value : Shape → Value T
+    empty_value s = record { shape = s; column = column_with (default_type c s.sort) nothing_around [] None }
+
+    -- the same, to which slots are to be appended: one of native values holds a mask from the first
+    abbrev pub slots_start : Shape → Value T
+    slots_start s = with_column (empty_value s) (column_with (default_type c s.sort) nothing_around [] (if is_native s then Some [] else None))
+
+    -- what a null stores there
+    abbrev pub null_in : Value T → Stored T
+    null_in v = default_item c v.shape.sort
+
+    -- these slots more
+    abbrev pub grown : Value T → List (Option (Stored T)) → Value T
+    grown v slots = with_column v (append_slots (null_in v) v.column slots)
+
+    -- whether an item, or a slot, is more than offsets can tell the end of
+    abbrev pub item_over : Around → List (Stored T) → Stored T → Bool
+    item_over around items x = item_overflows bytes_in c.most around (map bytes_in items) x
+
+    abbrev pub slot_over : Value T → Option (Stored T) → Bool
+    slot_over v x = slot_overflows item_over v.column x
+
+    -- whether the rows of another are more than offsets can tell the ends of
+    abbrev pub join_over : Value T → Value T → Bool
+    join_over v w = overflows_by c.most v.column.around (map bytes_in (stored_values v.column)) (length (concat (map bytes_in (stored_values w.column))))
+
+    -- how many of these slots can be appended before the first that is more
+    abbrev pub fitting : Value T → List (Option (Stored T)) → ℕ
+    fitting v [] = 0
+    fitting v (x ∷ slots) = if slot_over v x then 0 else suc (fitting (grown v (x ∷ [])) slots)

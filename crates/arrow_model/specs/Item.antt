@@ -1,0 +1,75 @@
+-- Items, apart from where their bytes lie.
+use Rattle.std.specs.Prelude.{ℕ, Bool, true, false, List, [], length, replicate, reverse, Option, Some, None, option_map, string_bytes}
+use Rattle.arrow_model.specs.declared.item.Item.{Item}
+use Rattle.arrow_model.specs.declared.item.Item.TheVariants as item
+use Rattle.arrow_model.specs.declared.item.Named.{Named}
+use Rattle.arrow_model.specs.declared.item.Named.TheVariants as named
+use Rattle.arrow_model.specs.Kind.{Sort, native, boolean, pieces, same_sort}
+
+-- what a slot stores
+pub data Stored (T : Type 0) : Type 0 where
+  value : T → Stored T
+  bit : Bool → Stored T
+  piece : (is_text : Bool) → List ℕ → Stored T
+
+-- the stored item that an item is
+abbrev pub stored_item : {T : Type 0} → Item T → Stored T
+stored_item (item.Value x) = value x
+stored_item (item.Bit b) = bit b
+stored_item (item.Bytes v) = piece false v.items
+stored_item (item.Text s) = piece true (string_bytes s)
+
+-- the same of a slot, which may be null
+abbrev pub stored_slot : {T : Type 0} → Option (Item T) → Option (Stored T)
+stored_slot = option_map stored_item
+
+-- the bytes that it takes up, beside offsets
+abbrev pub bytes_in : {T : Type 0} → Stored T → List ℕ
+bytes_in (value x) = []
+bytes_in (bit b) = []
+bytes_in (piece is_text bytes) = bytes
+
+-- whether it is one of bytes
+abbrev pub has_bytes : {T : Type 0} → Stored T → Bool
+has_bytes (value x) = false
+has_bytes (bit b) = false
+has_bytes (piece is_text bytes) = true
+
+-- its sort
+abbrev pub sort_of : {T : Type 0} → Stored T → Sort
+sort_of (value x) = native
+sort_of (bit b) = boolean
+sort_of (piece is_text bytes) = pieces is_text
+
+-- whether it is of a kind's sort
+abbrev pub fits : {T : Type 0} → Sort → Stored T → Bool
+fits sort x = same_sort sort (sort_of x)
+
+-- a null fits wherever there are nulls
+abbrev pub slot_fits : {T : Type 0} → Sort → Option (Stored T) → Bool
+slot_fits sort (Some x) = fits sort x
+slot_fits sort None = true
+
+-- a change of a list: every place gets the same, or the list is turned round
+pub data Change (S : Type 0) : Type 0 where
+  fill : S → Change S
+  turn : Change S
+
+abbrev pub changed : {S : Type 0} → Change S → List S → List S
+changed (fill x) xs = replicate (length xs) x
+changed turn xs = reverse xs
+
+abbrev pub change_of : {T : Type 0} → Named T → Change (Stored T)
+change_of (named.Fill x) = fill (stored_item x)
+change_of named.Reverse = turn
+
+-- whether what fills is of a kind's sort
+abbrev pub change_fits : {T : Type 0} → Sort → Change (Stored T) → Bool
+change_fits sort (fill x) = fits sort x
+change_fits sort turn = true
+
+-- the same change of marks, where what fills is a truth value
+abbrev pub change_of_marks : {T : Type 0} → Change (Stored T) → Option (Change Bool)
+change_of_marks (fill (bit b)) = Some (fill b)
+change_of_marks turn = Some turn
+change_of_marks _ = None

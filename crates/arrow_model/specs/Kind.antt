@@ -1,0 +1,78 @@
+-- The kinds of entry: what they are, and what they store.
+use Rattle.std.specs.Prelude.{Bool, true, false, not, ◌&&◌, ◌||◌}
+use Rattle.arrow_model.specs.declared.kind.Kind.{Kind}
+use Rattle.arrow_model.specs.declared.kind.Kind.TheVariants as kind
+
+-- a frozen array, a builder with nulls, or a builder of values alone
+pub data Group : Type 0 where
+  frozen with_nulls values_alone : Group
+
+-- what the slots store: native values, truth values, or bytes, which have to be text or may be any
+pub data Sort : Type 0 where
+  native boolean : Sort
+  pieces : (is_text : Bool) → Sort
+
+-- a kind is both
+pub record Shape : Type 0 where
+  pub group : Group
+  pub sort : Sort
+
+abbrev pub shaped : Group → Sort → Shape
+shaped group sort = record { group = group; sort = sort }
+
+abbrev pub shape : Kind → Shape
+shape kind.Primitive = shaped frozen native
+shape kind.Boolean = shaped frozen boolean
+shape kind.Binary = shaped frozen (pieces false)
+shape kind.Utf8 = shaped frozen (pieces true)
+shape kind.MutablePrimitive = shaped with_nulls native
+shape kind.MutableBoolean = shaped with_nulls boolean
+shape kind.MutableBinary = shaped with_nulls (pieces false)
+shape kind.MutableUtf8 = shaped with_nulls (pieces true)
+shape kind.BinaryValues = shaped values_alone (pieces false)
+shape kind.Utf8Values = shaped values_alone (pieces true)
+
+-- whether two groups are the same, and two sorts
+abbrev pub same_group : Group → Group → Bool
+same_group frozen frozen = true
+same_group with_nulls with_nulls = true
+same_group values_alone values_alone = true
+same_group _ _ = false
+
+abbrev pub same_sort : Sort → Sort → Bool
+same_sort native native = true
+same_sort boolean boolean = true
+same_sort (pieces true) (pieces true) = true
+same_sort (pieces false) (pieces false) = true
+same_sort _ _ = false
+
+abbrev pub same_kind : Shape → Shape → Bool
+same_kind s t = same_group s.group t.group && same_sort s.sort t.sort
+
+-- kinds that commands are for
+abbrev pub any_kind : Shape → Bool
+any_kind s = true
+
+abbrev pub is_frozen : Shape → Bool
+is_frozen s = same_group s.group frozen
+
+abbrev pub is_nullable : Shape → Bool
+is_nullable s = same_group s.group with_nulls
+
+abbrev pub is_values_alone : Shape → Bool
+is_values_alone s = same_group s.group values_alone
+
+abbrev pub is_builder : Shape → Bool
+is_builder s = is_nullable s || is_values_alone s
+
+abbrev pub is_native : Shape → Bool
+is_native s = same_sort s.sort native
+
+abbrev pub is_boolean : Shape → Bool
+is_boolean s = same_sort s.sort boolean
+
+abbrev pub is_pieces : Shape → Bool
+is_pieces s = not (is_native s || is_boolean s)
+
+abbrev pub is_text : Shape → Bool
+is_text s = same_sort s.sort (pieces true)

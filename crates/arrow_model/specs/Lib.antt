@@ -1,0 +1,13 @@
+pub mod Kind
+pub mod Item
+pub mod Request
+pub mod Answer
+pub mod Value
+pub mod Row
+pub mod Parts
+pub mod Change
+pub mod Chosen
+pub mod Step
+pub mod Run
+pub mod Both
+pub mod Values

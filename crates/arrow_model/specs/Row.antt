@@ -1,0 +1,56 @@
+-- What a command may do to one entry, in the words that its rows are written in. A command's condition is tested:
+-- where it fails the answer is `not_met` and nothing changes, and it is `not_met` nowhere else.
+use Rattle.std.specs.Prelude.{◌≡◌, ◌⊎◌, Bool, Option, Some, None, MatchOption, MatchBool, option_and_then, if◌then◌else◌}
+use Rattle.arrow_model.specs.Kind.{Shape}
+use Rattle.arrow_model.specs.Answer.{Answer, done, not_met, is_memory}
+use Rattle.arrow_model.specs.Value.{Value}
+
+-- which answer comes, and what the entry then is
+abbrev pub Row : Type 0 → Type 1
+Row T = Answer T → Option (Value T) → Type 0
+
+-- this is answered, and this is left
+abbrev pub gives : {T : Type 0} → Answer T → Option (Value T) → Row T
+gives given kept reply new = (reply ≡ given) × (new ≡ kept)
+
+-- it is done, and leaves this value
+abbrev pub leaves : {T : Type 0} → Value T → Row T
+leaves kept = gives done (Some kept)
+
+-- by a test, one row or another
+abbrev pub by_test : {T : Type 0} → Bool → Row T → Row T → Row T
+by_test test row other reply new = MatchBool test (row reply new) (other reply new)
+
+-- a free choice: such an answer may come too, and then this is left
+abbrev pub may : {T : Type 0} → (Answer T → Bool) → Option (Value T) → Row T → Row T
+may chosen kept row reply new = MatchBool (chosen reply) (new ≡ kept) (row reply new)
+
+-- of an entry that was so before
+module _ {T : Type 0} (old : Option (Value T)) where
+  -- the condition fails: nothing changes
+  abbrev pub unmet : Row T
+  unmet = gives not_met old
+
+  -- the entry is as before, and this is answered
+  abbrev pub answers : Answer T → Row T
+  answers given = gives given old
+
+  -- memory may be wanting; the entry is then as before
+  abbrev pub memory : Row T → Row T
+  memory = may is_memory old
+
+  -- the condition that something is there
+  abbrev pub given : {A : Type 0} → Option A → (A → Row T) → Row T
+  given found row reply new = MatchOption found (unmet reply new) (λ x. row x reply new)
+
+  -- the condition that a test holds
+  abbrev pub where_true : Bool → Row T → Row T
+  where_true test row reply new = MatchBool test (row reply new) (unmet reply new)
+
+  -- the condition that something holds
+  abbrev pub provided : Type 0 → Row T → Row T
+  provided P row reply new = (P × row reply new) ⊎ ((P → ⊥) × unmet reply new)
+
+  -- the condition that an entry of such a kind is there, for a row of what it holds
+  abbrev pub of_kind : (Shape → Bool) → (Value T → Row T) → Row T
+  of_kind test = given (option_and_then (λ (v : Value T). if test v.shape then Some v else None) old)

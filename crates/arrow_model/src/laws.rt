@@ -1,0 +1,26 @@
+//! Laws of tables, stated over their definitions for all values. Each is the contract of a function that does nothing.
+ghost use Rattle.std.specs.Prelude.{All, List};
+ghost use Rattle.arrow_types.specs.declared.primitive_type.PrimitiveType.{PrimitiveType};
+ghost use Rattle.arrow_model.specs.Answer.{Answer};
+ghost use Rattle.arrow_model.specs.Both.{Both, BothRequest, IsBothStep, narrow_types, wide_types};
+ghost use Rattle.arrow_model.specs.Value.{Held, Types};
+ghost use Rattle.arrow_model.specs.Request.{Request};
+ghost use Rattle.arrow_model.specs.Run.{IsRun};
+ghost use Rattle.arrow_model.specs.Step.{IsStep};
+ghost use Rattle.arrow_model.specs.Values.{AreValues, IsBothRequest, IsRequest};
+
+/// Where each entry is empty or holds a value, it is so after each command, and after each run of commands.
+pub fn values_stay<T>()
+    ensures step { (c : Types T) (old new : Held T) (asks : Request T) (reply : Answer T) → IsRequest asks
+        → AreValues c old.entries → IsStep c old asks reply new → AreValues c new.entries }
+    ensures run { (c : Types T) (old new : Held T) (requests : List (Request T)) (answers : List (Answer T))
+        → All IsRequest requests → AreValues c old.entries → IsRun c old requests answers new → AreValues c new.entries }
+{}
+
+/// The same of two tables, one of each width of offsets.
+pub fn values_stay_in_both<T>()
+    ensures { (zero : T) (primitive : PrimitiveType) (old new : Both T) (asks : BothRequest T) (reply : Answer T) → IsBothRequest asks
+        → AreValues (narrow_types zero primitive) old.narrow.entries → AreValues (wide_types zero primitive) old.wide.entries
+        → IsBothStep zero primitive old asks reply new
+        → AreValues (narrow_types zero primitive) new.narrow.entries × AreValues (wide_types zero primitive) new.wide.entries }
+{}

@@ -1,4 +1,0 @@
-pub mod CallerLemmas
-pub mod Grown
-pub mod Packed
-pub mod Steps

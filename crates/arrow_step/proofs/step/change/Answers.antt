@@ -1,5 +1,0 @@
-use Rattle.std.proofs.Common.{refl}
-use Rattle.arrow_step.proofs.step.change.Goals as goal
-
-pub returns-in-CheckIndexes : goal.returns-in-CheckIndexes
-returns-in-CheckIndexes g c = rw c.in-CheckIndexes.is (c.indexes_checked.ensures, refl)

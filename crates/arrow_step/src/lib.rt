@@ -1,4 +1,0 @@
-//! What one command does to the entries of a table.
-#![tactic(auto)]
-
-pub mod step;

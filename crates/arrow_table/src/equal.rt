@@ -1,0 +1,97 @@
+//! Whether two builders with nulls have the same slots.
+ghost use Rattle.std.specs.Prelude.{◌≡◌, ◌↔◌, IsTrue, option_copied, option_map};
+ghost use Rattle.arrow_column.specs.Column.{slots_of};
+ghost use Rattle.arrow_entry.specs.Entry.{boolean_value, native_value, piece_value, state_of, value_of};
+ghost use Rattle.arrow_model.specs.Answer.{told};
+ghost use Rattle.arrow_model.specs.Kind.{with_nulls};
+ghost use Rattle.arrow_model.specs.Step.{AtEntry, Compares_to, entry_at};
+
+use arrow_boolean::MutableBooleanArray;
+use arrow_byte_array::MutableByteArray;
+use arrow_bytes::{Binary, ByteKind, Utf8};
+use arrow_entry::{Entry, entry_at};
+use arrow_model::Reply;
+use arrow_primitive::MutablePrimitiveArray;
+use arrow_types::native_type::NativeType;
+use arrow_types::offset::Offset;
+
+/// Returns whether two builders of native values have the same slots.
+#[tactic(auto, using(arrow_entry::proofs::CallerLemmas::seen_slots))]
+fn same_values<T: NativeType>(
+    first: &MutablePrimitiveArray<T>,
+    second: &MutablePrimitiveArray<T>,
+) -> bool
+    ensures { IsTrue result ↔ slots_of (native_value with_nulls first.now).column
+        ≡ slots_of (native_value with_nulls second.now).column }
+{
+    *first == *second
+}
+
+/// Returns whether two builders of truth values have the same slots.
+fn same_bits<T: NativeType>(first: &MutableBooleanArray, second: &MutableBooleanArray) -> bool
+    ensures { IsTrue result ↔ slots_of (boolean_value {T = T} with_nulls first.now).column
+        ≡ slots_of (boolean_value {T = T} with_nulls second.now).column }
+{
+    *first == *second
+}
+
+/// Returns whether two builders of bytes, or of texts, have the same slots.
+#[tactic(auto, using(arrow_entry::proofs::CallerLemmas::seen_slots))]
+fn same_items<T: NativeType, K: ByteKind, O: Offset>(
+    first: &MutableByteArray<K, O>,
+    second: &MutableByteArray<K, O>,
+) -> bool
+    ensures { IsTrue result ↔ slots_of (piece_value {T = T} with_nulls K.is_text first.now).column
+        ≡ slots_of (piece_value {T = T} with_nulls K.is_text second.now).column }
+{
+    *first == *second
+}
+
+/// Compares the slots of two builders with nulls of one kind.
+fn compare<T: NativeType, O: Offset>(
+    first: &Option<Entry<T, O>>,
+    second: Option<&Entry<T, O>>,
+) -> Reply<T>
+    ensures { Compares_to (option_map value_of first.now) (option_map value_of (option_copied second.entry))
+        (told result) (option_map value_of first.now) }
+{
+    match first {
+        Some(Entry::MutablePrimitive(first)) => match second {
+            Some(Entry::MutablePrimitive(second)) => Reply::Flag(same_values(first, second)),
+            _ => Reply::NotMet,
+        },
+        Some(Entry::MutableBoolean(first)) => match second {
+            Some(Entry::MutableBoolean(second)) => Reply::Flag(same_bits::<T>(first, second)),
+            _ => Reply::NotMet,
+        },
+        Some(Entry::MutableBinary(first)) => match second {
+            Some(Entry::MutableBinary(second)) => Reply::Flag(same_items::<T, Binary, O>(
+                first, second,
+            )),
+            _ => Reply::NotMet,
+        },
+        Some(Entry::MutableUtf8(first)) => match second {
+            Some(Entry::MutableUtf8(second)) => Reply::Flag(same_items::<T, Utf8, O>(
+                first, second,
+            )),
+            _ => Reply::NotMet,
+        },
+        _ => Reply::NotMet,
+    }
+}
+
+/// Compares the builders in the entries of two numbers; the condition fails past the table.
+pub(crate) fn equal_at<T: NativeType, O: Offset>(
+    entries: &Vec<Option<Entry<T, O>>>,
+    e: usize,
+    f: usize,
+) -> Reply<T>
+    ensures { AtEntry (state_of entries.now.items) e
+        (λ old. Compares_to old (entry_at (state_of entries.now.items) f))
+        (told result) (state_of entries.now.items) }
+{
+    if e >= entries.len() {
+        return Reply::NotMet;
+    }
+    compare(&entries[e], entry_at(entries, f))
+}

@@ -1,0 +1,73 @@
+//! The rows of another builder, appended.
+ghost use Rattle.std.specs.Prelude.{option_copied, option_map};
+ghost use Rattle.arrow_commands.specs.Outcome.{outcome};
+ghost use Rattle.arrow_entry.specs.Entry.{state_of, value_of};
+ghost use Rattle.arrow_model.specs.Step.{AtEntry, Joins_to, other_at};
+ghost use Rattle.arrow_model.specs.Value.{types};
+
+use arrow_entry::{Entry, entry_at, replace};
+use arrow_model::Reply;
+use arrow_types::error::Error;
+use arrow_types::native_type::NativeType;
+use arrow_types::offset::Offset;
+
+/// Appends to the builder in an entry the rows of another of the same kind.
+///
+/// # Errors
+/// `Overflow` if offsets can't express the ends of its items, or else `OutOfMemory`; the builder is then as before.
+#[tactic(auto, using(arrow_entry::proofs::CallerLemmas::seen_reads, arrow_entry::proofs::CallerLemmas::seen_grows, arrow_entry::proofs::CallerLemmas::seen_bytes))]
+fn join<T: NativeType, O: Offset>(
+    entry: &mut Option<Entry<T, O>>,
+    other: Option<&Entry<T, O>>,
+) -> Result<Reply<T>, Error>
+    ensures { Joins_to (types T.zero T.PRIMITIVE O.most O.IS_LARGE) (option_map value_of entry.old)
+        (option_map value_of (option_copied other.entry)) (outcome result) (option_map value_of entry.new) }
+{
+    match entry {
+        Some(Entry::MutablePrimitive(builder)) => match other {
+            Some(Entry::MutablePrimitive(other)) => builder.try_extend_from_self(other)?,
+            _ => return Ok(Reply::NotMet),
+        },
+        Some(Entry::MutableBoolean(builder)) => match other {
+            Some(Entry::MutableBoolean(other)) => builder.try_extend_from_self(other)?,
+            _ => return Ok(Reply::NotMet),
+        },
+        Some(Entry::MutableBinary(builder)) => match other {
+            Some(Entry::MutableBinary(other)) => builder.try_extend_from_self(other)?,
+            _ => return Ok(Reply::NotMet),
+        },
+        Some(Entry::MutableUtf8(builder)) => match other {
+            Some(Entry::MutableUtf8(other)) => builder.try_extend_from_self(other)?,
+            _ => return Ok(Reply::NotMet),
+        },
+        Some(Entry::BinaryValues(builder)) => match other {
+            Some(Entry::BinaryValues(other)) => builder.try_extend_from_self(other)?,
+            _ => return Ok(Reply::NotMet),
+        },
+        Some(Entry::Utf8Values(builder)) => match other {
+            Some(Entry::Utf8Values(other)) => builder.try_extend_from_self(other)?,
+            _ => return Ok(Reply::NotMet),
+        },
+        _ => return Ok(Reply::NotMet),
+    }
+    Ok(Reply::Done)
+}
+
+/// Appends to the builder in the entry of a number the rows of the one in another; the condition fails past the table.
+pub(crate) fn extend_at<T: NativeType, O: Offset>(
+    entries: &mut Vec<Option<Entry<T, O>>>,
+    e: usize,
+    f: usize,
+) -> Result<Reply<T>, Error>
+    ensures { AtEntry (state_of entries.old.items) e
+        (λ old. Joins_to (types T.zero T.PRIMITIVE O.most O.IS_LARGE) old (other_at (state_of entries.old.items) e f))
+        (outcome result) (state_of entries.new.items) }
+{
+    if e >= entries.len() {
+        return Ok(Reply::NotMet);
+    }
+    let mut held = entries[e].take();
+    let result = join(&mut held, entry_at(entries, f));
+    replace(&mut entries[e], held);
+    result
+}
