@@ -5,7 +5,7 @@ use Rattle.std.proofs.lemmas.List.{ext_get_or, get_or-reverse, length-map, lengt
 use Rattle.std.proofs.lemmas.Option.{get_or_from_slice_get}
 use Rattle.arrow_column.specs.Column.{ColumnWith, stored_values, with_stored}
 use Rattle.arrow_bytes.specs.Pieces.{Around}
-use Rattle.arrow_entry.specs.Entry.{seen}
+use Rattle.arrow_entry.specs.Entry.{erase_type}
 use Rattle.arrow_model.specs.Item.{Stored}
 use Rattle.arrow_entry.proofs.CallerLemmas.{map-slice_set, stored-seen, with-stored-seen}
 
@@ -90,14 +90,14 @@ map-turned h (x ∷ xs) =
     ∙ sym (reverse-append (h x ∷ []) (map h xs))
 
 module _ {A S T : Type 0} (around : A → Around) (stored : S → Stored T) (c : ColumnWith A S) where
-  pub fill-seen : (x : S) → seen around stored (with_stored c (replicate (length (stored_values c)) x)) ≡ with_stored (seen around stored c) (replicate (length (stored_values (seen around stored c))) (stored x))
+  pub fill-seen : (x : S) → erase_type around stored (with_stored c (replicate (length (stored_values c)) x)) ≡ with_stored (erase_type around stored c) (replicate (length (stored_values (erase_type around stored c))) (stored x))
   fill-seen x =
       with-stored-seen around stored c (replicate (length (stored_values c)) x)
-      ∙ ap (with_stored (seen around stored c)) (map-replicate stored (length (stored_values c)) x ∙ ap (λ n. replicate n (stored x)) (sym (ap length (stored-seen around stored c) ∙ length-map (stored_values c) stored)))
+      ∙ ap (with_stored (erase_type around stored c)) (map-replicate stored (length (stored_values c)) x ∙ ap (λ n. replicate n (stored x)) (sym (ap length (stored-seen around stored c) ∙ length-map (stored_values c) stored)))
 
-  pub turn-seen : seen around stored (with_stored c (reverse (stored_values c))) ≡ with_stored (seen around stored c) (reverse (stored_values (seen around stored c)))
+  pub turn-seen : erase_type around stored (with_stored c (reverse (stored_values c))) ≡ with_stored (erase_type around stored c) (reverse (stored_values (erase_type around stored c)))
   turn-seen =
       with-stored-seen around stored c (reverse (stored_values c))
-      ∙ ap (with_stored (seen around stored c)) (map-turned stored (stored_values c) ∙ ap reverse (sym (stored-seen around stored c)))
+      ∙ ap (with_stored (erase_type around stored c)) (map-turned stored (stored_values c) ∙ ap reverse (sym (stored-seen around stored c)))
 
 pub ruleset seen_turns = (fill-seen, turn-seen)

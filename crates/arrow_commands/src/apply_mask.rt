@@ -2,9 +2,9 @@
 ghost use Rattle.std.specs.Prelude.{◌≡◌, ◌&&◌, ◌||◌, IfErr, IfOk, IsTrue, OnOk, Some, length, replicate, reverse, true};
 ghost use Rattle.arrow_types.specs.Failures.{OnlyOutOfMemory};
 ghost use Rattle.arrow_column.specs.Column.{mask_of, with_mask};
-ghost use Rattle.arrow_entry.specs.Entry.{boolean_value, native_value, piece_value, value_of};
+ghost use Rattle.arrow_entry.specs.Entry.{boolean_value, native_value, bytes_value, value_of};
 ghost use Rattle.arrow_model.specs.Change.{with_column};
-ghost use Rattle.arrow_model.specs.Kind.{Shape, frozen, is_frozen, is_nullable, is_pieces, with_nulls};
+ghost use Rattle.arrow_model.specs.Kind.{Shape, frozen, is_frozen, is_nullable, is_var_binary, with_nulls};
 
 use crate::command::ChangesEntry;
 use arrow_boolean::BooleanArray;
@@ -12,7 +12,7 @@ use arrow_byte_array::{ByteArray, MutableByteArray};
 use arrow_bytes::{Binary, ByteKind, Utf8};
 use arrow_entry::Entry;
 use arrow_memory::bitmap::{BitmapIter, MutableBitmap};
-use arrow_model::{Item, Named, Reply};
+use arrow_model::{Change, Item, Reply};
 use arrow_primitive::PrimitiveArray;
 use arrow_types::error::Error;
 use arrow_types::native_type::NativeType;
@@ -21,7 +21,7 @@ use std::alloc::Global;
 
 /// Returns whether the command is for the kind of an entry: arrays, and builders with nulls of bytes or text.
 fn has_mask_to_apply<T: NativeType, O: Offset>(held: &Entry<T, O>) -> bool
-    ensures { result ≡ (let s : Shape = (value_of held.now).shape in is_frozen s || (is_nullable s && is_pieces s)) }
+    ensures { result ≡ (let s : Shape = (value_of held.now).shape in is_frozen s || (is_nullable s && is_var_binary s)) }
 {
     matches!(
         held,
@@ -66,7 +66,7 @@ fn reversed(alloc: Global, marks: BitmapIter<'_>) -> Result<MutableBitmap, Error
 /// Returns the marks, if a mask is held.
 #[tactic(auto, using(arrow_entry::proofs::CallerLemmas::seen_reads, arrow_entry::proofs::CallerLemmas::seen_masks))]
 fn marks_of<T: NativeType, O: Offset>(held: &Entry<T, O>) -> Option<BitmapIter<'_>>
-    requires { IsTrue (let s : Shape = (value_of held.now).shape in is_frozen s || (is_nullable s && is_pieces s)) }
+    requires { IsTrue (let s : Shape = (value_of held.now).shape in is_frozen s || (is_nullable s && is_var_binary s)) }
     ensures { result ≡ mask_of (value_of held.now).column }
 {
     match held {
@@ -152,11 +152,11 @@ fn change_items<T: NativeType, K: ByteKind, O: Offset>(
     held: &mut ByteArray<K, O>,
     marks: MutableBitmap,
 ) -> Result<(), Error>
-    requires held { (piece_value {T = T} frozen K.is_text held.old).column.held ≡ true }
-    requires fits { length marks ≡ length (piece_value {T = T} frozen K.is_text held.old).column.rows }
-    ensures ok { OnOk result (piece_value {T = T} frozen K.is_text held.new
-        ≡ with_column (piece_value {T = T} frozen K.is_text held.old) (with_mask (piece_value {T = T} frozen K.is_text held.old).column (Some marks))) }
-    ensures err { IfErr result (λ e. (e ≡ Error.OutOfMemory) × (piece_value {T = T} frozen K.is_text held.new ≡ piece_value {T = T} frozen K.is_text held.old)) }
+    requires held { (bytes_value {T = T} frozen K.is_text held.old).column.held ≡ true }
+    requires fits { length marks ≡ length (bytes_value {T = T} frozen K.is_text held.old).column.rows }
+    ensures ok { OnOk result (bytes_value {T = T} frozen K.is_text held.new
+        ≡ with_column (bytes_value {T = T} frozen K.is_text held.old) (with_mask (bytes_value {T = T} frozen K.is_text held.old).column (Some marks))) }
+    ensures err { IfErr result (λ e. (e ≡ Error.OutOfMemory) × (bytes_value {T = T} frozen K.is_text held.new ≡ bytes_value {T = T} frozen K.is_text held.old)) }
 {
     let mask = marks.freeze()?;
     held.apply_validity(
@@ -176,11 +176,11 @@ fn change_builder<T: NativeType, K: ByteKind, O: Offset>(
     held: &mut MutableByteArray<K, O>,
     marks: MutableBitmap,
 ) -> Result<(), Error>
-    requires held { (piece_value {T = T} with_nulls K.is_text held.old).column.held ≡ true }
-    requires fits { length marks ≡ length (piece_value {T = T} with_nulls K.is_text held.old).column.rows }
-    ensures ok { OnOk result (piece_value {T = T} with_nulls K.is_text held.new
-        ≡ with_column (piece_value {T = T} with_nulls K.is_text held.old) (with_mask (piece_value {T = T} with_nulls K.is_text held.old).column (Some marks))) }
-    ensures err { IfErr result (λ e. (e ≡ Error.OutOfMemory) × (piece_value {T = T} with_nulls K.is_text held.new ≡ piece_value {T = T} with_nulls K.is_text held.old)) }
+    requires held { (bytes_value {T = T} with_nulls K.is_text held.old).column.held ≡ true }
+    requires fits { length marks ≡ length (bytes_value {T = T} with_nulls K.is_text held.old).column.rows }
+    ensures ok { OnOk result (bytes_value {T = T} with_nulls K.is_text held.new
+        ≡ with_column (bytes_value {T = T} with_nulls K.is_text held.old) (with_mask (bytes_value {T = T} with_nulls K.is_text held.old).column (Some marks))) }
+    ensures err { IfErr result (λ e. (e ≡ Error.OutOfMemory) × (bytes_value {T = T} with_nulls K.is_text held.new ≡ bytes_value {T = T} with_nulls K.is_text held.old)) }
 {
     held.apply_validity(
         |_|
@@ -198,7 +198,7 @@ fn change_mask<T: NativeType, O: Offset>(
     held: &mut Entry<T, O>,
     marks: MutableBitmap,
 ) -> Result<(), Error>
-    requires kind { IsTrue (let s : Shape = (value_of held.old).shape in is_frozen s || (is_nullable s && is_pieces s)) }
+    requires kind { IsTrue (let s : Shape = (value_of held.old).shape in is_frozen s || (is_nullable s && is_var_binary s)) }
     requires held { (value_of held.old).column.held ≡ true }
     requires fits { length marks ≡ length (value_of held.old).column.rows }
     ensures ok { OnOk result (value_of held.new
@@ -218,7 +218,7 @@ fn change_mask<T: NativeType, O: Offset>(
 
 /// Changes a mask that is held: all its marks become equal, or are reversed.
 #[derive(Drop)]
-pub struct ApplyMask<'a, T>(pub &'a Named<T>);
+pub struct ApplyMask<'a, T>(pub &'a Change<T>);
 
 impl<'a, T: NativeType, O: Offset> ChangesEntry<T, O> for ApplyMask<'a, T> {
     ghost use Rattle.arrow_model.specs.Item.{change_of};
@@ -234,14 +234,14 @@ impl<'a, T: NativeType, O: Offset> ChangesEntry<T, O> for ApplyMask<'a, T> {
             return Ok(Reply::NotMet);
         }
         match self.0 {
-            Named::Fill(Item::Bit(mark)) => {
+            Change::Fill(Item::Bit(mark)) => {
                 if held.is_masked() {
                     let marks = filled(alloc, held.len(), *mark)?;
                     change_mask(held, marks)?;
                 }
                 Ok(Reply::Done)
             }
-            Named::Reverse => {
+            Change::Reverse => {
                 let Some(marks) = marks_of(held) else {
                     return Ok(Reply::Done);
                 };

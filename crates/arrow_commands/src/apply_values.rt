@@ -4,7 +4,7 @@ ghost use Rattle.arrow_column.specs.Column.{stored_values, with_stored};
 ghost use Rattle.arrow_model.specs.Item.{change_of};
 ghost use Rattle.arrow_model.specs.Kind.{frozen, with_nulls};
 ghost use Rattle.arrow_entry.specs.Entry.{boolean_value, native_value};
-ghost use Rattle.arrow_commands.specs.Outcome.{outcome};
+ghost use Rattle.arrow_model.specs.Answer.{outcome};
 ghost use Rattle.arrow_model.specs.Request as ask;
 ghost use Rattle.arrow_model.specs.Step.{Does};
 ghost use Rattle.arrow_model.specs.Value.{types};
@@ -13,7 +13,7 @@ use crate::command::ChangesEntry;
 use arrow_boolean::BooleanArray;
 use arrow_entry::Entry;
 use arrow_memory::bitmap::MutableBitmap;
-use arrow_model::{Item, Named, Reply};
+use arrow_model::{Change, Item, Reply};
 use arrow_primitive::MutablePrimitiveArray;
 use arrow_types::error::Error;
 use arrow_types::native_type::NativeType;
@@ -60,17 +60,17 @@ fn turned_marks(mut marks: MutableBitmap) -> MutableBitmap
 #[tactic(auto, using(arrow_entry::proofs::CallerLemmas::seen_reads, arrow_entry::proofs::CallerLemmas::seen_changes, crate::proofs::ValueLists::seen_turns))]
 fn change_builder<T: NativeType, O: Offset>(
     builder: &mut MutablePrimitiveArray<T>,
-    change: &Named<T>,
+    change: &Change<T>,
 ) -> Result<Reply<T>, Error>
     ensures { Does (types T.zero T.PRIMITIVE O.most O.IS_LARGE) (Some (native_value with_nulls builder.old)) (ask.apply_values (change_of change.now)) (outcome result)
         (Some (native_value with_nulls builder.new)) }
 {
     match change {
-        Named::Fill(Item::Value(x)) => {
+        Change::Fill(Item::Value(x)) => {
             fill_values(builder, *x);
             Ok(Reply::Done)
         }
-        Named::Reverse => {
+        Change::Reverse => {
             reverse_values(builder);
             Ok(Reply::Done)
         }
@@ -99,17 +99,17 @@ fn reverse_values<T: NativeType>(builder: &mut MutablePrimitiveArray<T>)
 #[tactic(auto, using(arrow_entry::proofs::CallerLemmas::seen_reads, arrow_entry::proofs::CallerLemmas::seen_changes, crate::proofs::ValueLists::seen_turns))]
 fn change_bits<T: NativeType, O: Offset>(
     array: &mut BooleanArray,
-    change: &Named<T>,
+    change: &Change<T>,
 ) -> Result<Reply<T>, Error>
     ensures { Does (types T.zero T.PRIMITIVE O.most O.IS_LARGE) (Some (boolean_value frozen array.old)) (ask.apply_values (change_of change.now)) (outcome result)
         (Some (boolean_value frozen array.new)) }
 {
     match change {
-        Named::Fill(Item::Bit(x)) => {
+        Change::Fill(Item::Bit(x)) => {
             fill_bits(array, *x)?;
             Ok(Reply::Done)
         }
-        Named::Reverse => {
+        Change::Reverse => {
             reverse_bits(array)?;
             Ok(Reply::Done)
         }
@@ -141,7 +141,7 @@ fn reverse_bits(array: &mut BooleanArray) -> Result<(), Error>
 
 /// Changes the stored values of a builder of native values, or of an array of truth values: all become equal, or are reversed.
 #[derive(Drop)]
-pub struct ApplyValues<'a, T>(pub &'a Named<T>);
+pub struct ApplyValues<'a, T>(pub &'a Change<T>);
 
 impl<'a, T: NativeType, O: Offset> ChangesEntry<T, O> for ApplyValues<'a, T> {
     ghost use Rattle.arrow_model.specs.Item.{change_of};

@@ -2,7 +2,7 @@
 ghost use Rattle.std.specs.Prelude.{◌≡◌, IsTrue, MatchOption, false};
 ghost use Rattle.arrow_entry.specs.Entry.{value_of};
 ghost use Rattle.arrow_model.specs.Change.{all_bytes};
-ghost use Rattle.arrow_model.specs.Kind.{is_pieces};
+ghost use Rattle.arrow_model.specs.Kind.{is_var_binary};
 
 use crate::command::ReadsEntry;
 use arrow_entry::Entry;
@@ -15,8 +15,8 @@ use std::alloc::Global;
 /// Returns all bytes, where there are any.
 #[tactic(auto, using(arrow_entry::proofs::CallerLemmas::seen_reads, arrow_entry::proofs::CallerLemmas::seen_bytes))]
 fn bytes_of<T: NativeType, O: Offset>(held: &Entry<T, O>) -> Option<&[u8]>
-    ensures { MatchOption result (is_pieces (value_of held.now).shape ≡ false)
-        (λ bytes. IsTrue (is_pieces (value_of held.now).shape) × (bytes.now ≡ all_bytes (value_of held.now))) }
+    ensures { MatchOption result (is_var_binary (value_of held.now).shape ≡ false)
+        (λ bytes. IsTrue (is_var_binary (value_of held.now).shape) × (bytes.now ≡ all_bytes (value_of held.now))) }
 {
     match held {
         Entry::Binary(array) => Some(array.values().as_slice()),

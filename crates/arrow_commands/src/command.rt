@@ -1,6 +1,6 @@
 //! What a command is to an entry, and how it is done to the entry of a number.
 ghost use Rattle.std.specs.Prelude.{Some, option_map};
-ghost use Rattle.arrow_commands.specs.Outcome.{outcome};
+ghost use Rattle.arrow_model.specs.Answer.{outcome};
 ghost use Rattle.arrow_entry.specs.Entry.{state_of, value_of};
 ghost use Rattle.arrow_model.specs.Request.{Ask};
 ghost use Rattle.arrow_model.specs.Step.{AtEntry, Does};

@@ -1,7 +1,7 @@
 //! An array made of a builder.
 ghost use Rattle.std.specs.Prelude.{option_map};
 ghost use Rattle.arrow_entry.specs.Entry.{value_of};
-ghost use Rattle.arrow_commands.specs.Outcome.{outcome};
+ghost use Rattle.arrow_model.specs.Answer.{outcome};
 ghost use Rattle.arrow_model.specs.Request as ask;
 ghost use Rattle.arrow_model.specs.Step.{Does};
 ghost use Rattle.arrow_model.specs.Value.{types};

@@ -3,7 +3,7 @@ ghost use Rattle.std.specs.Prelude.{◌≡◌, IfOk, IsTrue, MatchOption, false}
 ghost use Rattle.arrow_entry.specs.Entry.{value_of};
 ghost use Rattle.arrow_memory.specs.Offsets.{KeepsOffsets, numbers_of};
 ghost use Rattle.arrow_model.specs.Change.{all_offsets};
-ghost use Rattle.arrow_model.specs.Kind.{is_pieces};
+ghost use Rattle.arrow_model.specs.Kind.{is_var_binary};
 
 use crate::command::ReadsEntry;
 use arrow_entry::Entry;
@@ -32,8 +32,8 @@ fn to_numbers<O: Offset>(alloc: Global, offsets: &[O]) -> Result<Vec<usize>, All
 /// Returns the offsets, where there are any.
 #[tactic(auto, using(arrow_entry::proofs::CallerLemmas::seen_reads, arrow_entry::proofs::CallerLemmas::seen_bytes))]
 fn offsets_of<T: NativeType, O: Offset>(held: &Entry<T, O>) -> Option<&[O]>
-    ensures { MatchOption result (is_pieces (value_of held.now).shape ≡ false)
-        (λ offsets. IsTrue (is_pieces (value_of held.now).shape) × KeepsOffsets O.number O.most offsets.now
+    ensures { MatchOption result (is_var_binary (value_of held.now).shape ≡ false)
+        (λ offsets. IsTrue (is_var_binary (value_of held.now).shape) × KeepsOffsets O.number O.most offsets.now
         × (numbers_of O.number offsets.now ≡ all_offsets (value_of held.now))) }
 {
     match held {

@@ -3,8 +3,8 @@ ghost use Rattle.std.specs.Prelude.{◌≡◌, IfErr, IfOk, IsTrue, OnOk, false,
 ghost use Rattle.arrow_column.specs.Column.{last_slot, without_last};
 ghost use Rattle.arrow_entry.specs.Entry.{value_of};
 ghost use Rattle.arrow_model.specs.Change.{with_column};
-ghost use Rattle.arrow_model.specs.Item.{bit, piece, stored_slot, value};
-ghost use Rattle.arrow_model.specs.Kind.{is_builder, is_pieces};
+ghost use Rattle.arrow_model.specs.Item.{bit, bytes_item, stored_slot, value};
+ghost use Rattle.arrow_model.specs.Kind.{is_builder, is_var_binary};
 
 use crate::command::ChangesEntry;
 use arrow_entry::Entry;
@@ -36,7 +36,7 @@ fn bit_item<T>(slot: Option<bool>) -> Option<Item<T>>
 
 /// Returns a slot of bytes as it is answered.
 fn bytes_item<T>(slot: Option<Vec<u8>>) -> Option<Item<T>>
-    ensures { stored_slot result ≡ option_map (λ x. piece false x.items) slot }
+    ensures { stored_slot result ≡ option_map (λ x. bytes_item false x.items) slot }
 {
     match slot {
         Some(x) => Some(Item::Bytes(x)),
@@ -46,7 +46,7 @@ fn bytes_item<T>(slot: Option<Vec<u8>>) -> Option<Item<T>>
 
 /// Returns a slot of text as it is answered.
 fn text_item<T>(slot: Option<String>) -> Option<Item<T>>
-    ensures { stored_slot result ≡ option_map (λ x. piece true (string_bytes x)) slot }
+    ensures { stored_slot result ≡ option_map (λ x. bytes_item true (string_bytes x)) slot }
 {
     match slot {
         Some(x) => Some(Item::Text(x)),
@@ -65,7 +65,7 @@ fn pop_slot<T: NativeType, O: Offset>(held: &mut Entry<T, O>) -> Result<Option<I
         (value_of held.new ≡ with_column (value_of held.old) (without_last (value_of held.old).column)) }
     ensures slot { IfOk result (λ slot. stored_slot slot ≡ last_slot (value_of held.old).column) }
     ensures err { IfErr result (λ e. (e ≡ Error.OutOfMemory) × (value_of held.new ≡ value_of held.old)) }
-    ensures copied { IfErr result (λ _. IsTrue (is_pieces (value_of held.old).shape)
+    ensures copied { IfErr result (λ _. IsTrue (is_var_binary (value_of held.old).shape)
         × IsTrue (is_some (last_slot (value_of held.old).column))) }
 {
     match held {

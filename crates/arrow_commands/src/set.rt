@@ -3,7 +3,7 @@ ghost use Rattle.std.specs.Prelude.{◌≡◌, IfSome, Some, is_some, option_map
 ghost use Rattle.arrow_model.specs.Item.{bit, slot_fits, stored_slot, value};
 ghost use Rattle.arrow_model.specs.Kind.{boolean, native, with_nulls};
 ghost use Rattle.arrow_entry.specs.Entry.{boolean_value, native_value};
-ghost use Rattle.arrow_commands.specs.Outcome.{outcome};
+ghost use Rattle.arrow_model.specs.Answer.{outcome};
 ghost use Rattle.arrow_model.specs.Request as ask;
 ghost use Rattle.arrow_model.specs.Step.{Does};
 ghost use Rattle.arrow_model.specs.Value.{types};

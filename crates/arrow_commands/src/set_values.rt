@@ -5,7 +5,7 @@ ghost use Rattle.arrow_types.specs.Failures.{OnlyOutOfMemory};
 ghost use Rattle.arrow_model.specs.Item.{bit, fits, stored_item, value};
 ghost use Rattle.arrow_model.specs.Kind.{boolean, frozen, native, with_nulls};
 ghost use Rattle.arrow_entry.specs.Entry.{boolean_value, native_value};
-ghost use Rattle.arrow_commands.specs.Outcome.{outcome};
+ghost use Rattle.arrow_model.specs.Answer.{outcome};
 ghost use Rattle.arrow_model.specs.Request as ask;
 ghost use Rattle.arrow_model.specs.Step.{Does};
 ghost use Rattle.arrow_model.specs.Value.{types};

@@ -1,7 +1,7 @@
 //! Another data type.
 ghost use Rattle.std.specs.Prelude.{option_map};
 ghost use Rattle.arrow_entry.specs.Entry.{value_of};
-ghost use Rattle.arrow_model.specs.Answer.{told};
+ghost use Rattle.arrow_model.specs.Answer.{answer_of};
 ghost use Rattle.arrow_model.specs.Request as ask;
 ghost use Rattle.arrow_model.specs.Step.{Does};
 ghost use Rattle.arrow_model.specs.Value.{types};
@@ -25,7 +25,7 @@ fn retyped<T: NativeType, O: Offset>(
     data_type: DataType,
 ) -> (Option<Entry<T, O>>, Reply<T>)
     requires { IsRightType (PhysicalType.Primitive T.PRIMITIVE) (logical_type data_type) }
-    ensures { Does (types T.zero T.PRIMITIVE O.most O.IS_LARGE) (option_map value_of taken) (ask.to (logical_type data_type)) (told result.1)
+    ensures { Does (types T.zero T.PRIMITIVE O.most O.IS_LARGE) (option_map value_of taken) (ask.to (logical_type data_type)) (answer_of result.1)
         (option_map value_of result.0) }
 {
     match taken {

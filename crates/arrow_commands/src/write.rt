@@ -5,7 +5,7 @@ ghost use Rattle.arrow_column.specs.Column.{stored_values, with_stored};
 ghost use Rattle.arrow_model.specs.Item.{stored_item};
 ghost use Rattle.arrow_model.specs.Kind.{frozen, with_nulls};
 ghost use Rattle.arrow_entry.specs.Entry.{native_value};
-ghost use Rattle.arrow_commands.specs.Outcome.{outcome};
+ghost use Rattle.arrow_model.specs.Answer.{outcome};
 ghost use Rattle.arrow_model.specs.Request as ask;
 ghost use Rattle.arrow_model.specs.Step.{Does};
 ghost use Rattle.arrow_model.specs.Value.{types};

@@ -9,7 +9,7 @@ use Rattle.arrow_memory.specs.Offsets.{KeepsOffsets, numbers_of}
 use Rattle.arrow_memory.proofs.CallerLemmas.{value-at, not-negative, length-numbers}
 use Rattle.arrow_bytes.specs.Pieces.{Around}
 use Rattle.arrow_model.specs.Item.{Stored}
-use Rattle.arrow_entry.specs.Entry.{seen}
+use Rattle.arrow_entry.specs.Entry.{erase_type}
 use Rattle.arrow_entry.proofs.Seen.{get-mark, get-stored, length-seen, length-stored}
 
 module _ {S : Type 0} where
@@ -44,10 +44,10 @@ module _ {A S : Type 0} where
 
 module _ {A S T : Type 0} (around : A → Around) (stored : S → Stored T) where
   -- no slot is null where every one is valid, as where no mask is held
-  pub seen-valid : (c : ColumnWith A S) (i : ℕ) → IsTrue (all_valid c) → i < length (seen around stored c).rows → slice_get (marks_of (seen around stored c)) i ≡ Some true
+  pub seen-valid : (c : ColumnWith A S) (i : ℕ) → IsTrue (all_valid c) → i < length (erase_type around stored c).rows → slice_get (marks_of (erase_type around stored c)) i ≡ Some true
   seen-valid c i valid within = get-mark around stored c i true (valid-mark c i valid (omega (arith, within, length-seen around stored c)))
 
-  pub seen-unmasked : (c : ColumnWith A S) (i : ℕ) → None ≡ mask_of c → IsColumn c → i < length (seen around stored c).rows → slice_get (marks_of (seen around stored c)) i ≡ Some true
+  pub seen-unmasked : (c : ColumnWith A S) (i : ℕ) → None ≡ mask_of c → IsColumn c → i < length (erase_type around stored c).rows → slice_get (marks_of (erase_type around stored c)) i ≡ Some true
   seen-unmasked c i none column within = seen-valid c i (column (unheld c.held (marks_of c) none)) within
     where
       unheld : (held : Bool) (marks : List Bool) → None ≡ (if held then Some marks else None) → held ≡ false
@@ -59,14 +59,14 @@ module _ {A S T : Type 0} (around : A → Around) (stored : S → Stored T) wher
   is-mask true marks given is = grind arith
   is-mask false marks given is = grind arith
 
-  pub seen-masked : (c : ColumnWith A S) (marks : List Bool) (i : ℕ) (mark : Bool) → Some marks ≡ mask_of c → slice_get marks i ≡ Some mark → slice_get (marks_of (seen around stored c)) i ≡ Some mark
+  pub seen-masked : (c : ColumnWith A S) (marks : List Bool) (i : ℕ) (mark : Bool) → Some marks ≡ mask_of c → slice_get marks i ≡ Some mark → slice_get (marks_of (erase_type around stored c)) i ≡ Some mark
   seen-masked c marks i mark is shows = get-mark around stored c i mark (ap (λ xs. slice_get xs i) (sym (is-mask c.held (marks_of c) marks is)) ∙ shows)
 
-  pub mask-length : (c : ColumnWith A S) (marks : List Bool) → Some marks ≡ mask_of c → length marks ≡ length (seen around stored c).rows
+  pub mask-length : (c : ColumnWith A S) (marks : List Bool) → Some marks ≡ mask_of c → length marks ≡ length (erase_type around stored c).rows
   mask-length c marks is = ap length (is-mask c.held (marks_of c) marks is) ∙ length-map c.rows _ ∙ sym (length-seen around stored c)
 
   -- what is read at a place of the stored values
-  pub seen-read : (c : ColumnWith A S) (xs : List S) (i : ℕ) (x : S) → xs ≡ stored_values c → i < length (seen around stored c).rows → x ≡ slice_index_or xs i x → slice_get (stored_values (seen around stored c)) i ≡ Some (stored x)
+  pub seen-read : (c : ColumnWith A S) (xs : List S) (i : ℕ) (x : S) → xs ≡ stored_values c → i < length (erase_type around stored c).rows → x ≡ slice_index_or xs i x → slice_get (stored_values (erase_type around stored c)) i ≡ Some (stored x)
   seen-read c xs i x is within reads =
       get-stored around stored c i x (ap (λ ys. slice_get ys i) (sym is) ∙ slice_get_read xs (length xs) i x refl (omega (arith, within, ap length is, length-stored around stored c)) reads)
 

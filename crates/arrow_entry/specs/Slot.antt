@@ -2,11 +2,11 @@
 use Rattle.std.specs.Prelude.{true, false}
 use Rattle.arrow_entry.specs.declared.slot.SlotRef.{SlotRef}
 use Rattle.arrow_entry.specs.declared.slot.SlotRef.TheVariants as slot
-use Rattle.arrow_model.specs.Item.{Stored, value, bit, piece}
+use Rattle.arrow_model.specs.Item.{Stored, value, bit, bytes_item}
 
 -- the stored item
 abbrev pub stored_ref : {T : Type 0} → SlotRef T → Stored T
 stored_ref (slot.Value x) = value x
 stored_ref (slot.Bit b) = bit b
-stored_ref (slot.Bytes v) = piece false v.now
-stored_ref (slot.Text s) = piece true s.now
+stored_ref (slot.Bytes v) = bytes_item false v.now
+stored_ref (slot.Text s) = bytes_item true s.now

@@ -24,7 +24,7 @@ pub fn push_slots<T: NativeType, O: Offset>(
     slots: &[Option<Item<T>>],
 ) -> Result<(), Error>
     requires nullable { IsTrue (is_nullable (value_of held.old).shape) }
-    requires fit { IsTrue (list_all (slot_fits (value_of held.old).shape.sort) (map stored_slot slots.now)) }
+    requires fit { IsTrue (list_all (slot_fits (value_of held.old).shape.value_kind) (map stored_slot slots.now)) }
     ensures ok { OnOk result (Extends (types T.zero T.PRIMITIVE O.most O.IS_LARGE) (value_of held.old) (map stored_slot slots.now) done (Some (value_of held.new))) }
     ensures err { IfErr result (λ e. (over : Bool) × (e ≡ refused_growth over) × Extends (types T.zero T.PRIMITIVE O.most O.IS_LARGE) (value_of held.old) (map stored_slot slots.now) (refused (refusal e)) (Some (value_of held.new))) }
 {
@@ -47,7 +47,7 @@ pub fn push_items<T: NativeType, O: Offset>(
     items: &[Item<T>],
 ) -> Result<(), Error>
     requires builder { IsTrue (is_builder (value_of held.old).shape) }
-    requires fit { IsTrue (list_all (fits (value_of held.old).shape.sort) (map stored_item items.now)) }
+    requires fit { IsTrue (list_all (fits (value_of held.old).shape.value_kind) (map stored_item items.now)) }
     ensures ok { OnOk result (Extends (types T.zero T.PRIMITIVE O.most O.IS_LARGE) (value_of held.old) (map Some (map stored_item items.now)) done (Some (value_of held.new))) }
     ensures err { IfErr result (λ e. (over : Bool) × (e ≡ refused_growth over) × Extends (types T.zero T.PRIMITIVE O.most O.IS_LARGE) (value_of held.old) (map Some (map stored_item items.now)) (refused (refusal e)) (Some (value_of held.new))) }
 {

@@ -9,7 +9,7 @@ use arrow_types::native_type::NativeType;
 
 /// Returns whether an item is of a kind's sort.
 fn item_fits<T: NativeType>(kind: Kind, item: &Item<T>) -> bool
-    ensures { result ≡ fits (shape kind).sort (stored_item item.now) }
+    ensures { result ≡ fits (shape kind).value_kind (stored_item item.now) }
 {
     match item {
         Item::Value(_) => matches!(kind, Kind::Primitive | Kind::MutablePrimitive),
@@ -24,7 +24,7 @@ fn item_fits<T: NativeType>(kind: Kind, item: &Item<T>) -> bool
 
 /// Returns whether a slot is null or of a kind's sort.
 fn fits_in<T: NativeType>(kind: Kind, slot: &Option<Item<T>>) -> bool
-    ensures { result ≡ slot_fits (shape kind).sort (stored_slot slot.now) }
+    ensures { result ≡ slot_fits (shape kind).value_kind (stored_slot slot.now) }
 {
     match slot {
         Some(item) => item_fits(kind, item),
@@ -34,7 +34,7 @@ fn fits_in<T: NativeType>(kind: Kind, slot: &Option<Item<T>>) -> bool
 
 /// Returns whether each slot is null or of a kind's sort.
 pub fn slots_fit<T: NativeType>(kind: Kind, slots: &[Option<Item<T>>]) -> bool
-    ensures { result ≡ list_all (slot_fits (shape kind).sort) (map stored_slot slots.now) }
+    ensures { result ≡ list_all (slot_fits (shape kind).value_kind) (map stored_slot slots.now) }
 {
     let mut rest = slots;
     while let Some((slot, others)) = rest.split_first() {
@@ -48,7 +48,7 @@ pub fn slots_fit<T: NativeType>(kind: Kind, slots: &[Option<Item<T>>]) -> bool
 
 /// Returns whether each item is of a kind's sort.
 pub fn items_fit<T: NativeType>(kind: Kind, items: &[Item<T>]) -> bool
-    ensures { result ≡ list_all (fits (shape kind).sort) (map stored_item items.now) }
+    ensures { result ≡ list_all (fits (shape kind).value_kind) (map stored_item items.now) }
 {
     let mut rest = items;
     while let Some((item, others)) = rest.split_first() {

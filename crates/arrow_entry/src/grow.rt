@@ -18,7 +18,7 @@ impl<T: NativeType, O: Offset> Entry<T, O> {
     /// if the builder has nulls.
     #[inline(always)]
     pub fn takes(&self, slot: &Option<Item<T>>) -> bool
-        ensures { result ≡ (is_builder (value_of self.now).shape && (slot_fits (value_of self.now).shape.sort (stored_slot slot.now)
+        ensures { result ≡ (is_builder (value_of self.now).shape && (slot_fits (value_of self.now).shape.value_kind (stored_slot slot.now)
             && (is_nullable (value_of self.now).shape || not (is_none (stored_slot slot.now))))) }
     {
         match slot {
@@ -69,7 +69,7 @@ impl<T: NativeType, O: Offset> Entry<T, O> {
     #[inline(always)]
     pub fn push_item(&mut self, item: &Item<T>) -> Result<(), Error>
         requires builder { IsTrue (is_builder (value_of self.old).shape) }
-        requires fits { IsTrue (fits (value_of self.old).shape.sort (stored_item item.now)) }
+        requires fits { IsTrue (fits (value_of self.old).shape.value_kind (stored_item item.now)) }
         ensures ok { OnOk result ((slot_over (types T.zero T.PRIMITIVE O.most O.IS_LARGE) (value_of self.old) (Some (stored_item item.now)) ≡ false)
             × (value_of self.new ≡ grown (types T.zero T.PRIMITIVE O.most O.IS_LARGE) (value_of self.old) (Some (stored_item item.now) ∷ []))) }
         ensures err { IfErr result (λ e.
@@ -104,7 +104,7 @@ impl<T: NativeType, O: Offset> Entry<T, O> {
     /// `Overflow` if offsets can't express its end, or else `OutOfMemory`; the builder is then as before.
     #[inline(always)]
     pub fn push_slot(&mut self, slot: &Option<Item<T>>) -> Result<(), Error>
-        requires { IsTrue (is_builder (value_of self.old).shape && (slot_fits (value_of self.old).shape.sort (stored_slot slot.now)
+        requires { IsTrue (is_builder (value_of self.old).shape && (slot_fits (value_of self.old).shape.value_kind (stored_slot slot.now)
             && (is_nullable (value_of self.old).shape || not (is_none (stored_slot slot.now))))) }
         ensures ok { OnOk result ((slot_over (types T.zero T.PRIMITIVE O.most O.IS_LARGE) (value_of self.old) (stored_slot slot.now) ≡ false)
             × (value_of self.new ≡ grown (types T.zero T.PRIMITIVE O.most O.IS_LARGE) (value_of self.old) (stored_slot slot.now ∷ []))) }

@@ -5,7 +5,7 @@ ghost use Rattle.arrow_column.specs.Column.{marks_of, slots_of, stored_values};
 ghost use Rattle.arrow_entry.specs.Entry.{value_of};
 ghost use Rattle.arrow_entry.specs.Slot.{stored_ref};
 ghost use Rattle.arrow_model.specs.Item.{has_bytes, stored_item, stored_slot};
-ghost use Rattle.arrow_model.specs.Kind.{is_pieces};
+ghost use Rattle.arrow_model.specs.Kind.{is_var_binary};
 
 use crate::{Entry, Item, SlotRef};
 use arrow_primitive::MutablePrimitiveArray;
@@ -133,7 +133,7 @@ impl<T: NativeType, O: Offset> Entry<T, O> {
     pub fn slot_ref(&self, i: usize) -> SlotRef<'_, T>
         requires { i < length (value_of self.now).column.rows }
         ensures stored { slice_get (stored_values (value_of self.now).column) i ≡ Some (stored_ref result) }
-        ensures bytes { has_bytes (stored_ref result) ≡ is_pieces (value_of self.now).shape }
+        ensures bytes { has_bytes (stored_ref result) ≡ is_var_binary (value_of self.now).shape }
     {
         match self {
             Entry::Primitive(array) => SlotRef::Value(array.value(i)),
@@ -156,7 +156,7 @@ impl<T: NativeType, O: Offset> Entry<T, O> {
     pub fn item(&self, alloc: Global, i: usize) -> Result<Item<T>, AllocError>
         requires { i < length (value_of self.now).column.rows }
         ensures ok { IfOk result (λ item. slice_get (stored_values (value_of self.now).column) i ≡ Some (stored_item item)) }
-        ensures err { IfErr result (λ _. IsTrue (is_pieces (value_of self.now).shape)) }
+        ensures err { IfErr result (λ _. IsTrue (is_var_binary (value_of self.now).shape)) }
     {
         self.slot_ref(i).to_item(alloc)
     }
@@ -169,7 +169,7 @@ impl<T: NativeType, O: Offset> Entry<T, O> {
     pub fn get(&self, alloc: Global, i: usize) -> Result<Option<Item<T>>, AllocError>
         requires { i < length (value_of self.now).column.rows }
         ensures ok { IfOk result (λ slot. slice_get (slots_of (value_of self.now).column) i ≡ Some (stored_slot slot)) }
-        ensures err { IfErr result (λ _. IsTrue (is_pieces (value_of self.now).shape)) }
+        ensures err { IfErr result (λ _. IsTrue (is_var_binary (value_of self.now).shape)) }
     {
         if self.is_null(i) {
             return Ok(None);

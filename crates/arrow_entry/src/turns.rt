@@ -118,9 +118,9 @@ impl<'a, T: NativeType, O: Offset> SlotIterator<'a, T> for ArrayValuesIter<'a, B
     ghost use Rattle.std.specs.Prelude.{false, map};
     ghost use Rattle.arrow_column.specs.Column.{stored_values};
     ghost use Rattle.arrow_check.specs.Items.{IsWithin, rest_of};
-    ghost use Rattle.arrow_model.specs.Item.{piece};
+    ghost use Rattle.arrow_model.specs.Item.{bytes_item};
 
-    ghost left = { λ items. map (piece false) (rest_of stored_values items) };
+    ghost left = { λ items. map (bytes_item false) (rest_of stored_values items) };
 
     ghost can_turn = { IsWithin stored_values };
 
@@ -152,9 +152,9 @@ impl<'a, T: NativeType, O: Offset> SlotIterator<'a, T>
     ghost use Rattle.std.specs.Prelude.{false, map};
     ghost use Rattle.arrow_column.specs.Column.{stored_values};
     ghost use Rattle.arrow_check.specs.Items.{IsWithin, rest_of};
-    ghost use Rattle.arrow_model.specs.Item.{piece};
+    ghost use Rattle.arrow_model.specs.Item.{bytes_item};
 
-    ghost left = { λ items. map (piece false) (rest_of stored_values items) };
+    ghost left = { λ items. map (bytes_item false) (rest_of stored_values items) };
 
     ghost can_turn = { IsWithin stored_values };
 
@@ -186,9 +186,9 @@ impl<'a, T: NativeType, O: Offset> SlotIterator<'a, T>
     ghost use Rattle.std.specs.Prelude.{false, map};
     ghost use Rattle.arrow_column.specs.Column.{stored_values};
     ghost use Rattle.arrow_check.specs.Items.{IsWithin, rest_of};
-    ghost use Rattle.arrow_model.specs.Item.{piece};
+    ghost use Rattle.arrow_model.specs.Item.{bytes_item};
 
-    ghost left = { λ items. map (piece false) (rest_of stored_values items) };
+    ghost left = { λ items. map (bytes_item false) (rest_of stored_values items) };
 
     ghost can_turn = { IsWithin stored_values };
 
@@ -219,9 +219,9 @@ impl<'a, T: NativeType, O: Offset> SlotIterator<'a, T> for ArrayValuesIter<'a, U
     ghost use Rattle.std.specs.Prelude.{map, true};
     ghost use Rattle.arrow_column.specs.Column.{stored_values};
     ghost use Rattle.arrow_check.specs.Items.{IsWithin, rest_of};
-    ghost use Rattle.arrow_model.specs.Item.{piece};
+    ghost use Rattle.arrow_model.specs.Item.{bytes_item};
 
-    ghost left = { λ items. map (piece true) (rest_of stored_values items) };
+    ghost left = { λ items. map (bytes_item true) (rest_of stored_values items) };
 
     ghost can_turn = { IsWithin stored_values };
 
@@ -253,9 +253,9 @@ impl<'a, T: NativeType, O: Offset> SlotIterator<'a, T>
     ghost use Rattle.std.specs.Prelude.{map, true};
     ghost use Rattle.arrow_column.specs.Column.{stored_values};
     ghost use Rattle.arrow_check.specs.Items.{IsWithin, rest_of};
-    ghost use Rattle.arrow_model.specs.Item.{piece};
+    ghost use Rattle.arrow_model.specs.Item.{bytes_item};
 
-    ghost left = { λ items. map (piece true) (rest_of stored_values items) };
+    ghost left = { λ items. map (bytes_item true) (rest_of stored_values items) };
 
     ghost can_turn = { IsWithin stored_values };
 
@@ -287,9 +287,9 @@ impl<'a, T: NativeType, O: Offset> SlotIterator<'a, T>
     ghost use Rattle.std.specs.Prelude.{map, true};
     ghost use Rattle.arrow_column.specs.Column.{stored_values};
     ghost use Rattle.arrow_check.specs.Items.{IsWithin, rest_of};
-    ghost use Rattle.arrow_model.specs.Item.{piece};
+    ghost use Rattle.arrow_model.specs.Item.{bytes_item};
 
-    ghost left = { λ items. map (piece true) (rest_of stored_values items) };
+    ghost left = { λ items. map (bytes_item true) (rest_of stored_values items) };
 
     ghost can_turn = { IsWithin stored_values };
 

@@ -17,8 +17,8 @@ use Rattle.arrow_check.specs.Pieces.{items_of}
 use Rattle.arrow_check.specs.Utf8.{IsWellFormed}
 use Rattle.arrow_model.specs.Change.{with_column, cut_value, frozen_value, thawed_value, empty_value, slots_start, null_in, grown}
 use Rattle.arrow_model.specs.Value.{Value, Types, default_type, default_item, layout}
-use Rattle.arrow_model.specs.Item.{Stored, value, bit, piece, bytes_in, fits, slot_fits, Change, fill, turn, changed, change_fits}
-use Rattle.arrow_model.specs.Kind.{Group, frozen, with_nulls, values_alone, Sort, native, boolean, pieces, Shape, shaped, same_sort, same_group, same_kind, is_builder, is_boolean, is_native, is_frozen, is_nullable, is_pieces, is_values_alone}
+use Rattle.arrow_model.specs.Item.{Stored, value, bit, bytes_item, bytes_in, fits, slot_fits, ListChange, fill, turn, changed, change_fits}
+use Rattle.arrow_model.specs.Kind.{Group, frozen, with_nulls, values_alone, ValueKind, native, boolean, var_binary, Shape, shaped, same_value_kind, same_group, same_kind, is_builder, is_boolean, is_native, is_frozen, is_nullable, is_var_binary, is_values_alone}
 use Rattle.arrow_model.specs.Parts.{made, marks_in, pieces_tests}
 use Rattle.arrow_model.specs.Request.{Packed}
 use Rattle.arrow_model.specs.Values.{IsText, IsTextChange, IsTextSlot, IsStored, IsRow, IsAround, IsValue}
@@ -27,27 +27,27 @@ use Rattle.arrow_model.proofs.AllLemmas.{and-first, and-second, reverse-all}
 -- ---- kinds
 
 -- an array's kind is no builder's, and a builder with nulls holds no values alone
-pub no-builder : (group : Group) (sort : Sort) → is_frozen (shaped group sort) ≡ true → is_builder (shaped group sort) ≡ true → ⊥
+pub no-builder : (group : Group) (sort : ValueKind) → is_frozen (shaped group sort) ≡ true → is_builder (shaped group sort) ≡ true → ⊥
 no-builder frozen sort so builder = true≢false (sym builder)
 no-builder with_nulls sort so builder = true≢false (sym so)
 no-builder values_alone sort so builder = true≢false (sym so)
 
-pub frozen-nulls : (group : Group) (sort : Sort) → is_frozen (shaped group sort) ≡ true → is_values_alone (shaped group sort) ≡ false
+pub frozen-nulls : (group : Group) (sort : ValueKind) → is_frozen (shaped group sort) ≡ true → is_values_alone (shaped group sort) ≡ false
 frozen-nulls frozen sort so = refl
 frozen-nulls with_nulls sort so = refl
 frozen-nulls values_alone sort so = absurd (true≢false (sym so))
 
-pub nullable-nulls : (group : Group) (sort : Sort) → is_nullable (shaped group sort) ≡ true → is_values_alone (shaped group sort) ≡ false
+pub nullable-nulls : (group : Group) (sort : ValueKind) → is_nullable (shaped group sort) ≡ true → is_values_alone (shaped group sort) ≡ false
 nullable-nulls frozen sort so = refl
 nullable-nulls with_nulls sort so = refl
 nullable-nulls values_alone sort so = absurd (true≢false (sym so))
 
-pub alone-builder : (group : Group) (sort : Sort) → is_values_alone (shaped group sort) ≡ true → is_builder (shaped group sort) ≡ true
+pub alone-builder : (group : Group) (sort : ValueKind) → is_values_alone (shaped group sort) ≡ true → is_builder (shaped group sort) ≡ true
 alone-builder frozen sort so = absurd (true≢false (sym so))
 alone-builder with_nulls sort so = refl
 alone-builder values_alone sort so = refl
 
-pub masked-nulls : (group : Group) (sort : Sort) (other : Bool) → (is_frozen (shaped group sort) || (is_nullable (shaped group sort) && other)) ≡ true → is_values_alone (shaped group sort) ≡ false
+pub masked-nulls : (group : Group) (sort : ValueKind) (other : Bool) → (is_frozen (shaped group sort) || (is_nullable (shaped group sort) && other)) ≡ true → is_values_alone (shaped group sort) ≡ false
 masked-nulls frozen sort other so = refl
 masked-nulls with_nulls sort other so = refl
 masked-nulls values_alone sort other so = absurd (true≢false (sym so))
@@ -63,23 +63,23 @@ same-group with_nulls values_alone e = absurd (true≢false (sym e))
 same-group values_alone frozen e = absurd (true≢false (sym e))
 same-group values_alone with_nulls e = absurd (true≢false (sym e))
 
-pub same-sort : (a b : Sort) → same_sort a b ≡ true → a ≡ b
+pub same-sort : (a b : ValueKind) → same_value_kind a b ≡ true → a ≡ b
 same-sort native native e = refl
 same-sort boolean boolean e = refl
-same-sort (pieces true) (pieces true) e = refl
-same-sort (pieces false) (pieces false) e = refl
+same-sort (var_binary true) (var_binary true) e = refl
+same-sort (var_binary false) (var_binary false) e = refl
 same-sort native boolean e = absurd (true≢false (sym e))
-same-sort native (pieces true) e = absurd (true≢false (sym e))
-same-sort native (pieces false) e = absurd (true≢false (sym e))
+same-sort native (var_binary true) e = absurd (true≢false (sym e))
+same-sort native (var_binary false) e = absurd (true≢false (sym e))
 same-sort boolean native e = absurd (true≢false (sym e))
-same-sort boolean (pieces true) e = absurd (true≢false (sym e))
-same-sort boolean (pieces false) e = absurd (true≢false (sym e))
-same-sort (pieces true) native e = absurd (true≢false (sym e))
-same-sort (pieces true) boolean e = absurd (true≢false (sym e))
-same-sort (pieces true) (pieces false) e = absurd (true≢false (sym e))
-same-sort (pieces false) native e = absurd (true≢false (sym e))
-same-sort (pieces false) boolean e = absurd (true≢false (sym e))
-same-sort (pieces false) (pieces true) e = absurd (true≢false (sym e))
+same-sort boolean (var_binary true) e = absurd (true≢false (sym e))
+same-sort boolean (var_binary false) e = absurd (true≢false (sym e))
+same-sort (var_binary true) native e = absurd (true≢false (sym e))
+same-sort (var_binary true) boolean e = absurd (true≢false (sym e))
+same-sort (var_binary true) (var_binary false) e = absurd (true≢false (sym e))
+same-sort (var_binary false) native e = absurd (true≢false (sym e))
+same-sort (var_binary false) boolean e = absurd (true≢false (sym e))
+same-sort (var_binary false) (var_binary true) e = absurd (true≢false (sym e))
 
 -- ---- types
 
@@ -105,40 +105,40 @@ text-right : (large : Bool) → physical_type (text_type large) ≡ text_layout 
 text-right true = refl
 text-right false = refl
 
-pub default-right : {T : Type 0} (c : Types T) (sort : Sort) → IsRightType (layout c sort) (default_type c sort)
+pub default-right : {T : Type 0} (c : Types T) (sort : ValueKind) → IsRightType (layout c sort) (default_type c sort)
 default-right c native = native-right c.primitive
 default-right c boolean = refl
-default-right c (pieces false) = binary-right c.large
-default-right c (pieces true) = text-right c.large
+default-right c (var_binary false) = binary-right c.large
+default-right c (var_binary true) = text-right c.large
 
 -- ---- what slots store
 
-pub default-stored : {T : Type 0} (c : Types T) (sort : Sort) → IsStored sort (default_item c sort)
-default-stored c native = record { of_sort = refl; text = tt }
-default-stored c boolean = record { of_sort = refl; text = tt }
-default-stored c (pieces false) = record { of_sort = refl; text = tt }
-default-stored c (pieces true) = record { of_sort = refl; text = ([], tt, refl) }
+pub default-stored : {T : Type 0} (c : Types T) (sort : ValueKind) → IsStored sort (default_item c sort)
+default-stored c native = record { of_value_kind = refl; text = tt }
+default-stored c boolean = record { of_value_kind = refl; text = tt }
+default-stored c (var_binary false) = record { of_value_kind = refl; text = tt }
+default-stored c (var_binary true) = record { of_value_kind = refl; text = ([], tt, refl) }
 
-module _ {T : Type 0} (sort : Sort) where
+module _ {T : Type 0} (sort : ValueKind) where
   pub fits-stored : (xs : List (Stored T)) → list_all (fits sort) xs ≡ true → All IsText xs → All (IsStored sort) xs
   fits-stored [] fit text = All-nil (IsStored sort)
   fits-stored (x ∷ xs) fit text =
-      All-cons (IsStored sort) x xs (record { of_sort = and-first (fits sort x) (list_all (fits sort) xs) fit; text = All-head IsText x xs text })
+      All-cons (IsStored sort) x xs (record { of_value_kind = and-first (fits sort x) (list_all (fits sort) xs) fit; text = All-head IsText x xs text })
       (fits-stored xs (and-second (fits sort x) (list_all (fits sort) xs) fit) (All-tail IsText x xs text))
 
   -- items without bytes
-  bare-bytes : is_pieces (shaped frozen sort) ≡ false → (x : Stored T) → IsStored sort x → bytes_in x ≡ []
+  bare-bytes : is_var_binary (shaped frozen sort) ≡ false → (x : Stored T) → IsStored sort x → bytes_in x ≡ []
   bare-bytes plain (value x) is = refl
   bare-bytes plain (bit b) is = refl
-  bare-bytes plain (piece text bytes) is = absurd (none sort text plain is.of_sort)
+  bare-bytes plain (bytes_item text bytes) is = absurd (none sort text plain is.of_value_kind)
     where
-      none : (sort : Sort) (text : Bool) → is_pieces (shaped frozen sort) ≡ false → same_sort sort (pieces text) ≡ true → ⊥
+      none : (sort : ValueKind) (text : Bool) → is_var_binary (shaped frozen sort) ≡ false → same_value_kind sort (var_binary text) ≡ true → ⊥
       none native true plain same = true≢false (sym same)
       none native false plain same = true≢false (sym same)
       none boolean true plain same = true≢false (sym same)
       none boolean false plain same = true≢false (sym same)
-      none (pieces true) text plain same = true≢false plain
-      none (pieces false) text plain same = true≢false plain
+      none (var_binary true) text plain same = true≢false plain
+      none (var_binary false) text plain same = true≢false plain
 
   -- ---- rows
 
@@ -187,8 +187,8 @@ module _ {T : Type 0} (sort : Sort) where
   pub rows-stored : (held : Bool) (rows : List (Row (Stored T))) → All (IsRow sort held) rows → All (λ row. IsStored sort row.0) rows
   rows-stored held rows = All-weaker (IsRow sort held) (λ row. IsStored sort row.0) (λ row is. is.stored) rows
 
-  pub changed-stored : (change : Change (Stored T)) (xs : List (Stored T)) → change_fits sort change ≡ true → IsTextChange change → All (IsStored sort) xs → All (IsStored sort) (changed change xs)
-  changed-stored (fill x) xs fit text all = All-replicate (IsStored sort) (length xs) x (record { of_sort = fit; text = text })
+  pub changed-stored : (change : ListChange (Stored T)) (xs : List (Stored T)) → change_fits sort change ≡ true → IsTextChange change → All (IsStored sort) xs → All (IsStored sort) (changed change xs)
+  changed-stored (fill x) xs fit text all = All-replicate (IsStored sort) (length xs) x (record { of_value_kind = fit; text = text })
   changed-stored turn xs fit text all = reverse-all (IsStored sort) xs all
 
 -- ---- what lies around
@@ -209,48 +209,48 @@ module _ {T : Type 0} where
   -- slots that can be appended: a null only where there are nulls
   abbrev pub IsSlot : Shape → Option (Stored T) → Type 0
   IsSlot s None = is_values_alone s ≡ false
-  IsSlot s (Some x) = IsStored s.sort x
+  IsSlot s (Some x) = IsStored s.value_kind x
 
-  pub fits-slots : (s : Shape) (xs : List (Option (Stored T))) → is_values_alone s ≡ false → list_all (slot_fits s.sort) xs ≡ true → All IsTextSlot xs → All (IsSlot s) xs
+  pub fits-slots : (s : Shape) (xs : List (Option (Stored T))) → is_values_alone s ≡ false → list_all (slot_fits s.value_kind) xs ≡ true → All IsTextSlot xs → All (IsSlot s) xs
   fits-slots s [] nulls fit text = All-nil (IsSlot s)
   fits-slots s (None ∷ xs) nulls fit text = All-cons (IsSlot s) None xs nulls (fits-slots s xs nulls fit (All-tail IsTextSlot None xs text))
   fits-slots s (Some x ∷ xs) nulls fit text =
-      All-cons (IsSlot s) (Some x) xs (record { of_sort = and-first (fits s.sort x) (list_all (slot_fits s.sort) xs) fit; text = All-head IsTextSlot (Some x) xs text })
-      (fits-slots s xs nulls (and-second (fits s.sort x) (list_all (slot_fits s.sort) xs) fit) (All-tail IsTextSlot (Some x) xs text))
+      All-cons (IsSlot s) (Some x) xs (record { of_value_kind = and-first (fits s.value_kind x) (list_all (slot_fits s.value_kind) xs) fit; text = All-head IsTextSlot (Some x) xs text })
+      (fits-slots s xs nulls (and-second (fits s.value_kind x) (list_all (slot_fits s.value_kind) xs) fit) (All-tail IsTextSlot (Some x) xs text))
 
-  pub items-slots : (s : Shape) (xs : List (Stored T)) → All (IsStored s.sort) xs → All (IsSlot s) (map Some xs)
+  pub items-slots : (s : Shape) (xs : List (Stored T)) → All (IsStored s.value_kind) xs → All (IsSlot s) (map Some xs)
   items-slots s xs all = All-map (IsSlot s) Some xs all
 
 module _ {T : Type 0} (c : Types T) where
   pub empty-is : (s : Shape) → IsValue c (empty_value c s)
-  empty-is s = record { right_type = default-right c s.sort; around = nothing-around s; rows = All-nil (IsRow s.sort false); unmasked = λ alone. refl }
+  empty-is s = record { right_type = default-right c s.value_kind; around = nothing-around s; rows = All-nil (IsRow s.value_kind false); unmasked = λ alone. refl }
 
-  none-yet : (sort : Sort) (masked : Bool) → All (IsRow {T = T} sort (is_some {T = List Bool} (if masked then Some [] else None))) (rows_of [] (if masked then Some [] else None))
+  none-yet : (sort : ValueKind) (masked : Bool) → All (IsRow {T = T} sort (is_some {T = List Bool} (if masked then Some [] else None))) (rows_of [] (if masked then Some [] else None))
   none-yet sort true = All-nil (IsRow sort true)
   none-yet sort false = All-nil (IsRow sort false)
 
   pub start-is : (s : Shape) → is_values_alone s ≡ false → IsValue c (slots_start c s)
   start-is s nulls = record {
-    right_type = default-right c s.sort;
+    right_type = default-right c s.value_kind;
     around = nothing-around s;
-    rows = none-yet s.sort (is_native s);
+    rows = none-yet s.value_kind (is_native s);
     unmasked = λ alone. absurd (true≢false (sym alone ∙ nulls));
   }
 
   module _ (v : Value T) (is : IsValue c v) where
     -- other rows of it
-    pub rows-is : (held : Bool) (rows : List (Row (Stored T))) → All (IsRow v.shape.sort held) rows → (is_values_alone v.shape ≡ true → held ≡ false)
+    pub rows-is : (held : Bool) (rows : List (Row (Stored T))) → All (IsRow v.shape.value_kind held) rows → (is_values_alone v.shape ≡ true → held ≡ false)
         → IsValue c (with_column v (record v.column { rows = rows; held = held }))
     rows-is held rows all unmasked = record { right_type = is.right_type; around = is.around; rows = all; unmasked = unmasked }
 
-    pub stored-all : All (IsStored v.shape.sort) (stored_values v.column)
-    stored-all = stored-rows v.shape.sort v.column.held v.column.rows is.rows
+    pub stored-all : All (IsStored v.shape.value_kind) (stored_values v.column)
+    stored-all = stored-rows v.shape.value_kind v.column.held v.column.rows is.rows
 
-    pub with-stored-is : (xs : List (Stored T)) → All (IsStored v.shape.sort) xs → IsValue c (with_column v (record v.column { rows = zip xs (marks_of v.column) }))
-    with-stored-is xs all = rows-is v.column.held (zip xs (marks_of v.column)) (zipped v.shape.sort v.column.held xs (marks_of v.column) all (λ bare. marked-rows v.shape.sort v.column.held v.column.rows is.rows bare)) is.unmasked
+    pub with-stored-is : (xs : List (Stored T)) → All (IsStored v.shape.value_kind) xs → IsValue c (with_column v (record v.column { rows = zip xs (marks_of v.column) }))
+    with-stored-is xs all = rows-is v.column.held (zip xs (marks_of v.column)) (zipped v.shape.value_kind v.column.held xs (marks_of v.column) all (λ bare. marked-rows v.shape.value_kind v.column.held v.column.rows is.rows bare)) is.unmasked
 
     pub with-mask-is : (mask : Option (List Bool)) → is_values_alone v.shape ≡ false → IsValue c (with_column v (record v.column { rows = rows_of (stored_values v.column) mask; held = is_some mask }))
-    with-mask-is mask nulls = rows-is (is_some mask) (rows_of (stored_values v.column) mask) (masked v.shape.sort (stored_values v.column) mask stored-all) (λ alone. absurd (true≢false (sym alone ∙ nulls)))
+    with-mask-is mask nulls = rows-is (is_some mask) (rows_of (stored_values v.column) mask) (masked v.shape.value_kind (stored_values v.column) mask stored-all) (λ alone. absurd (true≢false (sym alone ∙ nulls)))
 
     unheld : is_values_alone v.shape ≡ false → is_values_alone v.shape ≡ true → true ≡ false
     unheld nulls alone = sym alone ∙ nulls
@@ -258,48 +258,48 @@ module _ {T : Type 0} (c : Types T) where
     pub appended-is : (x : Option (Stored T)) → IsSlot v.shape x → IsValue c (grown c v (x ∷ []))
     appended-is (Some x) slot =
         rows-is v.column.held (v.column.rows ++ (x, true) ∷ [])
-        (All-append (IsRow v.shape.sort v.column.held) v.column.rows ((x, true) ∷ []) is.rows
-        (All-cons (IsRow v.shape.sort v.column.held) (x, true) [] (record { stored = slot; marked = λ bare. refl }) (All-nil (IsRow v.shape.sort v.column.held))))
+        (All-append (IsRow v.shape.value_kind v.column.held) v.column.rows ((x, true) ∷ []) is.rows
+        (All-cons (IsRow v.shape.value_kind v.column.held) (x, true) [] (record { stored = slot; marked = λ bare. refl }) (All-nil (IsRow v.shape.value_kind v.column.held))))
         is.unmasked
     appended-is None nulls =
         rows-is true (v.column.rows ++ (null_in c v, false) ∷ [])
-        (All-append (IsRow v.shape.sort true) v.column.rows ((null_in c v, false) ∷ []) (held-rows v.shape.sort v.column.held true v.column.rows (λ bare. absurd (true≢false bare)) is.rows)
-        (All-cons (IsRow v.shape.sort true) (null_in c v, false) [] (record { stored = default-stored c v.shape.sort; marked = λ bare. absurd (true≢false bare) }) (All-nil (IsRow v.shape.sort true))))
+        (All-append (IsRow v.shape.value_kind true) v.column.rows ((null_in c v, false) ∷ []) (held-rows v.shape.value_kind v.column.held true v.column.rows (λ bare. absurd (true≢false bare)) is.rows)
+        (All-cons (IsRow v.shape.value_kind true) (null_in c v, false) [] (record { stored = default-stored c v.shape.value_kind; marked = λ bare. absurd (true≢false bare) }) (All-nil (IsRow v.shape.value_kind true))))
         (unheld nulls)
 
     -- what lies around, with nothing behind it
-    cut-tail : (s : Shape) → s.sort ≡ v.shape.sort → IsAround s (record v.column.around { tail = [] })
+    cut-tail : (s : Shape) → s.value_kind ≡ v.shape.value_kind → IsAround s (record v.column.around { tail = [] })
     cut-tail s same = record {
-      plain = λ plain. ap (λ (around : Around). record around { tail = [] }) (is.around.plain (subst (λ (sort : Sort). is_pieces (shaped v.shape.group sort) ≡ false) same plain));
+      plain = λ plain. ap (λ (around : Around). record around { tail = [] }) (is.around.plain (subst (λ (sort : ValueKind). is_var_binary (shaped v.shape.group sort) ≡ false) same plain));
       no_tail = λ builder. refl;
     }
 
     pub frozen-is : IsValue c (frozen_value v)
     frozen-is = either (is_boolean v.shape)
       where
-        either : (b : Bool) → IsValue c (let it : Value T = record { shape = shaped frozen v.shape.sort; column = if b then (record v.column { around = record v.column.around { tail = [] } }) else (record v.column { around = record v.column.around { tail = [] }; held = not (all_valid v.column) }) } in it)
-        either true = record { right_type = is.right_type; around = cut-tail (shaped frozen v.shape.sort) refl; rows = is.rows; unmasked = λ alone. absurd (true≢false (sym alone)) }
+        either : (b : Bool) → IsValue c (let it : Value T = record { shape = shaped frozen v.shape.value_kind; column = if b then (record v.column { around = record v.column.around { tail = [] } }) else (record v.column { around = record v.column.around { tail = [] }; held = not (all_valid v.column) }) } in it)
+        either true = record { right_type = is.right_type; around = cut-tail (shaped frozen v.shape.value_kind) refl; rows = is.rows; unmasked = λ alone. absurd (true≢false (sym alone)) }
         either false = record {
           right_type = is.right_type;
-          around = cut-tail (shaped frozen v.shape.sort) refl;
-          rows = needless v.shape.sort v.column.rows (rows-stored v.shape.sort v.column.held v.column.rows is.rows);
+          around = cut-tail (shaped frozen v.shape.value_kind) refl;
+          rows = needless v.shape.value_kind v.column.rows (rows-stored v.shape.value_kind v.column.held v.column.rows is.rows);
           unmasked = λ alone. absurd (true≢false (sym alone));
         }
 
     pub thawed-is : IsValue c (thawed_value v)
-    thawed-is = record { right_type = is.right_type; around = cut-tail (shaped with_nulls v.shape.sort) refl; rows = is.rows; unmasked = λ alone. absurd (true≢false (sym alone)) }
+    thawed-is = record { right_type = is.right_type; around = cut-tail (shaped with_nulls v.shape.value_kind) refl; rows = is.rows; unmasked = λ alone. absurd (true≢false (sym alone)) }
 
-    pub nullable-is : is_values_alone v.shape ≡ true → IsValue c (let it : Value T = record { shape = shaped with_nulls v.shape.sort; column = v.column } in it)
+    pub nullable-is : is_values_alone v.shape ≡ true → IsValue c (let it : Value T = record { shape = shaped with_nulls v.shape.value_kind; column = v.column } in it)
     nullable-is alone = record {
       right_type = is.right_type;
-      around = record { plain = λ plain. is.around.plain plain; no_tail = λ builder. is.around.no_tail (alone-builder v.shape.group v.shape.sort alone) };
+      around = record { plain = λ plain. is.around.plain plain; no_tail = λ builder. is.around.no_tail (alone-builder v.shape.group v.shape.value_kind alone) };
       rows = is.rows;
       unmasked = λ other. absurd (true≢false (sym other));
     }
 
     -- a cut: items become part of what lies around, which have no bytes where there is nothing around
-    no-bytes : is_pieces v.shape ≡ false → All (λ (x : List ℕ). x ≡ []) (map bytes_in (stored_values v.column))
-    no-bytes plain = All-map (λ (x : List ℕ). x ≡ []) bytes_in (stored_values v.column) (All-weaker (IsStored v.shape.sort) (λ x. bytes_in x ≡ []) (λ x stored. bare-bytes v.shape.sort plain x stored) (stored_values v.column) stored-all)
+    no-bytes : is_var_binary v.shape ≡ false → All (λ (x : List ℕ). x ≡ []) (map bytes_in (stored_values v.column))
+    no-bytes plain = All-map (λ (x : List ℕ). x ≡ []) bytes_in (stored_values v.column) (All-weaker (IsStored v.shape.value_kind) (λ x. bytes_in x ≡ []) (λ x stored. bare-bytes v.shape.value_kind plain x stored) (stored_values v.column) stored-all)
 
     pub cut-is : (a n : ℕ) → is_frozen v.shape ≡ true → IsValue c (cut_value v a n)
     cut-is a n array = record {
@@ -309,20 +309,20 @@ module _ {T : Type 0} (c : Types T) where
             around-again (v.column.around.lead ++ concat (take a items)) (concat (drop (a + n) items) ++ v.column.around.tail)
             (ap₂ (λ (a b : List ℕ). a ++ b) (ap (λ (around : Around). around.lead) none) (concat-none (take a items) (All-take (λ (x : List ℕ). x ≡ []) a items (no-bytes plain))))
             (ap₂ (λ (a b : List ℕ). a ++ b) (concat-none (drop (a + n) items) (All-drop (λ (x : List ℕ). x ≡ []) (a + n) items (no-bytes plain))) (ap (λ (around : Around). around.tail) none));
-        no_tail = λ builder. absurd (no-builder v.shape.group v.shape.sort array builder);
+        no_tail = λ builder. absurd (no-builder v.shape.group v.shape.value_kind array builder);
       };
-      rows = All-take (IsRow v.shape.sort v.column.held) n (drop a v.column.rows) (All-drop (IsRow v.shape.sort v.column.held) a v.column.rows is.rows);
+      rows = All-take (IsRow v.shape.value_kind v.column.held) n (drop a v.column.rows) (All-drop (IsRow v.shape.value_kind v.column.held) a v.column.rows is.rows);
       unmasked = is.unmasked;
     }
 
     -- some rows of an array, alone
-    pub alone-is : (rows : List (Row (Stored T))) → is_frozen v.shape ≡ true → All (IsRow v.shape.sort v.column.held) rows
+    pub alone-is : (rows : List (Row (Stored T))) → is_frozen v.shape ≡ true → All (IsRow v.shape.value_kind v.column.held) rows
         → IsValue c (with_column v (record v.column { around = nothing_around; rows = rows; held = not (list_all (λ (row : Row (Stored T)). row.1) rows) }))
     alone-is rows array all = record {
       right_type = is.right_type;
       around = nothing-around v.shape;
-      rows = needless v.shape.sort rows (rows-stored v.shape.sort v.column.held rows all);
-      unmasked = λ alone. absurd (true≢false (sym alone ∙ frozen-nulls v.shape.group v.shape.sort array));
+      rows = needless v.shape.value_kind rows (rows-stored v.shape.value_kind v.column.held rows all);
+      unmasked = λ alone. absurd (true≢false (sym alone ∙ frozen-nulls v.shape.group v.shape.value_kind array));
     }
 
   pub grown-is : (v : Value T) → IsValue c v → (xs : List (Option (Stored T))) → All (IsSlot v.shape) xs → IsValue c (grown c v xs)
@@ -333,13 +333,13 @@ module _ {T : Type 0} (c : Types T) where
   pub joined-is : (v w : Value T) → IsValue c v → IsValue c w → same_kind v.shape w.shape ≡ true
       → IsValue c (with_column v (record v.column { rows = v.column.rows ++ w.column.rows; held = v.column.held || w.column.held }))
   joined-is v w is other same =
-      let group = same-group v.shape.group w.shape.group (and-first (same_group v.shape.group w.shape.group) (same_sort v.shape.sort w.shape.sort) same) in
-      let sort = same-sort v.shape.sort w.shape.sort (and-second (same_group v.shape.group w.shape.group) (same_sort v.shape.sort w.shape.sort) same) in
+      let group = same-group v.shape.group w.shape.group (and-first (same_group v.shape.group w.shape.group) (same_value_kind v.shape.value_kind w.shape.value_kind) same) in
+      let value_kind = same-sort v.shape.value_kind w.shape.value_kind (and-second (same_group v.shape.group w.shape.group) (same_value_kind v.shape.value_kind w.shape.value_kind) same) in
       rows-is v is (v.column.held || w.column.held) (v.column.rows ++ w.column.rows)
-      (All-append (IsRow v.shape.sort (v.column.held || w.column.held)) v.column.rows w.column.rows
-      (held-rows v.shape.sort v.column.held (v.column.held || w.column.held) v.column.rows (or-first v.column.held w.column.held) is.rows)
-      (held-rows v.shape.sort w.column.held (v.column.held || w.column.held) w.column.rows (or-second v.column.held w.column.held) (subst (λ (sort : Sort). All (IsRow sort w.column.held) w.column.rows) (sym sort) other.rows)))
-      (λ alone. neither v.column.held w.column.held (is.unmasked alone) (other.unmasked (subst (λ (group : Group). is_values_alone (shaped group v.shape.sort) ≡ true) group alone)))
+      (All-append (IsRow v.shape.value_kind (v.column.held || w.column.held)) v.column.rows w.column.rows
+      (held-rows v.shape.value_kind v.column.held (v.column.held || w.column.held) v.column.rows (or-first v.column.held w.column.held) is.rows)
+      (held-rows v.shape.value_kind w.column.held (v.column.held || w.column.held) w.column.rows (or-second v.column.held w.column.held) (subst (λ (sort : ValueKind). All (IsRow sort w.column.held) w.column.rows) (sym sort) other.rows)))
+      (λ alone. neither v.column.held w.column.held (is.unmasked alone) (other.unmasked (subst (λ (group : Group). is_values_alone (shaped group v.shape.value_kind) ≡ true) group alone)))
     where
       or-first : (a b : Bool) → (a || b) ≡ false → a ≡ false
       or-first true b e = e
@@ -362,33 +362,33 @@ drop-all zero (x ∷ xs) e = absurd (omega (arith, e))
 drop-all (suc n) (x ∷ xs) e = drop-all n xs (omega (arith, e))
 
 module _ {T : Type 0} (c : Types T) where
-  items-stored : (text : Bool) (items : List (List ℕ)) → AreItems text items → All (IsStored {T = T} (pieces text)) (map (piece text) items)
-  items-stored true items are = All-map (IsStored {T = T} (pieces true)) (piece true) items (All-weaker IsWellFormed (λ item. IsStored {T = T} (pieces true) (piece true item)) (λ item is. record { of_sort = refl; text = is }) items are)
-  items-stored false items are = All-map (IsStored {T = T} (pieces false)) (piece false) items (λ k d within. record { of_sort = refl; text = tt })
+  items-stored : (text : Bool) (items : List (List ℕ)) → AreItems text items → All (IsStored {T = T} (var_binary text)) (map (bytes_item text) items)
+  items-stored true items are = All-map (IsStored {T = T} (var_binary true)) (bytes_item true) items (All-weaker IsWellFormed (λ item. IsStored {T = T} (var_binary true) (bytes_item true item)) (λ item is. record { of_value_kind = refl; text = is }) items are)
+  items-stored false items are = All-map (IsStored {T = T} (var_binary false)) (bytes_item false) items (λ k d within. record { of_value_kind = refl; text = tt })
 
   no-mask : (alone : Bool) (mask : Option Packed) → (not alone || is_none mask) ≡ true → alone ≡ true → is_some (option_map marks_in mask) ≡ false
   no-mask alone None bare so = refl
   no-mask true (Some p) bare so = absurd (true≢false (sym bare))
   no-mask false (Some p) bare so = absurd (true≢false (sym so))
 
-  plain-none : (group : Group) (text : Bool) → is_pieces (shaped group (pieces text)) ≡ false → ⊥
+  plain-none : (group : Group) (text : Bool) → is_var_binary (shaped group (var_binary text)) ≡ false → ⊥
   plain-none group true plain = true≢false plain
   plain-none group false plain = true≢false plain
 
   cut-is-value : (group : Group) (text : Bool) (t : LogicalType) (mask : Option Packed) (offsets held : List ℕ)
-      → IsRightType (layout c (pieces text)) t → AreItems text (items_of offsets held) → (is_builder (shaped group (pieces text)) ≡ true → last_of offsets ≡ length held)
-      → (not (is_values_alone (shaped group (pieces text))) || is_none mask) ≡ true
-      → IsValue c (made c (shaped group (pieces text)) t mask (around_of offsets held) (map (piece text) (items_of offsets held)))
+      → IsRightType (layout c (var_binary text)) t → AreItems text (items_of offsets held) → (is_builder (shaped group (var_binary text)) ≡ true → last_of offsets ≡ length held)
+      → (not (is_values_alone (shaped group (var_binary text))) || is_none mask) ≡ true
+      → IsValue c (made c (shaped group (var_binary text)) t mask (around_of offsets held) (map (bytes_item text) (items_of offsets held)))
   cut-is-value group text t mask offsets held right items end bare = record {
     right_type = right;
     around = record { plain = λ plain. absurd (plain-none group text plain); no_tail = λ builder. drop-all (last_of offsets) held (end builder) };
-    rows = masked (pieces text) (map (piece text) (items_of offsets held)) (option_map marks_in mask) (items-stored text (items_of offsets held) items);
-    unmasked = no-mask (is_values_alone (shaped group (pieces text))) mask bare;
+    rows = masked (var_binary text) (map (bytes_item text) (items_of offsets held)) (option_map marks_in mask) (items-stored text (items_of offsets held) items);
+    unmasked = no-mask (is_values_alone (shaped group (var_binary text))) mask bare;
   }
 
   pub pieces-is : (group : Group) (text : Bool) (t : LogicalType) (mask : Option Packed) (offsets held : List ℕ) → Passes (pieces_tests c group text t offsets held (option_map marks_in mask))
-      → (not (is_values_alone (shaped group (pieces text))) || is_none mask) ≡ true
-      → IsValue c (made c (shaped group (pieces text)) t mask (around_of offsets held) (map (piece text) (items_of offsets held)))
+      → (not (is_values_alone (shaped group (var_binary text))) || is_none mask) ≡ true
+      → IsValue c (made c (shaped group (var_binary text)) t mask (around_of offsets held) (map (bytes_item text) (items_of offsets held)))
   pieces-is frozen text t mask offsets held passed bare = cut-is-value frozen text t mask offsets held passed.1.1.1.0 passed.1.0 (λ builder. absurd (true≢false (sym builder))) bare
   pieces-is with_nulls text t mask offsets held passed bare = cut-is-value with_nulls text t mask offsets held passed.1.1.0 passed.1.0 (λ builder. passed.0) bare
   pieces-is values_alone text t mask offsets held passed bare = cut-is-value values_alone text t mask offsets held passed.1.1.0 passed.1.0 (λ builder. passed.0) bare

@@ -7,14 +7,14 @@ use Rattle.arrow_bytes.specs.Selection.{narrowing_overflows}
 use Rattle.arrow_model.specs.declared.reply.Reply.{Reply}
 use Rattle.arrow_model.specs.declared.command.BothCommand.{BothCommand}
 use Rattle.arrow_model.specs.declared.command.BothCommand.TheVariants as command
-use Rattle.arrow_model.specs.Kind.{is_frozen, is_pieces}
-use Rattle.arrow_model.specs.Answer.{Answer, told}
+use Rattle.arrow_model.specs.Kind.{is_frozen, is_var_binary}
+use Rattle.arrow_model.specs.Answer.{Answer, answer_of}
 use Rattle.arrow_model.specs.Value.{Value, Held, Types, types, default_type}
 use Rattle.arrow_model.specs.Request.{Request, asked}
-use Rattle.arrow_model.specs.Row.{Row, leaves, memory, given}
+use Rattle.arrow_model.specs.Row.{Row, leaves, memory, require_some}
 use Rattle.arrow_model.specs.Change.{with_column}
 use Rattle.arrow_model.specs.Chosen.{bytes_column}
-use Rattle.arrow_model.specs.Step.{IsStep, AtEntry, Puts, entry_at, unless_over}
+use Rattle.arrow_model.specs.Step.{IsStep, AtEntry, IntoEmpty, entry_at, unless_over}
 use Rattle.arrow_model.specs.Run.{Runs}
 
 -- both halves
@@ -47,17 +47,17 @@ wide_of (_ ∷ requests) = wide_of requests
 module _ {T : Type 0} where
   -- an array of bytes or text, where what stands in an entry is one
   abbrev pub items_in : Option (Value T) → Option (Value T)
-  items_in = option_and_then (λ (v : Value T). if is_frozen v.shape && is_pieces v.shape then Some v else None)
+  items_in = option_and_then (λ (v : Value T). if is_frozen v.shape && is_var_binary v.shape then Some v else None)
 
   -- the same slots and the same bytes around them, under the default type over other offsets
-  abbrev pub over : Types T → Value T → Value T
-  over c v = with_column v (with_type v.column (default_type c v.shape.sort))
+  abbrev pub with_offset_width : Types T → Value T → Value T
+  with_offset_width c v = with_column v (with_type v.column (default_type c v.shape.value_kind))
 
   abbrev pub Widens : Types T → Option (Value T) → Row T
-  Widens c from = given None (items_in from) (λ v. memory None (leaves (over c v)))
+  Widens c from = require_some None (items_in from) (λ v. memory None (leaves (with_offset_width c v)))
 
   abbrev pub Narrows : Types T → Option (Value T) → Row T
-  Narrows c from = given None (items_in from) (λ v. unless_over None (narrowing_overflows (bytes_column v.column)) (memory None (leaves (over c v))))
+  Narrows c from = require_some None (items_in from) (λ v. unless_over None (narrowing_overflows (bytes_column v.column)) (memory None (leaves (with_offset_width c v))))
 
 -- what is known of either width
 module _ {T : Type 0} (zero : T) (primitive : PrimitiveType) where
@@ -72,13 +72,13 @@ module _ {T : Type 0} (zero : T) (primitive : PrimitiveType) where
   IsBothStep old (narrow asks) reply new = IsStep narrow_types old.narrow asks reply new.narrow × (new.wide ≡ old.wide)
   IsBothStep old (wide asks) reply new = IsStep wide_types old.wide asks reply new.wide × (new.narrow ≡ old.narrow)
   IsBothStep old (widen e f) reply new =
-      AtEntry old.wide.entries f (Puts (Widens wide_types (entry_at old.narrow.entries e))) reply new.wide.entries
+      AtEntry old.wide.entries f (IntoEmpty (Widens wide_types (entry_at old.narrow.entries e))) reply new.wide.entries
       × (new.wide.cost ≡ old.wide.cost) × (new.narrow ≡ old.narrow)
   IsBothStep old (narrow_to e f) reply new =
-      AtEntry old.narrow.entries f (Puts (Narrows narrow_types (entry_at old.wide.entries e))) reply new.narrow.entries
+      AtEntry old.narrow.entries f (IntoEmpty (Narrows narrow_types (entry_at old.wide.entries e))) reply new.narrow.entries
       × (new.narrow.cost ≡ old.narrow.cost) × (new.wide ≡ old.wide)
 
   -- a list of commands, whose replies are appended to those that were there
   abbrev pub AppendsBothRun : Both T → List (BothCommand T) → List (Reply T) → List (Reply T) → Both T → Type 0
   AppendsBothRun tables commands before after new =
-      (replies : List (Reply T)) × (after ≡ before ++ replies) × Runs IsBothStep tables (map both_asked commands) (map told replies) new
+      (replies : List (Reply T)) × (after ≡ before ++ replies) × Runs IsBothStep tables (map both_asked commands) (map answer_of replies) new

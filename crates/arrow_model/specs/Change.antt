@@ -35,17 +35,17 @@ module _ {T : Type 0} where
   -- it was
   abbrev pub frozen_value : Value T → Value T
   frozen_value v = record {
-    shape = shaped frozen v.shape.sort;
+    shape = shaped frozen v.shape.value_kind;
     column = if is_boolean v.shape then without_tail v else without_needless_mask (without_tail v);
   }
 
   -- the builder of the same slots, with nothing behind them
   abbrev pub thawed_value : Value T → Value T
-  thawed_value v = record { shape = shaped with_nulls v.shape.sort; column = without_tail v }
+  thawed_value v = record { shape = shaped with_nulls v.shape.value_kind; column = without_tail v }
 
   -- the same slots in a builder with nulls, which holds no mask
   abbrev pub nullable_value : Value T → Value T
-  nullable_value v = record { shape = shaped with_nulls v.shape.sort; column = v.column }
+  nullable_value v = record { shape = shaped with_nulls v.shape.value_kind; column = v.column }
 
   -- all bytes, those around the slots too; and where each slot begins and ends in them
   abbrev pub all_bytes : Value T → List ℕ
@@ -57,15 +57,15 @@ module _ {T : Type 0} where
   module _ (c : Types T) where
     -- a value of this kind with no slot and no mask
     abbrev pub empty_value : Shape → Value T
-    empty_value s = record { shape = s; column = column_with (default_type c s.sort) nothing_around [] None }
+    empty_value s = record { shape = s; column = column_with (default_type c s.value_kind) nothing_around [] None }
 
     -- the same, to which slots are to be appended: one of native values holds a mask from the first
     abbrev pub slots_start : Shape → Value T
-    slots_start s = with_column (empty_value s) (column_with (default_type c s.sort) nothing_around [] (if is_native s then Some [] else None))
+    slots_start s = with_column (empty_value s) (column_with (default_type c s.value_kind) nothing_around [] (if is_native s then Some [] else None))
 
     -- what a null stores there
     abbrev pub null_in : Value T → Stored T
-    null_in v = default_item c v.shape.sort
+    null_in v = default_item c v.shape.value_kind
 
     -- these slots more
     abbrev pub grown : Value T → List (Option (Stored T)) → Value T

@@ -2,22 +2,22 @@
 use Rattle.std.specs.Prelude.{ℕ, Bool, true, false, List, [], length, replicate, reverse, Option, Some, None, option_map, string_bytes}
 use Rattle.arrow_model.specs.declared.item.Item.{Item}
 use Rattle.arrow_model.specs.declared.item.Item.TheVariants as item
-use Rattle.arrow_model.specs.declared.item.Named.{Named}
-use Rattle.arrow_model.specs.declared.item.Named.TheVariants as named
-use Rattle.arrow_model.specs.Kind.{Sort, native, boolean, pieces, same_sort}
+use Rattle.arrow_model.specs.declared.item.Change.{Change}
+use Rattle.arrow_model.specs.declared.item.Change.TheVariants as named
+use Rattle.arrow_model.specs.Kind.{ValueKind, native, boolean, var_binary, same_value_kind}
 
 -- what a slot stores
 pub data Stored (T : Type 0) : Type 0 where
   value : T → Stored T
   bit : Bool → Stored T
-  piece : (is_text : Bool) → List ℕ → Stored T
+  bytes_item : (is_text : Bool) → List ℕ → Stored T
 
 -- the stored item that an item is
 abbrev pub stored_item : {T : Type 0} → Item T → Stored T
 stored_item (item.Value x) = value x
 stored_item (item.Bit b) = bit b
-stored_item (item.Bytes v) = piece false v.items
-stored_item (item.Text s) = piece true (string_bytes s)
+stored_item (item.Bytes v) = bytes_item false v.items
+stored_item (item.Text s) = bytes_item true (string_bytes s)
 
 -- the same of a slot, which may be null
 abbrev pub stored_slot : {T : Type 0} → Option (Item T) → Option (Stored T)
@@ -27,49 +27,49 @@ stored_slot = option_map stored_item
 abbrev pub bytes_in : {T : Type 0} → Stored T → List ℕ
 bytes_in (value x) = []
 bytes_in (bit b) = []
-bytes_in (piece is_text bytes) = bytes
+bytes_in (bytes_item is_text bytes) = bytes
 
 -- whether it is one of bytes
 abbrev pub has_bytes : {T : Type 0} → Stored T → Bool
 has_bytes (value x) = false
 has_bytes (bit b) = false
-has_bytes (piece is_text bytes) = true
+has_bytes (bytes_item is_text bytes) = true
 
 -- its sort
-abbrev pub sort_of : {T : Type 0} → Stored T → Sort
-sort_of (value x) = native
-sort_of (bit b) = boolean
-sort_of (piece is_text bytes) = pieces is_text
+abbrev pub value_kind_of : {T : Type 0} → Stored T → ValueKind
+value_kind_of (value x) = native
+value_kind_of (bit b) = boolean
+value_kind_of (bytes_item is_text bytes) = var_binary is_text
 
 -- whether it is of a kind's sort
-abbrev pub fits : {T : Type 0} → Sort → Stored T → Bool
-fits sort x = same_sort sort (sort_of x)
+abbrev pub fits : {T : Type 0} → ValueKind → Stored T → Bool
+fits sort x = same_value_kind sort (value_kind_of x)
 
 -- a null fits wherever there are nulls
-abbrev pub slot_fits : {T : Type 0} → Sort → Option (Stored T) → Bool
+abbrev pub slot_fits : {T : Type 0} → ValueKind → Option (Stored T) → Bool
 slot_fits sort (Some x) = fits sort x
 slot_fits sort None = true
 
 -- a change of a list: every place gets the same, or the list is turned round
-pub data Change (S : Type 0) : Type 0 where
-  fill : S → Change S
-  turn : Change S
+pub data ListChange (S : Type 0) : Type 0 where
+  fill : S → ListChange S
+  turn : ListChange S
 
-abbrev pub changed : {S : Type 0} → Change S → List S → List S
+abbrev pub changed : {S : Type 0} → ListChange S → List S → List S
 changed (fill x) xs = replicate (length xs) x
 changed turn xs = reverse xs
 
-abbrev pub change_of : {T : Type 0} → Named T → Change (Stored T)
+abbrev pub change_of : {T : Type 0} → Change T → ListChange (Stored T)
 change_of (named.Fill x) = fill (stored_item x)
 change_of named.Reverse = turn
 
 -- whether what fills is of a kind's sort
-abbrev pub change_fits : {T : Type 0} → Sort → Change (Stored T) → Bool
+abbrev pub change_fits : {T : Type 0} → ValueKind → ListChange (Stored T) → Bool
 change_fits sort (fill x) = fits sort x
 change_fits sort turn = true
 
 -- the same change of marks, where what fills is a truth value
-abbrev pub change_of_marks : {T : Type 0} → Change (Stored T) → Option (Change Bool)
+abbrev pub change_of_marks : {T : Type 0} → ListChange (Stored T) → Option (ListChange Bool)
 change_of_marks (fill (bit b)) = Some (fill b)
 change_of_marks turn = Some turn
 change_of_marks _ = None

@@ -8,29 +8,29 @@ pub data Group : Type 0 where
   frozen with_nulls values_alone : Group
 
 -- what the slots store: native values, truth values, or bytes, which have to be text or may be any
-pub data Sort : Type 0 where
-  native boolean : Sort
-  pieces : (is_text : Bool) → Sort
+pub data ValueKind : Type 0 where
+  native boolean : ValueKind
+  var_binary : (is_text : Bool) → ValueKind
 
 -- a kind is both
 pub record Shape : Type 0 where
   pub group : Group
-  pub sort : Sort
+  pub value_kind : ValueKind
 
-abbrev pub shaped : Group → Sort → Shape
-shaped group sort = record { group = group; sort = sort }
+abbrev pub shaped : Group → ValueKind → Shape
+shaped group value_kind = record { group = group; value_kind = sort }
 
 abbrev pub shape : Kind → Shape
 shape kind.Primitive = shaped frozen native
 shape kind.Boolean = shaped frozen boolean
-shape kind.Binary = shaped frozen (pieces false)
-shape kind.Utf8 = shaped frozen (pieces true)
+shape kind.Binary = shaped frozen (var_binary false)
+shape kind.Utf8 = shaped frozen (var_binary true)
 shape kind.MutablePrimitive = shaped with_nulls native
 shape kind.MutableBoolean = shaped with_nulls boolean
-shape kind.MutableBinary = shaped with_nulls (pieces false)
-shape kind.MutableUtf8 = shaped with_nulls (pieces true)
-shape kind.BinaryValues = shaped values_alone (pieces false)
-shape kind.Utf8Values = shaped values_alone (pieces true)
+shape kind.MutableBinary = shaped with_nulls (var_binary false)
+shape kind.MutableUtf8 = shaped with_nulls (var_binary true)
+shape kind.BinaryValues = shaped values_alone (var_binary false)
+shape kind.Utf8Values = shaped values_alone (var_binary true)
 
 -- whether two groups are the same, and two sorts
 abbrev pub same_group : Group → Group → Bool
@@ -39,15 +39,15 @@ same_group with_nulls with_nulls = true
 same_group values_alone values_alone = true
 same_group _ _ = false
 
-abbrev pub same_sort : Sort → Sort → Bool
-same_sort native native = true
-same_sort boolean boolean = true
-same_sort (pieces true) (pieces true) = true
-same_sort (pieces false) (pieces false) = true
-same_sort _ _ = false
+abbrev pub same_value_kind : ValueKind → ValueKind → Bool
+same_value_kind native native = true
+same_value_kind boolean boolean = true
+same_value_kind (var_binary true) (var_binary true) = true
+same_value_kind (var_binary false) (var_binary false) = true
+same_value_kind _ _ = false
 
 abbrev pub same_kind : Shape → Shape → Bool
-same_kind s t = same_group s.group t.group && same_sort s.sort t.sort
+same_kind s t = same_group s.group t.group && same_value_kind s.value_kind t.value_kind
 
 -- kinds that commands are for
 abbrev pub any_kind : Shape → Bool
@@ -66,13 +66,13 @@ abbrev pub is_builder : Shape → Bool
 is_builder s = is_nullable s || is_values_alone s
 
 abbrev pub is_native : Shape → Bool
-is_native s = same_sort s.sort native
+is_native s = same_value_kind s.value_kind native
 
 abbrev pub is_boolean : Shape → Bool
-is_boolean s = same_sort s.sort boolean
+is_boolean s = same_value_kind s.value_kind boolean
 
-abbrev pub is_pieces : Shape → Bool
-is_pieces s = not (is_native s || is_boolean s)
+abbrev pub is_var_binary : Shape → Bool
+is_var_binary s = not (is_native s || is_boolean s)
 
 abbrev pub is_text : Shape → Bool
-is_text s = same_sort s.sort (pieces true)
+is_text s = same_value_kind s.value_kind (var_binary true)

@@ -13,19 +13,19 @@ use Rattle.arrow_bytes.specs.Kinds.{Costs, BuilderCosts, wrong_binary_type, wron
 use Rattle.arrow_bytes.specs.Acceptance as byte_array
 use Rattle.arrow_primitive.specs.Fits as primitive
 use Rattle.arrow_boolean.specs.Fits as truth
-use Rattle.arrow_model.specs.Kind.{Group, frozen, with_nulls, values_alone, Sort, native, boolean, pieces, Shape, is_frozen, is_values_alone, is_native, is_boolean, is_pieces, is_text}
-use Rattle.arrow_model.specs.Item.{Stored, value, bit, piece}
-use Rattle.arrow_model.specs.Request.{Packed, Given, values, packed, cut_pieces}
+use Rattle.arrow_model.specs.Kind.{Group, frozen, with_nulls, values_alone, ValueKind, native, boolean, var_binary, Shape, is_frozen, is_values_alone, is_native, is_boolean, is_var_binary, is_text}
+use Rattle.arrow_model.specs.Item.{Stored, value, bit, bytes_item}
+use Rattle.arrow_model.specs.Request.{Packed, RawValues, values, packed, cut_pieces}
 use Rattle.arrow_model.specs.Answer.{Answer, refused, is_memory, is_not_met}
 use Rattle.arrow_model.specs.Value.{Value, Types, layout}
 use Rattle.arrow_model.specs.Row.{Row, leaves, memory, answers, where_true}
 
 -- the refusal of a type that is not right
-abbrev pub wrong_type : Sort → Bool → Refusal
+abbrev pub wrong_type : ValueKind → Bool → Refusal
 wrong_type native is_frozen = primitive.wrong_type
 wrong_type boolean is_frozen = if is_frozen then truth.wrong_type else truth.wrong_builder_type
-wrong_type (pieces false) is_frozen = if is_frozen then wrong_binary_type else wrong_binary_builder_type
-wrong_type (pieces true) is_frozen = if is_frozen then wrong_text_type else wrong_text_builder_type
+wrong_type (var_binary false) is_frozen = if is_frozen then wrong_binary_type else wrong_binary_builder_type
+wrong_type (var_binary true) is_frozen = if is_frozen then wrong_text_type else wrong_text_builder_type
 
 -- bits lie within their bytes; and the marks that they are
 abbrev pub BitsFit : Packed → Type 0
@@ -54,9 +54,9 @@ boolean_tests values_alone = truth.builder_tests
 
 module _ {T : Type 0} (c : Types T) where
   abbrev pub pieces_tests : Group → Bool → LogicalType → List ℕ → List ℕ → Option (List Bool) → Tests
-  pieces_tests frozen text = byte_array.array_tests text (layout c (pieces text)) (wrong_type (pieces text) true)
-  pieces_tests with_nulls text = byte_array.builder_tests text (layout c (pieces text)) (wrong_type (pieces text) false)
-  pieces_tests values_alone text = λ t offsets held mask. byte_array.values_builder_tests text (layout c (pieces text)) (wrong_type (pieces text) false) t offsets held
+  pieces_tests frozen text = byte_array.array_tests text (layout c (var_binary text)) (wrong_type (var_binary text) true)
+  pieces_tests with_nulls text = byte_array.builder_tests text (layout c (var_binary text)) (wrong_type (var_binary text) false)
+  pieces_tests values_alone text = λ t offsets held mask. byte_array.values_builder_tests text (layout c (var_binary text)) (wrong_type (var_binary text) false) t offsets held
 
   module _ (s : Shape) (t : LogicalType) (mask : Option Packed) where
     -- the value that they make
@@ -64,7 +64,7 @@ module _ {T : Type 0} (c : Types T) where
     made around stored = record { shape = s; column = column_with t around stored (option_map marks_in mask) }
 
     -- raw stored values have to be of the kind's own sort, and a builder of values alone has no mask
-    abbrev pub PartsRow : Given T → Row T
+    abbrev pub PartsRow : RawValues T → Row T
     PartsRow (values xs) =
         where_true None (is_native s)
         (memory None (accepted (bits_test mask (primitive.parts_tests c.primitive t xs (option_map marks_in mask))) (made nothing_around (map value xs))))
@@ -73,9 +73,9 @@ module _ {T : Type 0} (c : Types T) where
         (memory None (accepted (bits_test (Some p) (bits_test mask (boolean_tests s.group t (marks_in p) (option_map marks_in mask)))) (made nothing_around (map bit (marks_in p)))))
     PartsRow (cut_pieces numbers held) =
         let offsets = map unsigned_abs numbers in
-        where_true None (is_pieces s && (not (is_values_alone s) || is_none mask))
+        where_true None (is_var_binary s && (not (is_values_alone s) || is_none mask))
         (memory None (accepted (offsets_test numbers (bits_test mask (pieces_tests s.group (is_text s) t offsets held (option_map marks_in mask))))
-        (made (around_of offsets held) (map (piece (is_text s)) (items_of offsets held)))))
+        (made (around_of offsets held) (map (bytes_item (is_text s)) (items_of offsets held)))))
 
 -- what parts that are cut out of bytes cost: nothing unless the command's condition held, memory was not wanting, and
 -- all vectors were taken

@@ -9,7 +9,7 @@ use Rattle.arrow_model.specs.declared.command.Parts.{Parts}
 use Rattle.arrow_model.specs.declared.command.Raw.{Raw}
 use Rattle.arrow_model.specs.declared.command.Raw.TheVariants as raw
 use Rattle.arrow_model.specs.Kind.{Shape, shape}
-use Rattle.arrow_model.specs.Item.{Stored, Change, stored_item, stored_slot, change_of}
+use Rattle.arrow_model.specs.Item.{Stored, ListChange, stored_item, stored_slot, change_of}
 
 -- packed bits: their bytes, and how many count
 pub record Packed : Type 0 where
@@ -17,16 +17,16 @@ pub record Packed : Type 0 where
   pub length : ℕ
 
 -- raw stored values: native values; packed bits; offsets and bytes
-pub data Given (T : Type 0) : Type 0 where
-  values : List T → Given T
-  packed : Packed → Given T
-  cut_pieces : List ℤ → List ℕ → Given T
+pub data RawValues (T : Type 0) : Type 0 where
+  values : List T → RawValues T
+  packed : Packed → RawValues T
+  cut_pieces : List ℤ → List ℕ → RawValues T
 
 -- what a new value is to be made of
 pub data Source (T : Type 0) : Type 0 where
   nothing : Source T
   nulls : LogicalType → ℕ → Source T
-  parts : LogicalType → Given T → Option Packed → Source T
+  parts : LogicalType → RawValues T → Option Packed → Source T
   slots : List (Option (Stored T)) → Source T
   items : List (Stored T) → Source T
 
@@ -37,7 +37,7 @@ pub data Ask (T : Type 0) : Type 0 where
   turns : List Turn → Ask T
   slice : ℕ → ℕ → Ask T
   set_mask : Option (List Bool) → Ask T
-  apply_mask apply_values : Change (Stored T) → Ask T
+  apply_mask apply_values : ListChange (Stored T) → Ask T
   set_values extend_values : List (Stored T) → Ask T
   set : ℕ → Option (Stored T) → Ask T
   write : ℕ → Stored T → Ask T
@@ -60,7 +60,7 @@ abbrev pub packed_bits : Bits → Packed
 packed_bits bits = record { bytes = bits.bytes.items; length = bits.length }
 
 module _ {T O : Type 0} (number : O → ℤ) where
-  abbrev pub given_by : Raw T O → Given T
+  abbrev pub given_by : Raw T O → RawValues T
   given_by (raw.Values xs) = values xs.items
   given_by (raw.Bits bits) = packed (packed_bits bits)
   given_by (raw.Pieces starts given_bytes) = cut_pieces (map number starts.items) given_bytes.items

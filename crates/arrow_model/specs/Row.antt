@@ -22,8 +22,8 @@ abbrev pub by_test : {T : Type 0} → Bool → Row T → Row T → Row T
 by_test test row other reply new = MatchBool test (row reply new) (other reply new)
 
 -- a free choice: such an answer may come too, and then this is left
-abbrev pub may : {T : Type 0} → (Answer T → Bool) → Option (Value T) → Row T → Row T
-may chosen kept row reply new = MatchBool (chosen reply) (new ≡ kept) (row reply new)
+abbrev pub or_else_keep : {T : Type 0} → (Answer T → Bool) → Option (Value T) → Row T → Row T
+or_else_keep chosen kept row reply new = MatchBool (chosen reply) (new ≡ kept) (row reply new)
 
 -- of an entry that was so before
 module _ {T : Type 0} (old : Option (Value T)) where
@@ -37,11 +37,11 @@ module _ {T : Type 0} (old : Option (Value T)) where
 
   -- memory may be wanting; the entry is then as before
   abbrev pub memory : Row T → Row T
-  memory = may is_memory old
+  memory = or_else_keep is_memory old
 
   -- the condition that something is there
-  abbrev pub given : {A : Type 0} → Option A → (A → Row T) → Row T
-  given found row reply new = MatchOption found (unmet reply new) (λ x. row x reply new)
+  abbrev pub require_some : {A : Type 0} → Option A → (A → Row T) → Row T
+  require_some found row reply new = MatchOption found (unmet reply new) (λ x. row x reply new)
 
   -- the condition that a test holds
   abbrev pub where_true : Bool → Row T → Row T
@@ -53,4 +53,4 @@ module _ {T : Type 0} (old : Option (Value T)) where
 
   -- the condition that an entry of such a kind is there, for a row of what it holds
   abbrev pub of_kind : (Shape → Bool) → (Value T → Row T) → Row T
-  of_kind test = given (option_and_then (λ (v : Value T). if test v.shape then Some v else None) old)
+  of_kind test = require_some (option_and_then (λ (v : Value T). if test v.shape then Some v else None) old)

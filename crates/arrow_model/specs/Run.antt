@@ -5,7 +5,7 @@ use Rattle.arrow_model.specs.declared.command.Command.{Command}
 use Rattle.arrow_model.specs.declared.reply.Reply.{Reply}
 use Rattle.arrow_model.specs.Kind.{is_text}
 use Rattle.arrow_model.specs.Request.{Request, asked, make, parts, cut_pieces}
-use Rattle.arrow_model.specs.Answer.{Answer, told}
+use Rattle.arrow_model.specs.Answer.{Answer, answer_of}
 use Rattle.arrow_model.specs.Value.{Held, Types}
 use Rattle.arrow_model.specs.Step.{IsStep}
 
@@ -24,7 +24,7 @@ module _ {T : Type 0} (c : Types T) where
   -- the replies of such a run are appended to those that were there
   abbrev pub AppendsRun : {O : Type 0} → (O → ℤ) → Held T → List (Command T O) → List (Reply T) → List (Reply T) → Held T → Type 0
   AppendsRun number table commands before after new =
-      (replies : List (Reply T)) × (after ≡ before ++ replies) × IsRun table (map (asked number) commands) (map told replies) new
+      (replies : List (Reply T)) × (after ≡ before ++ replies) × IsRun table (map (asked number) commands) (map answer_of replies) new
 
 -- only raw parts are tested
 abbrev pub is_parts : {T : Type 0} → Request T → Bool

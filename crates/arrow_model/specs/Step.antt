@@ -1,5 +1,5 @@
--- What each command does to the entry that it names, and what it answers. What is freely chosen stands behind `may`,
--- and behind `memory` that want of memory may be the answer.
+-- What each command does to the entry that it names, and what it answers. What is freely chosen stands behind
+-- `or_else_keep`, and behind `memory` that the answer may be out of memory.
 use Rattle.std.specs.Prelude.{◌≡◌, ◌↔◌, ℕ, ℤ, ◌-◌, ◌==◌, ◌<◌, Bool, true, false, not, ◌&&◌, ◌||◌, nat_le, nat_lt, nat_eq, List, [], ◌∷◌, length, map, take, replicate, count_by, find, is_none, is_some, Option, Some, None, option_and_then, MatchOption, MatchBool, IsTrue, slice_get, slice_set, if◌then◌else◌}
 use Rattle.std.specs.List.{list_all}
 use Rattle.std.specs.Option.{option_map_or}
@@ -9,14 +9,14 @@ use Rattle.arrow_check.specs.Indexes.{in_bounds, key_refusal}
 use Rattle.arrow_check.specs.Reading.{Cost}
 use Rattle.arrow_bytes.specs.Pieces.{Around, nothing_around}
 use Rattle.arrow_bytes.specs.Selection.{filtered, taken, first_out_of_bounds, taking_overflows}
-use Rattle.arrow_model.specs.Kind.{Shape, any_kind, is_frozen, is_nullable, is_values_alone, is_builder, is_native, is_boolean, is_pieces, is_text, same_kind}
-use Rattle.arrow_model.specs.Item.{Stored, piece, bytes_in, fits, slot_fits, changed, change_fits, change_of_marks}
+use Rattle.arrow_model.specs.Kind.{Shape, any_kind, is_frozen, is_nullable, is_values_alone, is_builder, is_native, is_boolean, is_var_binary, is_text, same_kind}
+use Rattle.arrow_model.specs.Item.{Stored, bytes_item, bytes_in, fits, slot_fits, changed, change_fits, change_of_marks}
 use Rattle.arrow_model.specs.Request.{Source, Ask, Request, make, at, clone_to, extend_from, equal, filter_to, take_to, check_indexes, cut_pieces}
 use Rattle.arrow_model.specs.Request as ask
 use Rattle.arrow_model.specs.Answer.{Answer, done, not_met, number, flag, numbers, typed, right, refused, is_memory, is_not_given, is_left}
 use Rattle.arrow_model.specs.Answer as answer
 use Rattle.arrow_model.specs.Value.{Value, State, Held, Types, default_item, layout}
-use Rattle.arrow_model.specs.Row.{Row, gives, leaves, may, memory, answers, given, where_true, provided, of_kind, by_test}
+use Rattle.arrow_model.specs.Row.{Row, gives, leaves, or_else_keep, memory, answers, require_some, where_true, provided, of_kind, by_test}
 use Rattle.arrow_model.specs.Parts.{PartsRow, PartsCost}
 use Rattle.arrow_model.specs.Change.{turns_of, with_column, cut_value, frozen_value, thawed_value, nullable_value, empty_value, slots_start, all_bytes, all_offsets, null_in, grown, slot_over, join_over, fitting}
 use Rattle.arrow_model.specs.Chosen.{bytes_column, array_in, filter_in}
@@ -47,12 +47,12 @@ module _ {T : Type 0} (c : Types T) where
   abbrev pub Makes : Shape → Source T → Row T
   Makes s ask.nothing = memory None (leaves (empty_value c s))
   Makes s (ask.nulls t n) =
-      let column = column_with t nothing_around (replicate n (default_item c s.sort)) (Some (replicate n false)) in
-      where_true None (is_frozen s) (provided None (IsRightType (layout c s.sort) t) (memory None (leaves (with_column (empty_value c s) column))))
+      let column = column_with t nothing_around (replicate n (default_item c s.value_kind)) (Some (replicate n false)) in
+      where_true None (is_frozen s) (provided None (IsRightType (layout c s.value_kind) t) (memory None (leaves (with_column (empty_value c s) column))))
   Makes s (ask.parts t raw mask) = PartsRow c s t mask raw
   Makes s (ask.slots slots) =
-      where_true None (not (is_values_alone s) && list_all (slot_fits s.sort) slots) (Filled (slots_start c s) slots (λ v. if is_frozen s then frozen_value v else v))
-  Makes s (ask.items items) = where_true None (list_all (fits s.sort) items) (Filled (empty_value c s) (map Some items) (λ v. v))
+      where_true None (not (is_values_alone s) && list_all (slot_fits s.value_kind) slots) (Filled (slots_start c s) slots (λ v. if is_frozen s then frozen_value v else v))
+  Makes s (ask.items items) = where_true None (list_all (fits s.value_kind) items) (Filled (empty_value c s) (map Some items) (λ v. v))
 
   -- slots that are appended as far as they can be: all before the first that is more than offsets can tell the end of;
   -- where memory is wanting for one of these, the ones before it
@@ -66,7 +66,7 @@ module _ {T : Type 0} (c : Types T) where
   module _ (old : Option (Value T)) where
     infixl 10 ◌>>=◌ ◌>>◌
     abbrev ◌>>=◌ : {A : Type 0} → Option A → (A → Row T) → Row T
-    found >>= row = given old found row
+    found >>= row = require_some old found row
 
     abbrev ◌>>◌ : Bool → Row T → Row T
     test >> row = where_true old test row
@@ -77,7 +77,7 @@ module _ {T : Type 0} (c : Types T) where
 
     -- an item is answered: where it is one of bytes, memory may be wanting
     abbrev pub copied : Value T → Row T → Row T
-    copied v row reply new = MatchBool (is_pieces v.shape) (memory old row reply new) (row reply new)
+    copied v row reply new = MatchBool (is_var_binary v.shape) (memory old row reply new) (row reply new)
 
     -- another column, unless memory is wanting
     abbrev pub becomes : Value T → ColumnWith Around (Stored T) → Row T
@@ -97,8 +97,8 @@ module _ {T : Type 0} (c : Types T) where
         on any_kind (λ v. memory old (tells (answer.slots (turns_of turns (stored_values v.column)))))
     effect ask.type_of = on any_kind (λ v. memory old (tells (typed v.column.data_type)))
     effect ask.held = on any_kind (λ v. tells (flag v.column.held))
-    effect ask.bytes = on is_pieces (λ v. memory old (tells (answer.slot (Some (piece false (all_bytes v))))))
-    effect ask.offsets = on is_pieces (λ v. memory old (tells (numbers (all_offsets v))))
+    effect ask.bytes = on is_var_binary (λ v. memory old (tells (answer.slot (Some (bytes_item false (all_bytes v))))))
+    effect ask.offsets = on is_var_binary (λ v. memory old (tells (numbers (all_offsets v))))
     effect (ask.slice a n) =
         on is_frozen (λ v.
         (nat_le a (length v.column.rows) && nat_le n (length v.column.rows - a)) >> leaves (cut_value v a n))
@@ -108,28 +108,28 @@ module _ {T : Type 0} (c : Types T) where
         option_map_or (λ marks. nat_eq (length marks) (length v.column.rows)) mask true >>
         becomes v (with_mask v.column mask))
     effect (ask.apply_mask change) =
-        on (λ s. is_frozen s || (is_nullable s && is_pieces s)) (λ v.
+        on (λ s. is_frozen s || (is_nullable s && is_var_binary s)) (λ v.
         change_of_marks change >>= (λ of_marks.
         by_test v.column.held (becomes v (with_mask v.column (Some (changed of_marks (marks_of v.column))))) (leaves v)))
     effect (ask.set_values items) =
         on (λ s. is_native s || (is_boolean s && is_frozen s)) (λ v.
-        (nat_eq (length items) (length v.column.rows) && list_all (fits v.shape.sort) items) >>
+        (nat_eq (length items) (length v.column.rows) && list_all (fits v.shape.value_kind) items) >>
         becomes v (with_stored v.column items))
     effect (ask.apply_values change) =
         on (λ s. (is_native s && is_nullable s) || (is_boolean s && is_frozen s)) (λ v.
-        change_fits v.shape.sort change >> becomes v (with_stored v.column (changed change (stored_values v.column))))
+        change_fits v.shape.value_kind change >> becomes v (with_stored v.column (changed change (stored_values v.column))))
     effect (ask.set i x) =
-        on (λ s. is_nullable s && not (is_pieces s)) (λ v.
-        (nat_lt i (length v.column.rows) && slot_fits v.shape.sort x) >>
+        on (λ s. is_nullable s && not (is_var_binary s)) (λ v.
+        (nat_lt i (length v.column.rows) && slot_fits v.shape.value_kind x) >>
         becomes v (with_slot (null_in c v) v.column i x))
     effect (ask.write i x) =
         on is_native (λ v.
-        (nat_lt i (length v.column.rows) && fits v.shape.sort x) >>
-        may (λ reply. is_frozen v.shape && is_not_given reply) old
+        (nat_lt i (length v.column.rows) && fits v.shape.value_kind x) >>
+        or_else_keep (λ reply. is_frozen v.shape && is_not_given reply) old
         (leaves (with_column v (with_stored v.column (slice_set (stored_values v.column) i x)))))
     effect (ask.push x) =
         on is_builder (λ v.
-        (slot_fits v.shape.sort x && (is_nullable v.shape || not (is_none x))) >>
+        (slot_fits v.shape.value_kind x && (is_nullable v.shape || not (is_none x))) >>
         unless_over old (slot_over c v x) (memory old (leaves (grown c v (x ∷ [])))))
     effect ask.push_null =
         on is_builder (λ v.
@@ -138,20 +138,20 @@ module _ {T : Type 0} (c : Types T) where
         on is_builder (λ v.
         let popped : Row T = gives (answer.slot (last_slot v.column)) (Some (with_column v (without_last v.column))) in
         by_test (is_some (last_slot v.column)) (copied v popped) popped)
-    effect (ask.extend slots) = on is_nullable (λ v. list_all (slot_fits v.shape.sort) slots >> Extends v slots)
+    effect (ask.extend slots) = on is_nullable (λ v. list_all (slot_fits v.shape.value_kind) slots >> Extends v slots)
     effect (ask.extend_values items) =
-        on is_builder (λ v. list_all (fits v.shape.sort) items >> Extends v (map Some items))
+        on is_builder (λ v. list_all (fits v.shape.value_kind) items >> Extends v (map Some items))
     effect (ask.extend_constant n x) =
         on (λ s. is_native s && is_nullable s) (λ v.
-        slot_fits v.shape.sort x >>
+        slot_fits v.shape.value_kind x >>
         becomes v (option_map_or (λ given. append_values v.column (replicate n given)) x (append_nulls v.column (replicate n (null_in c v)))))
     effect ask.reserve = on is_builder (λ v. memory old (leaves v))
     effect ask.shrink = on is_builder (λ v. memory old (leaves v))
-    effect ask.freeze = on is_builder (λ v. may is_memory None (leaves (frozen_value v)))
-    effect ask.thaw = on is_frozen (λ v. may is_left old (gives right (Some (thawed_value v))))
+    effect ask.freeze = on is_builder (λ v. or_else_keep is_memory None (leaves (frozen_value v)))
+    effect ask.thaw = on is_frozen (λ v. or_else_keep is_left old (gives right (Some (thawed_value v))))
     effect ask.nullable = on is_values_alone (λ v. leaves (nullable_value v))
     effect (ask.to t) =
-        on is_native (λ v. provided old (IsRightType (layout c v.shape.sort) t) (becomes v (with_type v.column t)))
+        on is_native (λ v. provided old (IsRightType (layout c v.shape.value_kind) t) (becomes v (with_type v.column t)))
 
     abbrev pub Does : Ask T → Row T
     Does asked = of_kind old (effect asked).kinds (effect asked).row
@@ -173,7 +173,7 @@ module _ {T : Type 0} (old : Option (Value T)) where
       (same : Bool) × (IsTrue same ↔ slots_of v.column ≡ slots_of w.column) × answers old (flag same) reply new)
 
   abbrev pub Compares_to : Option (Value T) → Row T
-  Compares_to other = of_kind old is_nullable (λ v. given old other (Compares v))
+  Compares_to other = of_kind old is_nullable (λ v. require_some old other (Compares v))
 
 -- an array that kernels make of another, where it is to stand alone: of the rows for which a filter of as many slots
 -- asks; or of the rows at the places of keys, all of which are looked at, and their items' lengths, before memory is asked
@@ -190,18 +190,18 @@ module _ {T : Type 0} where
       (λ key. answers None (refused (key_refusal key)) reply new)
 
   abbrev pub Filters : Option (Value T) → Option (Value T) → Row T
-  Filters from by = given None (filter_in by) (λ filter. given None (array_in from) (Filtered filter))
+  Filters from by = require_some None (filter_in by) (λ filter. require_some None (array_in from) (Filtered filter))
 
   abbrev pub Takes : ℕ → List ℤ → Option (Value T) → Row T
-  Takes most keys from = given None (array_in from) (Taken most keys)
+  Takes most keys from = require_some None (array_in from) (Taken most keys)
 
   -- the same once more, whatever it is
   abbrev pub Clones : Option (Value T) → Row T
-  Clones from = given None from (λ v. memory None (leaves v))
+  Clones from = require_some None from (λ v. memory None (leaves v))
 
   -- what is made so is put into an entry, which has to be empty
-  abbrev pub Puts : Row T → Option (Value T) → Row T
-  Puts row old = where_true old (is_none old) row
+  abbrev pub IntoEmpty : Row T → Option (Value T) → Row T
+  IntoEmpty row old = where_true old (is_none old) row
 
 -- what stands in an entry; nothing where it is empty or past the table
 abbrev pub entry_at : {T : Type 0} → State T → ℕ → Option (Value T)
@@ -219,13 +219,13 @@ AtEntry state e row reply new =
 
 -- what one command does to the entries
 abbrev pub Changes : {T : Type 0} → Types T → State T → Request T → Answer T → State T → Type 0
-Changes c state (make e s source) = AtEntry state e (Puts (Makes c s source))
+Changes c state (make e s source) = AtEntry state e (IntoEmpty (Makes c s source))
 Changes c state (at e asked) = AtEntry state e (λ old. Does c old asked)
-Changes c state (clone_to e f) = AtEntry state f (Puts (Clones (entry_at state e)))
+Changes c state (clone_to e f) = AtEntry state f (IntoEmpty (Clones (entry_at state e)))
 Changes c state (extend_from e f) = AtEntry state e (λ old. Joins_to c old (other_at state e f))
 Changes c state (equal e f) = AtEntry state e (λ old. Compares_to old (entry_at state f))
-Changes c state (filter_to e f g) = AtEntry state g (Puts (Filters (entry_at state e) (entry_at state f)))
-Changes c state (take_to e keys g) = AtEntry state g (Puts (Takes c.most keys (entry_at state e)))
+Changes c state (filter_to e f g) = AtEntry state g (IntoEmpty (Filters (entry_at state e) (entry_at state f)))
+Changes c state (take_to e keys g) = AtEntry state g (IntoEmpty (Takes c.most keys (entry_at state e)))
 Changes c state (check_indexes keys n) = λ reply new.
     (reply ≡ option_map_or (λ key. refused (key_refusal key)) (find (λ key. not (in_bounds n key)) keys) done) × (new ≡ state)
 

@@ -9,8 +9,8 @@ use Rattle.arrow_check.specs.Reading.{Cost}
 use Rattle.arrow_bytes.specs.Pieces.{Around}
 use Rattle.arrow_bytes.specs.Kinds.{binary_type, text_type, binary_layout, text_layout}
 use Rattle.arrow_boolean.specs.Fits.{boolean_type}
-use Rattle.arrow_model.specs.Kind.{Sort, native, boolean, pieces, Shape}
-use Rattle.arrow_model.specs.Item.{Stored, value, bit, piece}
+use Rattle.arrow_model.specs.Kind.{ValueKind, native, boolean, var_binary, Shape}
+use Rattle.arrow_model.specs.Item.{Stored, value, bit, bytes_item}
 
 -- a value: its kind; and its type, lead and tail, rows, and whether a mask is held
 pub record Value (T : Type 0) : Type 0 where
@@ -38,21 +38,21 @@ abbrev pub types : {T : Type 0} → T → PrimitiveType → ℕ → Bool → Typ
 types zero primitive most large = record { zero = zero; primitive = primitive; most = most; large = large }
 
 -- the type of an array or a builder unless another is given
-abbrev pub default_type : {T : Type 0} → Types T → Sort → LogicalType
+abbrev pub default_type : {T : Type 0} → Types T → ValueKind → LogicalType
 default_type c native = default_logical_type c.primitive
 default_type c boolean = boolean_type
-default_type c (pieces false) = binary_type c.large
-default_type c (pieces true) = text_type c.large
+default_type c (var_binary false) = binary_type c.large
+default_type c (var_binary true) = text_type c.large
 
 -- how its values lie in memory, as those of any right type do
-abbrev pub layout : {T : Type 0} → Types T → Sort → PhysicalType
+abbrev pub layout : {T : Type 0} → Types T → ValueKind → PhysicalType
 layout c native = physical.Primitive c.primitive
 layout c boolean = physical.Boolean
-layout c (pieces false) = binary_layout c.large
-layout c (pieces true) = text_layout c.large
+layout c (var_binary false) = binary_layout c.large
+layout c (var_binary true) = text_layout c.large
 
 -- what a null stores
-abbrev pub default_item : {T : Type 0} → Types T → Sort → Stored T
+abbrev pub default_item : {T : Type 0} → Types T → ValueKind → Stored T
 default_item c native = value c.zero
 default_item c boolean = bit false
-default_item c (pieces is_text) = piece is_text []
+default_item c (var_binary is_text) = bytes_item is_text []

@@ -7,18 +7,18 @@ use Rattle.arrow_bytes.specs.Pieces.{Around, nothing_around}
 use Rattle.arrow_check.specs.Utf8.{IsWellFormed}
 use Rattle.arrow_model.specs.Both.{BothRequest, narrow, wide, widen, narrow_to}
 use Rattle.arrow_model.specs.Value.{Value, State, Types, layout}
-use Rattle.arrow_model.specs.Item.{Stored, value, bit, piece, Change, fill, turn, fits}
-use Rattle.arrow_model.specs.Kind.{Sort, Shape, is_builder, is_pieces, is_values_alone}
+use Rattle.arrow_model.specs.Item.{Stored, value, bit, bytes_item, ListChange, fill, turn, fits}
+use Rattle.arrow_model.specs.Kind.{ValueKind, Shape, is_builder, is_var_binary, is_values_alone}
 use Rattle.arrow_model.specs.Request.{Ask, Request, Source, make, at, nothing, nulls, parts, slots, items}
 use Rattle.arrow_model.specs.Request as ask
 
 -- a kind that there is: only bytes and texts have builders of values alone
 abbrev pub IsKind : Shape → Type 0
-IsKind s = is_values_alone s ≡ true → is_pieces s ≡ true
+IsKind s = is_values_alone s ≡ true → is_var_binary s ≡ true
 
 -- what lies around the slots: nothing unless they store bytes, and behind those of a builder nothing
 pub record IsAround (s : Shape) (around : Around) : Type 0 where
-  pub plain : is_pieces s ≡ false → around ≡ nothing_around
+  pub plain : is_var_binary s ≡ false → around ≡ nothing_around
   pub no_tail : is_builder s ≡ true → around.tail ≡ []
 
 module _ {T : Type 0} where
@@ -26,25 +26,25 @@ module _ {T : Type 0} where
   abbrev pub IsText : Stored T → Type 0
   IsText (value x) = ⊤
   IsText (bit b) = ⊤
-  IsText (piece false bytes) = ⊤
-  IsText (piece true bytes) = IsWellFormed bytes
+  IsText (bytes_item false bytes) = ⊤
+  IsText (bytes_item true bytes) = IsWellFormed bytes
 
   -- it is of this sort, too
-  pub record IsStored (sort : Sort) (x : Stored T) : Type 0 where
-    pub of_sort : fits sort x ≡ true
+  pub record IsStored (sort : ValueKind) (x : Stored T) : Type 0 where
+    pub of_value_kind : fits sort x ≡ true
     pub text : IsText x
 
   -- a row of a column: where no mask is held its mark is set
-  pub record IsRow (sort : Sort) (held : Bool) (row : Row (Stored T)) : Type 0 where
+  pub record IsRow (sort : ValueKind) (held : Bool) (row : Row (Stored T)) : Type 0 where
     pub stored : IsStored sort row.0
     pub marked : held ≡ false → row.1 ≡ true
 
   -- a value: its type is right for its kind, its rows store what is of its kind's sort, and a builder of values alone holds no
   -- mask
   pub record IsValue (c : Types T) (v : Value T) : Type 0 where
-    pub right_type : IsRightType (layout c v.shape.sort) v.column.data_type
+    pub right_type : IsRightType (layout c v.shape.value_kind) v.column.data_type
     pub around : IsAround v.shape v.column.around
-    pub rows : All (IsRow v.shape.sort v.column.held) v.column.rows
+    pub rows : All (IsRow v.shape.value_kind v.column.held) v.column.rows
     pub unmasked : is_values_alone v.shape ≡ true → v.column.held ≡ false
 
   -- each entry is empty or holds a value
@@ -55,7 +55,7 @@ module _ {T : Type 0} where
   abbrev pub IsTextSlot : Option (Stored T) → Type 0
   IsTextSlot x = IfSome x IsText
 
-  abbrev pub IsTextChange : Change (Stored T) → Type 0
+  abbrev pub IsTextChange : ListChange (Stored T) → Type 0
   IsTextChange (fill x) = IsText x
   IsTextChange turn = ⊤
 

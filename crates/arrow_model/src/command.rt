@@ -1,5 +1,5 @@
 //! What can be asked of a table.
-use crate::item::{Item, Named, Turn};
+use crate::item::{Change, Item, Turn};
 use crate::kind::Kind;
 use arrow_types::data_type::DataType;
 
@@ -39,15 +39,15 @@ pub struct Parts<T, O> {
 /// A command; its first number is the entry that it is about.
 #[derive(Drop)]
 pub enum Command<T, O> {
-    /// Puts an empty array or builder into an empty entry.
+    /// IntoEmpty an empty array or builder into an empty entry.
     New(usize, Kind),
-    /// Puts an array of so many nulls into an empty entry.
+    /// IntoEmpty an array of so many nulls into an empty entry.
     NewNull(usize, Kind, DataType, usize),
-    /// Puts what raw parts make into an empty entry.
+    /// IntoEmpty what raw parts make into an empty entry.
     Parts(usize, Parts<T, O>),
-    /// Puts an array or a builder of these slots into an empty entry.
+    /// IntoEmpty an array or a builder of these slots into an empty entry.
     FromSlots(usize, Kind, Vec<Option<Item<T>>>),
-    /// Puts an array or a builder of these items into an empty entry.
+    /// IntoEmpty an array or a builder of these items into an empty entry.
     FromItems(usize, Kind, Vec<Item<T>>),
     /// The number of slots.
     Len(usize),
@@ -73,18 +73,18 @@ pub enum Command<T, O> {
     Offsets(usize),
     /// Keeps only the slots from a place on, so many of them.
     Slice(usize, usize, usize),
-    /// Puts a clone of the first entry into the second, which is empty.
+    /// IntoEmpty a clone of the first entry into the second, which is empty.
     Clone(usize, usize),
     /// Empties an entry.
     Drop(usize),
     /// Replaces the mask.
     SetMask(usize, Option<Vec<bool>>),
     /// Changes a held mask.
-    ApplyMask(usize, Named<T>),
+    ApplyMask(usize, Change<T>),
     /// Replaces the stored values.
     SetValues(usize, Vec<Item<T>>),
     /// Changes the stored values.
-    ApplyValues(usize, Named<T>),
+    ApplyValues(usize, Change<T>),
     /// Replaces a slot.
     Set(usize, usize, Option<Item<T>>),
     /// Writes a stored value.
@@ -117,9 +117,9 @@ pub enum Command<T, O> {
     To(usize, DataType),
     /// Whether two builders have the same slots.
     Equal(usize, usize),
-    /// Puts the rows of the first entry for which the second asks, as many truth values, into the third, which is empty.
+    /// IntoEmpty the rows of the first entry for which the second asks, as many truth values, into the third, which is empty.
     Filter(usize, usize, usize),
-    /// Puts the rows of the first entry at the places that keys tell into the second, which is empty.
+    /// IntoEmpty the rows of the first entry at the places that keys tell into the second, which is empty.
     Take(usize, Vec<i64>, usize),
     /// Whether keys are places below a length.
     CheckIndexes(Vec<i64>, usize),
@@ -132,8 +132,8 @@ pub enum BothCommand<T> {
     Narrow(Command<T, i32>),
     /// A command on the wide table.
     Wide(Command<T, i64>),
-    /// Puts the array of items of a narrow entry, over wide offsets, into a wide entry, which is empty.
+    /// IntoEmpty the array of items of a narrow entry, over wide offsets, into a wide entry, which is empty.
     Widen(usize, usize),
-    /// Puts the array of items of a wide entry, over narrow offsets, into a narrow entry, which is empty.
+    /// IntoEmpty the array of items of a wide entry, over narrow offsets, into a narrow entry, which is empty.
     NarrowTo(usize, usize),
 }

@@ -8,6 +8,6 @@ pub mod laws;
 mod reply;
 
 pub use command::{Bits, BothCommand, Command, Parts, Raw};
-pub use item::{Item, Named, Turn};
+pub use item::{Change, Item, Turn};
 pub use kind::Kind;
 pub use reply::Reply;

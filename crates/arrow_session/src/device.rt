@@ -34,19 +34,19 @@ impl From<AllocError> for Fault {
 /// interrupted returns nothing.
 fn read_piece<R: Read>(
     input: &mut Counted<R>,
-    piece: &mut [u8],
+    bytes_item: &mut [u8],
     bytes: &mut Vec<u8>,
 ) -> Result<bool, Fault>
-    requires { 0 < length piece.old }
+    requires { 0 < length bytes_item.old }
     ensures taken { IfOk result (λ is_end. Takes (R.remaining (inside input.old)) (R.remaining (inside input.new)) bytes.old.items bytes.new.items is_end) }
     ensures more { IfOk result (λ is_end. IsFalse is_end → fault_count input.old < 2 ^ 64 - 1 → fault_count input.new ≡ fault_count input.old → vec_len bytes.old < vec_len bytes.new) }
     ensures never_less { fault_count input.old ≤ fault_count input.new }
     ensures device { IsErrOf result Fault.Device → Rose (fault_count input.old) (fault_count input.new) }
 {
-    match input.read(piece) {
+    match input.read(bytes_item) {
         Ok(0) => Ok(true),
         Ok(count) => {
-            bytes.extend_from_slice(&piece[..count])?;
+            bytes.extend_from_slice(&bytes_item[..count])?;
             Ok(false)
         }
         Err(error) if error.kind() == ErrorKind::Interrupted => Ok(false),
@@ -56,7 +56,7 @@ fn read_piece<R: Read>(
 
 /// Returns a buffer of `len` bytes.
 fn room(alloc: Global, len: usize) -> Result<Vec<u8>, AllocError>
-    ensures { IfOk result (λ piece. vec_len piece ≡ len) }
+    ensures { IfOk result (λ bytes_item. vec_len bytes_item ≡ len) }
 {
     vec![in alloc; 0; len]
 }
@@ -66,10 +66,10 @@ pub(crate) fn read_all<R: Read>(alloc: Global, input: &mut Counted<R>) -> Result
     ensures whole { IfOk result (λ bytes. IsWhole (R.remaining (inside input.old)) (R.remaining (inside input.new)) bytes.items) }
     ensures device { IsErrOf result Fault.Device → Rose (fault_count input.old) (fault_count input.new) }
 {
-    let mut piece = room(alloc, PIECE)?;
+    let mut bytes_item = room(alloc, PIECE)?;
     let mut bytes = Vec::new(alloc);
     for _ in 0..u64::MAX {
-        if read_piece(input, &mut piece, &mut bytes)? {
+        if read_piece(input, &mut bytes_item, &mut bytes)? {
             return Ok(bytes);
         }
     }

@@ -7,7 +7,7 @@ use Rattle.arrow_model.specs.declared.command.BothCommand.{BothCommand}
 use Rattle.arrow_model.specs.declared.command.Command.{Command}
 use Rattle.arrow_model.specs.declared.reply.Reply.{Reply}
 use Rattle.arrow_model.specs.Request.{Request, asked}
-use Rattle.arrow_model.specs.Answer.{Answer, told}
+use Rattle.arrow_model.specs.Answer.{Answer, answer_of}
 use Rattle.arrow_model.specs.Value.{Held, Types}
 use Rattle.arrow_model.specs.Step.{IsStep}
 use Rattle.arrow_model.specs.Run.{Runs, IsRun, CostsAtMost, total, texts_of, inner_offsets_of}
@@ -77,10 +77,10 @@ module _ {S C A T : Type 0} (Step : S → C → A → S → Type 0) (cost : S �
 module _ {T O : Type 0} (c : Types T) (number : O → ℤ) where
   -- a step, and what it costs
   abbrev pub TableStep : Held T → Command T O → Reply T → Held T → Type 0
-  TableStep old command reply new = IsStep c old (asked number command) (told reply) new × CostsAtMost (asked number command ∷ []) old.cost new.cost
+  TableStep old command reply new = IsStep c old (asked number command) (answer_of reply) new × CostsAtMost (asked number command ∷ []) old.cost new.cost
 
-  pub table-runs : (s n : Held T) (cs : List (Command T O)) (rs : List (Reply T)) → Runs TableStep s cs rs n → IsRun c s (map (asked number) cs) (map told rs) n
-  table-runs = runs-by TableStep (IsStep c) (asked number) told (λ s n command r h. h.0)
+  pub table-runs : (s n : Held T) (cs : List (Command T O)) (rs : List (Reply T)) → Runs TableStep s cs rs n → IsRun c s (map (asked number) cs) (map answer_of rs) n
+  table-runs = runs-by TableStep (IsStep c) (asked number) answer_of (λ s n command r h. h.0)
 
   pub table-costs : (s n : Held T) (cs : List (Command T O)) (rs : List (Reply T)) → Runs TableStep s cs rs n → CostsAtMost (map (asked number) cs) s.cost n.cost
   table-costs = run-costs TableStep (λ s. s.cost) (map (asked number)) refl (λ command cs. refl) (λ s n command r h. h.1)
@@ -102,12 +102,12 @@ wide-joins (narrow_to e f) bs = refl
 module _ {T : Type 0} (zero : T) (primitive : PrimitiveType) where
   abbrev pub TablesStep : Both T → BothCommand T → Reply T → Both T → Type 0
   TablesStep old command reply new =
-      IsBothStep zero primitive old (both_asked command) (told reply) new
+      IsBothStep zero primitive old (both_asked command) (answer_of reply) new
       × CostsAtMost (narrow_of (both_asked command ∷ [])) old.narrow.cost new.narrow.cost
       × CostsAtMost (wide_of (both_asked command ∷ [])) old.wide.cost new.wide.cost
 
-  pub both-runs : (s n : Both T) (cs : List (BothCommand T)) (rs : List (Reply T)) → Runs TablesStep s cs rs n → Runs (IsBothStep zero primitive) s (map both_asked cs) (map told rs) n
-  both-runs = runs-by TablesStep (IsBothStep zero primitive) both_asked told (λ s n command r h. h.0)
+  pub both-runs : (s n : Both T) (cs : List (BothCommand T)) (rs : List (Reply T)) → Runs TablesStep s cs rs n → Runs (IsBothStep zero primitive) s (map both_asked cs) (map answer_of rs) n
+  both-runs = runs-by TablesStep (IsBothStep zero primitive) both_asked answer_of (λ s n command r h. h.0)
 
   pub narrow-costs : (s n : Both T) (cs : List (BothCommand T)) (rs : List (Reply T)) → Runs TablesStep s cs rs n → CostsAtMost (narrow_of (map both_asked cs)) s.narrow.cost n.narrow.cost
   narrow-costs = run-costs TablesStep (λ s. s.narrow.cost) (λ cs. narrow_of (map both_asked cs)) refl (λ command cs. narrow-joins (both_asked command) (map both_asked cs)) (λ s n command r h. h.1)

@@ -1,8 +1,8 @@
 //! Whether two builders with nulls have the same slots.
 ghost use Rattle.std.specs.Prelude.{◌≡◌, ◌↔◌, IsTrue, option_copied, option_map};
 ghost use Rattle.arrow_column.specs.Column.{slots_of};
-ghost use Rattle.arrow_entry.specs.Entry.{boolean_value, native_value, piece_value, state_of, value_of};
-ghost use Rattle.arrow_model.specs.Answer.{told};
+ghost use Rattle.arrow_entry.specs.Entry.{boolean_value, native_value, bytes_value, state_of, value_of};
+ghost use Rattle.arrow_model.specs.Answer.{answer_of};
 ghost use Rattle.arrow_model.specs.Kind.{with_nulls};
 ghost use Rattle.arrow_model.specs.Step.{AtEntry, Compares_to, entry_at};
 
@@ -41,8 +41,8 @@ fn same_items<T: NativeType, K: ByteKind, O: Offset>(
     first: &MutableByteArray<K, O>,
     second: &MutableByteArray<K, O>,
 ) -> bool
-    ensures { IsTrue result ↔ slots_of (piece_value {T = T} with_nulls K.is_text first.now).column
-        ≡ slots_of (piece_value {T = T} with_nulls K.is_text second.now).column }
+    ensures { IsTrue result ↔ slots_of (bytes_value {T = T} with_nulls K.is_text first.now).column
+        ≡ slots_of (bytes_value {T = T} with_nulls K.is_text second.now).column }
 {
     *first == *second
 }
@@ -53,7 +53,7 @@ fn compare<T: NativeType, O: Offset>(
     second: Option<&Entry<T, O>>,
 ) -> Reply<T>
     ensures { Compares_to (option_map value_of first.now) (option_map value_of (option_copied second.entry))
-        (told result) (option_map value_of first.now) }
+        (answer_of result) (option_map value_of first.now) }
 {
     match first {
         Some(Entry::MutablePrimitive(first)) => match second {
@@ -88,7 +88,7 @@ pub(crate) fn equal_at<T: NativeType, O: Offset>(
 ) -> Reply<T>
     ensures { AtEntry (state_of entries.now.items) e
         (λ old. Compares_to old (entry_at (state_of entries.now.items) f))
-        (told result) (state_of entries.now.items) }
+        (answer_of result) (state_of entries.now.items) }
 {
     if e >= entries.len() {
         return Reply::NotMet;

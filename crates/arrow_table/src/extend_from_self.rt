@@ -1,6 +1,6 @@
 //! The rows of another builder, appended.
 ghost use Rattle.std.specs.Prelude.{option_copied, option_map};
-ghost use Rattle.arrow_commands.specs.Outcome.{outcome};
+ghost use Rattle.arrow_model.specs.Answer.{outcome};
 ghost use Rattle.arrow_entry.specs.Entry.{state_of, value_of};
 ghost use Rattle.arrow_model.specs.Step.{AtEntry, Joins_to, other_at};
 ghost use Rattle.arrow_model.specs.Value.{types};

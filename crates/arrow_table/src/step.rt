@@ -1,8 +1,8 @@
 //! One command.
 ghost use Rattle.std.specs.Prelude.{◌≡◌, ◌∷◌, [], false, MatchOption};
-ghost use Rattle.arrow_commands.specs.Outcome.{outcome};
+ghost use Rattle.arrow_model.specs.Answer.{outcome};
 ghost use Rattle.arrow_entry.specs.Entry.{state_of, table_of};
-ghost use Rattle.arrow_model.specs.Answer.{told};
+ghost use Rattle.arrow_model.specs.Answer.{answer_of};
 ghost use Rattle.arrow_model.specs.Request.{asked, parts_asked};
 ghost use Rattle.arrow_model.specs.Run.{CostsAtMost, is_parts};
 ghost use Rattle.arrow_model.specs.Step.{Changes, IsStep};
@@ -143,7 +143,7 @@ fn parts_of<T: NativeType, O: Offset>(command: &Command<T, O>) -> Option<(usize,
 /// Returns the reply to a command: what it answered, or its refusal.
 #[inline(always)]
 pub(crate) fn reply_of<T>(done: Result<Reply<T>, Error>) -> Reply<T>
-    ensures { told result ≡ outcome done }
+    ensures { answer_of result ≡ outcome done }
 {
     match done {
         Ok(reply) => reply,
@@ -160,7 +160,7 @@ pub(crate) fn step<T: NativeType, O: Offset>(
     command: &Command<T, O>,
 ) -> Reply<T>
     ensures step { IsStep (types T.zero T.PRIMITIVE O.most O.IS_LARGE) (table_of entries.old.items cost.old)
-        (asked O.number command.now) (told result) (table_of entries.new.items cost.new) }
+        (asked O.number command.now) (answer_of result) (table_of entries.new.items cost.new) }
     ensures costs { CostsAtMost (asked O.number command.now ∷ []) cost.old cost.new }
 {
     match parts_of(command) {

@@ -1,7 +1,7 @@
 //! A table, and the run of a list of commands on it.
 ghost use Rattle.std.specs.Prelude.{◌≡◌, ◌<◌, ◌≤◌, ◌∷◌, [], length, map, replicate, take, vec_capacity, vec_len, IfErr, IfOk, IfSome, None, option_copied, option_map};
 ghost use Rattle.arrow_check.specs.Reading.{no_cost};
-ghost use Rattle.arrow_model.specs.Answer.{told};
+ghost use Rattle.arrow_model.specs.Answer.{answer_of};
 ghost use Rattle.arrow_entry.specs.Entry.{table_of, value_of};
 ghost use Rattle.arrow_model.specs.Value.{types};
 ghost use Rattle.arrow_model.specs.Item.{stored_slot};
@@ -101,7 +101,7 @@ impl<T: NativeType, O: Offset> Table<T, O> {
     /// Does the command that appends a slot to the builder in an entry, and answers, with no command made for it.
     #[inline(always)]
     pub fn push_at(&mut self, i: usize, slot: &Option<Item<T>>) -> Reply<T>
-        ensures { IsStep (types T.zero T.PRIMITIVE O.most O.IS_LARGE) self.old (at i (push (stored_slot slot.now))) (told result) self.new }
+        ensures { IsStep (types T.zero T.PRIMITIVE O.most O.IS_LARGE) self.old (at i (push (stored_slot slot.now))) (answer_of result) self.new }
     {
         let alloc = *self.entries.allocator();
         reply_of(run_at(alloc, &mut self.entries, i, Push(slot)))
@@ -110,7 +110,7 @@ impl<T: NativeType, O: Offset> Table<T, O> {
     /// Does the command that puts what raw parts make into an entry, and answers. The parts are taken, not copied.
     #[inline(always)]
     pub fn parts_at(&mut self, i: usize, parts: Parts<T, O>) -> Reply<T>
-        ensures step { IsStep (types T.zero T.PRIMITIVE O.most O.IS_LARGE) self.old (parts_asked O.number i parts) (told result) self.new }
+        ensures step { IsStep (types T.zero T.PRIMITIVE O.most O.IS_LARGE) self.old (parts_asked O.number i parts) (answer_of result) self.new }
         ensures costs { CostsAtMost (parts_asked O.number i parts ∷ []) self.old.cost self.new.cost }
     {
         reply_of(parts_at(&mut self.entries, i, parts, &mut self.cost))
@@ -126,7 +126,7 @@ impl<T: NativeType, O: Offset> Table<T, O> {
 
 impl<T: NativeType, O: Offset> Steps<T> for Table<T, O> {
     ghost use Rattle.std.specs.Prelude.{◌∷◌, []};
-    ghost use Rattle.arrow_model.specs.Answer.{told};
+    ghost use Rattle.arrow_model.specs.Answer.{answer_of};
     ghost use Rattle.arrow_model.specs.Value.{types};
     ghost use Rattle.arrow_model.specs.Request.{asked};
     ghost use Rattle.arrow_model.specs.Run.{CostsAtMost};
@@ -134,7 +134,7 @@ impl<T: NativeType, O: Offset> Steps<T> for Table<T, O> {
 
     type Command = Command<T, O>;
 
-    ghost steps_to = { λ old command reply new. IsStep (types T.zero T.PRIMITIVE O.most O.IS_LARGE) old (asked O.number command) (told reply) new × CostsAtMost (asked O.number command ∷ []) old.cost new.cost };
+    ghost steps_to = { λ old command reply new. IsStep (types T.zero T.PRIMITIVE O.most O.IS_LARGE) old (asked O.number command) (answer_of reply) new × CostsAtMost (asked O.number command ∷ []) old.cost new.cost };
 
     #[inline(always)]
     fn step(&mut self, alloc: Global, command: &Command<T, O>) -> Reply<T> {

@@ -1,15 +1,15 @@
 //! Two tables, one of each width of offsets, and the run of a list of commands on them.
 ghost use Rattle.std.specs.Prelude.{◌≡◌, ◌<◌, ◌≤◌, ◌∷◌, [], length, map, replicate, take, vec_capacity, vec_len, IfErr, IfOk, None};
 ghost use Rattle.arrow_check.specs.Reading.{no_cost};
-ghost use Rattle.arrow_model.specs.Answer.{told};
+ghost use Rattle.arrow_model.specs.Answer.{answer_of};
 ghost use Rattle.arrow_model.specs.Both.{AppendsBothRun, IsBothStep, both_asked, narrow, narrow_of, narrow_to, wide, wide_of, widen};
 ghost use Rattle.arrow_model.specs.Item.{stored_slot};
 ghost use Rattle.arrow_model.specs.Request.{asked, at, parts_asked, push};
 ghost use Rattle.arrow_model.specs.Run.{CostsAtMost};
 
 use crate::sequence::{Steps, run_all};
-use crate::{BothCommand, Command, Item, Parts, Reply, Table};
 use crate::step::reply_of;
+use crate::{BothCommand, Command, Item, Parts, Reply, Table};
 use arrow_creation::make::put_at;
 use arrow_creation::narrow::Narrow;
 use arrow_creation::widen::Widen;
@@ -65,7 +65,7 @@ impl<T: NativeType> Tables<T> {
     /// Does a command on the narrow table, and answers. What is answered is allocated by `alloc`.
     #[inline(always)]
     pub fn on_narrow(&mut self, alloc: Global, command: &Command<T, i32>) -> Reply<T>
-        ensures step { IsBothStep T.zero T.PRIMITIVE self.old (narrow (asked (λ offset. offset) command.now)) (told result) self.new }
+        ensures step { IsBothStep T.zero T.PRIMITIVE self.old (narrow (asked (λ offset. offset) command.now)) (answer_of result) self.new }
         ensures costs { CostsAtMost (asked (λ offset. offset) command.now ∷ []) self.old.narrow.cost self.new.narrow.cost }
     {
         self.narrow.step(alloc, command)
@@ -74,7 +74,7 @@ impl<T: NativeType> Tables<T> {
     /// Does a command on the wide table, and answers. What is answered is allocated by `alloc`.
     #[inline(always)]
     pub fn on_wide(&mut self, alloc: Global, command: &Command<T, i64>) -> Reply<T>
-        ensures step { IsBothStep T.zero T.PRIMITIVE self.old (wide (asked (λ offset. offset) command.now)) (told result) self.new }
+        ensures step { IsBothStep T.zero T.PRIMITIVE self.old (wide (asked (λ offset. offset) command.now)) (answer_of result) self.new }
         ensures costs { CostsAtMost (asked (λ offset. offset) command.now ∷ []) self.old.wide.cost self.new.wide.cost }
     {
         self.wide.step(alloc, command)
@@ -83,7 +83,7 @@ impl<T: NativeType> Tables<T> {
     /// Appends a slot to the builder in a narrow entry, as the command for it does, and answers.
     #[inline(always)]
     pub fn push_narrow(&mut self, e: usize, slot: &Option<Item<T>>) -> Reply<T>
-        ensures { IsBothStep T.zero T.PRIMITIVE self.old (narrow (at e (push (stored_slot slot.now)))) (told result) self.new }
+        ensures { IsBothStep T.zero T.PRIMITIVE self.old (narrow (at e (push (stored_slot slot.now)))) (answer_of result) self.new }
     {
         self.narrow.push_at(e, slot)
     }
@@ -91,15 +91,15 @@ impl<T: NativeType> Tables<T> {
     /// The same of a wide entry.
     #[inline(always)]
     pub fn push_wide(&mut self, e: usize, slot: &Option<Item<T>>) -> Reply<T>
-        ensures { IsBothStep T.zero T.PRIMITIVE self.old (wide (at e (push (stored_slot slot.now)))) (told result) self.new }
+        ensures { IsBothStep T.zero T.PRIMITIVE self.old (wide (at e (push (stored_slot slot.now)))) (answer_of result) self.new }
     {
         self.wide.push_at(e, slot)
     }
 
-    /// Puts what raw parts make into a narrow entry, as the command for it does, and answers. The parts are taken, not copied.
+    /// IntoEmpty what raw parts make into a narrow entry, as the command for it does, and answers. The parts are taken, not copied.
     #[inline(always)]
     pub fn parts_narrow(&mut self, e: usize, parts: Parts<T, i32>) -> Reply<T>
-        ensures step { IsBothStep T.zero T.PRIMITIVE self.old (narrow (parts_asked (λ offset. offset) e parts)) (told result) self.new }
+        ensures step { IsBothStep T.zero T.PRIMITIVE self.old (narrow (parts_asked (λ offset. offset) e parts)) (answer_of result) self.new }
         ensures costs { CostsAtMost (parts_asked (λ offset. offset) e parts ∷ []) self.old.narrow.cost self.new.narrow.cost }
     {
         self.narrow.parts_at(e, parts)
@@ -108,24 +108,24 @@ impl<T: NativeType> Tables<T> {
     /// The same of a wide entry.
     #[inline(always)]
     pub fn parts_wide(&mut self, e: usize, parts: Parts<T, i64>) -> Reply<T>
-        ensures step { IsBothStep T.zero T.PRIMITIVE self.old (wide (parts_asked (λ offset. offset) e parts)) (told result) self.new }
+        ensures step { IsBothStep T.zero T.PRIMITIVE self.old (wide (parts_asked (λ offset. offset) e parts)) (answer_of result) self.new }
         ensures costs { CostsAtMost (parts_asked (λ offset. offset) e parts ∷ []) self.old.wide.cost self.new.wide.cost }
     {
         self.wide.parts_at(e, parts)
     }
 
-    /// Puts the array of items of a narrow entry, over wide offsets, into a wide entry, which is empty, and answers.
+    /// IntoEmpty the array of items of a narrow entry, over wide offsets, into a wide entry, which is empty, and answers.
     pub fn widen(&mut self, e: usize, f: usize) -> Reply<T>
-        ensures { IsBothStep T.zero T.PRIMITIVE self.old (widen e f) (told result) self.new }
+        ensures { IsBothStep T.zero T.PRIMITIVE self.old (widen e f) (answer_of result) self.new }
     {
         let alloc = *self.wide.entries.allocator();
         let row = Widen(&self.narrow.entries, e);
         reply_of(put_at(alloc, &mut self.wide.entries, f, row))
     }
 
-    /// Puts the array of items of a wide entry, over narrow offsets, into a narrow entry, which is empty, and answers.
+    /// IntoEmpty the array of items of a wide entry, over narrow offsets, into a narrow entry, which is empty, and answers.
     pub fn narrow_to(&mut self, e: usize, f: usize) -> Reply<T>
-        ensures { IsBothStep T.zero T.PRIMITIVE self.old (narrow_to e f) (told result) self.new }
+        ensures { IsBothStep T.zero T.PRIMITIVE self.old (narrow_to e f) (answer_of result) self.new }
     {
         let alloc = *self.narrow.entries.allocator();
         let row = Narrow(&self.wide.entries, e);
@@ -135,13 +135,13 @@ impl<T: NativeType> Tables<T> {
 
 impl<T: NativeType> Steps<T> for Tables<T> {
     ghost use Rattle.std.specs.Prelude.{◌∷◌, []};
-    ghost use Rattle.arrow_model.specs.Answer.{told};
+    ghost use Rattle.arrow_model.specs.Answer.{answer_of};
     ghost use Rattle.arrow_model.specs.Both.{IsBothStep, both_asked, narrow_of, wide_of};
     ghost use Rattle.arrow_model.specs.Run.{CostsAtMost};
 
     type Command = BothCommand<T>;
 
-    ghost steps_to = { λ old command reply new. IsBothStep T.zero T.PRIMITIVE old (both_asked command) (told reply) new × CostsAtMost (narrow_of (both_asked command ∷ [])) old.narrow.cost new.narrow.cost × CostsAtMost (wide_of (both_asked command ∷ [])) old.wide.cost new.wide.cost };
+    ghost steps_to = { λ old command reply new. IsBothStep T.zero T.PRIMITIVE old (both_asked command) (answer_of reply) new × CostsAtMost (narrow_of (both_asked command ∷ [])) old.narrow.cost new.narrow.cost × CostsAtMost (wide_of (both_asked command ∷ [])) old.wide.cost new.wide.cost };
 
     fn step(&mut self, alloc: Global, command: &BothCommand<T>) -> Reply<T> {
         match command {

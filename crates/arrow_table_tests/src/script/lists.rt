@@ -1,7 +1,7 @@
 //! What several words of a script say, up to the end of its line.
 use crate::script::samples::{Sample, Width};
 use crate::script::words::{bits_in, bytes_in, integer_in, item_in, slot_in, turn_in, word};
-use arrow_table::{Item, Named, Raw, Turn};
+use arrow_table::{Item, Change, Raw, Turn};
 use std::alloc::Global;
 use std::marker::PhantomData;
 use std::process::Abort;
@@ -141,10 +141,10 @@ pub(crate) fn named<T: Sample>(
     alloc: Global,
     rt: &impl Abort,
     mut words: SplitWhitespace<'_>,
-) -> Named<T> {
+) -> Change<T> {
     match word(rt, &mut words) {
-        "reverse" => Named::Reverse,
-        "fill" => Named::Fill(item_in(alloc, rt, word(rt, &mut words))),
+        "reverse" => Change::Reverse,
+        "fill" => Change::Fill(item_in(alloc, rt, word(rt, &mut words))),
         _ => panic!(rt; "no change"),
     }
 }

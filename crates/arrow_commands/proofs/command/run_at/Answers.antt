@@ -1,5 +1,5 @@
 use Rattle.std.proofs.Common.{◌<◌, length, option_map, slice_set, refl, arith}
-use Rattle.arrow_commands.specs.Outcome.{outcome}
+use Rattle.arrow_model.specs.Answer.{outcome}
 use Rattle.arrow_entry.specs.Entry.{value_of}
 use Rattle.arrow_model.specs.Step.{Does}
 use Rattle.arrow_model.specs.Value.{types}
