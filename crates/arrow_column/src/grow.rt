@@ -69,16 +69,10 @@ impl<V: MutableValues> GrowingColumn<V> {
     ///
     /// The column is unchanged on an error.
     pub fn try_extend_from_self(&mut self, other: &Self) -> Result<(), Error>
-<<<<<<< HEAD
-        ensures ok { OnOk result ((V.join_overflows self.old.around (stored_values self.old) (stored_values other.now)
-            ≡ false) × (self.new ≡ joined self.old other.now)) }
-        ensures err { FailureKeeps result (refused_growth (V.join_overflows self.old.around (stored_values self.old) (stored_values other.now))) self.old self.new }
-=======
         ensures ok { Grows result (V.join_overflows self.old.around (stored_values self.old) (stored_values other.now))
             self.new (joined self.old other.now) }
         ensures err { GrowthKeeps result
             (V.join_overflows self.old.around (stored_values self.old) (stored_values other.now)) self.old self.new }
->>>>>>> 8aa34ceb1a0100de45874796d04e611f3436382f
     {
         let before = self.values.count();
         let alloc = self.values.allocated_by();

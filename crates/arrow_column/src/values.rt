@@ -165,18 +165,11 @@ pub trait MutableValues: Drop {
     ///
     /// The values are unchanged on an error.
     fn append(&mut self, other: &Self) -> Result<(), Error>
-<<<<<<< HEAD
-        ensures ok { OnOk result ((join_overflows (around self.old) (stored self.old) (stored other.now) ≡ false)
-            × (stored self.new ≡ stored self.old ++ stored other.now)) }
-        ensures around { around self.new ≡ around self.old }
-        ensures err { FailureKeeps result (refused_growth (join_overflows (around self.old) (stored self.old) (stored other.now))) (stored self.old) (stored self.new) };
-=======
         ensures ok { Grows result (join_overflows (around self.old) (stored self.old) (stored other.now))
             (stored self.new) (stored self.old ++ stored other.now) }
         ensures around { around self.new ≡ around self.old }
         ensures err { GrowthKeeps result (join_overflows (around self.old) (stored self.old) (stored other.now))
             (stored self.old) (stored self.new) };
->>>>>>> 8aa34ceb1a0100de45874796d04e611f3436382f
 
     /// Reserves room for at least `additional` more values.
     ///
