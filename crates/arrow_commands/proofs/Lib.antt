@@ -1,5 +1,3 @@
-pub mod CallerLemmas
 mod Extended
 mod Masks
-mod Steps
 mod ValueLists

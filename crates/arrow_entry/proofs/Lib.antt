@@ -3,5 +3,6 @@ pub mod EntryLemmas
 pub mod Grown
 pub mod Rules
 pub mod Seen
+pub mod Steps
 pub mod SlotLemmas
 pub mod TurnLemmas

@@ -4,15 +4,14 @@ use Rattle.arrow_entry.specs.declared.entry.Entry.{Entry}
 use Rattle.arrow_model.specs.Answer.{Answer, not_met}
 use Rattle.arrow_entry.specs.Entry.{value_of}
 use Rattle.arrow_model.specs.Value.{State, Types, Value}
-use Rattle.arrow_model.specs.Kind.{any_kind}
 use Rattle.arrow_model.specs.Request.{all_slots}
-use Rattle.arrow_model.specs.Step.{AtEntry, Does_to, entry_at}
-use Rattle.arrow_commands.proofs.CallerLemmas.{set-same}
+use Rattle.arrow_model.specs.Step.{AtEntry, Does, entry_at}
+use Rattle.arrow_entry.proofs.CallerLemmas.{set-same}
 use Rattle.arrow_table.specs.Listed.{listed}
 
 module _ {T O : Type 0} (c : Types T) where
   -- nothing changes where slots are listed
-  lists : (held : Option (Entry T O)) → Does_to c any_kind all_slots (option_map value_of held) (listed held) (option_map value_of held)
+  lists : (held : Option (Entry T O)) → Does c (option_map value_of held) all_slots (listed held) (option_map value_of held)
   lists None = (refl, refl)
   lists (Some kept) = (refl, refl)
 
@@ -21,9 +20,9 @@ module _ {T O : Type 0} (c : Types T) where
   past (Some kept) is = grind arith
 
   at-found : (found : Option (Option (Value T))) (state : State T) (e : ℕ) (held : Option (Entry T O)) → slice_get state e ≡ found → option_and_then (λ entry. entry) found ≡ option_map value_of held
-      → MatchOption found ((listed held ≡ not_met) × (state ≡ state)) (λ old. (kept : Option (Value T)) × Does_to c any_kind all_slots old (listed held) kept × (state ≡ slice_set state e kept))
+      → MatchOption found ((listed held ≡ not_met) × (state ≡ state)) (λ old. (kept : Option (Value T)) × Does c old all_slots (listed held) kept × (state ≡ slice_set state e kept))
   at-found None state e held there is = (past held is, refl)
   at-found (Some old) state e held there is = (old, rw is (lists held), sym (set-same state e old there))
 
-  pub tells : (state : State T) (e : ℕ) (held : Option (Entry T O)) → entry_at state e ≡ option_map value_of held → AtEntry state e (Does_to c any_kind all_slots) (listed held) state
+  pub tells : (state : State T) (e : ℕ) (held : Option (Entry T O)) → entry_at state e ≡ option_map value_of held → AtEntry state e (λ old. Does c old all_slots) (listed held) state
   tells state e held is = at-found (slice_get state e) state e held refl is

@@ -4,7 +4,7 @@ use Rattle.arrow_entry.specs.Entry.{value_of}
 use Rattle.arrow_model.specs.Answer.{not_met}
 use Rattle.arrow_model.specs.Step.{Does}
 use Rattle.arrow_model.specs.Value.{types}
-use Rattle.arrow_commands.proofs.Steps.{stays-row, got}
+use Rattle.arrow_entry.proofs.CallerLemmas.{stays-row, got}
 use Rattle.arrow_commands.proofs.command.read_at.Goals as goal
 
 pub returns-in-Some : goal.returns-in-Some

@@ -3,7 +3,7 @@ use Rattle.arrow_model.specs.Answer.{outcome}
 use Rattle.arrow_entry.specs.Entry.{value_of}
 use Rattle.arrow_model.specs.Step.{Does}
 use Rattle.arrow_model.specs.Value.{types}
-use Rattle.arrow_commands.proofs.Steps.{at-row, got}
+use Rattle.arrow_entry.proofs.CallerLemmas.{at-row, got}
 use Rattle.arrow_commands.proofs.command.run_at.Goals as goal
 
 pub returns : goal.returns

@@ -7,7 +7,7 @@ use Rattle.arrow_entry.specs.Entry.{value_of}
 use Rattle.arrow_model.specs.Value.{Value}
 use Rattle.arrow_model.specs.Row.{Row}
 use Rattle.arrow_model.specs.Step.{AtEntry, entry_at, other_at}
-use Rattle.arrow_entry.proofs.CallerLemmas.{map-slice_set}
+use Rattle.arrow_entry.proofs.Seen.{map-slice_set}
 
 pub got : {E : Type 0} (xs : List E) (e : ℕ) (x d : E) → e < length xs → x ≡ get_or xs e d → slice_get xs e ≡ Some x
 got [] e x d within is = absurd (omega arith)

@@ -1,1 +1,0 @@
--- What proofs of callers cite about commands.
