@@ -6,8 +6,8 @@ use Rattle.std.specs.List.{list_all, position_or_len, cons_option}
 use Rattle.std.specs.Option.{option_to_list}
 use denote.Ref.{Bor}
 use Rattle.arrow_entry.specs.Both.{BothRequest}
-use Rattle.arrow_lines.specs.Lines.{Reading, requests, bad_line, reading_at, commands_of, is_bad, asked_in}
-use Rattle.arrow_words.specs.Words.{is_printable, lines_of}
+use Rattle.arrow_syntax.specs.Lines.{Reading, requests, bad_line, reading_at, commands_of, is_bad, asked_in}
+use Rattle.arrow_syntax.specs.Words.{is_printable, lines_of}
 
 -- the lines of what follows, where there is any
 abbrev pub lines_after : Option (Bor (List ℕ)) → List (List ℕ)

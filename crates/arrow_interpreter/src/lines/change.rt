@@ -1,0 +1,135 @@
+//! The lines that cut, copy and change a value.
+ghost use Rattle.arrow_entry.specs.Request.{apply_mask, apply_values, at, clone_from, empty, set, set_mask, set_values, slice, write};
+
+use crate::line::{Line, ParseOffset};
+use arrow_syntax::readers::Last;
+use arrow_table::{Command, Item, Named};
+
+/// `slice E A N`
+pub(crate) struct SliceLine;
+
+impl<O: ParseOffset> Line<O> for SliceLine {
+    type Rest = (usize, Last<usize>);
+
+    ghost asks = { λ e (a, n). at e (slice a n) };
+
+    #[inline(always)]
+    fn command(number: usize, range: (usize, Last<usize>)) -> Command<i64, O> {
+        Command::Slice(number, range.0, range.1.0)
+    }
+}
+
+/// `clone E F`
+pub(crate) struct CloneLine;
+
+impl<O: ParseOffset> Line<O> for CloneLine {
+    type Rest = Last<usize>;
+
+    ghost asks = { λ e f. clone_from f e };
+
+    #[inline(always)]
+    fn command(number: usize, other: Last<usize>) -> Command<i64, O> {
+        Command::Clone(number, other.0)
+    }
+}
+
+/// `drop E`
+pub(crate) struct DropLine;
+
+impl<O: ParseOffset> Line<O> for DropLine {
+    type Rest = ();
+
+    ghost asks = { λ e _. at e empty };
+
+    #[inline(always)]
+    fn command(number: usize, _end: ()) -> Command<i64, O> {
+        Command::Drop(number)
+    }
+}
+
+/// `mask E MASK`
+pub(crate) struct MaskLine;
+
+impl<O: ParseOffset> Line<O> for MaskLine {
+    type Rest = Last<Option<Vec<bool>>>;
+
+    ghost asks = { λ e mask. at e (set_mask mask) };
+
+    #[inline(always)]
+    fn command(number: usize, mask: Last<Option<Vec<bool>>>) -> Command<i64, O> {
+        Command::SetMask(number, mask.0)
+    }
+}
+
+/// `applymask E CHANGE`
+pub(crate) struct ApplyMaskLine;
+
+impl<O: ParseOffset> Line<O> for ApplyMaskLine {
+    type Rest = Named<i64>;
+
+    ghost asks = { λ e change. at e (apply_mask change) };
+
+    #[inline(always)]
+    fn command(number: usize, change: Named<i64>) -> Command<i64, O> {
+        Command::ApplyMask(number, change)
+    }
+}
+
+/// `values E ITEM*`
+pub(crate) struct ValuesLine;
+
+impl<O: ParseOffset> Line<O> for ValuesLine {
+    type Rest = Vec<Item<i64>>;
+
+    ghost asks = { λ e items. at e (set_values items) };
+
+    #[inline(always)]
+    fn command(number: usize, items: Vec<Item<i64>>) -> Command<i64, O> {
+        Command::SetValues(number, items)
+    }
+}
+
+/// `applyvalues E CHANGE`
+pub(crate) struct ApplyValuesLine;
+
+impl<O: ParseOffset> Line<O> for ApplyValuesLine {
+    type Rest = Named<i64>;
+
+    ghost asks = { λ e change. at e (apply_values change) };
+
+    #[inline(always)]
+    fn command(number: usize, change: Named<i64>) -> Command<i64, O> {
+        Command::ApplyValues(number, change)
+    }
+}
+
+/// `set E I SLOT`
+pub(crate) struct SetLine;
+
+impl<O: ParseOffset> Line<O> for SetLine {
+    type Rest = (usize, Last<Option<Item<i64>>>);
+
+    ghost asks = { λ e (i, slot). at e (set i slot) };
+
+    #[inline(always)]
+    fn command(
+        number: usize,
+        (index, Last(slot)): (usize, Last<Option<Item<i64>>>),
+    ) -> Command<i64, O> {
+        Command::Set(number, index, slot)
+    }
+}
+
+/// `write E I ITEM`
+pub(crate) struct WriteLine;
+
+impl<O: ParseOffset> Line<O> for WriteLine {
+    type Rest = (usize, Last<Item<i64>>);
+
+    ghost asks = { λ e (i, item). at e (write i item) };
+
+    #[inline(always)]
+    fn command(number: usize, (index, Last(item)): (usize, Last<Item<i64>>)) -> Command<i64, O> {
+        Command::Write(number, index, item)
+    }
+}

@@ -1,0 +1,177 @@
+//! The lines that make a builder grow or shrink.
+ghost use Rattle.std.specs.Prelude.{IfOk, option_map};
+ghost use Rattle.arrow_entry.specs.Request.{at, extend, extend_constant, extend_from, extend_values, pop, push, push_null, reserve, shrink};
+ghost use Rattle.arrow_interpreter.specs.Replies.{RunsLine};
+ghost use Rattle.arrow_syntax.specs.Fields.{slot_of};
+ghost use Rattle.arrow_table.specs.Width.{on_width};
+
+use crate::interpreter::Interpreter;
+use crate::line::{Line, ParseOffset};
+use arrow_syntax::readers::{Last, Word};
+use arrow_syntax::words::{next_word, word_eq};
+use arrow_table::{Command, Item};
+use std::alloc::AllocError;
+
+/// `push E SLOT`. The slot is read and pushed with no move, since these lines are the most frequent.
+pub(crate) struct PushLine;
+
+impl<O: ParseOffset> Line<O> for PushLine {
+    type Rest = Last<Option<Item<i64>>>;
+
+    ghost asks = { λ e slot. at e (push slot) };
+
+    #[inline(always)]
+    fn command(number: usize, slot: Last<Option<Item<i64>>>) -> Command<i64, O> {
+        Command::Push(number, slot.0)
+    }
+
+    fn run(interpreter: &mut Interpreter, number: usize, words: &[u8]) -> Result<bool, AllocError> {
+        let Some((word, rest)) = next_word(words) else {
+            return Ok(false);
+        };
+        if next_word(rest).is_some() {
+            return Ok(false);
+        }
+        push_word::<O>(interpreter, number, word)
+    }
+}
+
+/// `pushnull E`
+pub(crate) struct PushNullLine;
+
+impl<O: ParseOffset> Line<O> for PushNullLine {
+    type Rest = ();
+
+    ghost asks = { λ e _. at e push_null };
+
+    #[inline(always)]
+    fn command(number: usize, _end: ()) -> Command<i64, O> {
+        Command::PushNull(number)
+    }
+}
+
+/// `pop E`
+pub(crate) struct PopLine;
+
+impl<O: ParseOffset> Line<O> for PopLine {
+    type Rest = ();
+
+    ghost asks = { λ e _. at e pop };
+
+    #[inline(always)]
+    fn command(number: usize, _end: ()) -> Command<i64, O> {
+        Command::Pop(number)
+    }
+}
+
+/// `extend E SLOT*`
+pub(crate) struct ExtendLine;
+
+impl<O: ParseOffset> Line<O> for ExtendLine {
+    type Rest = Vec<Option<Item<i64>>>;
+
+    ghost asks = { λ e slots. at e (extend slots) };
+
+    #[inline(always)]
+    fn command(number: usize, slots: Vec<Option<Item<i64>>>) -> Command<i64, O> {
+        Command::Extend(number, slots)
+    }
+}
+
+/// `extendvalues E ITEM*`
+pub(crate) struct ExtendValuesLine;
+
+impl<O: ParseOffset> Line<O> for ExtendValuesLine {
+    type Rest = Vec<Item<i64>>;
+
+    ghost asks = { λ e items. at e (extend_values items) };
+
+    #[inline(always)]
+    fn command(number: usize, items: Vec<Item<i64>>) -> Command<i64, O> {
+        Command::ExtendValues(number, items)
+    }
+}
+
+/// `constant E N SLOT`
+pub(crate) struct ConstantLine;
+
+impl<O: ParseOffset> Line<O> for ConstantLine {
+    type Rest = (usize, Last<Option<Item<i64>>>);
+
+    ghost asks = { λ e (n, slot). at e (extend_constant n slot) };
+
+    #[inline(always)]
+    fn command(
+        number: usize,
+        (count, Last(slot)): (usize, Last<Option<Item<i64>>>),
+    ) -> Command<i64, O> {
+        Command::ExtendConstant(number, count, slot)
+    }
+}
+
+/// `self E F`
+pub(crate) struct ExtendFromSelfLine;
+
+impl<O: ParseOffset> Line<O> for ExtendFromSelfLine {
+    type Rest = Last<usize>;
+
+    ghost asks = { λ e f. extend_from e f };
+
+    #[inline(always)]
+    fn command(number: usize, other: Last<usize>) -> Command<i64, O> {
+        Command::ExtendFromSelf(number, other.0)
+    }
+}
+
+/// `reserve E N B`
+pub(crate) struct ReserveLine;
+
+impl<O: ParseOffset> Line<O> for ReserveLine {
+    type Rest = (usize, Last<usize>);
+
+    ghost asks = { λ e _. at e reserve };
+
+    #[inline(always)]
+    fn command(number: usize, (count, Last(bytes)): (usize, Last<usize>)) -> Command<i64, O> {
+        Command::Reserve(number, count, bytes)
+    }
+}
+
+/// `shrink E`
+pub(crate) struct ShrinkLine;
+
+impl<O: ParseOffset> Line<O> for ShrinkLine {
+    type Rest = ();
+
+    ghost asks = { λ e _. at e shrink };
+
+    #[inline(always)]
+    fn command(number: usize, _end: ()) -> Command<i64, O> {
+        Command::Shrink(number)
+    }
+}
+
+/// Appends the slot that a word writes to a builder. Returns whether the word is well formed.
+#[inline(always)]
+fn push_word<O: ParseOffset>(
+    interpreter: &mut Interpreter,
+    entry: usize,
+    word: &[u8],
+) -> Result<bool, AllocError>
+    ensures { let request = option_map (λ slot. on_width O.IS_LARGE (at entry (push slot))) (slot_of word.now) in
+        IfOk result (RunsLine request interpreter.old interpreter.new) }
+{
+    if word_eq(word, b"_") {
+        interpreter.push::<O>(entry, &None)?;
+        return Ok(true);
+    }
+    let read = <Item<i64>>::of_word(*interpreter.text.allocator(), word);
+    let Ok(slot) = &read else {
+        return Err(AllocError);
+    };
+    if slot.is_none() {
+        return Ok(false);
+    }
+    interpreter.push::<O>(entry, slot)?;
+    Ok(true)
+}

@@ -1,0 +1,171 @@
+//! The lines that read a value.
+ghost use Rattle.std.specs.Prelude.{IfOk, option_map};
+ghost use Rattle.arrow_entry.specs.Request.{all_slots, at, bytes, get, held, is_null, len, null_count, offsets, turns, type_of, value};
+
+use crate::interpreter::Interpreter;
+use crate::line::{Line, ParseOffset};
+use arrow_syntax::readers::{Last, Words};
+use arrow_table::{Command, Turn};
+use std::alloc::AllocError;
+
+/// `len E`
+pub(crate) struct LenLine;
+
+impl<O: ParseOffset> Line<O> for LenLine {
+    type Rest = ();
+
+    ghost asks = { λ e _. at e len };
+
+    #[inline(always)]
+    fn command(number: usize, _end: ()) -> Command<i64, O> {
+        Command::Len(number)
+    }
+}
+
+/// `value E I`
+pub(crate) struct ValueLine;
+
+impl<O: ParseOffset> Line<O> for ValueLine {
+    type Rest = Last<usize>;
+
+    ghost asks = { λ e i. at e (value i) };
+
+    #[inline(always)]
+    fn command(number: usize, index: Last<usize>) -> Command<i64, O> {
+        Command::Value(number, index.0)
+    }
+}
+
+/// `get E I`
+pub(crate) struct GetLine;
+
+impl<O: ParseOffset> Line<O> for GetLine {
+    type Rest = Last<usize>;
+
+    ghost asks = { λ e i. at e (get i) };
+
+    #[inline(always)]
+    fn command(number: usize, index: Last<usize>) -> Command<i64, O> {
+        Command::Get(number, index.0)
+    }
+}
+
+/// `isnull E I`
+pub(crate) struct IsNullLine;
+
+impl<O: ParseOffset> Line<O> for IsNullLine {
+    type Rest = Last<usize>;
+
+    ghost asks = { λ e i. at e (is_null i) };
+
+    #[inline(always)]
+    fn command(number: usize, index: Last<usize>) -> Command<i64, O> {
+        Command::IsNull(number, index.0)
+    }
+}
+
+/// `nulls E`
+pub(crate) struct NullsLine;
+
+impl<O: ParseOffset> Line<O> for NullsLine {
+    type Rest = ();
+
+    ghost asks = { λ e _. at e null_count };
+
+    #[inline(always)]
+    fn command(number: usize, _end: ()) -> Command<i64, O> {
+        Command::NullCount(number)
+    }
+}
+
+/// `list E`. The slots are written from where they lie, and not copied into a command's reply.
+pub(crate) struct ListLine;
+
+impl<O: ParseOffset> Line<O> for ListLine {
+    type Rest = ();
+
+    ghost asks = { λ e _. at e all_slots };
+
+    #[inline(always)]
+    fn command(number: usize, _end: ()) -> Command<i64, O> {
+        Command::Slots(number)
+    }
+
+    fn run(interpreter: &mut Interpreter, number: usize, words: &[u8]) -> Result<bool, AllocError> {
+        if !<()>::are_words(words) {
+            return Ok(false);
+        }
+        interpreter.list::<O>(number)?;
+        Ok(true)
+    }
+}
+
+/// `turns E TURN*`
+pub(crate) struct TurnsLine;
+
+impl<O: ParseOffset> Line<O> for TurnsLine {
+    type Rest = Vec<Turn>;
+
+    ghost asks = { λ e asked. at e (turns asked) };
+
+    #[inline(always)]
+    fn command(number: usize, turns: Vec<Turn>) -> Command<i64, O> {
+        Command::Turns(number, turns)
+    }
+}
+
+/// `type E`
+pub(crate) struct TypeLine;
+
+impl<O: ParseOffset> Line<O> for TypeLine {
+    type Rest = ();
+
+    ghost asks = { λ e _. at e type_of };
+
+    #[inline(always)]
+    fn command(number: usize, _end: ()) -> Command<i64, O> {
+        Command::TypeOf(number)
+    }
+}
+
+/// `held E`
+pub(crate) struct HeldLine;
+
+impl<O: ParseOffset> Line<O> for HeldLine {
+    type Rest = ();
+
+    ghost asks = { λ e _. at e held };
+
+    #[inline(always)]
+    fn command(number: usize, _end: ()) -> Command<i64, O> {
+        Command::Held(number)
+    }
+}
+
+/// `bytes E`
+pub(crate) struct BytesLine;
+
+impl<O: ParseOffset> Line<O> for BytesLine {
+    type Rest = ();
+
+    ghost asks = { λ e _. at e bytes };
+
+    #[inline(always)]
+    fn command(number: usize, _end: ()) -> Command<i64, O> {
+        Command::Bytes(number)
+    }
+}
+
+/// `offsets E`
+pub(crate) struct OffsetsLine;
+
+impl<O: ParseOffset> Line<O> for OffsetsLine {
+    type Rest = ();
+
+    ghost asks = { λ e _. at e offsets };
+
+    #[inline(always)]
+    fn command(number: usize, _end: ()) -> Command<i64, O> {
+        Command::Offsets(number)
+    }
+}
