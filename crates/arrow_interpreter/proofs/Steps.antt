@@ -1,17 +1,27 @@
--- Lemmas on the answer to one command.
-use Rattle.std.proofs.Common.{◌≡◌, [], ◌∷◌, ◌++◌, true, Bool, ℤ, pos, string_bytes, Some, Result, Ok, Err}
-use Rattle.std.specs.Prelude.{IfOk}
+-- Lemmas on the run of one command.
+use Rattle.std.proofs.Common.{◌≡◌, [], ◌∷◌, ◌++◌, ℕ, ℤ, List, pos, refl, Result, Ok, Err}
+use Rattle.std.specs.Prelude.{OnOk}
 use Rattle.arrow_types.specs.declared.primitive_type.PrimitiveType.TheVariants.{Int64}
 use Rattle.arrow_entry.specs.Answer.{Answer}
 use Rattle.arrow_entry.specs.Both.{Both, BothRequest, IsBothStep}
-use Rattle.arrow_interpreter.specs.Replies.{AnswersAsked}
-use Rattle.arrow_interpreter.specs.declared.answering.Answering.{Answering}
+use Rattle.arrow_interpreter.specs.Replies.{AppendsRun}
 use Rattle.arrow_syntax.specs.Text.{text_of}
 
--- a step to other tables, whose answer was told
-pub told_step : {E : Type 0} (ask : BothRequest ℤ) (answer : Answer ℤ) (old new : Answering) (tables : Both ℤ) (r : Result Bool E)
-    → IsBothStep (pos 0) Int64 old.tables ask answer tables
-    → IfOk r (λ good. (true ≡ good) × ((new.tables ≡ tables) × (string_bytes new.text ≡ string_bytes old.text ++ text_of (answer ∷ []))))
-    → IfOk r (AnswersAsked (Some ask) old new)
-told_step ask answer old new tables (Ok good) step told = (told.0, λ met. (answer ∷ [], (tables, step, told.1.0), told.1.1))
-told_step ask answer old new tables (Err e) step told = tt
+module _ {A E : Type 0} (request : BothRequest ℤ) (answer : Answer ℤ) (old tables new : Both ℤ) (before after : List ℕ) (r : Result A E) where
+  -- a step to other tables, whose answer was then appended
+  pub step_and_text : IsBothStep (pos 0) Int64 old request answer tables → OnOk r ((new ≡ tables) × (after ≡ before ++ text_of (answer ∷ [])))
+      → OnOk r (AppendsRun (request ∷ []) old new before after)
+  step_and_text step text = by_result r text
+    where
+      by_result : (r : Result A E) → OnOk r ((new ≡ tables) × (after ≡ before ++ text_of (answer ∷ []))) → OnOk r (AppendsRun (request ∷ []) old new before after)
+      by_result (Ok done) text = (answer ∷ [], (tables, step, text.0), text.1)
+      by_result (Err e) text = tt
+
+  -- a step that leaves the tables, whose answer was then appended
+  pub text_of_step : IsBothStep (pos 0) Int64 old request answer old → OnOk r (after ≡ before ++ text_of (answer ∷ []))
+      → OnOk r (AppendsRun (request ∷ []) old old before after)
+  text_of_step step text = by_result r text
+    where
+      by_result : (r : Result A E) → OnOk r (after ≡ before ++ text_of (answer ∷ [])) → OnOk r (AppendsRun (request ∷ []) old old before after)
+      by_result (Ok done) text = (answer ∷ [], (old, step, refl), text)
+      by_result (Err e) text = tt

@@ -6,7 +6,7 @@ ghost use Rattle.arrow_syntax.specs.Lines.{bad_line, commands_of};
 ghost use Rattle.arrow_session.specs.Session.{AreCommands, Ends, IsAnswer};
 
 use crate::counted::Counted;
-use crate::device::{Fault, read_all, send};
+use crate::device::{DeviceFault, Fault, read_all, send};
 use crate::outcome::Outcome;
 use arrow_interpreter::interpreter::Interpreter;
 use arrow_interpreter::run::{is_line, run_line};
@@ -18,8 +18,8 @@ use std::io::{Read, Write};
 /// The number of entries of each table of a session.
 const ENTRIES: usize = 16;
 
-/// Returns the number of the first line that is not a command, counted from 1, or `None` if every
-/// line is one or is passed over. Nothing is run or allocated.
+/// Returns the number of the first line that is not a command, counted from 1, or `None` if every line is one or is
+/// passed over. Nothing is run or allocated.
 fn first_bad_line(input: &[u8]) -> Option<usize>
     ensures { MatchOption result (AreCommands input.now) (λ number. commands_of input.now ≡ bad_line number) }
 {
@@ -81,6 +81,6 @@ pub fn session<R: Read, W: Write>(
     };
     match send(output, text.as_bytes()) {
         Ok(()) => Outcome::Done,
-        Err(_) => Outcome::Device,
+        Err(DeviceFault) => Outcome::Device,
     }
 }

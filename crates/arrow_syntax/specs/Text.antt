@@ -1,6 +1,7 @@
 -- What the program answers, as text.
-use Rattle.std.specs.Prelude.{ℕ, if◌then◌else◌, List, [], ◌∷◌, ◌++◌, map, flat_map, codes, decimal, Option, Some, None, ℤ}
+use Rattle.std.specs.Prelude.{◌≡◌, ℕ, if◌then◌else◌, List, [], ◌∷◌, ◌++◌, map, flat_map, codes, decimal, Option, Some, None, ℤ, String, string_bytes}
 use Rattle.std.specs.List.{join_with_byte}
+use Rattle.std.specs.declared.alloc.Global.{Global}
 use Rattle.std.specs.Fmt.{signed_decimal}
 use Rattle.hex.specs.Hex.{encode_lower}
 use Rattle.arrow_types.specs.Types.{Base, Extension, LogicalType, refusal_text}
@@ -68,3 +69,7 @@ answer_text (refused why) = codes "refused: " ++ refusal_text why
 -- answers, each of them on a line of its own
 abbrev pub text_of : List (Answer ℤ) → List ℕ
 text_of = flat_map (λ answer. answer_text answer ++ line_feed ∷ [])
+
+-- a text grew by these bytes
+abbrev pub Grows : String Global → String Global → List ℕ → Type 0
+Grows old new bytes = string_bytes new ≡ string_bytes old ++ bytes

@@ -1,4 +1,4 @@
-//! Truth values that one word writes, as a list and packed to bytes.
+//! The words that are truth values, as a list and as packed bits.
 ghost use Rattle.std.specs.Prelude.{◌≡◌, ◌≤◌, Bool, List, Option, is_some, length, option_map, IfOk};
 ghost use Rattle.arrow_entry.specs.Request.{Packed, packed_bits};
 ghost use Rattle.arrow_syntax.specs.Fields.{bit_of, bits_of, byte_of, mask_of, packed_bytes, packed_of, packed_in, packed_mask_in};
@@ -9,7 +9,7 @@ use crate::words::word_eq;
 use arrow_entry::Bits;
 use std::alloc::{AllocError, Global};
 
-/// What the digits `0` and `1` say.
+/// Returns the truth value of the digit `0` or `1`.
 fn bit_of(digit: u8) -> Option<bool>
     ensures { result ≡ bit_of digit }
 {
@@ -45,7 +45,7 @@ fn are_digits(word: &[u8]) -> bool
     true
 }
 
-// A digit for each, or `.` for none.
+// A digit for each truth value, or `.` if there are none.
 impl Word for Vec<bool> {
     ghost Meaning = { List Bool };
 
@@ -88,7 +88,7 @@ impl Word for Option<Vec<bool>> {
     }
 }
 
-/// Up to eight truth values as a byte, the first in its least bit.
+/// Packs up to eight truth values into a byte, the first into its lowest bit.
 #[tactic(auto, using(crate::proofs::Packing::byte_below_128))]
 fn byte_of(bits: &[bool]) -> u8
     requires { length bits.now ≤ 8 }
@@ -100,7 +100,7 @@ fn byte_of(bits: &[bool]) -> u8
     }
 }
 
-/// Truth values as packed bytes.
+/// Packs truth values into bytes.
 #[tactic(auto, unfolding(crate::specs::Fields::packed_bytes))]
 fn packed_bytes(alloc: Global, bits: &[bool]) -> Result<Vec<u8>, AllocError>
     ensures { IfOk result (λ bytes. bytes.items ≡ packed_bytes bits.now) }
@@ -123,7 +123,7 @@ fn packed(alloc: Global, bits: &[bool]) -> Result<Bits, AllocError>
     })
 }
 
-// Packed truth values.
+// The same truth values, packed.
 impl Word for Bits {
     ghost Meaning = { Packed };
 

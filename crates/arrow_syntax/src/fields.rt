@@ -1,4 +1,4 @@
-//! What single words say: numbers, kinds, types, and what is asked of an iterator.
+//! The words that are numbers, kinds, types, or calls of an iterator.
 ghost use Rattle.std.specs.Prelude.{◌≡◌, ℕ, ℤ, option_map};
 ghost use Rattle.arrow_types.specs.Types.{LogicalType, logical_type};
 ghost use Rattle.arrow_entry.specs.declared.kind.Kind.{Kind};
@@ -14,7 +14,7 @@ use arrow_entry::{Kind, Turn};
 use arrow_types::data_type::DataType;
 use std::alloc::{AllocError, Global};
 
-/// Returns the number that the first word writes, and what follows that word.
+/// Returns the number that the first word writes and the rest of the text, or `None` if there is none.
 #[inline(always)]
 pub fn first_number(text: &[u8]) -> Option<(usize, &[u8])>
     ensures { option_map (λ x. (x.0, words_of x.1.now)) result ≡ first number_of (words_of text.now) }
@@ -74,7 +74,7 @@ impl Word for i32 {
     }
 }
 
-/// The kind of array or builder that a word names.
+/// Returns the kind of array or builder that a word names.
 fn kind_of(word: &[u8]) -> Option<Kind>
     ensures { result ≡ kind_of word.now }
 {
@@ -111,7 +111,7 @@ fn kind_of(word: &[u8]) -> Option<Kind>
     None
 }
 
-/// Returns the kind that the first word names, and what follows that word.
+/// Returns the kind that the first word names and the rest of the text, or `None` if there is none.
 pub fn first_kind(text: &[u8]) -> Option<(Kind, &[u8])>
     ensures { option_map (λ x. (x.0, words_of x.1.now)) result ≡ first kind_of (words_of text.now) }
 {
@@ -138,7 +138,7 @@ impl Word for Kind {
     }
 }
 
-/// The type that a word names.
+/// Returns the type that a word names.
 fn type_of(word: &[u8]) -> Option<DataType>
     ensures { option_map logical_type result ≡ type_of word.now }
 {
@@ -206,7 +206,7 @@ impl Word for DataType {
     }
 }
 
-/// `s` and how many items are passed over.
+/// Returns the turn that `s` and a number write, which is the number of items that are skipped.
 fn skip_of(word: &[u8]) -> Option<Turn>
     ensures { result ≡ skip_of word.now }
 {
@@ -217,7 +217,7 @@ fn skip_of(word: &[u8]) -> Option<Turn>
     Some(Turn::Skip(number_of(rest)?))
 }
 
-/// What a word asks of an iterator.
+/// Returns the turn of an iterator that a word writes.
 fn turn_of(word: &[u8]) -> Option<Turn>
     ensures { result ≡ turn_of word.now }
 {

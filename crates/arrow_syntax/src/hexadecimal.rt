@@ -1,4 +1,4 @@
-//! Whether hexadecimal digits write bytes, and whether these are a text. No memory is needed for either.
+//! Tests of hexadecimal digits: whether they write bytes, and whether these are a text. Nothing is allocated.
 ghost use Rattle.std.specs.Prelude.{◌≡◌, ◌*◌, ◌<◌, ◌≤◌, None, Some, IfNone, IfSome, IsUtf8, if◌then◌else◌, is_some, length, take};
 ghost use Rattle.std.specs.List.{list_all};
 ghost use Rattle.std.specs.Str.{IsValidUpTo};
@@ -7,7 +7,7 @@ ghost use Rattle.arrow_syntax.specs.Fields.{bytes_in, text_in};
 
 use std::str::from_utf8;
 
-/// The number of bytes that are looked at at a time.
+/// The number of bytes that are decoded at a time.
 const WINDOW: usize = 64;
 
 fn is_digit(byte: u8) -> bool
@@ -31,7 +31,7 @@ pub(crate) fn are_bytes(digits: &[u8]) -> bool
     digits.len() % 2 == 0 && are_all_digits(digits)
 }
 
-/// Writes the bytes of digits to room for as many, and returns whether they are digits.
+/// Decodes digits into `room`, which has half their length, and returns whether all are digits.
 fn decode_into(digits: &[u8], room: &mut [u8]) -> bool
     requires { length digits.now ≡ 2 * length room.old }
     ensures { bytes_in digits.now ≡ (if result then Some room.new else None) }
@@ -39,7 +39,7 @@ fn decode_into(digits: &[u8], room: &mut [u8]) -> bool
     hex::decode_to_slice(digits, room).is_ok()
 }
 
-/// Returns how many bytes at the beginning make whole characters: all, or those before the first that make none.
+/// Returns the length of the longest beginning of `bytes` that is UTF-8.
 fn whole_characters(bytes: &[u8]) -> usize
     ensures within { result ≤ length bytes.now }
     ensures text { IsUtf8 (take result bytes.now) }
@@ -51,7 +51,7 @@ fn whole_characters(bytes: &[u8]) -> usize
     }
 }
 
-/// Returns the digits behind the first characters that digits write, or `None` where they write no text.
+/// Returns the digits after the first characters that digits write, or `None` if they write no text.
 fn past_characters(digits: &[u8]) -> Option<&[u8]>
     requires { 0 < length digits.now }
     ensures none { IfNone result (text_in digits.now ≡ None) }

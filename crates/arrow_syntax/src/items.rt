@@ -1,4 +1,4 @@
-//! The items and slots that words write, and named changes of lists of them.
+//! The words that are items and slots, and those that name a change of a list of them.
 ghost use Rattle.std.specs.Prelude.{◌≡◌, ℕ, ℤ, true, false, List, Option, Some, None, IfOk, is_some, option_map, string_bytes, if◌then◌else◌};
 ghost use Rattle.std.specs.Str.{is_utf8};
 ghost use Rattle.arrow_entry.specs.Item.{Stored, value, piece, Change, fill, turn, stored_item, stored_slot, change_of};
@@ -14,7 +14,7 @@ use arrow_entry::{Item, Named};
 use hex::FromHexError;
 use std::alloc::{AllocError, Global};
 
-/// The bytes that hexadecimal digits write.
+/// Returns the bytes that hexadecimal digits write.
 fn bytes_in(alloc: Global, digits: &[u8]) -> Result<Option<Vec<u8>>, AllocError>
     ensures { IfOk result (λ read. option_map (λ bytes. bytes.items) read ≡ bytes_in digits.now) }
 {
@@ -25,14 +25,14 @@ fn bytes_in(alloc: Global, digits: &[u8]) -> Result<Option<Vec<u8>>, AllocError>
     }
 }
 
-/// Bytes as a text, where they are UTF-8.
+/// Converts bytes into a text, or returns `None` if they are not UTF-8.
 fn text_of(bytes: Vec<u8>) -> Option<String>
     ensures { option_map string_bytes result ≡ (if is_utf8 bytes.items then Some bytes.items else None) }
 {
     String::from_utf8(bytes).ok()
 }
 
-/// The text whose bytes hexadecimal digits write.
+/// Returns the text whose bytes hexadecimal digits write.
 fn text_in(alloc: Global, digits: &[u8]) -> Result<Option<String>, AllocError>
     ensures { IfOk result (λ read. option_map string_bytes read ≡ text_in digits.now) }
 {
@@ -69,7 +69,7 @@ impl Word for Vec<u8> {
     }
 }
 
-/// The item that a number writes.
+/// Returns the native item that a number writes.
 fn value_item(digits: &[u8]) -> Option<Item<i64>>
     ensures { option_map stored_item result ≡ option_map value (integer_of digits.now) }
 {
@@ -94,7 +94,7 @@ fn text_item(alloc: Global, digits: &[u8]) -> Result<Option<Item<i64>>, AllocErr
     }
 }
 
-/// The item that a word writes by its first letter.
+/// Returns the item that a word writes, by its first letter.
 fn lettered(alloc: Global, word: &[u8]) -> Result<Option<Item<i64>>, AllocError>
     ensures { IfOk result (λ read. option_map stored_item read ≡ lettered word.now) }
 {
@@ -109,7 +109,7 @@ fn lettered(alloc: Global, word: &[u8]) -> Result<Option<Item<i64>>, AllocError>
     }
 }
 
-/// Returns whether a word writes an item by its first letter.
+/// Returns whether a word writes an item, by its first letter.
 fn is_lettered(word: &[u8]) -> bool
     ensures { result ≡ is_some (lettered word.now) }
 {
@@ -169,7 +169,7 @@ impl Word for Option<Item<i64>> {
     }
 }
 
-/// The change that fills with what the words say.
+/// Returns the change that fills with the item that the words write.
 fn filling(alloc: Global, words: &[u8]) -> Result<Option<Named<i64>>, AllocError>
     ensures { IfOk result (λ read. option_map change_of read ≡ reads (only item_of) fill (words_of words.now)) }
 {
@@ -179,7 +179,7 @@ fn filling(alloc: Global, words: &[u8]) -> Result<Option<Named<i64>>, AllocError
     }
 }
 
-/// The change that turns a list round, where no word follows.
+/// Returns the change that reverses a list, if no word follows.
 fn reversing(words: &[u8]) -> Option<Named<i64>>
     ensures { option_map change_of result ≡ zero turn (words_of words.now) }
 {
@@ -189,7 +189,7 @@ fn reversing(words: &[u8]) -> Option<Named<i64>>
     }
 }
 
-/// The change of this name.
+/// Returns the change of this name.
 fn named(alloc: Global, name: &[u8], words: &[u8]) -> Result<Option<Named<i64>>, AllocError>
     ensures { IfOk result (λ read. option_map change_of read ≡ named name.now (words_of words.now)) }
 {
@@ -202,7 +202,7 @@ fn named(alloc: Global, name: &[u8], words: &[u8]) -> Result<Option<Named<i64>>,
     Ok(None)
 }
 
-/// Returns whether the words behind a change's name are as they should be.
+/// Returns whether the words behind a change's name are well formed.
 fn is_named(name: &[u8], words: &[u8]) -> bool
     ensures { result ≡ is_some (named name.now (words_of words.now)) }
 {

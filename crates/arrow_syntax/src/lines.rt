@@ -61,8 +61,8 @@ fn is_of_lines(b: u8) -> bool
     (b' ' <= b && b <= b'~') || b == b'\n'
 }
 
-/// Returns whether each line of an input is printable. The loop has no branch, so that the compiler makes vector code of
-/// it; a test of each line by itself takes much longer.
+/// Returns whether each line of an input is printable. The loop has no branch, so that the compiler makes vector code
+/// of it; a test of each line by itself takes much longer.
 pub fn all_printable(input: &[u8]) -> bool
     ensures { IsTrue result → IsTrue (list_all is_printable (lines_of input.now)) }
 {

@@ -1,5 +1,5 @@
 //! The text of replies.
-ghost use Rattle.std.specs.Prelude.{◌≡◌, ◌∷◌, ◌++◌, ◌<◌, if◌then◌else◌, ℕ, List, codes, decimal, map, flat_map, slice_index, OnOk, string_bytes};
+ghost use Rattle.std.specs.Prelude.{◌≡◌, ◌∷◌, ◌++◌, ◌<◌, if◌then◌else◌, ℕ, List, codes, decimal, map, flat_map, slice_index, OnOk};
 ghost use Rattle.std.specs.Fmt.{signed_decimal};
 ghost use Rattle.std.specs.List.{join_with_byte};
 ghost use Rattle.hex.specs.Hex.{encode_lower, lower_digits};
@@ -7,7 +7,7 @@ ghost use Rattle.arrow_types.specs.Types.{logical_type};
 ghost use Rattle.arrow_entry.specs.Answer.{told};
 ghost use Rattle.arrow_entry.specs.Item.{stored_item, stored_slot};
 ghost use Rattle.arrow_syntax.specs.Words.{space};
-ghost use Rattle.arrow_syntax.specs.Text.{item_text, slot_text, type_text, bracketed, answer_text, text_of};
+ghost use Rattle.arrow_syntax.specs.Text.{Grows, answer_text, bracketed, item_text, slot_text, text_of, type_text};
 
 use arrow_entry::{Item, Reply};
 use arrow_types::data_type::DataType;
@@ -15,23 +15,23 @@ use itoa::{Buffer, Integer};
 use std::alloc::AllocError;
 use std::fmt::Write;
 
-/// The digits of a number.
+/// Appends the digits of a number.
 fn push_number<I: Integer>(text: &mut String, number: I) -> Result<(), AllocError>
-    ensures { OnOk result (string_bytes text.new ≡ string_bytes text.old ++ I.text number) }
+    ensures { OnOk result (Grows text.old text.new (I.text number)) }
 {
     let mut digits = Buffer::new();
     text.push_str(digits.format(number))
 }
 
-/// A letter and the digits of a number.
+/// Appends a native value: `v` and its digits.
 pub fn push_value(text: &mut String, number: i64) -> Result<(), AllocError>
-    ensures { OnOk result (string_bytes text.new ≡ string_bytes text.old ++ (codes "v" ++ signed_decimal number)) }
+    ensures { OnOk result (Grows text.old text.new (codes "v" ++ signed_decimal number)) }
 {
     text.push_str("v")?;
     push_number(text, number)
 }
 
-/// The hexadecimal digit that is worth so much.
+/// Returns the hexadecimal digit of a value.
 fn digit(worth: u8) -> char
     requires { worth < 16 }
     ensures value { result ≡ slice_index lower_digits worth }
@@ -41,9 +41,9 @@ fn digit(worth: u8) -> char
     char::from(digits[usize::from(worth)])
 }
 
-/// The digits of bytes.
+/// Appends the hexadecimal digits of bytes.
 fn push_hex(text: &mut String, bytes: &[u8]) -> Result<(), AllocError>
-    ensures { OnOk result (string_bytes text.new ≡ string_bytes text.old ++ encode_lower bytes.now) }
+    ensures { OnOk result (Grows text.old text.new (encode_lower bytes.now)) }
 {
     for byte in bytes {
         text.push(digit(*byte / 16))?;
@@ -52,24 +52,24 @@ fn push_hex(text: &mut String, bytes: &[u8]) -> Result<(), AllocError>
     Ok(())
 }
 
-/// A letter and the digits of bytes.
+/// Appends a letter and the hexadecimal digits of bytes.
 pub fn push_bytes(text: &mut String, letter: char, bytes: &[u8]) -> Result<(), AllocError>
     requires { letter < 128 }
-    ensures { OnOk result (string_bytes text.new ≡ string_bytes text.old ++ (letter ∷ encode_lower bytes.now)) }
+    ensures { OnOk result (Grows text.old text.new (letter ∷ encode_lower bytes.now)) }
 {
     text.push(letter)?;
     push_hex(text, bytes)
 }
 
-/// The text of a truth value.
+/// Appends the text of a truth value.
 pub fn push_bit(text: &mut String, bit: bool) -> Result<(), AllocError>
-    ensures { OnOk result (string_bytes text.new ≡ string_bytes text.old ++ (if bit then codes "b1" else codes "b0")) }
+    ensures { OnOk result (Grows text.old text.new (if bit then codes "b1" else codes "b0")) }
 {
     text.push_str(if bit { "b1" } else { "b0" })
 }
 
 fn push_item(text: &mut String, item: &Item<i64>) -> Result<(), AllocError>
-    ensures { OnOk result (string_bytes text.new ≡ string_bytes text.old ++ item_text (stored_item item.now)) }
+    ensures { OnOk result (Grows text.old text.new (item_text (stored_item item.now))) }
 {
     match item {
         Item::Value(number) => push_value(text, *number),
@@ -80,7 +80,7 @@ fn push_item(text: &mut String, item: &Item<i64>) -> Result<(), AllocError>
 }
 
 fn push_slot(text: &mut String, slot: &Option<Item<i64>>) -> Result<(), AllocError>
-    ensures { OnOk result (string_bytes text.new ≡ string_bytes text.old ++ slot_text (stored_slot slot.now)) }
+    ensures { OnOk result (Grows text.old text.new (slot_text (stored_slot slot.now))) }
 {
     match slot {
         Some(item) => push_item(text, item),
@@ -88,14 +88,14 @@ fn push_slot(text: &mut String, slot: &Option<Item<i64>>) -> Result<(), AllocErr
     }
 }
 
-/// What a list in brackets may be of.
+/// A part of a list in brackets.
 trait Part {
-    /// Its text.
+    /// The text of the part.
     ghost shown: { Self → List ℕ };
 
-    /// Appends its text.
+    /// Appends the text of the part.
     fn push_to(&self, text: &mut String) -> Result<(), AllocError>
-        ensures { OnOk result (string_bytes text.new ≡ string_bytes text.old ++ shown self.now) };
+        ensures { OnOk result (Grows text.old text.new (shown self.now)) };
 }
 
 impl Part for Option<Item<i64>> {
@@ -114,9 +114,9 @@ impl Part for usize {
     }
 }
 
-/// Parts with a space before each.
+/// Appends parts with a space before each.
 fn push_others<P: Part>(text: &mut String, parts: &[P]) -> Result<(), AllocError>
-    ensures { OnOk result (string_bytes text.new ≡ string_bytes text.old ++ flat_map (λ x. space ∷ P.shown x) parts.now) }
+    ensures { OnOk result (Grows text.old text.new (flat_map (λ x. space ∷ P.shown x) parts.now)) }
 {
     for each in parts {
         text.push_str(" ")?;
@@ -125,9 +125,9 @@ fn push_others<P: Part>(text: &mut String, parts: &[P]) -> Result<(), AllocError
     Ok(())
 }
 
-/// Parts with a space between each two.
+/// Appends parts with a space between each two.
 fn push_joined<P: Part>(text: &mut String, parts: &[P]) -> Result<(), AllocError>
-    ensures { OnOk result (string_bytes text.new ≡ string_bytes text.old ++ join_with_byte space (map P.shown parts.now)) }
+    ensures { OnOk result (Grows text.old text.new (join_with_byte space (map P.shown parts.now))) }
 {
     let Some((first, others)) = parts.split_first() else {
         return Ok(());
@@ -137,14 +137,14 @@ fn push_joined<P: Part>(text: &mut String, parts: &[P]) -> Result<(), AllocError
 }
 
 fn push_list<P: Part>(text: &mut String, parts: &[P]) -> Result<(), AllocError>
-    ensures { OnOk result (string_bytes text.new ≡ string_bytes text.old ++ bracketed (map P.shown parts.now)) }
+    ensures { OnOk result (Grows text.old text.new (bracketed (map P.shown parts.now))) }
 {
     text.push_str("[")?;
     push_joined(text, parts)?;
     text.push_str("]")
 }
 
-/// The word of a type, or `other` where it has none.
+/// Returns the word of a type, or `other` if it has none.
 fn type_word(data_type: &DataType) -> &'static str
     ensures { result.now ≡ type_text (logical_type data_type.now) }
 {
@@ -169,7 +169,7 @@ fn type_word(data_type: &DataType) -> &'static str
 }
 
 fn push_reply(text: &mut String, reply: &Reply<i64>) -> Result<(), AllocError>
-    ensures { OnOk result (string_bytes text.new ≡ string_bytes text.old ++ answer_text (told reply.now)) }
+    ensures { OnOk result (Grows text.old text.new (answer_text (told reply.now))) }
 {
     match reply {
         Reply::Done => text.push_str("ok"),
@@ -188,9 +188,9 @@ fn push_reply(text: &mut String, reply: &Reply<i64>) -> Result<(), AllocError>
     }
 }
 
-/// Appends the lines of replies, in order.
+/// Appends a line for each reply, in order.
 pub fn push_replies(text: &mut String, replies: &[Reply<i64>]) -> Result<(), AllocError>
-    ensures { OnOk result (string_bytes text.new ≡ string_bytes text.old ++ text_of (map told replies.now)) }
+    ensures { OnOk result (Grows text.old text.new (text_of (map told replies.now))) }
 {
     for reply in replies {
         push_reply(text, reply)?;

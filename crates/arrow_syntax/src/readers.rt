@@ -50,7 +50,8 @@ pub struct Last<A>(pub A);
 
 /// Reads the first word. Returns its value and the rest of the text, or `None` if the word is missing or malformed.
 pub fn next<A: Word>(alloc: Global, text: &[u8]) -> Result<Option<(A, &[u8])>, AllocError>
-    ensures { IfOk result (λ read. option_map (λ x. (A.meaning x.0, words_of x.1.now)) read ≡ first A.said (words_of text.now)) }
+    ensures { let wanted = first A.said (words_of text.now) in
+        IfOk result (λ read. option_map (λ x. (A.meaning x.0, words_of x.1.now)) read ≡ wanted) }
 {
     let Some((word, rest)) = next_word(text) else {
         return Ok(None);

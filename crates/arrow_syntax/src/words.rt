@@ -45,7 +45,8 @@ fn split_at(byte: u8, text: &[u8]) -> (&[u8], Option<&[u8]>)
 
 /// Returns the first word of a text and what follows it, or `None` if the text has no word.
 pub fn next_word(text: &[u8]) -> Option<(&[u8], &[u8])>
-    ensures { MatchOption result (words_of text.now ≡ []) (λ word. words_of text.now ≡ word.0.now ∷ words_of word.1.now) }
+    ensures { MatchOption result (words_of text.now ≡ [])
+        (λ word. words_of text.now ≡ word.0.now ∷ words_of word.1.now) }
 {
     let mut rest = Some(text);
     while let Some(text) = rest {

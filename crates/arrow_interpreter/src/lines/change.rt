@@ -14,7 +14,7 @@ impl<O: ParseOffset> Line<O> for SliceLine {
     ghost asks = { λ e (a, n). at e (slice a n) };
 
     #[inline(always)]
-    fn command(number: usize, range: (usize, Last<usize>)) -> Command<i64, O> {
+    fn command(number: usize, range: Self::Rest) -> Command<i64, O> {
         Command::Slice(number, range.0, range.1.0)
     }
 }
@@ -28,7 +28,7 @@ impl<O: ParseOffset> Line<O> for CloneLine {
     ghost asks = { λ e f. clone_from f e };
 
     #[inline(always)]
-    fn command(number: usize, other: Last<usize>) -> Command<i64, O> {
+    fn command(number: usize, other: Self::Rest) -> Command<i64, O> {
         Command::Clone(number, other.0)
     }
 }
@@ -42,7 +42,7 @@ impl<O: ParseOffset> Line<O> for DropLine {
     ghost asks = { λ e _. at e empty };
 
     #[inline(always)]
-    fn command(number: usize, _end: ()) -> Command<i64, O> {
+    fn command(number: usize, _end: Self::Rest) -> Command<i64, O> {
         Command::Drop(number)
     }
 }
@@ -56,7 +56,7 @@ impl<O: ParseOffset> Line<O> for MaskLine {
     ghost asks = { λ e mask. at e (set_mask mask) };
 
     #[inline(always)]
-    fn command(number: usize, mask: Last<Option<Vec<bool>>>) -> Command<i64, O> {
+    fn command(number: usize, mask: Self::Rest) -> Command<i64, O> {
         Command::SetMask(number, mask.0)
     }
 }
@@ -70,7 +70,7 @@ impl<O: ParseOffset> Line<O> for ApplyMaskLine {
     ghost asks = { λ e change. at e (apply_mask change) };
 
     #[inline(always)]
-    fn command(number: usize, change: Named<i64>) -> Command<i64, O> {
+    fn command(number: usize, change: Self::Rest) -> Command<i64, O> {
         Command::ApplyMask(number, change)
     }
 }
@@ -84,7 +84,7 @@ impl<O: ParseOffset> Line<O> for ValuesLine {
     ghost asks = { λ e items. at e (set_values items) };
 
     #[inline(always)]
-    fn command(number: usize, items: Vec<Item<i64>>) -> Command<i64, O> {
+    fn command(number: usize, items: Self::Rest) -> Command<i64, O> {
         Command::SetValues(number, items)
     }
 }
@@ -98,7 +98,7 @@ impl<O: ParseOffset> Line<O> for ApplyValuesLine {
     ghost asks = { λ e change. at e (apply_values change) };
 
     #[inline(always)]
-    fn command(number: usize, change: Named<i64>) -> Command<i64, O> {
+    fn command(number: usize, change: Self::Rest) -> Command<i64, O> {
         Command::ApplyValues(number, change)
     }
 }
@@ -112,10 +112,7 @@ impl<O: ParseOffset> Line<O> for SetLine {
     ghost asks = { λ e (i, slot). at e (set i slot) };
 
     #[inline(always)]
-    fn command(
-        number: usize,
-        (index, Last(slot)): (usize, Last<Option<Item<i64>>>),
-    ) -> Command<i64, O> {
+    fn command(number: usize, (index, Last(slot)): Self::Rest) -> Command<i64, O> {
         Command::Set(number, index, slot)
     }
 }
@@ -129,7 +126,7 @@ impl<O: ParseOffset> Line<O> for WriteLine {
     ghost asks = { λ e (i, item). at e (write i item) };
 
     #[inline(always)]
-    fn command(number: usize, (index, Last(item)): (usize, Last<Item<i64>>)) -> Command<i64, O> {
+    fn command(number: usize, (index, Last(item)): Self::Rest) -> Command<i64, O> {
         Command::Write(number, index, item)
     }
 }

@@ -15,7 +15,7 @@ impl<O: ParseOffset> Line<O> for FreezeLine {
     ghost asks = { λ e _. at e freeze };
 
     #[inline(always)]
-    fn command(number: usize, _end: ()) -> Command<i64, O> {
+    fn command(number: usize, _end: Self::Rest) -> Command<i64, O> {
         Command::Freeze(number)
     }
 }
@@ -29,7 +29,7 @@ impl<O: ParseOffset> Line<O> for ThawLine {
     ghost asks = { λ e _. at e thaw };
 
     #[inline(always)]
-    fn command(number: usize, _end: ()) -> Command<i64, O> {
+    fn command(number: usize, _end: Self::Rest) -> Command<i64, O> {
         Command::Thaw(number)
     }
 }
@@ -43,7 +43,7 @@ impl<O: ParseOffset> Line<O> for NullableLine {
     ghost asks = { λ e _. at e nullable };
 
     #[inline(always)]
-    fn command(number: usize, _end: ()) -> Command<i64, O> {
+    fn command(number: usize, _end: Self::Rest) -> Command<i64, O> {
         Command::Nullable(number)
     }
 }
@@ -57,7 +57,7 @@ impl<O: ParseOffset> Line<O> for ToLine {
     ghost asks = { λ e t. at e (to t) };
 
     #[inline(always)]
-    fn command(number: usize, data_type: Last<DataType>) -> Command<i64, O> {
+    fn command(number: usize, data_type: Self::Rest) -> Command<i64, O> {
         Command::To(number, data_type.0)
     }
 }
@@ -71,7 +71,7 @@ impl<O: ParseOffset> Line<O> for EqualLine {
     ghost asks = { λ e f. equal e f };
 
     #[inline(always)]
-    fn command(number: usize, other: Last<usize>) -> Command<i64, O> {
+    fn command(number: usize, other: Self::Rest) -> Command<i64, O> {
         Command::Equal(number, other.0)
     }
 }
@@ -85,7 +85,7 @@ impl<O: ParseOffset> Line<O> for FilterLine {
     ghost asks = { λ e (f, g). filter_from g e f };
 
     #[inline(always)]
-    fn command(number: usize, others: (usize, Last<usize>)) -> Command<i64, O> {
+    fn command(number: usize, others: Self::Rest) -> Command<i64, O> {
         Command::Filter(number, others.0, others.1.0)
     }
 }
@@ -99,8 +99,8 @@ impl<O: ParseOffset> Line<O> for TakeLine {
     ghost asks = { λ e (g, keys). take_from g e keys };
 
     #[inline(always)]
-    fn command(number: usize, (made, keys): (usize, Vec<i64>)) -> Command<i64, O> {
-        Command::Take(number, keys, made)
+    fn command(number: usize, keys: Self::Rest) -> Command<i64, O> {
+        Command::Take(number, keys.1, keys.0)
     }
 }
 
@@ -113,7 +113,7 @@ impl<O: ParseOffset> Line<O> for IndexesLine {
     ghost asks = { λ n keys. check_indexes keys n };
 
     #[inline(always)]
-    fn command(number: usize, keys: Vec<i64>) -> Command<i64, O> {
+    fn command(number: usize, keys: Self::Rest) -> Command<i64, O> {
         Command::CheckIndexes(keys, number)
     }
 }

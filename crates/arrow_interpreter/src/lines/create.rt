@@ -27,7 +27,7 @@ impl<O: ParseOffset> Line<O> for NewLine {
     ghost asks = { λ e kind. make e (shape kind) nothing };
 
     #[inline(always)]
-    fn command(number: usize, kind: Last<Kind>) -> Command<i64, O> {
+    fn command(number: usize, kind: Self::Rest) -> Command<i64, O> {
         Command::New(number, kind.0)
     }
 }
@@ -42,7 +42,7 @@ impl<O: ParseOffset> Line<O> for NullLine {
         make e (shape kind) (nulls (default_type (types_over O.most O.IS_LARGE) (shape kind).sort) n) };
 
     #[inline(always)]
-    fn command(number: usize, (kind, Last(count)): (Kind, Last<usize>)) -> Command<i64, O> {
+    fn command(number: usize, (kind, Last(count)): Self::Rest) -> Command<i64, O> {
         Command::NewNull(number, kind, default_type::<O>(kind), count)
     }
 }
@@ -56,7 +56,7 @@ impl<O: ParseOffset> Line<O> for PartsLine {
     ghost asks = { λ e (s, (t, (mask, raw))). make e s (parts t raw mask) };
 
     #[inline(always)]
-    fn command(number: usize, words: PartsWords<O>) -> Command<i64, O> {
+    fn command(number: usize, words: Self::Rest) -> Command<i64, O> {
         Command::Parts(number, words.0)
     }
 
@@ -80,7 +80,7 @@ impl<O: ParseOffset> Line<O> for SlotsLine {
     ghost asks = { λ e (kind, given). make e (shape kind) (slots given) };
 
     #[inline(always)]
-    fn command(number: usize, (kind, slots): (Kind, Vec<Option<Item<i64>>>)) -> Command<i64, O> {
+    fn command(number: usize, (kind, slots): Self::Rest) -> Command<i64, O> {
         Command::FromSlots(number, kind, slots)
     }
 }
@@ -94,7 +94,7 @@ impl<O: ParseOffset> Line<O> for ItemsLine {
     ghost asks = { λ e (kind, given). make e (shape kind) (items given) };
 
     #[inline(always)]
-    fn command(number: usize, (kind, items): (Kind, Vec<Item<i64>>)) -> Command<i64, O> {
+    fn command(number: usize, (kind, items): Self::Rest) -> Command<i64, O> {
         Command::FromItems(number, kind, items)
     }
 }

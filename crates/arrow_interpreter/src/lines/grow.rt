@@ -21,7 +21,7 @@ impl<O: ParseOffset> Line<O> for PushLine {
     ghost asks = { λ e slot. at e (push slot) };
 
     #[inline(always)]
-    fn command(number: usize, slot: Last<Option<Item<i64>>>) -> Command<i64, O> {
+    fn command(number: usize, slot: Self::Rest) -> Command<i64, O> {
         Command::Push(number, slot.0)
     }
 
@@ -45,7 +45,7 @@ impl<O: ParseOffset> Line<O> for PushNullLine {
     ghost asks = { λ e _. at e push_null };
 
     #[inline(always)]
-    fn command(number: usize, _end: ()) -> Command<i64, O> {
+    fn command(number: usize, _end: Self::Rest) -> Command<i64, O> {
         Command::PushNull(number)
     }
 }
@@ -59,7 +59,7 @@ impl<O: ParseOffset> Line<O> for PopLine {
     ghost asks = { λ e _. at e pop };
 
     #[inline(always)]
-    fn command(number: usize, _end: ()) -> Command<i64, O> {
+    fn command(number: usize, _end: Self::Rest) -> Command<i64, O> {
         Command::Pop(number)
     }
 }
@@ -73,7 +73,7 @@ impl<O: ParseOffset> Line<O> for ExtendLine {
     ghost asks = { λ e slots. at e (extend slots) };
 
     #[inline(always)]
-    fn command(number: usize, slots: Vec<Option<Item<i64>>>) -> Command<i64, O> {
+    fn command(number: usize, slots: Self::Rest) -> Command<i64, O> {
         Command::Extend(number, slots)
     }
 }
@@ -87,7 +87,7 @@ impl<O: ParseOffset> Line<O> for ExtendValuesLine {
     ghost asks = { λ e items. at e (extend_values items) };
 
     #[inline(always)]
-    fn command(number: usize, items: Vec<Item<i64>>) -> Command<i64, O> {
+    fn command(number: usize, items: Self::Rest) -> Command<i64, O> {
         Command::ExtendValues(number, items)
     }
 }
@@ -101,10 +101,7 @@ impl<O: ParseOffset> Line<O> for ConstantLine {
     ghost asks = { λ e (n, slot). at e (extend_constant n slot) };
 
     #[inline(always)]
-    fn command(
-        number: usize,
-        (count, Last(slot)): (usize, Last<Option<Item<i64>>>),
-    ) -> Command<i64, O> {
+    fn command(number: usize, (count, Last(slot)): Self::Rest) -> Command<i64, O> {
         Command::ExtendConstant(number, count, slot)
     }
 }
@@ -118,7 +115,7 @@ impl<O: ParseOffset> Line<O> for ExtendFromSelfLine {
     ghost asks = { λ e f. extend_from e f };
 
     #[inline(always)]
-    fn command(number: usize, other: Last<usize>) -> Command<i64, O> {
+    fn command(number: usize, other: Self::Rest) -> Command<i64, O> {
         Command::ExtendFromSelf(number, other.0)
     }
 }
@@ -132,7 +129,7 @@ impl<O: ParseOffset> Line<O> for ReserveLine {
     ghost asks = { λ e _. at e reserve };
 
     #[inline(always)]
-    fn command(number: usize, (count, Last(bytes)): (usize, Last<usize>)) -> Command<i64, O> {
+    fn command(number: usize, (count, Last(bytes)): Self::Rest) -> Command<i64, O> {
         Command::Reserve(number, count, bytes)
     }
 }
@@ -146,7 +143,7 @@ impl<O: ParseOffset> Line<O> for ShrinkLine {
     ghost asks = { λ e _. at e shrink };
 
     #[inline(always)]
-    fn command(number: usize, _end: ()) -> Command<i64, O> {
+    fn command(number: usize, _end: Self::Rest) -> Command<i64, O> {
         Command::Shrink(number)
     }
 }

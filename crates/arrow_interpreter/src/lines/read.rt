@@ -17,7 +17,7 @@ impl<O: ParseOffset> Line<O> for LenLine {
     ghost asks = { λ e _. at e len };
 
     #[inline(always)]
-    fn command(number: usize, _end: ()) -> Command<i64, O> {
+    fn command(number: usize, _end: Self::Rest) -> Command<i64, O> {
         Command::Len(number)
     }
 }
@@ -31,7 +31,7 @@ impl<O: ParseOffset> Line<O> for ValueLine {
     ghost asks = { λ e i. at e (value i) };
 
     #[inline(always)]
-    fn command(number: usize, index: Last<usize>) -> Command<i64, O> {
+    fn command(number: usize, index: Self::Rest) -> Command<i64, O> {
         Command::Value(number, index.0)
     }
 }
@@ -45,7 +45,7 @@ impl<O: ParseOffset> Line<O> for GetLine {
     ghost asks = { λ e i. at e (get i) };
 
     #[inline(always)]
-    fn command(number: usize, index: Last<usize>) -> Command<i64, O> {
+    fn command(number: usize, index: Self::Rest) -> Command<i64, O> {
         Command::Get(number, index.0)
     }
 }
@@ -59,7 +59,7 @@ impl<O: ParseOffset> Line<O> for IsNullLine {
     ghost asks = { λ e i. at e (is_null i) };
 
     #[inline(always)]
-    fn command(number: usize, index: Last<usize>) -> Command<i64, O> {
+    fn command(number: usize, index: Self::Rest) -> Command<i64, O> {
         Command::IsNull(number, index.0)
     }
 }
@@ -73,7 +73,7 @@ impl<O: ParseOffset> Line<O> for NullsLine {
     ghost asks = { λ e _. at e null_count };
 
     #[inline(always)]
-    fn command(number: usize, _end: ()) -> Command<i64, O> {
+    fn command(number: usize, _end: Self::Rest) -> Command<i64, O> {
         Command::NullCount(number)
     }
 }
@@ -87,7 +87,7 @@ impl<O: ParseOffset> Line<O> for ListLine {
     ghost asks = { λ e _. at e all_slots };
 
     #[inline(always)]
-    fn command(number: usize, _end: ()) -> Command<i64, O> {
+    fn command(number: usize, _end: Self::Rest) -> Command<i64, O> {
         Command::Slots(number)
     }
 
@@ -109,7 +109,7 @@ impl<O: ParseOffset> Line<O> for TurnsLine {
     ghost asks = { λ e asked. at e (turns asked) };
 
     #[inline(always)]
-    fn command(number: usize, turns: Vec<Turn>) -> Command<i64, O> {
+    fn command(number: usize, turns: Self::Rest) -> Command<i64, O> {
         Command::Turns(number, turns)
     }
 }
@@ -123,7 +123,7 @@ impl<O: ParseOffset> Line<O> for TypeLine {
     ghost asks = { λ e _. at e type_of };
 
     #[inline(always)]
-    fn command(number: usize, _end: ()) -> Command<i64, O> {
+    fn command(number: usize, _end: Self::Rest) -> Command<i64, O> {
         Command::TypeOf(number)
     }
 }
@@ -137,7 +137,7 @@ impl<O: ParseOffset> Line<O> for HeldLine {
     ghost asks = { λ e _. at e held };
 
     #[inline(always)]
-    fn command(number: usize, _end: ()) -> Command<i64, O> {
+    fn command(number: usize, _end: Self::Rest) -> Command<i64, O> {
         Command::Held(number)
     }
 }
@@ -151,7 +151,7 @@ impl<O: ParseOffset> Line<O> for BytesLine {
     ghost asks = { λ e _. at e bytes };
 
     #[inline(always)]
-    fn command(number: usize, _end: ()) -> Command<i64, O> {
+    fn command(number: usize, _end: Self::Rest) -> Command<i64, O> {
         Command::Bytes(number)
     }
 }
@@ -165,7 +165,7 @@ impl<O: ParseOffset> Line<O> for OffsetsLine {
     ghost asks = { λ e _. at e offsets };
 
     #[inline(always)]
-    fn command(number: usize, _end: ()) -> Command<i64, O> {
+    fn command(number: usize, _end: Self::Rest) -> Command<i64, O> {
         Command::Offsets(number)
     }
 }

@@ -1,9 +1,9 @@
 //! The text of the reply to a command that lists the slots of an entry.
-ghost use Rattle.std.specs.Prelude.{◌≡◌, ◌++◌, ◌∷◌, [], OnOk, map, option_copied, string_bytes};
+ghost use Rattle.std.specs.Prelude.{◌≡◌, ◌++◌, ◌∷◌, [], OnOk, map, option_copied};
 ghost use Rattle.arrow_column.specs.Column.{slots_of};
 ghost use Rattle.arrow_entry.specs.Entry.{value_of};
 ghost use Rattle.arrow_table.specs.Listed.{listed};
-ghost use Rattle.arrow_syntax.specs.Text.{bracketed, slot_text, text_of};
+ghost use Rattle.arrow_syntax.specs.Text.{Grows, bracketed, slot_text, text_of};
 
 use crate::listing::slots::push_slots;
 use arrow_entry::Entry;
@@ -13,7 +13,7 @@ use std::alloc::AllocError;
 /// Appends the text of all slots of what an entry holds, in brackets.
 fn push_held<O: Offset>(text: &mut String, held: &Entry<i64, O>) -> Result<(), AllocError>
     ensures { let slots = map slot_text (slots_of (value_of held.now).column) in
-        OnOk result (string_bytes text.new ≡ string_bytes text.old ++ bracketed slots) }
+        OnOk result (Grows text.old text.new (bracketed slots)) }
 {
     match held {
         Entry::Primitive(kept) => push_slots(text, kept),
@@ -35,7 +35,7 @@ pub fn push_listed<O: Offset>(
     held: Option<&Entry<i64, O>>,
 ) -> Result<(), AllocError>
     ensures { let answer = listed (option_copied held.entry) in
-        OnOk result (string_bytes text.new ≡ string_bytes text.old ++ text_of (answer ∷ [])) }
+        OnOk result (Grows text.old text.new (text_of (answer ∷ []))) }
 {
     match held {
         Some(held) => push_held(text, held)?,
