@@ -72,10 +72,10 @@ fn dispatch_len_4<O: ParseOffset, P: Pass>(
         P.Comes (option_map (on_width O.IS_LARGE) request) pass.old pass.new result }
 {
     if word_eq(name, b"push") {
-        return pass.line::<O, PushLine>(number, words);
+        return pass.direct::<O, PushLine>(number, words);
     }
     if word_eq(name, b"list") {
-        return pass.line::<O, ListLine>(number, words);
+        return pass.direct::<O, ListLine>(number, words);
     }
     if word_eq(name, b"drop") {
         return pass.line::<O, DropLine>(number, words);
@@ -128,7 +128,7 @@ fn dispatch_len_5<O: ParseOffset, P: Pass>(
         return pass.line::<O, SlotsLine>(number, words);
     }
     if word_eq(name, b"parts") {
-        return pass.line::<O, PartsLine>(number, words);
+        return pass.direct::<O, PartsLine>(number, words);
     }
     if word_eq(name, b"items") {
         return pass.line::<O, ItemsLine>(number, words);

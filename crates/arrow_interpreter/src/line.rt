@@ -11,8 +11,8 @@ use arrow_syntax::readers::Words;
 use arrow_table::{Command, Width};
 use std::alloc::{AllocError, Global};
 
-/// A line: a name, a number, and further words, which make a command.
-pub(crate) trait Line<O: ParseOffset> {
+/// A line that makes a command: a name, a number, and further words.
+pub(crate) trait CommandLine<O: ParseOffset> {
     /// The type of the words behind the number.
     type Rest: Words;
 
@@ -22,21 +22,39 @@ pub(crate) trait Line<O: ParseOffset> {
     /// Makes the command.
     fn command(number: usize, rest: Self::Rest) -> Command<i64, O>
         ensures { asked O.number result ≡ asks number (Self.Rest.content rest) };
+}
 
-    /// Reads the words behind the number and runs the command. Returns whether they were well formed. An implementation
-    /// may run the command without making it.
-    fn run(interpreter: &mut Interpreter, number: usize, words: &[u8]) -> Result<bool, AllocError>
-        ensures { let request = reads Self.Rest.reader (asks number) (words_of words.now) in
-            IfOk result (RunsLine (option_map (on_width O.IS_LARGE) request) interpreter.old interpreter.new) }
-    {
-        match Self::Rest::of_words(*interpreter.text.allocator(), words)? {
-            Some(rest) => {
-                interpreter.run::<O>(Self::command(number, rest))?;
-                Ok(true)
-            }
-            None => Ok(false),
+/// Reads the words behind a line's number and runs the command that they make. Returns whether they were well formed.
+pub(crate) fn run_command<O: ParseOffset, L: CommandLine<O>>(
+    interpreter: &mut Interpreter,
+    number: usize,
+    words: &[u8],
+) -> Result<bool, AllocError>
+    ensures { let request = reads L.Rest.reader (L.asks number) (words_of words.now) in
+        IfOk result (RunsLine (option_map (on_width O.IS_LARGE) request) interpreter.old interpreter.new) }
+{
+    match L::Rest::of_words(*interpreter.text.allocator(), words)? {
+        Some(rest) => {
+            interpreter.run::<O>(L::command(number, rest))?;
+            Ok(true)
         }
+        None => Ok(false),
     }
+}
+
+/// A line that is run with no command made for it, which would copy what the line writes.
+pub(crate) trait DirectLine<O: ParseOffset> {
+    /// What a number and the words behind it ask, if they are well formed.
+    ghost reader: { ℕ → List (List ℕ) → Option (Request ℤ) };
+
+    /// Returns whether the words are well formed. The number is named for the contract.
+    fn is_line(number: usize, words: &[u8]) -> bool
+        ensures { result ≡ is_some (reader number (words_of words.now)) };
+
+    /// Runs the line and returns whether the words were well formed.
+    fn run(interpreter: &mut Interpreter, number: usize, words: &[u8]) -> Result<bool, AllocError>
+        ensures { let request = reader number (words_of words.now) in
+            IfOk result (RunsLine (option_map (on_width O.IS_LARGE) request) interpreter.old interpreter.new) };
 }
 
 /// A width of offsets that words write.

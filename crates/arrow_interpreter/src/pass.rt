@@ -9,7 +9,7 @@ ghost use Rattle.arrow_syntax.specs.Words.{words_of};
 ghost use Rattle.arrow_table.specs.Width.{on_width};
 
 use crate::interpreter::Interpreter;
-use crate::line::{Line, ParseOffset};
+use crate::line::{CommandLine, DirectLine, ParseOffset, run_command};
 use arrow_syntax::readers::{Last, Words};
 use std::alloc::AllocError;
 
@@ -23,13 +23,22 @@ pub(crate) trait Pass {
     fn none(&mut self) -> Result<bool, AllocError>
         ensures { Comes None self.old self.new result };
 
-    /// Handles a line of one table, by the number and the words behind it.
-    fn line<O: ParseOffset, L: Line<O>>(
+    /// Handles a line that makes a command, by its number and the words behind it.
+    fn line<O: ParseOffset, L: CommandLine<O>>(
         &mut self,
         number: usize,
         words: &[u8],
     ) -> Result<bool, AllocError>
         ensures { let request = reads L.Rest.reader (L.asks number) (words_of words.now) in
+            Comes (option_map (on_width O.IS_LARGE) request) self.old self.new result };
+
+    /// Handles a line that is run with no command, by its number and the words behind it.
+    fn direct<O: ParseOffset, L: DirectLine<O>>(
+        &mut self,
+        number: usize,
+        words: &[u8],
+    ) -> Result<bool, AllocError>
+        ensures { let request = L.reader number (words_of words.now) in
             Comes (option_map (on_width O.IS_LARGE) request) self.old self.new result };
 
     /// Handles `widen E F`.
@@ -54,12 +63,21 @@ impl Pass for Tested {
     }
 
     #[inline(always)]
-    fn line<O: ParseOffset, L: Line<O>>(
+    fn line<O: ParseOffset, L: CommandLine<O>>(
         &mut self,
         _number: usize,
         words: &[u8],
     ) -> Result<bool, AllocError> {
         Ok(L::Rest::are_words(words))
+    }
+
+    #[inline(always)]
+    fn direct<O: ParseOffset, L: DirectLine<O>>(
+        &mut self,
+        number: usize,
+        words: &[u8],
+    ) -> Result<bool, AllocError> {
+        Ok(L::is_line(number, words))
     }
 
     #[inline(always)]
@@ -86,7 +104,16 @@ impl Pass for Interpreter {
     }
 
     #[inline(always)]
-    fn line<O: ParseOffset, L: Line<O>>(
+    fn line<O: ParseOffset, L: CommandLine<O>>(
+        &mut self,
+        number: usize,
+        words: &[u8],
+    ) -> Result<bool, AllocError> {
+        run_command::<O, L>(self, number, words)
+    }
+
+    #[inline(always)]
+    fn direct<O: ParseOffset, L: DirectLine<O>>(
         &mut self,
         number: usize,
         words: &[u8],

@@ -1,14 +1,14 @@
 //! The lines that cut, copy and change a value.
 ghost use Rattle.arrow_entry.specs.Request.{apply_mask, apply_values, at, clone_from, empty, set, set_mask, set_values, slice, write};
 
-use crate::line::{Line, ParseOffset};
+use crate::line::{CommandLine, ParseOffset};
 use arrow_syntax::readers::Last;
 use arrow_table::{Command, Item, Named};
 
 /// `slice E A N`
 pub(crate) struct SliceLine;
 
-impl<O: ParseOffset> Line<O> for SliceLine {
+impl<O: ParseOffset> CommandLine<O> for SliceLine {
     type Rest = (usize, Last<usize>);
 
     ghost asks = { λ e (a, n). at e (slice a n) };
@@ -22,7 +22,7 @@ impl<O: ParseOffset> Line<O> for SliceLine {
 /// `clone E F`
 pub(crate) struct CloneLine;
 
-impl<O: ParseOffset> Line<O> for CloneLine {
+impl<O: ParseOffset> CommandLine<O> for CloneLine {
     type Rest = Last<usize>;
 
     ghost asks = { λ e f. clone_from f e };
@@ -36,7 +36,7 @@ impl<O: ParseOffset> Line<O> for CloneLine {
 /// `drop E`
 pub(crate) struct DropLine;
 
-impl<O: ParseOffset> Line<O> for DropLine {
+impl<O: ParseOffset> CommandLine<O> for DropLine {
     type Rest = ();
 
     ghost asks = { λ e _. at e empty };
@@ -50,7 +50,7 @@ impl<O: ParseOffset> Line<O> for DropLine {
 /// `mask E MASK`
 pub(crate) struct MaskLine;
 
-impl<O: ParseOffset> Line<O> for MaskLine {
+impl<O: ParseOffset> CommandLine<O> for MaskLine {
     type Rest = Last<Option<Vec<bool>>>;
 
     ghost asks = { λ e mask. at e (set_mask mask) };
@@ -64,7 +64,7 @@ impl<O: ParseOffset> Line<O> for MaskLine {
 /// `applymask E CHANGE`
 pub(crate) struct ApplyMaskLine;
 
-impl<O: ParseOffset> Line<O> for ApplyMaskLine {
+impl<O: ParseOffset> CommandLine<O> for ApplyMaskLine {
     type Rest = Named<i64>;
 
     ghost asks = { λ e change. at e (apply_mask change) };
@@ -78,7 +78,7 @@ impl<O: ParseOffset> Line<O> for ApplyMaskLine {
 /// `values E ITEM*`
 pub(crate) struct ValuesLine;
 
-impl<O: ParseOffset> Line<O> for ValuesLine {
+impl<O: ParseOffset> CommandLine<O> for ValuesLine {
     type Rest = Vec<Item<i64>>;
 
     ghost asks = { λ e items. at e (set_values items) };
@@ -92,7 +92,7 @@ impl<O: ParseOffset> Line<O> for ValuesLine {
 /// `applyvalues E CHANGE`
 pub(crate) struct ApplyValuesLine;
 
-impl<O: ParseOffset> Line<O> for ApplyValuesLine {
+impl<O: ParseOffset> CommandLine<O> for ApplyValuesLine {
     type Rest = Named<i64>;
 
     ghost asks = { λ e change. at e (apply_values change) };
@@ -106,7 +106,7 @@ impl<O: ParseOffset> Line<O> for ApplyValuesLine {
 /// `set E I SLOT`
 pub(crate) struct SetLine;
 
-impl<O: ParseOffset> Line<O> for SetLine {
+impl<O: ParseOffset> CommandLine<O> for SetLine {
     type Rest = (usize, Last<Option<Item<i64>>>);
 
     ghost asks = { λ e (i, slot). at e (set i slot) };
@@ -120,7 +120,7 @@ impl<O: ParseOffset> Line<O> for SetLine {
 /// `write E I ITEM`
 pub(crate) struct WriteLine;
 
-impl<O: ParseOffset> Line<O> for WriteLine {
+impl<O: ParseOffset> CommandLine<O> for WriteLine {
     type Rest = (usize, Last<Item<i64>>);
 
     ghost asks = { λ e (i, item). at e (write i item) };

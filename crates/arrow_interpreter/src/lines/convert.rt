@@ -1,7 +1,7 @@
 //! The lines that convert a value, and those about two values, about three, and about none.
 ghost use Rattle.arrow_entry.specs.Request.{at, check_indexes, equal, filter_from, freeze, nullable, take_from, thaw, to};
 
-use crate::line::{Line, ParseOffset};
+use crate::line::{CommandLine, ParseOffset};
 use arrow_syntax::readers::Last;
 use arrow_table::Command;
 use arrow_types::data_type::DataType;
@@ -9,7 +9,7 @@ use arrow_types::data_type::DataType;
 /// `freeze E`
 pub(crate) struct FreezeLine;
 
-impl<O: ParseOffset> Line<O> for FreezeLine {
+impl<O: ParseOffset> CommandLine<O> for FreezeLine {
     type Rest = ();
 
     ghost asks = { λ e _. at e freeze };
@@ -23,7 +23,7 @@ impl<O: ParseOffset> Line<O> for FreezeLine {
 /// `thaw E`
 pub(crate) struct ThawLine;
 
-impl<O: ParseOffset> Line<O> for ThawLine {
+impl<O: ParseOffset> CommandLine<O> for ThawLine {
     type Rest = ();
 
     ghost asks = { λ e _. at e thaw };
@@ -37,7 +37,7 @@ impl<O: ParseOffset> Line<O> for ThawLine {
 /// `nullable E`
 pub(crate) struct NullableLine;
 
-impl<O: ParseOffset> Line<O> for NullableLine {
+impl<O: ParseOffset> CommandLine<O> for NullableLine {
     type Rest = ();
 
     ghost asks = { λ e _. at e nullable };
@@ -51,7 +51,7 @@ impl<O: ParseOffset> Line<O> for NullableLine {
 /// `to E TYPE`
 pub(crate) struct ToLine;
 
-impl<O: ParseOffset> Line<O> for ToLine {
+impl<O: ParseOffset> CommandLine<O> for ToLine {
     type Rest = Last<DataType>;
 
     ghost asks = { λ e t. at e (to t) };
@@ -65,7 +65,7 @@ impl<O: ParseOffset> Line<O> for ToLine {
 /// `equal E F`
 pub(crate) struct EqualLine;
 
-impl<O: ParseOffset> Line<O> for EqualLine {
+impl<O: ParseOffset> CommandLine<O> for EqualLine {
     type Rest = Last<usize>;
 
     ghost asks = { λ e f. equal e f };
@@ -79,7 +79,7 @@ impl<O: ParseOffset> Line<O> for EqualLine {
 /// `filter E F G`
 pub(crate) struct FilterLine;
 
-impl<O: ParseOffset> Line<O> for FilterLine {
+impl<O: ParseOffset> CommandLine<O> for FilterLine {
     type Rest = (usize, Last<usize>);
 
     ghost asks = { λ e (f, g). filter_from g e f };
@@ -93,7 +93,7 @@ impl<O: ParseOffset> Line<O> for FilterLine {
 /// `take E G INT*`
 pub(crate) struct TakeLine;
 
-impl<O: ParseOffset> Line<O> for TakeLine {
+impl<O: ParseOffset> CommandLine<O> for TakeLine {
     type Rest = (usize, Vec<i64>);
 
     ghost asks = { λ e (g, keys). take_from g e keys };
@@ -107,7 +107,7 @@ impl<O: ParseOffset> Line<O> for TakeLine {
 /// `indexes LEN INT*`
 pub(crate) struct IndexesLine;
 
-impl<O: ParseOffset> Line<O> for IndexesLine {
+impl<O: ParseOffset> CommandLine<O> for IndexesLine {
     type Rest = Vec<i64>;
 
     ghost asks = { λ n keys. check_indexes keys n };

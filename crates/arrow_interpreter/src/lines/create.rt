@@ -6,11 +6,11 @@ ghost use Rattle.arrow_entry.specs.Kind.{boolean, native, pieces, shape};
 ghost use Rattle.arrow_entry.specs.Request.{given_by, items, make, nothing, nulls, parts, slots};
 ghost use Rattle.arrow_syntax.specs.Fields.{packed_mask_in, parts_in, raw_in, type_of};
 ghost use Rattle.arrow_syntax.specs.Lines.{types_over};
-ghost use Rattle.arrow_syntax.specs.Readers.{◌▸◌};
+ghost use Rattle.arrow_syntax.specs.Readers.{reads, ◌▸◌};
 ghost use Rattle.arrow_syntax.specs.Words.{words_of};
 
 use crate::interpreter::Interpreter;
-use crate::line::{Line, OffsetWords, ParseOffset};
+use crate::line::{CommandLine, DirectLine, OffsetWords, ParseOffset};
 use arrow_syntax::fields::first_kind;
 use arrow_syntax::readers::{Last, Words, next};
 use arrow_table::{Bits, Command, Item, Kind, Parts, Raw};
@@ -21,7 +21,7 @@ use std::alloc::{AllocError, Global};
 /// `new E KIND`
 pub(crate) struct NewLine;
 
-impl<O: ParseOffset> Line<O> for NewLine {
+impl<O: ParseOffset> CommandLine<O> for NewLine {
     type Rest = Last<Kind>;
 
     ghost asks = { λ e kind. make e (shape kind) nothing };
@@ -35,7 +35,7 @@ impl<O: ParseOffset> Line<O> for NewLine {
 /// `null E KIND N`
 pub(crate) struct NullLine;
 
-impl<O: ParseOffset> Line<O> for NullLine {
+impl<O: ParseOffset> CommandLine<O> for NullLine {
     type Rest = (Kind, Last<usize>);
 
     ghost asks = { λ e (kind, n).
@@ -47,34 +47,49 @@ impl<O: ParseOffset> Line<O> for NullLine {
     }
 }
 
-/// `parts E KIND TYPE MASK ..`. The parts are moved into the value that they make, and not copied from a command.
+/// `parts E KIND TYPE MASK ..`. The parts are put together once, where the value is made of them.
 pub(crate) struct PartsLine;
 
-impl<O: ParseOffset> Line<O> for PartsLine {
-    type Rest = PartsWords<O>;
+impl<O: ParseOffset> DirectLine<O> for PartsLine {
+    ghost reader = { λ e. reads (parts_in O.offset) (λ (s, (t, (mask, raw))).
+        make e s (parts t raw mask)) };
 
-    ghost asks = { λ e (s, (t, (mask, raw))). make e s (parts t raw mask) };
-
-    #[inline(always)]
-    fn command(number: usize, words: Self::Rest) -> Command<i64, O> {
-        Command::Parts(number, words.0)
+    fn is_line(_number: usize, words: &[u8]) -> bool {
+        match first_kind(words) {
+            Some((kind, words)) => are_parts::<O>(kind, words),
+            None => false,
+        }
     }
 
     fn run(interpreter: &mut Interpreter, number: usize, words: &[u8]) -> Result<bool, AllocError> {
-        match PartsWords::<O>::of_words(*interpreter.text.allocator(), words)? {
-            Some(PartsWords(parts)) => {
-                interpreter.parts::<O>(number, parts)?;
-                Ok(true)
-            }
-            None => Ok(false),
-        }
+        let alloc = *interpreter.text.allocator();
+        let Some((kind, words)) = first_kind(words) else {
+            return Ok(false);
+        };
+        let Some((data_type, words)) = next::<DataType>(alloc, words)? else {
+            return Ok(false);
+        };
+        let Some((mask, words)) = next::<Option<Bits>>(alloc, words)? else {
+            return Ok(false);
+        };
+        let Some(raw) = raw_of::<O>(alloc, kind, words)? else {
+            return Ok(false);
+        };
+        let parts = Parts {
+            kind,
+            data_type,
+            raw,
+            mask,
+        };
+        interpreter.parts::<O>(number, parts)?;
+        Ok(true)
     }
 }
 
 /// `slots E KIND SLOT*`
 pub(crate) struct SlotsLine;
 
-impl<O: ParseOffset> Line<O> for SlotsLine {
+impl<O: ParseOffset> CommandLine<O> for SlotsLine {
     type Rest = (Kind, Vec<Option<Item<i64>>>);
 
     ghost asks = { λ e (kind, given). make e (shape kind) (slots given) };
@@ -88,7 +103,7 @@ impl<O: ParseOffset> Line<O> for SlotsLine {
 /// `items E KIND ITEM*`
 pub(crate) struct ItemsLine;
 
-impl<O: ParseOffset> Line<O> for ItemsLine {
+impl<O: ParseOffset> CommandLine<O> for ItemsLine {
     type Rest = (Kind, Vec<Item<i64>>);
 
     ghost asks = { λ e (kind, given). make e (shape kind) (items given) };
@@ -119,53 +134,6 @@ fn default_type<O: Offset>(kind: Kind) -> DataType
             } else {
                 DataType::Utf8
             }
-        }
-    }
-}
-
-/// Raw parts: `KIND TYPE MASK` and the raw values of the kind.
-#[derive(Drop)]
-pub(crate) struct PartsWords<O: ParseOffset>(Parts<i64, O>);
-
-impl<O: ParseOffset> Words for PartsWords<O> {
-    ghost use Rattle.std.specs.Prelude.{ℤ, Option, option_map};
-    ghost use Rattle.arrow_types.specs.Types.{LogicalType, logical_type};
-    ghost use Rattle.arrow_entry.specs.Kind.{Shape, shape};
-    ghost use Rattle.arrow_entry.specs.Request.{Given, Packed, given_by, packed_bits};
-    ghost use Rattle.arrow_syntax.specs.Fields.{parts_in};
-
-    ghost Content = { Shape × (LogicalType × (Option Packed × Given ℤ)) };
-
-    ghost content = { λ words. let p = words.0 in
-        (shape p.kind, (logical_type p.data_type, (option_map packed_bits p.mask, given_by O.number p.raw))) };
-
-    ghost reader = { parts_in O.offset };
-
-    fn of_words(alloc: Global, words: &[u8]) -> Result<Option<Self>, AllocError> {
-        let Some((kind, words)) = first_kind(words) else {
-            return Ok(None);
-        };
-        let Some((data_type, words)) = next::<DataType>(alloc, words)? else {
-            return Ok(None);
-        };
-        let Some((mask, words)) = next::<Option<Bits>>(alloc, words)? else {
-            return Ok(None);
-        };
-        let Some(raw) = raw_of::<O>(alloc, kind, words)? else {
-            return Ok(None);
-        };
-        Ok(Some(PartsWords(Parts {
-            kind,
-            data_type,
-            raw,
-            mask,
-        })))
-    }
-
-    fn are_words(words: &[u8]) -> bool {
-        match first_kind(words) {
-            Some((kind, words)) => are_parts::<O>(kind, words),
-            None => false,
         }
     }
 }

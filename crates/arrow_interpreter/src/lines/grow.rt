@@ -3,11 +3,12 @@ ghost use Rattle.std.specs.Prelude.{IfOk, option_map};
 ghost use Rattle.arrow_entry.specs.Request.{at, extend, extend_constant, extend_from, extend_values, pop, push, push_null, reserve, shrink};
 ghost use Rattle.arrow_interpreter.specs.Replies.{RunsLine};
 ghost use Rattle.arrow_syntax.specs.Fields.{slot_of};
+ghost use Rattle.arrow_syntax.specs.Readers.{only, reads};
 ghost use Rattle.arrow_table.specs.Width.{on_width};
 
 use crate::interpreter::Interpreter;
-use crate::line::{Line, ParseOffset};
-use arrow_syntax::readers::{Last, Word};
+use crate::line::{CommandLine, DirectLine, ParseOffset};
+use arrow_syntax::readers::{Last, Word, Words};
 use arrow_syntax::words::{next_word, word_eq};
 use arrow_table::{Command, Item};
 use std::alloc::AllocError;
@@ -15,14 +16,11 @@ use std::alloc::AllocError;
 /// `push E SLOT`. The slot is read and pushed with no move, since these lines are the most frequent.
 pub(crate) struct PushLine;
 
-impl<O: ParseOffset> Line<O> for PushLine {
-    type Rest = Last<Option<Item<i64>>>;
+impl<O: ParseOffset> DirectLine<O> for PushLine {
+    ghost reader = { λ e. reads (only slot_of) (λ slot. at e (push slot)) };
 
-    ghost asks = { λ e slot. at e (push slot) };
-
-    #[inline(always)]
-    fn command(number: usize, slot: Self::Rest) -> Command<i64, O> {
-        Command::Push(number, slot.0)
+    fn is_line(_number: usize, words: &[u8]) -> bool {
+        <Last<Option<Item<i64>>>>::are_words(words)
     }
 
     fn run(interpreter: &mut Interpreter, number: usize, words: &[u8]) -> Result<bool, AllocError> {
@@ -39,7 +37,7 @@ impl<O: ParseOffset> Line<O> for PushLine {
 /// `pushnull E`
 pub(crate) struct PushNullLine;
 
-impl<O: ParseOffset> Line<O> for PushNullLine {
+impl<O: ParseOffset> CommandLine<O> for PushNullLine {
     type Rest = ();
 
     ghost asks = { λ e _. at e push_null };
@@ -53,7 +51,7 @@ impl<O: ParseOffset> Line<O> for PushNullLine {
 /// `pop E`
 pub(crate) struct PopLine;
 
-impl<O: ParseOffset> Line<O> for PopLine {
+impl<O: ParseOffset> CommandLine<O> for PopLine {
     type Rest = ();
 
     ghost asks = { λ e _. at e pop };
@@ -67,7 +65,7 @@ impl<O: ParseOffset> Line<O> for PopLine {
 /// `extend E SLOT*`
 pub(crate) struct ExtendLine;
 
-impl<O: ParseOffset> Line<O> for ExtendLine {
+impl<O: ParseOffset> CommandLine<O> for ExtendLine {
     type Rest = Vec<Option<Item<i64>>>;
 
     ghost asks = { λ e slots. at e (extend slots) };
@@ -81,7 +79,7 @@ impl<O: ParseOffset> Line<O> for ExtendLine {
 /// `extendvalues E ITEM*`
 pub(crate) struct ExtendValuesLine;
 
-impl<O: ParseOffset> Line<O> for ExtendValuesLine {
+impl<O: ParseOffset> CommandLine<O> for ExtendValuesLine {
     type Rest = Vec<Item<i64>>;
 
     ghost asks = { λ e items. at e (extend_values items) };
@@ -95,7 +93,7 @@ impl<O: ParseOffset> Line<O> for ExtendValuesLine {
 /// `constant E N SLOT`
 pub(crate) struct ConstantLine;
 
-impl<O: ParseOffset> Line<O> for ConstantLine {
+impl<O: ParseOffset> CommandLine<O> for ConstantLine {
     type Rest = (usize, Last<Option<Item<i64>>>);
 
     ghost asks = { λ e (n, slot). at e (extend_constant n slot) };
@@ -109,7 +107,7 @@ impl<O: ParseOffset> Line<O> for ConstantLine {
 /// `self E F`
 pub(crate) struct ExtendFromSelfLine;
 
-impl<O: ParseOffset> Line<O> for ExtendFromSelfLine {
+impl<O: ParseOffset> CommandLine<O> for ExtendFromSelfLine {
     type Rest = Last<usize>;
 
     ghost asks = { λ e f. extend_from e f };
@@ -123,7 +121,7 @@ impl<O: ParseOffset> Line<O> for ExtendFromSelfLine {
 /// `reserve E N B`
 pub(crate) struct ReserveLine;
 
-impl<O: ParseOffset> Line<O> for ReserveLine {
+impl<O: ParseOffset> CommandLine<O> for ReserveLine {
     type Rest = (usize, Last<usize>);
 
     ghost asks = { λ e _. at e reserve };
@@ -137,7 +135,7 @@ impl<O: ParseOffset> Line<O> for ReserveLine {
 /// `shrink E`
 pub(crate) struct ShrinkLine;
 
-impl<O: ParseOffset> Line<O> for ShrinkLine {
+impl<O: ParseOffset> CommandLine<O> for ShrinkLine {
     type Rest = ();
 
     ghost asks = { λ e _. at e shrink };

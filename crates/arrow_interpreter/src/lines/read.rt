@@ -1,9 +1,9 @@
 //! The lines that read a value.
-ghost use Rattle.std.specs.Prelude.{IfOk, option_map};
+ghost use Rattle.arrow_syntax.specs.Readers.{zero};
 ghost use Rattle.arrow_entry.specs.Request.{all_slots, at, bytes, get, held, is_null, len, null_count, offsets, turns, type_of, value};
 
 use crate::interpreter::Interpreter;
-use crate::line::{Line, ParseOffset};
+use crate::line::{CommandLine, DirectLine, ParseOffset};
 use arrow_syntax::readers::{Last, Words};
 use arrow_table::{Command, Turn};
 use std::alloc::AllocError;
@@ -11,7 +11,7 @@ use std::alloc::AllocError;
 /// `len E`
 pub(crate) struct LenLine;
 
-impl<O: ParseOffset> Line<O> for LenLine {
+impl<O: ParseOffset> CommandLine<O> for LenLine {
     type Rest = ();
 
     ghost asks = { λ e _. at e len };
@@ -25,7 +25,7 @@ impl<O: ParseOffset> Line<O> for LenLine {
 /// `value E I`
 pub(crate) struct ValueLine;
 
-impl<O: ParseOffset> Line<O> for ValueLine {
+impl<O: ParseOffset> CommandLine<O> for ValueLine {
     type Rest = Last<usize>;
 
     ghost asks = { λ e i. at e (value i) };
@@ -39,7 +39,7 @@ impl<O: ParseOffset> Line<O> for ValueLine {
 /// `get E I`
 pub(crate) struct GetLine;
 
-impl<O: ParseOffset> Line<O> for GetLine {
+impl<O: ParseOffset> CommandLine<O> for GetLine {
     type Rest = Last<usize>;
 
     ghost asks = { λ e i. at e (get i) };
@@ -53,7 +53,7 @@ impl<O: ParseOffset> Line<O> for GetLine {
 /// `isnull E I`
 pub(crate) struct IsNullLine;
 
-impl<O: ParseOffset> Line<O> for IsNullLine {
+impl<O: ParseOffset> CommandLine<O> for IsNullLine {
     type Rest = Last<usize>;
 
     ghost asks = { λ e i. at e (is_null i) };
@@ -67,7 +67,7 @@ impl<O: ParseOffset> Line<O> for IsNullLine {
 /// `nulls E`
 pub(crate) struct NullsLine;
 
-impl<O: ParseOffset> Line<O> for NullsLine {
+impl<O: ParseOffset> CommandLine<O> for NullsLine {
     type Rest = ();
 
     ghost asks = { λ e _. at e null_count };
@@ -78,17 +78,14 @@ impl<O: ParseOffset> Line<O> for NullsLine {
     }
 }
 
-/// `list E`. The slots are written from where they lie, and not copied into a command's reply.
+/// `list E`. The slots are written from where they lie.
 pub(crate) struct ListLine;
 
-impl<O: ParseOffset> Line<O> for ListLine {
-    type Rest = ();
+impl<O: ParseOffset> DirectLine<O> for ListLine {
+    ghost reader = { λ e. zero (at e all_slots) };
 
-    ghost asks = { λ e _. at e all_slots };
-
-    #[inline(always)]
-    fn command(number: usize, _end: Self::Rest) -> Command<i64, O> {
-        Command::Slots(number)
+    fn is_line(_number: usize, words: &[u8]) -> bool {
+        <()>::are_words(words)
     }
 
     fn run(interpreter: &mut Interpreter, number: usize, words: &[u8]) -> Result<bool, AllocError> {
@@ -103,7 +100,7 @@ impl<O: ParseOffset> Line<O> for ListLine {
 /// `turns E TURN*`
 pub(crate) struct TurnsLine;
 
-impl<O: ParseOffset> Line<O> for TurnsLine {
+impl<O: ParseOffset> CommandLine<O> for TurnsLine {
     type Rest = Vec<Turn>;
 
     ghost asks = { λ e asked. at e (turns asked) };
@@ -117,7 +114,7 @@ impl<O: ParseOffset> Line<O> for TurnsLine {
 /// `type E`
 pub(crate) struct TypeLine;
 
-impl<O: ParseOffset> Line<O> for TypeLine {
+impl<O: ParseOffset> CommandLine<O> for TypeLine {
     type Rest = ();
 
     ghost asks = { λ e _. at e type_of };
@@ -131,7 +128,7 @@ impl<O: ParseOffset> Line<O> for TypeLine {
 /// `held E`
 pub(crate) struct HeldLine;
 
-impl<O: ParseOffset> Line<O> for HeldLine {
+impl<O: ParseOffset> CommandLine<O> for HeldLine {
     type Rest = ();
 
     ghost asks = { λ e _. at e held };
@@ -145,7 +142,7 @@ impl<O: ParseOffset> Line<O> for HeldLine {
 /// `bytes E`
 pub(crate) struct BytesLine;
 
-impl<O: ParseOffset> Line<O> for BytesLine {
+impl<O: ParseOffset> CommandLine<O> for BytesLine {
     type Rest = ();
 
     ghost asks = { λ e _. at e bytes };
@@ -159,7 +156,7 @@ impl<O: ParseOffset> Line<O> for BytesLine {
 /// `offsets E`
 pub(crate) struct OffsetsLine;
 
-impl<O: ParseOffset> Line<O> for OffsetsLine {
+impl<O: ParseOffset> CommandLine<O> for OffsetsLine {
     type Rest = ();
 
     ghost asks = { λ e _. at e offsets };
