@@ -1,5 +1,6 @@
 -- Lemmas on parts that are written one after the other, with a space between each two.
-use Rattle.std.proofs.Common.{◌≡◌, ◌∙◌, ℕ, zero, suc, ◌+◌, List, [], ◌∷◌, ◌++◌, map, flat_map, take, slice_get, MatchOption, Option, Some, None, refl, sym, ap, append-nil, append_assoc, arith}
+use Rattle.std.proofs.Common.{◌≡◌, ◌∙◌, ℕ, zero, suc, ◌+◌, List, [], ◌∷◌, ◌++◌, map, flat_map, take, slice_get}
+use Rattle.std.proofs.Common.{MatchOption, Option, Some, None, refl, sym, ap, append-nil, append_assoc, arith}
 use Rattle.std.specs.List.{join_with_byte}
 use Rattle.arrow_syntax.proofs.CallerLemmas.{joined}
 use Rattle.arrow_interpreter.specs.SlotRef.{gap}

@@ -1,5 +1,6 @@
 -- What the commands of a session do, and the text of their replies.
-use Rattle.std.specs.Prelude.{◌≡◌, List, [], ◌∷◌, ◌++◌, ℕ, ℤ, pos, Bool, IsTrue, replicate, Option, None, is_some, string_bytes}
+use Rattle.std.specs.Prelude.{◌≡◌, List, [], ◌∷◌, ◌++◌, ℕ, ℤ, pos, Bool, IsTrue, replicate, Option, None}
+use Rattle.std.specs.Prelude.{is_some, string_bytes}
 use Rattle.std.specs.Option.{option_to_list}
 use Rattle.arrow_check.specs.Reading.{no_cost}
 use Rattle.arrow_types.specs.declared.primitive_type.PrimitiveType.TheVariants.{Int64}

@@ -1,5 +1,6 @@
 //! Reads of a whole input and writes of a whole text, over devices that may fail.
-ghost use Rattle.std.specs.Prelude.{◌≡◌, ◌-◌, ◌^◌, ◌<◌, ◌≤◌, IfOk, OnErr, IsErrOf, length, vec_len, OnOk, IsFalse, take};
+ghost use Rattle.std.specs.Prelude.{◌≡◌, ◌-◌, ◌^◌, ◌<◌, ◌≤◌, IfOk, OnErr, IsErrOf, length, vec_len, OnOk};
+ghost use Rattle.std.specs.Prelude.{IsFalse, take};
 ghost use Rattle.std.specs.Io.KnownBytes.{Appends, Keeps};
 ghost use Rattle.arrow_session.specs.Counted.{inside, fault_count, Rose};
 ghost use Rattle.arrow_session.specs.Device.{Takes, IsWhole, PutsFront};

@@ -1,13 +1,17 @@
 -- Lemmas on texts whose bytes hexadecimal digits write.
-use Rattle.std.proofs.Common.{◌≡◌, ℕ, ◌+◌, ◌*◌, ◌<◌, ◌≤◌, Bool, true, false, cond, List, [], ◌∷◌, ◌++◌, length, take, drop, refl, sym, ap, subst, ◌∙◌, arith, Option, Some, None, is_some, IsUtf8, inl, inr, encode_utf8, encode_utf8_all, length-append, length-drop}
+use Rattle.std.proofs.Common.{◌≡◌, ℕ, ◌+◌, ◌*◌, ◌<◌, ◌≤◌, Bool, true, false, cond, List, [], ◌∷◌, ◌++◌, length}
+use Rattle.std.proofs.Common.{take, drop, refl, sym, ap, subst, ◌∙◌, arith, Option, Some, None, is_some, IsUtf8}
+use Rattle.std.proofs.Common.{inl, inr, encode_utf8, encode_utf8_all, length-append, length-drop}
 use Rattle.std.proofs.lemmas.List.{length-take-le, take_all, take-append-le}
 use Rattle.std.proofs.Math.Seq.{drop-append_seam}
 use Rattle.std.specs.Prelude.{option_map, option_and_then, unwrap_or}
 use Rattle.std.specs.Str.{is_utf8, IsValidUpTo}
 use Rattle.std.proofs.lemmas.Bool.{and_parts, cases_lt}
-use Rattle.std.proofs.lemmas.Str.{IsUtf8-append, IsUtf8-nil, IsUtf8-drop, IsUtf8-encode, IsUtf8-from_is_utf8, is_utf8-from_IsUtf8, IsCharBoundary-from_take, length-encode, len_utf8_bounds}
+use Rattle.std.proofs.lemmas.Str.{IsUtf8-append, IsUtf8-nil, IsUtf8-drop, IsUtf8-encode, IsUtf8-from_is_utf8}
+use Rattle.std.proofs.lemmas.Str.{is_utf8-from_IsUtf8, IsCharBoundary-from_take, length-encode, len_utf8_bounds}
 use Rattle.arrow_syntax.specs.Fields.{bytes_in, text_in}
-use Rattle.arrow_syntax.proofs.DigitPairs.{pairs, pairs_front, pairs_broken, pairs_length, bytes_are_pairs, twice, twice_is}
+use Rattle.arrow_syntax.proofs.DigitPairs.{pairs, pairs_front, pairs_broken, pairs_length, bytes_are_pairs}
+use Rattle.arrow_syntax.proofs.DigitPairs.{twice, twice_is}
 
 -- bytes as a text
 abbrev as_text : List ℕ → Option (List ℕ)

@@ -1,5 +1,6 @@
 -- Lemmas on packed bits.
-use Rattle.std.proofs.Common.{◌≡◌, ◌∙◌, ap, sym, ℕ, zero, suc, ◌+◌, ◌-◌, ◌*◌, ◌<◌, ◌≤◌, Bool, true, false, List, [], ◌∷◌, ◌++◌, length, map, take, drop, min, arith, length-drop}
+use Rattle.std.proofs.Common.{◌≡◌, ◌∙◌, ap, sym, ℕ, zero, suc, ◌+◌, ◌-◌, ◌*◌, ◌<◌, ◌≤◌, Bool, true, false, List}
+use Rattle.std.proofs.Common.{[], ◌∷◌, ◌++◌, length, map, take, drop, min, arith, length-drop}
 use Rattle.std.proofs.lemmas.List.{take_all, take_min}
 use Rattle.std.proofs.lemmas.List.FromFn.{map-range_with_len_more}
 use Rattle.std.specs.List.{range_with_len}

@@ -1,5 +1,6 @@
 -- Lemmas on bytes that are text.
-use Rattle.std.proofs.Common.{◌≡◌, ℕ, Bool, true, false, if◌then◌else◌, refl, ap, arith, subst, Some, None, Result, Ok, Err, Vec, String, string_bytes}
+use Rattle.std.proofs.Common.{◌≡◌, ℕ, Bool, true, false, if◌then◌else◌, refl, ap, arith, subst, Some, None}
+use Rattle.std.proofs.Common.{Result, Ok, Err, Vec, String, string_bytes}
 use Rattle.std.specs.Prelude.{IsOk, IfOk, option_map}
 use Rattle.std.specs.Result.{result_ok}
 use Rattle.std.specs.Str.{is_utf8, IsUtf8}

@@ -1,5 +1,6 @@
 -- What the words behind a command's name say.
-use Rattle.std.specs.Prelude.{ℕ, ◌+◌, ◌*◌, bytes_eq, codes, ◌==◌, Bool, true, false, if◌then◌else◌, List, [], ◌∷◌, length, map, take, drop, ℤ, Option, Some, None, option_map, option_and_then}
+use Rattle.std.specs.Prelude.{ℕ, ◌+◌, ◌*◌, bytes_eq, codes, ◌==◌, Bool, true, false, if◌then◌else◌, List, []}
+use Rattle.std.specs.Prelude.{◌∷◌, length, map, take, drop, ℤ, Option, Some, None, option_map, option_and_then}
 use Rattle.std.specs.Int.{div_ceil}
 use Rattle.std.specs.List.{range_with_len}
 use Rattle.std.specs.Result.{result_ok}
@@ -15,7 +16,7 @@ use Rattle.arrow_entry.specs.Item.{Stored, value, bit, piece, Change, fill}
 use Rattle.arrow_entry.specs.Item as item
 use Rattle.arrow_entry.specs.Kind.{Shape, Sort, native, boolean, pieces, shape}
 use Rattle.arrow_entry.specs.Request.{Packed, Given, values, packed, cut_pieces}
-use Rattle.arrow_syntax.specs.Readers.{Reader, beside, zero, only, each, ◌▸◌, next, reads}
+use Rattle.arrow_syntax.specs.Readers.{Reader, beside, no_words, only, each, ◌▸◌, next, reads}
 use Rattle.arrow_syntax.specs.Words.{number_of, integer_of}
 
 -- the kinds of array and builder
@@ -86,9 +87,9 @@ bytes_of [] = None
 bytes_of (b ∷ bs) = if b == letter_x then bytes_in bs else None
 
 -- an item by its first letter: `v` and a number, or `x` or `t` and hexadecimal digits, those behind `t` of a text
-abbrev pub lettered : List ℕ → Option (Stored ℤ)
-lettered [] = None
-lettered (b ∷ bs) =
+abbrev pub item_by_letter : List ℕ → Option (Stored ℤ)
+item_by_letter [] = None
+item_by_letter (b ∷ bs) =
     if b == letter_v then option_map value (integer_of bs) else (
     if b == letter_x then option_map (piece false) (bytes_in bs) else (
     if b == letter_t then option_map (piece true) (text_in bs) else None))
@@ -97,7 +98,7 @@ lettered (b ∷ bs) =
 abbrev pub item_of : List ℕ → Option (Stored ℤ)
 item_of word =
     if bytes_eq word (codes "b0") then Some (bit false) else (
-    if bytes_eq word (codes "b1") then Some (bit true) else lettered word)
+    if bytes_eq word (codes "b1") then Some (bit true) else item_by_letter word)
 
 -- a slot: an item, or `_` for a null
 abbrev pub slot_of : List ℕ → Option (Option (Stored ℤ))
@@ -145,14 +146,14 @@ turn_of word =
     if bytes_eq word (codes "b") then Some turn.Back else skip_of word)
 
 -- a change by its name: `fill` and an item, or `reverse`
-abbrev pub named : List ℕ → Reader (Change (Stored ℤ))
-named name words =
+abbrev pub change_by_name : List ℕ → Reader (Change (Stored ℤ))
+change_by_name name words =
     if bytes_eq name (codes "fill") then reads (only item_of) fill words else (
-    if bytes_eq name (codes "reverse") then zero item.turn words else None)
+    if bytes_eq name (codes "reverse") then no_words item.turn words else None)
 
 abbrev pub change_in : Reader (Change (Stored ℤ))
 change_in [] = None
-change_in (name ∷ words) = named name words
+change_in (name ∷ words) = change_by_name name words
 
 -- raw stored values of a sort: any number of integers; truth values in one word; or bytes, and any number of offsets
 abbrev pub raw_in : (List ℕ → Option ℤ) → Sort → Reader (Given ℤ)

@@ -1,14 +1,18 @@
 -- What each line of the program's input asks.
-use Rattle.std.specs.Prelude.{ℕ, ◌+◌, Bool, not, ◌&&◌, ◌||◌, ◌==◌, nat_le, codes, if◌then◌else◌, List, [], ◌∷◌, ◌++◌, ℤ, pos, Option, Some, None, option_and_then, option_map, bytes_eq, is_some, filter, filter_map, length, position}
+use Rattle.std.specs.Prelude.{ℕ, ◌+◌, Bool, not, ◌&&◌, ◌||◌, ◌==◌, nat_le, codes, if◌then◌else◌, List, [], ◌∷◌}
+use Rattle.std.specs.Prelude.{◌++◌, ℤ, pos, Option, Some, None, option_and_then, option_map, bytes_eq, is_some}
+use Rattle.std.specs.Prelude.{filter, filter_map, length, position}
 use Rattle.arrow_types.specs.declared.primitive_type.PrimitiveType.TheVariants.{Int64}
 use Rattle.arrow_entry.specs.Both.{BothRequest, narrow, wide, widen, narrow_to, narrow_types, wide_types}
 use Rattle.arrow_entry.specs.Entry.{Types, default_type, types}
 use Rattle.arrow_entry.specs.Kind.{shape}
 use Rattle.arrow_entry.specs.Request as ask
-use Rattle.arrow_entry.specs.Request.{Request, make, at, clone_from, extend_from, equal, filter_from, take_from, check_indexes}
+use Rattle.arrow_entry.specs.Request.{Request, make, at, clone_from, extend_from, equal, filter_from, take_from}
+use Rattle.arrow_entry.specs.Request.{check_indexes}
 use Rattle.arrow_syntax.specs.Fields.{kind_of, type_of, item_of, slot_of, mask_of, turn_of, change_in, parts_in}
-use Rattle.arrow_syntax.specs.Readers.{Reader, beside, zero, only, each, ◌▸◌, next, reads}
-use Rattle.arrow_syntax.specs.Words.{line_feed, lines_of, space, words_of, is_passed_over, is_printable, number_of, integer_of, offset_of}
+use Rattle.arrow_syntax.specs.Readers.{Reader, beside, no_words, only, each, ◌▸◌, next, reads}
+use Rattle.arrow_syntax.specs.Words.{line_feed, lines_of, space, words_of, is_passed_over, is_printable}
+use Rattle.arrow_syntax.specs.Words.{number_of, integer_of, offset_of}
 
 -- a line of the program: its name, and what the words ask behind the name and a number, with which all lines go on: most often
 -- that of an entry
@@ -28,17 +32,17 @@ create_lines c offset =
 -- lines that read one
 unfoldable pub read_lines : List Line
 read_lines =
-    (codes "len", λ e. zero (at e ask.len))
+    (codes "len", λ e. no_words (at e ask.len))
     ∷ (codes "value", λ e. reads (only number_of) (λ i. at e (ask.value i)))
     ∷ (codes "get", λ e. reads (only number_of) (λ i. at e (ask.get i)))
     ∷ (codes "isnull", λ e. reads (only number_of) (λ i. at e (ask.is_null i)))
-    ∷ (codes "nulls", λ e. zero (at e ask.null_count))
-    ∷ (codes "list", λ e. zero (at e ask.all_slots))
+    ∷ (codes "nulls", λ e. no_words (at e ask.null_count))
+    ∷ (codes "list", λ e. no_words (at e ask.all_slots))
     ∷ (codes "turns", λ e. reads (each turn_of) (λ turns. at e (ask.turns turns)))
-    ∷ (codes "type", λ e. zero (at e ask.type_of))
-    ∷ (codes "held", λ e. zero (at e ask.held))
-    ∷ (codes "bytes", λ e. zero (at e ask.bytes))
-    ∷ (codes "offsets", λ e. zero (at e ask.offsets))
+    ∷ (codes "type", λ e. no_words (at e ask.type_of))
+    ∷ (codes "held", λ e. no_words (at e ask.held))
+    ∷ (codes "bytes", λ e. no_words (at e ask.bytes))
+    ∷ (codes "offsets", λ e. no_words (at e ask.offsets))
     ∷ []
 
 -- lines that cut, copy and change one
@@ -46,7 +50,7 @@ unfoldable pub change_lines : List Line
 change_lines =
     (codes "slice", λ e. reads (number_of ▸ only number_of) (λ (a, n). at e (ask.slice a n)))
     ∷ (codes "clone", λ e. reads (only number_of) (λ f. clone_from f e))
-    ∷ (codes "drop", λ e. zero (at e ask.empty))
+    ∷ (codes "drop", λ e. no_words (at e ask.empty))
     ∷ (codes "mask", λ e. reads (only mask_of) (λ mask. at e (ask.set_mask mask)))
     ∷ (codes "applymask", λ e. reads change_in (λ change. at e (ask.apply_mask change)))
     ∷ (codes "values", λ e. reads (each item_of) (λ items. at e (ask.set_values items)))
@@ -59,22 +63,22 @@ change_lines =
 unfoldable pub grow_lines : List Line
 grow_lines =
     (codes "push", λ e. reads (only slot_of) (λ slot. at e (ask.push slot)))
-    ∷ (codes "pushnull", λ e. zero (at e ask.push_null))
-    ∷ (codes "pop", λ e. zero (at e ask.pop))
+    ∷ (codes "pushnull", λ e. no_words (at e ask.push_null))
+    ∷ (codes "pop", λ e. no_words (at e ask.pop))
     ∷ (codes "extend", λ e. reads (each slot_of) (λ slots. at e (ask.extend slots)))
     ∷ (codes "extendvalues", λ e. reads (each item_of) (λ items. at e (ask.extend_values items)))
     ∷ (codes "constant", λ e. reads (number_of ▸ only slot_of) (λ (n, slot). at e (ask.extend_constant n slot)))
     ∷ (codes "self", λ e. reads (only number_of) (λ f. extend_from e f))
     ∷ (codes "reserve", λ e. reads (number_of ▸ only number_of) (λ (n, b). at e ask.reserve))
-    ∷ (codes "shrink", λ e. zero (at e ask.shrink))
+    ∷ (codes "shrink", λ e. no_words (at e ask.shrink))
     ∷ []
 
 -- lines that convert one, and lines about two, about three, and about none
 unfoldable pub convert_lines : List Line
 convert_lines =
-    (codes "freeze", λ e. zero (at e ask.freeze))
-    ∷ (codes "thaw", λ e. zero (at e ask.thaw))
-    ∷ (codes "nullable", λ e. zero (at e ask.nullable))
+    (codes "freeze", λ e. no_words (at e ask.freeze))
+    ∷ (codes "thaw", λ e. no_words (at e ask.thaw))
+    ∷ (codes "nullable", λ e. no_words (at e ask.nullable))
     ∷ (codes "to", λ e. reads (only type_of) (λ t. at e (ask.to t)))
     ∷ (codes "equal", λ e. reads (only number_of) (λ f. equal e f))
     ∷ (codes "filter", λ e. reads (number_of ▸ only number_of) (λ (f, g). filter_from g e f))

@@ -1,5 +1,6 @@
 -- How words are read: each by what it has to say, and none is left over.
-use Rattle.std.specs.Prelude.{⊤, ℕ, bytes_eq, if◌then◌else◌, List, [], ◌∷◌, Option, Some, None, option_map, option_and_then}
+use Rattle.std.specs.Prelude.{⊤, ℕ, bytes_eq, if◌then◌else◌, List, [], ◌∷◌, Option, Some, None, option_map}
+use Rattle.std.specs.Prelude.{option_and_then}
 
 -- what words say, where they are as they should be
 abbrev pub Reader : Type 0 → Type 0
@@ -24,12 +25,12 @@ abbrev pub end : Reader ⊤
 end [] = Some tt
 end (word ∷ words) = None
 
-abbrev pub zero : {A : Type 0} → A → Reader A
-zero x = reads end (λ _. x)
+abbrev pub no_words : {A : Type 0} → A → Reader A
+no_words x = reads end (λ _. x)
 
 -- one word, the last
 abbrev pub only : {A : Type 0} → (List ℕ → Option A) → Reader A
-only f words = option_and_then (λ x. zero x.0 x.1) (first f words)
+only f words = option_and_then (λ x. no_words x.0 x.1) (first f words)
 
 -- any number, of words and of other things, each of which is read in the same way
 abbrev pub each : {X A : Type 0} → (X → Option A) → List X → Option (List A)

@@ -1,5 +1,6 @@
 -- What the program answers, as text.
-use Rattle.std.specs.Prelude.{◌≡◌, ℕ, if◌then◌else◌, List, [], ◌∷◌, ◌++◌, map, flat_map, codes, decimal, Option, Some, None, ℤ, String, string_bytes}
+use Rattle.std.specs.Prelude.{◌≡◌, ℕ, if◌then◌else◌, List, [], ◌∷◌, ◌++◌, map, flat_map, codes, decimal, Option}
+use Rattle.std.specs.Prelude.{Some, None, ℤ, String, string_bytes}
 use Rattle.std.specs.List.{join_with_byte}
 use Rattle.std.specs.declared.alloc.Global.{Global}
 use Rattle.std.specs.Fmt.{signed_decimal}
@@ -7,7 +8,8 @@ use Rattle.hex.specs.Hex.{encode_lower}
 use Rattle.arrow_types.specs.Types.{Base, Extension, LogicalType, refusal_text}
 use Rattle.arrow_types.specs.Types as types
 use Rattle.arrow_entry.specs.Item.{Stored, value, bit, piece}
-use Rattle.arrow_entry.specs.Answer.{Answer, done, not_met, not_given, number, flag, slot, slots, numbers, typed, left, right, refused}
+use Rattle.arrow_entry.specs.Answer.{Answer, done, not_met, not_given, number, flag, slot, slots, numbers}
+use Rattle.arrow_entry.specs.Answer.{typed, left, right, refused}
 use Rattle.arrow_syntax.specs.Words.{line_feed, space}
 
 -- an item as it is read: `v` and a number, `b0` or `b1`, or `t` or `x` and the digits of bytes

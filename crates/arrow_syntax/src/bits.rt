@@ -1,7 +1,8 @@
 //! The words that are truth values, as a list and as packed bits.
 ghost use Rattle.std.specs.Prelude.{◌≡◌, ◌≤◌, Bool, List, Option, is_some, length, option_map, IfOk};
 ghost use Rattle.arrow_entry.specs.Request.{Packed, packed_bits};
-ghost use Rattle.arrow_syntax.specs.Fields.{bit_of, bits_of, byte_of, mask_of, packed_bytes, packed_of, packed_in, packed_mask_in};
+ghost use Rattle.arrow_syntax.specs.Fields.{bit_of, bits_of, byte_of, mask_of, packed_bytes, packed_of};
+ghost use Rattle.arrow_syntax.specs.Fields.{packed_in, packed_mask_in};
 ghost use Rattle.arrow_syntax.specs.Readers.{each};
 
 use crate::readers::Word;
@@ -51,7 +52,7 @@ impl Word for Vec<bool> {
 
     ghost meaning = { λ bits. bits.items };
 
-    ghost said = { bits_of };
+    ghost parse = { bits_of };
 
     fn of_word(alloc: Global, word: &[u8]) -> Result<Option<Self>, AllocError> {
         if word_eq(word, b".") {
@@ -71,7 +72,7 @@ impl Word for Option<Vec<bool>> {
 
     ghost meaning = { option_map (λ bits. bits.items) };
 
-    ghost said = { mask_of };
+    ghost parse = { mask_of };
 
     fn of_word(alloc: Global, word: &[u8]) -> Result<Option<Self>, AllocError> {
         if word_eq(word, b"-") {
@@ -114,8 +115,8 @@ fn packed_bytes(alloc: Global, bits: &[bool]) -> Result<Vec<u8>, AllocError>
     Ok(bytes)
 }
 
-fn packed(alloc: Global, bits: &[bool]) -> Result<Bits, AllocError>
-    ensures { IfOk result (λ packed. packed_bits packed ≡ packed_of bits.now) }
+fn pack(alloc: Global, bits: &[bool]) -> Result<Bits, AllocError>
+    ensures { IfOk result (λ read. packed_bits read ≡ packed_of bits.now) }
 {
     Ok(Bits {
         bytes: packed_bytes(alloc, bits)?,
@@ -129,11 +130,11 @@ impl Word for Bits {
 
     ghost meaning = { packed_bits };
 
-    ghost said = { packed_in };
+    ghost parse = { packed_in };
 
     fn of_word(alloc: Global, word: &[u8]) -> Result<Option<Self>, AllocError> {
         match <Vec<bool>>::of_word(alloc, word)? {
-            Some(bits) => Ok(Some(packed(alloc, &bits)?)),
+            Some(bits) => Ok(Some(pack(alloc, &bits)?)),
             None => Ok(None),
         }
     }
@@ -149,11 +150,11 @@ impl Word for Option<Bits> {
 
     ghost meaning = { option_map packed_bits };
 
-    ghost said = { packed_mask_in };
+    ghost parse = { packed_mask_in };
 
     fn of_word(alloc: Global, word: &[u8]) -> Result<Option<Self>, AllocError> {
         match <Option<Vec<bool>>>::of_word(alloc, word)? {
-            Some(Some(marks)) => Ok(Some(Some(packed(alloc, &marks)?))),
+            Some(Some(marks)) => Ok(Some(Some(pack(alloc, &marks)?))),
             Some(None) => Ok(Some(None)),
             None => Ok(None),
         }

@@ -9,7 +9,7 @@ ghost use Rattle.arrow_syntax.specs.Words.{number_of, integer_of, offset_of, wor
 
 use crate::numbers::{integer_of, number_of, offset_of};
 use crate::readers::Word;
-use crate::words::{word_eq, next_word};
+use crate::words::{next_word, word_eq};
 use arrow_entry::{Kind, Turn};
 use arrow_types::data_type::DataType;
 use std::alloc::{AllocError, Global};
@@ -31,7 +31,7 @@ impl Word for usize {
 
     ghost meaning = { λ x. x };
 
-    ghost said = { number_of };
+    ghost parse = { number_of };
 
     fn of_word(_alloc: Global, word: &[u8]) -> Result<Option<Self>, AllocError> {
         Ok(number_of(word))
@@ -47,7 +47,7 @@ impl Word for i64 {
 
     ghost meaning = { λ x. x };
 
-    ghost said = { integer_of };
+    ghost parse = { integer_of };
 
     fn of_word(_alloc: Global, word: &[u8]) -> Result<Option<Self>, AllocError> {
         Ok(integer_of(word))
@@ -63,7 +63,7 @@ impl Word for i32 {
 
     ghost meaning = { λ x. x };
 
-    ghost said = { offset_of };
+    ghost parse = { offset_of };
 
     fn of_word(_alloc: Global, word: &[u8]) -> Result<Option<Self>, AllocError> {
         Ok(offset_of(word))
@@ -127,7 +127,7 @@ impl Word for Kind {
 
     ghost meaning = { λ x. x };
 
-    ghost said = { kind_of };
+    ghost parse = { kind_of };
 
     fn of_word(_alloc: Global, word: &[u8]) -> Result<Option<Self>, AllocError> {
         Ok(kind_of(word))
@@ -195,7 +195,7 @@ impl Word for DataType {
 
     ghost meaning = { logical_type };
 
-    ghost said = { type_of };
+    ghost parse = { type_of };
 
     fn of_word(_alloc: Global, word: &[u8]) -> Result<Option<Self>, AllocError> {
         Ok(type_of(word))
@@ -235,7 +235,7 @@ impl Word for Turn {
 
     ghost meaning = { λ x. x };
 
-    ghost said = { turn_of };
+    ghost parse = { turn_of };
 
     fn of_word(_alloc: Global, word: &[u8]) -> Result<Option<Self>, AllocError> {
         Ok(turn_of(word))

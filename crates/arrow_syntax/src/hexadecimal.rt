@@ -1,5 +1,6 @@
 //! Tests of hexadecimal digits: whether they write bytes, and whether these are a text. Nothing is allocated.
-ghost use Rattle.std.specs.Prelude.{◌≡◌, ◌*◌, ◌<◌, ◌≤◌, None, Some, IfNone, IfSome, IsUtf8, if◌then◌else◌, is_some, length, take};
+ghost use Rattle.std.specs.Prelude.{◌≡◌, ◌*◌, ◌<◌, ◌≤◌, None, Some, IfNone, IfSome, IsUtf8, if◌then◌else◌};
+ghost use Rattle.std.specs.Prelude.{is_some, length, take};
 ghost use Rattle.std.specs.List.{list_all};
 ghost use Rattle.std.specs.Str.{IsValidUpTo};
 ghost use Rattle.hex.specs.Hex.{is_hex_digit};

@@ -1,15 +1,16 @@
 //! The words that are items and slots, and those that name a change of a list of them.
-ghost use Rattle.std.specs.Prelude.{◌≡◌, ℕ, ℤ, true, false, List, Option, Some, None, IfOk, is_some, option_map, string_bytes, if◌then◌else◌};
+ghost use Rattle.std.specs.Prelude.{◌≡◌, ℕ, ℤ, true, false, List, Option, Some, None, IfOk, is_some};
+ghost use Rattle.std.specs.Prelude.{option_map, string_bytes, if◌then◌else◌};
 ghost use Rattle.std.specs.Str.{is_utf8};
 ghost use Rattle.arrow_entry.specs.Item.{Stored, value, piece, Change, fill, turn, stored_item, stored_slot, change_of};
-ghost use Rattle.arrow_syntax.specs.Fields.{bytes_in, text_in, bytes_of, lettered, item_of, slot_of, named, change_in};
-ghost use Rattle.arrow_syntax.specs.Readers.{only, reads, zero};
+ghost use Rattle.arrow_syntax.specs.Fields.{bytes_in, text_in, bytes_of, item_by_letter, item_of, slot_of, change_by_name, change_in};
+ghost use Rattle.arrow_syntax.specs.Readers.{only, reads, no_words};
 ghost use Rattle.arrow_syntax.specs.Words.{words_of, integer_of};
 
 use crate::hexadecimal::{are_bytes, is_text};
 use crate::numbers::integer_of;
 use crate::readers::{Last, Word, Words};
-use crate::words::{word_eq, next_word};
+use crate::words::{next_word, word_eq};
 use arrow_entry::{Item, Named};
 use hex::FromHexError;
 use std::alloc::{AllocError, Global};
@@ -48,7 +49,7 @@ impl Word for Vec<u8> {
 
     ghost meaning = { λ bytes. bytes.items };
 
-    ghost said = { bytes_of };
+    ghost parse = { bytes_of };
 
     fn of_word(alloc: Global, word: &[u8]) -> Result<Option<Self>, AllocError> {
         let Some((first, digits)) = word.split_first() else {
@@ -95,8 +96,8 @@ fn text_item(alloc: Global, digits: &[u8]) -> Result<Option<Item<i64>>, AllocErr
 }
 
 /// Returns the item that a word writes, by its first letter.
-fn lettered(alloc: Global, word: &[u8]) -> Result<Option<Item<i64>>, AllocError>
-    ensures { IfOk result (λ read. option_map stored_item read ≡ lettered word.now) }
+fn item_by_letter(alloc: Global, word: &[u8]) -> Result<Option<Item<i64>>, AllocError>
+    ensures { IfOk result (λ read. option_map stored_item read ≡ item_by_letter word.now) }
 {
     let Some((first, rest)) = word.split_first() else {
         return Ok(None);
@@ -110,8 +111,8 @@ fn lettered(alloc: Global, word: &[u8]) -> Result<Option<Item<i64>>, AllocError>
 }
 
 /// Returns whether a word writes an item, by its first letter.
-fn is_lettered(word: &[u8]) -> bool
-    ensures { result ≡ is_some (lettered word.now) }
+fn is_item_by_letter(word: &[u8]) -> bool
+    ensures { result ≡ is_some (item_by_letter word.now) }
 {
     let Some((first, rest)) = word.split_first() else {
         return false;
@@ -129,7 +130,7 @@ impl Word for Item<i64> {
 
     ghost meaning = { stored_item };
 
-    ghost said = { item_of };
+    ghost parse = { item_of };
 
     fn of_word(alloc: Global, word: &[u8]) -> Result<Option<Self>, AllocError> {
         if word_eq(word, b"b0") {
@@ -138,11 +139,11 @@ impl Word for Item<i64> {
         if word_eq(word, b"b1") {
             return Ok(Some(Item::Bit(true)));
         }
-        lettered(alloc, word)
+        item_by_letter(alloc, word)
     }
 
     fn is_word(word: &[u8]) -> bool {
-        word_eq(word, b"b0") || word_eq(word, b"b1") || is_lettered(word)
+        word_eq(word, b"b0") || word_eq(word, b"b1") || is_item_by_letter(word)
     }
 }
 
@@ -152,7 +153,7 @@ impl Word for Option<Item<i64>> {
 
     ghost meaning = { stored_slot };
 
-    ghost said = { slot_of };
+    ghost parse = { slot_of };
 
     fn of_word(alloc: Global, word: &[u8]) -> Result<Option<Self>, AllocError> {
         if word_eq(word, b"_") {
@@ -170,7 +171,7 @@ impl Word for Option<Item<i64>> {
 }
 
 /// Returns the change that fills with the item that the words write.
-fn filling(alloc: Global, words: &[u8]) -> Result<Option<Named<i64>>, AllocError>
+fn fill_change(alloc: Global, words: &[u8]) -> Result<Option<Named<i64>>, AllocError>
     ensures { IfOk result (λ read. option_map change_of read ≡ reads (only item_of) fill (words_of words.now)) }
 {
     match <Last<Item<i64>>>::of_words(alloc, words)? {
@@ -180,8 +181,8 @@ fn filling(alloc: Global, words: &[u8]) -> Result<Option<Named<i64>>, AllocError
 }
 
 /// Returns the change that reverses a list, if no word follows.
-fn reversing(words: &[u8]) -> Option<Named<i64>>
-    ensures { option_map change_of result ≡ zero turn (words_of words.now) }
+fn reverse_change(words: &[u8]) -> Option<Named<i64>>
+    ensures { option_map change_of result ≡ no_words turn (words_of words.now) }
 {
     match next_word(words) {
         Some(_) => None,
@@ -190,21 +191,25 @@ fn reversing(words: &[u8]) -> Option<Named<i64>>
 }
 
 /// Returns the change of this name.
-fn named(alloc: Global, name: &[u8], words: &[u8]) -> Result<Option<Named<i64>>, AllocError>
-    ensures { IfOk result (λ read. option_map change_of read ≡ named name.now (words_of words.now)) }
+fn change_by_name(
+    alloc: Global,
+    name: &[u8],
+    words: &[u8],
+) -> Result<Option<Named<i64>>, AllocError>
+    ensures { IfOk result (λ read. option_map change_of read ≡ change_by_name name.now (words_of words.now)) }
 {
     if word_eq(name, b"fill") {
-        return filling(alloc, words);
+        return fill_change(alloc, words);
     }
     if word_eq(name, b"reverse") {
-        return Ok(reversing(words));
+        return Ok(reverse_change(words));
     }
     Ok(None)
 }
 
 /// Returns whether the words behind a change's name are well formed.
-fn is_named(name: &[u8], words: &[u8]) -> bool
-    ensures { result ≡ is_some (named name.now (words_of words.now)) }
+fn is_change(name: &[u8], words: &[u8]) -> bool
+    ensures { result ≡ is_some (change_by_name name.now (words_of words.now)) }
 {
     if word_eq(name, b"fill") {
         return <Last<Item<i64>>>::are_words(words);
@@ -222,14 +227,14 @@ impl Words for Named<i64> {
 
     fn of_words(alloc: Global, words: &[u8]) -> Result<Option<Self>, AllocError> {
         match next_word(words) {
-            Some((name, rest)) => named(alloc, name, rest),
+            Some((name, rest)) => change_by_name(alloc, name, rest),
             None => Ok(None),
         }
     }
 
     fn are_words(words: &[u8]) -> bool {
         match next_word(words) {
-            Some((name, rest)) => is_named(name, rest),
+            Some((name, rest)) => is_change(name, rest),
             None => false,
         }
     }

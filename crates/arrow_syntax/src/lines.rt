@@ -2,7 +2,8 @@
 ghost use Rattle.std.specs.Prelude.{◌≡◌, ◌==◌, ◌∷◌, [], ◌<◌, IfSome, IsTrue, MatchOption, length, position};
 ghost use Rattle.std.specs.List.{list_all};
 ghost use Rattle.arrow_syntax.specs.Lines.{is_of_lines};
-ghost use Rattle.arrow_syntax.specs.Words.{is_comment, is_passed_over, is_printable, line_feed, lines_of, pieces, space};
+ghost use Rattle.arrow_syntax.specs.Words.{is_comment, is_passed_over, is_printable, line_feed, lines_of};
+ghost use Rattle.arrow_syntax.specs.Words.{pieces, space};
 
 use memchr::memchr;
 

@@ -1,5 +1,6 @@
 //! The text of replies.
-ghost use Rattle.std.specs.Prelude.{◌≡◌, ◌∷◌, ◌++◌, ◌<◌, if◌then◌else◌, ℕ, List, codes, decimal, map, flat_map, slice_index, OnOk};
+ghost use Rattle.std.specs.Prelude.{◌≡◌, ◌∷◌, ◌++◌, ◌<◌, if◌then◌else◌, ℕ, List, codes, decimal, map, flat_map};
+ghost use Rattle.std.specs.Prelude.{slice_index, OnOk};
 ghost use Rattle.std.specs.Fmt.{signed_decimal};
 ghost use Rattle.std.specs.List.{join_with_byte};
 ghost use Rattle.hex.specs.Hex.{encode_lower, lower_digits};
@@ -91,15 +92,15 @@ fn push_slot(text: &mut String, slot: &Option<Item<i64>>) -> Result<(), AllocErr
 /// A part of a list in brackets.
 trait Part {
     /// The text of the part.
-    ghost shown: { Self → List ℕ };
+    ghost part_text: { Self → List ℕ };
 
     /// Appends the text of the part.
     fn push_to(&self, text: &mut String) -> Result<(), AllocError>
-        ensures { OnOk result (Grows text.old text.new (shown self.now)) };
+        ensures { OnOk result (Grows text.old text.new (part_text self.now)) };
 }
 
 impl Part for Option<Item<i64>> {
-    ghost shown = { λ slot. slot_text (stored_slot slot) };
+    ghost part_text = { λ slot. slot_text (stored_slot slot) };
 
     fn push_to(&self, text: &mut String) -> Result<(), AllocError> {
         push_slot(text, self)
@@ -107,7 +108,7 @@ impl Part for Option<Item<i64>> {
 }
 
 impl Part for usize {
-    ghost shown = { decimal };
+    ghost part_text = { decimal };
 
     fn push_to(&self, text: &mut String) -> Result<(), AllocError> {
         push_number(text, *self)
@@ -116,7 +117,7 @@ impl Part for usize {
 
 /// Appends parts with a space before each.
 fn push_others<P: Part>(text: &mut String, parts: &[P]) -> Result<(), AllocError>
-    ensures { OnOk result (Grows text.old text.new (flat_map (λ x. space ∷ P.shown x) parts.now)) }
+    ensures { OnOk result (Grows text.old text.new (flat_map (λ x. space ∷ P.part_text x) parts.now)) }
 {
     for each in parts {
         text.push_str(" ")?;
@@ -127,7 +128,7 @@ fn push_others<P: Part>(text: &mut String, parts: &[P]) -> Result<(), AllocError
 
 /// Appends parts with a space between each two.
 fn push_joined<P: Part>(text: &mut String, parts: &[P]) -> Result<(), AllocError>
-    ensures { OnOk result (Grows text.old text.new (join_with_byte space (map P.shown parts.now))) }
+    ensures { OnOk result (Grows text.old text.new (join_with_byte space (map P.part_text parts.now))) }
 {
     let Some((first, others)) = parts.split_first() else {
         return Ok(());
@@ -137,7 +138,7 @@ fn push_joined<P: Part>(text: &mut String, parts: &[P]) -> Result<(), AllocError
 }
 
 fn push_list<P: Part>(text: &mut String, parts: &[P]) -> Result<(), AllocError>
-    ensures { OnOk result (Grows text.old text.new (bracketed (map P.shown parts.now))) }
+    ensures { OnOk result (Grows text.old text.new (bracketed (map P.part_text parts.now))) }
 {
     text.push_str("[")?;
     push_joined(text, parts)?;

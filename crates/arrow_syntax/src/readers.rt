@@ -14,15 +14,15 @@ pub trait Word: Sized + Drop {
     ghost meaning: { Self → Meaning };
 
     /// The value that a word writes, if the word is well formed.
-    ghost said: { List ℕ → Option Meaning };
+    ghost parse: { List ℕ → Option Meaning };
 
     /// Returns the value that a word writes, or `None` if the word is malformed.
     fn of_word(alloc: Global, word: &[u8]) -> Result<Option<Self>, AllocError>
-        ensures { IfOk result (λ read. option_map meaning read ≡ said word.now) };
+        ensures { IfOk result (λ read. option_map meaning read ≡ parse word.now) };
 
     /// Returns whether a word is well formed. Allocates nothing.
     fn is_word(word: &[u8]) -> bool
-        ensures { result ≡ is_some (said word.now) };
+        ensures { result ≡ is_some (parse word.now) };
 }
 
 /// A value that all remaining words of a line write.
@@ -50,14 +50,14 @@ pub struct Last<A>(pub A);
 
 /// Reads the first word. Returns its value and the rest of the text, or `None` if the word is missing or malformed.
 pub fn next<A: Word>(alloc: Global, text: &[u8]) -> Result<Option<(A, &[u8])>, AllocError>
-    ensures { let wanted = first A.said (words_of text.now) in
+    ensures { let wanted = first A.parse (words_of text.now) in
         IfOk result (λ read. option_map (λ x. (A.meaning x.0, words_of x.1.now)) read ≡ wanted) }
 {
     let Some((word, rest)) = next_word(text) else {
         return Ok(None);
     };
     match A::of_word(alloc, word)? {
-        Some(said) => Ok(Some((said, rest))),
+        Some(value) => Ok(Some((value, rest))),
         None => Ok(None),
     }
 }
@@ -96,7 +96,7 @@ impl<A: Word> Words for Last<A> {
 
     ghost content = { λ x. A.meaning x.0 };
 
-    ghost reader = { only A.said };
+    ghost reader = { only A.parse };
 
     fn of_words(alloc: Global, words: &[u8]) -> Result<Option<Self>, AllocError> {
         let Some((word, rest)) = next_word(words) else {
@@ -106,7 +106,7 @@ impl<A: Word> Words for Last<A> {
             return Ok(None);
         }
         match A::of_word(alloc, word)? {
-            Some(said) => Ok(Some(Last(said))),
+            Some(value) => Ok(Some(Last(value))),
             None => Ok(None),
         }
     }
@@ -125,17 +125,17 @@ impl<A: Word, B: Words> Words for (A, B) {
 
     ghost content = { λ x. (A.meaning x.0, B.content x.1) };
 
-    ghost reader = { A.said ▸ B.reader };
+    ghost reader = { A.parse ▸ B.reader };
 
     fn of_words(alloc: Global, words: &[u8]) -> Result<Option<Self>, AllocError> {
         let Some((word, rest)) = next_word(words) else {
             return Ok(None);
         };
-        let Some(said) = A::of_word(alloc, word)? else {
+        let Some(value) = A::of_word(alloc, word)? else {
             return Ok(None);
         };
         match B::of_words(alloc, rest)? {
-            Some(others) => Ok(Some((said, others))),
+            Some(others) => Ok(Some((value, others))),
             None => Ok(None),
         }
     }
@@ -154,16 +154,16 @@ impl<A: Word> Words for Vec<A> {
 
     ghost content = { λ xs. map A.meaning xs.items };
 
-    ghost reader = { each A.said };
+    ghost reader = { each A.parse };
 
     fn of_words(alloc: Global, words: &[u8]) -> Result<Option<Self>, AllocError> {
         let mut all = Vec::new(alloc);
         let mut rest = words;
         while let Some((word, after)) = next_word(rest) {
-            let Some(said) = A::of_word(alloc, word)? else {
+            let Some(value) = A::of_word(alloc, word)? else {
                 return Ok(None);
             };
-            all.push(said)?;
+            all.push(value)?;
             rest = after;
         }
         Ok(Some(all))

@@ -175,7 +175,7 @@ impl Width for i32 {
         alloc: Global,
         command: &Command<T, i32>,
     ) -> Reply<T> {
-        tables.on_narrow(alloc, command)
+        tables.narrow.step(alloc, command)
     }
 
     #[inline(always)]
@@ -201,7 +201,7 @@ impl Width for i64 {
         alloc: Global,
         command: &Command<T, i64>,
     ) -> Reply<T> {
-        tables.on_wide(alloc, command)
+        tables.wide.step(alloc, command)
     }
 
     #[inline(always)]

@@ -1,5 +1,6 @@
 //! The lines that cut, copy and change a value.
-ghost use Rattle.arrow_entry.specs.Request.{apply_mask, apply_values, at, clone_from, empty, set, set_mask, set_values, slice, write};
+ghost use Rattle.arrow_entry.specs.Request.{apply_mask, apply_values, at, clone_from, empty, set, set_mask};
+ghost use Rattle.arrow_entry.specs.Request.{set_values, slice, write};
 
 use crate::line::{CommandLine, ParseOffset};
 use arrow_syntax::readers::Last;

@@ -1,5 +1,6 @@
 //! The lines that convert a value, and those about two values, about three, and about none.
-ghost use Rattle.arrow_entry.specs.Request.{at, check_indexes, equal, filter_from, freeze, nullable, take_from, thaw, to};
+ghost use Rattle.arrow_entry.specs.Request.{at, check_indexes, equal, filter_from, freeze, nullable, take_from};
+ghost use Rattle.arrow_entry.specs.Request.{thaw, to};
 
 use crate::line::{CommandLine, ParseOffset};
 use arrow_syntax::readers::Last;

@@ -1,6 +1,7 @@
 //! The lines that make a builder grow or shrink.
 ghost use Rattle.std.specs.Prelude.{IfOk, option_map};
-ghost use Rattle.arrow_entry.specs.Request.{at, extend, extend_constant, extend_from, extend_values, pop, push, push_null, reserve, shrink};
+ghost use Rattle.arrow_entry.specs.Request.{at, extend, extend_constant, extend_from, extend_values, pop, push};
+ghost use Rattle.arrow_entry.specs.Request.{push_null, reserve, shrink};
 ghost use Rattle.arrow_interpreter.specs.Replies.{RunsLine};
 ghost use Rattle.arrow_syntax.specs.Fields.{slot_of};
 ghost use Rattle.arrow_syntax.specs.Readers.{only, reads};

@@ -1,6 +1,7 @@
 //! The lines that read a value.
-ghost use Rattle.arrow_syntax.specs.Readers.{zero};
-ghost use Rattle.arrow_entry.specs.Request.{all_slots, at, bytes, get, held, is_null, len, null_count, offsets, turns, type_of, value};
+ghost use Rattle.arrow_syntax.specs.Readers.{no_words};
+ghost use Rattle.arrow_entry.specs.Request.{all_slots, at, bytes, get, held, is_null, len, null_count, offsets};
+ghost use Rattle.arrow_entry.specs.Request.{turns, type_of, value};
 
 use crate::interpreter::Interpreter;
 use crate::line::{CommandLine, DirectLine, ParseOffset};
@@ -82,7 +83,7 @@ impl<O: ParseOffset> CommandLine<O> for NullsLine {
 pub(crate) struct ListLine;
 
 impl<O: ParseOffset> DirectLine<O> for ListLine {
-    ghost reader = { λ e. zero (at e all_slots) };
+    ghost reader = { λ e. no_words (at e all_slots) };
 
     fn is_line(_number: usize, words: &[u8]) -> bool {
         <()>::are_words(words)

@@ -6,7 +6,7 @@ use Rattle.arrow_syntax.proofs.print.push_joined.Goals as goal
 
 pub returns : goal.returns
 returns g c =
-    let shown = g.P.Part.shown in
+    let shown = g.P.Part.part_text in
     let old = string_bytes c.args.text.now in
     let first = shown c.in-Some.first.now in
     let others = flat_map (λ x. 32 ∷ shown x) c.in-Some.others.now in
