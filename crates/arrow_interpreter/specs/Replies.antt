@@ -9,11 +9,13 @@ use Rattle.arrow_entry.specs.Both.{Both, BothRequest, IsBothStep}
 use Rattle.arrow_entry.specs.Entry.{Held}
 use Rattle.arrow_entry.specs.Run.{Runs}
 use Rattle.arrow_interpreter.specs.declared.interpreter.Interpreter.{Interpreter}
-use Rattle.arrow_syntax.specs.Text.{text_of}
+use Rattle.arrow_syntax.specs.Text.{Grows, text_of}
 
 -- the tables that the program begins with
 abbrev pub at_first : Both ℤ
-at_first = let empty : Held ℤ = record { entries = replicate 16 None; cost = no_cost } in record { narrow = empty; wide = empty }
+at_first =
+    let empty : Held ℤ = record { entries = replicate 16 None; cost = no_cost } in
+    record { narrow = empty; wide = empty }
 
 -- requests, with an answer for each, lead from some tables to others; native values are integers of 64 bits
 abbrev pub IsProgramRun : Both ℤ → List (BothRequest ℤ) → List (Answer ℤ) → Both ℤ → Type 0
@@ -26,12 +28,14 @@ AppendsRun requests old new before after =
 
 -- the same of what the program holds
 abbrev pub RunsRequests : List (BothRequest ℤ) → Interpreter → Interpreter → Type 0
-RunsRequests requests old new = AppendsRun requests old.tables new.tables (string_bytes old.text) (string_bytes new.text)
+RunsRequests requests old new =
+    AppendsRun requests old.tables new.tables (string_bytes old.text) (string_bytes new.text)
 
 -- the text grew by an answer, and the tables stay
 abbrev pub Appends : Answer ℤ → Interpreter → Interpreter → Type 0
-Appends answer old new = (new.tables ≡ old.tables) × (string_bytes new.text ≡ string_bytes old.text ++ text_of (answer ∷ []))
+Appends answer old new = (new.tables ≡ old.tables) × Grows old.text new.text (text_of (answer ∷ []))
 
 -- what words ask was run and answered, where they are a line
 abbrev pub RunsLine : Option (BothRequest ℤ) → Interpreter → Interpreter → Bool → Type 0
-RunsLine request old new is_line = (is_some request ≡ is_line) × (IsTrue is_line → RunsRequests (option_to_list request) old new)
+RunsLine request old new is_line =
+    (is_some request ≡ is_line) × (IsTrue is_line → RunsRequests (option_to_list request) old new)

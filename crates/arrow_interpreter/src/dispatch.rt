@@ -1,5 +1,5 @@
 //! The lines of one table by their names. Names of one length are compared together, the most frequent first.
-#![tactic(auto, unfolding(arrow_syntax::specs::Lines::create_lines, arrow_syntax::specs::Lines::read_lines, arrow_syntax::specs::Lines::change_lines, arrow_syntax::specs::Lines::grow_lines, arrow_syntax::specs::Lines::convert_lines, arrow_syntax::specs::Lines::request_behind))]
+#![tactic(auto, unfolding(arrow_syntax::specs::Lines::create_lines, arrow_syntax::specs::Lines::read_lines, arrow_syntax::specs::Lines::change_lines, arrow_syntax::specs::Lines::grow_lines, arrow_syntax::specs::Lines::convert_lines, arrow_syntax::specs::Lines::request_behind, arrow_syntax::specs::Lines::request_among))]
 
 ghost use Rattle.std.specs.Prelude.{◌==◌, nat_le, nat_lt, option_map};
 ghost use Rattle.arrow_syntax.specs.Lines.{lines_over, request_among, request_behind, with_length};
@@ -226,7 +226,6 @@ fn dispatch_len_7<O: ParseOffset, P: Pass>(
 
 /// Handles the line of this name on the table of a width, by the words behind the name. All lines go on with a number,
 /// which is read here.
-#[tactic(auto, unfolding(arrow_syntax::specs::Lines::create_lines, arrow_syntax::specs::Lines::read_lines, arrow_syntax::specs::Lines::change_lines, arrow_syntax::specs::Lines::grow_lines, arrow_syntax::specs::Lines::convert_lines, arrow_syntax::specs::Lines::request_behind, arrow_syntax::specs::Lines::request_among))]
 #[inline(always)]
 pub(crate) fn dispatch<O: ParseOffset, P: Pass>(
     pass: &mut P,

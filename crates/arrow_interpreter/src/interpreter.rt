@@ -37,7 +37,8 @@ impl Interpreter {
     /// Makes a value of raw parts, which are moved into it, in an empty entry.
     #[inline(always)]
     pub fn parts<O: Width>(&mut self, e: usize, parts: Parts<i64, O>) -> Result<(), AllocError>
-        ensures { OnOk result (RunsRequests (on_width O.IS_LARGE (parts_asked O.number e parts) ∷ []) self.old self.new) }
+        ensures { let request = on_width O.IS_LARGE (parts_asked O.number e parts) in
+            OnOk result (RunsRequests (request ∷ []) self.old self.new) }
     {
         let reply = O::parts(&mut self.tables, e, parts);
         self.push_reply(reply)

@@ -163,4 +163,5 @@ raw_in offset (pieces is_text) = reads (bytes_of ▸ each offset) (λ x. cut_pie
 
 -- raw parts: a kind, a type, a mask, and stored values of the kind's sort
 abbrev pub parts_in : (List ℕ → Option ℤ) → Reader (Shape × (LogicalType × (Option Packed × Given ℤ)))
-parts_in offset = next kind_of (λ kind. reads (type_of ▸ packed_mask_in ▸ raw_in offset (shape kind).sort) (λ parts. (shape kind, parts)))
+parts_in offset = next kind_of (λ kind.
+    reads (type_of ▸ packed_mask_in ▸ raw_in offset (shape kind).sort) (λ parts. (shape kind, parts)))

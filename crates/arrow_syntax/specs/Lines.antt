@@ -14,8 +14,7 @@ use Rattle.arrow_syntax.specs.Readers.{Reader, beside, no_words, only, each, ◌
 use Rattle.arrow_syntax.specs.Words.{line_feed, lines_of, space, words_of, is_passed_over, is_printable}
 use Rattle.arrow_syntax.specs.Words.{number_of, integer_of, offset_of}
 
--- a line of the program: its name, and what the words ask behind the name and a number, with which all lines go on: most often
--- that of an entry
+-- a line: its name, and what a number behind the name and then further words ask; the number is most often that of an entry
 abbrev pub Line : Type 0
 Line = List ℕ × (ℕ → Reader (Request ℤ))
 
@@ -23,7 +22,11 @@ Line = List ℕ × (ℕ → Reader (Request ℤ))
 unfoldable pub create_lines : Types ℤ → (List ℕ → Option ℤ) → List Line
 create_lines c offset =
     (codes "new", λ e. reads (only kind_of) (λ kind. make e (shape kind) ask.nothing))
-    ∷ (codes "null", λ e. reads (kind_of ▸ only number_of) (λ (kind, n). make e (shape kind) (ask.nulls (default_type c (shape kind).sort) n)))
+    ∷ (
+      codes "null",
+      λ e. reads (kind_of ▸ only number_of) (λ (kind, n).
+          make e (shape kind) (ask.nulls (default_type c (shape kind).sort) n)),
+    )
     ∷ (codes "parts", λ e. reads (parts_in offset) (λ (s, (t, (mask, raw))). make e s (ask.parts t raw mask)))
     ∷ (codes "slots", λ e. reads (kind_of ▸ each slot_of) (λ (kind, slots). make e (shape kind) (ask.slots slots)))
     ∷ (codes "items", λ e. reads (kind_of ▸ each item_of) (λ (kind, items). make e (shape kind) (ask.items items)))

@@ -57,19 +57,21 @@ number_of word =
 abbrev pub with_digit : ℕ → ℕ → Option ℕ
 with_digit n b = if is_digit b && nat_lt (n * 10 + digit_value b) (2 ^ 64) then Some (n * 10 + digit_value b) else None
 
--- a number with a sign, of which half as many are below zero as can be written in all: the number itself, where it is one
+-- a signed number of as many bits as hold twice this half: the number itself, if it is below the half
 abbrev pub positive : ℕ → ℕ → Option ℤ
 positive half n = if nat_lt n half then Some (pos n) else None
 
--- the same of what is below zero by it
+-- its opposite, if it is at most the half
 abbrev pub negative : ℕ → ℕ → Option ℤ
 negative half n = if nat_le n half then Some (neg_ℤ (pos n)) else None
 
--- the number with a sign that digits write, after a `-` where it is below zero
+-- the signed number that digits write, after a `-` if it is negative
 abbrev pub signed_of : ℕ → List ℕ → Option ℤ
 signed_of half [] = None
 signed_of half (b ∷ bs) =
-    if b == minus then option_and_then (negative half) (number_of bs) else option_and_then (positive half) (number_of (b ∷ bs))
+    if b == minus
+    then option_and_then (negative half) (number_of bs)
+    else option_and_then (positive half) (number_of (b ∷ bs))
 
 -- such a number of 64 bits, and one of 32 bits
 abbrev pub integer_of : List ℕ → Option ℤ

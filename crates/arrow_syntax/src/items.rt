@@ -3,7 +3,8 @@ ghost use Rattle.std.specs.Prelude.{◌≡◌, ℕ, ℤ, true, false, List, Opti
 ghost use Rattle.std.specs.Prelude.{option_map, string_bytes, if◌then◌else◌};
 ghost use Rattle.std.specs.Str.{is_utf8};
 ghost use Rattle.arrow_entry.specs.Item.{Stored, value, piece, Change, fill, turn, stored_item, stored_slot, change_of};
-ghost use Rattle.arrow_syntax.specs.Fields.{bytes_in, text_in, bytes_of, item_by_letter, item_of, slot_of, change_by_name, change_in};
+ghost use Rattle.arrow_syntax.specs.Fields.{bytes_in, bytes_of, change_by_name, change_in, item_by_letter};
+ghost use Rattle.arrow_syntax.specs.Fields.{item_of, slot_of, text_in};
 ghost use Rattle.arrow_syntax.specs.Readers.{only, reads, no_words};
 ghost use Rattle.arrow_syntax.specs.Words.{words_of, integer_of};
 
