@@ -6,6 +6,7 @@ pub mod Each
 pub mod Joined
 pub mod Names
 pub mod NumberLemmas
+pub mod OneDigit
 pub mod Packing
 pub mod Pieces
 pub mod Places

@@ -56,7 +56,7 @@ pub words_none : words_of [] ≡ []
 unfolding words_of pieces
 words_none = refl
 
-words_first : (line word rest : List ℕ) → pieces 32 line ≡ word ∷ pieces 32 rest → 0 < length word → words_of line ≡ word ∷ words_of rest
+pub words_first : (line word rest : List ℕ) → pieces 32 line ≡ word ∷ pieces 32 rest → 0 < length word → words_of line ≡ word ∷ words_of rest
 unfolding words_of
 words_first line word rest e long = rw (e, lt-ltb 0 (length word) long) refl
 

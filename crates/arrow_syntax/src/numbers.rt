@@ -5,7 +5,7 @@ ghost use Rattle.arrow_syntax.specs.Words.{number_of, with_digit, positive, nega
 /// Appends a digit to a number. Returns `None` if the byte is no digit or the result overflows. A number far below the
 /// greatest `usize` cannot overflow, which spares most numbers the wide product.
 #[inline(always)]
-fn with_digit(number: usize, byte: u8) -> Option<usize>
+pub(crate) fn with_digit(number: usize, byte: u8) -> Option<usize>
     ensures { result ≡ with_digit number byte }
 {
     if byte < b'0' || b'9' < byte {
