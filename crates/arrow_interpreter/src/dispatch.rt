@@ -55,7 +55,7 @@ fn dispatch_len_3<O: ParseOffset, P: Pass>(
         return pass.line::<O, NewLine>(number, words);
     }
     if word_eq(name, b"to") {
-        return pass.line::<O, ToLine>(number, words);
+        return pass.direct::<O, ToLine>(number, words);
     }
     pass.none()
 }

@@ -1,8 +1,8 @@
 //! The lines of a table of one width of offsets.
-ghost use Rattle.std.specs.Prelude.{◌≡◌, ℤ, ℕ, IfOk, List, Option, is_some, map, option_map};
+ghost use Rattle.std.specs.Prelude.{◌≡◌, ℤ, ℕ, IfOk, Some, List, Option, is_some, map, option_map};
 ghost use Rattle.arrow_entry.specs.Request.{Request, asked};
 ghost use Rattle.arrow_interpreter.specs.Replies.{RunsLine};
-ghost use Rattle.arrow_syntax.specs.Readers.{each, reads};
+ghost use Rattle.arrow_syntax.specs.Readers.{each};
 ghost use Rattle.arrow_syntax.specs.Words.{words_of};
 ghost use Rattle.arrow_table.specs.Width.{on_width};
 
@@ -16,12 +16,16 @@ pub(crate) trait CommandLine<O: ParseOffset> {
     /// The type of the words behind the number.
     type Rest: Words;
 
-    /// What a number and these words ask.
-    ghost asks: { ℕ → Self.Rest.Content → Request ℤ };
+    /// What a number and the words behind it ask, if these are well formed.
+    ghost reader: { ℕ → List (List ℕ) → Option (Request ℤ) };
 
     /// Makes the command.
     fn command(number: usize, rest: Self::Rest) -> Command<i64, O>
-        ensures { asked O.number result ≡ asks number (Self.Rest.content rest) };
+        ensures { (words : List (List ℕ)) → Self.Rest.reader words ≡ Some (Self.Rest.content rest)
+            → reader number words ≡ Some (asked O.number result) };
+
+    /// The words are well formed if those of their type are.
+    ghost same: { (n : ℕ) (words : List (List ℕ)) → is_some (reader n words) ≡ is_some (Self.Rest.reader words) };
 }
 
 /// Reads the words behind a line's number and runs the command that they make. Returns whether they were well formed.
@@ -30,7 +34,7 @@ pub(crate) fn run_command<O: ParseOffset, L: CommandLine<O>>(
     number: usize,
     words: &[u8],
 ) -> Result<bool, AllocError>
-    ensures { let request = reads L.Rest.reader (L.asks number) (words_of words.now) in
+    ensures { let request = L.reader number (words_of words.now) in
         IfOk result (RunsLine (option_map (on_width O.IS_LARGE) request) interpreter.old interpreter.new) }
 {
     match L::Rest::of_words(*interpreter.text.allocator(), words)? {
@@ -42,7 +46,7 @@ pub(crate) fn run_command<O: ParseOffset, L: CommandLine<O>>(
     }
 }
 
-/// A line that is run with no command made for it, which would copy what the line writes.
+/// A line that reads its own words. Most are run with no command made for them, which would copy what they write.
 pub(crate) trait DirectLine<O: ParseOffset> {
     /// What a number and the words behind it ask, if they are well formed.
     ghost reader: { ℕ → List (List ℕ) → Option (Request ℤ) };

@@ -4,7 +4,6 @@ ghost use Rattle.std.specs.declared.alloc.AllocError.{AllocError};
 ghost use Rattle.arrow_entry.specs.Both.{BothRequest};
 ghost use Rattle.arrow_interpreter.specs.Replies.{RunsLine};
 ghost use Rattle.arrow_syntax.specs.Lines.{narrow_in, widen_in};
-ghost use Rattle.arrow_syntax.specs.Readers.{reads};
 ghost use Rattle.arrow_syntax.specs.Words.{words_of};
 ghost use Rattle.arrow_table.specs.Width.{on_width};
 
@@ -29,10 +28,10 @@ pub(crate) trait Pass {
         number: usize,
         words: &[u8],
     ) -> Result<bool, AllocError>
-        ensures { let request = reads L.Rest.reader (L.asks number) (words_of words.now) in
+        ensures { let request = L.reader number (words_of words.now) in
             Comes (option_map (on_width O.IS_LARGE) request) self.old self.new result };
 
-    /// Handles a line that is run with no command, by its number and the words behind it.
+    /// Handles a line that reads its own words, by its number and the words behind it.
     fn direct<O: ParseOffset, L: DirectLine<O>>(
         &mut self,
         number: usize,

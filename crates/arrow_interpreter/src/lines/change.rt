@@ -1,6 +1,10 @@
 //! The lines that cut, copy and change a value.
 ghost use Rattle.arrow_entry.specs.Request.{apply_mask, apply_values, at, clone_from, empty, set, set_mask};
 ghost use Rattle.arrow_entry.specs.Request.{set_values, slice, write};
+ghost use Rattle.arrow_syntax.specs.Fields.{change_in, item_of, mask_of, slot_of};
+ghost use Rattle.arrow_syntax.specs.Readers.{each, no_words, only, reads, ◌▸◌};
+ghost use Rattle.arrow_syntax.specs.Words.{number_of};
+ghost use Rattle.std.proofs.Common.{rules};
 
 use crate::line::{CommandLine, ParseOffset};
 use arrow_syntax::readers::Last;
@@ -12,7 +16,9 @@ pub(crate) struct SliceLine;
 impl<O: ParseOffset> CommandLine<O> for SliceLine {
     type Rest = (usize, Last<usize>);
 
-    ghost asks = { λ e (a, n). at e (slice a n) };
+    ghost reader = { λ e. reads (number_of ▸ only number_of) (λ (a, n). at e (slice a n)) };
+
+    ghost same = { Prim.search rules };
 
     #[inline(always)]
     fn command(number: usize, range: Self::Rest) -> Command<i64, O> {
@@ -26,7 +32,9 @@ pub(crate) struct CloneLine;
 impl<O: ParseOffset> CommandLine<O> for CloneLine {
     type Rest = Last<usize>;
 
-    ghost asks = { λ e f. clone_from f e };
+    ghost reader = { λ e. reads (only number_of) (λ f. clone_from f e) };
+
+    ghost same = { Prim.search rules };
 
     #[inline(always)]
     fn command(number: usize, other: Self::Rest) -> Command<i64, O> {
@@ -40,7 +48,9 @@ pub(crate) struct DropLine;
 impl<O: ParseOffset> CommandLine<O> for DropLine {
     type Rest = ();
 
-    ghost asks = { λ e _. at e empty };
+    ghost reader = { λ e. no_words (at e empty) };
+
+    ghost same = { Prim.search rules };
 
     #[inline(always)]
     fn command(number: usize, _end: Self::Rest) -> Command<i64, O> {
@@ -54,7 +64,9 @@ pub(crate) struct MaskLine;
 impl<O: ParseOffset> CommandLine<O> for MaskLine {
     type Rest = Last<Option<Vec<bool>>>;
 
-    ghost asks = { λ e mask. at e (set_mask mask) };
+    ghost reader = { λ e. reads (only mask_of) (λ mask. at e (set_mask mask)) };
+
+    ghost same = { Prim.search rules };
 
     #[inline(always)]
     fn command(number: usize, mask: Self::Rest) -> Command<i64, O> {
@@ -68,7 +80,9 @@ pub(crate) struct ApplyMaskLine;
 impl<O: ParseOffset> CommandLine<O> for ApplyMaskLine {
     type Rest = Named<i64>;
 
-    ghost asks = { λ e change. at e (apply_mask change) };
+    ghost reader = { λ e. reads change_in (λ change. at e (apply_mask change)) };
+
+    ghost same = { Prim.search rules };
 
     #[inline(always)]
     fn command(number: usize, change: Self::Rest) -> Command<i64, O> {
@@ -82,7 +96,9 @@ pub(crate) struct ValuesLine;
 impl<O: ParseOffset> CommandLine<O> for ValuesLine {
     type Rest = Vec<Item<i64>>;
 
-    ghost asks = { λ e items. at e (set_values items) };
+    ghost reader = { λ e. reads (each item_of) (λ items. at e (set_values items)) };
+
+    ghost same = { Prim.search rules };
 
     #[inline(always)]
     fn command(number: usize, items: Self::Rest) -> Command<i64, O> {
@@ -96,7 +112,9 @@ pub(crate) struct ApplyValuesLine;
 impl<O: ParseOffset> CommandLine<O> for ApplyValuesLine {
     type Rest = Named<i64>;
 
-    ghost asks = { λ e change. at e (apply_values change) };
+    ghost reader = { λ e. reads change_in (λ change. at e (apply_values change)) };
+
+    ghost same = { Prim.search rules };
 
     #[inline(always)]
     fn command(number: usize, change: Self::Rest) -> Command<i64, O> {
@@ -110,7 +128,9 @@ pub(crate) struct SetLine;
 impl<O: ParseOffset> CommandLine<O> for SetLine {
     type Rest = (usize, Last<Option<Item<i64>>>);
 
-    ghost asks = { λ e (i, slot). at e (set i slot) };
+    ghost reader = { λ e. reads (number_of ▸ only slot_of) (λ (i, slot). at e (set i slot)) };
+
+    ghost same = { Prim.search rules };
 
     #[inline(always)]
     fn command(number: usize, (index, Last(slot)): Self::Rest) -> Command<i64, O> {
@@ -124,7 +144,9 @@ pub(crate) struct WriteLine;
 impl<O: ParseOffset> CommandLine<O> for WriteLine {
     type Rest = (usize, Last<Item<i64>>);
 
-    ghost asks = { λ e (i, item). at e (write i item) };
+    ghost reader = { λ e. reads (number_of ▸ only item_of) (λ (i, item). at e (write i item)) };
+
+    ghost same = { Prim.search rules };
 
     #[inline(always)]
     fn command(number: usize, (index, Last(item)): Self::Rest) -> Command<i64, O> {

@@ -1,11 +1,17 @@
 //! The lines that convert a value, and those about two values, about three, and about none.
 ghost use Rattle.arrow_entry.specs.Request.{at, check_indexes, equal, filter_from, freeze, nullable, take_from};
 ghost use Rattle.arrow_entry.specs.Request.{thaw, to};
+ghost use Rattle.arrow_syntax.specs.Fields.{type_of};
+ghost use Rattle.arrow_syntax.specs.Readers.{each, no_words, only, reads, ◌▸◌};
+ghost use Rattle.arrow_syntax.specs.Words.{integer_of, number_of};
+ghost use Rattle.std.proofs.Common.{rules};
 
-use crate::line::{CommandLine, ParseOffset};
-use arrow_syntax::readers::Last;
+use crate::interpreter::Interpreter;
+use crate::line::{CommandLine, DirectLine, ParseOffset};
+use arrow_syntax::readers::{Last, Words};
 use arrow_table::Command;
 use arrow_types::data_type::DataType;
+use std::alloc::AllocError;
 
 /// `freeze E`
 pub(crate) struct FreezeLine;
@@ -13,7 +19,9 @@ pub(crate) struct FreezeLine;
 impl<O: ParseOffset> CommandLine<O> for FreezeLine {
     type Rest = ();
 
-    ghost asks = { λ e _. at e freeze };
+    ghost reader = { λ e. no_words (at e freeze) };
+
+    ghost same = { Prim.search rules };
 
     #[inline(always)]
     fn command(number: usize, _end: Self::Rest) -> Command<i64, O> {
@@ -27,7 +35,9 @@ pub(crate) struct ThawLine;
 impl<O: ParseOffset> CommandLine<O> for ThawLine {
     type Rest = ();
 
-    ghost asks = { λ e _. at e thaw };
+    ghost reader = { λ e. no_words (at e thaw) };
+
+    ghost same = { Prim.search rules };
 
     #[inline(always)]
     fn command(number: usize, _end: Self::Rest) -> Command<i64, O> {
@@ -41,7 +51,9 @@ pub(crate) struct NullableLine;
 impl<O: ParseOffset> CommandLine<O> for NullableLine {
     type Rest = ();
 
-    ghost asks = { λ e _. at e nullable };
+    ghost reader = { λ e. no_words (at e nullable) };
+
+    ghost same = { Prim.search rules };
 
     #[inline(always)]
     fn command(number: usize, _end: Self::Rest) -> Command<i64, O> {
@@ -49,17 +61,24 @@ impl<O: ParseOffset> CommandLine<O> for NullableLine {
     }
 }
 
-/// `to E TYPE`
+/// `to E TYPE`. The line reads its words itself: the proof of an `impl` whose `Rest` holds a data type does not finish.
 pub(crate) struct ToLine;
 
-impl<O: ParseOffset> CommandLine<O> for ToLine {
-    type Rest = Last<DataType>;
+impl<O: ParseOffset> DirectLine<O> for ToLine {
+    ghost reader = { λ e. reads (only type_of) (λ t. at e (to t)) };
 
-    ghost asks = { λ e t. at e (to t) };
+    fn is_line(_number: usize, words: &[u8]) -> bool {
+        <Last<DataType>>::are_words(words)
+    }
 
-    #[inline(always)]
-    fn command(number: usize, data_type: Self::Rest) -> Command<i64, O> {
-        Command::To(number, data_type.0)
+    fn run(interpreter: &mut Interpreter, number: usize, words: &[u8]) -> Result<bool, AllocError> {
+        match <Last<DataType>>::of_words(*interpreter.text.allocator(), words)? {
+            Some(Last(data_type)) => {
+                interpreter.run::<O>(Command::To(number, data_type))?;
+                Ok(true)
+            }
+            None => Ok(false),
+        }
     }
 }
 
@@ -69,7 +88,9 @@ pub(crate) struct EqualLine;
 impl<O: ParseOffset> CommandLine<O> for EqualLine {
     type Rest = Last<usize>;
 
-    ghost asks = { λ e f. equal e f };
+    ghost reader = { λ e. reads (only number_of) (λ f. equal e f) };
+
+    ghost same = { Prim.search rules };
 
     #[inline(always)]
     fn command(number: usize, other: Self::Rest) -> Command<i64, O> {
@@ -83,7 +104,9 @@ pub(crate) struct FilterLine;
 impl<O: ParseOffset> CommandLine<O> for FilterLine {
     type Rest = (usize, Last<usize>);
 
-    ghost asks = { λ e (f, g). filter_from g e f };
+    ghost reader = { λ e. reads (number_of ▸ only number_of) (λ (f, g). filter_from g e f) };
+
+    ghost same = { Prim.search rules };
 
     #[inline(always)]
     fn command(number: usize, others: Self::Rest) -> Command<i64, O> {
@@ -97,7 +120,9 @@ pub(crate) struct TakeLine;
 impl<O: ParseOffset> CommandLine<O> for TakeLine {
     type Rest = (usize, Vec<i64>);
 
-    ghost asks = { λ e (g, keys). take_from g e keys };
+    ghost reader = { λ e. reads (number_of ▸ each integer_of) (λ (g, keys). take_from g e keys) };
+
+    ghost same = { Prim.search rules };
 
     #[inline(always)]
     fn command(number: usize, keys: Self::Rest) -> Command<i64, O> {
@@ -111,7 +136,9 @@ pub(crate) struct IndexesLine;
 impl<O: ParseOffset> CommandLine<O> for IndexesLine {
     type Rest = Vec<i64>;
 
-    ghost asks = { λ n keys. check_indexes keys n };
+    ghost reader = { λ n. reads (each integer_of) (λ keys. check_indexes keys n) };
+
+    ghost same = { Prim.search rules };
 
     #[inline(always)]
     fn command(number: usize, keys: Self::Rest) -> Command<i64, O> {

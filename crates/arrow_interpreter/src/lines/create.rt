@@ -4,10 +4,11 @@ ghost use Rattle.arrow_types.specs.Types.{logical_type};
 ghost use Rattle.arrow_entry.specs.Entry.{default_type};
 ghost use Rattle.arrow_entry.specs.Kind.{boolean, native, pieces, shape};
 ghost use Rattle.arrow_entry.specs.Request.{given_by, items, make, nothing, nulls, parts, slots};
-ghost use Rattle.arrow_syntax.specs.Fields.{packed_mask_in, parts_in, raw_in, type_of};
 ghost use Rattle.arrow_syntax.specs.Lines.{types_over};
-ghost use Rattle.arrow_syntax.specs.Readers.{reads, ◌▸◌};
-ghost use Rattle.arrow_syntax.specs.Words.{words_of};
+ghost use Rattle.arrow_syntax.specs.Fields.{item_of, kind_of, packed_mask_in, parts_in, raw_in, slot_of, type_of};
+ghost use Rattle.arrow_syntax.specs.Readers.{each, only, reads, ◌▸◌};
+ghost use Rattle.arrow_syntax.specs.Words.{number_of, words_of};
+ghost use Rattle.std.proofs.Common.{rules};
 
 use crate::interpreter::Interpreter;
 use crate::line::{CommandLine, DirectLine, OffsetWords, ParseOffset};
@@ -24,7 +25,9 @@ pub(crate) struct NewLine;
 impl<O: ParseOffset> CommandLine<O> for NewLine {
     type Rest = Last<Kind>;
 
-    ghost asks = { λ e kind. make e (shape kind) nothing };
+    ghost reader = { λ e. reads (only kind_of) (λ kind. make e (shape kind) nothing) };
+
+    ghost same = { Prim.search rules };
 
     #[inline(always)]
     fn command(number: usize, kind: Self::Rest) -> Command<i64, O> {
@@ -38,8 +41,9 @@ pub(crate) struct NullLine;
 impl<O: ParseOffset> CommandLine<O> for NullLine {
     type Rest = (Kind, Last<usize>);
 
-    ghost asks = { λ e (kind, n).
-        make e (shape kind) (nulls (default_type (types_over O.most O.IS_LARGE) (shape kind).sort) n) };
+    ghost reader = { λ e. reads (kind_of ▸ only number_of) (λ (kind, n). make e (shape kind) (nulls (default_type (types_over O.most O.IS_LARGE) (shape kind).sort) n)) };
+
+    ghost same = { Prim.search rules };
 
     #[inline(always)]
     fn command(number: usize, (kind, Last(count)): Self::Rest) -> Command<i64, O> {
@@ -92,7 +96,9 @@ pub(crate) struct SlotsLine;
 impl<O: ParseOffset> CommandLine<O> for SlotsLine {
     type Rest = (Kind, Vec<Option<Item<i64>>>);
 
-    ghost asks = { λ e (kind, given). make e (shape kind) (slots given) };
+    ghost reader = { λ e. reads (kind_of ▸ each slot_of) (λ (kind, given). make e (shape kind) (slots given)) };
+
+    ghost same = { Prim.search rules };
 
     #[inline(always)]
     fn command(number: usize, (kind, slots): Self::Rest) -> Command<i64, O> {
@@ -106,7 +112,9 @@ pub(crate) struct ItemsLine;
 impl<O: ParseOffset> CommandLine<O> for ItemsLine {
     type Rest = (Kind, Vec<Item<i64>>);
 
-    ghost asks = { λ e (kind, given). make e (shape kind) (items given) };
+    ghost reader = { λ e. reads (kind_of ▸ each item_of) (λ (kind, given). make e (shape kind) (items given)) };
+
+    ghost same = { Prim.search rules };
 
     #[inline(always)]
     fn command(number: usize, (kind, items): Self::Rest) -> Command<i64, O> {

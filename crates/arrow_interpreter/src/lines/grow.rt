@@ -3,9 +3,11 @@ ghost use Rattle.std.specs.Prelude.{IfOk, option_map};
 ghost use Rattle.arrow_entry.specs.Request.{at, extend, extend_constant, extend_from, extend_values, pop, push};
 ghost use Rattle.arrow_entry.specs.Request.{push_null, reserve, shrink};
 ghost use Rattle.arrow_interpreter.specs.Replies.{RunsLine};
-ghost use Rattle.arrow_syntax.specs.Fields.{slot_of};
-ghost use Rattle.arrow_syntax.specs.Readers.{only, reads};
 ghost use Rattle.arrow_table.specs.Width.{on_width};
+ghost use Rattle.arrow_syntax.specs.Fields.{item_of, slot_of};
+ghost use Rattle.arrow_syntax.specs.Readers.{each, no_words, only, reads, ◌▸◌};
+ghost use Rattle.arrow_syntax.specs.Words.{number_of};
+ghost use Rattle.std.proofs.Common.{rules};
 
 use crate::interpreter::Interpreter;
 use crate::line::{CommandLine, DirectLine, ParseOffset};
@@ -41,7 +43,9 @@ pub(crate) struct PushNullLine;
 impl<O: ParseOffset> CommandLine<O> for PushNullLine {
     type Rest = ();
 
-    ghost asks = { λ e _. at e push_null };
+    ghost reader = { λ e. no_words (at e push_null) };
+
+    ghost same = { Prim.search rules };
 
     #[inline(always)]
     fn command(number: usize, _end: Self::Rest) -> Command<i64, O> {
@@ -55,7 +59,9 @@ pub(crate) struct PopLine;
 impl<O: ParseOffset> CommandLine<O> for PopLine {
     type Rest = ();
 
-    ghost asks = { λ e _. at e pop };
+    ghost reader = { λ e. no_words (at e pop) };
+
+    ghost same = { Prim.search rules };
 
     #[inline(always)]
     fn command(number: usize, _end: Self::Rest) -> Command<i64, O> {
@@ -69,7 +75,9 @@ pub(crate) struct ExtendLine;
 impl<O: ParseOffset> CommandLine<O> for ExtendLine {
     type Rest = Vec<Option<Item<i64>>>;
 
-    ghost asks = { λ e slots. at e (extend slots) };
+    ghost reader = { λ e. reads (each slot_of) (λ slots. at e (extend slots)) };
+
+    ghost same = { Prim.search rules };
 
     #[inline(always)]
     fn command(number: usize, slots: Self::Rest) -> Command<i64, O> {
@@ -83,7 +91,9 @@ pub(crate) struct ExtendValuesLine;
 impl<O: ParseOffset> CommandLine<O> for ExtendValuesLine {
     type Rest = Vec<Item<i64>>;
 
-    ghost asks = { λ e items. at e (extend_values items) };
+    ghost reader = { λ e. reads (each item_of) (λ items. at e (extend_values items)) };
+
+    ghost same = { Prim.search rules };
 
     #[inline(always)]
     fn command(number: usize, items: Self::Rest) -> Command<i64, O> {
@@ -97,7 +107,9 @@ pub(crate) struct ConstantLine;
 impl<O: ParseOffset> CommandLine<O> for ConstantLine {
     type Rest = (usize, Last<Option<Item<i64>>>);
 
-    ghost asks = { λ e (n, slot). at e (extend_constant n slot) };
+    ghost reader = { λ e. reads (number_of ▸ only slot_of) (λ (n, slot). at e (extend_constant n slot)) };
+
+    ghost same = { Prim.search rules };
 
     #[inline(always)]
     fn command(number: usize, (count, Last(slot)): Self::Rest) -> Command<i64, O> {
@@ -111,7 +123,9 @@ pub(crate) struct ExtendFromSelfLine;
 impl<O: ParseOffset> CommandLine<O> for ExtendFromSelfLine {
     type Rest = Last<usize>;
 
-    ghost asks = { λ e f. extend_from e f };
+    ghost reader = { λ e. reads (only number_of) (λ f. extend_from e f) };
+
+    ghost same = { Prim.search rules };
 
     #[inline(always)]
     fn command(number: usize, other: Self::Rest) -> Command<i64, O> {
@@ -125,7 +139,9 @@ pub(crate) struct ReserveLine;
 impl<O: ParseOffset> CommandLine<O> for ReserveLine {
     type Rest = (usize, Last<usize>);
 
-    ghost asks = { λ e _. at e reserve };
+    ghost reader = { λ e. reads (number_of ▸ only number_of) (λ _. at e reserve) };
+
+    ghost same = { Prim.search rules };
 
     #[inline(always)]
     fn command(number: usize, (count, Last(bytes)): Self::Rest) -> Command<i64, O> {
@@ -139,7 +155,9 @@ pub(crate) struct ShrinkLine;
 impl<O: ParseOffset> CommandLine<O> for ShrinkLine {
     type Rest = ();
 
-    ghost asks = { λ e _. at e shrink };
+    ghost reader = { λ e. no_words (at e shrink) };
+
+    ghost same = { Prim.search rules };
 
     #[inline(always)]
     fn command(number: usize, _end: Self::Rest) -> Command<i64, O> {

@@ -1,7 +1,10 @@
 //! The lines that read a value.
-ghost use Rattle.arrow_syntax.specs.Readers.{no_words};
 ghost use Rattle.arrow_entry.specs.Request.{all_slots, at, bytes, get, held, is_null, len, null_count, offsets};
 ghost use Rattle.arrow_entry.specs.Request.{turns, type_of, value};
+ghost use Rattle.arrow_syntax.specs.Fields.{turn_of};
+ghost use Rattle.arrow_syntax.specs.Readers.{each, no_words, only, reads};
+ghost use Rattle.arrow_syntax.specs.Words.{number_of};
+ghost use Rattle.std.proofs.Common.{rules};
 
 use crate::interpreter::Interpreter;
 use crate::line::{CommandLine, DirectLine, ParseOffset};
@@ -15,7 +18,9 @@ pub(crate) struct LenLine;
 impl<O: ParseOffset> CommandLine<O> for LenLine {
     type Rest = ();
 
-    ghost asks = { λ e _. at e len };
+    ghost reader = { λ e. no_words (at e len) };
+
+    ghost same = { Prim.search rules };
 
     #[inline(always)]
     fn command(number: usize, _end: Self::Rest) -> Command<i64, O> {
@@ -29,7 +34,9 @@ pub(crate) struct ValueLine;
 impl<O: ParseOffset> CommandLine<O> for ValueLine {
     type Rest = Last<usize>;
 
-    ghost asks = { λ e i. at e (value i) };
+    ghost reader = { λ e. reads (only number_of) (λ i. at e (value i)) };
+
+    ghost same = { Prim.search rules };
 
     #[inline(always)]
     fn command(number: usize, index: Self::Rest) -> Command<i64, O> {
@@ -43,7 +50,9 @@ pub(crate) struct GetLine;
 impl<O: ParseOffset> CommandLine<O> for GetLine {
     type Rest = Last<usize>;
 
-    ghost asks = { λ e i. at e (get i) };
+    ghost reader = { λ e. reads (only number_of) (λ i. at e (get i)) };
+
+    ghost same = { Prim.search rules };
 
     #[inline(always)]
     fn command(number: usize, index: Self::Rest) -> Command<i64, O> {
@@ -57,7 +66,9 @@ pub(crate) struct IsNullLine;
 impl<O: ParseOffset> CommandLine<O> for IsNullLine {
     type Rest = Last<usize>;
 
-    ghost asks = { λ e i. at e (is_null i) };
+    ghost reader = { λ e. reads (only number_of) (λ i. at e (is_null i)) };
+
+    ghost same = { Prim.search rules };
 
     #[inline(always)]
     fn command(number: usize, index: Self::Rest) -> Command<i64, O> {
@@ -71,7 +82,9 @@ pub(crate) struct NullsLine;
 impl<O: ParseOffset> CommandLine<O> for NullsLine {
     type Rest = ();
 
-    ghost asks = { λ e _. at e null_count };
+    ghost reader = { λ e. no_words (at e null_count) };
+
+    ghost same = { Prim.search rules };
 
     #[inline(always)]
     fn command(number: usize, _end: Self::Rest) -> Command<i64, O> {
@@ -104,7 +117,9 @@ pub(crate) struct TurnsLine;
 impl<O: ParseOffset> CommandLine<O> for TurnsLine {
     type Rest = Vec<Turn>;
 
-    ghost asks = { λ e asked. at e (turns asked) };
+    ghost reader = { λ e. reads (each turn_of) (λ asked. at e (turns asked)) };
+
+    ghost same = { Prim.search rules };
 
     #[inline(always)]
     fn command(number: usize, turns: Self::Rest) -> Command<i64, O> {
@@ -118,7 +133,9 @@ pub(crate) struct TypeLine;
 impl<O: ParseOffset> CommandLine<O> for TypeLine {
     type Rest = ();
 
-    ghost asks = { λ e _. at e type_of };
+    ghost reader = { λ e. no_words (at e type_of) };
+
+    ghost same = { Prim.search rules };
 
     #[inline(always)]
     fn command(number: usize, _end: Self::Rest) -> Command<i64, O> {
@@ -132,7 +149,9 @@ pub(crate) struct HeldLine;
 impl<O: ParseOffset> CommandLine<O> for HeldLine {
     type Rest = ();
 
-    ghost asks = { λ e _. at e held };
+    ghost reader = { λ e. no_words (at e held) };
+
+    ghost same = { Prim.search rules };
 
     #[inline(always)]
     fn command(number: usize, _end: Self::Rest) -> Command<i64, O> {
@@ -146,7 +165,9 @@ pub(crate) struct BytesLine;
 impl<O: ParseOffset> CommandLine<O> for BytesLine {
     type Rest = ();
 
-    ghost asks = { λ e _. at e bytes };
+    ghost reader = { λ e. no_words (at e bytes) };
+
+    ghost same = { Prim.search rules };
 
     #[inline(always)]
     fn command(number: usize, _end: Self::Rest) -> Command<i64, O> {
@@ -160,7 +181,9 @@ pub(crate) struct OffsetsLine;
 impl<O: ParseOffset> CommandLine<O> for OffsetsLine {
     type Rest = ();
 
-    ghost asks = { λ e _. at e offsets };
+    ghost reader = { λ e. no_words (at e offsets) };
+
+    ghost same = { Prim.search rules };
 
     #[inline(always)]
     fn command(number: usize, _end: Self::Rest) -> Command<i64, O> {
