@@ -184,7 +184,12 @@ impl Width for i32 {
     }
 
     #[inline(always)]
-    fn parts<T: NativeType>(tables: &mut Tables<T>, e: usize, parts: Parts<T, i32>) -> Reply<T> {
+    fn parts<T: NativeType>(tables: &mut Tables<T>, e: usize, parts: Parts<T, i32>) -> Reply<T>
+        ensures step { let request = narrow (parts_asked (λ n. n) e parts) in
+            IsBothStep T.zero T.PRIMITIVE tables.old request (told result) tables.new }
+        ensures costs { let commands = parts_asked (λ n. n) e parts ∷ [] in
+            CostsAtMost commands tables.old.narrow.cost tables.new.narrow.cost }
+    {
         tables.narrow.parts_at(e, parts)
     }
 }
@@ -210,7 +215,12 @@ impl Width for i64 {
     }
 
     #[inline(always)]
-    fn parts<T: NativeType>(tables: &mut Tables<T>, e: usize, parts: Parts<T, i64>) -> Reply<T> {
+    fn parts<T: NativeType>(tables: &mut Tables<T>, e: usize, parts: Parts<T, i64>) -> Reply<T>
+        ensures step { let request = wide (parts_asked (λ n. n) e parts) in
+            IsBothStep T.zero T.PRIMITIVE tables.old request (told result) tables.new }
+        ensures costs { let commands = parts_asked (λ n. n) e parts ∷ [] in
+            CostsAtMost commands tables.old.wide.cost tables.new.wide.cost }
+    {
         tables.wide.parts_at(e, parts)
     }
 }
