@@ -101,8 +101,8 @@ abbrev pub lines_over : ℕ → Bool → (List ℕ → Option ℤ) → List Line
 lines_over most is_large = lines (types_over most is_large)
 
 -- those of the narrow one, and of the wide one
-unfoldable pub narrow_interpreter : List Line
-narrow_interpreter = lines (narrow_types (pos 0) Int64) offset_of
+unfoldable pub narrow_lines : List Line
+narrow_lines = lines (narrow_types (pos 0) Int64) offset_of
 
 unfoldable pub wide_lines : List Line
 wide_lines = lines (wide_types (pos 0) Int64) integer_of
@@ -138,7 +138,7 @@ both_in (name ∷ words) =
     if bytes_eq name (codes "wide") then option_map wide (request_of wide_lines words) else (
     if bytes_eq name (codes "widen") then widen_in words else (
     if bytes_eq name (codes "narrow") then narrow_in words else
-    option_map narrow (request_among narrow_interpreter name words)))
+    option_map narrow (request_among narrow_lines name words)))
 
 -- a byte that lines may have, or the line feed behind one
 abbrev pub is_of_lines : ℕ → Bool
