@@ -1,13 +1,14 @@
 -- Lemmas on reading one line after the other.
-use Rattle.std.proofs.Common.{◌≡◌, ℕ, suc, ◌+◌, Bool, true, false, cond, nat_lt, List, [], ◌∷◌, ◌++◌, length, refl, sym, ap, ◌∙◌, append_assoc, append-nil, arith, Option, Some, None, ℤ}
+use Rattle.std.proofs.Common.{◌≡◌, ℕ, suc, ◌+◌, Bool, true, false, cond, nat_lt, List, [], ◌∷◌, ◌++◌, length}
+use Rattle.std.proofs.Common.{refl, sym, ap, ◌∙◌, append_assoc, append-nil, arith, Option, Some, None, ℤ}
 use Rattle.std.proofs.lemmas.Bool.{ltb-true, ltb-false, lt-ltb, le-ltb}
 use Rattle.std.specs.Prelude.{◌&&◌, position, filter_map, option_map, IsTrue, MatchOption}
 use Rattle.std.specs.List.{list_all, position_or_len, cons_option}
 use Rattle.std.specs.Option.{option_to_list}
 use denote.Ref.{Bor}
 use Rattle.arrow_entry.specs.Both.{BothRequest}
-use Rattle.arrow_lines.specs.Lines.{Reading, requests, bad_line, reading_at, commands_of, is_bad, asked_in}
-use Rattle.arrow_words.specs.Words.{is_printable, lines_of}
+use Rattle.arrow_syntax.specs.Lines.{Reading, requests, bad_line, reading_at, commands_of, is_bad, asked_in}
+use Rattle.arrow_syntax.specs.Words.{is_printable, lines_of}
 
 -- the lines of what follows, where there is any
 abbrev pub lines_after : Option (Bor (List ℕ)) → List (List ℕ)

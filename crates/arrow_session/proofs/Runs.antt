@@ -6,11 +6,11 @@ use Rattle.arrow_types.specs.declared.primitive_type.PrimitiveType.TheVariants.{
 use Rattle.arrow_entry.specs.Answer.{Answer}
 use Rattle.arrow_entry.specs.Both.{Both, BothRequest, IsBothStep}
 use Rattle.arrow_entry.specs.Run.{Runs}
-use Rattle.arrow_lines.specs.Answered.{IsProgramRun, at_first, AddsAnswers}
-use Rattle.arrow_lines.specs.Lines.{bad_line, commands_of, asked_in, is_bad}
+use Rattle.arrow_interpreter.specs.Replies.{IsProgramRun, at_first, AppendsRun}
+use Rattle.arrow_syntax.specs.Lines.{bad_line, commands_of, asked_in, is_bad}
 use Rattle.arrow_session.specs.Session.{AreCommands, IsAnswer}
-use Rattle.arrow_words.specs.Text.{text_of}
-use Rattle.arrow_words.specs.Words.{lines_of}
+use Rattle.arrow_syntax.specs.Text.{text_of}
+use Rattle.arrow_syntax.specs.Words.{lines_of}
 use Rattle.arrow_session.proofs.Reading.{reading_from, commands_of_is, reads_good, reads_bad, reads_all}
 
 module _ {S C A : Type 0} (Step : S → C → A → S → Type 0) where
@@ -68,7 +68,7 @@ module _ (input : List ℕ) where
           by_test true e = absurd (cc (all.1, h.3 ∙ reads_bad h.0 h.1 line rest e))
           by_test false e = refl
 
-      pub run_good : (later : Both ℤ) (grown : List ℕ) → is_bad line ≡ false → AddsAnswers (option_to_list (asked_in line)) table later text grown
+      pub run_good : (later : Both ℤ) (grown : List ℕ) → is_bad line ≡ false → AppendsRun (option_to_list (asked_in line)) table later text grown
           → IsRunTo input (line ∷ rest) table text → IsRunTo input rest later grown
       unfolding IsRunTo
       run_good later grown e adds h = (

@@ -1,5 +1,6 @@
 -- What a reader or a writer with a count of its faults is, and how the count moves.
-use Rattle.std.specs.Prelude.{ℕ, ◌+◌, ◌-◌, ◌^◌, ◌<◌, min, Bool, true, ◌==◌, not, ◌&&◌, if◌then◌else◌, List, length, Result, Ok, Err}
+use Rattle.std.specs.Prelude.{ℕ, ◌+◌, ◌-◌, ◌^◌, ◌<◌, min, Bool, true, ◌==◌, not, ◌&&◌, if◌then◌else◌, List}
+use Rattle.std.specs.Prelude.{length, Result, Ok, Err}
 use Rattle.arrow_session.specs.declared.counted.Counted.{Counted}
 
 -- the faults that were counted

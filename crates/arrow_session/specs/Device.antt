@@ -5,7 +5,8 @@ use Rattle.std.specs.Io.KnownBytes.{Appends, Consumes, IsAtEnd}
 
 -- bytes that were taken from the known ones now stand at the end of others; none are left where the input is at its end
 abbrev pub Takes : Option (List ℕ) → Option (List ℕ) → List ℕ → List ℕ → Bool → Type 0
-Takes before after old new is_end = (bytes : List ℕ) × (new ≡ old ++ bytes) × Consumes before after bytes × (IsTrue is_end → IsAtEnd after)
+Takes before after old new is_end =
+    (bytes : List ℕ) × (new ≡ old ++ bytes) × Consumes before after bytes × (IsTrue is_end → IsAtEnd after)
 
 -- the known bytes were read, all of them
 abbrev pub IsWhole : Option (List ℕ) → Option (List ℕ) → List ℕ → Type 0

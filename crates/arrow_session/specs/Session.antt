@@ -5,9 +5,9 @@ use Rattle.arrow_session.specs.declared.outcome.Outcome.{Outcome}
 use Rattle.arrow_session.specs.declared.outcome.Outcome.TheVariants as outcome
 use Rattle.arrow_entry.specs.Answer.{Answer}
 use Rattle.arrow_entry.specs.Both.{Both, BothRequest}
-use Rattle.arrow_lines.specs.Answered.{IsProgramRun, at_first}
-use Rattle.arrow_lines.specs.Lines.{requests, bad_line, commands_of}
-use Rattle.arrow_words.specs.Text.{text_of}
+use Rattle.arrow_interpreter.specs.Replies.{IsProgramRun, at_first}
+use Rattle.arrow_syntax.specs.Lines.{requests, bad_line, commands_of}
+use Rattle.arrow_syntax.specs.Text.{text_of}
 
 -- the input is a list of commands, and the text is that of the replies of a run of all of them from 16 empty entries of
 -- each width

@@ -1,5 +1,6 @@
-//! Reading to the end, and writing all.
-ghost use Rattle.std.specs.Prelude.{◌≡◌, ◌-◌, ◌^◌, ◌<◌, ◌≤◌, IfOk, OnErr, IsErrOf, length, vec_len, OnOk, IsFalse, take};
+//! Reads of a whole input and writes of a whole text, over devices that may fail.
+ghost use Rattle.std.specs.Prelude.{◌≡◌, ◌-◌, ◌^◌, ◌<◌, ◌≤◌, IfOk, OnErr, IsErrOf, length, vec_len, OnOk};
+ghost use Rattle.std.specs.Prelude.{IsFalse, take};
 ghost use Rattle.std.specs.Io.KnownBytes.{Appends, Keeps};
 ghost use Rattle.arrow_session.specs.Counted.{inside, fault_count, Rose};
 ghost use Rattle.arrow_session.specs.Device.{Takes, IsWhole, PutsFront};
@@ -11,7 +12,11 @@ use std::io::{ErrorKind, Read, Write};
 /// The number of bytes that are read at a time.
 const PIECE: usize = 65536;
 
-/// Why reading or writing stopped.
+/// The device failed.
+#[derive(Drop)]
+pub(crate) struct DeviceFault;
+
+/// Why reading stopped.
 #[derive(Drop)]
 pub(crate) enum Fault {
     /// The device failed.
@@ -30,23 +35,24 @@ impl From<AllocError> for Fault {
     }
 }
 
-/// Appends what one read returns, and returns whether the input is at its end. A read that was
-/// interrupted returns nothing.
+/// Appends the bytes of one read, and returns whether the input is at its end. An interrupted read appends nothing.
 fn read_piece<R: Read>(
     input: &mut Counted<R>,
-    bytes_item: &mut [u8],
+    piece: &mut [u8],
     bytes: &mut Vec<u8>,
 ) -> Result<bool, Fault>
-    requires { 0 < length bytes_item.old }
-    ensures taken { IfOk result (λ is_end. Takes (R.remaining (inside input.old)) (R.remaining (inside input.new)) bytes.old.items bytes.new.items is_end) }
-    ensures more { IfOk result (λ is_end. IsFalse is_end → fault_count input.old < 2 ^ 64 - 1 → fault_count input.new ≡ fault_count input.old → vec_len bytes.old < vec_len bytes.new) }
+    requires { 0 < length piece.old }
+    ensures taken { let before = R.remaining (inside input.old) in let after = R.remaining (inside input.new) in
+        IfOk result (λ is_end. Takes before after bytes.old.items bytes.new.items is_end) }
+    ensures more { IfOk result (λ is_end. IsFalse is_end → fault_count input.old < 2 ^ 64 - 1
+        → fault_count input.new ≡ fault_count input.old → vec_len bytes.old < vec_len bytes.new) }
     ensures never_less { fault_count input.old ≤ fault_count input.new }
     ensures device { IsErrOf result Fault.Device → Rose (fault_count input.old) (fault_count input.new) }
 {
-    match input.read(bytes_item) {
+    match input.read(piece) {
         Ok(0) => Ok(true),
         Ok(count) => {
-            bytes.extend_from_slice(&bytes_item[..count])?;
+            bytes.extend_from_slice(&piece[..count])?;
             Ok(false)
         }
         Err(error) if error.kind() == ErrorKind::Interrupted => Ok(false),
@@ -56,47 +62,55 @@ fn read_piece<R: Read>(
 
 /// Returns a buffer of `len` bytes.
 fn room(alloc: Global, len: usize) -> Result<Vec<u8>, AllocError>
-    ensures { IfOk result (λ bytes_item. vec_len bytes_item ≡ len) }
+    ensures { IfOk result (λ piece. vec_len piece ≡ len) }
 {
     vec![in alloc; 0; len]
 }
 
 /// Reads an input to its end.
+///
+/// # Errors
+/// Returns `Fault::Device` if a read fails, and `Fault::Memory` if an allocation fails.
 pub(crate) fn read_all<R: Read>(alloc: Global, input: &mut Counted<R>) -> Result<Vec<u8>, Fault>
-    ensures whole { IfOk result (λ bytes. IsWhole (R.remaining (inside input.old)) (R.remaining (inside input.new)) bytes.items) }
+    ensures whole { let before = R.remaining (inside input.old) in let after = R.remaining (inside input.new) in
+        IfOk result (λ bytes. IsWhole before after bytes.items) }
     ensures device { IsErrOf result Fault.Device → Rose (fault_count input.old) (fault_count input.new) }
 {
-    let mut bytes_item = room(alloc, PIECE)?;
+    let mut piece = room(alloc, PIECE)?;
     let mut bytes = Vec::new(alloc);
     for _ in 0..u64::MAX {
-        if read_piece(input, &mut bytes_item, &mut bytes)? {
+        if read_piece(input, &mut piece, &mut bytes)? {
             return Ok(bytes);
         }
     }
     Err(Fault::Device)
 }
 
-/// Writes a beginning of a text by one write, and returns how many bytes it took. A write that was
-/// interrupted took none.
-fn write_piece<W: Write>(output: &mut Counted<W>, text: &[u8]) -> Result<usize, Fault>
+/// Writes a beginning of a text by one write, and returns its length. An interrupted write has length 0.
+fn write_piece<W: Write>(output: &mut Counted<W>, text: &[u8]) -> Result<usize, DeviceFault>
     requires { 0 < length text.now }
     ensures within { IfOk result (λ count. count ≤ length text.now) }
-    ensures taken { IfOk result (λ count. Appends (W.contents (inside output.old)) (W.contents (inside output.new)) (take count text.now)) }
-    ensures more { IfOk result (λ count. fault_count output.old < 2 ^ 64 - 1 → fault_count output.new ≡ fault_count output.old → 0 < count) }
+    ensures taken { let before = W.contents (inside output.old) in let after = W.contents (inside output.new) in
+        IfOk result (λ count. Appends before after (take count text.now)) }
+    ensures more { IfOk result (λ count. fault_count output.old < 2 ^ 64 - 1
+        → fault_count output.new ≡ fault_count output.old → 0 < count) }
     ensures never_less { fault_count output.old ≤ fault_count output.new }
     ensures kept { OnErr result (Keeps (W.contents (inside output.old)) (W.contents (inside output.new))) }
     ensures device { OnErr result (Rose (fault_count output.old) (fault_count output.new)) }
 {
     match output.write(text) {
-        Ok(0) => Err(Fault::Device),
+        Ok(0) => Err(DeviceFault),
         Ok(count) => Ok(count),
         Err(error) if error.kind() == ErrorKind::Interrupted => Ok(0),
-        Err(_) => Err(Fault::Device),
+        Err(_) => Err(DeviceFault),
     }
 }
 
-/// Writes a text. On an error a beginning of it was written.
-fn write_all<W: Write>(output: &mut Counted<W>, text: &[u8]) -> Result<(), Fault>
+/// Writes a text.
+///
+/// # Errors
+/// Returns `DeviceFault` if a write fails; a beginning of the text was then written.
+fn write_all<W: Write>(output: &mut Counted<W>, text: &[u8]) -> Result<(), DeviceFault>
     ensures whole { OnOk result (Appends (W.contents (inside output.old)) (W.contents (inside output.new)) text.now) }
     ensures front { PutsFront (W.contents (inside output.old)) (W.contents (inside output.new)) text.now }
     ensures never_less { fault_count output.old ≤ fault_count output.new }
@@ -110,11 +124,14 @@ fn write_all<W: Write>(output: &mut Counted<W>, text: &[u8]) -> Result<(), Fault
         let count = write_piece(output, rest)?;
         rest = &rest[count..];
     }
-    Err(Fault::Device)
+    Err(DeviceFault)
 }
 
-/// Writes a text and flushes it. On an error a beginning of it was written.
-pub(crate) fn send<W: Write>(output: &mut Counted<W>, text: &[u8]) -> Result<(), Fault>
+/// Writes a text and flushes it.
+///
+/// # Errors
+/// Returns `DeviceFault` if a write or the flush fails; a beginning of the text was then written.
+pub(crate) fn send<W: Write>(output: &mut Counted<W>, text: &[u8]) -> Result<(), DeviceFault>
     ensures whole { OnOk result (Appends (W.contents (inside output.old)) (W.contents (inside output.new)) text.now) }
     ensures front { PutsFront (W.contents (inside output.old)) (W.contents (inside output.new)) text.now }
     ensures device { OnErr result (Rose (fault_count output.old) (fault_count output.new)) }
@@ -122,6 +139,6 @@ pub(crate) fn send<W: Write>(output: &mut Counted<W>, text: &[u8]) -> Result<(),
     write_all(output, text)?;
     match output.flush() {
         Ok(()) => Ok(()),
-        Err(_) => Err(Fault::Device),
+        Err(_) => Err(DeviceFault),
     }
 }

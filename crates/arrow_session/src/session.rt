@@ -2,24 +2,24 @@
 //! are written.
 ghost use Rattle.std.specs.Prelude.{◌≡◌, IfOk, IfSome, MatchOption, ◌⊎◌, string_bytes};
 ghost use Rattle.arrow_session.specs.Counted.{inside, fault_count, Rose};
-ghost use Rattle.arrow_lines.specs.Lines.{bad_line, commands_of};
+ghost use Rattle.arrow_syntax.specs.Lines.{bad_line, commands_of};
 ghost use Rattle.arrow_session.specs.Session.{AreCommands, Ends, IsAnswer};
 
 use crate::counted::Counted;
-use crate::device::{Fault, read_all, send};
+use crate::device::{DeviceFault, Fault, read_all, send};
 use crate::outcome::Outcome;
-use arrow_lines::answering::Answering;
-use arrow_lines::parse::{all_printable, answer_line, is_line};
+use arrow_interpreter::interpreter::Interpreter;
+use arrow_interpreter::run::{is_line, run_line};
+use arrow_syntax::lines::{all_printable, split_line};
 use arrow_table::Tables;
-use arrow_words::words::cut_line;
 use std::alloc::{AllocError, Global};
 use std::io::{Read, Write};
 
 /// The number of entries of each table of a session.
 const ENTRIES: usize = 16;
 
-/// Returns the number of the first line that is not a command, counted from 1, or `None` if every
-/// line is one or is passed over. Nothing is run or allocated.
+/// Returns the number of the first line that is not a command, counted from 1, or `None` if every line is one or is
+/// passed over. Nothing is run or allocated.
 fn first_bad_line(input: &[u8]) -> Option<usize>
     ensures { MatchOption result (AreCommands input.now) (λ number. commands_of input.now ≡ bad_line number) }
 {
@@ -27,7 +27,7 @@ fn first_bad_line(input: &[u8]) -> Option<usize>
     let mut number = 1;
     let mut rest = Some(input);
     while let Some(lines) = rest {
-        let (line, after) = cut_line(lines);
+        let (line, after) = split_line(lines);
         if !is_line(line, printable) {
             return Some(number);
         }
@@ -45,14 +45,14 @@ fn run_lines(alloc: Global, input: &[u8]) -> Result<String, AllocError>
 {
     let tables = Tables::new(alloc, ENTRIES).map_err(|_| AllocError)?;
     let text = String::new(alloc);
-    let mut answering = Answering { tables, text };
+    let mut interpreter = Interpreter { tables, text };
     let mut rest = Some(input);
     while let Some(lines) = rest {
-        let (line, after) = cut_line(lines);
-        answer_line(&mut answering, line)?;
+        let (line, after) = split_line(lines);
+        run_line(&mut interpreter, line)?;
         rest = after;
     }
-    Ok(answering.text)
+    Ok(interpreter.text)
 }
 
 /// Reads every line of the input, runs every command on 16 empty entries of each width, and writes
@@ -81,6 +81,6 @@ pub fn session<R: Read, W: Write>(
     };
     match send(output, text.as_bytes()) {
         Ok(()) => Outcome::Done,
-        Err(_) => Outcome::Device,
+        Err(DeviceFault) => Outcome::Device,
     }
 }

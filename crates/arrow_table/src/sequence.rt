@@ -1,4 +1,4 @@
-//! Commands that are done one after the other.
+//! The run of a list of commands, one after the other, on one table or on two.
 ghost use Rattle.std.specs.Prelude.{◌≡◌, ◌<◌, ◌≤◌, ◌++◌, List, length, take, vec_capacity, vec_len};
 ghost use Rattle.arrow_model.specs.Run.{Runs};
 ghost use Rattle.arrow_model.specs.declared.reply.Reply.{Reply};
@@ -7,29 +7,29 @@ use crate::Reply;
 use arrow_types::native_type::NativeType;
 use std::alloc::Global;
 
-/// What commands are done to.
+/// A state that commands change.
 pub(crate) trait Steps<T: NativeType> {
-    /// A command.
+    /// The type of commands.
     type Command;
 
-    /// What a command does, and its reply.
+    /// What a command does to the state, and its reply.
     ghost steps_to: { Self → Self.Command → Reply T → Self → Type 0 };
 
-    /// Does a command. What is answered is allocated by `alloc`.
+    /// Runs a command and returns its reply, which is allocated by `alloc`.
     fn step(&mut self, alloc: Global, command: &Self::Command) -> Reply<T>
         ensures { steps_to self.old command.now result self.new };
 }
 
-/// Does commands in order and appends a reply for each. Answers how many were done: all, or as many as there was room for
-/// replies. It stops early only where the list of replies is full and its growth was refused, and never gives up room that
-/// the list has.
+/// Runs commands in order, appends a reply for each, and returns how many were run. It stops early only if the list of
+/// replies is full and cannot grow, and never shrinks that list.
 pub(crate) fn run_all<T: NativeType, S: Steps<T>>(
     state: &mut S,
     commands: &[S::Command],
     replies: &mut Vec<Reply<T>>,
 ) -> usize
     ensures count { result ≤ length commands.now }
-    ensures run { (added : List (Reply T)) × (replies.new.items ≡ replies.old.items ++ added) × Runs S.steps_to state.old (take result commands.now) added state.new }
+    ensures run { (added : List (Reply T)) × (replies.new.items ≡ replies.old.items ++ added)
+        × Runs S.steps_to state.old (take result commands.now) added state.new }
     ensures full { result < length commands.now → vec_len replies.new ≡ vec_capacity replies.new }
     ensures room { vec_capacity replies.old ≤ vec_capacity replies.new }
 {

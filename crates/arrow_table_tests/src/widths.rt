@@ -1,5 +1,5 @@
 //! Tables of both widths.
-use arrow_table::{BothCommand, Command, Item, Kind, Parts, Raw, Reply, Tables, run_both};
+use arrow_table::{BothCommand, Command, Item, Kind, Parts, Raw, Reply, Tables, Width, run_both};
 use arrow_types::data_type::DataType;
 use arrow_types::offset::Offset;
 use std::alloc::Global;
@@ -154,8 +154,8 @@ fn steps_of_new(alloc: Global, rt: &impl Abort) -> bool {
 /// What is answered where a slot is pushed to the first entry of either side, with no command made for it.
 fn pushed(tables: &mut Tables<i64>, slot: &Option<Item<i64>>) -> [&'static str; 2] {
     [
-        named(tables.push_narrow(0, slot)),
-        named(tables.push_wide(0, slot)),
+        named(i32::push(tables, 0, slot)),
+        named(i64::push(tables, 0, slot)),
     ]
 }
 
@@ -193,8 +193,8 @@ fn two<O: Offset>(alloc: Global, rt: &impl Abort) -> Parts<i64, O> {
 /// What is answered where they are put into the first entry of either side.
 fn put(alloc: Global, rt: &impl Abort, tables: &mut Tables<i64>) -> [&'static str; 2] {
     [
-        named(tables.parts_narrow(0, two(alloc, rt))),
-        named(tables.parts_wide(0, two(alloc, rt))),
+        named(i32::parts(tables, 0, two(alloc, rt))),
+        named(i64::parts(tables, 0, two(alloc, rt))),
     ]
 }
 

@@ -1,5 +1,5 @@
 use Rattle.std.proofs.Common.{◌≡◌, ◌∙◌, ap, subst, arith, string_bytes}
-use Rattle.arrow_lines.specs.Answered.{at_first}
+use Rattle.arrow_interpreter.specs.Replies.{at_first}
 use Rattle.arrow_session.proofs.Reading.{lines_after, lines_cut}
 use Rattle.arrow_session.proofs.Runs.{IsRunTo, run_none, run_next, run_good, run_to_end}
 use Rattle.arrow_session.proofs.session.run_lines.Goals as goal
@@ -9,31 +9,31 @@ loop-rest-init c =
     let empty : c.in_ok-tables.tables ≡ at_first = grind (arith, c.new.ensures.ok, c.in_ok-tables.ensures.cases) in
     run_none c.args.input.now c.in_ok-tables.tables (string_bytes c.new-text.result) empty c.new-text.ensures.bytes
 
-pub answer_line-requires : goal.answer_line-requires
-answer_line-requires c =
+pub run_line-requires : goal.run_line-requires
+run_line-requires c =
     let input = c.args.input.now in
-    let line = c.cut_line.result.0.now in
-    let after = c.cut_line.result.1 in
-    let table = c.loop-rest.answering.tables in
-    let text = string_bytes c.loop-rest.answering.text in
-    let here = ap lines_after c.in-Some.is ∙ lines_cut c.in-Some.lines.now line after c.cut_line.ensures.pieces in
+    let line = c.split_line.result.0.now in
+    let after = c.split_line.result.1 in
+    let table = c.loop-rest.interpreter.tables in
+    let text = string_bytes c.loop-rest.interpreter.text in
+    let here = ap lines_after c.in-Some.is ∙ lines_cut c.in-Some.lines.now line after c.split_line.ensures.pieces in
     run_next input line (lines_after after) table text c.requires (subst (λ rest. IsRunTo input rest table text) here c.loop-rest.invariant)
 
 pub loop-rest-preserved : goal.loop-rest-preserved
 loop-rest-preserved c =
     let input = c.args.input.now in
-    let line = c.cut_line.result.0.now in
-    let after = c.cut_line.result.1 in
-    let table = c.loop-rest.answering.tables in
-    let text = string_bytes c.loop-rest.answering.text in
-    let here = ap lines_after c.in-Some.is ∙ lines_cut c.in-Some.lines.now line after c.cut_line.ensures.pieces in
+    let line = c.split_line.result.0.now in
+    let after = c.split_line.result.1 in
+    let table = c.loop-rest.interpreter.tables in
+    let text = string_bytes c.loop-rest.interpreter.text in
+    let here = ap lines_after c.in-Some.is ∙ lines_cut c.in-Some.lines.now line after c.split_line.ensures.pieces in
     let run = subst (λ rest. IsRunTo input rest table text) here c.loop-rest.invariant in
-    run_good input line (lines_after after) table text c.answer_line.new.answering.tables (string_bytes c.answer_line.new.answering.text)
-    (run_next input line (lines_after after) table text c.requires run) c.in_ok-answer_line.ensures run
+    run_good input line (lines_after after) table text c.run_line.new.interpreter.tables (string_bytes c.run_line.new.interpreter.text)
+    (run_next input line (lines_after after) table text c.requires run) c.in_ok-run_line.ensures run
 
 pub returns : goal.returns
 returns c =
     let input = c.args.input.now in
-    let table = c.loop-rest.answering.tables in
-    let text = string_bytes c.loop-rest.answering.text in
+    let table = c.loop-rest.interpreter.tables in
+    let text = string_bytes c.loop-rest.interpreter.text in
     run_to_end input table text (subst (λ rest. IsRunTo input rest table text) (ap lines_after c.in_default.is) c.loop-rest.invariant)

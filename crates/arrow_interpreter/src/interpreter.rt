@@ -1,0 +1,106 @@
+//! The state of a session, on which commands are run.
+ghost use Rattle.std.specs.Prelude.{◌∷◌, [], OnOk};
+ghost use Rattle.arrow_entry.specs.Answer.{done, told};
+ghost use Rattle.arrow_entry.specs.Both.{narrow_to, widen};
+ghost use Rattle.arrow_entry.specs.Item.{stored_slot};
+ghost use Rattle.arrow_entry.specs.Request.{all_slots, asked, at, parts_asked, push};
+ghost use Rattle.arrow_table.specs.Width.{on_width};
+ghost use Rattle.arrow_interpreter.specs.Replies.{Appends, RunsRequests};
+
+use crate::listing::push_listed;
+use arrow_syntax::print::push_replies;
+use arrow_table::{Command, Item, Parts, Reply, Tables, Width};
+use std::alloc::AllocError;
+use std::slice::from_ref;
+
+/// The tables of a session, and the text of its replies so far. Each call runs one command on the table of a width of
+/// offsets and appends the text of its reply. If an allocation fails, the text may hold a beginning of it.
+#[derive(Drop)]
+pub struct Interpreter {
+    /// The two tables.
+    pub tables: Tables<i64>,
+    /// The text of all replies.
+    pub text: String,
+}
+
+impl Interpreter {
+    /// Runs a command.
+    #[inline(always)]
+    pub fn run<O: Width>(&mut self, command: Command<i64, O>) -> Result<(), AllocError>
+        ensures { OnOk result (RunsRequests (on_width O.IS_LARGE (asked O.number command) ∷ []) self.old self.new) }
+    {
+        let alloc = *self.text.allocator();
+        let reply = O::step(&mut self.tables, alloc, &command);
+        self.push_reply(reply)
+    }
+
+    /// Makes a value of raw parts, which are moved into it, in an empty entry.
+    #[inline(always)]
+    pub fn parts<O: Width>(&mut self, e: usize, parts: Parts<i64, O>) -> Result<(), AllocError>
+        ensures { let request = on_width O.IS_LARGE (parts_asked O.number e parts) in
+            OnOk result (RunsRequests (request ∷ []) self.old self.new) }
+    {
+        let reply = O::parts(&mut self.tables, e, parts);
+        self.push_reply(reply)
+    }
+
+    /// Appends a slot to the builder in an entry. No command is made for it.
+    pub fn push<O: Width>(&mut self, e: usize, slot: &Option<Item<i64>>) -> Result<(), AllocError>
+        ensures { let request = on_width O.IS_LARGE (at e (push (stored_slot slot.now))) in
+            OnOk result (RunsRequests (request ∷ []) self.old self.new) }
+    {
+        let reply = O::push(&mut self.tables, e, slot);
+        self.push_reply(reply)
+    }
+
+    /// Appends the text of all slots of an entry, which are written from where they lie.
+    pub fn list<O: Width>(&mut self, e: usize) -> Result<(), AllocError>
+        ensures { OnOk result (RunsRequests (on_width O.IS_LARGE (at e all_slots) ∷ []) self.old self.new) }
+    {
+        let held = O::get(&self.tables, e);
+        push_listed(&mut self.text, held)
+    }
+
+    /// Copies the array in the narrow entry `e` into the empty wide entry `f`.
+    pub fn widen(&mut self, e: usize, f: usize) -> Result<(), AllocError>
+        ensures { OnOk result (RunsRequests (widen e f ∷ []) self.old self.new) }
+    {
+        let reply = self.tables.widen(e, f);
+        self.push_reply(reply)
+    }
+
+    /// Copies the array in the wide entry `e` into the empty narrow entry `f`.
+    pub fn narrow_to(&mut self, e: usize, f: usize) -> Result<(), AllocError>
+        ensures { OnOk result (RunsRequests (narrow_to e f ∷ []) self.old self.new) }
+    {
+        let reply = self.tables.narrow_to(e, f);
+        self.push_reply(reply)
+    }
+
+    /// Appends the text of a reply.
+    #[inline(always)]
+    fn push_reply(&mut self, reply: Reply<i64>) -> Result<(), AllocError>
+        ensures { OnOk result (Appends (told reply) self.old self.new) }
+    {
+        match reply {
+            Reply::Done => self.push_done(),
+            other => self.push_other(other),
+        }
+    }
+
+    /// Appends the text of `Reply::Done`. Most commands have this reply, which is written with no call.
+    #[inline(always)]
+    fn push_done(&mut self) -> Result<(), AllocError>
+        ensures { OnOk result (Appends done self.old self.new) }
+    {
+        self.text.push_str("ok\n")
+    }
+
+    /// Appends the text of any reply.
+    #[inline(never)]
+    fn push_other(&mut self, reply: Reply<i64>) -> Result<(), AllocError>
+        ensures { OnOk result (Appends (told reply) self.old self.new) }
+    {
+        push_replies(&mut self.text, from_ref(&reply))
+    }
+}

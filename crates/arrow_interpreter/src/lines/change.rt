@@ -1,0 +1,155 @@
+//! The lines that cut, copy and change a value.
+ghost use Rattle.arrow_entry.specs.Request.{apply_mask, apply_values, at, clone_from, empty, set, set_mask};
+ghost use Rattle.arrow_entry.specs.Request.{set_values, slice, write};
+ghost use Rattle.arrow_syntax.specs.Fields.{change_in, item_of, mask_of, slot_of};
+ghost use Rattle.arrow_syntax.specs.Readers.{each, no_words, only, reads, ◌▸◌};
+ghost use Rattle.arrow_syntax.specs.Words.{number_of};
+ghost use Rattle.std.proofs.Common.{rules};
+
+use crate::line::{CommandLine, ParseOffset};
+use arrow_syntax::readers::Last;
+use arrow_table::{Command, Item, Named};
+
+/// `slice E A N`
+pub(crate) struct SliceLine;
+
+impl<O: ParseOffset> CommandLine<O> for SliceLine {
+    type Rest = (usize, Last<usize>);
+
+    ghost reader = { λ e. reads (number_of ▸ only number_of) (λ (a, n). at e (slice a n)) };
+
+    ghost same = { Prim.search rules };
+
+    #[inline(always)]
+    fn command(number: usize, range: Self::Rest) -> Command<i64, O> {
+        Command::Slice(number, range.0, range.1.0)
+    }
+}
+
+/// `clone E F`
+pub(crate) struct CloneLine;
+
+impl<O: ParseOffset> CommandLine<O> for CloneLine {
+    type Rest = Last<usize>;
+
+    ghost reader = { λ e. reads (only number_of) (λ f. clone_from f e) };
+
+    ghost same = { Prim.search rules };
+
+    #[inline(always)]
+    fn command(number: usize, other: Self::Rest) -> Command<i64, O> {
+        Command::Clone(number, other.0)
+    }
+}
+
+/// `drop E`
+pub(crate) struct DropLine;
+
+impl<O: ParseOffset> CommandLine<O> for DropLine {
+    type Rest = ();
+
+    ghost reader = { λ e. no_words (at e empty) };
+
+    ghost same = { Prim.search rules };
+
+    #[inline(always)]
+    fn command(number: usize, _end: Self::Rest) -> Command<i64, O> {
+        Command::Drop(number)
+    }
+}
+
+/// `mask E MASK`
+pub(crate) struct MaskLine;
+
+impl<O: ParseOffset> CommandLine<O> for MaskLine {
+    type Rest = Last<Option<Vec<bool>>>;
+
+    ghost reader = { λ e. reads (only mask_of) (λ mask. at e (set_mask mask)) };
+
+    ghost same = { Prim.search rules };
+
+    #[inline(always)]
+    fn command(number: usize, mask: Self::Rest) -> Command<i64, O> {
+        Command::SetMask(number, mask.0)
+    }
+}
+
+/// `applymask E CHANGE`
+pub(crate) struct ApplyMaskLine;
+
+impl<O: ParseOffset> CommandLine<O> for ApplyMaskLine {
+    type Rest = Named<i64>;
+
+    ghost reader = { λ e. reads change_in (λ change. at e (apply_mask change)) };
+
+    ghost same = { Prim.search rules };
+
+    #[inline(always)]
+    fn command(number: usize, change: Self::Rest) -> Command<i64, O> {
+        Command::ApplyMask(number, change)
+    }
+}
+
+/// `values E ITEM*`
+pub(crate) struct ValuesLine;
+
+impl<O: ParseOffset> CommandLine<O> for ValuesLine {
+    type Rest = Vec<Item<i64>>;
+
+    ghost reader = { λ e. reads (each item_of) (λ items. at e (set_values items)) };
+
+    ghost same = { Prim.search rules };
+
+    #[inline(always)]
+    fn command(number: usize, items: Self::Rest) -> Command<i64, O> {
+        Command::SetValues(number, items)
+    }
+}
+
+/// `applyvalues E CHANGE`
+pub(crate) struct ApplyValuesLine;
+
+impl<O: ParseOffset> CommandLine<O> for ApplyValuesLine {
+    type Rest = Named<i64>;
+
+    ghost reader = { λ e. reads change_in (λ change. at e (apply_values change)) };
+
+    ghost same = { Prim.search rules };
+
+    #[inline(always)]
+    fn command(number: usize, change: Self::Rest) -> Command<i64, O> {
+        Command::ApplyValues(number, change)
+    }
+}
+
+/// `set E I SLOT`
+pub(crate) struct SetLine;
+
+impl<O: ParseOffset> CommandLine<O> for SetLine {
+    type Rest = (usize, Last<Option<Item<i64>>>);
+
+    ghost reader = { λ e. reads (number_of ▸ only slot_of) (λ (i, slot). at e (set i slot)) };
+
+    ghost same = { Prim.search rules };
+
+    #[inline(always)]
+    fn command(number: usize, (index, Last(slot)): Self::Rest) -> Command<i64, O> {
+        Command::Set(number, index, slot)
+    }
+}
+
+/// `write E I ITEM`
+pub(crate) struct WriteLine;
+
+impl<O: ParseOffset> CommandLine<O> for WriteLine {
+    type Rest = (usize, Last<Item<i64>>);
+
+    ghost reader = { λ e. reads (number_of ▸ only item_of) (λ (i, item). at e (write i item)) };
+
+    ghost same = { Prim.search rules };
+
+    #[inline(always)]
+    fn command(number: usize, (index, Last(item)): Self::Rest) -> Command<i64, O> {
+        Command::Write(number, index, item)
+    }
+}

@@ -1,0 +1,219 @@
+//! The lines that make a value in an empty entry.
+ghost use Rattle.std.specs.Prelude.{◌≡◌, false, is_some, option_map, IfOk};
+ghost use Rattle.arrow_types.specs.Types.{logical_type};
+ghost use Rattle.arrow_entry.specs.Entry.{default_type};
+ghost use Rattle.arrow_entry.specs.Kind.{boolean, native, pieces, shape};
+ghost use Rattle.arrow_entry.specs.Request.{given_by, items, make, nothing, nulls, parts, slots};
+ghost use Rattle.arrow_syntax.specs.Lines.{types_over};
+ghost use Rattle.arrow_syntax.specs.Fields.{item_of, kind_of, packed_mask_in, parts_in, raw_in, slot_of, type_of};
+ghost use Rattle.arrow_syntax.specs.Readers.{each, only, reads, ◌▸◌};
+ghost use Rattle.arrow_syntax.specs.Words.{number_of, words_of};
+ghost use Rattle.std.proofs.Common.{rules};
+
+use crate::interpreter::Interpreter;
+use crate::line::{CommandLine, DirectLine, OffsetWords, ParseOffset};
+use arrow_syntax::fields::first_kind;
+use arrow_syntax::readers::{Last, Words, next};
+use arrow_table::{Bits, Command, Item, Kind, Parts, Raw};
+use arrow_types::data_type::DataType;
+use arrow_types::offset::Offset;
+use std::alloc::{AllocError, Global};
+
+/// `new E KIND`
+pub(crate) struct NewLine;
+
+impl<O: ParseOffset> CommandLine<O> for NewLine {
+    type Rest = Last<Kind>;
+
+    ghost reader = { λ e. reads (only kind_of) (λ kind. make e (shape kind) nothing) };
+
+    ghost same = { Prim.search rules };
+
+    #[inline(always)]
+    fn command(number: usize, kind: Self::Rest) -> Command<i64, O> {
+        Command::New(number, kind.0)
+    }
+}
+
+/// `null E KIND N`
+pub(crate) struct NullLine;
+
+impl<O: ParseOffset> CommandLine<O> for NullLine {
+    type Rest = (Kind, Last<usize>);
+
+    ghost reader = { λ e. reads (kind_of ▸ only number_of) (λ (kind, n). make e (shape kind) (nulls (default_type (types_over O.most O.IS_LARGE) (shape kind).sort) n)) };
+
+    ghost same = { Prim.search rules };
+
+    #[inline(always)]
+    fn command(number: usize, (kind, Last(count)): Self::Rest) -> Command<i64, O> {
+        Command::NewNull(number, kind, default_type::<O>(kind), count)
+    }
+}
+
+/// `parts E KIND TYPE MASK ..`. The parts are put together once, where the value is made of them.
+pub(crate) struct PartsLine;
+
+impl<O: ParseOffset> DirectLine<O> for PartsLine {
+    ghost reader = { λ e. reads (parts_in O.offset) (λ (s, (t, (mask, raw))).
+        make e s (parts t raw mask)) };
+
+    fn is_line(_number: usize, words: &[u8]) -> bool {
+        match first_kind(words) {
+            Some((kind, words)) => are_parts::<O>(kind, words),
+            None => false,
+        }
+    }
+
+    fn run(interpreter: &mut Interpreter, number: usize, words: &[u8]) -> Result<bool, AllocError> {
+        let alloc = *interpreter.text.allocator();
+        let Some((kind, words)) = first_kind(words) else {
+            return Ok(false);
+        };
+        let Some((data_type, words)) = next::<DataType>(alloc, words)? else {
+            return Ok(false);
+        };
+        let Some((mask, words)) = next::<Option<Bits>>(alloc, words)? else {
+            return Ok(false);
+        };
+        let Some(raw) = raw_of::<O>(alloc, kind, words)? else {
+            return Ok(false);
+        };
+        let parts = Parts {
+            kind,
+            data_type,
+            raw,
+            mask,
+        };
+        interpreter.parts::<O>(number, parts)?;
+        Ok(true)
+    }
+}
+
+/// `slots E KIND SLOT*`
+pub(crate) struct SlotsLine;
+
+impl<O: ParseOffset> CommandLine<O> for SlotsLine {
+    type Rest = (Kind, Vec<Option<Item<i64>>>);
+
+    ghost reader = { λ e. reads (kind_of ▸ each slot_of) (λ (kind, given). make e (shape kind) (slots given)) };
+
+    ghost same = { Prim.search rules };
+
+    #[inline(always)]
+    fn command(number: usize, (kind, slots): Self::Rest) -> Command<i64, O> {
+        Command::FromSlots(number, kind, slots)
+    }
+}
+
+/// `items E KIND ITEM*`
+pub(crate) struct ItemsLine;
+
+impl<O: ParseOffset> CommandLine<O> for ItemsLine {
+    type Rest = (Kind, Vec<Item<i64>>);
+
+    ghost reader = { λ e. reads (kind_of ▸ each item_of) (λ (kind, given). make e (shape kind) (items given)) };
+
+    ghost same = { Prim.search rules };
+
+    #[inline(always)]
+    fn command(number: usize, (kind, items): Self::Rest) -> Command<i64, O> {
+        Command::FromItems(number, kind, items)
+    }
+}
+
+/// Returns the type of a kind's values if no other is given.
+fn default_type<O: Offset>(kind: Kind) -> DataType
+    ensures { logical_type result ≡ default_type (types_over O.most O.IS_LARGE) (shape kind).sort }
+{
+    match kind {
+        Kind::Primitive | Kind::MutablePrimitive => DataType::Int64,
+        Kind::Boolean | Kind::MutableBoolean => DataType::Boolean,
+        Kind::Binary | Kind::MutableBinary | Kind::BinaryValues => {
+            if O::IS_LARGE {
+                DataType::LargeBinary
+            } else {
+                DataType::Binary
+            }
+        }
+        Kind::Utf8 | Kind::MutableUtf8 | Kind::Utf8Values => {
+            if O::IS_LARGE {
+                DataType::LargeUtf8
+            } else {
+                DataType::Utf8
+            }
+        }
+    }
+}
+
+/// Raw bytes and offsets: `xHEX OFF*`
+type RawBytes<O> = (Vec<u8>, OffsetWords<O>);
+
+/// Returns the raw values of a kind that words write, or `None` if they are malformed.
+fn raw_of<O: ParseOffset>(
+    alloc: Global,
+    kind: Kind,
+    words: &[u8],
+) -> Result<Option<Raw<i64, O>>, AllocError>
+    ensures { let wanted = raw_in O.offset (shape kind).sort (words_of words.now) in
+        IfOk result (λ read. option_map (given_by O.number) read ≡ wanted) }
+{
+    match kind {
+        Kind::Primitive | Kind::MutablePrimitive => raw_values::<O>(alloc, words),
+        Kind::Boolean | Kind::MutableBoolean => raw_bits::<O>(alloc, words),
+        Kind::Binary | Kind::MutableBinary | Kind::BinaryValues => raw_bytes::<O>(alloc, words),
+        Kind::Utf8 | Kind::MutableUtf8 | Kind::Utf8Values => raw_bytes::<O>(alloc, words),
+    }
+}
+
+fn raw_values<O: ParseOffset>(
+    alloc: Global,
+    words: &[u8],
+) -> Result<Option<Raw<i64, O>>, AllocError>
+    ensures { let wanted = raw_in O.offset native (words_of words.now) in
+        IfOk result (λ read. option_map (given_by O.number) read ≡ wanted) }
+{
+    match <Vec<i64>>::of_words(alloc, words)? {
+        Some(values) => Ok(Some(Raw::Values(values))),
+        None => Ok(None),
+    }
+}
+
+fn raw_bits<O: ParseOffset>(alloc: Global, words: &[u8]) -> Result<Option<Raw<i64, O>>, AllocError>
+    ensures { let wanted = raw_in O.offset boolean (words_of words.now) in
+        IfOk result (λ read. option_map (given_by O.number) read ≡ wanted) }
+{
+    match <Last<Bits>>::of_words(alloc, words)? {
+        Some(Last(bits)) => Ok(Some(Raw::Bits(bits))),
+        None => Ok(None),
+    }
+}
+
+fn raw_bytes<O: ParseOffset>(alloc: Global, words: &[u8]) -> Result<Option<Raw<i64, O>>, AllocError>
+    ensures { let wanted = raw_in O.offset (pieces false) (words_of words.now) in
+        IfOk result (λ read. option_map (given_by O.number) read ≡ wanted) }
+{
+    match <RawBytes<O>>::of_words(alloc, words)? {
+        Some((bytes, OffsetWords(offsets))) => Ok(Some(Raw::Pieces(offsets, bytes))),
+        None => Ok(None),
+    }
+}
+
+/// Returns whether words are a type, a mask and raw values of a kind.
+fn are_parts<O: ParseOffset>(kind: Kind, words: &[u8]) -> bool
+    ensures { result ≡ is_some ((type_of ▸ packed_mask_in ▸ raw_in O.offset (shape kind).sort) (words_of words.now)) }
+{
+    match kind {
+        Kind::Primitive | Kind::MutablePrimitive => <PartsOf<Vec<i64>>>::are_words(words),
+        Kind::Boolean | Kind::MutableBoolean => <PartsOf<Last<Bits>>>::are_words(words),
+        Kind::Binary | Kind::MutableBinary | Kind::BinaryValues => <PartsOf<
+            RawBytes<O>,
+        >>::are_words(words),
+        Kind::Utf8 | Kind::MutableUtf8 | Kind::Utf8Values => <PartsOf<RawBytes<O>>>::are_words(
+            words,
+        ),
+    }
+}
+
+/// `TYPE MASK` and raw values
+type PartsOf<R> = (DataType, (Option<Bits>, R));

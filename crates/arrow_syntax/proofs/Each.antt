@@ -1,0 +1,22 @@
+-- Lemmas on what is read one thing after the other.
+use Rattle.std.proofs.Common.{◌≡◌, ℕ, List, [], ◌++◌, refl, Option, Some, None, is_some}
+use Rattle.std.specs.Prelude.{option_map}
+use Rattle.arrow_syntax.specs.Readers.{Reader, reads}
+
+-- what is read of the others, behind what was read
+abbrev pub behind : {A : Type 0} → List A → Option (List A) → Option (List A)
+behind before others = option_map (λ ys. before ++ ys) others
+
+pub behind_nothing : {A : Type 0} (others : Option (List A)) → others ≡ behind [] others
+behind_nothing None = refl
+behind_nothing (Some ys) = refl
+
+-- ---- what is made of what words say
+
+module _ {A B : Type 0} where
+  some_map : (make : A → B) (read : Option A) → is_some (option_map make read) ≡ is_some read
+  some_map make None = refl
+  some_map make (Some x) = refl
+
+  pub reads_some : (reader : Reader A) (make : A → B) (words : List (List ℕ)) → is_some (reads reader make words) ≡ is_some (reader words)
+  reads_some reader make words = some_map make (reader words)

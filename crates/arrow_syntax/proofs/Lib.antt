@@ -1,0 +1,14 @@
+pub mod CallerLemmas
+pub mod DigitPairs
+pub mod DigitTexts
+pub mod Digits
+pub mod Each
+pub mod Joined
+pub mod Names
+pub mod NumberLemmas
+pub mod OneDigit
+pub mod Packing
+pub mod Pieces
+pub mod Places
+pub mod Printable
+pub mod Texts

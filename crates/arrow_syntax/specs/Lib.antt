@@ -1,0 +1,5 @@
+pub mod Fields
+pub mod Lines
+pub mod Readers
+pub mod Text
+pub mod Words

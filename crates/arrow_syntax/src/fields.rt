@@ -1,0 +1,262 @@
+//! The words that are numbers, kinds, types, or calls of an iterator.
+ghost use Rattle.std.specs.Prelude.{◌≡◌, ℕ, ℤ, IfSome, Some, option_map};
+ghost use Rattle.arrow_types.specs.Types.{LogicalType, logical_type};
+ghost use Rattle.arrow_entry.specs.declared.kind.Kind.{Kind};
+ghost use Rattle.arrow_entry.specs.declared.item.Turn.{Turn};
+ghost use Rattle.arrow_syntax.specs.Fields.{kind_of, type_of, skip_of, turn_of};
+ghost use Rattle.arrow_syntax.specs.Readers.{first};
+ghost use Rattle.arrow_syntax.specs.Words.{number_of, integer_of, offset_of, words_of};
+
+use crate::numbers::{integer_of, number_of, offset_of, with_digit};
+use crate::readers::Word;
+use crate::words::{next_word, word_eq};
+use arrow_entry::{Kind, Turn};
+use arrow_types::data_type::DataType;
+use std::alloc::{AllocError, Global};
+
+/// Returns the number of a first word that is one digit, and the rest of the text. Most numbers are of one digit, and
+/// reading them so takes a third of the instructions.
+#[inline(always)]
+fn first_digit(text: &[u8]) -> Option<(usize, &[u8])>
+    ensures { IfSome result (λ x. first number_of (words_of text.now) ≡ Some (x.0, words_of x.1.now)) }
+{
+    match text {
+        [digit, b' ', rest @ ..] => Some((with_digit(0, *digit)?, rest)),
+        _ => None,
+    }
+}
+
+/// Returns the number that the first word writes and the rest of the text, or `None` if there is none.
+#[inline(always)]
+pub fn first_number(text: &[u8]) -> Option<(usize, &[u8])>
+    ensures { option_map (λ x. (x.0, words_of x.1.now)) result ≡ first number_of (words_of text.now) }
+{
+    if let Some(found) = first_digit(text) {
+        return Some(found);
+    }
+    let (word, rest) = next_word(text)?;
+    match number_of(word) {
+        Some(number) => Some((number, rest)),
+        None => None,
+    }
+}
+
+impl Word for usize {
+    ghost Meaning = { ℕ };
+
+    ghost meaning = { λ x. x };
+
+    ghost parse = { number_of };
+
+    fn of_word(_alloc: Global, word: &[u8]) -> Result<Option<Self>, AllocError> {
+        Ok(number_of(word))
+    }
+
+    fn is_word(word: &[u8]) -> bool {
+        number_of(word).is_some()
+    }
+}
+
+impl Word for i64 {
+    ghost Meaning = { ℤ };
+
+    ghost meaning = { λ x. x };
+
+    ghost parse = { integer_of };
+
+    fn of_word(_alloc: Global, word: &[u8]) -> Result<Option<Self>, AllocError> {
+        Ok(integer_of(word))
+    }
+
+    fn is_word(word: &[u8]) -> bool {
+        integer_of(word).is_some()
+    }
+}
+
+impl Word for i32 {
+    ghost Meaning = { ℤ };
+
+    ghost meaning = { λ x. x };
+
+    ghost parse = { offset_of };
+
+    fn of_word(_alloc: Global, word: &[u8]) -> Result<Option<Self>, AllocError> {
+        Ok(offset_of(word))
+    }
+
+    fn is_word(word: &[u8]) -> bool {
+        offset_of(word).is_some()
+    }
+}
+
+/// Returns the kind of array or builder that a word names.
+fn kind_of(word: &[u8]) -> Option<Kind>
+    ensures { result ≡ kind_of word.now }
+{
+    if word_eq(word, b"prim") {
+        return Some(Kind::Primitive);
+    }
+    if word_eq(word, b"bool") {
+        return Some(Kind::Boolean);
+    }
+    if word_eq(word, b"bin") {
+        return Some(Kind::Binary);
+    }
+    if word_eq(word, b"utf8") {
+        return Some(Kind::Utf8);
+    }
+    if word_eq(word, b"mprim") {
+        return Some(Kind::MutablePrimitive);
+    }
+    if word_eq(word, b"mbool") {
+        return Some(Kind::MutableBoolean);
+    }
+    if word_eq(word, b"mbin") {
+        return Some(Kind::MutableBinary);
+    }
+    if word_eq(word, b"mutf8") {
+        return Some(Kind::MutableUtf8);
+    }
+    if word_eq(word, b"vbin") {
+        return Some(Kind::BinaryValues);
+    }
+    if word_eq(word, b"vutf8") {
+        return Some(Kind::Utf8Values);
+    }
+    None
+}
+
+/// Returns the kind that the first word names and the rest of the text, or `None` if there is none.
+pub fn first_kind(text: &[u8]) -> Option<(Kind, &[u8])>
+    ensures { option_map (λ x. (x.0, words_of x.1.now)) result ≡ first kind_of (words_of text.now) }
+{
+    let (word, rest) = next_word(text)?;
+    match kind_of(word) {
+        Some(kind) => Some((kind, rest)),
+        None => None,
+    }
+}
+
+impl Word for Kind {
+    ghost Meaning = { Kind };
+
+    ghost meaning = { λ x. x };
+
+    ghost parse = { kind_of };
+
+    fn of_word(_alloc: Global, word: &[u8]) -> Result<Option<Self>, AllocError> {
+        Ok(kind_of(word))
+    }
+
+    fn is_word(word: &[u8]) -> bool {
+        kind_of(word).is_some()
+    }
+}
+
+/// Returns the type that a word names.
+fn type_of(word: &[u8]) -> Option<DataType>
+    ensures { option_map logical_type result ≡ type_of word.now }
+{
+    if word_eq(word, b"Boolean") {
+        return Some(DataType::Boolean);
+    }
+    if word_eq(word, b"Int8") {
+        return Some(DataType::Int8);
+    }
+    if word_eq(word, b"Int16") {
+        return Some(DataType::Int16);
+    }
+    if word_eq(word, b"Int32") {
+        return Some(DataType::Int32);
+    }
+    if word_eq(word, b"Int64") {
+        return Some(DataType::Int64);
+    }
+    if word_eq(word, b"UInt8") {
+        return Some(DataType::UInt8);
+    }
+    if word_eq(word, b"UInt16") {
+        return Some(DataType::UInt16);
+    }
+    if word_eq(word, b"UInt32") {
+        return Some(DataType::UInt32);
+    }
+    if word_eq(word, b"UInt64") {
+        return Some(DataType::UInt64);
+    }
+    if word_eq(word, b"Date32") {
+        return Some(DataType::Date32);
+    }
+    if word_eq(word, b"Date64") {
+        return Some(DataType::Date64);
+    }
+    if word_eq(word, b"Binary") {
+        return Some(DataType::Binary);
+    }
+    if word_eq(word, b"LargeBinary") {
+        return Some(DataType::LargeBinary);
+    }
+    if word_eq(word, b"Utf8") {
+        return Some(DataType::Utf8);
+    }
+    if word_eq(word, b"LargeUtf8") {
+        return Some(DataType::LargeUtf8);
+    }
+    None
+}
+
+impl Word for DataType {
+    ghost Meaning = { LogicalType };
+
+    ghost meaning = { logical_type };
+
+    ghost parse = { type_of };
+
+    fn of_word(_alloc: Global, word: &[u8]) -> Result<Option<Self>, AllocError> {
+        Ok(type_of(word))
+    }
+
+    fn is_word(word: &[u8]) -> bool {
+        type_of(word).is_some()
+    }
+}
+
+/// Returns the turn that `s` and a number write, which is the number of items that are skipped.
+fn skip_of(word: &[u8]) -> Option<Turn>
+    ensures { result ≡ skip_of word.now }
+{
+    let (first, rest) = word.split_first()?;
+    if *first != b's' {
+        return None;
+    }
+    Some(Turn::Skip(number_of(rest)?))
+}
+
+/// Returns the turn of an iterator that a word writes.
+fn turn_of(word: &[u8]) -> Option<Turn>
+    ensures { result ≡ turn_of word.now }
+{
+    if word_eq(word, b"f") {
+        return Some(Turn::Front);
+    }
+    if word_eq(word, b"b") {
+        return Some(Turn::Back);
+    }
+    skip_of(word)
+}
+
+impl Word for Turn {
+    ghost Meaning = { Turn };
+
+    ghost meaning = { λ x. x };
+
+    ghost parse = { turn_of };
+
+    fn of_word(_alloc: Global, word: &[u8]) -> Result<Option<Self>, AllocError> {
+        Ok(turn_of(word))
+    }
+
+    fn is_word(word: &[u8]) -> bool {
+        turn_of(word).is_some()
+    }
+}

@@ -1,7 +1,0 @@
--- Lemmas for proofs of crates that call this one.
-
--- parts that are joined by spaces: the first, and then a space before each other one
-pub use Rattle.arrow_words.proofs.Joined.{joined}
--- a loop over the lines of a text, in which `cut_line` gives what follows: how much that is, which is the loop's measure, and
--- that it is shorter than what stood before
-pub use Rattle.arrow_words.proofs.Pieces.{after_shorter, length_after}

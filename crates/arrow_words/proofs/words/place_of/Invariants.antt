@@ -1,6 +1,0 @@
-use Rattle.arrow_words.proofs.Places.{NoneBelow}
-use Rattle.std.proofs.Common.{◌==◌}
-use Rattle.arrow_words.proofs.words.place_of.Given as goal
-
-abbrev pub invariant-loop-place : goal.invariant-loop-place
-invariant-loop-place l = NoneBelow (λ b. b == l.fn.byte) l.text l.place

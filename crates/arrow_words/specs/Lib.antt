@@ -1,4 +1,0 @@
-pub mod Words
-pub mod Readers
-pub mod Fields
-pub mod Text
