@@ -3,7 +3,7 @@ use Rattle.std.proofs.Common.{◌≡◌, ◌∙◌, ℕ, zero, suc, ◌+◌, Lis
 use Rattle.std.proofs.Common.{MatchOption, Option, Some, None, refl, sym, ap, append-nil, append_assoc, arith}
 use Rattle.std.specs.List.{join_with_byte}
 use Rattle.arrow_syntax.proofs.CallerLemmas.{joined}
-use Rattle.arrow_interpreter.specs.SlotRef.{gap}
+use Rattle.arrow_interpreter.specs.Gap.{gap}
 
 module _ {A : Type 0} where
   head-is : (z y : A) (zs : List A) → slice_get (z ∷ zs) 0 ≡ Some y → z ≡ y

@@ -2,8 +2,8 @@
 use Rattle.std.proofs.Common.{◌≡◌, [], ◌∷◌, ◌++◌, ℕ, ℤ, List, pos, refl, Result, Ok, Err}
 use Rattle.std.specs.Prelude.{OnOk}
 use Rattle.arrow_types.specs.declared.primitive_type.PrimitiveType.TheVariants.{Int64}
-use Rattle.arrow_entry.specs.Answer.{Answer}
-use Rattle.arrow_entry.specs.Both.{Both, BothRequest, IsBothStep}
+use Rattle.arrow_model.specs.Answer.{Answer}
+use Rattle.arrow_model.specs.Both.{Both, BothRequest, IsBothStep}
 use Rattle.arrow_interpreter.specs.Replies.{AppendsRun}
 use Rattle.arrow_syntax.specs.Text.{text_of}
 

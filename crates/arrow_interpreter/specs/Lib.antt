@@ -1,2 +1,2 @@
 pub mod Replies
-pub mod SlotRef
+pub mod Gap

@@ -4,10 +4,10 @@ use Rattle.std.specs.Prelude.{is_some, string_bytes}
 use Rattle.std.specs.Option.{option_to_list}
 use Rattle.arrow_check.specs.Reading.{no_cost}
 use Rattle.arrow_types.specs.declared.primitive_type.PrimitiveType.TheVariants.{Int64}
-use Rattle.arrow_entry.specs.Answer.{Answer}
-use Rattle.arrow_entry.specs.Both.{Both, BothRequest, IsBothStep}
-use Rattle.arrow_entry.specs.Entry.{Held}
-use Rattle.arrow_entry.specs.Run.{Runs}
+use Rattle.arrow_model.specs.Answer.{Answer}
+use Rattle.arrow_model.specs.Both.{Both, BothRequest, IsBothStep}
+use Rattle.arrow_model.specs.Value.{Held}
+use Rattle.arrow_model.specs.Run.{Runs}
 use Rattle.arrow_interpreter.specs.declared.interpreter.Interpreter.{Interpreter}
 use Rattle.arrow_syntax.specs.Text.{Grows, text_of}
 

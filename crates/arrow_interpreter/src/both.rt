@@ -1,6 +1,6 @@
 //! The lines of both tables: those of the narrow one, those of the wide one, and those that copy from one to the other.
 ghost use Rattle.std.specs.Prelude.{option_map};
-ghost use Rattle.arrow_entry.specs.Both.{narrow, wide};
+ghost use Rattle.arrow_model.specs.Both.{narrow, wide};
 ghost use Rattle.arrow_syntax.specs.Lines.{both_in, narrow_lines, request_among, request_of, wide_lines};
 ghost use Rattle.arrow_syntax.specs.Words.{words_of};
 

@@ -1,9 +1,9 @@
 //! The state of a session, on which commands are run.
 ghost use Rattle.std.specs.Prelude.{◌∷◌, [], OnOk};
-ghost use Rattle.arrow_entry.specs.Answer.{done, told};
-ghost use Rattle.arrow_entry.specs.Both.{narrow_to, widen};
-ghost use Rattle.arrow_entry.specs.Item.{stored_slot};
-ghost use Rattle.arrow_entry.specs.Request.{all_slots, asked, at, parts_asked, push};
+ghost use Rattle.arrow_model.specs.Answer.{done, answer_of};
+ghost use Rattle.arrow_model.specs.Both.{narrow_to, widen};
+ghost use Rattle.arrow_model.specs.Item.{stored_slot};
+ghost use Rattle.arrow_model.specs.Request.{all_slots, asked, at, parts_asked, push};
 ghost use Rattle.arrow_table.specs.Width.{on_width};
 ghost use Rattle.arrow_interpreter.specs.Replies.{Appends, RunsRequests};
 
@@ -80,7 +80,7 @@ impl Interpreter {
     /// Appends the text of a reply.
     #[inline(always)]
     fn push_reply(&mut self, reply: Reply<i64>) -> Result<(), AllocError>
-        ensures { OnOk result (Appends (told reply) self.old self.new) }
+        ensures { OnOk result (Appends (answer_of reply) self.old self.new) }
     {
         match reply {
             Reply::Done => self.push_done(),
@@ -99,7 +99,7 @@ impl Interpreter {
     /// Appends the text of any reply.
     #[inline(never)]
     fn push_other(&mut self, reply: Reply<i64>) -> Result<(), AllocError>
-        ensures { OnOk result (Appends (told reply) self.old self.new) }
+        ensures { OnOk result (Appends (answer_of reply) self.old self.new) }
     {
         push_replies(&mut self.text, from_ref(&reply))
     }

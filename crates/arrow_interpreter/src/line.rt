@@ -1,6 +1,6 @@
 //! The lines of a table of one width of offsets.
 ghost use Rattle.std.specs.Prelude.{◌≡◌, ℤ, ℕ, IfOk, Some, List, Option, is_some, map, option_map};
-ghost use Rattle.arrow_entry.specs.Request.{Request, asked};
+ghost use Rattle.arrow_model.specs.Request.{Request, asked};
 ghost use Rattle.arrow_interpreter.specs.Replies.{RunsLine};
 ghost use Rattle.arrow_syntax.specs.Readers.{each};
 ghost use Rattle.arrow_syntax.specs.Words.{words_of};

@@ -1,7 +1,94 @@
-//! The text of all slots of an entry, which is written from where they lie, so that none of them is copied.
+//! The text of all slots of an entry, which are read where they lie, so that none of them is copied.
+ghost use Rattle.std.specs.Prelude.{◌≡◌, ◌++◌, ◌<◌, ◌∷◌, [], MatchOption, OnOk, length, map, option_copied, slice_get};
+ghost use Rattle.std.specs.List.{join_with_byte};
+ghost use Rattle.arrow_column.specs.Column.{slots_of};
+ghost use Rattle.arrow_entry.specs.Entry.{value_of};
+ghost use Rattle.arrow_entry.specs.Slot.{stored_ref};
+ghost use Rattle.arrow_syntax.specs.Text.{Grows, bracketed, item_text, slot_text, text_of};
+ghost use Rattle.arrow_syntax.specs.Words.{space};
+ghost use Rattle.arrow_interpreter.specs.Gap.{gap};
+ghost use Rattle.arrow_table.specs.Listed.{listed};
 
-mod entry;
-mod slot_ref;
-mod slots;
+use arrow_entry::{Entry, SlotRef};
+use arrow_syntax::print::{push_bit, push_bytes, push_value};
+use arrow_types::offset::Offset;
+use std::alloc::AllocError;
 
-pub(crate) use entry::push_listed;
+/// Appends the text of what a slot stores.
+#[inline(always)]
+fn push_slot_ref(text: &mut String, item: SlotRef<'_, i64>) -> Result<(), AllocError>
+    ensures { OnOk result (Grows text.old text.new (item_text (stored_ref item.entry))) }
+{
+    match item {
+        SlotRef::Value(number) => push_value(text, number),
+        SlotRef::Bit(bit) => push_bit(text, bit),
+        SlotRef::Bytes(bytes) => push_bytes(text, 'x', bytes),
+        SlotRef::Text(word) => push_bytes(text, 't', word.as_bytes()),
+    }
+}
+
+/// Appends the text of the slot at a place.
+#[tactic(auto, using(arrow_entry::proofs::CallerLemmas::slot_reads))]
+#[inline(always)]
+fn push_slot_at<O: Offset>(
+    text: &mut String,
+    held: &Entry<i64, O>,
+    i: usize,
+) -> Result<(), AllocError>
+    requires { i < length (value_of held.now).column.rows }
+    ensures { OnOk result (MatchOption (slice_get (slots_of (value_of held.now).column) i) ⊥
+        (λ slot. Grows text.old text.new (slot_text slot))) }
+{
+    if held.is_null(i) {
+        return text.push_str("_");
+    }
+    push_slot_ref(text, held.slot_ref(i))
+}
+
+/// Appends the space before a slot; the first slot has none.
+#[inline(always)]
+fn push_gap(text: &mut String, i: usize) -> Result<(), AllocError>
+    ensures { OnOk result (Grows text.old text.new (gap i)) }
+{
+    if i == 0 {
+        return Ok(());
+    }
+    text.push_str(" ")
+}
+
+/// Appends the text of all slots, with a space between each two.
+fn push_joined<O: Offset>(text: &mut String, held: &Entry<i64, O>) -> Result<(), AllocError>
+    ensures { let slots = map slot_text (slots_of (value_of held.now).column) in
+        OnOk result (Grows text.old text.new (join_with_byte space slots)) }
+{
+    for i in 0..held.len() {
+        push_gap(text, i)?;
+        push_slot_at(text, held, i)?;
+    }
+    Ok(())
+}
+
+/// Appends the text of all slots of what an entry holds, in brackets.
+fn push_slots<O: Offset>(text: &mut String, held: &Entry<i64, O>) -> Result<(), AllocError>
+    ensures { let slots = map slot_text (slots_of (value_of held.now).column) in
+        OnOk result (Grows text.old text.new (bracketed slots)) }
+{
+    text.push_str("[")?;
+    push_joined(text, held)?;
+    text.push_str("]")
+}
+
+/// Appends the line of all slots of what an entry holds, or `not met` if it holds nothing.
+pub(crate) fn push_listed<O: Offset>(
+    text: &mut String,
+    held: Option<&Entry<i64, O>>,
+) -> Result<(), AllocError>
+    ensures { let answer = listed (option_copied held.entry) in
+        OnOk result (Grows text.old text.new (text_of (answer ∷ []))) }
+{
+    match held {
+        Some(held) => push_slots(text, held)?,
+        None => text.push_str("not met")?,
+    }
+    text.push_str("\n")
+}

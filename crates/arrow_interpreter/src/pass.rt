@@ -1,7 +1,7 @@
 //! The two passes over the lines of an input: all lines are tested, and then they are run.
 ghost use Rattle.std.specs.Prelude.{◌≡◌, Bool, IfOk, None, Ok, Option, Result, is_some, option_map, ℤ};
 ghost use Rattle.std.specs.declared.alloc.AllocError.{AllocError};
-ghost use Rattle.arrow_entry.specs.Both.{BothRequest};
+ghost use Rattle.arrow_model.specs.Both.{BothRequest};
 ghost use Rattle.arrow_interpreter.specs.Replies.{RunsLine};
 ghost use Rattle.arrow_syntax.specs.Lines.{narrow_in, widen_in};
 ghost use Rattle.arrow_syntax.specs.Words.{words_of};

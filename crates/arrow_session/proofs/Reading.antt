@@ -6,7 +6,7 @@ use Rattle.std.specs.Prelude.{◌&&◌, position, filter_map, option_map, IsTrue
 use Rattle.std.specs.List.{list_all, position_or_len, cons_option}
 use Rattle.std.specs.Option.{option_to_list}
 use denote.Ref.{Bor}
-use Rattle.arrow_entry.specs.Both.{BothRequest}
+use Rattle.arrow_model.specs.Both.{BothRequest}
 use Rattle.arrow_syntax.specs.Lines.{Reading, requests, bad_line, reading_at, commands_of, is_bad, asked_in}
 use Rattle.arrow_syntax.specs.Words.{is_printable, lines_of}
 

@@ -3,9 +3,9 @@ use Rattle.std.proofs.Common.{◌≡◌, ℕ, ◌+◌, List, [], ◌∷◌, ◌+
 use Rattle.std.specs.Option.{option_to_list}
 use Rattle.std.proofs.lemmas.Grind.{flat_map-append}
 use Rattle.arrow_types.specs.declared.primitive_type.PrimitiveType.TheVariants.{Int64}
-use Rattle.arrow_entry.specs.Answer.{Answer}
-use Rattle.arrow_entry.specs.Both.{Both, BothRequest, IsBothStep}
-use Rattle.arrow_entry.specs.Run.{Runs}
+use Rattle.arrow_model.specs.Answer.{Answer}
+use Rattle.arrow_model.specs.Both.{Both, BothRequest, IsBothStep}
+use Rattle.arrow_model.specs.Run.{Runs}
 use Rattle.arrow_interpreter.specs.Replies.{IsProgramRun, at_first, AppendsRun}
 use Rattle.arrow_syntax.specs.Lines.{bad_line, commands_of, asked_in, is_bad}
 use Rattle.arrow_session.specs.Session.{AreCommands, IsAnswer}

@@ -3,8 +3,8 @@ use Rattle.std.specs.Prelude.{◌≡◌, ℕ, ◌⊎◌, List, [], ◌++◌, ℤ
 use Rattle.std.specs.Io.{StartsWith}
 use Rattle.arrow_session.specs.declared.outcome.Outcome.{Outcome}
 use Rattle.arrow_session.specs.declared.outcome.Outcome.TheVariants as outcome
-use Rattle.arrow_entry.specs.Answer.{Answer}
-use Rattle.arrow_entry.specs.Both.{Both, BothRequest}
+use Rattle.arrow_model.specs.Answer.{Answer}
+use Rattle.arrow_model.specs.Both.{Both, BothRequest}
 use Rattle.arrow_interpreter.specs.Replies.{IsProgramRun, at_first}
 use Rattle.arrow_syntax.specs.Lines.{requests, bad_line, commands_of}
 use Rattle.arrow_syntax.specs.Text.{text_of}

@@ -8,14 +8,14 @@ use Rattle.std.specs.Str.{is_utf8}
 use Rattle.hex.specs.Hex.{decode_of}
 use Rattle.arrow_types.specs.Types.{LogicalType, Base, plain}
 use Rattle.arrow_types.specs.Types as types
-use Rattle.arrow_entry.specs.declared.kind.Kind.{Kind}
-use Rattle.arrow_entry.specs.declared.kind.Kind.TheVariants as kind
-use Rattle.arrow_entry.specs.declared.item.Turn.{Turn}
-use Rattle.arrow_entry.specs.declared.item.Turn.TheVariants as turn
-use Rattle.arrow_entry.specs.Item.{Stored, value, bit, piece, Change, fill}
-use Rattle.arrow_entry.specs.Item as item
-use Rattle.arrow_entry.specs.Kind.{Shape, Sort, native, boolean, pieces, shape}
-use Rattle.arrow_entry.specs.Request.{Packed, Given, values, packed, cut_pieces}
+use Rattle.arrow_model.specs.declared.kind.Kind.{Kind}
+use Rattle.arrow_model.specs.declared.kind.Kind.TheVariants as kind
+use Rattle.arrow_model.specs.declared.item.Turn.{Turn}
+use Rattle.arrow_model.specs.declared.item.Turn.TheVariants as turn
+use Rattle.arrow_model.specs.Item.{Stored, value, bit, bytes_item, ListChange, fill}
+use Rattle.arrow_model.specs.Item as item
+use Rattle.arrow_model.specs.Kind.{Shape, ValueKind, native, boolean, var_binary, shape}
+use Rattle.arrow_model.specs.Request.{Packed, RawValues, values, packed, cut_pieces}
 use Rattle.arrow_syntax.specs.Readers.{Reader, beside, no_words, only, each, ◌▸◌, next, reads}
 use Rattle.arrow_syntax.specs.Words.{number_of, integer_of}
 
@@ -91,8 +91,8 @@ abbrev pub item_by_letter : List ℕ → Option (Stored ℤ)
 item_by_letter [] = None
 item_by_letter (b ∷ bs) =
     if b == letter_v then option_map value (integer_of bs) else (
-    if b == letter_x then option_map (piece false) (bytes_in bs) else (
-    if b == letter_t then option_map (piece true) (text_in bs) else None))
+    if b == letter_x then option_map (bytes_item false) (bytes_in bs) else (
+    if b == letter_t then option_map (bytes_item true) (text_in bs) else None))
 
 -- an item: a truth value, `b0` or `b1`, or any other
 abbrev pub item_of : List ℕ → Option (Stored ℤ)
@@ -146,22 +146,22 @@ turn_of word =
     if bytes_eq word (codes "b") then Some turn.Back else skip_of word)
 
 -- a change by its name: `fill` and an item, or `reverse`
-abbrev pub change_by_name : List ℕ → Reader (Change (Stored ℤ))
+abbrev pub change_by_name : List ℕ → Reader (ListChange (Stored ℤ))
 change_by_name name words =
     if bytes_eq name (codes "fill") then reads (only item_of) fill words else (
     if bytes_eq name (codes "reverse") then no_words item.turn words else None)
 
-abbrev pub change_in : Reader (Change (Stored ℤ))
+abbrev pub change_in : Reader (ListChange (Stored ℤ))
 change_in [] = None
 change_in (name ∷ words) = change_by_name name words
 
 -- raw stored values of a sort: any number of integers; truth values in one word; or bytes, and any number of offsets
-abbrev pub raw_in : (List ℕ → Option ℤ) → Sort → Reader (Given ℤ)
+abbrev pub raw_in : (List ℕ → Option ℤ) → ValueKind → Reader (RawValues ℤ)
 raw_in offset native = reads (each integer_of) values
 raw_in offset boolean = reads (only packed_in) packed
-raw_in offset (pieces is_text) = reads (bytes_of ▸ each offset) (λ x. cut_pieces x.1 x.0)
+raw_in offset (var_binary is_text) = reads (bytes_of ▸ each offset) (λ x. cut_pieces x.1 x.0)
 
 -- raw parts: a kind, a type, a mask, and stored values of the kind's sort
-abbrev pub parts_in : (List ℕ → Option ℤ) → Reader (Shape × (LogicalType × (Option Packed × Given ℤ)))
+abbrev pub parts_in : (List ℕ → Option ℤ) → Reader (Shape × (LogicalType × (Option Packed × RawValues ℤ)))
 parts_in offset = next kind_of (λ kind.
-    reads (type_of ▸ packed_mask_in ▸ raw_in offset (shape kind).sort) (λ parts. (shape kind, parts)))
+    reads (type_of ▸ packed_mask_in ▸ raw_in offset (shape kind).value_kind) (λ parts. (shape kind, parts)))

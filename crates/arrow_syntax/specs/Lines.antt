@@ -3,12 +3,12 @@ use Rattle.std.specs.Prelude.{ℕ, ◌+◌, Bool, not, ◌&&◌, ◌||◌, ◌==
 use Rattle.std.specs.Prelude.{◌++◌, ℤ, pos, Option, Some, None, option_and_then, option_map, bytes_eq, is_some}
 use Rattle.std.specs.Prelude.{filter, filter_map, length, position}
 use Rattle.arrow_types.specs.declared.primitive_type.PrimitiveType.TheVariants.{Int64}
-use Rattle.arrow_entry.specs.Both.{BothRequest, narrow, wide, widen, narrow_to, narrow_types, wide_types}
-use Rattle.arrow_entry.specs.Entry.{Types, default_type, types}
-use Rattle.arrow_entry.specs.Kind.{shape}
-use Rattle.arrow_entry.specs.Request as ask
-use Rattle.arrow_entry.specs.Request.{Request, make, at, clone_from, extend_from, equal, filter_from, take_from}
-use Rattle.arrow_entry.specs.Request.{check_indexes}
+use Rattle.arrow_model.specs.Both.{BothRequest, narrow, wide, widen, narrow_to, narrow_types, wide_types}
+use Rattle.arrow_model.specs.Value.{Types, default_type, types}
+use Rattle.arrow_model.specs.Kind.{shape}
+use Rattle.arrow_model.specs.Request as ask
+use Rattle.arrow_model.specs.Request.{Request, make, at, clone_to, extend_from, equal, filter_to, take_to}
+use Rattle.arrow_model.specs.Request.{check_indexes}
 use Rattle.arrow_syntax.specs.Fields.{kind_of, type_of, item_of, slot_of, mask_of, turn_of, change_in, parts_in}
 use Rattle.arrow_syntax.specs.Readers.{Reader, beside, no_words, only, each, ◌▸◌, next, reads}
 use Rattle.arrow_syntax.specs.Words.{line_feed, lines_of, space, words_of, is_passed_over, is_printable}
@@ -25,7 +25,7 @@ create_lines c offset =
     ∷ (
       codes "null",
       λ e. reads (kind_of ▸ only number_of) (λ (kind, n).
-          make e (shape kind) (ask.nulls (default_type c (shape kind).sort) n)),
+          make e (shape kind) (ask.nulls (default_type c (shape kind).value_kind) n)),
     )
     ∷ (codes "parts", λ e. reads (parts_in offset) (λ (s, (t, (mask, raw))). make e s (ask.parts t raw mask)))
     ∷ (codes "slots", λ e. reads (kind_of ▸ each slot_of) (λ (kind, slots). make e (shape kind) (ask.slots slots)))
@@ -52,7 +52,7 @@ read_lines =
 unfoldable pub change_lines : List Line
 change_lines =
     (codes "slice", λ e. reads (number_of ▸ only number_of) (λ (a, n). at e (ask.slice a n)))
-    ∷ (codes "clone", λ e. reads (only number_of) (λ f. clone_from f e))
+    ∷ (codes "clone", λ e. reads (only number_of) (λ f. clone_to e f))
     ∷ (codes "drop", λ e. no_words (at e ask.empty))
     ∷ (codes "mask", λ e. reads (only mask_of) (λ mask. at e (ask.set_mask mask)))
     ∷ (codes "applymask", λ e. reads change_in (λ change. at e (ask.apply_mask change)))
@@ -84,8 +84,8 @@ convert_lines =
     ∷ (codes "nullable", λ e. no_words (at e ask.nullable))
     ∷ (codes "to", λ e. reads (only type_of) (λ t. at e (ask.to t)))
     ∷ (codes "equal", λ e. reads (only number_of) (λ f. equal e f))
-    ∷ (codes "filter", λ e. reads (number_of ▸ only number_of) (λ (f, g). filter_from g e f))
-    ∷ (codes "take", λ e. reads (number_of ▸ each integer_of) (λ (g, keys). take_from g e keys))
+    ∷ (codes "filter", λ e. reads (number_of ▸ only number_of) (λ (f, g). filter_to e f g))
+    ∷ (codes "take", λ e. reads (number_of ▸ each integer_of) (λ (g, keys). take_to e keys g))
     ∷ (codes "indexes", λ n. reads (each integer_of) (λ keys. check_indexes keys n))
     ∷ []
 

@@ -7,16 +7,16 @@ use Rattle.std.specs.Fmt.{signed_decimal}
 use Rattle.hex.specs.Hex.{encode_lower}
 use Rattle.arrow_types.specs.Types.{Base, Extension, LogicalType, refusal_text}
 use Rattle.arrow_types.specs.Types as types
-use Rattle.arrow_entry.specs.Item.{Stored, value, bit, piece}
-use Rattle.arrow_entry.specs.Answer.{Answer, done, not_met, not_given, number, flag, slot, slots, numbers}
-use Rattle.arrow_entry.specs.Answer.{typed, left, right, refused}
+use Rattle.arrow_model.specs.Item.{Stored, value, bit, bytes_item}
+use Rattle.arrow_model.specs.Answer.{Answer, done, not_met, not_given, number, flag, slot, slots, numbers}
+use Rattle.arrow_model.specs.Answer.{typed, left, right, refused}
 use Rattle.arrow_syntax.specs.Words.{line_feed, space}
 
 -- an item as it is read: `v` and a number, `b0` or `b1`, or `t` or `x` and the digits of bytes
 abbrev pub item_text : Stored ℤ → List ℕ
 item_text (value n) = codes "v" ++ signed_decimal n
 item_text (bit b) = if b then codes "b1" else codes "b0"
-item_text (piece is_text bytes) = (if is_text then codes "t" else codes "x") ++ encode_lower bytes
+item_text (bytes_item is_text bytes) = (if is_text then codes "t" else codes "x") ++ encode_lower bytes
 
 -- a slot: its item, or `_` for a null
 abbrev pub slot_text : Option (Stored ℤ) → List ℕ

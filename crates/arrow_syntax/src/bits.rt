@@ -1,13 +1,13 @@
 //! The words that are truth values, as a list and as packed bits.
 ghost use Rattle.std.specs.Prelude.{◌≡◌, ◌≤◌, Bool, List, Option, is_some, length, option_map, IfOk};
-ghost use Rattle.arrow_entry.specs.Request.{Packed, packed_bits};
+ghost use Rattle.arrow_model.specs.Request.{Packed, packed_bits};
 ghost use Rattle.arrow_syntax.specs.Fields.{bit_of, bits_of, byte_of, mask_of, packed_bytes, packed_of};
 ghost use Rattle.arrow_syntax.specs.Fields.{packed_in, packed_mask_in};
 ghost use Rattle.arrow_syntax.specs.Readers.{each};
 
 use crate::readers::Word;
 use crate::words::word_eq;
-use arrow_entry::Bits;
+use arrow_model::Bits;
 use std::alloc::{AllocError, Global};
 
 /// Returns the truth value of the digit `0` or `1`.

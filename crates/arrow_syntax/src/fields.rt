@@ -1,8 +1,8 @@
 //! The words that are numbers, kinds, types, or calls of an iterator.
 ghost use Rattle.std.specs.Prelude.{◌≡◌, ℕ, ℤ, IfSome, Some, option_map};
 ghost use Rattle.arrow_types.specs.Types.{LogicalType, logical_type};
-ghost use Rattle.arrow_entry.specs.declared.kind.Kind.{Kind};
-ghost use Rattle.arrow_entry.specs.declared.item.Turn.{Turn};
+ghost use Rattle.arrow_model.specs.declared.kind.Kind.{Kind};
+ghost use Rattle.arrow_model.specs.declared.item.Turn.{Turn};
 ghost use Rattle.arrow_syntax.specs.Fields.{kind_of, type_of, skip_of, turn_of};
 ghost use Rattle.arrow_syntax.specs.Readers.{first};
 ghost use Rattle.arrow_syntax.specs.Words.{number_of, integer_of, offset_of, words_of};
@@ -10,7 +10,7 @@ ghost use Rattle.arrow_syntax.specs.Words.{number_of, integer_of, offset_of, wor
 use crate::numbers::{integer_of, number_of, offset_of, with_digit};
 use crate::readers::Word;
 use crate::words::{next_word, word_eq};
-use arrow_entry::{Kind, Turn};
+use arrow_model::{Kind, Turn};
 use arrow_types::data_type::DataType;
 use std::alloc::{AllocError, Global};
 

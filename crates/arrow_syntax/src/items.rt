@@ -2,7 +2,7 @@
 ghost use Rattle.std.specs.Prelude.{◌≡◌, ℕ, ℤ, true, false, List, Option, Some, None, IfOk, is_some};
 ghost use Rattle.std.specs.Prelude.{option_map, string_bytes, if◌then◌else◌};
 ghost use Rattle.std.specs.Str.{is_utf8};
-ghost use Rattle.arrow_entry.specs.Item.{Stored, value, piece, Change, fill, turn, stored_item, stored_slot, change_of};
+ghost use Rattle.arrow_model.specs.Item.{Stored, value, bytes_item, Change, fill, turn, stored_item, stored_slot, change_of};
 ghost use Rattle.arrow_syntax.specs.Fields.{bytes_in, bytes_of, change_by_name, change_in, item_by_letter};
 ghost use Rattle.arrow_syntax.specs.Fields.{item_of, slot_of, text_in};
 ghost use Rattle.arrow_syntax.specs.Readers.{only, reads, no_words};
@@ -12,7 +12,7 @@ use crate::hexadecimal::{are_bytes, is_text};
 use crate::numbers::integer_of;
 use crate::readers::{Last, Word, Words};
 use crate::words::{next_word, word_eq};
-use arrow_entry::{Item, Named};
+use arrow_model::{Change, Item};
 use hex::FromHexError;
 use std::alloc::{AllocError, Global};
 
@@ -79,7 +79,7 @@ fn value_item(digits: &[u8]) -> Option<Item<i64>>
 }
 
 fn bytes_item(alloc: Global, digits: &[u8]) -> Result<Option<Item<i64>>, AllocError>
-    ensures { IfOk result (λ read. option_map stored_item read ≡ option_map (piece false) (bytes_in digits.now)) }
+    ensures { IfOk result (λ read. option_map stored_item read ≡ option_map (bytes_item false) (bytes_in digits.now)) }
 {
     match bytes_in(alloc, digits)? {
         Some(bytes) => Ok(Some(Item::Bytes(bytes))),
@@ -88,7 +88,7 @@ fn bytes_item(alloc: Global, digits: &[u8]) -> Result<Option<Item<i64>>, AllocEr
 }
 
 fn text_item(alloc: Global, digits: &[u8]) -> Result<Option<Item<i64>>, AllocError>
-    ensures { IfOk result (λ read. option_map stored_item read ≡ option_map (piece true) (text_in digits.now)) }
+    ensures { IfOk result (λ read. option_map stored_item read ≡ option_map (bytes_item true) (text_in digits.now)) }
 {
     match text_in(alloc, digits)? {
         Some(text) => Ok(Some(Item::Text(text))),
@@ -172,22 +172,22 @@ impl Word for Option<Item<i64>> {
 }
 
 /// Returns the change that fills with the item that the words write.
-fn fill_change(alloc: Global, words: &[u8]) -> Result<Option<Named<i64>>, AllocError>
+fn fill_change(alloc: Global, words: &[u8]) -> Result<Option<Change<i64>>, AllocError>
     ensures { IfOk result (λ read. option_map change_of read ≡ reads (only item_of) fill (words_of words.now)) }
 {
     match <Last<Item<i64>>>::of_words(alloc, words)? {
-        Some(Last(item)) => Ok(Some(Named::Fill(item))),
+        Some(Last(item)) => Ok(Some(Change::Fill(item))),
         None => Ok(None),
     }
 }
 
 /// Returns the change that reverses a list, if no word follows.
-fn reverse_change(words: &[u8]) -> Option<Named<i64>>
+fn reverse_change(words: &[u8]) -> Option<Change<i64>>
     ensures { option_map change_of result ≡ no_words turn (words_of words.now) }
 {
     match next_word(words) {
         Some(_) => None,
-        None => Some(Named::Reverse),
+        None => Some(Change::Reverse),
     }
 }
 
@@ -196,7 +196,7 @@ fn change_by_name(
     alloc: Global,
     name: &[u8],
     words: &[u8],
-) -> Result<Option<Named<i64>>, AllocError>
+) -> Result<Option<Change<i64>>, AllocError>
     ensures { IfOk result (λ read. option_map change_of read ≡ change_by_name name.now (words_of words.now)) }
 {
     if word_eq(name, b"fill") {
@@ -219,7 +219,7 @@ fn is_change(name: &[u8], words: &[u8]) -> bool
 }
 
 // A change by its name: `fill` and an item, or `reverse`.
-impl Words for Named<i64> {
+impl Words for Change<i64> {
     ghost Content = { Change (Stored ℤ) };
 
     ghost content = { change_of };

@@ -5,12 +5,12 @@ ghost use Rattle.std.specs.Fmt.{signed_decimal};
 ghost use Rattle.std.specs.List.{join_with_byte};
 ghost use Rattle.hex.specs.Hex.{encode_lower, lower_digits};
 ghost use Rattle.arrow_types.specs.Types.{logical_type};
-ghost use Rattle.arrow_entry.specs.Answer.{told};
-ghost use Rattle.arrow_entry.specs.Item.{stored_item, stored_slot};
+ghost use Rattle.arrow_model.specs.Answer.{answer_of};
+ghost use Rattle.arrow_model.specs.Item.{stored_item, stored_slot};
 ghost use Rattle.arrow_syntax.specs.Words.{space};
 ghost use Rattle.arrow_syntax.specs.Text.{Grows, answer_text, bracketed, item_text, slot_text, text_of, type_text};
 
-use arrow_entry::{Item, Reply};
+use arrow_model::{Item, Reply};
 use arrow_types::data_type::DataType;
 use itoa::{Buffer, Integer};
 use std::alloc::AllocError;
@@ -170,7 +170,7 @@ fn type_word(data_type: &DataType) -> &'static str
 }
 
 fn push_reply(text: &mut String, reply: &Reply<i64>) -> Result<(), AllocError>
-    ensures { OnOk result (Grows text.old text.new (answer_text (told reply.now))) }
+    ensures { OnOk result (Grows text.old text.new (answer_text (answer_of reply.now))) }
 {
     match reply {
         Reply::Done => text.push_str("ok"),
@@ -191,7 +191,7 @@ fn push_reply(text: &mut String, reply: &Reply<i64>) -> Result<(), AllocError>
 
 /// Appends a line for each reply, in order.
 pub fn push_replies(text: &mut String, replies: &[Reply<i64>]) -> Result<(), AllocError>
-    ensures { OnOk result (Grows text.old text.new (text_of (map told replies.now))) }
+    ensures { OnOk result (Grows text.old text.new (text_of (map answer_of replies.now))) }
 {
     for reply in replies {
         push_reply(text, reply)?;

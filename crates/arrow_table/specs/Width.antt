@@ -1,8 +1,8 @@
 -- What a table of one width of offsets is of two tables, and what a request of it is of both.
 use Rattle.std.specs.Prelude.{Bool, true, false}
-use Rattle.arrow_entry.specs.Both.{Both, BothRequest, narrow, wide}
-use Rattle.arrow_entry.specs.Entry.{Held}
-use Rattle.arrow_entry.specs.Request.{Request}
+use Rattle.arrow_model.specs.Both.{Both, BothRequest, narrow, wide}
+use Rattle.arrow_model.specs.Value.{Held}
+use Rattle.arrow_model.specs.Request.{Request}
 
 -- the table of a width, whose layouts are the large ones where the width is 64 bits
 abbrev pub half : {T : Type 0} → Bool → Both T → Held T

@@ -1,13 +1,13 @@
 //! Two tables, one of each width of offsets, and the run of a list of commands on them.
 ghost use Rattle.std.specs.Prelude.{◌≡◌, ◌<◌, ◌≤◌, ◌∷◌, [], length, map, option_copied, option_map, replicate, take, vec_capacity, vec_len, IfErr, IfOk, None};
 ghost use Rattle.arrow_check.specs.Reading.{no_cost};
-ghost use Rattle.arrow_entry.specs.Answer.{told};
-ghost use Rattle.arrow_entry.specs.Both.{AppendsBothRun, IsBothStep, both_asked, narrow, narrow_of, narrow_to, wide, wide_of, widen};
+ghost use Rattle.arrow_model.specs.Answer.{answer_of};
+ghost use Rattle.arrow_model.specs.Both.{AppendsBothRun, IsBothStep, both_asked, narrow, narrow_of, narrow_to, wide, wide_of, widen};
 ghost use Rattle.arrow_entry.specs.Entry.{value_of};
-ghost use Rattle.arrow_entry.specs.Item.{stored_slot};
-ghost use Rattle.arrow_entry.specs.Request.{all_slots, asked, at, parts_asked, push};
-ghost use Rattle.arrow_entry.specs.Run.{CostsAtMost};
-ghost use Rattle.arrow_entry.specs.Step.{entry_at};
+ghost use Rattle.arrow_model.specs.Item.{stored_slot};
+ghost use Rattle.arrow_model.specs.Request.{all_slots, asked, at, parts_asked, push};
+ghost use Rattle.arrow_model.specs.Run.{CostsAtMost};
+ghost use Rattle.arrow_model.specs.Step.{entry_at};
 ghost use Rattle.arrow_table.specs.Listed.{listed};
 ghost use Rattle.arrow_table.specs.Width.{half, on_width};
 
@@ -30,7 +30,7 @@ pub struct Tables<T: NativeType> {
 
 // Contracts see both.
 impl<T: NativeType> Model for Tables<T> {
-    ghost use Rattle.arrow_entry.specs.Both.{Both};
+    ghost use Rattle.arrow_model.specs.Both.{Both};
 
     ghost Value = { Both T };
 
@@ -69,7 +69,7 @@ impl<T: NativeType> Tables<T> {
     /// Runs a command on the table over offsets of 32 bits, and returns its reply, which is allocated by `alloc`.
     #[inline(always)]
     pub fn on_narrow(&mut self, alloc: Global, command: &Command<T, i32>) -> Reply<T>
-        ensures step { IsBothStep T.zero T.PRIMITIVE self.old (narrow (asked (λ n. n) command.now)) (told result) self.new }
+        ensures step { IsBothStep T.zero T.PRIMITIVE self.old (narrow (asked (λ n. n) command.now)) (answer_of result) self.new }
         ensures costs { CostsAtMost (asked (λ n. n) command.now ∷ []) self.old.narrow.cost self.new.narrow.cost }
     {
         self.narrow.step(alloc, command)
@@ -78,7 +78,7 @@ impl<T: NativeType> Tables<T> {
     /// Runs a command on the table over offsets of 64 bits, and returns its reply, which is allocated by `alloc`.
     #[inline(always)]
     pub fn on_wide(&mut self, alloc: Global, command: &Command<T, i64>) -> Reply<T>
-        ensures step { IsBothStep T.zero T.PRIMITIVE self.old (wide (asked (λ n. n) command.now)) (told result) self.new }
+        ensures step { IsBothStep T.zero T.PRIMITIVE self.old (wide (asked (λ n. n) command.now)) (answer_of result) self.new }
         ensures costs { CostsAtMost (asked (λ n. n) command.now ∷ []) self.old.wide.cost self.new.wide.cost }
     {
         self.wide.step(alloc, command)
@@ -87,7 +87,7 @@ impl<T: NativeType> Tables<T> {
     /// Copies the array of bytes or text in the narrow entry `e` into the empty wide entry `f`, over offsets of 64 bits,
     /// and returns the reply.
     pub fn widen(&mut self, e: usize, f: usize) -> Reply<T>
-        ensures { IsBothStep T.zero T.PRIMITIVE self.old (widen e f) (told result) self.new }
+        ensures { IsBothStep T.zero T.PRIMITIVE self.old (widen e f) (answer_of result) self.new }
     {
         let alloc = *self.wide.entries.allocator();
         let row = Widen(&self.narrow.entries, e);
@@ -97,7 +97,7 @@ impl<T: NativeType> Tables<T> {
     /// Copies the array of bytes or text in the wide entry `e` into the empty narrow entry `f`, over offsets of 32 bits,
     /// and returns the reply.
     pub fn narrow_to(&mut self, e: usize, f: usize) -> Reply<T>
-        ensures { IsBothStep T.zero T.PRIMITIVE self.old (narrow_to e f) (told result) self.new }
+        ensures { IsBothStep T.zero T.PRIMITIVE self.old (narrow_to e f) (answer_of result) self.new }
     {
         let alloc = *self.narrow.entries.allocator();
         let row = Narrow(&self.wide.entries, e);
@@ -107,14 +107,14 @@ impl<T: NativeType> Tables<T> {
 
 impl<T: NativeType> Steps<T> for Tables<T> {
     ghost use Rattle.std.specs.Prelude.{◌∷◌, []};
-    ghost use Rattle.arrow_entry.specs.Answer.{told};
-    ghost use Rattle.arrow_entry.specs.Both.{IsBothStep, both_asked, narrow_of, wide_of};
-    ghost use Rattle.arrow_entry.specs.Run.{CostsAtMost};
+    ghost use Rattle.arrow_model.specs.Answer.{answer_of};
+    ghost use Rattle.arrow_model.specs.Both.{IsBothStep, both_asked, narrow_of, wide_of};
+    ghost use Rattle.arrow_model.specs.Run.{CostsAtMost};
 
     type Command = BothCommand<T>;
 
     ghost steps_to = { λ old command reply new.
-        IsBothStep T.zero T.PRIMITIVE old (both_asked command) (told reply) new
+        IsBothStep T.zero T.PRIMITIVE old (both_asked command) (answer_of reply) new
         × CostsAtMost (narrow_of (both_asked command ∷ [])) old.narrow.cost new.narrow.cost
         × CostsAtMost (wide_of (both_asked command ∷ [])) old.wide.cost new.wide.cost };
 
@@ -144,7 +144,7 @@ pub trait Width: Offset {
         command: &Command<T, Self>,
     ) -> Reply<T>
         ensures step { let request = on_width Self.IS_LARGE (asked Self.number command.now) in
-            IsBothStep T.zero T.PRIMITIVE tables.old request (told result) tables.new }
+            IsBothStep T.zero T.PRIMITIVE tables.old request (answer_of result) tables.new }
         ensures costs { let commands = asked Self.number command.now ∷ [] in
             CostsAtMost commands (half Self.IS_LARGE tables.old).cost (half Self.IS_LARGE tables.new).cost };
 
@@ -152,13 +152,13 @@ pub trait Width: Offset {
     /// `Push`, with no command made for it.
     fn push<T: NativeType>(tables: &mut Tables<T>, e: usize, slot: &Option<Item<T>>) -> Reply<T>
         ensures { let request = on_width Self.IS_LARGE (at e (push (stored_slot slot.now))) in
-            IsBothStep T.zero T.PRIMITIVE tables.old request (told result) tables.new };
+            IsBothStep T.zero T.PRIMITIVE tables.old request (answer_of result) tables.new };
 
     /// Makes a value of raw parts in an empty entry of the table of this width, and returns the reply. This is the
     /// command `Parts`, but the parts are moved into the value and not copied.
     fn parts<T: NativeType>(tables: &mut Tables<T>, e: usize, parts: Parts<T, Self>) -> Reply<T>
         ensures step { let request = on_width Self.IS_LARGE (parts_asked Self.number e parts) in
-            IsBothStep T.zero T.PRIMITIVE tables.old request (told result) tables.new }
+            IsBothStep T.zero T.PRIMITIVE tables.old request (answer_of result) tables.new }
         ensures costs { let commands = parts_asked Self.number e parts ∷ [] in
             CostsAtMost commands (half Self.IS_LARGE tables.old).cost (half Self.IS_LARGE tables.new).cost };
 }
@@ -186,7 +186,7 @@ impl Width for i32 {
     #[inline(always)]
     fn parts<T: NativeType>(tables: &mut Tables<T>, e: usize, parts: Parts<T, i32>) -> Reply<T>
         ensures step { let request = narrow (parts_asked (λ n. n) e parts) in
-            IsBothStep T.zero T.PRIMITIVE tables.old request (told result) tables.new }
+            IsBothStep T.zero T.PRIMITIVE tables.old request (answer_of result) tables.new }
         ensures costs { let commands = parts_asked (λ n. n) e parts ∷ [] in
             CostsAtMost commands tables.old.narrow.cost tables.new.narrow.cost }
     {
@@ -217,7 +217,7 @@ impl Width for i64 {
     #[inline(always)]
     fn parts<T: NativeType>(tables: &mut Tables<T>, e: usize, parts: Parts<T, i64>) -> Reply<T>
         ensures step { let request = wide (parts_asked (λ n. n) e parts) in
-            IsBothStep T.zero T.PRIMITIVE tables.old request (told result) tables.new }
+            IsBothStep T.zero T.PRIMITIVE tables.old request (answer_of result) tables.new }
         ensures costs { let commands = parts_asked (λ n. n) e parts ∷ [] in
             CostsAtMost commands tables.old.wide.cost tables.new.wide.cost }
     {

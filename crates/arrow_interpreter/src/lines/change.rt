@@ -1,6 +1,6 @@
 //! The lines that cut, copy and change a value.
-ghost use Rattle.arrow_entry.specs.Request.{apply_mask, apply_values, at, clone_from, empty, set, set_mask};
-ghost use Rattle.arrow_entry.specs.Request.{set_values, slice, write};
+ghost use Rattle.arrow_model.specs.Request.{apply_mask, apply_values, at, clone_to, empty, set, set_mask};
+ghost use Rattle.arrow_model.specs.Request.{set_values, slice, write};
 ghost use Rattle.arrow_syntax.specs.Fields.{change_in, item_of, mask_of, slot_of};
 ghost use Rattle.arrow_syntax.specs.Readers.{each, no_words, only, reads, ◌▸◌};
 ghost use Rattle.arrow_syntax.specs.Words.{number_of};
@@ -8,7 +8,7 @@ ghost use Rattle.std.proofs.Common.{rules};
 
 use crate::line::{CommandLine, ParseOffset};
 use arrow_syntax::readers::Last;
-use arrow_table::{Command, Item, Named};
+use arrow_table::{Change, Command, Item};
 
 /// `slice E A N`
 pub(crate) struct SliceLine;
@@ -32,7 +32,7 @@ pub(crate) struct CloneLine;
 impl<O: ParseOffset> CommandLine<O> for CloneLine {
     type Rest = Last<usize>;
 
-    ghost reader = { λ e. reads (only number_of) (λ f. clone_from f e) };
+    ghost reader = { λ e. reads (only number_of) (λ f. clone_to e f) };
 
     ghost same = { Prim.search rules };
 
@@ -78,7 +78,7 @@ impl<O: ParseOffset> CommandLine<O> for MaskLine {
 pub(crate) struct ApplyMaskLine;
 
 impl<O: ParseOffset> CommandLine<O> for ApplyMaskLine {
-    type Rest = Named<i64>;
+    type Rest = Change<i64>;
 
     ghost reader = { λ e. reads change_in (λ change. at e (apply_mask change)) };
 
@@ -110,7 +110,7 @@ impl<O: ParseOffset> CommandLine<O> for ValuesLine {
 pub(crate) struct ApplyValuesLine;
 
 impl<O: ParseOffset> CommandLine<O> for ApplyValuesLine {
-    type Rest = Named<i64>;
+    type Rest = Change<i64>;
 
     ghost reader = { λ e. reads change_in (λ change. at e (apply_values change)) };
 

@@ -1,6 +1,6 @@
 //! The lines that convert a value, and those about two values, about three, and about none.
-ghost use Rattle.arrow_entry.specs.Request.{at, check_indexes, equal, filter_from, freeze, nullable, take_from};
-ghost use Rattle.arrow_entry.specs.Request.{thaw, to};
+ghost use Rattle.arrow_model.specs.Request.{at, check_indexes, equal, filter_to, freeze, nullable, take_to};
+ghost use Rattle.arrow_model.specs.Request.{thaw, to};
 ghost use Rattle.arrow_syntax.specs.Fields.{type_of};
 ghost use Rattle.arrow_syntax.specs.Readers.{each, no_words, only, reads, ◌▸◌};
 ghost use Rattle.arrow_syntax.specs.Words.{integer_of, number_of};
@@ -104,7 +104,7 @@ pub(crate) struct FilterLine;
 impl<O: ParseOffset> CommandLine<O> for FilterLine {
     type Rest = (usize, Last<usize>);
 
-    ghost reader = { λ e. reads (number_of ▸ only number_of) (λ (f, g). filter_from g e f) };
+    ghost reader = { λ e. reads (number_of ▸ only number_of) (λ (f, g). filter_to e f g) };
 
     ghost same = { Prim.search rules };
 
@@ -120,7 +120,7 @@ pub(crate) struct TakeLine;
 impl<O: ParseOffset> CommandLine<O> for TakeLine {
     type Rest = (usize, Vec<i64>);
 
-    ghost reader = { λ e. reads (number_of ▸ each integer_of) (λ (g, keys). take_from g e keys) };
+    ghost reader = { λ e. reads (number_of ▸ each integer_of) (λ (g, keys). take_to e keys g) };
 
     ghost same = { Prim.search rules };
 

@@ -1,9 +1,9 @@
 //! The lines that make a value in an empty entry.
 ghost use Rattle.std.specs.Prelude.{◌≡◌, false, is_some, option_map, IfOk};
 ghost use Rattle.arrow_types.specs.Types.{logical_type};
-ghost use Rattle.arrow_entry.specs.Entry.{default_type};
-ghost use Rattle.arrow_entry.specs.Kind.{boolean, native, pieces, shape};
-ghost use Rattle.arrow_entry.specs.Request.{given_by, items, make, nothing, nulls, parts, slots};
+ghost use Rattle.arrow_model.specs.Value.{default_type};
+ghost use Rattle.arrow_model.specs.Kind.{boolean, native, var_binary, shape};
+ghost use Rattle.arrow_model.specs.Request.{given_by, items, make, nothing, nulls, parts, slots};
 ghost use Rattle.arrow_syntax.specs.Lines.{types_over};
 ghost use Rattle.arrow_syntax.specs.Fields.{item_of, kind_of, packed_mask_in, parts_in, raw_in, slot_of, type_of};
 ghost use Rattle.arrow_syntax.specs.Readers.{each, only, reads, ◌▸◌};
@@ -41,7 +41,7 @@ pub(crate) struct NullLine;
 impl<O: ParseOffset> CommandLine<O> for NullLine {
     type Rest = (Kind, Last<usize>);
 
-    ghost reader = { λ e. reads (kind_of ▸ only number_of) (λ (kind, n). make e (shape kind) (nulls (default_type (types_over O.most O.IS_LARGE) (shape kind).sort) n)) };
+    ghost reader = { λ e. reads (kind_of ▸ only number_of) (λ (kind, n). make e (shape kind) (nulls (default_type (types_over O.most O.IS_LARGE) (shape kind).value_kind) n)) };
 
     ghost same = { Prim.search rules };
 
@@ -124,7 +124,7 @@ impl<O: ParseOffset> CommandLine<O> for ItemsLine {
 
 /// Returns the type of a kind's values if no other is given.
 fn default_type<O: Offset>(kind: Kind) -> DataType
-    ensures { logical_type result ≡ default_type (types_over O.most O.IS_LARGE) (shape kind).sort }
+    ensures { logical_type result ≡ default_type (types_over O.most O.IS_LARGE) (shape kind).value_kind }
 {
     match kind {
         Kind::Primitive | Kind::MutablePrimitive => DataType::Int64,
@@ -155,7 +155,7 @@ fn raw_of<O: ParseOffset>(
     kind: Kind,
     words: &[u8],
 ) -> Result<Option<Raw<i64, O>>, AllocError>
-    ensures { let wanted = raw_in O.offset (shape kind).sort (words_of words.now) in
+    ensures { let wanted = raw_in O.offset (shape kind).value_kind (words_of words.now) in
         IfOk result (λ read. option_map (given_by O.number) read ≡ wanted) }
 {
     match kind {
@@ -190,7 +190,7 @@ fn raw_bits<O: ParseOffset>(alloc: Global, words: &[u8]) -> Result<Option<Raw<i6
 }
 
 fn raw_bytes<O: ParseOffset>(alloc: Global, words: &[u8]) -> Result<Option<Raw<i64, O>>, AllocError>
-    ensures { let wanted = raw_in O.offset (pieces false) (words_of words.now) in
+    ensures { let wanted = raw_in O.offset (var_binary false) (words_of words.now) in
         IfOk result (λ read. option_map (given_by O.number) read ≡ wanted) }
 {
     match <RawBytes<O>>::of_words(alloc, words)? {
@@ -201,7 +201,7 @@ fn raw_bytes<O: ParseOffset>(alloc: Global, words: &[u8]) -> Result<Option<Raw<i
 
 /// Returns whether words are a type, a mask and raw values of a kind.
 fn are_parts<O: ParseOffset>(kind: Kind, words: &[u8]) -> bool
-    ensures { result ≡ is_some ((type_of ▸ packed_mask_in ▸ raw_in O.offset (shape kind).sort) (words_of words.now)) }
+    ensures { result ≡ is_some ((type_of ▸ packed_mask_in ▸ raw_in O.offset (shape kind).value_kind) (words_of words.now)) }
 {
     match kind {
         Kind::Primitive | Kind::MutablePrimitive => <PartsOf<Vec<i64>>>::are_words(words),

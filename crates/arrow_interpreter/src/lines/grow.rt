@@ -1,7 +1,7 @@
 //! The lines that make a builder grow or shrink.
 ghost use Rattle.std.specs.Prelude.{IfOk, option_map};
-ghost use Rattle.arrow_entry.specs.Request.{at, extend, extend_constant, extend_from, extend_values, pop, push};
-ghost use Rattle.arrow_entry.specs.Request.{push_null, reserve, shrink};
+ghost use Rattle.arrow_model.specs.Request.{at, extend, extend_constant, extend_from, extend_values, pop, push};
+ghost use Rattle.arrow_model.specs.Request.{push_null, reserve, shrink};
 ghost use Rattle.arrow_interpreter.specs.Replies.{RunsLine};
 ghost use Rattle.arrow_table.specs.Width.{on_width};
 ghost use Rattle.arrow_syntax.specs.Fields.{item_of, slot_of};

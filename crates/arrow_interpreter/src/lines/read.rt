@@ -1,6 +1,6 @@
 //! The lines that read a value.
-ghost use Rattle.arrow_entry.specs.Request.{all_slots, at, bytes, get, held, is_null, len, null_count, offsets};
-ghost use Rattle.arrow_entry.specs.Request.{turns, type_of, value};
+ghost use Rattle.arrow_model.specs.Request.{all_slots, at, bytes, get, held, is_null, len, null_count, offsets};
+ghost use Rattle.arrow_model.specs.Request.{turns, type_of, value};
 ghost use Rattle.arrow_syntax.specs.Fields.{turn_of};
 ghost use Rattle.arrow_syntax.specs.Readers.{each, no_words, only, reads};
 ghost use Rattle.arrow_syntax.specs.Words.{number_of};

@@ -1,5 +1,5 @@
 use Rattle.std.proofs.Common.{string_bytes}
-use Rattle.arrow_entry.specs.Item.{stored_slot}
+use Rattle.arrow_model.specs.Item.{stored_slot}
 use Rattle.arrow_syntax.specs.Text.{slot_text}
 use Rattle.arrow_syntax.proofs.Joined.{map_twice}
 use Rattle.arrow_syntax.proofs.print.push_reply.Goals as goal

@@ -1,6 +1,6 @@
 use Rattle.std.proofs.Common.{string_bytes}
 use Rattle.std.specs.Prelude.{option_copied}
-use Rattle.arrow_entry.specs.Request.{all_slots, at}
+use Rattle.arrow_model.specs.Request.{all_slots, at}
 use Rattle.arrow_table.specs.Listed.{listed}
 use Rattle.arrow_table.specs.Width.{on_width}
 use Rattle.arrow_interpreter.proofs.Steps.{text_of_step}

@@ -1,6 +1,6 @@
 use Rattle.std.proofs.Common.{string_bytes}
-use Rattle.arrow_entry.specs.Answer.{told}
-use Rattle.arrow_entry.specs.Both.{narrow_to}
+use Rattle.arrow_model.specs.Answer.{answer_of}
+use Rattle.arrow_model.specs.Both.{narrow_to}
 use Rattle.arrow_interpreter.proofs.Steps.{step_and_text}
 use Rattle.arrow_interpreter.proofs.interpreter.Interpreter.narrow_to.Goals as goal
 
@@ -8,5 +8,5 @@ pub returns : goal.returns
 returns c =
     let old = c.args.self.now in
     let new = c.push_reply.new.self in
-    step_and_text (narrow_to c.args.e c.args.f) (told c.narrow_to-reply.result) old.tables c.narrow_to-reply.new.self new.tables (string_bytes old.text) (string_bytes new.text)
+    step_and_text (narrow_to c.args.e c.args.f) (answer_of c.narrow_to-reply.result) old.tables c.narrow_to-reply.new.self new.tables (string_bytes old.text) (string_bytes new.text)
     c.push_reply.result c.narrow_to-reply.ensures c.push_reply.ensures

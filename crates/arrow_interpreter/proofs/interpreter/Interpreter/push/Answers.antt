@@ -1,7 +1,7 @@
 use Rattle.std.proofs.Common.{string_bytes}
-use Rattle.arrow_entry.specs.Answer.{told}
-use Rattle.arrow_entry.specs.Item.{stored_slot}
-use Rattle.arrow_entry.specs.Request.{at, push}
+use Rattle.arrow_model.specs.Answer.{answer_of}
+use Rattle.arrow_model.specs.Item.{stored_slot}
+use Rattle.arrow_model.specs.Request.{at, push}
 use Rattle.arrow_table.specs.Width.{on_width}
 use Rattle.arrow_interpreter.proofs.Steps.{step_and_text}
 use Rattle.arrow_interpreter.proofs.interpreter.Interpreter.push.Goals as goal
@@ -11,5 +11,5 @@ returns g c =
     let request = on_width g.O.Offset.IS_LARGE (at c.args.e (push (stored_slot c.args.slot.now))) in
     let old = c.args.self.now in
     let new = c.push_reply.new.self in
-    step_and_text request (told c.push-reply.result) old.tables c.push-reply.new.tables new.tables (string_bytes old.text) (string_bytes new.text)
+    step_and_text request (answer_of c.push-reply.result) old.tables c.push-reply.new.tables new.tables (string_bytes old.text) (string_bytes new.text)
     c.push_reply.result c.push-reply.ensures c.push_reply.ensures
