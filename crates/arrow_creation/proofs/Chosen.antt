@@ -16,8 +16,9 @@ use Rattle.arrow_kernels.proofs.CallerLemmas.{keys-map, where-map}
 use Rattle.arrow_model.specs.Chosen.{bit_in, bits_column, bytes_column}
 use Rattle.arrow_entry.specs.Entry.{seen, native_value, boolean_value, piece_value}
 use Rattle.arrow_model.specs.Answer.{done, refused}
+use Rattle.arrow_model.specs.Change.{with_column}
 use Rattle.arrow_model.specs.Kind.{Sort, native, boolean, pieces, shaped, frozen}
-use Rattle.arrow_model.specs.Row.{answers, memory}
+use Rattle.arrow_model.specs.Row.{answers, leaves, memory}
 use Rattle.arrow_model.specs.Row as model
 use Rattle.arrow_model.specs.Step.{Taken, unless_over}
 use Rattle.arrow_model.specs.Value.{Value}
@@ -106,7 +107,7 @@ found-none None over X R S none is made = rw is made
 found-none (Some key) over X R S none is made = absurd none
 
 refused-so : {T : Type 0} (e : Error) (found : Option ℤ) (over : Bool) (row : model.Row T) → MatchOption found ⊤ (λ key. refusal e ≡ key_refusal key) → (found ≡ None → e ≡ refused_growth over)
-    → MatchOption found (unless_over None over (memory None row) (refused (refusal e)) None) (λ key. answers None (refused (key_refusal key)) (refused (refusal e)) None)
+    → MatchOption found (unless_over None over (memory None row) (refused (refusal e)) None) (λ key. answers {T = T} None (refused (key_refusal key)) (refused (refusal e)) None)
 refused-so e None true row astray err = rw (err refl) (refl, refl)
 refused-so e None false row astray err = rw (err refl) refl
 refused-so e (Some key) over row astray err = (ap refused astray, refl)
@@ -126,11 +127,12 @@ module _ {A S T : Type 0} (around : A → Around) (stored : S → Stored T) (not
   array-refused : (e : Error) → MatchOption (first_astray (λ key. key) column keys) ⊤ (λ key. refusal e ≡ key_refusal key) → (first_astray (λ key. key) column keys ≡ None → e ≡ refused_growth over)
       → Taken most keys (array column) (refused (refusal e)) None
   array-refused e astray err =
-      refused-so e (first_astray (λ key. key) (seen around stored column) keys) _ _
+      refused-so e (first_astray (λ key. key) (seen around stored column) keys) (taking_overflows most (λ key. key) (bytes_column (seen around stored column)) keys)
+      (leaves (with_column (array column) (taken nothing_around (λ key. key) (seen around stored column) keys)))
       (subst (λ (found : Option ℤ). MatchOption found ⊤ (λ key. refusal e ≡ key_refusal key)) (sym (astray-seen around stored column keys)) astray)
       (λ none. err (sym (astray-seen around stored column keys) ∙ none) ∙ ap refused_growth (sym is-over))
 
-module _ {T : Type 0} (most : ℕ) (keys : List ℤ) where
+module _ (T : Type 0) (most : ℕ) (keys : List ℤ) where
   pub values-taken : (column made : Column T) → MatchOption (first_astray (λ key. key) column keys) ⊤ (λ key. ⊥) → made ≡ taken tt (λ key. key) column keys
       → Taken most keys (native_value frozen column) done (Some (native_value frozen made))
   values-taken column made astray is-made = array-taken (λ _. nothing_around) value tt refl native column most keys false (over-value T column most keys) made astray refl is-made

@@ -4,8 +4,7 @@ use Rattle.std.proofs.Common.{◌≡◌, ℕ, suc, Bool, true, false, not, ◌&&
 use Rattle.std.proofs.lemmas.Bool.{eqb-true}
 use Rattle.std.proofs.lemmas.List.{take_all}
 use Rattle.std.proofs.lemmas.List.Folds.{list_all-append}
-use Rattle.std.specs.Prelude.{IfOk, IsTrue, MatchBool, Result, Ok, Err}
-use Rattle.std.specs.List.{list_all}
+use Rattle.std.specs.Prelude.{IfOk, MatchBool, Result, Ok, Err}
 use Rattle.arrow_types.specs.Failures.{OnlyOutOfMemory}
 use Rattle.arrow_types.specs.Types.{out_of_memory, overflow, refusal}
 use Rattle.arrow_types.specs.declared.error.Error.{Error}
@@ -16,8 +15,8 @@ use Rattle.arrow_entry.specs.declared.entry.Entry.{Entry}
 use Rattle.arrow_entry.specs.Entry.{value_of}
 use Rattle.arrow_model.specs.Answer.{Answer, done, refused, is_memory}
 use Rattle.arrow_model.specs.Change.{grown, fitting, slot_over, frozen_value, empty_value, slots_start}
-use Rattle.arrow_model.specs.Item.{Stored, fits, slot_fits}
-use Rattle.arrow_model.specs.Kind.{Group, Sort, shaped, frozen, with_nulls, values_alone, same_group, is_boolean, is_builder, is_nullable}
+use Rattle.arrow_model.specs.Item.{Stored}
+use Rattle.arrow_model.specs.Kind.{Group, Sort, shaped, frozen, with_nulls, values_alone, same_group, is_boolean}
 use Rattle.arrow_model.specs.Row.{Row}
 use Rattle.arrow_model.specs.Step.{Extends, Filled, all_fit}
 use Rattle.arrow_model.specs.Value.{Value, Types, default_item}
@@ -159,43 +158,6 @@ module _ {T : Type 0} (c : Types T) (sort : Sort) where
       let start = empty_value c (shaped (builder_group group) sort) in
       items-made group items (refused (refusal (refused_growth over))) None
       (filled-refused c start (map Some items) (λ w. if same_group group frozen then frozen_value w else w) over new (subst (λ v. Extends c v (map Some items) (refused (refusal (refused_growth over))) new) is h))
-
-  -- the builder takes what fits the kind
-  slots-start : (v : Value T) (group : Group) → v ≡ slots_start c (shaped (builder_group group) sort) → v.shape ≡ shaped (builder_group group) sort
-  slots-start v group is = ap (λ (v : Value T). v.shape) is
-
-  items-start : (v : Value T) (group : Group) → v ≡ empty_value c (shaped (builder_group group) sort) → v.shape ≡ shaped (builder_group group) sort
-  items-start v group is = ap (λ (v : Value T). v.shape) is
-
-  group-nullable : (group : Group) → same_group group values_alone ≡ false → IsTrue (is_nullable (shaped (builder_group group) sort))
-  group-nullable frozen nulls = refl
-  group-nullable with_nulls nulls = refl
-  group-nullable values_alone nulls = absurd (true≢false nulls)
-
-  group-builder : (group : Group) → IsTrue (is_builder (shaped (builder_group group) sort))
-  group-builder frozen = refl
-  group-builder with_nulls = refl
-  group-builder values_alone = refl
-
-  pub start-nullable : (v : Value T) (group : Group) → v ≡ slots_start c (shaped (builder_group group) sort) → same_group group values_alone ≡ false → IsTrue (is_nullable v.shape)
-  start-nullable v group is nulls = rw (slots-start v group is) (group-nullable group nulls)
-
-  pub start-builder : (v : Value T) (group : Group) → v ≡ empty_value c (shaped (builder_group group) sort) → IsTrue (is_builder v.shape)
-  start-builder v group is = rw (items-start v group is) (group-builder group)
-
-  pub slots-fit : (v : Value T) (group : Group) (slots : List (Option (Stored T))) → v ≡ slots_start c (shaped (builder_group group) sort) → IsTrue (list_all (slot_fits sort) slots) → IsTrue (list_all (slot_fits v.shape.sort) slots)
-  slots-fit v group slots is fit = rw (slots-start v group is) fit
-
-  pub items-fit : (v : Value T) (group : Group) (items : List (Stored T)) → v ≡ empty_value c (shaped (builder_group group) sort) → IsTrue (list_all (fits sort) items) → IsTrue (list_all (fits v.shape.sort) items)
-  items-fit v group items is fit = rw (items-start v group is) fit
-
-module _ {T : Type 0} (c : Types T) where
-  -- and is a builder still
-  pub still-builder : (v w : Value T) (slots : List (Option (Stored T))) → IsTrue (is_builder v.shape) → Extends c v slots done (Some w) → IsTrue (is_builder w.shape)
-  still-builder v w slots builder h = rw (ap (λ (v : Value T). v.shape) (some-same w (grown c v (take (fitting c v slots) slots)) h.1)) builder
-
-pub nullable-builder : {T : Type 0} (v : Value T) → IsTrue (is_nullable v.shape) → IsTrue (is_builder v.shape)
-pub nullable-builder v nullable = rw nullable refl
 
 -- a builder that was frozen, or not
 pub frozen-built : {T O : Type 0} (row : Row T) (w : Value T) (result : Result (Entry T O) Error) → IfOk result (λ array. value_of array ≡ frozen_value w) → OnlyOutOfMemory result

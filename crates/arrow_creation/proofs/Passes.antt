@@ -39,10 +39,6 @@ pub after : {A : Type 0} (P : Type 0) (why : Refusal) (tests : Tests) (column : 
 after P why tests column (Ok a) p says = record { ok = ((p, says.ok.0), says.ok.1); err = tt }
 after P why tests column (Err e) p says = record { ok = tt; err = (λ no. absurd (no p), λ _. says.err) }
 
--- one that fails
-unfit : (P : Type 0) (why r : Refusal) (tests : Tests) → (P → ⊥) × (r ≡ why) → IsFirstFailure (test P why tests) r
-unfit P why r tests h = (λ _. h.1, λ p. absurd (h.0 p))
-
 module _ {T : Type 0} (v : Value T) (tests : Tests) where
   -- then the row of these tests holds
   pub said-row : {A : Type 0} (shown : A → Value T) (column : A) (result : Result A Error) → shown column ≡ v → Says tests column result → BuiltBy shown result (memory None (accepted tests v))
@@ -50,41 +46,6 @@ module _ {T : Type 0} (v : Value T) (tests : Tests) where
   said-row shown column (Err (error.OutOfSpec text)) is says = inr (out_of_spec text.now, says.err, (refl, refl))
   said-row shown column (Err error.Overflow) is says = inr (refusal error.Overflow, says.err, (refl, refl))
   said-row shown column (Err error.OutOfMemory) is says = refl
-
-  -- and of vectors that are refused
-  failed-row : (e : Error) → UnlessMemory e (IsFirstFailure tests (refusal e)) → memory None (accepted tests v) (refused (refusal e)) None
-  failed-row (error.OutOfSpec text) fails = inr (out_of_spec text.now, fails, (refl, refl))
-  failed-row error.Overflow fails = inr (refusal error.Overflow, fails, (refl, refl))
-  failed-row error.OutOfMemory fails = refl
-
-unless : {P Q : Type 0} (e : Error) → (P → Q) → UnlessMemory e P → UnlessMemory e Q
-unless (error.OutOfSpec text) f p = f p
-unless error.Overflow f p = f p
-unless error.OutOfMemory f p = tt
-
--- bits that are past their bytes
-bits-row : {T : Type 0} (v : Value T) (bits : Option Packed) (tests : Tests) (e : Error) → RejectedBits bits e
-    → memory None (accepted (bits_test bits tests) v) (refused (refusal e)) None
-bits-row v bits tests e h = failed-row v (bits_test bits tests) e (unless e (unfit (IfSome bits BitsFit) bits_past_bytes (refusal e) tests) h)
-
--- the same of a mask, where the bits of the values before it are not
-mask-row : {T : Type 0} (v : Value T) (bits mask : Option Packed) (tests : Tests) (e : Error) → IfSome bits BitsFit → RejectedBits mask e
-    → memory None (accepted (bits_test bits (bits_test mask tests)) v) (refused (refusal e)) None
-mask-row v bits mask tests e fit h =
-    failed-row v (bits_test bits (bits_test mask tests)) e (unless e (λ fails. (λ no. absurd (no fit), λ _. unfit (IfSome mask BitsFit) bits_past_bytes (refusal e) tests fails)) h)
-
--- offsets that are at fault, or a mask
-rejected : (numbers : List ℤ) (mask : Option Packed) (tests : Tests) (r : Refusal) (found : Option (List ℕ)) → first_fault numbers ≡ found
-    → MatchOption found ((IfSome mask BitsFit → ⊥) × (r ≡ bits_past_bytes)) (λ fault. r ≡ out_of_spec fault) → IsFirstFailure (offsets_test numbers (bits_test mask tests)) r
-rejected numbers mask tests r None e h = (λ no. absurd (no e), λ _. unfit (IfSome mask BitsFit) bits_past_bytes r tests h)
-rejected numbers mask tests r (Some fault) e h = (λ _. h ∙ ap (λ (found : Option (List ℕ)). out_of_spec (unwrap_or found [])) (sym e), λ none. absurd (clash fault (sym e ∙ none)))
-  where
-    clash : (fault : List ℕ) → Some fault ≡ None → ⊥
-    clash fault e = cc
-
-rejected-row : {T : Type 0} (v : Value T) (numbers : List ℤ) (mask : Option Packed) (tests : Tests) (e : Error) → RejectedParts mask numbers e
-    → memory None (accepted (offsets_test numbers (bits_test mask tests)) v) (refused (refusal e)) None
-rejected-row v numbers mask tests e h = failed-row v (offsets_test numbers (bits_test mask tests)) e (unless e (rejected numbers mask tests (refusal e) (first_fault numbers) refl) h)
 
 -- native values and truth values of parts: what `try_new` says of the tests makes their row
 module _ {T : Type 0} (c : Types T) (group : Group) (t : LogicalType) (mask : Option Packed) (marks : Option (List Bool)) (fit : IfSome mask BitsFit) (is-marks : marks ≡ option_map marks_in mask) where
@@ -187,24 +148,6 @@ module _ {T : Type 0} (c : Types T) (group : Group) (text : Bool) (t : LogicalTy
 pub of-kind : {T A : Type 0} (c : Types T) (text array : Bool) (lies : PhysicalType) (wrong : Refusal) (tests : PhysicalType → Refusal → Tests) (column : A) (result : Result A Error)
     → IsKindOf c (pieces text) array lies wrong → Says (tests lies wrong) column result → Says (tests (layout c (pieces text)) (wrong_type (pieces text) array)) column result
 of-kind c text array lies wrong tests column result of-sort says = subst₂ (λ (lies : PhysicalType) (wrong : Refusal). Says (tests lies wrong) column result) of-sort.0 of-sort.1 says
-
--- vectors that are refused
-module _ {T : Type 0} (c : Types T) (group : Group) (t : LogicalType) (mask : Option Packed) (e : Error) where
-  pub values-rejected : (xs : List T) → RejectedBits mask e → PartsRow c (shaped group native) t mask (given.values xs) (refused (refusal e)) None
-  values-rejected xs h = bits-row (made c (shaped group native) t mask nothing_around (map value xs)) mask (primitive.parts_tests c.primitive t xs (option_map marks_in mask)) e h
-
-  pub bits-rejected : (p : Packed) → RejectedBits (Some p) e → PartsRow c (shaped group boolean) t mask (packed p) (refused (refusal e)) None
-  bits-rejected p h =
-      bits-row (made c (shaped group boolean) t mask nothing_around (map bit (marks_in p))) (Some p) (bits_test mask (boolean_tests group t (marks_in p) (option_map marks_in mask))) e h
-
-  pub mask-rejected : (p : Packed) → BitsFit p → RejectedBits mask e → PartsRow c (shaped group boolean) t mask (packed p) (refused (refusal e)) None
-  mask-rejected p fit h =
-      mask-row (made c (shaped group boolean) t mask nothing_around (map bit (marks_in p))) (Some p) mask (boolean_tests group t (marks_in p) (option_map marks_in mask)) e fit h
-
-pub pieces-rejected : {T : Type 0} (c : Types T) (group : Group) (text : Bool) (t : LogicalType) (mask : Option Packed) (numbers : List ℤ) (held : List ℕ) (e : Error)
-    → (not (is_values_alone (shaped group (pieces text))) || is_none mask) ≡ true → RejectedParts mask numbers e
-    → PartsRow c (shaped group (pieces text)) t mask (cut_pieces numbers held) (refused (refusal e)) None
-pieces-rejected c group text t mask numbers held e unmasked h = rw (pieces-sort group text, unmasked) (rejected-row _ numbers mask _ e h)
 
 -- of other kinds than those of bytes and text the condition fails
 pub unmet-pieces : {T : Type 0} (c : Types T) (k : Kind) (t : LogicalType) (mask : Option Packed) (numbers : List ℤ) (held : List ℕ)

@@ -45,7 +45,9 @@ fn filtered<T: NativeType, O: Offset>(
     ensures { MadeBy result (given None (array_in (Some (value_of entry.now))) (Filtered filter.now)) }
 {
     match entry {
-        Entry::Primitive(array) => Ok(Some(Entry::Primitive(filter_primitive(alloc, array, filter)?))),
+        Entry::Primitive(array) => Ok(Some(Entry::Primitive(filter_primitive(
+            alloc, array, filter,
+        )?))),
         Entry::Boolean(array) => Ok(Some(Entry::Boolean(filter_boolean(alloc, array, filter)?))),
         Entry::Binary(array) => Ok(Some(Entry::Binary(filter_binary(alloc, array, filter)?))),
         Entry::Utf8(array) => Ok(Some(Entry::Utf8(filter_utf8(alloc, array, filter)?))),

@@ -12,10 +12,9 @@ pub mod parts;
 
 // Commands that make a value of what other entries hold.
 pub mod clone;
+mod empty;
 pub mod filter;
+mod kinds;
 pub mod narrow;
 pub mod take;
 pub mod widen;
-
-mod empty;
-mod kinds;

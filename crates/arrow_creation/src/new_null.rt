@@ -71,10 +71,13 @@ fn null_entry<T: NativeType, O: Offset>(
 ) -> Result<Entry<T, O>, Error>
     requires array { IsTrue (is_frozen (shape kind)) }
     requires right { IsRightType (layout (types T.zero T.PRIMITIVE O.most O.IS_LARGE) (shape kind).sort) (logical_type data_type.now) }
-    ensures ok { IfOk result (λ made. value_of made ≡ record { shape = shape kind; column = column_with
-        (logical_type data_type.now) nothing_around
-        (replicate length (default_item (types T.zero T.PRIMITIVE O.most O.IS_LARGE) (shape kind).sort))
-        (Some (replicate length false)) }) }
+    ensures ok { IfOk result (λ made. value_of made ≡ record {
+      shape = shape kind;
+      column = column_with
+          (logical_type data_type.now) nothing_around
+          (replicate length (default_item (types T.zero T.PRIMITIVE O.most O.IS_LARGE) (shape kind).sort))
+          (Some (replicate length false));
+    }) }
     ensures err { OnlyOutOfMemory result }
 {
     let data_type = data_type.clone()?;

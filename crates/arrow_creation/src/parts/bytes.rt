@@ -122,7 +122,9 @@ pub fn bytes_from_parts<T: NativeType, O: Offset>(
             Ok(Some(Entry::Utf8(array)))
         }
         Kind::MutableBinary => {
-            let builder = builder_from_parts::<T, Binary, O>(data_type, offsets, bytes, mask, cost)?;
+            let builder = builder_from_parts::<T, Binary, O>(
+                data_type, offsets, bytes, mask, cost,
+            )?;
             Ok(Some(Entry::MutableBinary(builder)))
         }
         Kind::MutableUtf8 => {

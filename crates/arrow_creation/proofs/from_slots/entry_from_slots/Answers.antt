@@ -1,4 +1,4 @@
-use Rattle.std.proofs.Common.{if◌then◌else◌, map, refl, subst, sym, Some}
+use Rattle.std.proofs.Common.{if◌then◌else◌, map, refl, subst, sym, Some, ◌∙◌}
 use Rattle.std.proofs.lemmas.Result.{err_from_is_err_and}
 use Rattle.arrow_entry.specs.Entry.{value_of}
 use Rattle.arrow_model.specs.Answer.{done}
@@ -7,24 +7,37 @@ use Rattle.arrow_model.specs.Item.{stored_slot}
 use Rattle.arrow_model.specs.Kind.{is_frozen, shape}
 use Rattle.arrow_model.specs.Step.{Filled}
 use Rattle.arrow_model.specs.Value.{types}
-use Rattle.arrow_creation.proofs.FilledLemmas.{frozen-built, nullable-builder, slots-done, slots-fit, slots-refused, start-nullable, still-builder}
+use Rattle.arrow_creation.proofs.FilledLemmas.{frozen-built, slots-done, slots-refused}
 use Rattle.arrow_creation.proofs.from_slots.entry_from_slots.Goals as goal
 
-pub push_slots-requires-nullable : goal.push_slots-requires-nullable
-push_slots-requires-nullable g c =
+pub returns-in_err-push_slots : goal.returns-in_err-push_slots
+returns-in_err-push_slots g c =
+    let known = types g.T.NativeType.zero g.T.NativeType.PRIMITIVE g.O.Offset.most g.O.Offset.IS_LARGE in
     let s = shape c.args.kind in
-    start-nullable (types g.T.NativeType.zero g.T.NativeType.PRIMITIVE g.O.Offset.most g.O.Offset.IS_LARGE) s.sort (value_of c.in_ok-made.field-0) s.group c.in_ok-made.ensures.ok c.requires.nulls
+    let p = err_from_is_err_and c.from_residual-in_err-push_slots.result c.from_residual-in_err-push_slots.ensures.1 in
+    let why = c.in_err-push_slots.ensures.err in
+    rw (p.1, p.2, why.1) (
+    slots-refused known s.sort s.group (map stored_slot c.args.slots.now) (value_of c.in_ok-made.made) why.0
+    (Some (value_of c.push_slots.new.held)) c.in_ok-made.ensures.ok (rw (why.1) at why.2)
+    )
 
-pub push_slots-requires-fit : goal.push_slots-requires-fit
-push_slots-requires-fit g c =
+pub returns-then-is_array : goal.returns-then-is_array
+returns-then-is_array g c =
+    let known = types g.T.NativeType.zero g.T.NativeType.PRIMITIVE g.O.Offset.most g.O.Offset.IS_LARGE in
     let s = shape c.args.kind in
-    slots-fit (types g.T.NativeType.zero g.T.NativeType.PRIMITIVE g.O.Offset.most g.O.Offset.IS_LARGE) s.sort (value_of c.in_ok-made.field-0) s.group
-    (map stored_slot c.args.slots.now) c.in_ok-made.ensures.ok c.requires.fit
+    let w = value_of c.push_slots.new.held in
+    let done-so = slots-done known s.sort s.group (map stored_slot c.args.slots.now) (value_of c.in_ok-made.made) w
+    c.in_ok-made.ensures.ok c.in_ok-push_slots.ensures.ok in
+    let row = Filled known (slots_start known s) (map stored_slot c.args.slots.now) (λ v. if is_frozen s then frozen_value v else v) in
+    frozen-built row w c.frozen.result c.frozen.ensures.ok c.frozen.ensures.err
+    (subst (λ b. row done (Some (if b then frozen_value w else w))) (sym c.is_array.ensures ∙ c.if-is_array.true) done-so) refl
 
-pub frozen-requires : goal.frozen-requires
-frozen-requires g c =
-    let known = (types g.T.NativeType.zero g.T.NativeType.PRIMITIVE g.O.Offset.most g.O.Offset.IS_LARGE) in
+pub returns-else-is_array : goal.returns-else-is_array
+returns-else-is_array g c =
+    let known = types g.T.NativeType.zero g.T.NativeType.PRIMITIVE g.O.Offset.most g.O.Offset.IS_LARGE in
     let s = shape c.args.kind in
-    let v = value_of c.in_ok-made.field-0 in
-    still-builder known v (value_of c.push_slots.new.held) (map stored_slot c.args.slots.now)
-    (nullable-builder v (start-nullable known s.sort v s.group c.in_ok-made.ensures.ok c.requires.nulls)) c.in_ok.ensures.ok
+    let w = value_of c.push_slots.new.held in
+    let done-so = slots-done known s.sort s.group (map stored_slot c.args.slots.now) (value_of c.in_ok-made.made) w
+    c.in_ok-made.ensures.ok c.in_ok-push_slots.ensures.ok in
+    let row = Filled known (slots_start known s) (map stored_slot c.args.slots.now) (λ v. if is_frozen s then frozen_value v else v) in
+    subst (λ b. row done (Some (if b then frozen_value w else w))) (sym c.is_array.ensures ∙ c.if-is_array.false) done-so

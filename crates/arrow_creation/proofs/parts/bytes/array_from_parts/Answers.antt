@@ -1,12 +1,11 @@
 use Rattle.std.proofs.Common.{true, option_map, map, refl}
-use Rattle.std.proofs.lemmas.Result.{err_from_is_err_and}
 use Rattle.arrow_types.specs.Types.{logical_type}
 use Rattle.arrow_bytes.specs.Column.{byte_column}
 use Rattle.arrow_byte_array.specs.Acceptance.{array_tests}
 use Rattle.arrow_model.specs.Kind.{frozen}
 use Rattle.arrow_model.specs.Request.{packed_bits}
 use Rattle.arrow_model.specs.Value.{types}
-use Rattle.arrow_creation.proofs.Passes.{array-cost, of-kind, pieces-made, pieces-rejected}
+use Rattle.arrow_creation.proofs.Passes.{array-cost, of-kind, pieces-made}
 use Rattle.arrow_creation.proofs.parts.bytes.array_from_parts.Goals as goal
 
 pub returns-clause-row : goal.returns-clause-row
@@ -14,14 +13,14 @@ returns-clause-row g c =
     let all = (types g.T.NativeType.zero g.T.NativeType.PRIMITIVE g.O.Offset.most g.O.Offset.IS_LARGE) in
     let text = g.K.ByteKind.is_text in
     let t = logical_type c.args.data_type in
-    let made = c.IN.field-0 in
-    let is = c.IN.ensures in
+    let made = c.in_ok-offsets in
+    let is = c.in_ok-offsets.ensures in
     let tested = c.try_new_counted.ensures in
     let says = of-kind all text true (g.K.ByteKind.layout g.O.Offset.IS_LARGE) g.K.ByteKind.wrong_type
-    (λ lies wrong. array_tests text lies wrong t made.0 made.1 made.2) (byte_column t made.0 made.1 made.2)
+    (λ lies wrong. array_tests text lies wrong t made.offsets made.bytes made.mask) (byte_column t made.offsets made.bytes made.mask)
     c.try_new_counted.result c.requires (record { ok = tested.ok; err = tested.err }) in
-    pieces-made all frozen text t (option_map packed_bits c.args.mask) made.2
-    (map g.O.Offset.number c.args.offsets.items) c.args.bytes.items made.0 made.1
+    pieces-made all frozen text t (option_map packed_bits c.args.mask) made.mask
+    (map g.O.Offset.number c.args.offsets.items) c.args.bytes.items made.offsets made.bytes
     is.fit is.mask is.legal is.offsets is.bytes c.try_new_counted.result says refl
 
 pub returns-clause-exact : goal.returns-clause-exact
@@ -29,21 +28,12 @@ returns-clause-exact g c =
     let all = (types g.T.NativeType.zero g.T.NativeType.PRIMITIVE g.O.Offset.most g.O.Offset.IS_LARGE) in
     let text = g.K.ByteKind.is_text in
     let t = logical_type c.args.data_type in
-    let made = c.IN.field-0 in
-    let is = c.IN.ensures in
+    let made = c.in_ok-offsets in
+    let is = c.in_ok-offsets.ensures in
     let tested = c.try_new_counted.ensures in
     let says = of-kind all text true (g.K.ByteKind.layout g.O.Offset.IS_LARGE) g.K.ByteKind.wrong_type
-    (λ lies wrong. array_tests text lies wrong t made.0 made.1 made.2) (byte_column t made.0 made.1 made.2)
+    (λ lies wrong. array_tests text lies wrong t made.offsets made.bytes made.mask) (byte_column t made.offsets made.bytes made.mask)
     c.try_new_counted.result c.requires (record { ok = tested.ok; err = tested.err }) in
-    array-cost all frozen text t (option_map packed_bits c.args.mask) made.2
-    (map g.O.Offset.number c.args.offsets.items) c.args.bytes.items made.0 made.1
+    array-cost all frozen text t (option_map packed_bits c.args.mask) made.mask
+    (map g.O.Offset.number c.args.offsets.items) c.args.bytes.items made.offsets made.bytes
     is.fit is.mask is.legal is.offsets is.bytes c.try_new_counted.result says refl tested.exact
-
-pub returns-in_err-IN-clause-row : goal.returns-in_err-IN-clause-row
-returns-in_err-IN-clause-row g c =
-    let p = err_from_is_err_and c.from_residual.result c.from_residual.ensures.1 in
-    rw (p.1, p.2) (
-    pieces-rejected (types g.T.NativeType.zero g.T.NativeType.PRIMITIVE g.O.Offset.most g.O.Offset.IS_LARGE)
-    frozen g.K.ByteKind.is_text (logical_type c.args.data_type) (option_map packed_bits c.args.mask)
-    (map g.O.Offset.number c.args.offsets.items) c.args.bytes.items c.in_err-IN.field-0.0 refl c.in_err-IN.ensures.err
-    )
