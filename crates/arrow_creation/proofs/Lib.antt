@@ -1,0 +1,6 @@
+mod Chosen
+mod EmptyLemmas
+mod FilledLemmas
+mod Packed
+mod Passes
+mod Steps

@@ -1,0 +1,38 @@
+use Rattle.std.proofs.Common.{false, None, map, refl}
+use Rattle.arrow_types.specs.Types.{logical_type}
+use Rattle.arrow_bytes.specs.Column.{byte_column}
+use Rattle.arrow_byte_array.specs.Acceptance.{values_builder_tests}
+use Rattle.arrow_model.specs.Kind.{values_alone}
+use Rattle.arrow_model.specs.Value.{types}
+use Rattle.arrow_creation.proofs.Passes.{builder-cost, of-kind, pieces-made}
+use Rattle.arrow_creation.proofs.parts.bytes.values_from_parts.Goals as goal
+
+pub returns-clause-row : goal.returns-clause-row
+returns-clause-row g c =
+    let all = (types g.T.NativeType.zero g.T.NativeType.PRIMITIVE g.O.Offset.most g.O.Offset.IS_LARGE) in
+    let text = g.K.ByteKind.is_text in
+    let t = logical_type c.args.data_type in
+    let made = c.in_ok-offsets in
+    let is = c.in_ok-offsets.ensures in
+    let tested = c.try_new_counted.ensures in
+    let says = of-kind all text false (g.K.ByteKind.layout g.O.Offset.IS_LARGE) g.K.ByteKind.wrong_builder_type
+    (λ lies wrong. values_builder_tests text lies wrong t made.offsets c.args.bytes.items) (byte_column t made.offsets c.args.bytes.items None)
+    c.try_new_counted.result c.requires (record { ok = tested.ok; err = tested.err }) in
+    pieces-made all values_alone text t None None
+    (map g.O.Offset.number c.args.offsets.items) c.args.bytes.items made.offsets c.args.bytes.items
+    tt refl is.legal is.offsets refl c.try_new_counted.result says refl
+
+pub returns-clause-exact : goal.returns-clause-exact
+returns-clause-exact g c =
+    let all = (types g.T.NativeType.zero g.T.NativeType.PRIMITIVE g.O.Offset.most g.O.Offset.IS_LARGE) in
+    let text = g.K.ByteKind.is_text in
+    let t = logical_type c.args.data_type in
+    let made = c.in_ok-offsets in
+    let is = c.in_ok-offsets.ensures in
+    let tested = c.try_new_counted.ensures in
+    let says = of-kind all text false (g.K.ByteKind.layout g.O.Offset.IS_LARGE) g.K.ByteKind.wrong_builder_type
+    (λ lies wrong. values_builder_tests text lies wrong t made.offsets c.args.bytes.items) (byte_column t made.offsets c.args.bytes.items None)
+    c.try_new_counted.result c.requires (record { ok = tested.ok; err = tested.err }) in
+    builder-cost all values_alone text t None None
+    (map g.O.Offset.number c.args.offsets.items) c.args.bytes.items made.offsets c.args.bytes.items
+    tt refl is.legal is.offsets refl c.try_new_counted.result says refl tested.exact

@@ -1,0 +1,60 @@
+//! What a command that fills an empty entry is, and how it is done to the entry of a number.
+ghost use Rattle.std.specs.Prelude.{◌≡◌, None, option_map};
+ghost use Rattle.arrow_creation.specs.Outcome.{MadeBy, outcome};
+ghost use Rattle.arrow_entry.specs.Entry.{state_of};
+ghost use Rattle.arrow_model.specs.Row.{Row};
+ghost use Rattle.arrow_model.specs.Step.{AtEntry, Puts};
+ghost use Rattle.arrow_model.specs.Value.{State};
+
+use arrow_entry::{Entry, replace};
+use arrow_model::Reply;
+use arrow_types::error::Error;
+use arrow_types::native_type::NativeType;
+use arrow_types::offset::Offset;
+use std::alloc::Global;
+
+/// A command that makes what an empty entry is to hold.
+pub trait MakesEntry<T: NativeType, O: Offset>: Drop {
+    /// Which answer may come of what the entries hold, and what is then in the entry.
+    ghost makes: { Self → State T → Row T };
+
+    /// Makes it; `None` if the command's condition fails. What is made is allocated by `alloc`.
+    ///
+    /// # Errors
+    /// The refusal that the command is answered with.
+    fn make(
+        self,
+        alloc: Global,
+        entries: &Vec<Option<Entry<T, O>>>,
+    ) -> Result<Option<Entry<T, O>>, Error>
+        ensures { MadeBy result (makes self (state_of entries.now.items)) };
+}
+
+/// Puts what a command makes into the entry of a number; the command's condition fails if that is not empty or past the
+/// table.
+///
+/// # Errors
+/// The refusal that the command is answered with; the entries are then as before.
+pub fn put_at<T: NativeType, O: Offset, R: MakesEntry<T, O>>(
+    alloc: Global,
+    entries: &mut Vec<Option<Entry<T, O>>>,
+    e: usize,
+    command: R,
+) -> Result<Reply<T>, Error>
+    ensures { AtEntry (state_of entries.old.items) e (Puts (R.makes command (state_of entries.old.items)))
+        (outcome result) (state_of entries.new.items) }
+{
+    if e >= entries.len() {
+        return Ok(Reply::NotMet);
+    }
+    if entries[e].is_some() {
+        return Ok(Reply::NotMet);
+    }
+    match command.make(alloc, entries)? {
+        Some(made) => {
+            replace(&mut entries[e], Some(made));
+            Ok(Reply::Done)
+        }
+        None => Ok(Reply::NotMet),
+    }
+}

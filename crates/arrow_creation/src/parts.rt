@@ -1,0 +1,123 @@
+//! An array or a builder from raw parts.
+ghost use Rattle.std.specs.Prelude.{◌∷◌, [], option_map};
+ghost use Rattle.arrow_creation.specs.Outcome.{MadeBy, made_answer, outcome};
+ghost use Rattle.arrow_entry.specs.Entry.{table_of, value_of};
+ghost use Rattle.arrow_model.specs.Kind.{shape};
+ghost use Rattle.arrow_model.specs.Request.{parts_asked, source_of};
+ghost use Rattle.arrow_model.specs.Run.{CostsAtMost};
+ghost use Rattle.arrow_model.specs.Step.{IsStep, Makes, Puts, StepCosts};
+ghost use Rattle.arrow_model.specs.Value.{types};
+
+mod boolean;
+mod bytes;
+mod lent;
+mod native;
+mod raw;
+
+use arrow_check::cost::TextCost;
+use arrow_entry::{Entry, replace};
+use arrow_model::{Parts, Raw, Reply};
+use arrow_types::error::Error;
+use arrow_types::native_type::NativeType;
+use arrow_types::offset::Offset;
+use boolean::bits_from_parts;
+use bytes::bytes_from_parts;
+use lent::put_lent_parts;
+use native::natives_from_parts;
+
+/// Creates what raw parts make; `None` if the command's condition fails. What the test of text costs is added to the counts.
+///
+/// # Errors
+/// `OutOfSpec` for the first test that the parts fail, or `OutOfMemory` if an allocation fails.
+fn entry_from_parts<T: NativeType, O: Offset>(
+    given: Parts<T, O>,
+    cost: &mut TextCost,
+) -> Result<Option<Entry<T, O>>, Error>
+    ensures row { MadeBy result (Makes (types T.zero T.PRIMITIVE O.most O.IS_LARGE) (shape given.kind) (source_of O.number given)) }
+    ensures exact { StepCosts (parts_asked O.number 0 given) (made_answer result) cost.old cost.new }
+    ensures most { CostsAtMost (parts_asked O.number 0 given ∷ []) cost.old cost.new }
+{
+    let Parts {
+        kind,
+        data_type,
+        raw,
+        mask,
+    } = given;
+    match raw {
+        Raw::Values(values) => natives_from_parts(kind, data_type, values, mask),
+        Raw::Bits(bits) => bits_from_parts(kind, data_type, bits, mask),
+        Raw::Pieces(offsets, bytes) => {
+            bytes_from_parts(kind, data_type, offsets, bytes, mask, cost)
+        }
+    }
+}
+
+/// Puts what raw parts make into an empty entry. What the test of text costs is added to the counts.
+///
+/// # Errors
+/// The refusal that the command is answered with; the entry is then as before.
+fn put_parts<T: NativeType, O: Offset>(
+    entry: &mut Option<Entry<T, O>>,
+    given: Parts<T, O>,
+    cost: &mut TextCost,
+) -> Result<Reply<T>, Error>
+    ensures row { Puts (Makes (types T.zero T.PRIMITIVE O.most O.IS_LARGE) (shape given.kind) (source_of O.number given))
+        (option_map value_of entry.old) (outcome result) (option_map value_of entry.new) }
+    ensures exact { StepCosts (parts_asked O.number 0 given) (outcome result) cost.old cost.new }
+    ensures most { CostsAtMost (parts_asked O.number 0 given ∷ []) cost.old cost.new }
+{
+    if entry.is_some() {
+        return Ok(Reply::NotMet);
+    }
+    match entry_from_parts(given, cost)? {
+        Some(made) => {
+            replace(entry, Some(made));
+            Ok(Reply::Done)
+        }
+        None => Ok(Reply::NotMet),
+    }
+}
+
+/// Puts what raw parts make into the entry of a number; the command's condition fails if that is not empty or past the
+/// table. What the test of text costs is added to the counts.
+///
+/// # Errors
+/// The refusal that the command is answered with; the entries are then as before.
+#[inline(always)]
+pub fn parts_at<T: NativeType, O: Offset>(
+    entries: &mut Vec<Option<Entry<T, O>>>,
+    e: usize,
+    given: Parts<T, O>,
+    cost: &mut TextCost,
+) -> Result<Reply<T>, Error>
+    ensures step { IsStep (types T.zero T.PRIMITIVE O.most O.IS_LARGE) (table_of entries.old.items cost.old)
+        (parts_asked O.number e given) (outcome result) (table_of entries.new.items cost.new) }
+    ensures costs { CostsAtMost (parts_asked O.number e given ∷ []) cost.old cost.new }
+{
+    if e >= entries.len() {
+        return Ok(Reply::NotMet);
+    }
+    let entry = &mut entries[e];
+    put_parts(entry, given, cost)
+}
+
+/// Does the same with borrowed parts, which are copied only if the entry is empty and the command is for their kind.
+///
+/// # Errors
+/// The refusal that the command is answered with; the entries are then as before.
+pub fn lent_parts_at<T: NativeType, O: Offset>(
+    entries: &mut Vec<Option<Entry<T, O>>>,
+    e: usize,
+    given: &Parts<T, O>,
+    cost: &mut TextCost,
+) -> Result<Reply<T>, Error>
+    ensures step { IsStep (types T.zero T.PRIMITIVE O.most O.IS_LARGE) (table_of entries.old.items cost.old)
+        (parts_asked O.number e given.now) (outcome result) (table_of entries.new.items cost.new) }
+    ensures costs { CostsAtMost (parts_asked O.number e given.now ∷ []) cost.old cost.new }
+{
+    if e >= entries.len() {
+        return Ok(Reply::NotMet);
+    }
+    let entry = &mut entries[e];
+    put_lent_parts(entry, given, cost)
+}

@@ -1,0 +1,150 @@
+//! Arrays and builders of bytes and text from raw parts.
+ghost use Rattle.std.specs.Prelude.{◌∷◌, [], false, true, None, map, option_map};
+ghost use Rattle.arrow_creation.specs.Outcome.{BuiltBy, IsKindOf, MadeBy, built_answer, made_answer};
+ghost use Rattle.arrow_entry.specs.Entry.{piece_value};
+ghost use Rattle.arrow_model.specs.Kind.{frozen, pieces, shape, shaped, values_alone, with_nulls};
+ghost use Rattle.arrow_model.specs.Parts.{PartsCost, PartsRow};
+ghost use Rattle.arrow_model.specs.Request.{cut_pieces, make, packed_bits};
+ghost use Rattle.arrow_model.specs.Request as ask;
+ghost use Rattle.arrow_model.specs.Run.{CostsAtMost};
+ghost use Rattle.arrow_model.specs.Value.{types};
+ghost use Rattle.arrow_types.specs.Types.{logical_type};
+
+use crate::parts::raw::{mutable_pieces_from_parts, pieces_from_parts};
+use arrow_byte_array::{ByteArray, MutableByteArray, MutableByteValuesArray};
+use arrow_bytes::{Binary, ByteKind, Utf8};
+use arrow_check::cost::TextCost;
+use arrow_entry::Entry;
+use arrow_model::{Bits, Kind};
+use arrow_types::data_type::DataType;
+use arrow_types::error::Error;
+use arrow_types::native_type::NativeType;
+use arrow_types::offset::Offset;
+
+/// Creates an array from raw parts. What the test of text costs is added to the counts.
+///
+/// # Errors
+/// `OutOfSpec` for the first test that the parts fail, or `OutOfMemory` if an allocation fails.
+fn array_from_parts<T: NativeType, K: ByteKind, O: Offset>(
+    data_type: DataType,
+    offsets: Vec<O>,
+    bytes: Vec<u8>,
+    mask: Option<Bits>,
+    cost: &mut TextCost,
+) -> Result<ByteArray<K, O>, Error>
+    requires { IsKindOf (types T.zero T.PRIMITIVE O.most O.IS_LARGE) (pieces K.is_text) true (K.layout O.IS_LARGE) K.wrong_type }
+    ensures row { BuiltBy (piece_value {T = T} frozen K.is_text) result (PartsRow (types T.zero T.PRIMITIVE O.most O.IS_LARGE)
+        (shaped frozen (pieces K.is_text)) (logical_type data_type) (option_map packed_bits mask)
+        (cut_pieces (map O.number offsets.items) bytes.items)) }
+    ensures exact { PartsCost {T = T} (shaped frozen (pieces K.is_text)) (option_map packed_bits mask)
+        (map O.number offsets.items) bytes.items (built_answer result) cost.old cost.new }
+    ensures most { CostsAtMost {T = T} (make 0 (shaped frozen (pieces K.is_text)) (ask.parts (logical_type data_type)
+        (cut_pieces (map O.number offsets.items) bytes.items) (option_map packed_bits mask)) ∷ []) cost.old cost.new }
+{
+    let (offsets, bytes, mask) = pieces_from_parts(offsets, bytes, mask)?;
+    ByteArray::try_new_counted(data_type, offsets, bytes, mask, cost)
+}
+
+/// Creates a builder from raw parts. What the test of text costs is added to the counts.
+///
+/// # Errors
+/// `OutOfSpec` for the first test that the parts fail, or `OutOfMemory` if an allocation fails.
+fn builder_from_parts<T: NativeType, K: ByteKind, O: Offset>(
+    data_type: DataType,
+    offsets: Vec<O>,
+    bytes: Vec<u8>,
+    mask: Option<Bits>,
+    cost: &mut TextCost,
+) -> Result<MutableByteArray<K, O>, Error>
+    requires { IsKindOf (types T.zero T.PRIMITIVE O.most O.IS_LARGE) (pieces K.is_text) false (K.layout O.IS_LARGE) K.wrong_builder_type }
+    ensures row { BuiltBy (piece_value {T = T} with_nulls K.is_text) result (PartsRow (types T.zero T.PRIMITIVE O.most O.IS_LARGE)
+        (shaped with_nulls (pieces K.is_text)) (logical_type data_type) (option_map packed_bits mask)
+        (cut_pieces (map O.number offsets.items) bytes.items)) }
+    ensures exact { PartsCost {T = T} (shaped with_nulls (pieces K.is_text)) (option_map packed_bits mask)
+        (map O.number offsets.items) bytes.items (built_answer result) cost.old cost.new }
+    ensures most { CostsAtMost {T = T} (make 0 (shaped with_nulls (pieces K.is_text)) (ask.parts (logical_type data_type)
+        (cut_pieces (map O.number offsets.items) bytes.items) (option_map packed_bits mask)) ∷ []) cost.old cost.new }
+{
+    let (offsets, mask) = mutable_pieces_from_parts(offsets, mask)?;
+    MutableByteArray::try_new_counted(data_type, offsets, bytes, mask, cost)
+}
+
+/// Creates a builder without nulls from raw parts. What the test of text costs is added to the counts.
+///
+/// # Errors
+/// `OutOfSpec` for the first test that the parts fail, or `OutOfMemory` if an allocation fails.
+fn values_from_parts<T: NativeType, K: ByteKind, O: Offset>(
+    data_type: DataType,
+    offsets: Vec<O>,
+    bytes: Vec<u8>,
+    cost: &mut TextCost,
+) -> Result<MutableByteValuesArray<K, O>, Error>
+    requires { IsKindOf (types T.zero T.PRIMITIVE O.most O.IS_LARGE) (pieces K.is_text) false (K.layout O.IS_LARGE) K.wrong_builder_type }
+    ensures row { BuiltBy (piece_value {T = T} values_alone K.is_text) result (PartsRow (types T.zero T.PRIMITIVE O.most O.IS_LARGE)
+        (shaped values_alone (pieces K.is_text)) (logical_type data_type) None
+        (cut_pieces (map O.number offsets.items) bytes.items)) }
+    ensures exact { PartsCost {T = T} (shaped values_alone (pieces K.is_text)) None
+        (map O.number offsets.items) bytes.items (built_answer result) cost.old cost.new }
+    ensures most { CostsAtMost {T = T} (make 0 (shaped values_alone (pieces K.is_text)) (ask.parts (logical_type data_type)
+        (cut_pieces (map O.number offsets.items) bytes.items) None) ∷ []) cost.old cost.new }
+{
+    let (offsets, _mask) = mutable_pieces_from_parts(offsets, None)?;
+    MutableByteValuesArray::try_new_counted(data_type, offsets, bytes, cost)
+}
+
+/// Creates what offsets, bytes and the rest of raw parts make; `None` if the kind is of another sort, or if there is a mask
+/// for a builder without nulls. What the test of text costs is added to the counts.
+///
+/// # Errors
+/// `OutOfSpec` for the first test that the parts fail, or `OutOfMemory` if an allocation fails.
+pub fn bytes_from_parts<T: NativeType, O: Offset>(
+    kind: Kind,
+    data_type: DataType,
+    offsets: Vec<O>,
+    bytes: Vec<u8>,
+    mask: Option<Bits>,
+    cost: &mut TextCost,
+) -> Result<Option<Entry<T, O>>, Error>
+    ensures row { MadeBy result (PartsRow (types T.zero T.PRIMITIVE O.most O.IS_LARGE) (shape kind) (logical_type data_type)
+        (option_map packed_bits mask) (cut_pieces (map O.number offsets.items) bytes.items)) }
+    ensures exact { PartsCost {T = T} (shape kind) (option_map packed_bits mask)
+        (map O.number offsets.items) bytes.items (made_answer result) cost.old cost.new }
+    ensures most { CostsAtMost {T = T} (make 0 (shape kind) (ask.parts (logical_type data_type)
+        (cut_pieces (map O.number offsets.items) bytes.items) (option_map packed_bits mask)) ∷ []) cost.old cost.new }
+{
+    match kind {
+        Kind::Binary => {
+            let array = array_from_parts::<T, Binary, O>(data_type, offsets, bytes, mask, cost)?;
+            Ok(Some(Entry::Binary(array)))
+        }
+        Kind::Utf8 => {
+            let array = array_from_parts::<T, Utf8, O>(data_type, offsets, bytes, mask, cost)?;
+            Ok(Some(Entry::Utf8(array)))
+        }
+        Kind::MutableBinary => {
+            let builder = builder_from_parts::<T, Binary, O>(
+                data_type, offsets, bytes, mask, cost,
+            )?;
+            Ok(Some(Entry::MutableBinary(builder)))
+        }
+        Kind::MutableUtf8 => {
+            let builder = builder_from_parts::<T, Utf8, O>(data_type, offsets, bytes, mask, cost)?;
+            Ok(Some(Entry::MutableUtf8(builder)))
+        }
+        Kind::BinaryValues => match mask {
+            Some(_) => Ok(None),
+            None => {
+                let builder = values_from_parts::<T, Binary, O>(data_type, offsets, bytes, cost)?;
+                Ok(Some(Entry::BinaryValues(builder)))
+            }
+        },
+        Kind::Utf8Values => match mask {
+            Some(_) => Ok(None),
+            None => {
+                let builder = values_from_parts::<T, Utf8, O>(data_type, offsets, bytes, cost)?;
+                Ok(Some(Entry::Utf8Values(builder)))
+            }
+        },
+        _ => Ok(None),
+    }
+}
