@@ -16,7 +16,7 @@ use Rattle.arrow_entry.specs.Entry.{value_of}
 use Rattle.arrow_model.specs.Answer.{Answer, done, refused, is_memory}
 use Rattle.arrow_model.specs.Change.{grown, fitting, slot_over, frozen_value, empty_value, slots_start}
 use Rattle.arrow_model.specs.Item.{Stored}
-use Rattle.arrow_model.specs.Kind.{Group, Sort, shaped, frozen, with_nulls, values_alone, same_group, is_boolean}
+use Rattle.arrow_model.specs.Kind.{Group, ValueKind, shaped, frozen, with_nulls, values_alone, same_group, is_boolean}
 use Rattle.arrow_model.specs.Row.{Row}
 use Rattle.arrow_model.specs.Step.{Extends, Filled, all_fit}
 use Rattle.arrow_model.specs.Value.{Value, Types, default_item}
@@ -35,7 +35,7 @@ some-same a b e = cc
 
 module _ {T : Type 0} (c : Types T) (v : Value T) (slots : List (Option (Stored T))) (last : Value T → Value T) where
   -- all of them were appended
-  whole : (w : Value T) (fits : Bool) → all_fit c v slots ≡ fits → (let told : Answer T = done in told) ≡ (if fits then done else refused overflow)
+  whole : (w : Value T) (fits : Bool) → all_fit c v slots ≡ fits → (let answer_of : Answer T = done in answer_of) ≡ (if fits then done else refused overflow)
       → Some w ≡ Some (grown c v (take (fitting c v slots) slots)) → Filled c v slots last done (Some (last w))
   whole w true fit is grows =
       rw fit (refl, ap (λ (kept : Value T). Some (last kept)) (some-same w (grown c v slots) (grows ∙ ap (λ xs. Some (grown c v xs)) (take_all (fitting c v slots) slots (omega (arith, eqb-true (fitting c v slots) (length slots) fit))))))
@@ -45,7 +45,7 @@ module _ {T : Type 0} (c : Types T) (v : Value T) (slots : List (Option (Stored 
   filled-done w h = whole w (all_fit c v slots) refl h.0 h.1
 
   -- one of them was refused
-  stopped : (fits : Bool) → all_fit c v slots ≡ fits → (let told : Answer T = refused overflow in told) ≡ (if fits then done else refused overflow) → Filled c v slots last (refused overflow) None
+  stopped : (fits : Bool) → all_fit c v slots ≡ fits → (let answer_of : Answer T = refused overflow in answer_of) ≡ (if fits then done else refused overflow) → Filled c v slots last (refused overflow) None
   stopped true fit is = absurd (not-done is)
   stopped false fit is = rw fit (refl, refl)
 
@@ -54,7 +54,7 @@ module _ {T : Type 0} (c : Types T) (v : Value T) (slots : List (Option (Stored 
   filled-refused false new h = refl
 
 -- how many slots fit doesn't depend on the group
-module _ {T : Type 0} (c : Types T) (sort : Sort) where
+module _ {T : Type 0} (c : Types T) (sort : ValueKind) where
   abbrev of_group : Group → ColumnWith Around (Stored T) → Value T
   of_group group column = record { shape = shaped group sort; column = column }
 
@@ -66,10 +66,10 @@ module _ {T : Type 0} (c : Types T) (sort : Sort) where
       → last (grown c (of_group g column) slots) ≡ last₂ (grown c (of_group h column) slots)
       → Filled c (of_group g column) slots last reply kept → Filled c (of_group h column) slots last₂ reply kept
   other-group g h column slots last last₂ reply kept same =
-      both-so (is_memory reply) (λ _ none. none) (λ _ told.
+      both-so (is_memory reply) (λ _ none. none) (λ _ answer_of.
       subst (λ fits. MatchBool (not fits) ((reply ≡ refused overflow) × (kept ≡ None)) ((reply ≡ done) × (kept ≡ Some (last₂ (grown c (of_group h column) slots)))))
       (ap (λ n. nat_eq n (length slots)) (same-fit g h column slots))
-      (both-so (not (all_fit c (of_group g column) slots)) (λ _ h. h) (λ _ h. (h.0, h.1 ∙ ap Some same)) told))
+      (both-so (not (all_fit c (of_group g column) slots)) (λ _ h. h) (λ _ h. (h.0, h.1 ∙ ap Some same)) answer_of))
 
   -- slots of any kind, made in its builder
   slots-made : (group : Group) (slots : List (Option (Stored T))) (reply : Answer T) (kept : Option (Value T))

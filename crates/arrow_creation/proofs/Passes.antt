@@ -18,10 +18,10 @@ use Rattle.arrow_primitive.specs.Fits as primitive
 use Rattle.arrow_model.specs.declared.kind.Kind.{Kind}
 use Rattle.arrow_model.specs.declared.kind.Kind.TheVariants as kind
 use Rattle.arrow_model.specs.Answer.{not_met, refused, is_memory, is_not_met}
-use Rattle.arrow_entry.specs.Entry.{native_value, boolean_value, piece_value}
+use Rattle.arrow_entry.specs.Entry.{native_value, boolean_value, bytes_value}
 use Rattle.arrow_model.specs.Value.{Value, Types, layout}
-use Rattle.arrow_model.specs.Item.{value, bit, piece}
-use Rattle.arrow_model.specs.Kind.{Group, frozen, with_nulls, values_alone, native, boolean, pieces, shape, shaped, is_frozen, is_pieces, is_text, is_values_alone}
+use Rattle.arrow_model.specs.Item.{value, bit, bytes_item}
+use Rattle.arrow_model.specs.Kind.{Group, frozen, with_nulls, values_alone, native, boolean, var_binary, shape, shaped, is_frozen, is_var_binary, is_text, is_values_alone}
 use Rattle.arrow_model.specs.Request.{Packed, make, packed, parts, cut_pieces}
 use Rattle.arrow_model.specs.Request as given
 use Rattle.arrow_model.specs.Parts.{BitsFit, PartsCost, PartsRow, accepted, bits_test, boolean_tests, made, marks_in, offsets_test, pieces_tests, wrong_type}
@@ -70,11 +70,11 @@ module _ {T : Type 0} (c : Types T) (group : Group) (t : LogicalType) (mask : Op
       rw (← is-values, ← is-marks, ← parts-seen {T = T} (λ _. nothing_around) bit t tt values marks) whole
 
 -- of what is cut out of bytes it is known which kind it is
-pieces-sort : (group : Group) (text : Bool) → is_pieces (shaped group (pieces text)) ≡ true
+pieces-sort : (group : Group) (text : Bool) → is_var_binary (shaped group (var_binary text)) ≡ true
 pieces-sort group true = refl
 pieces-sort group false = refl
 
-text-sort : (group : Group) (text : Bool) → is_text (shaped group (pieces text)) ≡ text
+text-sort : (group : Group) (text : Bool) → is_text (shaped group (var_binary text)) ≡ text
 text-sort group true = refl
 text-sort group false = refl
 
@@ -93,7 +93,7 @@ not-memory T tests column (Err (error.OutOfSpec text)) other says = refl
 not-memory T tests column (Err error.Overflow) other says = refl
 not-memory T tests column (Err error.OutOfMemory) other says = absurd (never tests other says.err)
 
-wrong-other : (text is_frozen : Bool) → wrong_type (pieces text) is_frozen ≡ out_of_memory → ⊥
+wrong-other : (text is_frozen : Bool) → wrong_type (var_binary text) is_frozen ≡ out_of_memory → ⊥
 wrong-other true true e = cc
 wrong-other true false e = cc
 wrong-other false true e = cc
@@ -115,38 +115,38 @@ met T (Err e) = refl
 module _ {T : Type 0} (c : Types T) (group : Group) (text : Bool) (t : LogicalType) (mask : Option Packed) (marks : Option (List Bool)) (numbers : List ℤ) (held offsets bytes : List ℕ)
     (fit : IfSome mask BitsFit) (is-marks : marks ≡ option_map marks_in mask) (legal : first_fault numbers ≡ None) (is-offsets : offsets ≡ map unsigned_abs numbers) (is-bytes : bytes ≡ held)
     (result : Result ByteColumn Error) (says : Says (pieces_tests c group text t offsets bytes marks) (byte_column t offsets bytes marks) result) where
-  pub pieces-made : (not (is_values_alone (shaped group (pieces text))) || is_none mask) ≡ true
-      → BuiltBy (piece_value group text) result (PartsRow c (shaped group (pieces text)) t mask (cut_pieces numbers held))
+  pub pieces-made : (not (is_values_alone (shaped group (var_binary text))) || is_none mask) ≡ true
+      → BuiltBy (bytes_value group text) result (PartsRow c (shaped group (var_binary text)) t mask (cut_pieces numbers held))
   pieces-made unmasked =
       let tests = pieces_tests c group text t offsets bytes marks in
       let column = byte_column t offsets bytes marks in
-      let v : Value T = piece_value group text column in
-      let whole : BuiltBy (piece_value group text) result (memory None (accepted (offsets_test numbers (bits_test mask tests)) v)) =
-      said-row v (offsets_test numbers (bits_test mask tests)) (piece_value group text) column result refl
+      let v : Value T = bytes_value group text column in
+      let whole : BuiltBy (bytes_value group text) result (memory None (accepted (offsets_test numbers (bits_test mask tests)) v)) =
+      said-row v (offsets_test numbers (bits_test mask tests)) (bytes_value group text) column result refl
       (after (first_fault numbers ≡ None) (out_of_spec (unwrap_or (first_fault numbers) [])) (bits_test mask tests) column result legal
       (after (IfSome mask BitsFit) bits_past_bytes tests column result fit says)) in
-      rw (pieces-sort group text, unmasked, text-sort group text, ← is-offsets, ← is-bytes, ← is-marks, ← parts-seen {T = T} (λ around. around) (piece text) t (around_of offsets bytes) (items_of offsets bytes) marks) whole
+      rw (pieces-sort group text, unmasked, text-sort group text, ← is-offsets, ← is-bytes, ← is-marks, ← parts-seen {T = T} (λ around. around) (bytes_item text) t (around_of offsets bytes) (items_of offsets bytes) marks) whole
 
   is-tested : is_memory (built_answer {T = T} result) ≡ false
   is-tested = not-memory T (pieces_tests c group text t offsets bytes marks) (byte_column t offsets bytes marks) result (pieces-other c group text t offsets bytes marks) says
 
-  pub array-cost : {old new : Cost} → is_frozen (shaped group (pieces text)) ≡ true → Costs text offsets bytes old new → PartsCost {T = T} (shaped group (pieces text)) mask numbers held (built_answer result) old new
+  pub array-cost : {old new : Cost} → is_frozen (shaped group (var_binary text)) ≡ true → Costs text offsets bytes old new → PartsCost {T = T} (shaped group (var_binary text)) mask numbers held (built_answer result) old new
   array-cost {old} {new} array costs =
       let of-text = subst (λ b. Costs b offsets bytes old new) (sym (text-sort group text)) costs in
-      let of-parts = subst (λ n. Costs (is_text (shaped group (pieces text))) n bytes old new) is-offsets of-text in
-      let of-held = subst (λ b. Costs (is_text (shaped group (pieces text))) (map unsigned_abs numbers) b old new) is-bytes of-parts in
+      let of-parts = subst (λ n. Costs (is_text (shaped group (var_binary text))) n bytes old new) is-offsets of-text in
+      let of-held = subst (λ b. Costs (is_text (shaped group (var_binary text))) (map unsigned_abs numbers) b old new) is-bytes of-parts in
       (λ _. rw array of-held, λ not. absurd (not (met T result, is-tested, legal, fit)))
 
-  pub builder-cost : {old new : Cost} → is_frozen (shaped group (pieces text)) ≡ false → BuilderCosts text offsets bytes old new → PartsCost {T = T} (shaped group (pieces text)) mask numbers held (built_answer result) old new
+  pub builder-cost : {old new : Cost} → is_frozen (shaped group (var_binary text)) ≡ false → BuilderCosts text offsets bytes old new → PartsCost {T = T} (shaped group (var_binary text)) mask numbers held (built_answer result) old new
   builder-cost {old} {new} grows costs =
       let of-text = subst (λ b. BuilderCosts b offsets bytes old new) (sym (text-sort group text)) costs in
-      let of-parts = subst (λ n. BuilderCosts (is_text (shaped group (pieces text))) n bytes old new) is-offsets of-text in
-      let of-held = subst (λ b. BuilderCosts (is_text (shaped group (pieces text))) (map unsigned_abs numbers) b old new) is-bytes of-parts in
+      let of-parts = subst (λ n. BuilderCosts (is_text (shaped group (var_binary text))) n bytes old new) is-offsets of-text in
+      let of-held = subst (λ b. BuilderCosts (is_text (shaped group (var_binary text))) (map unsigned_abs numbers) b old new) is-bytes of-parts in
       (λ _. rw grows of-held, λ not. absurd (not (met T result, is-tested, legal, fit)))
 
 -- what is said of a kind's own layout and refusal is said of those that the table knows
 pub of-kind : {T A : Type 0} (c : Types T) (text array : Bool) (lies : PhysicalType) (wrong : Refusal) (tests : PhysicalType → Refusal → Tests) (column : A) (result : Result A Error)
-    → IsKindOf c (pieces text) array lies wrong → Says (tests lies wrong) column result → Says (tests (layout c (pieces text)) (wrong_type (pieces text) array)) column result
+    → IsKindOf c (var_binary text) array lies wrong → Says (tests lies wrong) column result → Says (tests (layout c (var_binary text)) (wrong_type (var_binary text) array)) column result
 of-kind c text array lies wrong tests column result of-sort says = subst₂ (λ (lies : PhysicalType) (wrong : Refusal). Says (tests lies wrong) column result) of-sort.0 of-sort.1 says
 
 -- of other kinds than those of bytes and text the condition fails

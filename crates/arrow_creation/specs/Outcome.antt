@@ -8,18 +8,12 @@ use Rattle.arrow_memory.specs.Marks.{bits_past_bytes}
 use Rattle.arrow_memory.specs.Offsets.{first_fault}
 use Rattle.arrow_entry.specs.declared.entry.Entry.{Entry}
 use Rattle.arrow_entry.specs.Entry.{value_of}
-use Rattle.arrow_model.specs.declared.reply.Reply.{Reply}
-use Rattle.arrow_model.specs.Answer.{Answer, done, not_met, refused, told}
-use Rattle.arrow_model.specs.Kind.{Group, frozen, with_nulls, values_alone, Sort}
+use Rattle.arrow_model.specs.Answer.{Answer, done, not_met, refused, answer_of}
+use Rattle.arrow_model.specs.Kind.{Group, frozen, with_nulls, values_alone, ValueKind}
 use Rattle.arrow_model.specs.Parts.{BitsFit, wrong_type}
 use Rattle.arrow_model.specs.Request.{Packed}
 use Rattle.arrow_model.specs.Row.{Row}
 use Rattle.arrow_model.specs.Value.{Value, Types, layout}
-
--- the answer: a reply, or the refusal of an error
-abbrev pub outcome : {T : Type 0} → Result (Reply T) Error → Answer T
-outcome (Ok reply) = told reply
-outcome (Err e) = refused (refusal e)
 
 -- the answer of a command that makes an entry: `None` where its condition fails
 abbrev pub made_answer : {T O : Type 0} → Result (Option (Entry T O)) Error → Answer T
@@ -37,7 +31,7 @@ made_entry (Err e) = None
 abbrev pub MadeBy : {T O : Type 0} → Result (Option (Entry T O)) Error → Row T → Type 0
 MadeBy result row = row (made_answer result) (made_entry result)
 
--- the same of a call whose condition is known to hold, and of an array or a builder of one kind, which is seen as a value
+-- the same of a call whose condition is known to hold, and of an array or a builder of one kind, which is erase_type as a value
 module _ {T A : Type 0} where
   abbrev pub built_answer : Result A Error → Answer T
   built_answer (Ok made) = done
@@ -67,7 +61,7 @@ RejectedParts mask numbers e =
     (MatchOption (first_fault numbers) ((IfSome mask BitsFit → ⊥) × (refusal e ≡ bits_past_bytes)) (λ fault. refusal e ≡ out_of_spec fault))
 
 -- how the values of a kind lie in memory, and how it refuses another type, are what the model says of its sort
-abbrev pub IsKindOf : {T : Type 0} → Types T → Sort → Bool → PhysicalType → Refusal → Type 0
+abbrev pub IsKindOf : {T : Type 0} → Types T → ValueKind → Bool → PhysicalType → Refusal → Type 0
 IsKindOf c sort is_frozen physical wrong = (physical ≡ layout c sort) × (wrong ≡ wrong_type sort is_frozen)
 
 -- the group of builder in which the values of a kind are made

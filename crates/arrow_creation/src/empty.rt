@@ -68,7 +68,7 @@ pub fn slots_builder<T: NativeType, O: Offset>(
     kind: Kind,
 ) -> Result<Entry<T, O>, Error>
     ensures ok { IfOk result (λ made. value_of made ≡ slots_start (types T.zero T.PRIMITIVE O.most O.IS_LARGE)
-        (shaped (builder_group (shape kind).group) (shape kind).sort)) }
+        (shaped (builder_group (shape kind).group) (shape kind).value_kind)) }
     ensures err { OnlyOutOfMemory result }
 {
     match kind {

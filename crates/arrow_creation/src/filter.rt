@@ -3,7 +3,7 @@ ghost use Rattle.std.specs.Prelude.{◌≡◌, length, MatchOption, None, Some};
 ghost use Rattle.arrow_creation.specs.Outcome.{MadeBy};
 ghost use Rattle.arrow_entry.specs.Entry.{value_of};
 ghost use Rattle.arrow_model.specs.Chosen.{array_in, filter_in};
-ghost use Rattle.arrow_model.specs.Row.{given};
+ghost use Rattle.arrow_model.specs.Row.{require_some};
 ghost use Rattle.arrow_model.specs.Step.{Filtered};
 
 use crate::make::MakesEntry;
@@ -42,7 +42,7 @@ fn filtered<T: NativeType, O: Offset>(
     filter: &BooleanArray,
 ) -> Result<Option<Entry<T, O>>, Error>
     requires { length filter.now.rows ≡ length (value_of entry.now).column.rows }
-    ensures { MadeBy result (given None (array_in (Some (value_of entry.now))) (Filtered filter.now)) }
+    ensures { MadeBy result (require_some None (array_in (Some (value_of entry.now))) (Filtered filter.now)) }
 {
     match entry {
         Entry::Primitive(array) => Ok(Some(Entry::Primitive(filter_primitive(

@@ -32,7 +32,7 @@ fn entry_from_items<T: NativeType, O: Offset>(
     kind: Kind,
     items: &[Item<T>],
 ) -> Result<Entry<T, O>, Error>
-    requires { IsTrue (list_all (fits (shape kind).sort) (map stored_item items.now)) }
+    requires { IsTrue (list_all (fits (shape kind).value_kind) (map stored_item items.now)) }
     ensures { BuiltBy value_of result (Filled (types T.zero T.PRIMITIVE O.most O.IS_LARGE)
         (empty_value (types T.zero T.PRIMITIVE O.most O.IS_LARGE) (shape kind)) (map Some (map stored_item items.now))
         (λ v. v)) }

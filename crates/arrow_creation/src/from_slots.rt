@@ -33,7 +33,7 @@ fn entry_from_slots<T: NativeType, O: Offset>(
     slots: &[Option<Item<T>>],
 ) -> Result<Entry<T, O>, Error>
     requires nulls { is_values_alone (shape kind) ≡ false }
-    requires fit { IsTrue (list_all (slot_fits (shape kind).sort) (map stored_slot slots.now)) }
+    requires fit { IsTrue (list_all (slot_fits (shape kind).value_kind) (map stored_slot slots.now)) }
     ensures { BuiltBy value_of result (Filled (types T.zero T.PRIMITIVE O.most O.IS_LARGE)
         (slots_start (types T.zero T.PRIMITIVE O.most O.IS_LARGE) (shape kind)) (map stored_slot slots.now)
         (λ v. if is_frozen (shape kind) then frozen_value v else v)) }

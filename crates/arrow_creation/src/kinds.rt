@@ -24,7 +24,7 @@ pub fn holds_values_alone(kind: Kind) -> bool
 
 /// Returns the kind of builder in which the values of a kind are made.
 pub fn builder_kind(kind: Kind) -> Kind
-    ensures { shape result ≡ shaped (builder_group (shape kind).group) (shape kind).sort }
+    ensures { shape result ≡ shaped (builder_group (shape kind).group) (shape kind).value_kind }
 {
     match kind {
         Kind::Primitive => Kind::MutablePrimitive,

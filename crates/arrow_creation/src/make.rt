@@ -1,9 +1,10 @@
 //! What a command that fills an empty entry is, and how it is done to the entry of a number.
 ghost use Rattle.std.specs.Prelude.{◌≡◌, None, option_map};
-ghost use Rattle.arrow_creation.specs.Outcome.{MadeBy, outcome};
+ghost use Rattle.arrow_creation.specs.Outcome.{MadeBy};
+ghost use Rattle.arrow_model.specs.Answer.{outcome};
 ghost use Rattle.arrow_entry.specs.Entry.{state_of};
 ghost use Rattle.arrow_model.specs.Row.{Row};
-ghost use Rattle.arrow_model.specs.Step.{AtEntry, Puts};
+ghost use Rattle.arrow_model.specs.Step.{AtEntry, IntoEmpty};
 ghost use Rattle.arrow_model.specs.Value.{State};
 
 use arrow_entry::{Entry, replace};
@@ -30,7 +31,7 @@ pub trait MakesEntry<T: NativeType, O: Offset>: Drop {
         ensures { MadeBy result (makes self (state_of entries.now.items)) };
 }
 
-/// Puts what a command makes into the entry of a number; the command's condition fails if that is not empty or past the
+/// IntoEmpty what a command makes into the entry of a number; the command's condition fails if that is not empty or past the
 /// table.
 ///
 /// # Errors
@@ -41,7 +42,7 @@ pub fn put_at<T: NativeType, O: Offset, R: MakesEntry<T, O>>(
     e: usize,
     command: R,
 ) -> Result<Reply<T>, Error>
-    ensures { AtEntry (state_of entries.old.items) e (Puts (R.makes command (state_of entries.old.items)))
+    ensures { AtEntry (state_of entries.old.items) e (IntoEmpty (R.makes command (state_of entries.old.items)))
         (outcome result) (state_of entries.new.items) }
 {
     if e >= entries.len() {

@@ -36,7 +36,7 @@ pub struct NewNull<'a> {
 
 /// Returns how the values of a kind lie in memory.
 fn layout_of<T: NativeType, O: Offset>(kind: Kind) -> PhysicalType
-    ensures { result ≡ layout (types T.zero T.PRIMITIVE O.most O.IS_LARGE) (shape kind).sort }
+    ensures { result ≡ layout (types T.zero T.PRIMITIVE O.most O.IS_LARGE) (shape kind).value_kind }
 {
     match kind {
         Kind::Primitive | Kind::MutablePrimitive => PhysicalType::Primitive(T::PRIMITIVE),
@@ -70,12 +70,12 @@ fn null_entry<T: NativeType, O: Offset>(
     length: usize,
 ) -> Result<Entry<T, O>, Error>
     requires array { IsTrue (is_frozen (shape kind)) }
-    requires right { IsRightType (layout (types T.zero T.PRIMITIVE O.most O.IS_LARGE) (shape kind).sort) (logical_type data_type.now) }
+    requires right { IsRightType (layout (types T.zero T.PRIMITIVE O.most O.IS_LARGE) (shape kind).value_kind) (logical_type data_type.now) }
     ensures ok { IfOk result (λ made. value_of made ≡ record {
       shape = shape kind;
       column = column_with
           (logical_type data_type.now) nothing_around
-          (replicate length (default_item (types T.zero T.PRIMITIVE O.most O.IS_LARGE) (shape kind).sort))
+          (replicate length (default_item (types T.zero T.PRIMITIVE O.most O.IS_LARGE) (shape kind).value_kind))
           (Some (replicate length false));
     }) }
     ensures err { OnlyOutOfMemory result }

@@ -1,11 +1,12 @@
 //! An array or a builder from raw parts.
 ghost use Rattle.std.specs.Prelude.{◌∷◌, [], option_map};
-ghost use Rattle.arrow_creation.specs.Outcome.{MadeBy, made_answer, outcome};
+ghost use Rattle.arrow_creation.specs.Outcome.{MadeBy, made_answer};
+ghost use Rattle.arrow_model.specs.Answer.{outcome};
 ghost use Rattle.arrow_entry.specs.Entry.{table_of, value_of};
 ghost use Rattle.arrow_model.specs.Kind.{shape};
 ghost use Rattle.arrow_model.specs.Request.{parts_asked, source_of};
 ghost use Rattle.arrow_model.specs.Run.{CostsAtMost};
-ghost use Rattle.arrow_model.specs.Step.{IsStep, Makes, Puts, StepCosts};
+ghost use Rattle.arrow_model.specs.Step.{IsStep, Makes, IntoEmpty, StepCosts};
 ghost use Rattle.arrow_model.specs.Value.{types};
 
 mod boolean;
@@ -52,7 +53,7 @@ fn entry_from_parts<T: NativeType, O: Offset>(
     }
 }
 
-/// Puts what raw parts make into an empty entry. What the test of text costs is added to the counts.
+/// IntoEmpty what raw parts make into an empty entry. What the test of text costs is added to the counts.
 ///
 /// # Errors
 /// The refusal that the command is answered with; the entry is then as before.
@@ -61,7 +62,7 @@ fn put_parts<T: NativeType, O: Offset>(
     given: Parts<T, O>,
     cost: &mut TextCost,
 ) -> Result<Reply<T>, Error>
-    ensures row { Puts (Makes (types T.zero T.PRIMITIVE O.most O.IS_LARGE) (shape given.kind) (source_of O.number given))
+    ensures row { IntoEmpty (Makes (types T.zero T.PRIMITIVE O.most O.IS_LARGE) (shape given.kind) (source_of O.number given))
         (option_map value_of entry.old) (outcome result) (option_map value_of entry.new) }
     ensures exact { StepCosts (parts_asked O.number 0 given) (outcome result) cost.old cost.new }
     ensures most { CostsAtMost (parts_asked O.number 0 given ∷ []) cost.old cost.new }
@@ -78,7 +79,7 @@ fn put_parts<T: NativeType, O: Offset>(
     }
 }
 
-/// Puts what raw parts make into the entry of a number; the command's condition fails if that is not empty or past the
+/// IntoEmpty what raw parts make into the entry of a number; the command's condition fails if that is not empty or past the
 /// table. What the test of text costs is added to the counts.
 ///
 /// # Errors

@@ -3,7 +3,7 @@ ghost use Rattle.std.specs.Prelude.{None, Some};
 ghost use Rattle.arrow_creation.specs.Outcome.{MadeBy};
 ghost use Rattle.arrow_entry.specs.Entry.{value_of};
 ghost use Rattle.arrow_model.specs.Chosen.{array_in};
-ghost use Rattle.arrow_model.specs.Row.{given};
+ghost use Rattle.arrow_model.specs.Row.{require_some};
 ghost use Rattle.arrow_model.specs.Step.{Taken};
 
 use crate::make::MakesEntry;
@@ -29,7 +29,7 @@ fn taken<T: NativeType, O: Offset>(
     entry: &Entry<T, O>,
     keys: &[i64],
 ) -> Result<Option<Entry<T, O>>, Error>
-    ensures { MadeBy result (given None (array_in (Some (value_of entry.now))) (Taken O.most keys.now)) }
+    ensures { MadeBy result (require_some None (array_in (Some (value_of entry.now))) (Taken O.most keys.now)) }
 {
     match entry {
         Entry::Primitive(array) => Ok(Some(Entry::Primitive(take_primitive(alloc, array, keys)?))),

@@ -1,8 +1,8 @@
 //! Arrays and builders of bytes and text from raw parts.
 ghost use Rattle.std.specs.Prelude.{◌∷◌, [], false, true, None, map, option_map};
 ghost use Rattle.arrow_creation.specs.Outcome.{BuiltBy, IsKindOf, MadeBy, built_answer, made_answer};
-ghost use Rattle.arrow_entry.specs.Entry.{piece_value};
-ghost use Rattle.arrow_model.specs.Kind.{frozen, pieces, shape, shaped, values_alone, with_nulls};
+ghost use Rattle.arrow_entry.specs.Entry.{bytes_value};
+ghost use Rattle.arrow_model.specs.Kind.{frozen, var_binary, shape, shaped, values_alone, with_nulls};
 ghost use Rattle.arrow_model.specs.Parts.{PartsCost, PartsRow};
 ghost use Rattle.arrow_model.specs.Request.{cut_pieces, make, packed_bits};
 ghost use Rattle.arrow_model.specs.Request as ask;
@@ -32,13 +32,13 @@ fn array_from_parts<T: NativeType, K: ByteKind, O: Offset>(
     mask: Option<Bits>,
     cost: &mut TextCost,
 ) -> Result<ByteArray<K, O>, Error>
-    requires { IsKindOf (types T.zero T.PRIMITIVE O.most O.IS_LARGE) (pieces K.is_text) true (K.layout O.IS_LARGE) K.wrong_type }
-    ensures row { BuiltBy (piece_value {T = T} frozen K.is_text) result (PartsRow (types T.zero T.PRIMITIVE O.most O.IS_LARGE)
-        (shaped frozen (pieces K.is_text)) (logical_type data_type) (option_map packed_bits mask)
+    requires { IsKindOf (types T.zero T.PRIMITIVE O.most O.IS_LARGE) (var_binary K.is_text) true (K.layout O.IS_LARGE) K.wrong_type }
+    ensures row { BuiltBy (bytes_value {T = T} frozen K.is_text) result (PartsRow (types T.zero T.PRIMITIVE O.most O.IS_LARGE)
+        (shaped frozen (var_binary K.is_text)) (logical_type data_type) (option_map packed_bits mask)
         (cut_pieces (map O.number offsets.items) bytes.items)) }
-    ensures exact { PartsCost {T = T} (shaped frozen (pieces K.is_text)) (option_map packed_bits mask)
+    ensures exact { PartsCost {T = T} (shaped frozen (var_binary K.is_text)) (option_map packed_bits mask)
         (map O.number offsets.items) bytes.items (built_answer result) cost.old cost.new }
-    ensures most { CostsAtMost {T = T} (make 0 (shaped frozen (pieces K.is_text)) (ask.parts (logical_type data_type)
+    ensures most { CostsAtMost {T = T} (make 0 (shaped frozen (var_binary K.is_text)) (ask.parts (logical_type data_type)
         (cut_pieces (map O.number offsets.items) bytes.items) (option_map packed_bits mask)) ∷ []) cost.old cost.new }
 {
     let (offsets, bytes, mask) = pieces_from_parts(offsets, bytes, mask)?;
@@ -56,13 +56,13 @@ fn builder_from_parts<T: NativeType, K: ByteKind, O: Offset>(
     mask: Option<Bits>,
     cost: &mut TextCost,
 ) -> Result<MutableByteArray<K, O>, Error>
-    requires { IsKindOf (types T.zero T.PRIMITIVE O.most O.IS_LARGE) (pieces K.is_text) false (K.layout O.IS_LARGE) K.wrong_builder_type }
-    ensures row { BuiltBy (piece_value {T = T} with_nulls K.is_text) result (PartsRow (types T.zero T.PRIMITIVE O.most O.IS_LARGE)
-        (shaped with_nulls (pieces K.is_text)) (logical_type data_type) (option_map packed_bits mask)
+    requires { IsKindOf (types T.zero T.PRIMITIVE O.most O.IS_LARGE) (var_binary K.is_text) false (K.layout O.IS_LARGE) K.wrong_builder_type }
+    ensures row { BuiltBy (bytes_value {T = T} with_nulls K.is_text) result (PartsRow (types T.zero T.PRIMITIVE O.most O.IS_LARGE)
+        (shaped with_nulls (var_binary K.is_text)) (logical_type data_type) (option_map packed_bits mask)
         (cut_pieces (map O.number offsets.items) bytes.items)) }
-    ensures exact { PartsCost {T = T} (shaped with_nulls (pieces K.is_text)) (option_map packed_bits mask)
+    ensures exact { PartsCost {T = T} (shaped with_nulls (var_binary K.is_text)) (option_map packed_bits mask)
         (map O.number offsets.items) bytes.items (built_answer result) cost.old cost.new }
-    ensures most { CostsAtMost {T = T} (make 0 (shaped with_nulls (pieces K.is_text)) (ask.parts (logical_type data_type)
+    ensures most { CostsAtMost {T = T} (make 0 (shaped with_nulls (var_binary K.is_text)) (ask.parts (logical_type data_type)
         (cut_pieces (map O.number offsets.items) bytes.items) (option_map packed_bits mask)) ∷ []) cost.old cost.new }
 {
     let (offsets, mask) = mutable_pieces_from_parts(offsets, mask)?;
@@ -79,13 +79,13 @@ fn values_from_parts<T: NativeType, K: ByteKind, O: Offset>(
     bytes: Vec<u8>,
     cost: &mut TextCost,
 ) -> Result<MutableByteValuesArray<K, O>, Error>
-    requires { IsKindOf (types T.zero T.PRIMITIVE O.most O.IS_LARGE) (pieces K.is_text) false (K.layout O.IS_LARGE) K.wrong_builder_type }
-    ensures row { BuiltBy (piece_value {T = T} values_alone K.is_text) result (PartsRow (types T.zero T.PRIMITIVE O.most O.IS_LARGE)
-        (shaped values_alone (pieces K.is_text)) (logical_type data_type) None
+    requires { IsKindOf (types T.zero T.PRIMITIVE O.most O.IS_LARGE) (var_binary K.is_text) false (K.layout O.IS_LARGE) K.wrong_builder_type }
+    ensures row { BuiltBy (bytes_value {T = T} values_alone K.is_text) result (PartsRow (types T.zero T.PRIMITIVE O.most O.IS_LARGE)
+        (shaped values_alone (var_binary K.is_text)) (logical_type data_type) None
         (cut_pieces (map O.number offsets.items) bytes.items)) }
-    ensures exact { PartsCost {T = T} (shaped values_alone (pieces K.is_text)) None
+    ensures exact { PartsCost {T = T} (shaped values_alone (var_binary K.is_text)) None
         (map O.number offsets.items) bytes.items (built_answer result) cost.old cost.new }
-    ensures most { CostsAtMost {T = T} (make 0 (shaped values_alone (pieces K.is_text)) (ask.parts (logical_type data_type)
+    ensures most { CostsAtMost {T = T} (make 0 (shaped values_alone (var_binary K.is_text)) (ask.parts (logical_type data_type)
         (cut_pieces (map O.number offsets.items) bytes.items) None) ∷ []) cost.old cost.new }
 {
     let (offsets, _mask) = mutable_pieces_from_parts(offsets, None)?;

@@ -1,13 +1,13 @@
 //! Borrowed raw parts, which are copied if their command is for their kind.
 ghost use Rattle.std.specs.Prelude.{◌≡◌, ◌∷◌, [], IfOk, None, false, option_map, true};
-ghost use Rattle.arrow_creation.specs.Outcome.{outcome};
+ghost use Rattle.arrow_model.specs.Answer.{outcome};
 ghost use Rattle.arrow_entry.specs.Entry.{value_of};
 ghost use Rattle.arrow_model.specs.Answer.{not_met, refused};
 ghost use Rattle.arrow_model.specs.Kind.{shape};
 ghost use Rattle.arrow_model.specs.Request.{given_by, packed_bits, parts_asked, source_of};
 ghost use Rattle.arrow_model.specs.Request as ask;
 ghost use Rattle.arrow_model.specs.Run.{CostsAtMost};
-ghost use Rattle.arrow_model.specs.Step.{Makes, Puts, StepCosts};
+ghost use Rattle.arrow_model.specs.Step.{Makes, IntoEmpty, StepCosts};
 ghost use Rattle.arrow_model.specs.Value.{types};
 ghost use Rattle.arrow_types.specs.Types.{logical_type, out_of_memory};
 
@@ -128,7 +128,7 @@ fn are_for<T: NativeType, O: Offset>(given: &Parts<T, O>) -> bool
     }
 }
 
-/// Puts what raw parts make into an empty entry. They are copied if the entry is empty and the command is for their kind.
+/// IntoEmpty what raw parts make into an empty entry. They are copied if the entry is empty and the command is for their kind.
 /// What the test of text costs is added to the counts.
 ///
 /// # Errors
@@ -138,7 +138,7 @@ pub fn put_lent_parts<T: NativeType, O: Offset>(
     given: &Parts<T, O>,
     cost: &mut TextCost,
 ) -> Result<Reply<T>, Error>
-    ensures row { Puts (Makes (types T.zero T.PRIMITIVE O.most O.IS_LARGE) (shape given.now.kind)
+    ensures row { IntoEmpty (Makes (types T.zero T.PRIMITIVE O.most O.IS_LARGE) (shape given.now.kind)
         (source_of O.number given.now)) (option_map value_of entry.old) (outcome result) (option_map value_of entry.new) }
     ensures exact { StepCosts (parts_asked O.number 0 given.now) (outcome result) cost.old cost.new }
     ensures most { CostsAtMost (parts_asked O.number 0 given.now ∷ []) cost.old cost.new }

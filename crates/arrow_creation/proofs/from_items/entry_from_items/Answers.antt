@@ -17,7 +17,7 @@ returns-in_err-push_items g c =
     let p = err_from_is_err_and c.from_residual-in_err-push_items.result c.from_residual-in_err-push_items.ensures.1 in
     let why = c.in_err-push_items.ensures.err in
     rw (p.1, p.2, why.1) (
-    items-refused known s.sort s.group (map stored_item c.args.items.now) (value_of c.in_ok-made.made) why.0
+    items-refused known s.value_kind s.group (map stored_item c.args.items.now) (value_of c.in_ok-made.made) why.0
     (Some (value_of c.push_items.new.held)) (c.in_ok-made.ensures.ok ∙ ap (empty_value known) c.builder_kind.ensures) (rw (why.1) at why.2)
     )
 
@@ -26,7 +26,7 @@ returns-then-is_array g c =
     let known = types g.T.NativeType.zero g.T.NativeType.PRIMITIVE g.O.Offset.most g.O.Offset.IS_LARGE in
     let s = shape c.args.kind in
     let w = value_of c.push_items.new.held in
-    let done-so = items-done known s.sort s.group (map stored_item c.args.items.now) (value_of c.in_ok-made.made) w
+    let done-so = items-done known s.value_kind s.group (map stored_item c.args.items.now) (value_of c.in_ok-made.made) w
     (c.in_ok-made.ensures.ok ∙ ap (empty_value known) c.builder_kind.ensures) c.in_ok-push_items.ensures.ok in
     let row = Filled known (empty_value known s) (map Some (map stored_item c.args.items.now)) (λ v. v) in
     frozen-built row w c.frozen.result c.frozen.ensures.ok c.frozen.ensures.err
@@ -37,7 +37,7 @@ returns-else-is_array g c =
     let known = types g.T.NativeType.zero g.T.NativeType.PRIMITIVE g.O.Offset.most g.O.Offset.IS_LARGE in
     let s = shape c.args.kind in
     let w = value_of c.push_items.new.held in
-    let done-so = items-done known s.sort s.group (map stored_item c.args.items.now) (value_of c.in_ok-made.made) w
+    let done-so = items-done known s.value_kind s.group (map stored_item c.args.items.now) (value_of c.in_ok-made.made) w
     (c.in_ok-made.ensures.ok ∙ ap (empty_value known) c.builder_kind.ensures) c.in_ok-push_items.ensures.ok in
     let row = Filled known (empty_value known s) (map Some (map stored_item c.args.items.now)) (λ v. v) in
     subst (λ b. row done (Some (if b then frozen_value w else w))) (sym c.is_array.ensures ∙ c.if-is_array.false) done-so

@@ -17,7 +17,7 @@ returns-in_err-push_slots g c =
     let p = err_from_is_err_and c.from_residual-in_err-push_slots.result c.from_residual-in_err-push_slots.ensures.1 in
     let why = c.in_err-push_slots.ensures.err in
     rw (p.1, p.2, why.1) (
-    slots-refused known s.sort s.group (map stored_slot c.args.slots.now) (value_of c.in_ok-made.made) why.0
+    slots-refused known s.value_kind s.group (map stored_slot c.args.slots.now) (value_of c.in_ok-made.made) why.0
     (Some (value_of c.push_slots.new.held)) c.in_ok-made.ensures.ok (rw (why.1) at why.2)
     )
 
@@ -26,7 +26,7 @@ returns-then-is_array g c =
     let known = types g.T.NativeType.zero g.T.NativeType.PRIMITIVE g.O.Offset.most g.O.Offset.IS_LARGE in
     let s = shape c.args.kind in
     let w = value_of c.push_slots.new.held in
-    let done-so = slots-done known s.sort s.group (map stored_slot c.args.slots.now) (value_of c.in_ok-made.made) w
+    let done-so = slots-done known s.value_kind s.group (map stored_slot c.args.slots.now) (value_of c.in_ok-made.made) w
     c.in_ok-made.ensures.ok c.in_ok-push_slots.ensures.ok in
     let row = Filled known (slots_start known s) (map stored_slot c.args.slots.now) (λ v. if is_frozen s then frozen_value v else v) in
     frozen-built row w c.frozen.result c.frozen.ensures.ok c.frozen.ensures.err
@@ -37,7 +37,7 @@ returns-else-is_array g c =
     let known = types g.T.NativeType.zero g.T.NativeType.PRIMITIVE g.O.Offset.most g.O.Offset.IS_LARGE in
     let s = shape c.args.kind in
     let w = value_of c.push_slots.new.held in
-    let done-so = slots-done known s.sort s.group (map stored_slot c.args.slots.now) (value_of c.in_ok-made.made) w
+    let done-so = slots-done known s.value_kind s.group (map stored_slot c.args.slots.now) (value_of c.in_ok-made.made) w
     c.in_ok-made.ensures.ok c.in_ok-push_slots.ensures.ok in
     let row = Filled known (slots_start known s) (map stored_slot c.args.slots.now) (λ v. if is_frozen s then frozen_value v else v) in
     subst (λ b. row done (Some (if b then frozen_value w else w))) (sym c.is_array.ensures ∙ c.if-is_array.false) done-so

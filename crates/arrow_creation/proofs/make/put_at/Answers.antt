@@ -3,7 +3,8 @@ use Rattle.std.proofs.lemmas.Result.{err_from_is_err_and}
 use Rattle.arrow_types.specs.Types.{refusal}
 use Rattle.arrow_entry.specs.Entry.{state_of, value_of}
 use Rattle.arrow_model.specs.Answer.{done, not_met, refused}
-use Rattle.arrow_creation.proofs.Steps.{empty-filled, empty-stays, filled-unmet, got}
+use Rattle.arrow_entry.proofs.CallerLemmas.{got}
+use Rattle.arrow_creation.proofs.Steps.{empty-filled, empty-stays, filled-unmet}
 use Rattle.arrow_creation.proofs.make.put_at.Goals as goal
 
 pub returns-then-is_some : goal.returns-then-is_some

@@ -1,10 +1,11 @@
 use Rattle.std.proofs.Common.{◌<◌, length, arith}
-use Rattle.arrow_creation.specs.Outcome.{outcome}
+use Rattle.arrow_model.specs.Answer.{outcome}
 use Rattle.arrow_model.specs.Kind.{shape}
 use Rattle.arrow_model.specs.Request.{source_of}
 use Rattle.arrow_model.specs.Value.{types}
 use Rattle.arrow_model.proofs.CallerLemmas.{most-anywhere}
-use Rattle.arrow_creation.proofs.Steps.{got, placed}
+use Rattle.arrow_entry.proofs.CallerLemmas.{got}
+use Rattle.arrow_creation.proofs.Steps.{placed}
 use Rattle.arrow_creation.proofs.parts.lent_parts_at.Goals as goal
 
 pub returns-clause-step : goal.returns-clause-step
