@@ -8,7 +8,7 @@ use arrow_types::native_type::NativeType;
 use std::alloc::Global;
 
 /// A state that commands change.
-pub(crate) trait Steps<T: NativeType> {
+pub(crate) trait Executor<T: NativeType> {
     /// The type of commands.
     type Command;
 
@@ -22,7 +22,7 @@ pub(crate) trait Steps<T: NativeType> {
 
 /// Runs commands in order, appends a reply for each, and returns how many were run. It stops early only if the list of
 /// replies is full and cannot grow, and never shrinks that list.
-pub(crate) fn run_all<T: NativeType, S: Steps<T>>(
+pub(crate) fn run_all<T: NativeType, S: Executor<T>>(
     state: &mut S,
     commands: &[S::Command],
     replies: &mut Vec<Reply<T>>,

@@ -12,7 +12,7 @@ ghost use Rattle.arrow_model.specs.Step.{IsStep, entry_at};
 ghost use Rattle.arrow_model.specs.Values.{IsValue};
 ghost use Rattle.arrow_table.specs.Listed.{listed};
 
-use crate::sequence::{Steps, run_all};
+use crate::sequence::{Executor, run_all};
 use crate::step::{reply_of, step};
 use crate::{Command, Entry, Item, Kind, Parts, Reply};
 use arrow_check::cost::TextCost;
@@ -124,7 +124,7 @@ impl<T: NativeType, O: Offset> Table<T, O> {
     }
 }
 
-impl<T: NativeType, O: Offset> Steps<T> for Table<T, O> {
+impl<T: NativeType, O: Offset> Executor<T> for Table<T, O> {
     ghost use Rattle.std.specs.Prelude.{◌∷◌, []};
     ghost use Rattle.arrow_model.specs.Answer.{answer_of};
     ghost use Rattle.arrow_model.specs.Value.{types};

@@ -11,10 +11,12 @@ ghost use Rattle.arrow_model.specs.Step.{entry_at};
 ghost use Rattle.arrow_table.specs.Listed.{listed};
 ghost use Rattle.arrow_table.specs.Width.{half, on_width};
 
-use crate::sequence::{Steps, run_all};
+use crate::sequence::{Executor, run_all};
+use crate::step::reply_of;
 use crate::{BothCommand, Command, Entry, Item, Parts, Reply, Table};
-use arrow_pairing::widths::{Narrow, Widen};
-use arrow_rows::chosen::put_at;
+use arrow_creation::make::put_at;
+use arrow_creation::narrow::Narrow;
+use arrow_creation::widen::Widen;
 use arrow_types::error::Error;
 use arrow_types::native_type::NativeType;
 use arrow_types::offset::Offset;
@@ -91,7 +93,7 @@ impl<T: NativeType> Tables<T> {
     {
         let alloc = *self.wide.entries.allocator();
         let row = Widen(&self.narrow.entries, e);
-        put_at(alloc, &mut self.wide.entries, f, row)
+        reply_of(put_at(alloc, &mut self.wide.entries, f, row))
     }
 
     /// Copies the array of bytes or text in the wide entry `e` into the empty narrow entry `f`, over offsets of 32 bits,
@@ -101,11 +103,11 @@ impl<T: NativeType> Tables<T> {
     {
         let alloc = *self.narrow.entries.allocator();
         let row = Narrow(&self.wide.entries, e);
-        put_at(alloc, &mut self.narrow.entries, f, row)
+        reply_of(put_at(alloc, &mut self.narrow.entries, f, row))
     }
 }
 
-impl<T: NativeType> Steps<T> for Tables<T> {
+impl<T: NativeType> Executor<T> for Tables<T> {
     ghost use Rattle.std.specs.Prelude.{◌∷◌, []};
     ghost use Rattle.arrow_model.specs.Answer.{answer_of};
     ghost use Rattle.arrow_model.specs.Both.{IsBothStep, both_asked, narrow_of, wide_of};
