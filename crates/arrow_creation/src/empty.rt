@@ -32,7 +32,8 @@ pub fn empty_entry<T: NativeType, O: Offset>(
     alloc: Global,
     kind: Kind,
 ) -> Result<Entry<T, O>, Error>
-    ensures ok { IfOk result (λ made. value_of made ≡ empty_value (types T.zero T.PRIMITIVE O.most O.IS_LARGE) (shape kind)) }
+    ensures ok { IfOk result (λ made.
+        value_of made ≡ empty_value (types T.zero T.PRIMITIVE O.most O.IS_LARGE) (shape kind)) }
     ensures err { OnlyOutOfMemory result }
 {
     Ok(match kind {

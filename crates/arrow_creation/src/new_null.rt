@@ -70,7 +70,8 @@ fn null_entry<T: NativeType, O: Offset>(
     length: usize,
 ) -> Result<Entry<T, O>, Error>
     requires array { IsTrue (is_frozen (shape kind)) }
-    requires right { IsRightType (layout (types T.zero T.PRIMITIVE O.most O.IS_LARGE) (shape kind).value_kind) (logical_type data_type.now) }
+    requires right { IsRightType (layout (types T.zero T.PRIMITIVE O.most O.IS_LARGE) (shape kind).value_kind)
+        (logical_type data_type.now) }
     ensures ok { IfOk result (λ made. value_of made ≡ record {
       shape = shape kind;
       column = column_with

@@ -26,7 +26,8 @@ use bytes::bytes_from_parts;
 use lent::put_lent_parts;
 use native::natives_from_parts;
 
-/// Creates what raw parts make; `None` if the command's condition fails. What the test of text costs is added to the counts.
+/// Creates what raw parts make; `None` if the command's condition fails. What the test of text costs is added to the
+/// counts.
 ///
 /// # Errors
 /// `OutOfSpec` for the first test that the parts fail, or `OutOfMemory` if an allocation fails.
@@ -34,7 +35,8 @@ fn entry_from_parts<T: NativeType, O: Offset>(
     given: Parts<T, O>,
     cost: &mut TextCost,
 ) -> Result<Option<Entry<T, O>>, Error>
-    ensures row { MadeBy result (Makes (types T.zero T.PRIMITIVE O.most O.IS_LARGE) (shape given.kind) (source_of O.number given)) }
+    ensures row { MadeBy result (Makes (types T.zero T.PRIMITIVE O.most O.IS_LARGE) (shape given.kind)
+        (source_of O.number given)) }
     ensures exact { StepCosts (parts_asked O.number 0 given) (made_answer result) cost.old cost.new }
     ensures most { CostsAtMost (parts_asked O.number 0 given ∷ []) cost.old cost.new }
 {
@@ -62,8 +64,8 @@ fn put_parts<T: NativeType, O: Offset>(
     given: Parts<T, O>,
     cost: &mut TextCost,
 ) -> Result<Reply<T>, Error>
-    ensures row { IntoEmpty (Makes (types T.zero T.PRIMITIVE O.most O.IS_LARGE) (shape given.kind) (source_of O.number given))
-        (option_map value_of entry.old) (outcome result) (option_map value_of entry.new) }
+    ensures row { IntoEmpty (Makes (types T.zero T.PRIMITIVE O.most O.IS_LARGE) (shape given.kind)
+        (source_of O.number given)) (option_map value_of entry.old) (outcome result) (option_map value_of entry.new) }
     ensures exact { StepCosts (parts_asked O.number 0 given) (outcome result) cost.old cost.new }
     ensures most { CostsAtMost (parts_asked O.number 0 given ∷ []) cost.old cost.new }
 {

@@ -21,8 +21,8 @@ pub struct Take<'a>(pub usize, pub &'a Vec<i64>);
 /// Takes the rows at the places of keys; `None` if the entry is not an array.
 ///
 /// # Errors
-/// `OutOfSpec` for the first key that is out of bounds. Or else `Overflow` if the items together have more bytes than an
-/// offset can express, or `OutOfMemory` if an allocation fails.
+/// `OutOfSpec` for the first key that is out of bounds. Or else `Overflow` if the items together have more bytes than
+/// an offset can express, or `OutOfMemory` if an allocation fails.
 #[tactic(auto, using(arrow_entry::proofs::CallerLemmas::seen_reads, crate::proofs::Chosen::seen_choices))]
 fn taken<T: NativeType, O: Offset>(
     alloc: Global,

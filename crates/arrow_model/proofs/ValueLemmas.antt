@@ -334,7 +334,7 @@ module _ {T : Type 0} (c : Types T) where
       → IsValue c (with_column v (record v.column { rows = v.column.rows ++ w.column.rows; held = v.column.held || w.column.held }))
   joined-is v w is other same =
       let group = same-group v.shape.group w.shape.group (and-first (same_group v.shape.group w.shape.group) (same_value_kind v.shape.value_kind w.shape.value_kind) same) in
-      let value_kind = same-sort v.shape.value_kind w.shape.value_kind (and-second (same_group v.shape.group w.shape.group) (same_value_kind v.shape.value_kind w.shape.value_kind) same) in
+      let sort = same-sort v.shape.value_kind w.shape.value_kind (and-second (same_group v.shape.group w.shape.group) (same_value_kind v.shape.value_kind w.shape.value_kind) same) in
       rows-is v is (v.column.held || w.column.held) (v.column.rows ++ w.column.rows)
       (All-append (IsRow v.shape.value_kind (v.column.held || w.column.held)) v.column.rows w.column.rows
       (held-rows v.shape.value_kind v.column.held (v.column.held || w.column.held) v.column.rows (or-first v.column.held w.column.held) is.rows)

@@ -18,7 +18,7 @@ pub record Shape : Type 0 where
   pub value_kind : ValueKind
 
 abbrev pub shaped : Group → ValueKind → Shape
-shaped group value_kind = record { group = group; value_kind = sort }
+shaped group sort = record { group = group; value_kind = sort }
 
 abbrev pub shape : Kind → Shape
 shape kind.Primitive = shaped frozen native

@@ -46,7 +46,8 @@ fn builder_from_parts<T: NativeType, O: Offset>(
     mask: Option<Bits>,
 ) -> Result<MutableBooleanArray, Error>
     ensures { BuiltBy (boolean_value with_nulls) result (PartsRow (types T.zero T.PRIMITIVE O.most O.IS_LARGE)
-        (shaped with_nulls boolean) (logical_type data_type) (option_map packed_bits mask) (packed (packed_bits values))) }
+        (shaped with_nulls boolean) (logical_type data_type) (option_map packed_bits mask)
+        (packed (packed_bits values))) }
 {
     let values = mutable_bitmap_from_parts(values)?;
     let mask = mutable_mask_from_parts(mask)?;

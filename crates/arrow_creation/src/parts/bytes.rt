@@ -32,14 +32,16 @@ fn array_from_parts<T: NativeType, K: ByteKind, O: Offset>(
     mask: Option<Bits>,
     cost: &mut TextCost,
 ) -> Result<ByteArray<K, O>, Error>
-    requires { IsKindOf (types T.zero T.PRIMITIVE O.most O.IS_LARGE) (var_binary K.is_text) true (K.layout O.IS_LARGE) K.wrong_type }
-    ensures row { BuiltBy (bytes_value {T = T} frozen K.is_text) result (PartsRow (types T.zero T.PRIMITIVE O.most O.IS_LARGE)
-        (shaped frozen (var_binary K.is_text)) (logical_type data_type) (option_map packed_bits mask)
-        (cut_pieces (map O.number offsets.items) bytes.items)) }
+    requires { IsKindOf (types T.zero T.PRIMITIVE O.most O.IS_LARGE) (var_binary K.is_text) true
+        (K.layout O.IS_LARGE) K.wrong_type }
+    ensures row { BuiltBy (bytes_value {T = T} frozen K.is_text) result
+        (PartsRow (types T.zero T.PRIMITIVE O.most O.IS_LARGE) (shaped frozen (var_binary K.is_text))
+        (logical_type data_type) (option_map packed_bits mask) (cut_pieces (map O.number offsets.items) bytes.items)) }
     ensures exact { PartsCost {T = T} (shaped frozen (var_binary K.is_text)) (option_map packed_bits mask)
         (map O.number offsets.items) bytes.items (built_answer result) cost.old cost.new }
-    ensures most { CostsAtMost {T = T} (make 0 (shaped frozen (var_binary K.is_text)) (ask.parts (logical_type data_type)
-        (cut_pieces (map O.number offsets.items) bytes.items) (option_map packed_bits mask)) ∷ []) cost.old cost.new }
+    ensures most { CostsAtMost {T = T} (make 0 (shaped frozen (var_binary K.is_text)) (ask.parts
+        (logical_type data_type) (cut_pieces (map O.number offsets.items) bytes.items) (option_map packed_bits mask))
+        ∷ []) cost.old cost.new }
 {
     let (offsets, bytes, mask) = pieces_from_parts(offsets, bytes, mask)?;
     ByteArray::try_new_counted(data_type, offsets, bytes, mask, cost)
@@ -56,14 +58,16 @@ fn builder_from_parts<T: NativeType, K: ByteKind, O: Offset>(
     mask: Option<Bits>,
     cost: &mut TextCost,
 ) -> Result<MutableByteArray<K, O>, Error>
-    requires { IsKindOf (types T.zero T.PRIMITIVE O.most O.IS_LARGE) (var_binary K.is_text) false (K.layout O.IS_LARGE) K.wrong_builder_type }
-    ensures row { BuiltBy (bytes_value {T = T} with_nulls K.is_text) result (PartsRow (types T.zero T.PRIMITIVE O.most O.IS_LARGE)
-        (shaped with_nulls (var_binary K.is_text)) (logical_type data_type) (option_map packed_bits mask)
-        (cut_pieces (map O.number offsets.items) bytes.items)) }
+    requires { IsKindOf (types T.zero T.PRIMITIVE O.most O.IS_LARGE) (var_binary K.is_text) false
+        (K.layout O.IS_LARGE) K.wrong_builder_type }
+    ensures row { BuiltBy (bytes_value {T = T} with_nulls K.is_text) result
+        (PartsRow (types T.zero T.PRIMITIVE O.most O.IS_LARGE) (shaped with_nulls (var_binary K.is_text))
+        (logical_type data_type) (option_map packed_bits mask) (cut_pieces (map O.number offsets.items) bytes.items)) }
     ensures exact { PartsCost {T = T} (shaped with_nulls (var_binary K.is_text)) (option_map packed_bits mask)
         (map O.number offsets.items) bytes.items (built_answer result) cost.old cost.new }
-    ensures most { CostsAtMost {T = T} (make 0 (shaped with_nulls (var_binary K.is_text)) (ask.parts (logical_type data_type)
-        (cut_pieces (map O.number offsets.items) bytes.items) (option_map packed_bits mask)) ∷ []) cost.old cost.new }
+    ensures most { CostsAtMost {T = T} (make 0 (shaped with_nulls (var_binary K.is_text)) (ask.parts
+        (logical_type data_type) (cut_pieces (map O.number offsets.items) bytes.items) (option_map packed_bits mask))
+        ∷ []) cost.old cost.new }
 {
     let (offsets, mask) = mutable_pieces_from_parts(offsets, mask)?;
     MutableByteArray::try_new_counted(data_type, offsets, bytes, mask, cost)
@@ -79,21 +83,22 @@ fn values_from_parts<T: NativeType, K: ByteKind, O: Offset>(
     bytes: Vec<u8>,
     cost: &mut TextCost,
 ) -> Result<MutableByteValuesArray<K, O>, Error>
-    requires { IsKindOf (types T.zero T.PRIMITIVE O.most O.IS_LARGE) (var_binary K.is_text) false (K.layout O.IS_LARGE) K.wrong_builder_type }
-    ensures row { BuiltBy (bytes_value {T = T} values_alone K.is_text) result (PartsRow (types T.zero T.PRIMITIVE O.most O.IS_LARGE)
-        (shaped values_alone (var_binary K.is_text)) (logical_type data_type) None
-        (cut_pieces (map O.number offsets.items) bytes.items)) }
+    requires { IsKindOf (types T.zero T.PRIMITIVE O.most O.IS_LARGE) (var_binary K.is_text) false
+        (K.layout O.IS_LARGE) K.wrong_builder_type }
+    ensures row { BuiltBy (bytes_value {T = T} values_alone K.is_text) result
+        (PartsRow (types T.zero T.PRIMITIVE O.most O.IS_LARGE) (shaped values_alone (var_binary K.is_text))
+        (logical_type data_type) None (cut_pieces (map O.number offsets.items) bytes.items)) }
     ensures exact { PartsCost {T = T} (shaped values_alone (var_binary K.is_text)) None
         (map O.number offsets.items) bytes.items (built_answer result) cost.old cost.new }
-    ensures most { CostsAtMost {T = T} (make 0 (shaped values_alone (var_binary K.is_text)) (ask.parts (logical_type data_type)
-        (cut_pieces (map O.number offsets.items) bytes.items) None) ∷ []) cost.old cost.new }
+    ensures most { CostsAtMost {T = T} (make 0 (shaped values_alone (var_binary K.is_text)) (ask.parts
+        (logical_type data_type) (cut_pieces (map O.number offsets.items) bytes.items) None) ∷ []) cost.old cost.new }
 {
     let (offsets, _mask) = mutable_pieces_from_parts(offsets, None)?;
     MutableByteValuesArray::try_new_counted(data_type, offsets, bytes, cost)
 }
 
-/// Creates what offsets, bytes and the rest of raw parts make; `None` if the kind is of another sort, or if there is a mask
-/// for a builder without nulls. What the test of text costs is added to the counts.
+/// Creates what offsets, bytes and the rest of raw parts make; `None` if the kind is of another sort, or if there is a
+/// mask for a builder without nulls. What the test of text costs is added to the counts.
 ///
 /// # Errors
 /// `OutOfSpec` for the first test that the parts fail, or `OutOfMemory` if an allocation fails.
@@ -105,12 +110,13 @@ pub fn bytes_from_parts<T: NativeType, O: Offset>(
     mask: Option<Bits>,
     cost: &mut TextCost,
 ) -> Result<Option<Entry<T, O>>, Error>
-    ensures row { MadeBy result (PartsRow (types T.zero T.PRIMITIVE O.most O.IS_LARGE) (shape kind) (logical_type data_type)
-        (option_map packed_bits mask) (cut_pieces (map O.number offsets.items) bytes.items)) }
+    ensures row { MadeBy result (PartsRow (types T.zero T.PRIMITIVE O.most O.IS_LARGE) (shape kind)
+        (logical_type data_type) (option_map packed_bits mask) (cut_pieces (map O.number offsets.items) bytes.items)) }
     ensures exact { PartsCost {T = T} (shape kind) (option_map packed_bits mask)
         (map O.number offsets.items) bytes.items (made_answer result) cost.old cost.new }
-    ensures most { CostsAtMost {T = T} (make 0 (shape kind) (ask.parts (logical_type data_type)
-        (cut_pieces (map O.number offsets.items) bytes.items) (option_map packed_bits mask)) ∷ []) cost.old cost.new }
+    ensures most { CostsAtMost {T = T} (make 0 (shape kind) (ask.parts
+        (logical_type data_type) (cut_pieces (map O.number offsets.items) bytes.items) (option_map packed_bits mask))
+        ∷ []) cost.old cost.new }
 {
     match kind {
         Kind::Binary => {

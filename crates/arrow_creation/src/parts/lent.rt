@@ -109,8 +109,8 @@ fn parts_copied<T: NativeType, O: Offset>(given: &Parts<T, O>) -> Result<Parts<T
     with_rest(raw, given)
 }
 
-/// Returns whether a command is for the kind of its parts: the raw values are of the kind's sort, and a builder without nulls
-/// has no mask. If it is not, the command's condition fails; else memory may be refused.
+/// Returns whether a command is for the kind of its parts: the raw values are of the kind's sort, and a builder without
+/// nulls has no mask. If it is not, the command's condition fails; else memory may be refused.
 fn are_for<T: NativeType, O: Offset>(given: &Parts<T, O>) -> bool
     ensures not { result ≡ false → Makes (types T.zero T.PRIMITIVE O.most O.IS_LARGE) (shape given.now.kind)
         (source_of O.number given.now) not_met None }
@@ -128,8 +128,8 @@ fn are_for<T: NativeType, O: Offset>(given: &Parts<T, O>) -> bool
     }
 }
 
-/// IntoEmpty what raw parts make into an empty entry. They are copied if the entry is empty and the command is for their kind.
-/// What the test of text costs is added to the counts.
+/// IntoEmpty what raw parts make into an empty entry. They are copied if the entry is empty and the command is for their
+/// kind. What the test of text costs is added to the counts.
 ///
 /// # Errors
 /// The refusal that the command is answered with; the entry is then as before.
@@ -139,7 +139,8 @@ pub fn put_lent_parts<T: NativeType, O: Offset>(
     cost: &mut TextCost,
 ) -> Result<Reply<T>, Error>
     ensures row { IntoEmpty (Makes (types T.zero T.PRIMITIVE O.most O.IS_LARGE) (shape given.now.kind)
-        (source_of O.number given.now)) (option_map value_of entry.old) (outcome result) (option_map value_of entry.new) }
+        (source_of O.number given.now)) (option_map value_of entry.old)
+        (outcome result) (option_map value_of entry.new) }
     ensures exact { StepCosts (parts_asked O.number 0 given.now) (outcome result) cost.old cost.new }
     ensures most { CostsAtMost (parts_asked O.number 0 given.now ∷ []) cost.old cost.new }
 {

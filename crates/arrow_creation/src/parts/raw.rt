@@ -70,7 +70,8 @@ pub fn mutable_mask_from_parts(mask: Option<Bits>) -> Result<Option<MutableBitma
 /// # Errors
 /// `OutOfSpec` if they are not legal, or `OutOfMemory` if an allocation fails.
 fn offsets_from_parts<O: Offset>(offsets: Vec<O>) -> Result<OffsetsBuffer<O>, Error>
-    ensures ok { IfOk result (λ made. (first_fault (map O.number offsets.items) ≡ None) × (made ≡ numbers_of O.number offsets.items)) }
+    ensures ok { IfOk result (λ made. (first_fault (map O.number offsets.items) ≡ None)
+        × (made ≡ numbers_of O.number offsets.items)) }
     ensures err { IfErr result (λ e. UnlessMemory e (MatchOption (first_fault (map O.number offsets.items)) ⊥
         (λ fault. refusal e ≡ out_of_spec fault))) }
 {
