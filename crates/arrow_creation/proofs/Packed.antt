@@ -14,17 +14,20 @@ unless error.Overflow p = p
 unless error.OutOfMemory p = tt
 
 for-memory : (P : Type 0) (e : Error) → refusal e ≡ out_of_memory → UnlessMemory e P
-for-memory P (error.OutOfSpec text) is = absurd (let no : refusal (error.OutOfSpec text) ≡ out_of_memory → ⊥ = λ is. cc in no is)
+for-memory P (error.OutOfSpec text) is = absurd
+    (let no : refusal (error.OutOfSpec text) ≡ out_of_memory → ⊥ = λ is. cc in no is)
 for-memory P error.Overflow is = absurd (let no : refusal error.Overflow ≡ out_of_memory → ⊥ = λ is. cc in no is)
 for-memory P error.OutOfMemory is = tt
 
 module _ (bytes length : ℕ) where
-  by-test : (e : Error) (over : Bool) → nat_lt (8 * bytes) length ≡ over → refusal e ≡ (if over then bits_past_bytes else out_of_memory)
+  by-test : (e : Error) (over : Bool) → nat_lt (8 * bytes) length ≡ over
+      → refusal e ≡ (if over then bits_past_bytes else out_of_memory)
       → UnlessMemory e ((length ≤ 8 * bytes → ⊥) × (refusal e ≡ bits_past_bytes))
   by-test e true over is = unless e (λ fit. omega (arith, fit, ltb-true (8 * bytes) length over), is)
   by-test e false fits is = for-memory ((length ≤ 8 * bytes → ⊥) × (refusal e ≡ bits_past_bytes)) e is
 
-  pub packed-refused : {A : Type 0} (result : Result A Error) → IfErr result (λ e. refusal e ≡ packed_refusal bytes length)
+  pub packed-refused : {A : Type 0} (result : Result A Error)
+      → IfErr result (λ e. refusal e ≡ packed_refusal bytes length)
       → IfErr result (λ e. UnlessMemory e ((length ≤ 8 * bytes → ⊥) × (refusal e ≡ bits_past_bytes)))
   packed-refused (Ok a) is = tt
   packed-refused (Err e) is = by-test e (nat_lt (8 * bytes) length) refl is

@@ -1,5 +1,7 @@
 -- How a row of tests follows from what a call says of them, and what the test of texts costs.
-use Rattle.std.proofs.Common.{◌≡◌, ◌∙◌, ℕ, ℤ, Bool, true, false, not, ◌||◌, is_none, List, [], map, option_map, unsigned_abs, unwrap_or, IfSome, IfOk, IfErr, MatchOption, Option, Some, None, Result, Ok, Err, refl, sym, ap, subst, subst₂, inl, inr}
+use Rattle.std.proofs.Common.{◌≡◌, ◌∙◌, ℕ, ℤ, Bool, true, false, not, ◌||◌, is_none, List, [], map, option_map}
+use Rattle.std.proofs.Common.{unsigned_abs, unwrap_or, IfSome, IfOk, IfErr, Option, Some, None, Result, Ok, Err, refl}
+use Rattle.std.proofs.Common.{sym, ap, subst, subst₂, inl, inr}
 use Rattle.std.specs.Prelude.{⊤}
 use Rattle.arrow_types.specs.Types.{LogicalType, Refusal, refusal, out_of_spec, out_of_memory}
 use Rattle.arrow_types.specs.declared.error.Error.{Error}
@@ -17,16 +19,18 @@ use Rattle.arrow_bytes.specs.Pieces.{around_of, nothing_around}
 use Rattle.arrow_primitive.specs.Fits as primitive
 use Rattle.arrow_model.specs.declared.kind.Kind.{Kind}
 use Rattle.arrow_model.specs.declared.kind.Kind.TheVariants as kind
-use Rattle.arrow_model.specs.Answer.{not_met, refused, is_memory, is_not_met}
+use Rattle.arrow_model.specs.Answer.{not_met, is_memory, is_not_met}
 use Rattle.arrow_entry.specs.Entry.{native_value, boolean_value, bytes_value}
 use Rattle.arrow_model.specs.Value.{Value, Types, layout}
 use Rattle.arrow_model.specs.Item.{value, bit, bytes_item}
-use Rattle.arrow_model.specs.Kind.{Group, frozen, with_nulls, values_alone, native, boolean, var_binary, shape, shaped, is_frozen, is_var_binary, is_text, is_values_alone}
+use Rattle.arrow_model.specs.Kind.{Group, frozen, with_nulls, values_alone, native, boolean, var_binary, shape, shaped}
+use Rattle.arrow_model.specs.Kind.{is_frozen, is_var_binary, is_text, is_values_alone}
 use Rattle.arrow_model.specs.Request.{Packed, make, packed, parts, cut_pieces}
 use Rattle.arrow_model.specs.Request as given
-use Rattle.arrow_model.specs.Parts.{BitsFit, PartsCost, PartsRow, accepted, bits_test, boolean_tests, made, marks_in, offsets_test, pieces_tests, wrong_type}
+use Rattle.arrow_model.specs.Parts.{BitsFit, PartsCost, PartsRow, accepted, bits_test, boolean_tests, marks_in}
+use Rattle.arrow_model.specs.Parts.{offsets_test, pieces_tests, wrong_type}
 use Rattle.arrow_model.specs.Row.{memory}
-use Rattle.arrow_creation.specs.Outcome.{BuiltBy, IsKindOf, RejectedBits, RejectedParts, UnlessMemory, built_answer}
+use Rattle.arrow_creation.specs.Outcome.{BuiltBy, IsKindOf, built_answer}
 use Rattle.arrow_entry.proofs.CallerLemmas.{parts-seen}
 
 -- a call says that what it made passed all tests, or else which is the first that failed
@@ -35,38 +39,46 @@ pub record Says {A : Type 0} (tests : Tests) (column : A) (result : Result A Err
   pub err : IfErr result (λ e. IsFirstFailure tests (refusal e))
 
 -- a test before these that is passed
-pub after : {A : Type 0} (P : Type 0) (why : Refusal) (tests : Tests) (column : A) (result : Result A Error) → P → Says tests column result → Says (test P why tests) column result
+pub after : {A : Type 0} (P : Type 0) (why : Refusal) (tests : Tests) (column : A) (result : Result A Error) → P
+    → Says tests column result → Says (test P why tests) column result
 after P why tests column (Ok a) p says = record { ok = ((p, says.ok.0), says.ok.1); err = tt }
 after P why tests column (Err e) p says = record { ok = tt; err = (λ no. absurd (no p), λ _. says.err) }
 
 module _ {T : Type 0} (v : Value T) (tests : Tests) where
   -- then the row of these tests holds
-  pub said-row : {A : Type 0} (shown : A → Value T) (column : A) (result : Result A Error) → shown column ≡ v → Says tests column result → BuiltBy shown result (memory None (accepted tests v))
+  pub said-row : {A : Type 0} (shown : A → Value T) (column : A) (result : Result A Error) → shown column ≡ v
+      → Says tests column result → BuiltBy shown result (memory None (accepted tests v))
   said-row shown column (Ok a) is says = inl (says.ok.0, (refl, ap Some (ap shown says.ok.1 ∙ is)))
   said-row shown column (Err (error.OutOfSpec text)) is says = inr (out_of_spec text.now, says.err, (refl, refl))
   said-row shown column (Err error.Overflow) is says = inr (refusal error.Overflow, says.err, (refl, refl))
   said-row shown column (Err error.OutOfMemory) is says = refl
 
 -- native values and truth values of parts: what `try_new` says of the tests makes their row
-module _ {T : Type 0} (c : Types T) (group : Group) (t : LogicalType) (mask : Option Packed) (marks : Option (List Bool)) (fit : IfSome mask BitsFit) (is-marks : marks ≡ option_map marks_in mask) where
-  pub values-made : (xs values : List T) (result : Result (Column T) Error) → values ≡ xs → Says (primitive.parts_tests c.primitive t values marks) (column_of_parts t values marks) result
+module _ {T : Type 0} (c : Types T) (group : Group) (t : LogicalType) (mask : Option Packed)
+    (marks : Option (List Bool)) (fit : IfSome mask BitsFit) (is-marks : marks ≡ option_map marks_in mask) where
+  pub values-made : (xs values : List T) (result : Result (Column T) Error) → values ≡ xs
+      → Says (primitive.parts_tests c.primitive t values marks) (column_of_parts t values marks) result
       → BuiltBy (native_value group) result (PartsRow c (shaped group native) t mask (given.values xs))
   values-made xs values result is-values says =
       let tests = primitive.parts_tests c.primitive t values marks in
       let v : Value T = native_value group (column_of_parts t values marks) in
       let whole : BuiltBy (native_value group) result (memory None (accepted (bits_test mask tests) v)) =
-      said-row v (bits_test mask tests) (native_value group) (column_of_parts t values marks) result refl (after (IfSome mask BitsFit) bits_past_bytes tests (column_of_parts t values marks) result fit says) in
+      said-row v (bits_test mask tests) (native_value group) (column_of_parts t values marks) result refl
+      (after (IfSome mask BitsFit) bits_past_bytes tests (column_of_parts t values marks) result fit says) in
       rw (← is-values, ← is-marks, ← parts-seen {T = T} (λ _. nothing_around) value t tt values marks) whole
 
-  pub bits-made : (p : Packed) (values : List Bool) (result : Result (Column Bool) Error) → BitsFit p → values ≡ marks_in p → Says (boolean_tests group t values marks) (column_of_parts t values marks) result
+  pub bits-made : (p : Packed) (values : List Bool) (result : Result (Column Bool) Error) → BitsFit p
+      → values ≡ marks_in p → Says (boolean_tests group t values marks) (column_of_parts t values marks) result
       → BuiltBy (boolean_value group) result (PartsRow c (shaped group boolean) t mask (packed p))
   bits-made p values result fits is-values says =
       let tests = boolean_tests group t values marks in
       let column = column_of_parts t values marks in
       let v : Value T = boolean_value group column in
-      let whole : BuiltBy (boolean_value group) result (memory None (accepted (bits_test (Some p) (bits_test mask tests)) v)) =
+      let whole : BuiltBy (boolean_value group) result
+      (memory None (accepted (bits_test (Some p) (bits_test mask tests)) v)) =
       said-row v (bits_test (Some p) (bits_test mask tests)) (boolean_value group) column result refl
-      (after (IfSome (Some p) BitsFit) bits_past_bytes (bits_test mask tests) column result fits (after (IfSome mask BitsFit) bits_past_bytes tests column result fit says)) in
+      (after (IfSome (Some p) BitsFit) bits_past_bytes (bits_test mask tests) column result fits
+      (after (IfSome mask BitsFit) bits_past_bytes tests column result fit says)) in
       rw (← is-values, ← is-marks, ← parts-seen {T = T} (λ _. nothing_around) bit t tt values marks) whole
 
 -- of what is cut out of bytes it is known which kind it is
@@ -87,7 +99,8 @@ never : (tests : Tests) → NoMemory tests → IsFirstFailure tests out_of_memor
 never accept other fails = fails
 never (test P why tests) other fails = other.0 (sym (fails.0 (λ p. never tests other.1 (fails.1 p))))
 
-not-memory : (T : Type 0) {A : Type 0} (tests : Tests) (column : A) (result : Result A Error) → NoMemory tests → Says tests column result → is_memory (built_answer {T = T} result) ≡ false
+not-memory : (T : Type 0) {A : Type 0} (tests : Tests) (column : A) (result : Result A Error) → NoMemory tests
+    → Says tests column result → is_memory (built_answer {T = T} result) ≡ false
 not-memory T tests column (Ok a) other says = refl
 not-memory T tests column (Err (error.OutOfSpec text)) other says = refl
 not-memory T tests column (Err error.Overflow) other says = refl
@@ -102,56 +115,87 @@ wrong-other false false e = cc
 spec-other : (text : List ℕ) → out_of_spec text ≡ out_of_memory → ⊥
 spec-other text e = cc
 
-pieces-other : {T : Type 0} (c : Types T) (group : Group) (text : Bool) (t : LogicalType) (offsets bytes : List ℕ) (marks : Option (List Bool)) → NoMemory (pieces_tests c group text t offsets bytes marks)
-pieces-other c frozen text t offsets bytes marks = (spec-other _, (spec-other _, (spec-other _, (wrong-other text true, tt))))
-pieces-other c with_nulls text t offsets bytes marks = (spec-other _, (spec-other _, (wrong-other text false, (spec-other _, tt))))
+pieces-other : {T : Type 0} (c : Types T) (group : Group) (text : Bool) (t : LogicalType) (offsets bytes : List ℕ)
+    (marks : Option (List Bool)) → NoMemory (pieces_tests c group text t offsets bytes marks)
+pieces-other c frozen text t offsets bytes marks =
+    (spec-other _, (spec-other _, (spec-other _, (wrong-other text true, tt))))
+pieces-other c with_nulls text t offsets bytes marks =
+    (spec-other _, (spec-other _, (wrong-other text false, (spec-other _, tt))))
 pieces-other c values_alone text t offsets bytes marks = (spec-other _, (spec-other _, (wrong-other text false, tt)))
 
 met : (T : Type 0) {A : Type 0} (result : Result A Error) → is_not_met (built_answer {T = T} result) ≡ false
 met T (Ok a) = refl
 met T (Err e) = refl
 
--- bytes and texts of parts: what `try_new_counted` says of the tests makes their row, and its answer is not want of memory
-module _ {T : Type 0} (c : Types T) (group : Group) (text : Bool) (t : LogicalType) (mask : Option Packed) (marks : Option (List Bool)) (numbers : List ℤ) (held offsets bytes : List ℕ)
-    (fit : IfSome mask BitsFit) (is-marks : marks ≡ option_map marks_in mask) (legal : first_fault numbers ≡ None) (is-offsets : offsets ≡ map unsigned_abs numbers) (is-bytes : bytes ≡ held)
-    (result : Result ByteColumn Error) (says : Says (pieces_tests c group text t offsets bytes marks) (byte_column t offsets bytes marks) result) where
+-- bytes and texts of parts: what `try_new_counted` says of the tests makes their row, and its answer is not want of
+-- memory
+module _ {T : Type 0} (c : Types T) (group : Group) (text : Bool) (t : LogicalType) (mask : Option Packed)
+    (marks : Option (List Bool)) (numbers : List ℤ) (held offsets bytes : List ℕ)
+    (fit : IfSome mask BitsFit) (is-marks : marks ≡ option_map marks_in mask) (legal : first_fault numbers ≡ None)
+    (is-offsets : offsets ≡ map unsigned_abs numbers) (is-bytes : bytes ≡ held)
+    (result : Result ByteColumn Error) (says : Says (pieces_tests c group text t offsets bytes marks)
+    (byte_column t offsets bytes marks) result) where
   pub pieces-made : (not (is_values_alone (shaped group (var_binary text))) || is_none mask) ≡ true
-      → BuiltBy (bytes_value group text) result (PartsRow c (shaped group (var_binary text)) t mask (cut_pieces numbers held))
+      → BuiltBy (bytes_value group text) result
+      (PartsRow c (shaped group (var_binary text)) t mask (cut_pieces numbers held))
   pieces-made unmasked =
       let tests = pieces_tests c group text t offsets bytes marks in
       let column = byte_column t offsets bytes marks in
       let v : Value T = bytes_value group text column in
-      let whole : BuiltBy (bytes_value group text) result (memory None (accepted (offsets_test numbers (bits_test mask tests)) v)) =
+      let whole : BuiltBy (bytes_value group text) result
+      (memory None (accepted (offsets_test numbers (bits_test mask tests)) v)) =
       said-row v (offsets_test numbers (bits_test mask tests)) (bytes_value group text) column result refl
-      (after (first_fault numbers ≡ None) (out_of_spec (unwrap_or (first_fault numbers) [])) (bits_test mask tests) column result legal
+      (after (first_fault numbers ≡ None) (out_of_spec (unwrap_or (first_fault numbers) [])) (bits_test mask tests)
+      column result legal
       (after (IfSome mask BitsFit) bits_past_bytes tests column result fit says)) in
-      rw (pieces-sort group text, unmasked, text-sort group text, ← is-offsets, ← is-bytes, ← is-marks, ← parts-seen {T = T} (λ around. around) (bytes_item text) t (around_of offsets bytes) (items_of offsets bytes) marks) whole
+      rw (
+        pieces-sort group text,
+        unmasked,
+        text-sort group text,
+        ← is-offsets,
+        ← is-bytes,
+        ← is-marks,
+        ← parts-seen {T = T} (λ around. around) (bytes_item text) t (around_of offsets bytes) (items_of offsets bytes)
+            marks,
+      ) whole
 
   is-tested : is_memory (built_answer {T = T} result) ≡ false
-  is-tested = not-memory T (pieces_tests c group text t offsets bytes marks) (byte_column t offsets bytes marks) result (pieces-other c group text t offsets bytes marks) says
+  is-tested = not-memory T (pieces_tests c group text t offsets bytes marks) (byte_column t offsets bytes marks)
+      result (pieces-other c group text t offsets bytes marks) says
 
-  pub array-cost : {old new : Cost} → is_frozen (shaped group (var_binary text)) ≡ true → Costs text offsets bytes old new → PartsCost {T = T} (shaped group (var_binary text)) mask numbers held (built_answer result) old new
+  pub array-cost : {old new : Cost} → is_frozen (shaped group (var_binary text)) ≡ true → Costs text offsets bytes old new
+      → PartsCost {T = T} (shaped group (var_binary text)) mask numbers held (built_answer result) old new
   array-cost {old} {new} array costs =
       let of-text = subst (λ b. Costs b offsets bytes old new) (sym (text-sort group text)) costs in
       let of-parts = subst (λ n. Costs (is_text (shaped group (var_binary text))) n bytes old new) is-offsets of-text in
-      let of-held = subst (λ b. Costs (is_text (shaped group (var_binary text))) (map unsigned_abs numbers) b old new) is-bytes of-parts in
+      let of-held = subst (λ b. Costs (is_text (shaped group (var_binary text))) (map unsigned_abs numbers) b old new)
+      is-bytes of-parts in
       (λ _. rw array of-held, λ not. absurd (not (met T result, is-tested, legal, fit)))
 
-  pub builder-cost : {old new : Cost} → is_frozen (shaped group (var_binary text)) ≡ false → BuilderCosts text offsets bytes old new → PartsCost {T = T} (shaped group (var_binary text)) mask numbers held (built_answer result) old new
+  pub builder-cost : {old new : Cost} → is_frozen (shaped group (var_binary text)) ≡ false
+      → BuilderCosts text offsets bytes old new
+      → PartsCost {T = T} (shaped group (var_binary text)) mask numbers held (built_answer result) old new
   builder-cost {old} {new} grows costs =
       let of-text = subst (λ b. BuilderCosts b offsets bytes old new) (sym (text-sort group text)) costs in
-      let of-parts = subst (λ n. BuilderCosts (is_text (shaped group (var_binary text))) n bytes old new) is-offsets of-text in
-      let of-held = subst (λ b. BuilderCosts (is_text (shaped group (var_binary text))) (map unsigned_abs numbers) b old new) is-bytes of-parts in
+      let of-parts = subst (λ n. BuilderCosts (is_text (shaped group (var_binary text))) n bytes old new) is-offsets
+      of-text in
+      let of-held = subst (λ b. BuilderCosts (is_text (shaped group (var_binary text))) (map unsigned_abs numbers) b old
+      new) is-bytes of-parts in
       (λ _. rw grows of-held, λ not. absurd (not (met T result, is-tested, legal, fit)))
 
 -- what is said of a kind's own layout and refusal is said of those that the table knows
-pub of-kind : {T A : Type 0} (c : Types T) (text array : Bool) (lies : PhysicalType) (wrong : Refusal) (tests : PhysicalType → Refusal → Tests) (column : A) (result : Result A Error)
-    → IsKindOf c (var_binary text) array lies wrong → Says (tests lies wrong) column result → Says (tests (layout c (var_binary text)) (wrong_type (var_binary text) array)) column result
-of-kind c text array lies wrong tests column result of-sort says = subst₂ (λ (lies : PhysicalType) (wrong : Refusal). Says (tests lies wrong) column result) of-sort.0 of-sort.1 says
+pub of-kind : {T A : Type 0} (c : Types T) (text array : Bool) (lies : PhysicalType) (wrong : Refusal)
+    (tests : PhysicalType → Refusal → Tests) (column : A) (result : Result A Error)
+    → IsKindOf c (var_binary text) array lies wrong → Says (tests lies wrong) column result
+    → Says (tests (layout c (var_binary text)) (wrong_type (var_binary text) array)) column result
+of-kind c text array lies wrong tests column result of-sort says =
+    subst₂ (λ (lies : PhysicalType) (wrong : Refusal). Says (tests lies wrong) column result) of-sort.0 of-sort.1 says
 
 -- of other kinds than those of bytes and text the condition fails
-pub unmet-pieces : {T : Type 0} (c : Types T) (k : Kind) (t : LogicalType) (mask : Option Packed) (numbers : List ℤ) (held : List ℕ)
-    → (k ≡ kind.Binary → ⊥) → (k ≡ kind.Utf8 → ⊥) → (k ≡ kind.MutableBinary → ⊥) → (k ≡ kind.MutableUtf8 → ⊥) → (k ≡ kind.BinaryValues → ⊥) → (k ≡ kind.Utf8Values → ⊥)
+pub unmet-pieces : {T : Type 0} (c : Types T) (k : Kind) (t : LogicalType) (mask : Option Packed) (numbers : List ℤ)
+    (held : List ℕ)
+    → (k ≡ kind.Binary → ⊥) → (k ≡ kind.Utf8 → ⊥) → (k ≡ kind.MutableBinary → ⊥) → (k ≡ kind.MutableUtf8 → ⊥)
+    → (k ≡ kind.BinaryValues → ⊥) → (k ≡ kind.Utf8Values → ⊥)
     → PartsRow c (shape k) t mask (cut_pieces numbers held) not_met None
 unmet-pieces c kind.Primitive t mask numbers held a b d e f g = (refl, refl)
 unmet-pieces c kind.Boolean t mask numbers held a b d e f g = (refl, refl)

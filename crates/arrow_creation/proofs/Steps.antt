@@ -14,33 +14,49 @@ use Rattle.arrow_model.proofs.CallerLemmas.{costs-anywhere}
 
 module _ {T O : Type 0} (row : Row T) where
   -- where something is, the condition fails
-  some-unmet : (x : Option (Entry T O)) → is_some x ≡ true → IntoEmpty row (option_map value_of x) not_met (option_map value_of x)
+  some-unmet : (x : Option (Entry T O)) → is_some x ≡ true
+      → IntoEmpty row (option_map value_of x) not_met (option_map value_of x)
   some-unmet None is = grind arith
   some-unmet (Some entry) is = (refl, refl)
 
   -- where nothing is, the row decides
-  none-puts : (x y : Option (Entry T O)) (reply : Answer T) → is_some x ≡ false → row reply (option_map value_of y) → IntoEmpty row (option_map value_of x) reply (option_map value_of y)
+  none-puts : (x y : Option (Entry T O)) (reply : Answer T) → is_some x ≡ false → row reply (option_map value_of y)
+      → IntoEmpty row (option_map value_of x) reply (option_map value_of y)
   none-puts None y reply none h = h
   none-puts (Some entry) y reply none h = grind arith
 
-  none-stays : (x : Option (Entry T O)) (reply : Answer T) → is_some x ≡ false → row reply None → IntoEmpty row (option_map value_of x) reply (option_map value_of x)
+  none-stays : (x : Option (Entry T O)) (reply : Answer T) → is_some x ≡ false → row reply None
+      → IntoEmpty row (option_map value_of x) reply (option_map value_of x)
   none-stays None reply none h = h
   none-stays (Some entry) reply none h = grind arith
 
   -- an entry of a table, which was read
-  module _ (entries : List (Option (Entry T O))) (e : ℕ) (x : Option (Entry T O)) (there : slice_get entries e ≡ Some x) where
-    pub filled-unmet : is_some x ≡ true → AtEntry (map (option_map value_of) entries) e (IntoEmpty row) not_met (map (option_map value_of) entries)
+  module _ (entries : List (Option (Entry T O))) (e : ℕ) (x : Option (Entry T O))
+      (there : slice_get entries e ≡ Some x) where
+    pub filled-unmet : is_some x ≡ true → AtEntry (map (option_map value_of) entries) e (IntoEmpty row) not_met
+        (map (option_map value_of) entries)
     filled-unmet some = stays-row (option_map value_of) (IntoEmpty row) entries e x not_met there (some-unmet x some)
 
-    pub empty-stays : (reply : Answer T) → is_some x ≡ false → row reply None → AtEntry (map (option_map value_of) entries) e (IntoEmpty row) reply (map (option_map value_of) entries)
-    empty-stays reply none h = stays-row (option_map value_of) (IntoEmpty row) entries e x reply there (none-stays x reply none h)
+    pub empty-stays : (reply : Answer T) → is_some x ≡ false → row reply None
+        → AtEntry (map (option_map value_of) entries) e (IntoEmpty row) reply (map (option_map value_of) entries)
+    empty-stays reply none h = stays-row (option_map value_of) (IntoEmpty row) entries e x reply there
+        (none-stays x reply none h)
 
-    pub empty-filled : (y : Option (Entry T O)) (reply : Answer T) → is_some x ≡ false → row reply (option_map value_of y) → AtEntry (map (option_map value_of) entries) e (IntoEmpty row) reply (map (option_map value_of) (slice_set entries e y))
-    empty-filled y reply none h = at-row (option_map value_of) (IntoEmpty row) entries (slice_set entries e y) e x y reply there refl (none-puts x y reply none h)
+    pub empty-filled : (y : Option (Entry T O)) (reply : Answer T) → is_some x ≡ false
+        → row reply (option_map value_of y) → AtEntry (map (option_map value_of) entries) e (IntoEmpty row) reply
+        (map (option_map value_of) (slice_set entries e y))
+    empty-filled y reply none h = at-row (option_map value_of) (IntoEmpty row) entries (slice_set entries e y) e x y reply
+        there refl (none-puts x y reply none h)
 
 -- what raw parts make in an entry, whether they are given or lent
-pub placed : {T O : Type 0} (c : Types T) (entries : List (Option (Entry T O))) (e : ℕ) (s : Shape) (source : Source T) (x y : Option (Entry T O)) (reply : Answer T) (old new : Cost)
-    → slice_get entries e ≡ Some x → IntoEmpty (Makes c s source) (option_map value_of x) reply (option_map value_of y) → StepCosts (make 0 s source) reply old new
-    → AtEntry (map (option_map value_of) entries) e (IntoEmpty (Makes c s source)) reply (map (option_map value_of) (slice_set entries e y)) × StepCosts (make e s source) reply old new
-placed c entries e s source x y reply old new there row exact =
-    (at-row (option_map value_of) (IntoEmpty (Makes c s source)) entries (slice_set entries e y) e x y reply there refl row, costs-anywhere 0 e s source reply old new exact)
+pub placed : {T O : Type 0} (c : Types T) (entries : List (Option (Entry T O))) (e : ℕ) (s : Shape)
+    (source : Source T) (x y : Option (Entry T O)) (reply : Answer T) (old new : Cost)
+    → slice_get entries e ≡ Some x → IntoEmpty (Makes c s source) (option_map value_of x) reply (option_map value_of y)
+    → StepCosts (make 0 s source) reply old new
+    → AtEntry (map (option_map value_of) entries) e (IntoEmpty (Makes c s source)) reply
+    (map (option_map value_of) (slice_set entries e y)) × StepCosts (make e s source) reply old new
+placed c entries e s source x y reply old new there row exact = (
+  at-row (option_map value_of) (IntoEmpty (Makes c s source)) entries (slice_set entries e y) e x y reply there refl
+      row,
+  costs-anywhere 0 e s source reply old new exact,
+)

@@ -31,7 +31,8 @@ made_entry (Err e) = None
 abbrev pub MadeBy : {T O : Type 0} → Result (Option (Entry T O)) Error → Row T → Type 0
 MadeBy result row = row (made_answer result) (made_entry result)
 
--- the same of a call whose condition is known to hold, and of an array or a builder of one kind, which is erase_type as a value
+-- the same of a call whose condition is known to hold, and of an array or a builder of one kind, which is erase_type as a
+-- value
 module _ {T A : Type 0} where
   abbrev pub built_answer : Result A Error → Answer T
   built_answer (Ok made) = done
@@ -58,7 +59,8 @@ RejectedBits bits e = UnlessMemory e ((IfSome bits BitsFit → ⊥) × (refusal 
 abbrev pub RejectedParts : Option Packed → List ℤ → Error → Type 0
 RejectedParts mask numbers e =
     UnlessMemory e
-    (MatchOption (first_fault numbers) ((IfSome mask BitsFit → ⊥) × (refusal e ≡ bits_past_bytes)) (λ fault. refusal e ≡ out_of_spec fault))
+    (MatchOption (first_fault numbers) ((IfSome mask BitsFit → ⊥) × (refusal e ≡ bits_past_bytes))
+    (λ fault. refusal e ≡ out_of_spec fault))
 
 -- how the values of a kind lie in memory, and how it refuses another type, are what the model says of its sort
 abbrev pub IsKindOf : {T : Type 0} → Types T → ValueKind → Bool → PhysicalType → Refusal → Type 0

@@ -5,7 +5,7 @@ use Rattle.std.specs.Prelude.{◌==◌, option_and_then, option_map}
 use Rattle.std.proofs.lemmas.Bool.{eqb-true}
 use Rattle.std.proofs.lemmas.List.{take_all}
 use Rattle.arrow_syntax.specs.Readers.{first}
-use Rattle.arrow_syntax.specs.Words.{number_of, var_binary, with_digit, words_of}
+use Rattle.arrow_syntax.specs.Words.{number_of, pieces, with_digit, words_of}
 use Rattle.arrow_syntax.proofs.NumberLemmas.{number_after, number_of_is}
 use Rattle.arrow_syntax.proofs.Pieces.{words_first}
 
@@ -16,8 +16,8 @@ no_space d n e = by_test (d == 32) refl
     by_test false t = refl
     by_test true t = absurd (cc (rw (eqb-true d 32 t) at e))
 
-digit_piece : (d : ℕ) (rest : List ℕ) → (d == 32) ≡ false → var_binary 32 (d ∷ 32 ∷ rest) ≡ (d ∷ []) ∷ var_binary 32 rest
-unfolding var_binary
+digit_piece : (d : ℕ) (rest : List ℕ) → (d == 32) ≡ false → pieces 32 (d ∷ 32 ∷ rest) ≡ (d ∷ []) ∷ pieces 32 rest
+unfolding pieces
 digit_piece d rest h = rw h refl
 
 pub digit_first : (d n : ℕ) (rest : List ℕ) → with_digit 0 d ≡ Some n → first number_of (words_of (d ∷ 32 ∷ rest)) ≡ Some (n, words_of rest)

@@ -3,7 +3,7 @@ ghost use Rattle.std.specs.Prelude.{◌≡◌, ◌==◌, ◌∷◌, [], ◌<◌,
 ghost use Rattle.std.specs.List.{list_all};
 ghost use Rattle.arrow_syntax.specs.Lines.{is_of_lines};
 ghost use Rattle.arrow_syntax.specs.Words.{is_comment, is_passed_over, is_printable, line_feed, lines_of};
-ghost use Rattle.arrow_syntax.specs.Words.{var_binary, space};
+ghost use Rattle.arrow_syntax.specs.Words.{pieces, space};
 
 use memchr::memchr;
 
@@ -16,8 +16,8 @@ fn line_end(text: &[u8]) -> Option<usize>
 
 /// Splits a text at its first line feed. Returns the first line, and what follows the line feed if there is one.
 pub fn split_line(text: &[u8]) -> (&[u8], Option<&[u8]>)
-    ensures var_binary { MatchOption result.1 (var_binary line_feed text.now ≡ result.0.now ∷ [])
-        (λ after. var_binary line_feed text.now ≡ result.0.now ∷ var_binary line_feed after.now) }
+    ensures pieces { MatchOption result.1 (pieces line_feed text.now ≡ result.0.now ∷ [])
+        (λ after. pieces line_feed text.now ≡ result.0.now ∷ pieces line_feed after.now) }
     ensures shorter { IfSome result.1 (λ after. length after.now < length text.now) }
 {
     match line_end(text) {

@@ -18,7 +18,8 @@ returns-in_err-push_items g c =
     let why = c.in_err-push_items.ensures.err in
     rw (p.1, p.2, why.1) (
     items-refused known s.value_kind s.group (map stored_item c.args.items.now) (value_of c.in_ok-made.made) why.0
-    (Some (value_of c.push_items.new.held)) (c.in_ok-made.ensures.ok ∙ ap (empty_value known) c.builder_kind.ensures) (rw (why.1) at why.2)
+    (Some (value_of c.push_items.new.held)) (c.in_ok-made.ensures.ok ∙ ap (empty_value known) c.builder_kind.ensures)
+    (rw (why.1) at why.2)
     )
 
 pub returns-then-is_array : goal.returns-then-is_array
@@ -30,7 +31,8 @@ returns-then-is_array g c =
     (c.in_ok-made.ensures.ok ∙ ap (empty_value known) c.builder_kind.ensures) c.in_ok-push_items.ensures.ok in
     let row = Filled known (empty_value known s) (map Some (map stored_item c.args.items.now)) (λ v. v) in
     frozen-built row w c.frozen.result c.frozen.ensures.ok c.frozen.ensures.err
-    (subst (λ b. row done (Some (if b then frozen_value w else w))) (sym c.is_array.ensures ∙ c.if-is_array.true) done-so) refl
+    (subst (λ b. row done (Some (if b then frozen_value w else w))) (sym c.is_array.ensures ∙ c.if-is_array.true)
+    done-so) refl
 
 pub returns-else-is_array : goal.returns-else-is_array
 returns-else-is_array g c =
@@ -40,4 +42,5 @@ returns-else-is_array g c =
     let done-so = items-done known s.value_kind s.group (map stored_item c.args.items.now) (value_of c.in_ok-made.made) w
     (c.in_ok-made.ensures.ok ∙ ap (empty_value known) c.builder_kind.ensures) c.in_ok-push_items.ensures.ok in
     let row = Filled known (empty_value known s) (map Some (map stored_item c.args.items.now)) (λ v. v) in
-    subst (λ b. row done (Some (if b then frozen_value w else w))) (sym c.is_array.ensures ∙ c.if-is_array.false) done-so
+    subst (λ b. row done (Some (if b then frozen_value w else w))) (sym c.is_array.ensures ∙ c.if-is_array.false)
+    done-so

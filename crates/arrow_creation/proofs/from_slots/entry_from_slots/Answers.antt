@@ -28,9 +28,11 @@ returns-then-is_array g c =
     let w = value_of c.push_slots.new.held in
     let done-so = slots-done known s.value_kind s.group (map stored_slot c.args.slots.now) (value_of c.in_ok-made.made) w
     c.in_ok-made.ensures.ok c.in_ok-push_slots.ensures.ok in
-    let row = Filled known (slots_start known s) (map stored_slot c.args.slots.now) (λ v. if is_frozen s then frozen_value v else v) in
+    let row = Filled known (slots_start known s) (map stored_slot c.args.slots.now)
+    (λ v. if is_frozen s then frozen_value v else v) in
     frozen-built row w c.frozen.result c.frozen.ensures.ok c.frozen.ensures.err
-    (subst (λ b. row done (Some (if b then frozen_value w else w))) (sym c.is_array.ensures ∙ c.if-is_array.true) done-so) refl
+    (subst (λ b. row done (Some (if b then frozen_value w else w))) (sym c.is_array.ensures ∙ c.if-is_array.true)
+    done-so) refl
 
 pub returns-else-is_array : goal.returns-else-is_array
 returns-else-is_array g c =
@@ -39,5 +41,7 @@ returns-else-is_array g c =
     let w = value_of c.push_slots.new.held in
     let done-so = slots-done known s.value_kind s.group (map stored_slot c.args.slots.now) (value_of c.in_ok-made.made) w
     c.in_ok-made.ensures.ok c.in_ok-push_slots.ensures.ok in
-    let row = Filled known (slots_start known s) (map stored_slot c.args.slots.now) (λ v. if is_frozen s then frozen_value v else v) in
-    subst (λ b. row done (Some (if b then frozen_value w else w))) (sym c.is_array.ensures ∙ c.if-is_array.false) done-so
+    let row = Filled known (slots_start known s) (map stored_slot c.args.slots.now)
+    (λ v. if is_frozen s then frozen_value v else v) in
+    subst (λ b. row done (Some (if b then frozen_value w else w))) (sym c.is_array.ensures ∙ c.if-is_array.false)
+    done-so

@@ -1,7 +1,7 @@
-use Rattle.std.proofs.Common.{◌≡◌, ◌<◌, ap, false, is_some, length, option_map, refl, rules, slice_get, subst, sym, Some, arith, ◌∙◌}
+use Rattle.std.proofs.Common.{◌<◌, length, rules, Some, arith}
 use Rattle.std.proofs.lemmas.Result.{err_from_is_err_and}
 use Rattle.arrow_types.specs.Types.{refusal}
-use Rattle.arrow_entry.specs.Entry.{state_of, value_of}
+use Rattle.arrow_entry.specs.Entry.{state_of}
 use Rattle.arrow_model.specs.Answer.{done, not_met, refused}
 use Rattle.arrow_entry.proofs.CallerLemmas.{got}
 use Rattle.arrow_creation.proofs.Steps.{empty-filled, empty-stays, filled-unmet}
@@ -38,8 +38,6 @@ returns-in-Some g c =
     let entries = c.args.entries.now.items in
     let within : c.args.e < length entries = omega arith in
     let row = g.R.MakesEntry.makes c.args.command (state_of entries) in
-    rw c.replace.ensures (
     empty-filled row entries c.args.e c.index.result.now
     (got entries c.args.e c.index.result.now c.index.result.now within c.index.ensures)
     (Some c.in-Some.made) done (search rules) (rw (c.in-Some.is) at c.in_ok-made.ensures)
-    )

@@ -15,12 +15,14 @@ returns-clause-step g c =
     let entry = c.index_mut-entry.result.now in
     let within : c.args.e < length entries = omega arith in
     placed (types g.T.NativeType.zero g.T.NativeType.PRIMITIVE g.O.Offset.most g.O.Offset.IS_LARGE) entries c.args.e
-    (shape given.kind) (source_of g.O.Offset.number given) entry c.put_lent_parts.new.entry (outcome c.put_lent_parts.result)
+    (shape given.kind) (source_of g.O.Offset.number given) entry c.put_lent_parts.new.entry
+    (outcome c.put_lent_parts.result)
     c.args.cost.now c.put_lent_parts.new.cost (got entries c.args.e entry entry within c.index_mut-entry.ensures.value)
     c.put_lent_parts.ensures.row c.put_lent_parts.ensures.exact
 
 pub returns-clause-costs : goal.returns-clause-costs
 returns-clause-costs g c =
     let given = c.args.given.now in
-    most-anywhere 0 c.args.e (shape given.kind) (source_of g.O.Offset.number given) c.args.cost.now c.put_lent_parts.new.cost
+    most-anywhere 0 c.args.e (shape given.kind) (source_of g.O.Offset.number given) c.args.cost.now
+    c.put_lent_parts.new.cost
     c.put_lent_parts.ensures.most

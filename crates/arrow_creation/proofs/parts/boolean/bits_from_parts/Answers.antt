@@ -8,5 +8,6 @@ returns-in_err-array-in-Boolean g c =
 
 pub returns-in_err-builder-in-MutableBoolean : goal.returns-in_err-builder-in-MutableBoolean
 returns-in_err-builder-in-MutableBoolean g c =
-    let p = err_from_is_err_and c.from_residual-in_err-builder-in-MutableBoolean.result c.from_residual-in_err-builder-in-MutableBoolean.ensures.1 in
+    let p = err_from_is_err_and c.from_residual-in_err-builder-in-MutableBoolean.result
+    c.from_residual-in_err-builder-in-MutableBoolean.ensures.1 in
     rw (p.1, p.2, c.in-MutableBoolean.is) c.in_err-builder-in-MutableBoolean.ensures

@@ -17,7 +17,8 @@ returns-clause-row g c =
     let is = c.in_ok-offsets.ensures in
     let tested = c.try_new_counted.ensures in
     let says = of-kind all text false (g.K.ByteKind.layout g.O.Offset.IS_LARGE) g.K.ByteKind.wrong_builder_type
-    (λ lies wrong. builder_tests text lies wrong t made.offsets c.args.bytes.items made.mask) (byte_column t made.offsets c.args.bytes.items made.mask)
+    (λ lies wrong. builder_tests text lies wrong t made.offsets c.args.bytes.items made.mask)
+    (byte_column t made.offsets c.args.bytes.items made.mask)
     c.try_new_counted.result c.requires (record { ok = tested.ok; err = tested.err }) in
     pieces-made all with_nulls text t (option_map packed_bits c.args.mask) made.mask
     (map g.O.Offset.number c.args.offsets.items) c.args.bytes.items made.offsets c.args.bytes.items
@@ -32,7 +33,8 @@ returns-clause-exact g c =
     let is = c.in_ok-offsets.ensures in
     let tested = c.try_new_counted.ensures in
     let says = of-kind all text false (g.K.ByteKind.layout g.O.Offset.IS_LARGE) g.K.ByteKind.wrong_builder_type
-    (λ lies wrong. builder_tests text lies wrong t made.offsets c.args.bytes.items made.mask) (byte_column t made.offsets c.args.bytes.items made.mask)
+    (λ lies wrong. builder_tests text lies wrong t made.offsets c.args.bytes.items made.mask)
+    (byte_column t made.offsets c.args.bytes.items made.mask)
     c.try_new_counted.result c.requires (record { ok = tested.ok; err = tested.err }) in
     builder-cost all with_nulls text t (option_map packed_bits c.args.mask) made.mask
     (map g.O.Offset.number c.args.offsets.items) c.args.bytes.items made.offsets c.args.bytes.items

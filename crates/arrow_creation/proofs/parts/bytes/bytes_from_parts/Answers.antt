@@ -8,7 +8,8 @@ returns-in_err-array-in-Binary-clause-row g c =
 
 pub returns-in_err-array-in-Utf8-clause-row : goal.returns-in_err-array-in-Utf8-clause-row
 returns-in_err-array-in-Utf8-clause-row g c =
-    let p = err_from_is_err_and c.from_residual-in_err-array-in-Utf8.result c.from_residual-in_err-array-in-Utf8.ensures.1 in
+    let p = err_from_is_err_and c.from_residual-in_err-array-in-Utf8.result
+    c.from_residual-in_err-array-in-Utf8.ensures.1 in
     rw (p.1, p.2, c.in-Utf8.is) c.in_err-array-in-Utf8.ensures.row
 
 pub returns-in_ok-array-in-Utf8-clause-row : goal.returns-in_ok-array-in-Utf8-clause-row
@@ -16,21 +17,26 @@ returns-in_ok-array-in-Utf8-clause-row g c = rw (c.in-Utf8.is) c.in_ok-array-in-
 
 pub returns-in_err-builder-in-MutableBinary-clause-row : goal.returns-in_err-builder-in-MutableBinary-clause-row
 returns-in_err-builder-in-MutableBinary-clause-row g c =
-    let p = err_from_is_err_and c.from_residual-in_err-builder-in-MutableBinary.result c.from_residual-in_err-builder-in-MutableBinary.ensures.1 in
+    let p = err_from_is_err_and c.from_residual-in_err-builder-in-MutableBinary.result
+    c.from_residual-in_err-builder-in-MutableBinary.ensures.1 in
     rw (p.1, p.2, c.in-MutableBinary.is) c.in_err-builder-in-MutableBinary.ensures.row
 
 pub returns-in_err-builder-in-MutableUtf8-clause-row : goal.returns-in_err-builder-in-MutableUtf8-clause-row
 returns-in_err-builder-in-MutableUtf8-clause-row g c =
-    let p = err_from_is_err_and c.from_residual-in_err-builder-in-MutableUtf8.result c.from_residual-in_err-builder-in-MutableUtf8.ensures.1 in
+    let p = err_from_is_err_and c.from_residual-in_err-builder-in-MutableUtf8.result
+    c.from_residual-in_err-builder-in-MutableUtf8.ensures.1 in
     rw (p.1, p.2, c.in-MutableUtf8.is) c.in_err-builder-in-MutableUtf8.ensures.row
 
 pub returns-in_ok-builder-in-MutableUtf8-clause-row : goal.returns-in_ok-builder-in-MutableUtf8-clause-row
-returns-in_ok-builder-in-MutableUtf8-clause-row g c = rw (c.in-MutableUtf8.is) c.in_ok-builder-in-MutableUtf8.ensures.row
+returns-in_ok-builder-in-MutableUtf8-clause-row g c =
+    rw (c.in-MutableUtf8.is) c.in_ok-builder-in-MutableUtf8.ensures.row
 
 pub returns-in_err-builder-in-None-mask-clause-row : goal.returns-in_err-builder-in-None-mask-clause-row
 returns-in_err-builder-in-None-mask-clause-row g c =
-    let p = err_from_is_err_and c.from_residual-in_err-builder-in-None-mask.result c.from_residual-in_err-builder-in-None-mask.ensures.1 in
+    let p = err_from_is_err_and c.from_residual-in_err-builder-in-None-mask.result
+    c.from_residual-in_err-builder-in-None-mask.ensures.1 in
     rw (p.1, p.2, c.in-Utf8Values.is, c.in-None-mask.is) c.in_err-builder-in-None-mask.ensures.row
 
 pub returns-in_ok-builder-in-None-mask-clause-row : goal.returns-in_ok-builder-in-None-mask-clause-row
-returns-in_ok-builder-in-None-mask-clause-row g c = rw (c.in-Utf8Values.is, c.in-None-mask.is) c.in_ok-builder-in-None-mask.ensures.row
+returns-in_ok-builder-in-None-mask-clause-row g c =
+    rw (c.in-Utf8Values.is, c.in-None-mask.is) c.in_ok-builder-in-None-mask.ensures.row

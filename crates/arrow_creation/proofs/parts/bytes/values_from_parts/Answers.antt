@@ -16,7 +16,8 @@ returns-clause-row g c =
     let is = c.in_ok-offsets.ensures in
     let tested = c.try_new_counted.ensures in
     let says = of-kind all text false (g.K.ByteKind.layout g.O.Offset.IS_LARGE) g.K.ByteKind.wrong_builder_type
-    (λ lies wrong. values_builder_tests text lies wrong t made.offsets c.args.bytes.items) (byte_column t made.offsets c.args.bytes.items None)
+    (λ lies wrong. values_builder_tests text lies wrong t made.offsets c.args.bytes.items)
+    (byte_column t made.offsets c.args.bytes.items None)
     c.try_new_counted.result c.requires (record { ok = tested.ok; err = tested.err }) in
     pieces-made all values_alone text t None None
     (map g.O.Offset.number c.args.offsets.items) c.args.bytes.items made.offsets c.args.bytes.items
@@ -31,7 +32,8 @@ returns-clause-exact g c =
     let is = c.in_ok-offsets.ensures in
     let tested = c.try_new_counted.ensures in
     let says = of-kind all text false (g.K.ByteKind.layout g.O.Offset.IS_LARGE) g.K.ByteKind.wrong_builder_type
-    (λ lies wrong. values_builder_tests text lies wrong t made.offsets c.args.bytes.items) (byte_column t made.offsets c.args.bytes.items None)
+    (λ lies wrong. values_builder_tests text lies wrong t made.offsets c.args.bytes.items)
+    (byte_column t made.offsets c.args.bytes.items None)
     c.try_new_counted.result c.requires (record { ok = tested.ok; err = tested.err }) in
     builder-cost all values_alone text t None None
     (map g.O.Offset.number c.args.offsets.items) c.args.bytes.items made.offsets c.args.bytes.items

@@ -13,5 +13,6 @@ returns-in_default-kind-clause-not g c =
     unmet-pieces (types g.T.NativeType.zero g.T.NativeType.PRIMITIVE g.O.Offset.most g.O.Offset.IS_LARGE) given.kind
     (logical_type given.data_type) (option_map packed_bits given.mask)
     (map g.O.Offset.number c.in-Pieces.field-0.items) c.in-Pieces.field-1.items
-    other.not-Binary other.not-Utf8 other.not-MutableBinary other.not-MutableUtf8 other.not-BinaryValues other.not-Utf8Values
+    other.not-Binary other.not-Utf8 other.not-MutableBinary other.not-MutableUtf8 other.not-BinaryValues
+    other.not-Utf8Values
     )

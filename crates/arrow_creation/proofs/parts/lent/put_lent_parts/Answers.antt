@@ -14,8 +14,10 @@ pub returns-clause-row : goal.returns-clause-row
 returns-clause-row g c =
     let all = types g.T.NativeType.zero g.T.NativeType.PRIMITIVE g.O.Offset.most g.O.Offset.IS_LARGE in
     let copied = c.in_ok-copy.ensures in
-    subst₂ (λ (kind : Kind) (source : Source _). IntoEmpty (Makes all (shape kind) source) (option_map value_of c.args.entry.now)
-    (outcome c.put_parts.result) (option_map value_of c.put_parts.new.entry)) copied.kind copied.source c.put_parts.ensures.row
+    subst₂ (λ (kind : Kind) (source : Source _). IntoEmpty (Makes all (shape kind) source)
+    (option_map value_of c.args.entry.now)
+    (outcome c.put_parts.result) (option_map value_of c.put_parts.new.entry)) copied.kind copied.source
+    c.put_parts.ensures.row
 
 pub returns-clause-exact : goal.returns-clause-exact
 returns-clause-exact g c =

@@ -12,4 +12,5 @@ returns g c =
     values-made (types g.T.NativeType.zero g.T.NativeType.PRIMITIVE g.O.Offset.most g.O.Offset.IS_LARGE)
     frozen (logical_type c.args.data_type) (option_map packed_bits c.args.mask)
     c.in_ok-mask.mask c.in_ok-mask.ensures.fit c.in_ok-mask.ensures.mask
-    c.args.values.items c.in_ok-values.values c.try_new.result c.in_ok-values.ensures.ok (record { ok = tested.ok; err = tested.err })
+    c.args.values.items c.in_ok-values.values c.try_new.result c.in_ok-values.ensures.ok
+    (record { ok = tested.ok; err = tested.err })

@@ -9,4 +9,5 @@ returns-clause-err c =
     let held = c.args.bits.bytes in
     let same : vec_len held ≡ length held.items = search rules in
     packed-refused (length held.items) c.args.bits.length c.try_new.result
-    (subst (λ (bytes : ℕ). IfErr c.try_new.result (λ e. refusal e ≡ packed_refusal bytes c.args.bits.length)) same c.try_new.ensures.err)
+    (subst (λ (bytes : ℕ). IfErr c.try_new.result (λ e. refusal e ≡ packed_refusal bytes c.args.bits.length)) same
+    c.try_new.ensures.err)
