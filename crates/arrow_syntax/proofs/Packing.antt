@@ -28,8 +28,8 @@ byte_below_128 bits h = byte_below 7 bits h
 rest_is : (bits : List Bool) (place : ℕ) → take (length bits - place) (drop place bits) ≡ drop place bits
 rest_is bits place = take_all (length bits - place) (drop place bits) (omega (arith, length-drop place bits))
 
-pub eight_of : (bits rest bytes_item : List Bool) (place n : ℕ) → rest ≡ take (length bits - place) (drop place bits) → n ≡ min (length rest) 8 → bytes_item ≡ take n rest → bytes_item ≡ take 8 (drop place bits)
-eight_of bits rest bytes_item place n e f g =
+pub eight_of : (bits rest piece : List Bool) (place n : ℕ) → rest ≡ take (length bits - place) (drop place bits) → n ≡ min (length rest) 8 → piece ≡ take n rest → piece ≡ take 8 (drop place bits)
+eight_of bits rest piece place n e f g =
     let m : n ≡ min 8 (length rest) = omega (arith, f) in
     g ∙ ap (λ k. take k rest) m ∙ take_min 8 rest ∙ ap (take 8) (e ∙ rest_is bits place)
 

@@ -17,7 +17,7 @@ module _ (p : ℕ → Bool) where
   whole-cons x xs true h rest = absurd (omega arith)
   whole-cons x xs false h rest = ap (onto_first x) (rest (omega arith))
 
-  -- a text in which nothing passes is its one bytes_item
+  -- a text in which nothing passes is its one piece
   whole : (xs : List ℕ) → length xs ≤ position_or_len p xs → slice_split p xs ≡ xs ∷ []
   whole [] h = refl
   whole (x ∷ xs) h = whole-cons x xs (p x) h (whole xs)
@@ -72,7 +72,7 @@ words_end : (line word : List ℕ) → pieces 32 line ≡ word ∷ [] → length
 unfolding words_of
 words_end line word e empty = rw (e, empty) refl
 
--- the pieces of a line, where what follows its first bytes_item is known
+-- the pieces of a line, where what follows its first piece is known
 abbrev pub IsCut : List ℕ → List ℕ → Option (Bor (List ℕ)) → Type 0
 IsCut line word after = MatchOption after (pieces 32 line ≡ word ∷ []) (λ rest. pieces 32 line ≡ word ∷ pieces 32 rest.now)
 

@@ -2,7 +2,7 @@
 ghost use Rattle.std.specs.Prelude.{◌≡◌, ℕ, ℤ, true, false, List, Option, Some, None, IfOk, is_some};
 ghost use Rattle.std.specs.Prelude.{option_map, string_bytes, if◌then◌else◌};
 ghost use Rattle.std.specs.Str.{is_utf8};
-ghost use Rattle.arrow_model.specs.Item.{Stored, value, bytes_item, Change, fill, turn, stored_item, stored_slot, change_of};
+ghost use Rattle.arrow_model.specs.Item.{Stored, value, bytes_item, ListChange, fill, turn, stored_item, stored_slot, change_of};
 ghost use Rattle.arrow_syntax.specs.Fields.{bytes_in, bytes_of, change_by_name, change_in, item_by_letter};
 ghost use Rattle.arrow_syntax.specs.Fields.{item_of, slot_of, text_in};
 ghost use Rattle.arrow_syntax.specs.Readers.{only, reads, no_words};
@@ -72,13 +72,13 @@ impl Word for Vec<u8> {
 }
 
 /// Returns the native item that a number writes.
-fn value_item(digits: &[u8]) -> Option<Item<i64>>
+fn read_value(digits: &[u8]) -> Option<Item<i64>>
     ensures { option_map stored_item result ≡ option_map value (integer_of digits.now) }
 {
     Some(Item::Value(integer_of(digits)?))
 }
 
-fn bytes_item(alloc: Global, digits: &[u8]) -> Result<Option<Item<i64>>, AllocError>
+fn read_bytes(alloc: Global, digits: &[u8]) -> Result<Option<Item<i64>>, AllocError>
     ensures { IfOk result (λ read. option_map stored_item read ≡ option_map (bytes_item false) (bytes_in digits.now)) }
 {
     match bytes_in(alloc, digits)? {
@@ -87,7 +87,7 @@ fn bytes_item(alloc: Global, digits: &[u8]) -> Result<Option<Item<i64>>, AllocEr
     }
 }
 
-fn text_item(alloc: Global, digits: &[u8]) -> Result<Option<Item<i64>>, AllocError>
+fn read_text(alloc: Global, digits: &[u8]) -> Result<Option<Item<i64>>, AllocError>
     ensures { IfOk result (λ read. option_map stored_item read ≡ option_map (bytes_item true) (text_in digits.now)) }
 {
     match text_in(alloc, digits)? {
@@ -104,9 +104,9 @@ fn item_by_letter(alloc: Global, word: &[u8]) -> Result<Option<Item<i64>>, Alloc
         return Ok(None);
     };
     match *first {
-        b'v' => Ok(value_item(rest)),
-        b'x' => bytes_item(alloc, rest),
-        b't' => text_item(alloc, rest),
+        b'v' => Ok(read_value(rest)),
+        b'x' => read_bytes(alloc, rest),
+        b't' => read_text(alloc, rest),
         _ => Ok(None),
     }
 }
@@ -220,7 +220,7 @@ fn is_change(name: &[u8], words: &[u8]) -> bool
 
 // A change by its name: `fill` and an item, or `reverse`.
 impl Words for Change<i64> {
-    ghost Content = { Change (Stored ℤ) };
+    ghost Content = { ListChange (Stored ℤ) };
 
     ghost content = { change_of };
 
