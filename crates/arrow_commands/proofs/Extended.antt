@@ -8,8 +8,10 @@ use Rattle.arrow_model.specs.Request.{extend}
 use Rattle.arrow_model.specs.Step.{Does, Extends}
 use Rattle.arrow_model.specs.Value.{Types, Value}
 
-module _ {T : Type 0} (c : Types T) (old : Option (Value T)) (v : Value T) (xs : List (Option (Stored T))) (is : old ≡ Some v) (nullable : is_nullable v.shape ≡ true) where
-  pub extended : list_all (slot_fits v.shape.value_kind) xs ≡ true → (reply : Answer T) (new : Option (Value T)) → Extends c v xs reply new → Does c old (extend xs) reply new
+module _ {T : Type 0} (c : Types T) (old : Option (Value T)) (v : Value T) (xs : List (Option (Stored T))) (is : old
+    ≡ Some v) (nullable : is_nullable v.shape ≡ true) where
+  pub extended : list_all (slot_fits v.shape.value_kind) xs ≡ true → (reply : Answer T) (new : Option (Value T))
+      → Extends c v xs reply new → Does c old (extend xs) reply new
   extended fit reply new h = rw (is, nullable, fit) h
 
   pub unfit : list_all (slot_fits v.shape.value_kind) xs ≡ false → Does c old (extend xs) not_met (Some v)

@@ -1,5 +1,7 @@
 -- Seeing stored values through what is done to lists of them, and lists that are changed in place.
-use Rattle.std.proofs.Common.{◌≡◌, ◌∙◌, ℕ, zero, suc, ◌+◌, ◌-◌, ◌/◌, ◌<◌, ◌≤◌, Bool, false, List, [], ◌∷◌, ◌++◌, length, map, set, reverse, replicate, get_or, slice_get, Some, refl, sym, ap, subst, inl, inr, arith, get_or-set_same, get_or-set_other, length-set}
+use Rattle.std.proofs.Common.{◌≡◌, ◌∙◌, ℕ, zero, suc, ◌+◌, ◌-◌, ◌/◌, ◌<◌, ◌≤◌, Bool, false, List, [], ◌∷◌, ◌++◌}
+use Rattle.std.proofs.Common.{length, map, set, reverse, replicate, get_or, slice_get, Some, refl, sym, ap, subst}
+use Rattle.std.proofs.Common.{inl, inr, arith, get_or-set_same, get_or-set_other, length-set}
 use Rattle.std.proofs.lemmas.Bool.{cases_lt}
 use Rattle.std.proofs.lemmas.List.{ext_get_or, get_or-reverse, length-map, length-reverse, map-append, reverse-append}
 use Rattle.std.proofs.lemmas.Option.{get_or_from_slice_get}
@@ -30,25 +32,31 @@ turned-none xs = record {
   inside = λ k above below. refl;
 }
 
-pub turned-more : (old new : List Bool) (i j : ℕ) (first last : Bool) → i < length old / 2 → j ≡ length old - 1 - i → TurnedSoFar i old new → slice_get new i ≡ Some first → slice_get new j ≡ Some last → TurnedSoFar (i + 1) old (set (set new i last) j first)
+pub turned-more : (old new : List Bool) (i j : ℕ) (first last : Bool) → i < length old / 2 → j ≡ length old - 1 - i
+    → TurnedSoFar i old new → slice_get new i ≡ Some first → slice_get new j ≡ Some last
+    → TurnedSoFar (i + 1) old (set (set new i last) j first)
 turned-more old new i j first last below is so_far is_first is_last = record {
   count = length-set (set new i last) j first ∙ length-set new i last ∙ so_far.count;
   low = λ k within. elim (cases_lt k i) [
     | inl before ↦ other k (λ e. omega arith) (λ e. omega arith) ∙ so_far.low k before
-    | inr after ↦ subst (λ (p : ℕ). get_or (set (set new i last) j first) p false ≡ get_or old (length old - 1 - p) false) (omega arith) at_low
+    | inr after ↦ subst (λ (p : ℕ). get_or (set (set new i last) j first) p false
+        ≡ get_or old (length old - 1 - p) false) (omega arith) at_low
   ];
   high = λ k within. elim (cases_lt k i) [
     | inl before ↦ other (length old - 1 - k) (λ e. omega arith) (λ e. omega arith) ∙ so_far.high k before
-    | inr after ↦ subst (λ (p : ℕ). get_or (set (set new i last) j first) (length old - 1 - p) false ≡ get_or old p false) (omega arith) at_high
+    | inr after ↦ subst (λ (p : ℕ). get_or (set (set new i last) j first) (length old - 1 - p) false
+        ≡ get_or old p false) (omega arith) at_high
   ];
-  inside = λ k above within. other k (λ e. omega arith) (λ e. omega arith) ∙ so_far.inside k (omega arith) (omega arith);
+  inside = λ k above within. other k (λ e. omega arith) (λ e. omega arith)
+      ∙ so_far.inside k (omega arith) (omega arith);
 }
   where
     half : i + i + 1 < length old
     half = omega arith
 
     other : (k : ℕ) → (k ≡ j → ⊥) → (k ≡ i → ⊥) → get_or (set (set new i last) j first) k false ≡ get_or new k false
-    other k past_j past_i = get_or-set_other (set new i last) j k first false past_j ∙ get_or-set_other new i k last false past_i
+    other k past_j past_i = get_or-set_other (set new i last) j k first false past_j
+        ∙ get_or-set_other new i k last false past_i
 
     at_low : get_or (set (set new i last) j first) i false ≡ get_or old (length old - 1 - i) false
     at_low =
@@ -68,7 +76,8 @@ turned-more old new i j first last below is so_far is_first is_last = record {
 pub turned-all : (old new : List Bool) (i : ℕ) → length old / 2 ≤ i → TurnedSoFar i old new → new ≡ reverse old
 turned-all old new i past so_far =
     ext_get_or false new (reverse old) (so_far.count ∙ sym (length-reverse old))
-    (λ k within. let inside : k < length old = subst (λ n. k < n) so_far.count within in place k inside ∙ sym (get_or-reverse old k false inside))
+    (λ k within. let inside : k < length old = subst (λ n. k < n) so_far.count within in place k inside
+    ∙ sym (get_or-reverse old k false inside))
   where
     place : (k : ℕ) → k < length old → get_or new k false ≡ get_or old (length old - 1 - k) false
     place k within = elim (cases_lt k i) [
@@ -90,14 +99,21 @@ map-turned h (x ∷ xs) =
     ∙ sym (reverse-append (h x ∷ []) (map h xs))
 
 module _ {A S T : Type 0} (around : A → Around) (stored : S → Stored T) (c : ColumnWith A S) where
-  pub fill-seen : (x : S) → erase_type around stored (with_stored c (replicate (length (stored_values c)) x)) ≡ with_stored (erase_type around stored c) (replicate (length (stored_values (erase_type around stored c))) (stored x))
+  pub fill-seen : (x : S)
+      → erase_type around stored (with_stored c (replicate (length (stored_values c)) x))
+      ≡ with_stored (erase_type around stored c)
+      (replicate (length (stored_values (erase_type around stored c))) (stored x))
   fill-seen x =
       with-stored-seen around stored c (replicate (length (stored_values c)) x)
-      ∙ ap (with_stored (erase_type around stored c)) (map-replicate stored (length (stored_values c)) x ∙ ap (λ n. replicate n (stored x)) (sym (ap length (stored-seen around stored c) ∙ length-map (stored_values c) stored)))
+      ∙ ap (with_stored (erase_type around stored c)) (map-replicate stored (length (stored_values c)) x
+      ∙ ap (λ n. replicate n (stored x)) (sym (ap length (stored-seen around stored c)
+      ∙ length-map (stored_values c) stored)))
 
-  pub turn-seen : erase_type around stored (with_stored c (reverse (stored_values c))) ≡ with_stored (erase_type around stored c) (reverse (stored_values (erase_type around stored c)))
+  pub turn-seen : erase_type around stored (with_stored c (reverse (stored_values c)))
+      ≡ with_stored (erase_type around stored c) (reverse (stored_values (erase_type around stored c)))
   turn-seen =
       with-stored-seen around stored c (reverse (stored_values c))
-      ∙ ap (with_stored (erase_type around stored c)) (map-turned stored (stored_values c) ∙ ap reverse (sym (stored-seen around stored c)))
+      ∙ ap (with_stored (erase_type around stored c)) (map-turned stored (stored_values c)
+      ∙ ap reverse (sym (stored-seen around stored c)))
 
 pub ruleset seen_turns = (fill-seen, turn-seen)

@@ -21,7 +21,8 @@ use std::alloc::Global;
 
 /// Returns whether the command is for the kind of an entry: arrays, and builders with nulls of bytes or text.
 fn has_mask_to_apply<T: NativeType, O: Offset>(held: &Entry<T, O>) -> bool
-    ensures { result ≡ (let s : Shape = (value_of held.now).shape in is_frozen s || (is_nullable s && is_var_binary s)) }
+    ensures { result ≡ (let s : Shape = (value_of held.now).shape in is_frozen s || (is_nullable s
+        && is_var_binary s)) }
 {
     matches!(
         held,
@@ -111,7 +112,8 @@ fn change_natives<T: NativeType>(
     requires fits { length marks ≡ length (native_value frozen held.old).column.rows }
     ensures ok { OnOk result (native_value frozen held.new
         ≡ with_column (native_value frozen held.old) (with_mask (native_value frozen held.old).column (Some marks))) }
-    ensures err { IfErr result (λ e. (e ≡ Error.OutOfMemory) × (native_value frozen held.new ≡ native_value frozen held.old)) }
+    ensures err { IfErr result (λ e. (e ≡ Error.OutOfMemory)
+        × (native_value frozen held.new ≡ native_value frozen held.old)) }
 {
     let mask = marks.freeze()?;
     held.apply_validity(
@@ -131,8 +133,10 @@ fn change_bits<T: NativeType>(held: &mut BooleanArray, marks: MutableBitmap) -> 
     requires held { (boolean_value {T = T} frozen held.old).column.held ≡ true }
     requires fits { length marks ≡ length (boolean_value {T = T} frozen held.old).column.rows }
     ensures ok { OnOk result (boolean_value {T = T} frozen held.new
-        ≡ with_column (boolean_value {T = T} frozen held.old) (with_mask (boolean_value {T = T} frozen held.old).column (Some marks))) }
-    ensures err { IfErr result (λ e. (e ≡ Error.OutOfMemory) × (boolean_value {T = T} frozen held.new ≡ boolean_value {T = T} frozen held.old)) }
+        ≡ with_column (boolean_value {T = T} frozen held.old)
+        (with_mask (boolean_value {T = T} frozen held.old).column (Some marks))) }
+    ensures err { IfErr result (λ e. (e ≡ Error.OutOfMemory)
+        × (boolean_value {T = T} frozen held.new ≡ boolean_value {T = T} frozen held.old)) }
 {
     let mask = marks.freeze()?;
     held.apply_validity(
@@ -155,8 +159,10 @@ fn change_items<T: NativeType, K: ByteKind, O: Offset>(
     requires held { (bytes_value {T = T} frozen K.is_text held.old).column.held ≡ true }
     requires fits { length marks ≡ length (bytes_value {T = T} frozen K.is_text held.old).column.rows }
     ensures ok { OnOk result (bytes_value {T = T} frozen K.is_text held.new
-        ≡ with_column (bytes_value {T = T} frozen K.is_text held.old) (with_mask (bytes_value {T = T} frozen K.is_text held.old).column (Some marks))) }
-    ensures err { IfErr result (λ e. (e ≡ Error.OutOfMemory) × (bytes_value {T = T} frozen K.is_text held.new ≡ bytes_value {T = T} frozen K.is_text held.old)) }
+        ≡ with_column (bytes_value {T = T} frozen K.is_text held.old)
+        (with_mask (bytes_value {T = T} frozen K.is_text held.old).column (Some marks))) }
+    ensures err { IfErr result (λ e. (e ≡ Error.OutOfMemory)
+        × (bytes_value {T = T} frozen K.is_text held.new ≡ bytes_value {T = T} frozen K.is_text held.old)) }
 {
     let mask = marks.freeze()?;
     held.apply_validity(
@@ -179,8 +185,10 @@ fn change_builder<T: NativeType, K: ByteKind, O: Offset>(
     requires held { (bytes_value {T = T} with_nulls K.is_text held.old).column.held ≡ true }
     requires fits { length marks ≡ length (bytes_value {T = T} with_nulls K.is_text held.old).column.rows }
     ensures ok { OnOk result (bytes_value {T = T} with_nulls K.is_text held.new
-        ≡ with_column (bytes_value {T = T} with_nulls K.is_text held.old) (with_mask (bytes_value {T = T} with_nulls K.is_text held.old).column (Some marks))) }
-    ensures err { IfErr result (λ e. (e ≡ Error.OutOfMemory) × (bytes_value {T = T} with_nulls K.is_text held.new ≡ bytes_value {T = T} with_nulls K.is_text held.old)) }
+        ≡ with_column (bytes_value {T = T} with_nulls K.is_text held.old)
+        (with_mask (bytes_value {T = T} with_nulls K.is_text held.old).column (Some marks))) }
+    ensures err { IfErr result (λ e. (e ≡ Error.OutOfMemory)
+        × (bytes_value {T = T} with_nulls K.is_text held.new ≡ bytes_value {T = T} with_nulls K.is_text held.old)) }
 {
     held.apply_validity(
         |_|
@@ -198,7 +206,8 @@ fn change_mask<T: NativeType, O: Offset>(
     held: &mut Entry<T, O>,
     marks: MutableBitmap,
 ) -> Result<(), Error>
-    requires kind { IsTrue (let s : Shape = (value_of held.old).shape in is_frozen s || (is_nullable s && is_var_binary s)) }
+    requires kind { IsTrue
+        (let s : Shape = (value_of held.old).shape in is_frozen s || (is_nullable s && is_var_binary s)) }
     requires held { (value_of held.old).column.held ≡ true }
     requires fits { length marks ≡ length (value_of held.old).column.rows }
     ensures ok { OnOk result (value_of held.new

@@ -62,7 +62,8 @@ fn change_builder<T: NativeType, O: Offset>(
     builder: &mut MutablePrimitiveArray<T>,
     change: &Change<T>,
 ) -> Result<Reply<T>, Error>
-    ensures { Does (types T.zero T.PRIMITIVE O.most O.IS_LARGE) (Some (native_value with_nulls builder.old)) (ask.apply_values (change_of change.now)) (outcome result)
+    ensures { Does (types T.zero T.PRIMITIVE O.most O.IS_LARGE) (Some (native_value with_nulls builder.old))
+        (ask.apply_values (change_of change.now)) (outcome result)
         (Some (native_value with_nulls builder.new)) }
 {
     match change {
@@ -101,7 +102,8 @@ fn change_bits<T: NativeType, O: Offset>(
     array: &mut BooleanArray,
     change: &Change<T>,
 ) -> Result<Reply<T>, Error>
-    ensures { Does (types T.zero T.PRIMITIVE O.most O.IS_LARGE) (Some (boolean_value frozen array.old)) (ask.apply_values (change_of change.now)) (outcome result)
+    ensures { Does (types T.zero T.PRIMITIVE O.most O.IS_LARGE) (Some (boolean_value frozen array.old))
+        (ask.apply_values (change_of change.now)) (outcome result)
         (Some (boolean_value frozen array.new)) }
 {
     match change {
@@ -139,7 +141,8 @@ fn reverse_bits(array: &mut BooleanArray) -> Result<(), Error>
     array.apply_values_mut(|marks| turned_marks(marks))
 }
 
-/// Changes the stored values of a builder of native values, or of an array of truth values: all become equal, or are reversed.
+/// Changes the stored values of a builder of native values, or of an array of truth values: all become equal, or
+/// are reversed.
 #[derive(Drop)]
 pub struct ApplyValues<'a, T>(pub &'a Change<T>);
 

@@ -18,7 +18,8 @@ use std::alloc::Global;
 fn with_nulls<T: NativeType, O: Offset>(
     taken: Option<Entry<T, O>>,
 ) -> (Option<Entry<T, O>>, Reply<T>)
-    ensures { Does (types T.zero T.PRIMITIVE O.most O.IS_LARGE) (option_map value_of taken) ask.nullable (answer_of result.1)
+    ensures { Does (types T.zero T.PRIMITIVE O.most O.IS_LARGE) (option_map value_of taken) ask.nullable
+        (answer_of result.1)
         (option_map value_of result.0) }
 {
     match taken {

@@ -49,7 +49,8 @@ fn set_native<T: NativeType, O: Offset>(
     i: usize,
     slot: &Option<Item<T>>,
 ) -> Result<Reply<T>, Error>
-    ensures { Does (types T.zero T.PRIMITIVE O.most O.IS_LARGE) (Some (native_value with_nulls builder.old)) (ask.set i (stored_slot slot.now)) (outcome result)
+    ensures { Does (types T.zero T.PRIMITIVE O.most O.IS_LARGE) (Some (native_value with_nulls builder.old))
+        (ask.set i (stored_slot slot.now)) (outcome result)
         (Some (native_value with_nulls builder.new)) }
 {
     if i >= builder.len() {
@@ -69,7 +70,8 @@ fn set_bit<T: NativeType, O: Offset>(
     i: usize,
     slot: &Option<Item<T>>,
 ) -> Result<Reply<T>, Error>
-    ensures { Does (types T.zero T.PRIMITIVE O.most O.IS_LARGE) (Some (boolean_value with_nulls builder.old)) (ask.set i (stored_slot slot.now)) (outcome result)
+    ensures { Does (types T.zero T.PRIMITIVE O.most O.IS_LARGE) (Some (boolean_value with_nulls builder.old))
+        (ask.set i (stored_slot slot.now)) (outcome result)
         (Some (boolean_value with_nulls builder.new)) }
 {
     if i >= builder.len() {

@@ -15,9 +15,11 @@ use arrow_types::native_type::NativeType;
 use arrow_types::offset::Offset;
 use std::alloc::Global;
 
-/// Returns whether the mask of an entry can be replaced: those of arrays, and of builders with nulls but those of truth values.
+/// Returns whether the mask of an entry can be replaced: those of arrays, and of builders with nulls but those of
+/// truth values.
 fn takes_mask<T: NativeType, O: Offset>(held: &Entry<T, O>) -> bool
-    ensures { result ≡ (let s : Shape = (value_of held.now).shape in is_frozen s || (is_nullable s && not (is_boolean s))) }
+    ensures { result ≡ (let s : Shape = (value_of held.now).shape in is_frozen s || (is_nullable s
+        && not (is_boolean s))) }
 {
     !matches!(
         held,
@@ -48,9 +50,11 @@ fn replace_mask<T: NativeType, O: Offset>(
     held: &mut Entry<T, O>,
     mask: Option<MutableBitmap>,
 ) -> Result<(), Error>
-    requires kind { IsTrue (let s : Shape = (value_of held.old).shape in is_frozen s || (is_nullable s && not (is_boolean s))) }
+    requires kind { IsTrue
+        (let s : Shape = (value_of held.old).shape in is_frozen s || (is_nullable s && not (is_boolean s))) }
     requires fits { IfSome mask (λ marks. length marks ≡ length (value_of held.old).column.rows) }
-    ensures ok { OnOk result (value_of held.new ≡ with_column (value_of held.old) (with_mask (value_of held.old).column mask)) }
+    ensures ok { OnOk result (value_of held.new
+        ≡ with_column (value_of held.old) (with_mask (value_of held.old).column mask)) }
     ensures err { IfErr result (λ e. (e ≡ Error.OutOfMemory) × (value_of held.new ≡ value_of held.old)) }
 {
     match held {

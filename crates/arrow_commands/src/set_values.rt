@@ -24,7 +24,8 @@ use std::alloc::Global;
 
 /// Returns whether there are `count` items, all of them native values.
 fn are_natives<T>(items: &[Item<T>], count: usize) -> bool
-    ensures { result ≡ (nat_eq (length (map stored_item items.now)) count && list_all (fits native) (map stored_item items.now)) }
+    ensures { result ≡ (nat_eq (length (map stored_item items.now)) count
+        && list_all (fits native) (map stored_item items.now)) }
 {
     if items.len() != count {
         return false;
@@ -41,7 +42,8 @@ fn are_natives<T>(items: &[Item<T>], count: usize) -> bool
 
 /// Returns whether there are `count` items, all of them truth values.
 fn are_bits<T>(items: &[Item<T>], count: usize) -> bool
-    ensures { result ≡ (nat_eq (length (map stored_item items.now)) count && list_all (fits boolean) (map stored_item items.now)) }
+    ensures { result ≡ (nat_eq (length (map stored_item items.now)) count
+        && list_all (fits boolean) (map stored_item items.now)) }
 {
     if items.len() != count {
         return false;
@@ -129,7 +131,8 @@ fn set_array<T: NativeType, O: Offset>(
     array: &mut PrimitiveArray<T>,
     items: &[Item<T>],
 ) -> Result<Reply<T>, Error>
-    ensures { Does (types T.zero T.PRIMITIVE O.most O.IS_LARGE) (Some (native_value frozen array.old)) (ask.set_values (map stored_item items.now)) (outcome result)
+    ensures { Does (types T.zero T.PRIMITIVE O.most O.IS_LARGE) (Some (native_value frozen array.old))
+        (ask.set_values (map stored_item items.now)) (outcome result)
         (Some (native_value frozen array.new)) }
 {
     if !are_natives(items, array.len()) {
@@ -147,7 +150,8 @@ fn set_builder<T: NativeType, O: Offset>(
     builder: &mut MutablePrimitiveArray<T>,
     items: &[Item<T>],
 ) -> Result<Reply<T>, Error>
-    ensures { Does (types T.zero T.PRIMITIVE O.most O.IS_LARGE) (Some (native_value with_nulls builder.old)) (ask.set_values (map stored_item items.now)) (outcome result)
+    ensures { Does (types T.zero T.PRIMITIVE O.most O.IS_LARGE) (Some (native_value with_nulls builder.old))
+        (ask.set_values (map stored_item items.now)) (outcome result)
         (Some (native_value with_nulls builder.new)) }
 {
     if !are_natives(items, builder.len()) {
@@ -165,7 +169,8 @@ fn set_bits<T: NativeType, O: Offset>(
     array: &mut BooleanArray,
     items: &[Item<T>],
 ) -> Result<Reply<T>, Error>
-    ensures { Does (types T.zero T.PRIMITIVE O.most O.IS_LARGE) (Some (boolean_value frozen array.old)) (ask.set_values (map stored_item items.now)) (outcome result)
+    ensures { Does (types T.zero T.PRIMITIVE O.most O.IS_LARGE) (Some (boolean_value frozen array.old))
+        (ask.set_values (map stored_item items.now)) (outcome result)
         (Some (boolean_value frozen array.new)) }
 {
     if !are_bits(items, array.len()) {

@@ -18,7 +18,8 @@ use std::alloc::Global;
 /// Returns what becomes of what was in an entry that is to be a builder, and the answer.
 #[tactic(auto, using(arrow_entry::proofs::CallerLemmas::seen_reads, arrow_entry::proofs::CallerLemmas::seen_thaws))]
 fn thawed<T: NativeType, O: Offset>(taken: Option<Entry<T, O>>) -> (Option<Entry<T, O>>, Reply<T>)
-    ensures { Does (types T.zero T.PRIMITIVE O.most O.IS_LARGE) (option_map value_of taken) ask.thaw (answer_of result.1)
+    ensures { Does (types T.zero T.PRIMITIVE O.most O.IS_LARGE) (option_map value_of taken) ask.thaw
+        (answer_of result.1)
         (option_map value_of result.0) }
 {
     match taken {

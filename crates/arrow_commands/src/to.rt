@@ -18,14 +18,16 @@ use arrow_types::offset::Offset;
 use arrow_types::physical_type::PhysicalType;
 use std::alloc::Global;
 
-/// Returns what becomes of what was in an entry that is to have a type, which is right for native values, and the answer.
+/// Returns what becomes of what was in an entry that is to have a type, which is right for native values, and the
+/// answer.
 #[tactic(auto, using(arrow_entry::proofs::CallerLemmas::seen_changes))]
 fn retyped<T: NativeType, O: Offset>(
     taken: Option<Entry<T, O>>,
     data_type: DataType,
 ) -> (Option<Entry<T, O>>, Reply<T>)
     requires { IsRightType (PhysicalType.Primitive T.PRIMITIVE) (logical_type data_type) }
-    ensures { Does (types T.zero T.PRIMITIVE O.most O.IS_LARGE) (option_map value_of taken) (ask.to (logical_type data_type)) (answer_of result.1)
+    ensures { Does (types T.zero T.PRIMITIVE O.most O.IS_LARGE) (option_map value_of taken)
+        (ask.to (logical_type data_type)) (answer_of result.1)
         (option_map value_of result.0) }
 {
     match taken {

@@ -44,7 +44,8 @@ fn write_array<T: NativeType, O: Offset>(
     i: usize,
     item: &Item<T>,
 ) -> Result<Reply<T>, Error>
-    ensures { Does (types T.zero T.PRIMITIVE O.most O.IS_LARGE) (Some (native_value frozen array.old)) (ask.write i (stored_item item.now)) (outcome result)
+    ensures { Does (types T.zero T.PRIMITIVE O.most O.IS_LARGE) (Some (native_value frozen array.old))
+        (ask.write i (stored_item item.now)) (outcome result)
         (Some (native_value frozen array.new)) }
 {
     if i >= array.len() {
@@ -69,7 +70,8 @@ fn write_builder<T: NativeType, O: Offset>(
     i: usize,
     item: &Item<T>,
 ) -> Result<Reply<T>, Error>
-    ensures { Does (types T.zero T.PRIMITIVE O.most O.IS_LARGE) (Some (native_value with_nulls builder.old)) (ask.write i (stored_item item.now)) (outcome result)
+    ensures { Does (types T.zero T.PRIMITIVE O.most O.IS_LARGE) (Some (native_value with_nulls builder.old))
+        (ask.write i (stored_item item.now)) (outcome result)
         (Some (native_value with_nulls builder.new)) }
 {
     if i >= builder.len() {

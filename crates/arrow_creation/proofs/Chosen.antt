@@ -116,7 +116,8 @@ module _ (T : Type 0) where
   filter-pieces is_text c filter = filter-seen (λ around. around) (bytes_item is_text) nothing_around refl c filter
 
   over-value : (c : Column T) (most : ℕ) (keys : List ℤ)
-      → taking_overflows most (λ key. key) (bytes_column (erase_type {T = T} (λ _. nothing_around) value c)) keys ≡ false
+      → taking_overflows most (λ key. key) (bytes_column (erase_type {T = T} (λ _. nothing_around) value c)) keys
+      ≡ false
   over-value c most keys = over-none value (λ x. refl) c most keys
 
   over-bit : (c : Column Bool) (most : ℕ) (keys : List ℤ)
@@ -170,7 +171,8 @@ module _ {A S T : Type 0} (around : A → Around) (stored : S → Stored T) (not
       )
 
   array-refused : (e : Error) → MatchOption (first_out_of_bounds (λ key. key) column keys) ⊤
-      (λ key. refusal e ≡ key_refusal key) → (first_out_of_bounds (λ key. key) column keys ≡ None → e ≡ refused_growth over)
+      (λ key. refusal e ≡ key_refusal key)
+      → (first_out_of_bounds (λ key. key) column keys ≡ None → e ≡ refused_growth over)
       → Taken most keys (array column) (refused (refusal e)) None
   array-refused e out_of_bounds err =
       refused-so e (first_out_of_bounds (λ key. key) (erase_type around stored column) keys)
@@ -192,20 +194,23 @@ module _ (T : Type 0) (most : ℕ) (keys : List ℤ) where
       → MatchOption (first_out_of_bounds (λ key. key) column keys) ⊤ (λ key. refusal e ≡ key_refusal key)
       → (first_out_of_bounds (λ key. key) column keys ≡ None → e ≡ error.OutOfMemory)
       → Taken most keys (native_value frozen column) (refused (refusal e)) None
-  values-refused column e out_of_bounds err = array-refused (λ _. nothing_around) value tt refl native column most keys false
+  values-refused column e out_of_bounds err = array-refused (λ _. nothing_around) value tt refl native column most
+      keys false
       (over-value T column most keys) e out_of_bounds err
 
   pub bits-taken : (column made : Column Bool) → MatchOption (first_out_of_bounds (λ key. key) column keys) ⊤ (λ key. ⊥)
       → made ≡ taken tt (λ key. key) column keys
       → Taken {T = T} most keys (boolean_value frozen column) done (Some (boolean_value frozen made))
-  bits-taken column made out_of_bounds is-made = array-taken (λ _. nothing_around) bit tt refl boolean column most keys false
+  bits-taken column made out_of_bounds is-made = array-taken (λ _. nothing_around) bit tt refl boolean column most
+      keys false
       (over-bit T column most keys) made out_of_bounds refl is-made
 
   pub bits-refused : (column : Column Bool) (e : Error)
       → MatchOption (first_out_of_bounds (λ key. key) column keys) ⊤ (λ key. refusal e ≡ key_refusal key)
       → (first_out_of_bounds (λ key. key) column keys ≡ None → e ≡ error.OutOfMemory)
       → Taken {T = T} most keys (boolean_value frozen column) (refused (refusal e)) None
-  bits-refused column e out_of_bounds err = array-refused (λ _. nothing_around) bit tt refl boolean column most keys false
+  bits-refused column e out_of_bounds err = array-refused (λ _. nothing_around) bit tt refl boolean column most keys
+      false
       (over-bit T column most keys) e out_of_bounds err
 
   module _ (is_text : Bool) (column : ByteColumn) where
@@ -218,7 +223,8 @@ module _ (T : Type 0) (most : ℕ) (keys : List ℤ) where
         → (taking_overflows most (λ key. key) column keys ≡ false)
         × (made ≡ taken nothing_around (λ key. key) column keys)
         → Taken {T = T} most keys (bytes_value frozen is_text column) done (Some (bytes_value frozen is_text made))
-    pieces-taken made out_of_bounds is = array-taken (λ around. around) (bytes_item is_text) nothing_around refl (var_binary is_text)
+    pieces-taken made out_of_bounds is = array-taken (λ around. around) (bytes_item is_text) nothing_around refl
+        (var_binary is_text)
         column most keys (taking_overflows most (λ key. key) column keys) over-pieces made out_of_bounds is.0 is.1
 
     pub pieces-refused : (e : Error) → MatchOption (first_out_of_bounds (λ key. key) column keys) ⊤
@@ -226,7 +232,8 @@ module _ (T : Type 0) (most : ℕ) (keys : List ℤ) where
         → e ≡ refused_growth (taking_overflows most (λ key. key) column keys))
         → Taken {T = T} most keys (bytes_value frozen is_text column) (refused (refusal e)) None
     pieces-refused e out_of_bounds err = array-refused (λ around. around) (bytes_item is_text) nothing_around refl
-        (var_binary is_text) column most keys (taking_overflows most (λ key. key) column keys) over-pieces e out_of_bounds err
+        (var_binary is_text) column most keys (taking_overflows most (λ key. key) column keys) over-pieces e
+        out_of_bounds err
 
 pub ruleset seen_choices = (filter-value, filter-bit, filter-pieces, bytes-seen)
 

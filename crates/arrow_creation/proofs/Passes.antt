@@ -163,7 +163,8 @@ module _ {T : Type 0} (c : Types T) (group : Group) (text : Bool) (t : LogicalTy
   is-tested = not-memory T (pieces_tests c group text t offsets bytes marks) (byte_column t offsets bytes marks)
       result (pieces-other c group text t offsets bytes marks) says
 
-  pub array-cost : {old new : Cost} → is_frozen (shaped group (var_binary text)) ≡ true → Costs text offsets bytes old new
+  pub array-cost : {old new : Cost} → is_frozen (shaped group (var_binary text)) ≡ true
+      → Costs text offsets bytes old new
       → PartsCost {T = T} (shaped group (var_binary text)) mask numbers held (built_answer result) old new
   array-cost {old} {new} array costs =
       let of-text = subst (λ b. Costs b offsets bytes old new) (sym (text-sort group text)) costs in

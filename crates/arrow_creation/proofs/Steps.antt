@@ -1,5 +1,6 @@
 -- What is put into an empty entry is a step of the whole table.
-use Rattle.std.proofs.Common.{◌≡◌, ℕ, true, false, List, map, is_some, slice_get, slice_set, Option, Some, None, option_map, refl, arith}
+use Rattle.std.proofs.Common.{◌≡◌, ℕ, true, false, List, map, is_some, slice_get, slice_set, Option, Some, None}
+use Rattle.std.proofs.Common.{option_map, refl, arith}
 use Rattle.arrow_check.specs.Reading.{Cost}
 use Rattle.arrow_entry.specs.declared.entry.Entry.{Entry}
 use Rattle.arrow_entry.specs.Entry.{value_of}
@@ -45,7 +46,8 @@ module _ {T O : Type 0} (row : Row T) where
     pub empty-filled : (y : Option (Entry T O)) (reply : Answer T) → is_some x ≡ false
         → row reply (option_map value_of y) → AtEntry (map (option_map value_of) entries) e (IntoEmpty row) reply
         (map (option_map value_of) (slice_set entries e y))
-    empty-filled y reply none h = at-row (option_map value_of) (IntoEmpty row) entries (slice_set entries e y) e x y reply
+    empty-filled y reply none h = at-row (option_map value_of) (IntoEmpty row) entries (slice_set entries e y) e x y
+        reply
         there refl (none-puts x y reply none h)
 
 -- what raw parts make in an entry, whether they are given or lent

@@ -81,8 +81,8 @@ fn put_parts<T: NativeType, O: Offset>(
     }
 }
 
-/// IntoEmpty what raw parts make into the entry of a number; the command's condition fails if that is not empty or past the
-/// table. What the test of text costs is added to the counts.
+/// IntoEmpty what raw parts make into the entry of a number; the command's condition fails if that is not empty or
+/// past the table. What the test of text costs is added to the counts.
 ///
 /// # Errors
 /// The refusal that the command is answered with; the entries are then as before.

@@ -19,23 +19,39 @@ use Rattle.arrow_model.proofs.CallerLemmas.{and-first, and-second}
 use Rattle.arrow_model.proofs.CallerLemmas.{nothing-around}
 
 module _ {S T : Type 0} (sort : ValueKind) (stored : S → Stored T) (each : (x : S) → IsStored sort (stored x)) where
-  all-rows : (held : Bool) (rows : List (Row S)) → (held ≡ false → IsTrue (list_all (λ (row : Row S). row.1) rows)) → All (IsRow sort held) (map (λ (row : Row S). (stored row.0, row.1)) rows)
+  all-rows : (held : Bool) (rows : List (Row S)) → (held ≡ false → IsTrue (list_all (λ (row : Row S). row.1) rows))
+      → All (IsRow sort held) (map (λ (row : Row S). (stored row.0, row.1)) rows)
   all-rows held [] valid = All-nil (IsRow sort held)
   all-rows held (row ∷ rows) valid =
       All-cons (IsRow sort held) (stored row.0, row.1) (map (λ (row : Row S). (stored row.0, row.1)) rows)
-      (record { stored = each row.0; marked = λ bare. and-first row.1 (list_all (λ (row : Row S). row.1) rows) (valid bare) })
+      (record {
+        stored = each row.0;
+        marked = λ bare. and-first row.1 (list_all (λ (row : Row S). row.1) rows)
+            (valid bare);
+      })
       (all-rows held rows (λ bare. and-second row.1 (list_all (λ (row : Row S). row.1) rows) (valid bare)))
 
-text-rows : {T : Type 0} (held : Bool) (rows : List (Row (List ℕ))) → (held ≡ false → IsTrue (list_all (λ (row : Row (List ℕ)). row.1) rows)) → All IsWellFormed (map (λ row. row.0) rows)
+text-rows : {T : Type 0} (held : Bool) (rows : List (Row (List ℕ)))
+    → (held ≡ false → IsTrue (list_all (λ (row : Row (List ℕ)). row.1) rows))
+    → All IsWellFormed (map (λ row. row.0) rows)
     → All (IsRow {T = T} (var_binary true) held) (map (λ (row : Row (List ℕ)). (bytes_item true row.0, row.1)) rows)
 text-rows held [] valid text = All-nil (IsRow (var_binary true) held)
 text-rows held (row ∷ rows) valid text =
-    All-cons (IsRow (var_binary true) held) (bytes_item true row.0, row.1) (map (λ (row : Row (List ℕ)). (bytes_item true row.0, row.1)) rows)
-    (record { stored = record { of_value_kind = refl; text = All-head IsWellFormed row.0 (map (λ row. row.0) rows) text }; marked = λ bare. and-first row.1 (list_all (λ (row : Row (List ℕ)). row.1) rows) (valid bare) })
-    (text-rows held rows (λ bare. and-second row.1 (list_all (λ (row : Row (List ℕ)). row.1) rows) (valid bare)) (All-tail IsWellFormed row.0 (map (λ row. row.0) rows) text))
+    All-cons (IsRow (var_binary true) held) (bytes_item true row.0, row.1)
+    (map (λ (row : Row (List ℕ)). (bytes_item true row.0, row.1)) rows)
+    (record {
+      stored = record
+          { of_value_kind = refl; text = All-head IsWellFormed row.0 (map (λ row. row.0) rows) text };
+      marked = λ bare.
+          and-first row.1 (list_all (λ (row : Row (List ℕ)). row.1) rows) (valid bare);
+    })
+    (text-rows held rows (λ bare. and-second row.1 (list_all (λ (row : Row (List ℕ)). row.1) rows) (valid bare))
+    (All-tail IsWellFormed row.0 (map (λ row. row.0) rows) text))
 
 module _ {T : Type 0} (c : Types T) (group : Group) where
-  pub native-is : is_values_alone (shaped group native) ≡ false → (column : Column T) → IsRightType (physical.Primitive c.primitive) column.data_type → IsColumn column → IsValue c (native_value group column)
+  pub native-is : is_values_alone (shaped group native) ≡ false → (column : Column T)
+      → IsRightType (physical.Primitive c.primitive) column.data_type → IsColumn column
+      → IsValue c (native_value group column)
   unfolding erase_type
   native-is nulls column right valid = record {
     right_type = right;
@@ -44,7 +60,8 @@ module _ {T : Type 0} (c : Types T) (group : Group) where
     unmasked = λ alone. absurd (true≢false (sym alone ∙ nulls));
   }
 
-  pub boolean-is : is_values_alone (shaped group boolean) ≡ false → (column : Column Bool) → IsRightType physical.Boolean column.data_type → IsColumn column → IsValue c (boolean_value group column)
+  pub boolean-is : is_values_alone (shaped group boolean) ≡ false → (column : Column Bool)
+      → IsRightType physical.Boolean column.data_type → IsColumn column → IsValue c (boolean_value group column)
   unfolding erase_type
   boolean-is nulls column right valid = record {
     right_type = right;
@@ -53,8 +70,11 @@ module _ {T : Type 0} (c : Types T) (group : Group) where
     unmasked = λ alone. absurd (true≢false (sym alone ∙ nulls));
   }
 
-  pub piece-is : (text : Bool) (column : ByteColumn) → IsRightType (layout c (var_binary text)) column.data_type → IsColumn column → AreItems text (stored_values column)
-      → (is_builder (shaped group (var_binary text)) ≡ true → column.around.tail ≡ []) → (is_values_alone (shaped group (var_binary text)) ≡ true → column.held ≡ false) → IsValue c (bytes_value group text column)
+  pub piece-is : (text : Bool) (column : ByteColumn) → IsRightType (layout c (var_binary text)) column.data_type
+      → IsColumn column → AreItems text (stored_values column)
+      → (is_builder (shaped group (var_binary text)) ≡ true → column.around.tail ≡ [])
+      → (is_values_alone (shaped group (var_binary text)) ≡ true → column.held ≡ false)
+      → IsValue c (bytes_value group text column)
   unfolding erase_type
   piece-is true column right valid items tail bare = record {
     right_type = right;
@@ -65,6 +85,7 @@ module _ {T : Type 0} (c : Types T) (group : Group) where
   piece-is false column right valid items tail bare = record {
     right_type = right;
     around = record { plain = λ plain. absurd (true≢false plain); no_tail = tail };
-    rows = all-rows (var_binary false) (bytes_item false) (λ x. record { of_value_kind = refl; text = tt }) column.held column.rows valid;
+    rows = all-rows (var_binary false) (bytes_item false) (λ x. record { of_value_kind = refl; text = tt })
+        column.held column.rows valid;
     unmasked = bare;
   }

@@ -11,7 +11,8 @@ use Rattle.arrow_model.specs.Kind.{Group, native, boolean, var_binary, shaped, f
 use Rattle.arrow_model.specs.Value.{Value, State, Held}
 
 -- the same column, over what slots store whatever their sort
-unfoldable pub erase_type : {A S T : Type 0} → (A → Around) → (S → Stored T) → ColumnWith A S → ColumnWith Around (Stored T)
+unfoldable pub erase_type : {A S T : Type 0} → (A → Around) → (S → Stored T) → ColumnWith A S
+    → ColumnWith Around (Stored T)
 erase_type around stored column = record {
   data_type = column.data_type;
   around = around column.around;
@@ -22,13 +23,18 @@ erase_type around stored column = record {
 -- the value of a column of native values, of truth values, or of bytes
 module _ {T : Type 0} where
   abbrev pub native_value : Group → Column T → Value T
-  native_value group column = record { shape = shaped group native; column = erase_type (λ _. nothing_around) value column }
+  native_value group column = record
+      { shape = shaped group native; column = erase_type (λ _. nothing_around) value column }
 
   abbrev pub boolean_value : Group → Column Bool → Value T
-  boolean_value group column = record { shape = shaped group boolean; column = erase_type (λ _. nothing_around) bit column }
+  boolean_value group column = record
+      { shape = shaped group boolean; column = erase_type (λ _. nothing_around) bit column }
 
   abbrev pub bytes_value : Group → Bool → ByteColumn → Value T
-  bytes_value group is_text column = record { shape = shaped group (var_binary is_text); column = erase_type (λ around. around) (bytes_item is_text) column }
+  bytes_value group is_text column = record {
+    shape = shaped group (var_binary is_text);
+    column = erase_type (λ around. around) (bytes_item is_text) column;
+  }
 
 -- the value that an entry is
 abbrev pub value_of : {T O : Type 0} → Entry T O → Value T

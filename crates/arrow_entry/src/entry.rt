@@ -36,7 +36,8 @@ pub enum Entry<T: NativeType, O: Offset> {
 }
 
 impl<T: NativeType, O: Offset> Entry<T, O> {
-    /// Does nothing. Its contract says that the entry holds a value: its type is right, and its slots store what they should.
+    /// Does nothing. Its contract says that the entry holds a value: its type is right, and its slots store what
+    /// they should.
     #[inline(always)]
     pub fn prove_value(&self)
         ensures { IsValue (types T.zero T.PRIMITIVE O.most O.IS_LARGE) (value_of self.now) }

@@ -25,8 +25,12 @@ pub fn push_slots<T: NativeType, O: Offset>(
 ) -> Result<(), Error>
     requires nullable { IsTrue (is_nullable (value_of held.old).shape) }
     requires fit { IsTrue (list_all (slot_fits (value_of held.old).shape.value_kind) (map stored_slot slots.now)) }
-    ensures ok { OnOk result (Extends (types T.zero T.PRIMITIVE O.most O.IS_LARGE) (value_of held.old) (map stored_slot slots.now) done (Some (value_of held.new))) }
-    ensures err { IfErr result (λ e. (over : Bool) × (e ≡ refused_growth over) × Extends (types T.zero T.PRIMITIVE O.most O.IS_LARGE) (value_of held.old) (map stored_slot slots.now) (refused (refusal e)) (Some (value_of held.new))) }
+    ensures ok { OnOk result
+        (Extends (types T.zero T.PRIMITIVE O.most O.IS_LARGE) (value_of held.old) (map stored_slot slots.now) done
+        (Some (value_of held.new))) }
+    ensures err { IfErr result (λ e. (over : Bool) × (e ≡ refused_growth over)
+        × Extends (types T.zero T.PRIMITIVE O.most O.IS_LARGE) (value_of held.old) (map stored_slot slots.now)
+        (refused (refusal e)) (Some (value_of held.new))) }
 {
     let mut rest = slots;
     while let Some((slot, others)) = rest.split_first() {
@@ -48,8 +52,12 @@ pub fn push_items<T: NativeType, O: Offset>(
 ) -> Result<(), Error>
     requires builder { IsTrue (is_builder (value_of held.old).shape) }
     requires fit { IsTrue (list_all (fits (value_of held.old).shape.value_kind) (map stored_item items.now)) }
-    ensures ok { OnOk result (Extends (types T.zero T.PRIMITIVE O.most O.IS_LARGE) (value_of held.old) (map Some (map stored_item items.now)) done (Some (value_of held.new))) }
-    ensures err { IfErr result (λ e. (over : Bool) × (e ≡ refused_growth over) × Extends (types T.zero T.PRIMITIVE O.most O.IS_LARGE) (value_of held.old) (map Some (map stored_item items.now)) (refused (refusal e)) (Some (value_of held.new))) }
+    ensures ok { OnOk result
+        (Extends (types T.zero T.PRIMITIVE O.most O.IS_LARGE) (value_of held.old)
+        (map Some (map stored_item items.now)) done (Some (value_of held.new))) }
+    ensures err { IfErr result (λ e. (over : Bool) × (e ≡ refused_growth over)
+        × Extends (types T.zero T.PRIMITIVE O.most O.IS_LARGE) (value_of held.old)
+        (map Some (map stored_item items.now)) (refused (refusal e)) (Some (value_of held.new))) }
 {
     let mut rest = items;
     while let Some((item, others)) = rest.split_first() {

@@ -1,5 +1,6 @@
 //! Slots that are appended to an entry.
-ghost use Rattle.std.specs.Prelude.{◌≡◌, ◌∷◌, ◌&&◌, ◌||◌, [], false, if◌then◌else◌, is_none, not, None, Some, IfErr, IsTrue, OnOk};
+ghost use Rattle.std.specs.Prelude.{◌≡◌, ◌∷◌, ◌&&◌, ◌||◌, [], false, if◌then◌else◌, is_none, not, None, Some, IfErr};
+ghost use Rattle.std.specs.Prelude.{IsTrue, OnOk};
 ghost use Rattle.arrow_column.specs.Column.{refused_growth};
 ghost use Rattle.arrow_entry.specs.Entry.{value_of};
 ghost use Rattle.arrow_model.specs.Change.{grown, null_in, slot_over};
@@ -14,11 +15,12 @@ use arrow_types::offset::Offset;
 
 #[tactic(auto, using(crate::proofs::Seen::seen_reads, crate::proofs::Seen::seen_pushes, crate::proofs::Seen::seen_bytes))]
 impl<T: NativeType, O: Offset> Entry<T, O> {
-    /// Returns whether a slot can be pushed: the entry is a builder, the slot's item is of its sort, and the slot is null only
-    /// if the builder has nulls.
+    /// Returns whether a slot can be pushed: the entry is a builder, the slot's item is of its sort, and the slot
+    /// is null only if the builder has nulls.
     #[inline(always)]
     pub fn takes(&self, slot: &Option<Item<T>>) -> bool
-        ensures { result ≡ (is_builder (value_of self.now).shape && (slot_fits (value_of self.now).shape.value_kind (stored_slot slot.now)
+        ensures { result ≡ (is_builder (value_of self.now).shape
+            && (slot_fits (value_of self.now).shape.value_kind (stored_slot slot.now)
             && (is_nullable (value_of self.now).shape || not (is_none (stored_slot slot.now))))) }
     {
         match slot {
@@ -46,7 +48,8 @@ impl<T: NativeType, O: Offset> Entry<T, O> {
     #[inline(always)]
     pub fn push_null(&mut self) -> Result<(), Error>
         requires { IsTrue (is_builder (value_of self.old).shape) }
-        ensures ok { OnOk result (value_of self.new ≡ grown (types T.zero T.PRIMITIVE O.most O.IS_LARGE) (value_of self.old)
+        ensures ok { OnOk result (value_of self.new
+            ≡ grown (types T.zero T.PRIMITIVE O.most O.IS_LARGE) (value_of self.old)
             ((if is_nullable (value_of self.old).shape then None
             else Some (null_in (types T.zero T.PRIMITIVE O.most O.IS_LARGE) (value_of self.old))) ∷ [])) }
         ensures err { IfErr result (λ e. (e ≡ Error.OutOfMemory) × (value_of self.new ≡ value_of self.old)) }
@@ -70,10 +73,14 @@ impl<T: NativeType, O: Offset> Entry<T, O> {
     pub fn push_item(&mut self, item: &Item<T>) -> Result<(), Error>
         requires builder { IsTrue (is_builder (value_of self.old).shape) }
         requires fits { IsTrue (fits (value_of self.old).shape.value_kind (stored_item item.now)) }
-        ensures ok { OnOk result ((slot_over (types T.zero T.PRIMITIVE O.most O.IS_LARGE) (value_of self.old) (Some (stored_item item.now)) ≡ false)
-            × (value_of self.new ≡ grown (types T.zero T.PRIMITIVE O.most O.IS_LARGE) (value_of self.old) (Some (stored_item item.now) ∷ []))) }
+        ensures ok { OnOk result
+            ((slot_over (types T.zero T.PRIMITIVE O.most O.IS_LARGE) (value_of self.old) (Some (stored_item item.now))
+            ≡ false)
+            × (value_of self.new ≡ grown (types T.zero T.PRIMITIVE O.most O.IS_LARGE) (value_of self.old)
+            (Some (stored_item item.now) ∷ []))) }
         ensures err { IfErr result (λ e.
-            (e ≡ refused_growth (slot_over (types T.zero T.PRIMITIVE O.most O.IS_LARGE) (value_of self.old) (Some (stored_item item.now))))
+            (e ≡ refused_growth (slot_over (types T.zero T.PRIMITIVE O.most O.IS_LARGE) (value_of self.old)
+            (Some (stored_item item.now))))
             × (value_of self.new ≡ value_of self.old)) }
     {
         match item {
@@ -104,12 +111,17 @@ impl<T: NativeType, O: Offset> Entry<T, O> {
     /// `Overflow` if offsets can't express its end, or else `OutOfMemory`; the builder is then as before.
     #[inline(always)]
     pub fn push_slot(&mut self, slot: &Option<Item<T>>) -> Result<(), Error>
-        requires { IsTrue (is_builder (value_of self.old).shape && (slot_fits (value_of self.old).shape.value_kind (stored_slot slot.now)
+        requires { IsTrue (is_builder (value_of self.old).shape
+            && (slot_fits (value_of self.old).shape.value_kind (stored_slot slot.now)
             && (is_nullable (value_of self.old).shape || not (is_none (stored_slot slot.now))))) }
-        ensures ok { OnOk result ((slot_over (types T.zero T.PRIMITIVE O.most O.IS_LARGE) (value_of self.old) (stored_slot slot.now) ≡ false)
-            × (value_of self.new ≡ grown (types T.zero T.PRIMITIVE O.most O.IS_LARGE) (value_of self.old) (stored_slot slot.now ∷ []))) }
+        ensures ok { OnOk result
+            ((slot_over (types T.zero T.PRIMITIVE O.most O.IS_LARGE) (value_of self.old) (stored_slot slot.now)
+            ≡ false)
+            × (value_of self.new ≡ grown (types T.zero T.PRIMITIVE O.most O.IS_LARGE) (value_of self.old)
+            (stored_slot slot.now ∷ []))) }
         ensures err { IfErr result (λ e.
-            (e ≡ refused_growth (slot_over (types T.zero T.PRIMITIVE O.most O.IS_LARGE) (value_of self.old) (stored_slot slot.now)))
+            (e ≡ refused_growth (slot_over (types T.zero T.PRIMITIVE O.most O.IS_LARGE) (value_of self.old)
+            (stored_slot slot.now)))
             × (value_of self.new ≡ value_of self.old)) }
     {
         match slot {

@@ -155,7 +155,8 @@ impl<T: NativeType, O: Offset> Entry<T, O> {
     /// `AllocError` if the copy of bytes or of a text fails.
     pub fn item(&self, alloc: Global, i: usize) -> Result<Item<T>, AllocError>
         requires { i < length (value_of self.now).column.rows }
-        ensures ok { IfOk result (λ item. slice_get (stored_values (value_of self.now).column) i ≡ Some (stored_item item)) }
+        ensures ok { IfOk result (λ item. slice_get (stored_values (value_of self.now).column) i
+            ≡ Some (stored_item item)) }
         ensures err { IfErr result (λ _. IsTrue (is_var_binary (value_of self.now).shape)) }
     {
         self.slot_ref(i).to_item(alloc)

@@ -10,14 +10,17 @@ module _ {A : Type 0} where
   head-is z y zs is = grind arith
 
   -- what follows each part grows by one
-  flat-more : (g : A → List ℕ) (ys : List A) (i : ℕ) (y : A) → slice_get ys i ≡ Some y → flat_map g (take (suc i) ys) ≡ flat_map g (take i ys) ++ g y
+  flat-more : (g : A → List ℕ) (ys : List A) (i : ℕ) (y : A) → slice_get ys i ≡ Some y
+      → flat_map g (take (suc i) ys) ≡ flat_map g (take i ys) ++ g y
   flat-more g [] i y is = grind arith
   flat-more g (z ∷ zs) zero y is = rw (head-is z y zs is) (append-nil (g y))
-  flat-more g (z ∷ zs) (suc i) y is = ap (λ rest. g z ++ rest) (flat-more g zs i y is) ∙ sym (append_assoc (g z) (flat_map g (take i zs)) (g y))
+  flat-more g (z ∷ zs) (suc i) y is = ap (λ rest. g z ++ rest) (flat-more g zs i y is)
+      ∙ sym (append_assoc (g z) (flat_map g (take i zs)) (g y))
 
   -- parts up to a place, and then the one there
   pub joined-more : (shown : A → List ℕ) (ys : List A) (i : ℕ) (y : A) → slice_get ys i ≡ Some y
-      → join_with_byte 32 (map shown (take (suc i) ys)) ≡ join_with_byte 32 (map shown (take i ys)) ++ (gap i ++ shown y)
+      → join_with_byte 32 (map shown (take (suc i) ys)) ≡ join_with_byte 32 (map shown (take i ys))
+      ++ (gap i ++ shown y)
   joined-more shown [] i y is = grind arith
   joined-more shown (z ∷ zs) zero y is = ap shown (head-is z y zs is)
   joined-more shown (z ∷ zs) (suc i) y is =
@@ -33,10 +36,13 @@ module _ {A : Type 0} where
       → done ≡ begun ++ join_with_byte 32 (map shown (take (i + 1) ys))
   text-more shown ys i begun up gapped done before gaps last = by-part (slice_get ys i) refl last
     where
-      by-part : (part : Option A) → slice_get ys i ≡ part → MatchOption part ⊥ (λ y. done ≡ gapped ++ shown y) → done ≡ begun ++ join_with_byte 32 (map shown (take (i + 1) ys))
+      by-part : (part : Option A) → slice_get ys i ≡ part → MatchOption part ⊥ (λ y. done ≡ gapped ++ shown y)
+          → done ≡ begun ++ join_with_byte 32 (map shown (take (i + 1) ys))
       by-part None is h = absurd h
       by-part (Some y) is h =
           h ∙ ap (λ text. text ++ shown y) (gaps ∙ ap (λ text. text ++ gap i) before)
           ∙ append_assoc (begun ++ join_with_byte 32 (map shown (take i ys))) (gap i) (shown y)
           ∙ append_assoc begun (join_with_byte 32 (map shown (take i ys))) (gap i ++ shown y)
-          ∙ ap (λ text. begun ++ text) (sym (ap (λ n. join_with_byte 32 (map shown (take n ys))) (let e : i + 1 ≡ suc i = omega arith in e) ∙ joined-more shown ys i y is))
+          ∙ ap (λ text. begun ++ text)
+          (sym (ap (λ n. join_with_byte 32 (map shown (take n ys))) (let e : i + 1 ≡ suc i = omega arith in e)
+          ∙ joined-more shown ys i y is))

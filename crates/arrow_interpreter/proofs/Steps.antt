@@ -7,13 +7,16 @@ use Rattle.arrow_model.specs.Both.{Both, BothRequest, IsBothStep}
 use Rattle.arrow_interpreter.specs.Replies.{AppendsRun}
 use Rattle.arrow_syntax.specs.Text.{text_of}
 
-module _ {A E : Type 0} (request : BothRequest ℤ) (answer : Answer ℤ) (old tables new : Both ℤ) (before after : List ℕ) (r : Result A E) where
+module _ {A E : Type 0} (request : BothRequest ℤ) (answer : Answer ℤ) (old tables new : Both ℤ)
+    (before after : List ℕ) (r : Result A E) where
   -- a step to other tables, whose answer was then appended
-  pub step_and_text : IsBothStep (pos 0) Int64 old request answer tables → OnOk r ((new ≡ tables) × (after ≡ before ++ text_of (answer ∷ [])))
+  pub step_and_text : IsBothStep (pos 0) Int64 old request answer tables
+      → OnOk r ((new ≡ tables) × (after ≡ before ++ text_of (answer ∷ [])))
       → OnOk r (AppendsRun (request ∷ []) old new before after)
   step_and_text step text = by_result r text
     where
-      by_result : (r : Result A E) → OnOk r ((new ≡ tables) × (after ≡ before ++ text_of (answer ∷ []))) → OnOk r (AppendsRun (request ∷ []) old new before after)
+      by_result : (r : Result A E) → OnOk r ((new ≡ tables) × (after ≡ before ++ text_of (answer ∷ [])))
+          → OnOk r (AppendsRun (request ∷ []) old new before after)
       by_result (Ok done) text = (answer ∷ [], (tables, step, text.0), text.1)
       by_result (Err e) text = tt
 
@@ -22,6 +25,7 @@ module _ {A E : Type 0} (request : BothRequest ℤ) (answer : Answer ℤ) (old t
       → OnOk r (AppendsRun (request ∷ []) old old before after)
   text_of_step step text = by_result r text
     where
-      by_result : (r : Result A E) → OnOk r (after ≡ before ++ text_of (answer ∷ [])) → OnOk r (AppendsRun (request ∷ []) old old before after)
+      by_result : (r : Result A E) → OnOk r (after ≡ before ++ text_of (answer ∷ []))
+          → OnOk r (AppendsRun (request ∷ []) old old before after)
       by_result (Ok done) text = (answer ∷ [], (old, step, refl), text)
       by_result (Err e) text = tt

@@ -11,8 +11,8 @@ use crate::pass::Tested;
 use arrow_syntax::lines::{is_passed_over, is_printable};
 use std::alloc::AllocError;
 
-/// Returns whether a line is passed over or a command. Nothing is allocated or run. A line that is known to be printable
-/// is not tested for that.
+/// Returns whether a line is passed over or a command. Nothing is allocated or run. A line that is known to be
+/// printable is not tested for that.
 #[inline(always)]
 pub fn is_line(line: &[u8], printable: bool) -> bool
     requires { IsTrue printable → IsTrue (is_printable line.now) }

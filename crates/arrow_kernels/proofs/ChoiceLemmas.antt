@@ -19,7 +19,8 @@ use Rattle.arrow_column.specs.Masks.{mask_with_nulls}
 use Rattle.arrow_column.specs.Column.{Column, ColumnWith, IsColumn, column_with, mask_of, stored_values}
 use Rattle.arrow_column.proofs.CallerLemmas.{column_again, slots_valid, valid_by_held}
 use Rattle.arrow_check.specs.Indexes.{in_bounds}
-use Rattle.arrow_bytes.specs.Selection.{asked, at_key, at_keys, column_of_rows, filtered, first_out_of_bounds, set_in_both}
+use Rattle.arrow_bytes.specs.Selection.{asked, at_key, at_keys, column_of_rows, filtered, first_out_of_bounds}
+use Rattle.arrow_bytes.specs.Selection.{set_in_both}
 use Rattle.arrow_bytes.specs.Selection.{taken, where_set}
 
 -- ---- one more

@@ -3,7 +3,8 @@ use Rattle.std.proofs.Common.{◌≡◌, ℕ, true, false, List, [], ◌∷◌, 
 use Rattle.arrow_check.specs.Reading.{Cost, RisesAtMost}
 use Rattle.arrow_model.specs.Answer.{Answer, not_met}
 use Rattle.arrow_model.specs.Kind.{Shape}
-use Rattle.arrow_model.specs.Request.{Request, Source, make, at, clone_to, extend_from, equal, filter_to, take_to, check_indexes, nothing, nulls, parts, slots, items, values, packed, cut_pieces}
+use Rattle.arrow_model.specs.Request.{Request, Source, make, at, clone_to, extend_from, equal, filter_to, take_to}
+use Rattle.arrow_model.specs.Request.{check_indexes, nothing, nulls, parts, slots, items, values, packed, cut_pieces}
 use Rattle.arrow_model.specs.Step.{StepCosts}
 use Rattle.arrow_model.specs.Run.{CostsAtMost, is_parts, total, texts_of, inner_offsets_of}
 
@@ -23,7 +24,8 @@ yes-no e = cc
 
 module _ {T : Type 0} where
   -- what isn't about raw parts costs nothing
-  pub untested : (request : Request T) (reply : Answer T) (x : Cost) → is_parts request ≡ false → StepCosts request reply x x
+  pub untested : (request : Request T) (reply : Answer T) (x : Cost) → is_parts request ≡ false
+      → StepCosts request reply x x
   untested (make e s nothing) reply x is = refl
   untested (make e s (nulls t n)) reply x is = refl
   untested (make e s (parts t raw mask)) reply x is = absurd (yes-no is)
@@ -48,7 +50,8 @@ module _ {T : Type 0} where
   unmet-costs e s (items xs) x = refl
 
   -- in whatever entry it is made
-  pub costs-anywhere : (e k : ℕ) (s : Shape) (source : Source T) (reply : Answer T) (x y : Cost) → StepCosts (make e s source) reply x y → StepCosts (make k s source) reply x y
+  pub costs-anywhere : (e k : ℕ) (s : Shape) (source : Source T) (reply : Answer T) (x y : Cost)
+      → StepCosts (make e s source) reply x y → StepCosts (make k s source) reply x y
   costs-anywhere e k s nothing reply x y h = h
   costs-anywhere e k s (nulls t n) reply x y h = h
   costs-anywhere e k s (parts t (values xs) mask) reply x y h = h
@@ -57,11 +60,13 @@ module _ {T : Type 0} where
   costs-anywhere e k s (slots xs) reply x y h = h
   costs-anywhere e k s (items xs) reply x y h = h
 
-  pub most-anywhere : (e k : ℕ) (s : Shape) (source : Source T) (x y : Cost) → CostsAtMost (make e s source ∷ []) x y → CostsAtMost (make k s source ∷ []) x y
+  pub most-anywhere : (e k : ℕ) (s : Shape) (source : Source T) (x y : Cost) → CostsAtMost (make e s source ∷ []) x y
+      → CostsAtMost (make k s source ∷ []) x y
   most-anywhere e k s nothing x y h = record { ascii = h.ascii; whole = h.whole; looked = h.looked }
   most-anywhere e k s (nulls t n) x y h = record { ascii = h.ascii; whole = h.whole; looked = h.looked }
   most-anywhere e k s (parts t (values xs) mask) x y h = record { ascii = h.ascii; whole = h.whole; looked = h.looked }
   most-anywhere e k s (parts t (packed p) mask) x y h = record { ascii = h.ascii; whole = h.whole; looked = h.looked }
-  most-anywhere e k s (parts t (cut_pieces starts held) mask) x y h = record { ascii = h.ascii; whole = h.whole; looked = h.looked }
+  most-anywhere e k s (parts t (cut_pieces starts held) mask) x y h = record
+      { ascii = h.ascii; whole = h.whole; looked = h.looked }
   most-anywhere e k s (slots xs) x y h = record { ascii = h.ascii; whole = h.whole; looked = h.looked }
   most-anywhere e k s (items xs) x y h = record { ascii = h.ascii; whole = h.whole; looked = h.looked }

@@ -1,5 +1,8 @@
 -- Every row leaves a value where it leaves anything: so each step of a table keeps its entries values.
-use Rattle.std.proofs.Common.{◌≡◌, ◌∙◌, ◌-◌, ◌==◌, ℕ, ℤ, Bool, true, false, not, ◌&&◌, ◌||◌, nat_eq, nat_lt, List, [], ◌∷◌, ◌++◌, length, map, take, replicate, is_some, is_none, slice_get, slice_set, Option, Some, None, option_map, option_and_then, unsigned_abs, if◌then◌else◌, refl, sym, subst, true≢false, inl, inr}
+use Rattle.std.proofs.Common.{◌≡◌, ◌∙◌, ◌-◌, ◌==◌, ℕ, ℤ, Bool, true, false, not, ◌&&◌, ◌||◌, nat_eq, nat_lt, List, []}
+use Rattle.std.proofs.Common.{◌∷◌, ◌++◌, length, map, take, replicate, is_some, is_none, slice_get, slice_set, Option}
+use Rattle.std.proofs.Common.{Some, None, option_map, option_and_then, unsigned_abs, if◌then◌else◌, refl, sym, subst}
+use Rattle.std.proofs.Common.{true≢false, inl, inr}
 use Rattle.std.proofs.lemmas.List.Elements.{All-append, All-head, All-map, All-replicate, All-tail, All-take}
 use Rattle.std.specs.Prelude.{All, IfSome, MatchBool, MatchOption}
 use Rattle.std.specs.List.{list_all}
@@ -11,28 +14,42 @@ use Rattle.arrow_bytes.specs.Selection as kernels
 use Rattle.arrow_model.specs.Answer.{Answer, done, is_memory, not_met, refused}
 use Rattle.arrow_model.specs.Change.{frozen_value, thawed_value, empty_value, slots_start, null_in, grown, fitting}
 use Rattle.arrow_types.specs.declared.primitive_type.PrimitiveType.{PrimitiveType}
-use Rattle.arrow_model.specs.Both.{Both, BothRequest, narrow, wide, widen, narrow_to, IsBothStep, Narrows, Widens, items_in, narrow_types, with_offset_width, wide_types}
+use Rattle.arrow_model.specs.Both.{Both, BothRequest, narrow, wide, widen, narrow_to, IsBothStep, Narrows, Widens}
+use Rattle.arrow_model.specs.Both.{items_in, narrow_types, with_offset_width, wide_types}
 use Rattle.arrow_model.specs.Chosen.{array_in, filter_in}
 use Rattle.arrow_model.specs.Value.{Value, State, Held, Types, default_item, layout}
 use Rattle.arrow_model.specs.Item.{Stored, bit, value, fits, slot_fits, changed, change_fits, change_of_marks}
-use Rattle.arrow_model.specs.Kind.{Group, frozen, with_nulls, values_alone, ValueKind, native, boolean, var_binary, Shape, shaped, is_builder, is_boolean, is_native, is_frozen, is_nullable, is_var_binary, is_values_alone, same_kind}
+use Rattle.arrow_model.specs.Kind.{Group, frozen, with_nulls, values_alone, ValueKind, native, boolean, var_binary}
+use Rattle.arrow_model.specs.Kind.{Shape, shaped, is_builder, is_boolean, is_native, is_frozen, is_nullable}
+use Rattle.arrow_model.specs.Kind.{is_var_binary, is_values_alone, same_kind}
 use Rattle.arrow_primitive.specs.Fits.{parts_tests}
 use Rattle.arrow_model.specs.Parts.{PartsRow, accepted, bits_test, boolean_tests, marks_in, offsets_test, pieces_tests}
-use Rattle.arrow_model.specs.Request.{Ask, RawValues, Packed, Request, Source, make, at, clone_to, extend_from, equal, filter_to, take_to, check_indexes}
+use Rattle.arrow_model.specs.Request.{Ask, RawValues, Packed, Request, Source, make, at, clone_to, extend_from, equal}
+use Rattle.arrow_model.specs.Request.{filter_to, take_to, check_indexes}
 use Rattle.arrow_model.specs.Request as ask
-use Rattle.arrow_model.specs.Row.{gives, leaves, or_else_keep, memory, answers, unmet, require_some, where_true, provided, of_kind, by_test}
+use Rattle.arrow_model.specs.Row.{gives, leaves, or_else_keep, memory, answers, unmet, require_some, where_true}
+use Rattle.arrow_model.specs.Row.{provided, of_kind, by_test}
 use Rattle.arrow_model.specs.Row as rows
 use Rattle.arrow_model.specs.Run.{IsRun}
-use Rattle.arrow_model.specs.Step.{AtEntry, Changes, Clones, Compares, Compares_to, Does, Extends, Filled, Filtered, Filters, Joins, Joins_to, Makes, IntoEmpty, Taken, Takes, copied, effect, entry_at, other_at, unless_over}
-use Rattle.arrow_model.specs.Values.{AreValues, IsBothRequest, IsKind, IsRequest, IsRow, IsStored, IsTextAsk, IsTextSlot, IsTextSource, IsValue}
+use Rattle.arrow_model.specs.Step.{AtEntry, Changes, Clones, Compares, Compares_to, Does, Extends, Filled, Filtered}
+use Rattle.arrow_model.specs.Step.{Filters, Joins, Joins_to, Makes, IntoEmpty, Taken, Takes, copied, effect, entry_at}
+use Rattle.arrow_model.specs.Step.{other_at, unless_over}
+use Rattle.arrow_model.specs.Values.{AreValues, IsBothRequest, IsKind, IsRequest, IsRow, IsStored, IsTextAsk}
+use Rattle.arrow_model.specs.Values.{IsTextSlot, IsTextSource, IsValue}
 use Rattle.arrow_model.proofs.AllLemmas.{and-first, and-second, get-all, keys-all, set-all, where-all}
-use Rattle.arrow_model.proofs.ValueLemmas.{IsSlot, alone-is, appended-is, changed-stored, cut-is, default-right, default-stored, empty-is, fits-slots, fits-stored, frozen-is, frozen-nulls, grown-is, held-rows, items-slots, joined-is, masked, masked-nulls, nullable-is, nullable-nulls, nulled, nothing-around, pieces-is, rows-is, start-is, stored-all, thawed-is, valued, with-mask-is, with-stored-is, zipped}
+use Rattle.arrow_model.proofs.ValueLemmas.{IsSlot, alone-is, appended-is, changed-stored, cut-is, default-right}
+use Rattle.arrow_model.proofs.ValueLemmas.{default-stored, empty-is, fits-slots, fits-stored, frozen-is, frozen-nulls}
+use Rattle.arrow_model.proofs.ValueLemmas.{grown-is, held-rows, items-slots, joined-is, masked, masked-nulls}
+use Rattle.arrow_model.proofs.ValueLemmas.{nullable-is, nullable-nulls, nulled, nothing-around, pieces-is, rows-is}
+use Rattle.arrow_model.proofs.ValueLemmas.{start-is, stored-all, thawed-is, valued, with-mask-is, with-stored-is}
+use Rattle.arrow_model.proofs.ValueLemmas.{zipped}
 
 by-bool : (b : Bool) {A B C : Type 0} → (b ≡ true → A → C) → (b ≡ false → B → C) → MatchBool b A B → C
 by-bool true f g = f refl
 by-bool false f g = g refl
 
-by-option : {X : Type 0} (found : Option X) {A C : Type 0} {B : X → Type 0} → (A → C) → ((x : X) → found ≡ Some x → B x → C) → MatchOption found A B → C
+by-option : {X : Type 0} (found : Option X) {A C : Type 0} {B : X → Type 0} → (A → C)
+    → ((x : X) → found ≡ Some x → B x → C) → MatchOption found A B → C
 by-option None f g = f
 by-option (Some x) f g = g x refl
 
@@ -44,25 +61,36 @@ module _ {T : Type 0} (c : Types T) where
   fine-gives : (said : Answer T) (kept : Option (Value T)) → IfSome kept (IsValue c) → Fine (gives said kept)
   fine-gives said kept is reply new h = subst (λ (n : Option (Value T)). IfSome n (IsValue c)) (sym h.1) is
 
-  fine-may : (chosen : Answer T → Bool) (kept : Option (Value T)) (row : rows.Row T) → IfSome kept (IsValue c) → Fine row → Fine (or_else_keep chosen kept row)
-  fine-may chosen kept row is fine reply new = by-bool (chosen reply) (λ _ h. subst (λ (n : Option (Value T)). IfSome n (IsValue c)) (sym h) is) (λ _ h. fine reply new h)
+  fine-may : (chosen : Answer T → Bool) (kept : Option (Value T)) (row : rows.Row T) → IfSome kept (IsValue c)
+      → Fine row → Fine (or_else_keep chosen kept row)
+  fine-may chosen kept row is fine reply new = by-bool (chosen reply)
+      (λ _ h. subst (λ (n : Option (Value T)). IfSome n (IsValue c)) (sym h) is) (λ _ h. fine reply new h)
 
   fine-memory : (old : Option (Value T)) (row : rows.Row T) → IfSome old (IsValue c) → Fine row → Fine (memory old row)
   fine-memory = fine-may is_memory
 
-  fine-test : (test : Bool) (row other : rows.Row T) → (test ≡ true → Fine row) → (test ≡ false → Fine other) → Fine (by_test test row other)
-  fine-test test row other holds fails reply new = by-bool test (λ is h. holds is reply new h) (λ is h. fails is reply new h)
+  fine-test : (test : Bool) (row other : rows.Row T) → (test ≡ true → Fine row) → (test ≡ false → Fine other)
+      → Fine (by_test test row other)
+  fine-test test row other holds fails reply new = by-bool test (λ is h. holds is reply new h)
+      (λ is h. fails is reply new h)
 
-  fine-given : (old : Option (Value T)) {A : Type 0} (found : Option A) (row : A → rows.Row T) → IfSome old (IsValue c) → ((x : A) → found ≡ Some x → Fine (row x)) → Fine (require_some old found row)
-  fine-given old found row is fine reply new = by-option found (λ h. fine-gives _ old is reply new h) (λ x got h. fine x got reply new h)
+  fine-given : (old : Option (Value T)) {A : Type 0} (found : Option A) (row : A → rows.Row T)
+      → IfSome old (IsValue c) → ((x : A) → found ≡ Some x → Fine (row x)) → Fine (require_some old found row)
+  fine-given old found row is fine reply new = by-option found (λ h. fine-gives _ old is reply new h)
+      (λ x got h. fine x got reply new h)
 
-  fine-where : (old : Option (Value T)) (test : Bool) (row : rows.Row T) → IfSome old (IsValue c) → (test ≡ true → Fine row) → Fine (where_true old test row)
-  fine-where old test row is fine reply new = by-bool test (λ so h. fine so reply new h) (λ _ h. fine-gives _ old is reply new h)
+  fine-where : (old : Option (Value T)) (test : Bool) (row : rows.Row T) → IfSome old (IsValue c)
+      → (test ≡ true → Fine row) → Fine (where_true old test row)
+  fine-where old test row is fine reply new = by-bool test (λ so h. fine so reply new h)
+      (λ _ h. fine-gives _ old is reply new h)
 
-  fine-over : (old : Option (Value T)) (over : Bool) (row : rows.Row T) → IfSome old (IsValue c) → Fine row → Fine (unless_over old over row)
-  fine-over old over row is fine reply new = by-bool over (λ _ h. fine-gives _ old is reply new h) (λ _ h. fine reply new h)
+  fine-over : (old : Option (Value T)) (over : Bool) (row : rows.Row T) → IfSome old (IsValue c) → Fine row
+      → Fine (unless_over old over row)
+  fine-over old over row is fine reply new = by-bool over (λ _ h. fine-gives _ old is reply new h)
+      (λ _ h. fine reply new h)
 
-  fine-provided : (old : Option (Value T)) (P : Type 0) (row : rows.Row T) → IfSome old (IsValue c) → (P → Fine row) → Fine (provided old P row)
+  fine-provided : (old : Option (Value T)) (P : Type 0) (row : rows.Row T) → IfSome old (IsValue c) → (P → Fine row)
+      → Fine (provided old P row)
   fine-provided old P row is fine reply new (inl h) = fine h.0 reply new h.1
   fine-provided old P row is fine reply new (inr h) = fine-gives _ old is reply new h.1
 
@@ -72,9 +100,11 @@ module _ {T : Type 0} (c : Types T) where
     where
       none : (w : Value T) → (let it : Option (Value T) = None in it) ≡ Some w → ⊥
       none w e = cc
-  fine-kind (Some v) kinds row is fine = fine-given (Some v) (if kinds v.shape then Some v else None) row is (λ w got. holds (kinds v.shape) refl w got)
+  fine-kind (Some v) kinds row is fine = fine-given (Some v) (if kinds v.shape then Some v else None) row is
+      (λ w got. holds (kinds v.shape) refl w got)
     where
-      holds : (test : Bool) → kinds v.shape ≡ test → (w : Value T) → (if test then Some v else None) ≡ Some w → Fine (row w)
+      holds : (test : Bool) → kinds v.shape ≡ test → (w : Value T) → (if test then Some v else None) ≡ Some w
+          → Fine (row w)
       holds true so w got = subst (λ (u : Value T). Fine (row u)) (some-same v w got) (fine v is so)
         where
           some-same : (a b : Value T) → Some a ≡ Some b → a ≡ b
@@ -90,8 +120,10 @@ module _ {T : Type 0} (c : Types T) where
   -- ---- a value that is made
 
   -- slots that are appended to a new value
-  fine-filled : (start : Value T) (xs : List (Option (Stored T))) (last : Value T → Value T) → IsValue c (last (grown c start xs)) → Fine (Filled c start xs last)
-  fine-filled start xs last is = fine-memory None _ tt (fine-over None _ _ tt (fine-gives done (Some (last (grown c start xs))) is))
+  fine-filled : (start : Value T) (xs : List (Option (Stored T))) (last : Value T → Value T)
+      → IsValue c (last (grown c start xs)) → Fine (Filled c start xs last)
+  fine-filled start xs last is = fine-memory None _ tt
+      (fine-over None _ _ tt (fine-gives done (Some (last (grown c start xs))) is))
 
   -- parts
   fine-accepted : (tests : Tests) (made : Value T) → (Passes tests → IsValue c made) → Fine (accepted tests made)
@@ -101,12 +133,16 @@ module _ {T : Type 0} (c : Types T) where
   fine-unmet : Fine (unmet None)
   fine-unmet = fine-gives not_met None tt
 
-  fine-parts : (group : Group) (sort : ValueKind) (t : LogicalType) (mask : Option Packed) (raw : RawValues T) → IsKind (shaped group sort) → Fine (PartsRow c (shaped group sort) t mask raw)
+  fine-parts : (group : Group) (sort : ValueKind) (t : LogicalType) (mask : Option Packed) (raw : RawValues T)
+      → IsKind (shaped group sort) → Fine (PartsRow c (shaped group sort) t mask raw)
   fine-parts group native t mask (ask.values xs) kind =
-      fine-memory None _ tt (fine-accepted (bits_test mask (parts_tests c.primitive t xs (option_map marks_in mask))) _ (λ passed. record {
+      fine-memory None _ tt
+      (fine-accepted (bits_test mask (parts_tests c.primitive t xs (option_map marks_in mask))) _
+      (λ passed. record {
         right_type = passed.1.1.0;
         around = nothing-around (shaped group native);
-        rows = masked native (map value xs) (option_map marks_in mask) (All-map (IsStored native) value xs (λ k d within. record { of_value_kind = refl; text = tt }));
+        rows = masked native (map value xs) (option_map marks_in mask)
+            (All-map (IsStored native) value xs (λ k d within. record { of_value_kind = refl; text = tt }));
         unmasked = λ alone. absurd (true≢false (sym (kind alone)));
       }))
   fine-parts group boolean t mask (ask.values xs) kind = fine-unmet
@@ -116,40 +152,60 @@ module _ {T : Type 0} (c : Types T) where
   fine-parts group (var_binary true) t mask (ask.packed p) kind = fine-unmet
   fine-parts group (var_binary false) t mask (ask.packed p) kind = fine-unmet
   fine-parts group boolean t mask (ask.packed p) kind =
-      fine-memory None _ tt (fine-accepted (bits_test (Some p) (bits_test mask (boolean_tests group t (marks_in p) (option_map marks_in mask)))) _ (λ passed. record {
+      fine-memory None _ tt
+      (fine-accepted (bits_test (Some p)
+      (bits_test mask (boolean_tests group t (marks_in p) (option_map marks_in mask)))) _ (λ passed. record {
         right_type = right group passed.1.1;
         around = nothing-around (shaped group boolean);
-        rows = masked boolean (map bit (marks_in p)) (option_map marks_in mask) (All-map (IsStored boolean) bit (marks_in p) (λ k d within. record { of_value_kind = refl; text = tt }));
+        rows = masked boolean (map bit (marks_in p)) (option_map marks_in mask)
+            (All-map (IsStored boolean) bit (marks_in p) (λ k d within. record { of_value_kind = refl; text = tt }));
         unmasked = λ alone. absurd (true≢false (sym (kind alone)));
       }))
     where
-      right : (group : Group) → Passes (boolean_tests group t (marks_in p) (option_map marks_in mask)) → IsRightType physical.Boolean t
+      right : (group : Group) → Passes (boolean_tests group t (marks_in p) (option_map marks_in mask))
+          → IsRightType physical.Boolean t
       right frozen passed = passed.1.0
       right with_nulls passed = passed.1.0
       right values_alone passed = passed.1.0
   fine-parts group native t mask (ask.cut_pieces numbers held) kind = fine-unmet
   fine-parts group boolean t mask (ask.cut_pieces numbers held) kind = fine-unmet
   fine-parts group (var_binary true) t mask (ask.cut_pieces numbers held) kind =
-      fine-where None (not (is_values_alone (shaped group (var_binary true))) || is_none mask) _ tt (λ bare. fine-memory None _ tt (fine-accepted (offsets_test numbers (bits_test mask (pieces_tests c group true t (map unsigned_abs numbers) held (option_map marks_in mask)))) _ (λ passed. pieces-is c group true t mask (map unsigned_abs numbers) held passed.1.1 bare)))
+      fine-where None (not (is_values_alone (shaped group (var_binary true))) || is_none mask) _ tt
+      (λ bare. fine-memory None _ tt
+      (fine-accepted (offsets_test numbers
+      (bits_test mask (pieces_tests c group true t (map unsigned_abs numbers) held (option_map marks_in mask)))) _
+      (λ passed. pieces-is c group true t mask (map unsigned_abs numbers) held passed.1.1 bare)))
   fine-parts group (var_binary false) t mask (ask.cut_pieces numbers held) kind =
-      fine-where None (not (is_values_alone (shaped group (var_binary false))) || is_none mask) _ tt (λ bare. fine-memory None _ tt (fine-accepted (offsets_test numbers (bits_test mask (pieces_tests c group false t (map unsigned_abs numbers) held (option_map marks_in mask)))) _ (λ passed. pieces-is c group false t mask (map unsigned_abs numbers) held passed.1.1 bare)))
+      fine-where None (not (is_values_alone (shaped group (var_binary false))) || is_none mask) _ tt
+      (λ bare. fine-memory None _ tt
+      (fine-accepted (offsets_test numbers
+      (bits_test mask (pieces_tests c group false t (map unsigned_abs numbers) held (option_map marks_in mask))))
+      _ (λ passed. pieces-is c group false t mask (map unsigned_abs numbers) held passed.1.1 bare)))
 
   fine-makes : (s : Shape) (source : Source T) → IsKind s → IsTextSource source → Fine (Makes c s source)
   fine-makes s ask.nothing kind text = fine-memory None _ tt (fine-gives done (Some (empty_value c s)) (empty-is c s))
   fine-makes s (ask.nulls t n) kind text =
-      fine-where None (is_frozen s) _ tt (λ array. fine-provided None (IsRightType (layout c s.value_kind) t) _ tt (λ right. fine-memory None _ tt (fine-gives done _
+      fine-where None (is_frozen s) _ tt
+      (λ array. fine-provided None (IsRightType (layout c s.value_kind) t) _ tt
+      (λ right. fine-memory None _ tt (fine-gives done _
       (record {
         right_type = right;
         around = nothing-around s;
-        rows = zipped s.value_kind true (replicate n (default_item c s.value_kind)) (replicate n false) (All-replicate (IsStored s.value_kind) n (default_item c s.value_kind) (default-stored c s.value_kind)) (λ bare. absurd (true≢false bare));
+        rows = zipped s.value_kind true (replicate n (default_item c s.value_kind)) (replicate n false)
+            (All-replicate (IsStored s.value_kind) n (default_item c s.value_kind) (default-stored c s.value_kind))
+            (λ bare. absurd (true≢false bare));
         unmasked = λ alone. absurd (true≢false (sym alone ∙ frozen-nulls s.group s.value_kind array));
       }))))
   fine-makes s (ask.parts t raw mask) kind text = fine-parts s.group s.value_kind t mask raw kind
   fine-makes s (ask.slots xs) kind text =
       fine-where None (not (is_values_alone s) && list_all (slot_fits s.value_kind) xs) _ tt (λ both.
-      let nulls = not-true (is_values_alone s) (and-first (not (is_values_alone s)) (list_all (slot_fits s.value_kind) xs) both) in
-      let all = fits-slots s xs nulls (and-second (not (is_values_alone s)) (list_all (slot_fits s.value_kind) xs) both) text in
-      fine-filled (slots_start c s) xs (λ v. if is_frozen s then frozen_value v else v) (last (is_frozen s) (grown c (slots_start c s) xs) (grown-is c (slots_start c s) (start-is c s nulls) xs all)))
+      let nulls = not-true (is_values_alone s)
+      (and-first (not (is_values_alone s)) (list_all (slot_fits s.value_kind) xs) both) in
+      let all = fits-slots s xs nulls
+      (and-second (not (is_values_alone s)) (list_all (slot_fits s.value_kind) xs) both) text in
+      fine-filled (slots_start c s) xs (λ v. if is_frozen s then frozen_value v else v)
+      (last (is_frozen s) (grown c (slots_start c s) xs)
+      (grown-is c (slots_start c s) (start-is c s nulls) xs all)))
     where
       not-true : (b : Bool) → not b ≡ true → b ≡ false
       not-true true e = sym e
@@ -160,16 +216,20 @@ module _ {T : Type 0} (c : Types T) where
       last false v is = is
   fine-makes s (ask.items xs) kind text =
       fine-where None (list_all (fits s.value_kind) xs) _ tt (λ fit.
-      fine-filled (empty_value c s) (map Some xs) (λ v. v) (grown-is c (empty_value c s) (empty-is c s) (map Some xs) (items-slots s xs (fits-stored s.value_kind xs fit text))))
+      fine-filled (empty_value c s) (map Some xs) (λ v. v)
+      (grown-is c (empty_value c s) (empty-is c s) (map Some xs)
+      (items-slots s xs (fits-stored s.value_kind xs fit text))))
 
   -- ---- what an entry holds
 
   -- slots that fit a value of a kind
-  slot-of : (s : Shape) (x : Option (Stored T)) → slot_fits s.value_kind x ≡ true → IsTextSlot x → (is_some x ≡ false → is_values_alone s ≡ false) → IsSlot s x
+  slot-of : (s : Shape) (x : Option (Stored T)) → slot_fits s.value_kind x ≡ true → IsTextSlot x
+      → (is_some x ≡ false → is_values_alone s ≡ false) → IsSlot s x
   slot-of s None fit text nulls = nulls refl
   slot-of s (Some x) fit text nulls = record { of_value_kind = fit; text = text }
 
-  nulls-where : (s : Shape) (x : Option (Stored T)) → (is_nullable s || not (is_none x)) ≡ true → is_some x ≡ false → is_values_alone s ≡ false
+  nulls-where : (s : Shape) (x : Option (Stored T)) → (is_nullable s || not (is_none x)) ≡ true → is_some x ≡ false
+      → is_values_alone s ≡ false
   nulls-where s None may none = nullable-nulls s.group s.value_kind (first (is_nullable s) may)
     where
       first : (b : Bool) → (b || false) ≡ true → b ≡ true
@@ -180,18 +240,22 @@ module _ {T : Type 0} (c : Types T) where
   fine-leaves : (w : Value T) → IsValue c w → Fine (leaves w)
   fine-leaves w kept = fine-gives done (Some w) kept
 
-  fine-extends : (v : Value T) → IsValue c v → (xs : List (Option (Stored T))) → All (IsSlot v.shape) xs → Fine (Extends c v xs)
+  fine-extends : (v : Value T) → IsValue c v → (xs : List (Option (Stored T))) → All (IsSlot v.shape) xs
+      → Fine (Extends c v xs)
   fine-extends v of xs all reply new =
       by-bool (is_memory reply)
-      (λ _ h. subst (λ (n : Option (Value T)). IfSome n (IsValue c)) (sym h.2) (grown-is c v of (take h.0 xs) (All-take (IsSlot v.shape) h.0 xs all)))
-      (λ _ h. subst (λ (n : Option (Value T)). IfSome n (IsValue c)) (sym h.1) (grown-is c v of (take (fitting c v xs) xs) (All-take (IsSlot v.shape) (fitting c v xs) xs all)))
+      (λ _ h. subst (λ (n : Option (Value T)). IfSome n (IsValue c)) (sym h.2)
+      (grown-is c v of (take h.0 xs) (All-take (IsSlot v.shape) h.0 xs all)))
+      (λ _ h. subst (λ (n : Option (Value T)). IfSome n (IsValue c)) (sym h.1)
+      (grown-is c v of (take (fitting c v xs) xs) (All-take (IsSlot v.shape) (fitting c v xs) xs all)))
 
   module _ (old : Option (Value T)) (is : IfSome old (IsValue c)) where
     fine-tells : (said : Answer T) → Fine (answers old said)
     fine-tells said = fine-gives said old is
 
     fine-copied : (v : Value T) (row : rows.Row T) → Fine row → Fine (copied c old v row)
-    fine-copied v row fine reply new = by-bool (is_var_binary v.shape) (λ _ h. fine-memory old row is fine reply new h) (λ _ h. fine reply new h)
+    fine-copied v row fine reply new = by-bool (is_var_binary v.shape)
+        (λ _ h. fine-memory old row is fine reply new h) (λ _ h. fine reply new h)
 
     fine-asks : (row : rows.Row T) → Fine row → Fine (memory old row)
     fine-asks row fine = fine-memory old row is fine
@@ -199,11 +263,15 @@ module _ {T : Type 0} (c : Types T) where
     fine-becomes : (w : Value T) → IsValue c w → Fine (memory old (leaves w))
     fine-becomes w kept = fine-asks (leaves w) (fine-leaves w kept)
 
-    fine-row : (asked : Ask T) (v : Value T) → IsValue c v → (effect c old asked).kinds v.shape ≡ true → IsTextAsk asked → Fine ((effect c old asked).row v)
+    fine-row : (asked : Ask T) (v : Value T) → IsValue c v → (effect c old asked).kinds v.shape ≡ true
+        → IsTextAsk asked → Fine ((effect c old asked).row v)
     fine-row ask.len v of for text = fine-tells _
-    fine-row (ask.value i) v of for text = fine-given old (slice_get (stored_values v.column) i) _ is (λ x got. fine-copied v _ (fine-tells _))
-    fine-row (ask.get i) v of for text = fine-given old (slice_get (slots_of v.column) i) _ is (λ x got. fine-copied v _ (fine-tells _))
-    fine-row (ask.is_null i) v of for text = fine-given old (slice_get (marks_of v.column) i) _ is (λ x got. fine-tells _)
+    fine-row (ask.value i) v of for text = fine-given old (slice_get (stored_values v.column) i) _ is
+        (λ x got. fine-copied v _ (fine-tells _))
+    fine-row (ask.get i) v of for text = fine-given old (slice_get (slots_of v.column) i) _ is
+        (λ x got. fine-copied v _ (fine-tells _))
+    fine-row (ask.is_null i) v of for text = fine-given old (slice_get (marks_of v.column) i) _ is
+        (λ x got. fine-tells _)
     fine-row ask.null_count v of for text = fine-tells _
     fine-row ask.all_slots v of for text = fine-asks _ (fine-tells _)
     fine-row (ask.turns turns) v of for text = fine-asks _ (fine-tells _)
@@ -214,60 +282,105 @@ module _ {T : Type 0} (c : Types T) where
     fine-row (ask.slice a n) v of for text = fine-where old _ _ is (λ fit. fine-leaves _ (cut-is c v of a n for))
     fine-row ask.empty v of for text = fine-gives done None tt
     fine-row (ask.set_mask mask) v of for text =
-        fine-where old _ _ is (λ fit. fine-becomes _ (with-mask-is c v of mask (masked-nulls v.shape.group v.shape.value_kind (not (is_boolean v.shape)) for)))
+        fine-where old _ _ is
+        (λ fit. fine-becomes _
+        (with-mask-is c v of mask (masked-nulls v.shape.group v.shape.value_kind (not (is_boolean v.shape)) for)))
     fine-row (ask.apply_mask change) v of for text =
         fine-given old (change_of_marks change) _ is (λ of_marks got.
         fine-test v.column.held _ _
-        (λ held. fine-becomes _ (with-mask-is c v of (Some (changed of_marks (marks_of v.column))) (masked-nulls v.shape.group v.shape.value_kind (is_var_binary v.shape) for)))
+        (λ held. fine-becomes _
+        (with-mask-is c v of (Some (changed of_marks (marks_of v.column)))
+        (masked-nulls v.shape.group v.shape.value_kind (is_var_binary v.shape) for)))
         (λ bare. fine-leaves v of))
     fine-row (ask.set_values xs) v of for text =
-        fine-where old (nat_eq (length xs) (length v.column.rows) && list_all (fits v.shape.value_kind) xs) _ is (λ both.
-        fine-becomes _ (with-stored-is c v of xs (fits-stored v.shape.value_kind xs (and-second (nat_eq (length xs) (length v.column.rows)) (list_all (fits v.shape.value_kind) xs) both) text)))
+        fine-where old (nat_eq (length xs) (length v.column.rows)
+        && list_all (fits v.shape.value_kind) xs) _ is (λ both.
+        fine-becomes _ (with-stored-is c v of xs
+        (fits-stored v.shape.value_kind xs
+        (and-second (nat_eq (length xs) (length v.column.rows)) (list_all (fits v.shape.value_kind) xs) both)
+        text)))
     fine-row (ask.apply_values change) v of for text =
         fine-where old (change_fits v.shape.value_kind change) _ is (λ fit.
-        fine-becomes _ (with-stored-is c v of (changed change (stored_values v.column)) (changed-stored v.shape.value_kind change (stored_values v.column) fit text (stored-all c v of))))
+        fine-becomes _ (with-stored-is c v of (changed change (stored_values v.column))
+        (changed-stored v.shape.value_kind change (stored_values v.column) fit text (stored-all c v of))))
     fine-row (ask.set i None) v of for text =
-        fine-where old _ _ is (λ both. fine-becomes _ (rows-is c v of true (slice_set v.column.rows i (null_in c v, false))
-        (set-all (IsRow v.shape.value_kind true) v.column.rows i (null_in c v, false) (record { stored = default-stored c v.shape.value_kind; marked = λ bare. absurd (true≢false bare) })
+        fine-where old _ _ is
+        (λ both. fine-becomes _ (rows-is c v of true (slice_set v.column.rows i (null_in c v, false))
+        (set-all (IsRow v.shape.value_kind true) v.column.rows i (null_in c v, false)
+        (record { stored = default-stored c v.shape.value_kind; marked = λ bare. absurd (true≢false bare) })
         (held-rows v.shape.value_kind v.column.held true v.column.rows (λ bare. absurd (true≢false bare)) of.rows))
-        (λ alone. absurd (true≢false (sym alone ∙ nullable-nulls v.shape.group v.shape.value_kind (and-first (is_nullable v.shape) (not (is_var_binary v.shape)) for))))))
+        (λ alone. absurd (true≢false (sym alone
+        ∙ nullable-nulls v.shape.group v.shape.value_kind
+        (and-first (is_nullable v.shape) (not (is_var_binary v.shape)) for))))))
     fine-row (ask.set i (Some x)) v of for text =
-        fine-where old (nat_lt i (length v.column.rows) && fits v.shape.value_kind x) _ is (λ both. fine-becomes _ (rows-is c v of v.column.held (slice_set v.column.rows i (x, true))
+        fine-where old (nat_lt i (length v.column.rows)
+        && fits v.shape.value_kind x) _ is
+        (λ both. fine-becomes _ (rows-is c v of v.column.held (slice_set v.column.rows i (x, true))
         (set-all (IsRow v.shape.value_kind v.column.held) v.column.rows i (x, true)
-        (record { stored = record { of_value_kind = and-second (nat_lt i (length v.column.rows)) (fits v.shape.value_kind x) both; text = text }; marked = λ bare. refl }) of.rows)
+        (record {
+          stored = record {
+            of_value_kind = and-second (nat_lt i (length v.column.rows)) (fits v.shape.value_kind x) both;
+            text
+                = text;
+          };
+          marked = λ bare. refl;
+        }) of.rows)
         of.unmasked))
     fine-row (ask.write i x) v of for text =
         fine-where old (nat_lt i (length v.column.rows) && fits v.shape.value_kind x) _ is (λ both.
         fine-may _ old _ is (fine-leaves _ (with-stored-is c v of (slice_set (stored_values v.column) i x)
-        (set-all (IsStored v.shape.value_kind) (stored_values v.column) i x (record { of_value_kind = and-second (nat_lt i (length v.column.rows)) (fits v.shape.value_kind x) both; text = text }) (stored-all c v of)))))
+        (set-all (IsStored v.shape.value_kind) (stored_values v.column) i x
+        (record {
+          of_value_kind = and-second (nat_lt i (length v.column.rows)) (fits v.shape.value_kind x) both;
+          text = text;
+        }) (stored-all c v of)))))
     fine-row (ask.push x) v of for text =
         fine-where old (slot_fits v.shape.value_kind x && (is_nullable v.shape || not (is_none x))) _ is (λ both.
         let fit = and-first (slot_fits v.shape.value_kind x) (is_nullable v.shape || not (is_none x)) both in
         let may = and-second (slot_fits v.shape.value_kind x) (is_nullable v.shape || not (is_none x)) both in
-        fine-over old _ _ is (fine-becomes _ (appended-is c v of x (slot-of v.shape x fit text (nulls-where v.shape x may)))))
+        fine-over old _ _ is (fine-becomes _
+        (appended-is c v of x (slot-of v.shape x fit text (nulls-where v.shape x may)))))
     fine-row ask.push_null v of for text =
-        fine-becomes _ (appended-is c v of (if is_nullable v.shape then None else Some (null_in c v)) (null-slot v (is_nullable v.shape) refl))
+        fine-becomes _ (appended-is c v of (if is_nullable v.shape then None else Some (null_in c v))
+        (null-slot v (is_nullable v.shape) refl))
       where
-        null-slot : (v : Value T) (nullable : Bool) → is_nullable v.shape ≡ nullable → IsSlot v.shape (if nullable then None else Some (null_in c v))
+        null-slot : (v : Value T) (nullable : Bool) → is_nullable v.shape ≡ nullable
+            → IsSlot v.shape (if nullable then None else Some (null_in c v))
         null-slot v true so = nullable-nulls v.shape.group v.shape.value_kind so
         null-slot v false other = default-stored c v.shape.value_kind
     fine-row ask.pop v of for text =
-        let short = rows-is c v of v.column.held (take (length v.column.rows - 1) v.column.rows) (All-take (IsRow v.shape.value_kind v.column.held) (length v.column.rows - 1) v.column.rows of.rows) of.unmasked in
-        fine-test (is_some (last_slot v.column)) _ _ (λ _. fine-copied v _ (fine-gives _ (Some _) short)) (λ _. fine-gives _ (Some _) short)
+        let short = rows-is c v of v.column.held (take (length v.column.rows - 1) v.column.rows)
+        (All-take (IsRow v.shape.value_kind v.column.held) (length v.column.rows - 1) v.column.rows of.rows)
+        of.unmasked in
+        fine-test (is_some (last_slot v.column)) _ _ (λ _. fine-copied v _ (fine-gives _ (Some _) short))
+        (λ _. fine-gives _ (Some _) short)
     fine-row (ask.extend xs) v of for text =
-        fine-where old (list_all (slot_fits v.shape.value_kind) xs) _ is (λ fit. fine-extends v of xs (fits-slots v.shape xs (nullable-nulls v.shape.group v.shape.value_kind for) fit text))
+        fine-where old (list_all (slot_fits v.shape.value_kind) xs) _ is
+        (λ fit. fine-extends v of xs
+        (fits-slots v.shape xs (nullable-nulls v.shape.group v.shape.value_kind for) fit text))
     fine-row (ask.extend_values xs) v of for text =
-        fine-where old (list_all (fits v.shape.value_kind) xs) _ is (λ fit. fine-extends v of (map Some xs) (items-slots v.shape xs (fits-stored v.shape.value_kind xs fit text)))
+        fine-where old (list_all (fits v.shape.value_kind) xs) _ is
+        (λ fit. fine-extends v of (map Some xs)
+        (items-slots v.shape xs (fits-stored v.shape.value_kind xs fit text)))
     fine-row (ask.extend_constant n None) v of for text =
-        fine-where old true _ is (λ fit. fine-becomes _ (rows-is c v of true (v.column.rows ++ map (λ x. (x, false)) (replicate n (null_in c v)))
+        fine-where old true _ is
+        (λ fit. fine-becomes _
+        (rows-is c v of true (v.column.rows ++ map (λ x. (x, false)) (replicate n (null_in c v)))
         (All-append (IsRow v.shape.value_kind true) v.column.rows (map (λ x. (x, false)) (replicate n (null_in c v)))
         (held-rows v.shape.value_kind v.column.held true v.column.rows (λ bare. absurd (true≢false bare)) of.rows)
-        (nulled v.shape.value_kind (replicate n (null_in c v)) (All-replicate (IsStored v.shape.value_kind) n (null_in c v) (default-stored c v.shape.value_kind))))
-        (λ alone. absurd (true≢false (sym alone ∙ nullable-nulls v.shape.group v.shape.value_kind (and-second (is_native v.shape) (is_nullable v.shape) for))))))
+        (nulled v.shape.value_kind (replicate n (null_in c v))
+        (All-replicate (IsStored v.shape.value_kind) n (null_in c v) (default-stored c v.shape.value_kind))))
+        (λ alone. absurd (true≢false (sym alone
+        ∙ nullable-nulls v.shape.group v.shape.value_kind
+        (and-second (is_native v.shape) (is_nullable v.shape) for))))))
     fine-row (ask.extend_constant n (Some x)) v of for text =
-        fine-where old (fits v.shape.value_kind x) _ is (λ fit. fine-becomes _ (rows-is c v of v.column.held (v.column.rows ++ map (λ x. (x, true)) (replicate n x))
-        (All-append (IsRow v.shape.value_kind v.column.held) v.column.rows (map (λ x. (x, true)) (replicate n x)) of.rows
-        (valued v.shape.value_kind v.column.held (replicate n x) (All-replicate (IsStored v.shape.value_kind) n x (record { of_value_kind = fit; text = text }))))
+        fine-where old (fits v.shape.value_kind x) _ is
+        (λ fit. fine-becomes _
+        (rows-is c v of v.column.held (v.column.rows ++ map (λ x. (x, true)) (replicate n x))
+        (All-append (IsRow v.shape.value_kind v.column.held) v.column.rows (map (λ x. (x, true)) (replicate n x))
+        of.rows
+        (valued v.shape.value_kind v.column.held (replicate n x)
+        (All-replicate (IsStored v.shape.value_kind) n x (record { of_value_kind = fit; text = text }))))
         of.unmasked))
     fine-row ask.reserve v of for text = fine-becomes v of
     fine-row ask.shrink v of for text = fine-becomes v of
@@ -275,19 +388,25 @@ module _ {T : Type 0} (c : Types T) where
     fine-row ask.thaw v of for text = fine-may _ old _ is (fine-gives _ (Some (thawed_value v)) (thawed-is c v of))
     fine-row ask.nullable v of for text = fine-leaves _ (nullable-is c v of for)
     fine-row (ask.to t) v of for text =
-        fine-provided old (IsRightType (layout c v.shape.value_kind) t) _ is (λ right. fine-becomes _ (record { right_type = right; around = of.around; rows = of.rows; unmasked = of.unmasked }))
+        fine-provided old (IsRightType (layout c v.shape.value_kind) t) _ is
+        (λ right. fine-becomes _
+        (record { right_type = right; around = of.around; rows = of.rows; unmasked = of.unmasked }))
 
     fine-does : (asked : Ask T) → IsTextAsk asked → Fine (Does c old asked)
-    fine-does asked text = fine-kind old (effect c old asked).kinds (effect c old asked).row is (λ v of for. fine-row asked v of for text)
+    fine-does asked text = fine-kind old (effect c old asked).kinds (effect c old asked).row is
+        (λ v of for. fine-row asked v of for text)
 
     fine-joins : (other : Option (Value T)) → IfSome other (IsValue c) → Fine (Joins_to c old other)
     fine-joins other also =
-        fine-kind old is_builder (λ v. require_some old other (Joins c old v)) is (λ v of for. fine-given old other (Joins c old v) is (λ w got.
-        fine-where old (same_kind v.shape w.shape) _ is (λ same. fine-over old _ _ is (fine-becomes _ (joined-is c v w of (some-is other w got also) same)))))
+        fine-kind old is_builder (λ v. require_some old other (Joins c old v)) is
+        (λ v of for. fine-given old other (Joins c old v) is (λ w got.
+        fine-where old (same_kind v.shape w.shape) _ is
+        (λ same. fine-over old _ _ is (fine-becomes _ (joined-is c v w of (some-is other w got also) same)))))
 
     fine-compares : (other : Option (Value T)) → Fine (Compares_to old other)
     fine-compares other =
-        fine-kind old is_nullable (λ v. require_some old other (Compares old v)) is (λ v of for. fine-given old other (Compares old v) is (λ w got.
+        fine-kind old is_nullable (λ v. require_some old other (Compares old v)) is
+        (λ v of for. fine-given old other (Compares old v) is (λ w got.
         fine-where old (same_kind v.shape w.shape) _ is (λ same reply new h. fine-tells _ reply new h.2)))
 
   -- rows of an array
@@ -295,13 +414,15 @@ module _ {T : Type 0} (c : Types T) where
     fine-filtered : (filter : Column Bool) → is_frozen v.shape ≡ true → Fine (Filtered filter v)
     fine-filtered filter array =
         fine-where None _ _ tt (λ same. fine-memory None _ tt (fine-gives done (Some _)
-        (alone-is c v is (kernels.where_set (kernels.asked filter) v.column.rows) array (where-all (IsRow v.shape.value_kind v.column.held) (kernels.asked filter) v.column.rows is.rows))))
+        (alone-is c v is (kernels.where_set (kernels.asked filter) v.column.rows) array
+        (where-all (IsRow v.shape.value_kind v.column.held) (kernels.asked filter) v.column.rows is.rows))))
 
     fine-taken : (most : ℕ) (keys : List ℤ) → is_frozen v.shape ≡ true → Fine (Taken most keys v)
     fine-taken most keys array reply new =
         by-option (kernels.first_out_of_bounds (λ key. key) v.column keys)
         (λ h. fine-over None _ _ tt (fine-memory None _ tt (fine-gives done (Some _)
-        (alone-is c v is (kernels.at_keys (λ key. key) keys v.column.rows) array (keys-all (IsRow v.shape.value_kind v.column.held) keys v.column.rows is.rows)))) reply new h)
+        (alone-is c v is (kernels.at_keys (λ key. key) keys v.column.rows) array
+        (keys-all (IsRow v.shape.value_kind v.column.held) keys v.column.rows is.rows)))) reply new h)
         (λ key got h. fine-gives _ None tt reply new h)
 
   -- ---- the table
@@ -309,7 +430,8 @@ module _ {T : Type 0} (c : Types T) where
   entry-is : (state : State T) (e : ℕ) → AreValues c state → IfSome (entry_at state e) (IsValue c)
   entry-is state e all = found (slice_get state e) refl
     where
-      found : (entry : Option (Option (Value T))) → slice_get state e ≡ entry → IfSome (option_and_then (λ (x : Option (Value T)). x) entry) (IsValue c)
+      found : (entry : Option (Option (Value T))) → slice_get state e ≡ entry
+          → IfSome (option_and_then (λ (x : Option (Value T)). x) entry) (IsValue c)
       found None got = tt
       found (Some entry) got = get-all (λ (entry : Option (Value T)). IfSome entry (IsValue c)) state e entry got all
 
@@ -320,23 +442,28 @@ module _ {T : Type 0} (c : Types T) where
       either true = tt
       either false = entry-is state f all
 
-  fine-entry : (state : State T) (e : ℕ) (row : Option (Value T) → rows.Row T) (reply : Answer T) (new : State T) → AreValues c state
-      → ((old : Option (Value T)) → IfSome old (IsValue c) → Fine (row old)) → AtEntry state e row reply new → AreValues c new
+  fine-entry : (state : State T) (e : ℕ) (row : Option (Value T) → rows.Row T) (reply : Answer T) (new : State T)
+      → AreValues c state
+      → ((old : Option (Value T)) → IfSome old (IsValue c) → Fine (row old)) → AtEntry state e row reply new
+      → AreValues c new
   fine-entry state e row reply new all fine =
       by-option (slice_get state e)
       (λ h. subst (AreValues c) (sym h.1) all)
       (λ old got h. subst (AreValues c) (sym h.2)
       (set-all (λ (entry : Option (Value T)). IfSome entry (IsValue c)) state e h.0
-      (fine old (get-all (λ (entry : Option (Value T)). IfSome entry (IsValue c)) state e old got all) reply h.0 h.1) all))
+      (fine old (get-all (λ (entry : Option (Value T)). IfSome entry (IsValue c)) state e old got all) reply h.0 h.1)
+      all))
 
-  array-of : (from : Option (Value T)) (v : Value T) → array_in from ≡ Some v → (from ≡ Some v) × (is_frozen v.shape ≡ true)
+  array-of : (from : Option (Value T)) (v : Value T) → array_in from ≡ Some v
+      → (from ≡ Some v) × (is_frozen v.shape ≡ true)
   array-of None v got = absurd (none got)
     where
       none : (let it : Option (Value T) = None in it) ≡ Some v → ⊥
       none e = cc
   array-of (Some w) v got = either (is_frozen w.shape) refl got
     where
-      either : (array : Bool) → is_frozen w.shape ≡ array → (if array then Some w else None) ≡ Some v → (Some w ≡ Some v) × (is_frozen v.shape ≡ true)
+      either : (array : Bool) → is_frozen w.shape ≡ array → (if array then Some w else None) ≡ Some v
+          → (Some w ≡ Some v) × (is_frozen v.shape ≡ true)
       either true so got = (got, subst (λ (u : Value T). is_frozen u.shape ≡ true) (some-same w v got) so)
         where
           some-same : (a b : Value T) → Some a ≡ Some b → a ≡ b
@@ -346,37 +473,51 @@ module _ {T : Type 0} (c : Types T) where
           none : (let it : Option (Value T) = None in it) ≡ Some v → ⊥
           none e = cc
 
-  fine-array : (from : Option (Value T)) (row : Value T → rows.Row T) → IfSome from (IsValue c) → ((v : Value T) → IsValue c v → is_frozen v.shape ≡ true → Fine (row v)) → Fine (require_some None (array_in from) row)
-  fine-array from row is fine = fine-given None (array_in from) row tt (λ v got. let found = array-of from v got in fine v (some-is from v found.0 is) found.1)
+  fine-array : (from : Option (Value T)) (row : Value T → rows.Row T) → IfSome from (IsValue c)
+      → ((v : Value T) → IsValue c v → is_frozen v.shape ≡ true → Fine (row v))
+      → Fine (require_some None (array_in from) row)
+  fine-array from row is fine = fine-given None (array_in from) row tt
+      (λ v got. let found = array-of from v got in fine v (some-is from v found.0 is) found.1)
 
   fine-puts : (row : rows.Row T) (old : Option (Value T)) → IfSome old (IsValue c) → Fine row → Fine (IntoEmpty row old)
   fine-puts row old is fine = fine-where old (is_none old) row is (λ _. fine)
 
-  pub fine-changes : (state : State T) (asks : Request T) (reply : Answer T) (new : State T) → IsRequest asks → AreValues c state → Changes c state asks reply new → AreValues c new
+  pub fine-changes : (state : State T) (asks : Request T) (reply : Answer T) (new : State T) → IsRequest asks
+      → AreValues c state → Changes c state asks reply new → AreValues c new
   fine-changes state (make e s source) reply new text all =
-      fine-entry state e (IntoEmpty (Makes c s source)) reply new all (λ old is. fine-puts (Makes c s source) old is (fine-makes s source text.0 text.1))
+      fine-entry state e (IntoEmpty (Makes c s source)) reply new all
+      (λ old is. fine-puts (Makes c s source) old is (fine-makes s source text.0 text.1))
   fine-changes state (at e asked) reply new text all =
       fine-entry state e (λ old. Does c old asked) reply new all (λ old is. fine-does old is asked text)
   fine-changes state (clone_to e f) reply new text all =
       fine-entry state f (IntoEmpty (Clones (entry_at state e))) reply new all (λ old is.
       fine-puts (Clones (entry_at state e)) old is
-      (fine-given None (entry_at state e) _ tt (λ w got. fine-memory None _ tt (fine-gives done (Some w) (some-is (entry_at state e) w got (entry-is state e all))))))
+      (fine-given None (entry_at state e) _ tt
+      (λ w got. fine-memory None _ tt
+      (fine-gives done (Some w) (some-is (entry_at state e) w got (entry-is state e all))))))
   fine-changes state (extend_from e f) reply new text all =
-      fine-entry state e (λ old. Joins_to c old (other_at state e f)) reply new all (λ old is. fine-joins old is (other_at state e f) (other-is state e f all))
+      fine-entry state e (λ old. Joins_to c old (other_at state e f)) reply new all
+      (λ old is. fine-joins old is (other_at state e f) (other-is state e f all))
   fine-changes state (equal e f) reply new text all =
-      fine-entry state e (λ old. Compares_to old (entry_at state f)) reply new all (λ old is. fine-compares old is (entry_at state f))
+      fine-entry state e (λ old. Compares_to old (entry_at state f)) reply new all
+      (λ old is. fine-compares old is (entry_at state f))
   fine-changes state (filter_to e f g) reply new text all =
       fine-entry state g (IntoEmpty (Filters (entry_at state e) (entry_at state f))) reply new all (λ old is.
       fine-puts (Filters (entry_at state e) (entry_at state f)) old is
-      (fine-given None (filter_in (entry_at state f)) _ tt (λ filter got. fine-array (entry_at state e) (Filtered filter) (entry-is state e all) (λ v of array. fine-filtered v of filter array))))
+      (fine-given None (filter_in (entry_at state f)) _ tt
+      (λ filter got. fine-array (entry_at state e) (Filtered filter) (entry-is state e all)
+      (λ v of array. fine-filtered v of filter array))))
   fine-changes state (take_to e keys g) reply new text all =
       fine-entry state g (IntoEmpty (Takes c.most keys (entry_at state e))) reply new all (λ old is.
-      fine-puts (Takes c.most keys (entry_at state e)) old is (fine-array (entry_at state e) (Taken c.most keys) (entry-is state e all) (λ v of array. fine-taken v of c.most keys array)))
+      fine-puts (Takes c.most keys (entry_at state e)) old is
+      (fine-array (entry_at state e) (Taken c.most keys) (entry-is state e all)
+      (λ v of array. fine-taken v of c.most keys array)))
   fine-changes state (check_indexes keys n) reply new text all = λ h. subst (AreValues c) (sym h.1) all
 
   -- ---- runs
 
-  pub fine-run : (old : Held T) (requests : List (Request T)) (replies : List (Answer T)) (new : Held T) → All IsRequest requests → AreValues c old.entries → IsRun c old requests replies new → AreValues c new.entries
+  pub fine-run : (old : Held T) (requests : List (Request T)) (replies : List (Answer T)) (new : Held T)
+      → All IsRequest requests → AreValues c old.entries → IsRun c old requests replies new → AreValues c new.entries
   fine-run old [] [] new named all run = subst (λ (held : Held T). AreValues c held.entries) (sym run) all
   fine-run old [] (reply ∷ replies) new named all run = absurd run
   fine-run old (asks ∷ requests) [] new named all run = absurd run
@@ -388,7 +529,8 @@ module _ {T : Type 0} (c : Types T) where
 
 module _ {T : Type 0} where
   over-is : (c d : Types T) (v : Value T) → IsValue c v → IsValue d (with_offset_width d v)
-  over-is c d v is = record { right_type = default-right d v.shape.value_kind; around = is.around; rows = is.rows; unmasked = is.unmasked }
+  over-is c d v is = record
+      { right_type = default-right d v.shape.value_kind; around = is.around; rows = is.rows; unmasked = is.unmasked }
 
   items-of : (from : Option (Value T)) (v : Value T) → items_in from ≡ Some v → from ≡ Some v
   items-of None v got = got
@@ -402,29 +544,47 @@ module _ {T : Type 0} where
           none e = cc
 
   fine-widens : (c d : Types T) (from : Option (Value T)) → IfSome from (IsValue c) → Fine d (Widens d from)
-  fine-widens c d from is = fine-given d None (items_in from) _ tt (λ v got. fine-memory d None _ tt (fine-gives d done (Some (with_offset_width d v)) (over-is c d v (some-is c from v (items-of from v got) is))))
+  fine-widens c d from is = fine-given d None (items_in from) _ tt
+      (λ v got. fine-memory d None _ tt
+      (fine-gives d done (Some (with_offset_width d v)) (over-is c d v (some-is c from v (items-of from v got) is))))
 
   fine-narrows : (c d : Types T) (from : Option (Value T)) → IfSome from (IsValue c) → Fine d (Narrows d from)
   fine-narrows c d from is =
-      fine-given d None (items_in from) _ tt (λ v got. fine-over d None _ _ tt (fine-memory d None _ tt (fine-gives d done (Some (with_offset_width d v)) (over-is c d v (some-is c from v (items-of from v got) is)))))
+      fine-given d None (items_in from) _ tt
+      (λ v got. fine-over d None _ _ tt
+      (fine-memory d None _ tt
+      (fine-gives d done (Some (with_offset_width d v))
+      (over-is c d v (some-is c from v (items-of from v got) is)))))
 
   module _ (zero : T) (primitive : PrimitiveType) where
-    pub fine-both : (old : Both T) (asks : BothRequest T) (reply : Answer T) (new : Both T) → IsBothRequest asks → AreValues (narrow_types zero primitive) old.narrow.entries
+    pub fine-both : (old : Both T) (asks : BothRequest T) (reply : Answer T) (new : Both T) → IsBothRequest asks
+        → AreValues (narrow_types zero primitive) old.narrow.entries
         → AreValues (wide_types zero primitive) old.wide.entries → IsBothStep zero primitive old asks reply new
-        → AreValues (narrow_types zero primitive) new.narrow.entries × AreValues (wide_types zero primitive) new.wide.entries
-    fine-both old (narrow asks) reply new named small large h =
-        (fine-changes (narrow_types zero primitive) old.narrow.entries asks reply new.narrow.entries named small h.0.0, subst (λ (held : Held T). AreValues (wide_types zero primitive) held.entries) (sym h.1) large)
-    fine-both old (wide asks) reply new named small large h =
-        (subst (λ (held : Held T). AreValues (narrow_types zero primitive) held.entries) (sym h.1) small, fine-changes (wide_types zero primitive) old.wide.entries asks reply new.wide.entries named large h.0.0)
+        → AreValues (narrow_types zero primitive) new.narrow.entries
+        × AreValues (wide_types zero primitive) new.wide.entries
+    fine-both old (narrow asks) reply new named small large h = (
+      fine-changes (narrow_types zero primitive) old.narrow.entries asks reply new.narrow.entries named small
+          h.0.0,
+      subst (λ (held : Held T). AreValues (wide_types zero primitive) held.entries) (sym h.1) large,
+    )
+    fine-both old (wide asks) reply new named small large h = (
+      subst (λ (held : Held T). AreValues (narrow_types zero primitive) held.entries) (sym h.1) small,
+      fine-changes
+          (wide_types zero primitive) old.wide.entries asks reply new.wide.entries named large h.0.0,
+    )
     fine-both old (widen e f) reply new named small large h =
         let c = narrow_types zero primitive in let d = wide_types zero primitive in (
           subst (λ (held : Held T). AreValues c held.entries) (sym h.2) small,
-          fine-entry d old.wide.entries f (IntoEmpty (Widens d (entry_at old.narrow.entries e))) reply new.wide.entries large
-              (λ kept is. fine-puts d (Widens d (entry_at old.narrow.entries e)) kept is (fine-widens c d (entry_at old.narrow.entries e) (entry-is c old.narrow.entries e small))) h.0,
+          fine-entry d old.wide.entries f (IntoEmpty (Widens d (entry_at old.narrow.entries e))) reply
+              new.wide.entries large
+              (λ kept is. fine-puts d (Widens d (entry_at old.narrow.entries e)) kept is
+              (fine-widens c d (entry_at old.narrow.entries e) (entry-is c old.narrow.entries e small))) h.0,
         )
     fine-both old (narrow_to e f) reply new named small large h =
         let c = wide_types zero primitive in let d = narrow_types zero primitive in (
-          fine-entry d old.narrow.entries f (IntoEmpty (Narrows d (entry_at old.wide.entries e))) reply new.narrow.entries small
-              (λ kept is. fine-puts d (Narrows d (entry_at old.wide.entries e)) kept is (fine-narrows c d (entry_at old.wide.entries e) (entry-is c old.wide.entries e large))) h.0,
+          fine-entry d old.narrow.entries f (IntoEmpty (Narrows d (entry_at old.wide.entries e))) reply
+              new.narrow.entries small
+              (λ kept is. fine-puts d (Narrows d (entry_at old.wide.entries e)) kept is
+              (fine-narrows c d (entry_at old.wide.entries e) (entry-is c old.wide.entries e large))) h.0,
           subst (λ (held : Held T). AreValues c held.entries) (sym h.2) large,
         )

@@ -1,6 +1,7 @@
--- Tables of both widths, and what commands do to them. The state is one list, the narrow entries, whose offsets are of 32
--- bits, and then the wide ones, whose offsets are of 64; it is written as these two halves, each a table.
-use Rattle.std.specs.Prelude.{◌≡◌, ℕ, true, false, ◌&&◌, List, [], ◌∷◌, ◌++◌, map, Option, Some, None, option_and_then, if◌then◌else◌}
+-- Tables of both widths, and what commands do to them. The state is one list, the narrow entries, whose offsets are
+-- of 32 bits, and then the wide ones, whose offsets are of 64; it is written as these two halves, each a table.
+use Rattle.std.specs.Prelude.{◌≡◌, ℕ, true, false, ◌&&◌, List, [], ◌∷◌, ◌++◌, map, Option, Some, None}
+use Rattle.std.specs.Prelude.{option_and_then, if◌then◌else◌}
 use Rattle.arrow_types.specs.declared.primitive_type.PrimitiveType.{PrimitiveType}
 use Rattle.arrow_column.specs.Column.{with_type}
 use Rattle.arrow_bytes.specs.Selection.{narrowing_overflows}
@@ -22,7 +23,8 @@ pub record Both (T : Type 0) : Type 0 where
   pub narrow : Held T
   pub wide : Held T
 
--- what is asked: a command of one half; or that an array of a narrow entry be put into a wide one, or the other way round
+-- what is asked: a command of one half; or that an array of a narrow entry be put into a wide one, or the other way
+-- round
 pub data BothRequest (T : Type 0) : Type 0 where
   narrow wide : Request T → BothRequest T
   widen narrow_to : ℕ → ℕ → BothRequest T
@@ -57,7 +59,9 @@ module _ {T : Type 0} where
   Widens c from = require_some None (items_in from) (λ v. memory None (leaves (with_offset_width c v)))
 
   abbrev pub Narrows : Types T → Option (Value T) → Row T
-  Narrows c from = require_some None (items_in from) (λ v. unless_over None (narrowing_overflows (bytes_column v.column)) (memory None (leaves (with_offset_width c v))))
+  Narrows c from = require_some None (items_in from)
+      (λ v. unless_over None (narrowing_overflows (bytes_column v.column))
+      (memory None (leaves (with_offset_width c v))))
 
 -- what is known of either width
 module _ {T : Type 0} (zero : T) (primitive : PrimitiveType) where
@@ -75,10 +79,12 @@ module _ {T : Type 0} (zero : T) (primitive : PrimitiveType) where
       AtEntry old.wide.entries f (IntoEmpty (Widens wide_types (entry_at old.narrow.entries e))) reply new.wide.entries
       × (new.wide.cost ≡ old.wide.cost) × (new.narrow ≡ old.narrow)
   IsBothStep old (narrow_to e f) reply new =
-      AtEntry old.narrow.entries f (IntoEmpty (Narrows narrow_types (entry_at old.wide.entries e))) reply new.narrow.entries
+      AtEntry old.narrow.entries f (IntoEmpty (Narrows narrow_types (entry_at old.wide.entries e))) reply
+      new.narrow.entries
       × (new.narrow.cost ≡ old.narrow.cost) × (new.wide ≡ old.wide)
 
   -- a list of commands, whose replies are appended to those that were there
   abbrev pub AppendsBothRun : Both T → List (BothCommand T) → List (Reply T) → List (Reply T) → Both T → Type 0
   AppendsBothRun tables commands before after new =
-      (replies : List (Reply T)) × (after ≡ before ++ replies) × Runs IsBothStep tables (map both_asked commands) (map answer_of replies) new
+      (replies : List (Reply T)) × (after ≡ before ++ replies)
+      × Runs IsBothStep tables (map both_asked commands) (map answer_of replies) new

@@ -1,7 +1,9 @@
 -- How the values of entries change.
-use Rattle.std.specs.Prelude.{ℕ, ◌+◌, ◌-◌, suc, Bool, List, [], ◌∷◌, length, map, take, drop, Option, Some, None, slice_get, if◌then◌else◌}
+use Rattle.std.specs.Prelude.{ℕ, ◌+◌, ◌-◌, suc, Bool, List, [], ◌∷◌, length, map, take, drop, Option, Some, None}
+use Rattle.std.specs.Prelude.{slice_get, if◌then◌else◌}
 use Rattle.std.specs.List.{concat}
-use Rattle.arrow_column.specs.Column.{ColumnWith, column_with, cut_with, append_slots, slot_overflows, stored_values, without_needless_mask}
+use Rattle.arrow_column.specs.Column.{ColumnWith, column_with, cut_with, append_slots, slot_overflows, stored_values}
+use Rattle.arrow_column.specs.Column.{without_needless_mask}
 use Rattle.arrow_check.specs.Pieces.{bytes_of, offsets_of}
 use Rattle.arrow_bytes.specs.Pieces.{Around, nothing_around, around_cut, overflows_by}
 use Rattle.arrow_bytes.specs.Column.{item_overflows}
@@ -31,8 +33,8 @@ module _ {T : Type 0} where
   abbrev pub without_tail : Value T → ColumnWith Around (Stored T)
   without_tail v = record v.column { around = record v.column.around { tail = [] } }
 
-  -- the array of the same slots, with nothing behind them: a mask is held exactly where a slot is null; of truth values, where
-  -- it was
+  -- the array of the same slots, with nothing behind them: a mask is held exactly where a slot is null; of truth
+  -- values, where it was
   abbrev pub frozen_value : Value T → Value T
   frozen_value v = record {
     shape = shaped frozen v.shape.value_kind;
@@ -61,7 +63,8 @@ module _ {T : Type 0} where
 
     -- the same, to which slots are to be appended: one of native values holds a mask from the first
     abbrev pub slots_start : Shape → Value T
-    slots_start s = with_column (empty_value s) (column_with (default_type c s.value_kind) nothing_around [] (if is_native s then Some [] else None))
+    slots_start s = with_column (empty_value s)
+        (column_with (default_type c s.value_kind) nothing_around [] (if is_native s then Some [] else None))
 
     -- what a null stores there
     abbrev pub null_in : Value T → Stored T
@@ -80,7 +83,8 @@ module _ {T : Type 0} where
 
     -- whether the rows of another are more than offsets can tell the ends of
     abbrev pub join_over : Value T → Value T → Bool
-    join_over v w = overflows_by c.most v.column.around (map bytes_in (stored_values v.column)) (length (concat (map bytes_in (stored_values w.column))))
+    join_over v w = overflows_by c.most v.column.around (map bytes_in (stored_values v.column))
+        (length (concat (map bytes_in (stored_values w.column))))
 
     -- how many of these slots can be appended before the first that is more
     abbrev pub fitting : Value T → List (Option (Stored T)) → ℕ

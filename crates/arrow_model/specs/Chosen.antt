@@ -37,4 +37,5 @@ module _ {T : Type 0} where
 
   -- a filter, where what stands in an entry is an array of truth values
   abbrev pub filter_in : Option (Value T) → Option (Column Bool)
-  filter_in = option_and_then (λ (v : Value T). if is_frozen v.shape && is_boolean v.shape then Some (bits_column v.column) else None)
+  filter_in = option_and_then (λ (v : Value T). if is_frozen v.shape
+      && is_boolean v.shape then Some (bits_column v.column) else None)

@@ -1,5 +1,6 @@
 -- Items, apart from where their bytes lie.
-use Rattle.std.specs.Prelude.{ℕ, Bool, true, false, List, [], length, replicate, reverse, Option, Some, None, option_map, string_bytes}
+use Rattle.std.specs.Prelude.{ℕ, Bool, true, false, List, [], length, replicate, reverse, Option, Some, None}
+use Rattle.std.specs.Prelude.{option_map, string_bytes}
 use Rattle.arrow_model.specs.declared.item.Item.{Item}
 use Rattle.arrow_model.specs.declared.item.Item.TheVariants as item
 use Rattle.arrow_model.specs.declared.item.Change.{Change}

@@ -46,8 +46,8 @@ pub data Ask (T : Type 0) : Type 0 where
   extend_constant : ℕ → Option (Stored T) → Ask T
   to : LogicalType → Ask T
 
--- what is asked of a table, each with the numbers of its entries in the order of the command: that an entry be made; something
--- of what it holds; something of two entries, or of three; something of none
+-- what is asked of a table, each with the numbers of its entries in the order of the command: that an entry be
+-- made; something of what it holds; something of two entries, or of three; something of none
 pub data Request (T : Type 0) : Type 0 where
   make : ℕ → Shape → Source T → Request T
   at : ℕ → Ask T → Request T

@@ -1,6 +1,7 @@
 -- What a command may do to one entry, in the words that its rows are written in. A command's condition is tested:
 -- where it fails the answer is `not_met` and nothing changes, and it is `not_met` nowhere else.
-use Rattle.std.specs.Prelude.{◌≡◌, ◌⊎◌, Bool, Option, Some, None, MatchOption, MatchBool, option_and_then, if◌then◌else◌}
+use Rattle.std.specs.Prelude.{◌≡◌, ◌⊎◌, Bool, Option, Some, None, MatchOption, MatchBool, option_and_then}
+use Rattle.std.specs.Prelude.{if◌then◌else◌}
 use Rattle.arrow_model.specs.Kind.{Shape}
 use Rattle.arrow_model.specs.Answer.{Answer, done, not_met, is_memory}
 use Rattle.arrow_model.specs.Value.{Value}

@@ -14,7 +14,8 @@ abbrev pub Runs : {S C A : Type 0} → (S → C → A → S → Type 0) → S �
 Runs Step state [] [] new = new ≡ state
 Runs Step state [] (reply ∷ replies) new = ⊥
 Runs Step state (command ∷ commands) [] new = ⊥
-Runs {S} Step state (command ∷ commands) (reply ∷ replies) new = (next : S) × Step state command reply next × Runs Step next commands replies new
+Runs {S} Step state (command ∷ commands) (reply ∷ replies) new = (next : S) × Step state command reply next
+    × Runs Step next commands replies new
 
 module _ {T : Type 0} (c : Types T) where
   -- commands, with an answer for each, lead from one table to another
@@ -22,9 +23,11 @@ module _ {T : Type 0} (c : Types T) where
   IsRun = Runs (IsStep c)
 
   -- the replies of such a run are appended to those that were there
-  abbrev pub AppendsRun : {O : Type 0} → (O → ℤ) → Held T → List (Command T O) → List (Reply T) → List (Reply T) → Held T → Type 0
+  abbrev pub AppendsRun : {O : Type 0} → (O → ℤ) → Held T → List (Command T O) → List (Reply T) → List (Reply T)
+      → Held T → Type 0
   AppendsRun number table commands before after new =
-      (replies : List (Reply T)) × (after ≡ before ++ replies) × IsRun table (map (asked number) commands) (map answer_of replies) new
+      (replies : List (Reply T)) × (after ≡ before ++ replies)
+      × IsRun table (map (asked number) commands) (map answer_of replies) new
 
 -- only raw parts are tested
 abbrev pub is_parts : {T : Type 0} → Request T → Bool

@@ -1,24 +1,35 @@
 -- What each command does to the entry that it names, and what it answers. What is freely chosen stands behind
 -- `or_else_keep`, and behind `memory` that the answer may be out of memory.
-use Rattle.std.specs.Prelude.{◌≡◌, ◌↔◌, ℕ, ℤ, ◌-◌, ◌==◌, ◌<◌, Bool, true, false, not, ◌&&◌, ◌||◌, nat_le, nat_lt, nat_eq, List, [], ◌∷◌, length, map, take, replicate, count_by, find, is_none, is_some, Option, Some, None, option_and_then, MatchOption, MatchBool, IsTrue, slice_get, slice_set, if◌then◌else◌}
+use Rattle.std.specs.Prelude.{◌≡◌, ◌↔◌, ℕ, ℤ, ◌-◌, ◌==◌, ◌<◌, Bool, true, false, not, ◌&&◌, ◌||◌, nat_le, nat_lt}
+use Rattle.std.specs.Prelude.{nat_eq, List, [], ◌∷◌, length, map, take, replicate, count_by, find, is_none, is_some}
+use Rattle.std.specs.Prelude.{Option, Some, None, option_and_then, MatchOption, MatchBool, IsTrue, slice_get}
+use Rattle.std.specs.Prelude.{slice_set, if◌then◌else◌}
 use Rattle.std.specs.List.{list_all}
 use Rattle.std.specs.Option.{option_map_or}
 use Rattle.arrow_types.specs.Types.{IsRightType, overflow}
-use Rattle.arrow_column.specs.Column.{Column, ColumnWith, column_with, slots_of, stored_values, marks_of, append_nulls, append_values, last_slot, without_last, joined, with_slot, with_mask, with_stored, with_type}
+use Rattle.arrow_column.specs.Column.{Column, ColumnWith, column_with, slots_of, stored_values, marks_of}
+use Rattle.arrow_column.specs.Column.{append_nulls, append_values, last_slot, without_last, joined, with_slot}
+use Rattle.arrow_column.specs.Column.{with_mask, with_stored, with_type}
 use Rattle.arrow_check.specs.Indexes.{in_bounds, key_refusal}
 use Rattle.arrow_check.specs.Reading.{Cost}
 use Rattle.arrow_bytes.specs.Pieces.{Around, nothing_around}
 use Rattle.arrow_bytes.specs.Selection.{filtered, taken, first_out_of_bounds, taking_overflows}
-use Rattle.arrow_model.specs.Kind.{Shape, any_kind, is_frozen, is_nullable, is_values_alone, is_builder, is_native, is_boolean, is_var_binary, is_text, same_kind}
+use Rattle.arrow_model.specs.Kind.{Shape, any_kind, is_frozen, is_nullable, is_values_alone, is_builder, is_native}
+use Rattle.arrow_model.specs.Kind.{is_boolean, is_var_binary, is_text, same_kind}
 use Rattle.arrow_model.specs.Item.{Stored, bytes_item, bytes_in, fits, slot_fits, changed, change_fits, change_of_marks}
-use Rattle.arrow_model.specs.Request.{Source, Ask, Request, make, at, clone_to, extend_from, equal, filter_to, take_to, check_indexes, cut_pieces}
+use Rattle.arrow_model.specs.Request.{Source, Ask, Request, make, at, clone_to, extend_from, equal, filter_to}
+use Rattle.arrow_model.specs.Request.{take_to, check_indexes, cut_pieces}
 use Rattle.arrow_model.specs.Request as ask
-use Rattle.arrow_model.specs.Answer.{Answer, done, not_met, number, flag, numbers, typed, right, refused, is_memory, is_not_given, is_left}
+use Rattle.arrow_model.specs.Answer.{Answer, done, not_met, number, flag, numbers, typed, right, refused, is_memory}
+use Rattle.arrow_model.specs.Answer.{is_not_given, is_left}
 use Rattle.arrow_model.specs.Answer as answer
 use Rattle.arrow_model.specs.Value.{Value, State, Held, Types, default_item, layout}
-use Rattle.arrow_model.specs.Row.{Row, gives, leaves, or_else_keep, memory, answers, require_some, where_true, provided, of_kind, by_test}
+use Rattle.arrow_model.specs.Row.{Row, gives, leaves, or_else_keep, memory, answers, require_some, where_true}
+use Rattle.arrow_model.specs.Row.{provided, of_kind, by_test}
 use Rattle.arrow_model.specs.Parts.{PartsRow, PartsCost}
-use Rattle.arrow_model.specs.Change.{turns_of, with_column, cut_value, frozen_value, thawed_value, nullable_value, empty_value, slots_start, all_bytes, all_offsets, null_in, grown, slot_over, join_over, fitting}
+use Rattle.arrow_model.specs.Change.{turns_of, with_column, cut_value, frozen_value, thawed_value, nullable_value}
+use Rattle.arrow_model.specs.Change.{empty_value, slots_start, all_bytes, all_offsets, null_in, grown, slot_over}
+use Rattle.arrow_model.specs.Change.{join_over, fitting}
 use Rattle.arrow_model.specs.Chosen.{bytes_column, array_in, filter_in}
 
 -- what is more than offsets can tell the end of is refused; this is tested before memory is asked for
@@ -38,21 +49,28 @@ module _ {T : Type 0} (c : Types T) where
   abbrev pub all_fit : Value T → List (Option (Stored T)) → Bool
   all_fit v slots = nat_eq (fitting c v slots) (length slots)
 
-  -- these slots appended to a new value, which is then left; memory may be wanting before the first slot that is more than
-  -- offsets can tell the end of
+  -- these slots appended to a new value, which is then left; memory may be wanting before the first slot that is
+  -- more than offsets can tell the end of
   abbrev pub Filled : Value T → List (Option (Stored T)) → (Value T → Value T) → Row T
-  Filled start slots last = memory None (unless_over None (not (all_fit start slots)) (leaves (last (grown c start slots))))
+  Filled start slots last = memory None
+      (unless_over None (not (all_fit start slots)) (leaves (last (grown c start slots))))
 
   -- a value of a kind is made in an empty entry
   abbrev pub Makes : Shape → Source T → Row T
   Makes s ask.nothing = memory None (leaves (empty_value c s))
   Makes s (ask.nulls t n) =
-      let column = column_with t nothing_around (replicate n (default_item c s.value_kind)) (Some (replicate n false)) in
-      where_true None (is_frozen s) (provided None (IsRightType (layout c s.value_kind) t) (memory None (leaves (with_column (empty_value c s) column))))
+      let column = column_with t nothing_around (replicate n (default_item c s.value_kind)) (Some (replicate n false))
+      in
+      where_true None (is_frozen s)
+      (provided None (IsRightType (layout c s.value_kind) t)
+      (memory None (leaves (with_column (empty_value c s) column))))
   Makes s (ask.parts t raw mask) = PartsRow c s t mask raw
   Makes s (ask.slots slots) =
-      where_true None (not (is_values_alone s) && list_all (slot_fits s.value_kind) slots) (Filled (slots_start c s) slots (λ v. if is_frozen s then frozen_value v else v))
-  Makes s (ask.items items) = where_true None (list_all (fits s.value_kind) items) (Filled (empty_value c s) (map Some items) (λ v. v))
+      where_true None (not (is_values_alone s)
+      && list_all (slot_fits s.value_kind) slots)
+      (Filled (slots_start c s) slots (λ v. if is_frozen s then frozen_value v else v))
+  Makes s (ask.items items) = where_true None (list_all (fits s.value_kind) items)
+      (Filled (empty_value c s) (map Some items) (λ v. v))
 
   -- slots that are appended as far as they can be: all before the first that is more than offsets can tell the end of;
   -- where memory is wanting for one of these, the ones before it
@@ -60,7 +78,8 @@ module _ {T : Type 0} (c : Types T) where
   Extends v slots reply new =
       MatchBool (is_memory reply)
       ((k : ℕ) × (k < fitting c v slots) × (new ≡ Some (grown c v (take k slots))))
-      (gives (if all_fit v slots then done else refused overflow) (Some (grown c v (take (fitting c v slots) slots))) reply new)
+      (gives (if all_fit v slots then done else refused overflow) (Some (grown c v (take (fitting c v slots) slots)))
+      reply new)
 
   -- rows of an entry that was so before
   module _ (old : Option (Value T)) where
@@ -110,14 +129,16 @@ module _ {T : Type 0} (c : Types T) where
     effect (ask.apply_mask change) =
         on (λ s. is_frozen s || (is_nullable s && is_var_binary s)) (λ v.
         change_of_marks change >>= (λ of_marks.
-        by_test v.column.held (becomes v (with_mask v.column (Some (changed of_marks (marks_of v.column))))) (leaves v)))
+        by_test v.column.held (becomes v (with_mask v.column (Some (changed of_marks (marks_of v.column)))))
+        (leaves v)))
     effect (ask.set_values items) =
         on (λ s. is_native s || (is_boolean s && is_frozen s)) (λ v.
         (nat_eq (length items) (length v.column.rows) && list_all (fits v.shape.value_kind) items) >>
         becomes v (with_stored v.column items))
     effect (ask.apply_values change) =
         on (λ s. (is_native s && is_nullable s) || (is_boolean s && is_frozen s)) (λ v.
-        change_fits v.shape.value_kind change >> becomes v (with_stored v.column (changed change (stored_values v.column))))
+        change_fits v.shape.value_kind change >> becomes v
+        (with_stored v.column (changed change (stored_values v.column))))
     effect (ask.set i x) =
         on (λ s. is_nullable s && not (is_var_binary s)) (λ v.
         (nat_lt i (length v.column.rows) && slot_fits v.shape.value_kind x) >>
@@ -144,14 +165,16 @@ module _ {T : Type 0} (c : Types T) where
     effect (ask.extend_constant n x) =
         on (λ s. is_native s && is_nullable s) (λ v.
         slot_fits v.shape.value_kind x >>
-        becomes v (option_map_or (λ given. append_values v.column (replicate n given)) x (append_nulls v.column (replicate n (null_in c v)))))
+        becomes v (option_map_or (λ given. append_values v.column (replicate n given)) x
+        (append_nulls v.column (replicate n (null_in c v)))))
     effect ask.reserve = on is_builder (λ v. memory old (leaves v))
     effect ask.shrink = on is_builder (λ v. memory old (leaves v))
     effect ask.freeze = on is_builder (λ v. or_else_keep is_memory None (leaves (frozen_value v)))
     effect ask.thaw = on is_frozen (λ v. or_else_keep is_left old (gives right (Some (thawed_value v))))
     effect ask.nullable = on is_values_alone (λ v. leaves (nullable_value v))
     effect (ask.to t) =
-        on is_native (λ v. provided old (IsRightType (layout c v.shape.value_kind) t) (becomes v (with_type v.column t)))
+        on is_native (λ v. provided old (IsRightType (layout c v.shape.value_kind) t)
+        (becomes v (with_type v.column t)))
 
     abbrev pub Does : Ask T → Row T
     Does asked = of_kind old (effect asked).kinds (effect asked).row
@@ -165,7 +188,8 @@ module _ {T : Type 0} (c : Types T) where
     abbrev pub Joins_to : Option (Value T) → Row T
     Joins_to other = of_kind old is_builder (λ v. other >>= Joins v)
 
--- whether a builder with nulls of the same kind has the same slots: types, held masks and values under nulls are not compared
+-- whether a builder with nulls of the same kind has the same slots: types, held masks and values under nulls are
+-- not compared
 module _ {T : Type 0} (old : Option (Value T)) where
   abbrev pub Compares : Value T → Value T → Row T
   Compares v w =
@@ -175,18 +199,20 @@ module _ {T : Type 0} (old : Option (Value T)) where
   abbrev pub Compares_to : Option (Value T) → Row T
   Compares_to other = of_kind old is_nullable (λ v. require_some old other (Compares v))
 
--- an array that kernels make of another, where it is to stand alone: of the rows for which a filter of as many slots
--- asks; or of the rows at the places of keys, all of which are looked at, and their items' lengths, before memory is asked
--- for
+-- an array that kernels make of another, where it is to stand alone: of the rows for which a filter of as many
+-- slots asks; or of the rows at the places of keys, all of which are looked at, and their items' lengths, before
+-- memory is asked for
 module _ {T : Type 0} where
   abbrev pub Filtered : Column Bool → Value T → Row T
   Filtered filter v =
-      where_true None (nat_eq (length filter.rows) (length v.column.rows)) (memory None (leaves (with_column v (filtered nothing_around v.column filter))))
+      where_true None (nat_eq (length filter.rows) (length v.column.rows))
+      (memory None (leaves (with_column v (filtered nothing_around v.column filter))))
 
   abbrev pub Taken : ℕ → List ℤ → Value T → Row T
   Taken most keys v reply new =
       MatchOption (first_out_of_bounds (λ key. key) v.column keys)
-      (unless_over None (taking_overflows most (λ key. key) (bytes_column v.column) keys) (memory None (leaves (with_column v (taken nothing_around (λ key. key) v.column keys)))) reply new)
+      (unless_over None (taking_overflows most (λ key. key) (bytes_column v.column) keys)
+      (memory None (leaves (with_column v (taken nothing_around (λ key. key) v.column keys)))) reply new)
       (λ key. answers None (refused (key_refusal key)) reply new)
 
   abbrev pub Filters : Option (Value T) → Option (Value T) → Row T
@@ -227,11 +253,13 @@ Changes c state (equal e f) = AtEntry state e (λ old. Compares_to old (entry_at
 Changes c state (filter_to e f g) = AtEntry state g (IntoEmpty (Filters (entry_at state e) (entry_at state f)))
 Changes c state (take_to e keys g) = AtEntry state g (IntoEmpty (Takes c.most keys (entry_at state e)))
 Changes c state (check_indexes keys n) = λ reply new.
-    (reply ≡ option_map_or (λ key. refused (key_refusal key)) (find (λ key. not (in_bounds n key)) keys) done) × (new ≡ state)
+    (reply ≡ option_map_or (λ key. refused (key_refusal key)) (find (λ key. not (in_bounds n key)) keys) done)
+    × (new ≡ state)
 
 -- what its tests of text cost: only parts that are cut out of bytes are tested
 abbrev pub StepCosts : {T : Type 0} → Request T → Answer T → Cost → Cost → Type 0
-StepCosts (make e s (ask.parts t (cut_pieces starts held) mask)) reply old new = PartsCost s mask starts held reply old new
+StepCosts (make e s (ask.parts t (cut_pieces starts held) mask)) reply old new = PartsCost s mask starts held reply
+    old new
 StepCosts _ reply old new = new ≡ old
 
 -- one command

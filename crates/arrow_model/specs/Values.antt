@@ -1,5 +1,5 @@
--- Which values can stand in an entry; and what requests name: kinds that there are, and text that is UTF-8, as that of every
--- string is.
+-- Which values can stand in an entry; and what requests name: kinds that there are, and text that is UTF-8, as that
+-- of every string is.
 use Rattle.std.specs.Prelude.{◌≡◌, ⊤, Bool, true, false, All, [], Option, IfSome}
 use Rattle.arrow_types.specs.Types.{IsRightType}
 use Rattle.arrow_memory.specs.Rows.{Row}
@@ -39,8 +39,8 @@ module _ {T : Type 0} where
     pub stored : IsStored sort row.0
     pub marked : held ≡ false → row.1 ≡ true
 
-  -- a value: its type is right for its kind, its rows store what is of its kind's sort, and a builder of values alone holds no
-  -- mask
+  -- a value: its type is right for its kind, its rows store what is of its kind's sort, and a builder of values
+  -- alone holds no mask
   pub record IsValue (c : Types T) (v : Value T) : Type 0 where
     pub right_type : IsRightType (layout c v.shape.value_kind) v.column.data_type
     pub around : IsAround v.shape v.column.around

@@ -117,7 +117,8 @@ pub enum Command<T, O> {
     To(usize, DataType),
     /// Whether two builders have the same slots.
     Equal(usize, usize),
-    /// IntoEmpty the rows of the first entry for which the second asks, as many truth values, into the third, which is empty.
+    /// IntoEmpty the rows of the first entry for which the second asks, as many truth values, into the third, which
+    /// is empty.
     Filter(usize, usize, usize),
     /// IntoEmpty the rows of the first entry at the places that keys tell into the second, which is empty.
     Take(usize, Vec<i64>, usize),

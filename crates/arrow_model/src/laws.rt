@@ -14,13 +14,17 @@ pub fn values_stay<T>()
     ensures step { (c : Types T) (old new : Held T) (asks : Request T) (reply : Answer T) → IsRequest asks
         → AreValues c old.entries → IsStep c old asks reply new → AreValues c new.entries }
     ensures run { (c : Types T) (old new : Held T) (requests : List (Request T)) (answers : List (Answer T))
-        → All IsRequest requests → AreValues c old.entries → IsRun c old requests answers new → AreValues c new.entries }
+        → All IsRequest requests → AreValues c old.entries → IsRun c old requests answers new
+        → AreValues c new.entries }
 {}
 
 /// The same of two tables, one of each width of offsets.
 pub fn values_stay_in_both<T>()
-    ensures { (zero : T) (primitive : PrimitiveType) (old new : Both T) (asks : BothRequest T) (reply : Answer T) → IsBothRequest asks
-        → AreValues (narrow_types zero primitive) old.narrow.entries → AreValues (wide_types zero primitive) old.wide.entries
+    ensures { (zero : T) (primitive : PrimitiveType) (old new : Both T) (asks : BothRequest T) (reply : Answer T)
+        → IsBothRequest asks
+        → AreValues (narrow_types zero primitive) old.narrow.entries
+        → AreValues (wide_types zero primitive) old.wide.entries
         → IsBothStep zero primitive old asks reply new
-        → AreValues (narrow_types zero primitive) new.narrow.entries × AreValues (wide_types zero primitive) new.wide.entries }
+        → AreValues (narrow_types zero primitive) new.narrow.entries
+        × AreValues (wide_types zero primitive) new.wide.entries }
 {}

@@ -34,7 +34,9 @@ commands_of_is input = from_first (position is_bad (lines_of input)) (filter_map
 
 -- the place of the first that passes, behind one that does not, and at one that does
 module _ {X : Type 0} (p : X → Bool) where
-  later_of : (n len : ℕ) (b : Bool) → nat_lt n len ≡ b → cond (nat_lt (1 + n) (suc len)) (Some (1 + n)) None ≡ option_map (λ k. 1 + k) (cond (nat_lt n len) (Some n) None)
+  later_of : (n len : ℕ) (b : Bool) → nat_lt n len ≡ b
+      → cond (nat_lt (1 + n) (suc len)) (Some (1 + n)) None
+      ≡ option_map (λ k. 1 + k) (cond (nat_lt n len) (Some n) None)
   later_of n len true t = rw (t, lt-ltb (1 + n) (suc len) (omega (arith, ltb-true n len t))) refl
   later_of n len false t = rw (t, le-ltb (1 + n) (suc len) (omega (arith, ltb-false n len t))) refl
 
@@ -47,22 +49,26 @@ module _ {X : Type 0} (p : X → Bool) where
       first_of_some : (len : ℕ) → cond {A = Option ℕ} (nat_lt 0 (suc len)) (Some 0) None ≡ Some 0
       first_of_some len = rw (lt-ltb 0 (suc len) (omega arith)) refl
 
-next_number : (n : ℕ) (before asked : List (BothRequest ℤ)) (found : Option ℕ) → reading_with n before (option_map (λ k. 1 + k) found) asked ≡ reading_with (n + 1) before found asked
+next_number : (n : ℕ) (before asked : List (BothRequest ℤ)) (found : Option ℕ)
+    → reading_with n before (option_map (λ k. 1 + k) found) asked ≡ reading_with (n + 1) before found asked
 next_number n before asked None = refl
 next_number n before asked (Some k) = let e : 1 + k + n ≡ k + (n + 1) = omega arith in ap bad_line e
 
-next_request : (n : ℕ) (before asked : List (BothRequest ℤ)) (c : Option (BothRequest ℤ)) (found : Option ℕ) → reading_with n before found (cons_option c asked) ≡ reading_with n (before ++ option_to_list c) found asked
+next_request : (n : ℕ) (before asked : List (BothRequest ℤ)) (c : Option (BothRequest ℤ)) (found : Option ℕ)
+    → reading_with n before found (cons_option c asked) ≡ reading_with n (before ++ option_to_list c) found asked
 next_request n before asked None found = ap (λ requests. reading_with n requests found asked) (sym (append-nil before))
 next_request n before asked (Some c) None = ap requests (sym (append_assoc before (c ∷ []) asked))
 next_request n before asked (Some c) (Some k) = refl
 
 -- one line more is read: it is good, and may ask something, or it is bad
 module _ (n : ℕ) (before : List (BothRequest ℤ)) (line : List ℕ) (rest : List (List ℕ)) where
-  pub reads_good : is_bad line ≡ false → reading_from n before (line ∷ rest) ≡ reading_from (n + 1) (before ++ option_to_list (asked_in line)) rest
+  pub reads_good : is_bad line ≡ false
+      → reading_from n before (line ∷ rest) ≡ reading_from (n + 1) (before ++ option_to_list (asked_in line)) rest
   unfolding reading_from
   reads_good e =
       rw (place_later is_bad line rest e)
-      (next_number n before (filter_map asked_in (line ∷ rest)) (position is_bad rest) ∙ next_request (n + 1) before (filter_map asked_in rest) (asked_in line) (position is_bad rest))
+      (next_number n before (filter_map asked_in (line ∷ rest)) (position is_bad rest)
+      ∙ next_request (n + 1) before (filter_map asked_in rest) (asked_in line) (position is_bad rest))
 
   pub reads_bad : is_bad line ≡ true → reading_from n before (line ∷ rest) ≡ bad_line n
   unfolding reading_from
@@ -73,12 +79,15 @@ unfolding reading_from
 reads_all n before = ap requests (append-nil before)
 
 -- the first line of a text, and those behind it
-pub lines_cut : (text line : List ℕ) (after : Option (Bor (List ℕ))) → MatchOption after (lines_of text ≡ line ∷ []) (λ rest. lines_of text ≡ line ∷ lines_of rest.now) → lines_of text ≡ line ∷ lines_after after
+pub lines_cut : (text line : List ℕ) (after : Option (Bor (List ℕ)))
+    → MatchOption after (lines_of text ≡ line ∷ []) (λ rest. lines_of text ≡ line ∷ lines_of rest.now)
+    → lines_of text ≡ line ∷ lines_after after
 lines_cut text line None e = e
 lines_cut text line (Some rest) e = e
 
 -- lines that have only bytes that words may have, and spaces: the first, and those behind it
-pub all_printable_cut : (line : List ℕ) (rest : List (List ℕ)) → IsTrue (list_all is_printable (line ∷ rest)) → IsTrue (is_printable line) × IsTrue (list_all is_printable rest)
+pub all_printable_cut : (line : List ℕ) (rest : List (List ℕ)) → IsTrue (list_all is_printable (line ∷ rest))
+    → IsTrue (is_printable line) × IsTrue (list_all is_printable rest)
 all_printable_cut line rest h = both (is_printable line) (list_all is_printable rest) h
   where
     both : (a b : Bool) → IsTrue (a && b) → IsTrue a × IsTrue b

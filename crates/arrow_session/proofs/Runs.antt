@@ -15,22 +15,25 @@ use Rattle.arrow_session.proofs.Reading.{reading_from, commands_of_is, reads_goo
 
 module _ {S C A : Type 0} (Step : S → C → A → S → Type 0) where
   -- a run, and then another
-  runs_joined : (s m n : S) (first others : List C) (replies answers : List A) → Runs Step s first replies m → Runs Step m others answers n → Runs Step s (first ++ others) (replies ++ answers) n
+  runs_joined : (s m n : S) (first others : List C) (replies answers : List A) → Runs Step s first replies m
+      → Runs Step m others answers n → Runs Step s (first ++ others) (replies ++ answers) n
   runs_joined s m n [] others [] answers e run = subst (λ k. Runs Step k others answers n) e run
   runs_joined s m n [] others (r ∷ replies) answers h run = absurd h
   runs_joined s m n (x ∷ first) others [] answers h run = absurd h
-  runs_joined s m n (x ∷ first) others (r ∷ replies) answers h run = (h.0, h.1, runs_joined h.0 m n first others replies answers h.2 run)
+  runs_joined s m n (x ∷ first) others (r
+      ∷ replies) answers h run = (h.0, h.1, runs_joined h.0 m n first others replies answers h.2 run)
 
 -- so far: of these lines are left, behind some requests
 unfoldable pub IsReadTo : List ℕ → ℕ → List (List ℕ) → Type 0
 IsReadTo input n rest = (commands : List (BothRequest ℤ)) × (commands_of input ≡ reading_from n commands rest)
 
--- so far: the requests that were read, of which these lines are left, were run and left these tables, and their answers are
--- this text
+-- so far: the requests that were read, of which these lines are left, were run and left these tables, and their
+-- answers are this text
 unfoldable pub IsRunTo : List ℕ → List (List ℕ) → Both ℤ → List ℕ → Type 0
 IsRunTo input rest table text =
     (n : ℕ) × (commands : List (BothRequest ℤ)) × (answers : List (Answer ℤ))
-    × (commands_of input ≡ reading_from n commands rest) × IsProgramRun at_first commands answers table × (text ≡ text_of answers)
+    × (commands_of input ≡ reading_from n commands rest) × IsProgramRun at_first commands answers table
+    × (text ≡ text_of answers)
 
 module _ (input : List ℕ) where
   pub read_none : IsReadTo input 1 (lines_of input)
@@ -41,7 +44,8 @@ module _ (input : List ℕ) where
   unfolding IsReadTo
   read_all n h = (h.0, h.1 ∙ reads_all n h.0)
 
-  pub run_none : (table : Both ℤ) (text : List ℕ) → table ≡ at_first → text ≡ [] → IsRunTo input (lines_of input) table text
+  pub run_none : (table : Both ℤ) (text : List ℕ) → table ≡ at_first → text ≡ []
+      → IsRunTo input (lines_of input) table text
   unfolding IsRunTo
   run_none table text e f = (1, [], [], commands_of_is input, e, f)
 
@@ -68,7 +72,8 @@ module _ (input : List ℕ) where
           by_test true e = absurd (cc (all.1, h.3 ∙ reads_bad h.0 h.1 line rest e))
           by_test false e = refl
 
-      pub run_good : (later : Both ℤ) (grown : List ℕ) → is_bad line ≡ false → AppendsRun (option_to_list (asked_in line)) table later text grown
+      pub run_good : (later : Both ℤ) (grown : List ℕ) → is_bad line ≡ false
+          → AppendsRun (option_to_list (asked_in line)) table later text grown
           → IsRunTo input (line ∷ rest) table text → IsRunTo input rest later grown
       unfolding IsRunTo
       run_good later grown e adds h = (
@@ -76,6 +81,7 @@ module _ (input : List ℕ) where
         h.1 ++ option_to_list (asked_in line),
         h.2 ++ adds.0,
         h.3 ∙ reads_good h.0 h.1 line rest e,
-        runs_joined (IsBothStep (pos 0) Int64) at_first table later h.1 (option_to_list (asked_in line)) h.2 adds.0 h.4 adds.1,
+        runs_joined (IsBothStep (pos 0) Int64) at_first table later h.1 (option_to_list (asked_in line)) h.2 adds.0
+            h.4 adds.1,
         adds.2 ∙ ap (λ before. before ++ text_of adds.0) h.5 ∙ sym (flat_map-append _ h.2 adds.0),
       )

@@ -21,8 +21,10 @@ pairs [] = Some []
 pairs (x ∷ []) = None
 pairs (x ∷ y ∷ rest) = joined_pair (hex_digit_value x) (hex_digit_value y) (pairs rest)
 
-decoded_pair : (i x y : ℕ) (high low : Option ℕ) (rest : Result (List ℕ) FromHexError) (others : Option (List ℕ)) → result_ok rest ≡ others
-    → result_ok ((digit_or_error x i high >>= (λ a. digit_or_error y (i + 1) low >>= (λ b. Ok (a * 16 + b)))) >>= (λ byte. rest >>= (λ bytes. Ok (byte ∷ bytes))))
+decoded_pair : (i x y : ℕ) (high low : Option ℕ) (rest : Result (List ℕ) FromHexError) (others : Option (List ℕ))
+    → result_ok rest ≡ others
+    → result_ok ((digit_or_error x i high >>= (λ a. digit_or_error y (i + 1) low >>= (λ b. Ok (a * 16 + b))))
+    >>= (λ byte. rest >>= (λ bytes. Ok (byte ∷ bytes))))
     ≡ joined_pair high low others
 decoded_pair i x y None low rest others e = refl
 decoded_pair i x y (Some a) None rest others e = refl
@@ -33,7 +35,9 @@ decoded_pairs : (i : ℕ) (digits : List ℕ) → result_ok (decode_pairs i digi
 unfolding decode_pairs
 decoded_pairs i [] = refl
 decoded_pairs i (x ∷ []) = refl
-decoded_pairs i (x ∷ y ∷ rest) = decoded_pair i x y (hex_digit_value x) (hex_digit_value y) (decode_pairs (i + 2) rest) (pairs rest) (decoded_pairs (i + 2) rest)
+decoded_pairs i (x ∷ y
+    ∷ rest) = decoded_pair i x y (hex_digit_value x) (hex_digit_value y) (decode_pairs (i + 2) rest) (pairs rest)
+    (decoded_pairs (i + 2) rest)
 
 no_others : (high low : Option ℕ) (others : Option (List ℕ)) → others ≡ None → joined_pair high low others ≡ None
 no_others None low others e = refl
@@ -43,7 +47,8 @@ no_others (Some a) (Some b) others e = ap (option_map (λ all. (a * 16 + b) ∷ 
 odd_pairs : (digits : List ℕ) → length digits % 2 ≡ 1 → pairs digits ≡ None
 odd_pairs [] odd = absurd (omega arith)
 odd_pairs (x ∷ []) odd = refl
-odd_pairs (x ∷ y ∷ rest) odd = no_others (hex_digit_value x) (hex_digit_value y) (pairs rest) (odd_pairs rest (omega arith))
+odd_pairs (x ∷ y ∷ rest) odd = no_others (hex_digit_value x) (hex_digit_value y) (pairs rest)
+    (odd_pairs rest (omega arith))
 
 -- what digits write is what their pairs do
 pub bytes_are_pairs : (digits : List ℕ) → bytes_in digits ≡ pairs digits
@@ -54,7 +59,8 @@ bytes_are_pairs digits = by_rest (length digits % 2) refl
     by_rest (suc zero) e = ap result_ok (decode_of-odd digits e) ∙ sym (odd_pairs digits e)
     by_rest (suc (suc n)) e = absurd (omega arith)
 
-tested_pair : (high low : Option ℕ) (others : Option (List ℕ)) (passes : Bool) → is_some others ≡ passes → is_some (joined_pair high low others) ≡ (is_some high && (is_some low && passes))
+tested_pair : (high low : Option ℕ) (others : Option (List ℕ)) (passes : Bool) → is_some others ≡ passes
+    → is_some (joined_pair high low others) ≡ (is_some high && (is_some low && passes))
 tested_pair None low others passes e = refl
 tested_pair (Some a) None others passes e = refl
 tested_pair (Some a) (Some b) None passes e = e
@@ -65,7 +71,8 @@ pub pairs_tested : (digits : List ℕ) → length digits % 2 ≡ 0 → is_some (
 pairs_tested [] even = refl
 pairs_tested (x ∷ []) even = absurd (omega arith)
 pairs_tested (x ∷ y ∷ rest) even =
-    tested_pair (hex_digit_value x) (hex_digit_value y) (pairs rest) (list_all is_hex_digit rest) (pairs_tested rest (omega arith))
+    tested_pair (hex_digit_value x) (hex_digit_value y) (pairs rest) (list_all is_hex_digit rest)
+    (pairs_tested rest (omega arith))
 
 -- twice as many, by steps of two
 abbrev pub twice : ℕ → ℕ
@@ -77,8 +84,10 @@ twice_is zero = refl
 twice_is (suc n) = let e = twice_is n in omega (arith, e)
 
 -- two digits that write a byte, before others
-opened_pair : (high low : Option ℕ) (others : Option (List ℕ)) (bytes : List ℕ) → joined_pair high low others ≡ Some bytes
-    → (a b : ℕ) × (rest : List ℕ) × (high ≡ Some a) × (low ≡ Some b) × (others ≡ Some rest) × ((a * 16 + b) ∷ rest ≡ bytes)
+opened_pair : (high low : Option ℕ) (others : Option (List ℕ)) (bytes : List ℕ)
+    → joined_pair high low others ≡ Some bytes
+    → (a b : ℕ) × (rest : List ℕ) × (high ≡ Some a) × (low ≡ Some b) × (others ≡ Some rest)
+    × ((a * 16 + b) ∷ rest ≡ bytes)
 opened_pair None low others bytes e = absurd (cc e)
 opened_pair (Some a) None others bytes e = absurd (cc e)
 opened_pair (Some a) (Some b) None bytes e = absurd (cc e)
@@ -88,15 +97,19 @@ same_option : (o : Option (List ℕ)) → o ≡ option_map (λ bytes. bytes) o
 same_option None = refl
 same_option (Some bytes) = refl
 
-mapped_twice : (x : ℕ) (front : List ℕ) (o : Option (List ℕ)) → option_map (λ bytes. x ∷ bytes) (option_map (λ bytes. front ++ bytes) o) ≡ option_map (λ bytes. x ∷ front ++ bytes) o
+mapped_twice : (x : ℕ) (front : List ℕ) (o : Option (List ℕ))
+    → option_map (λ bytes. x ∷ bytes) (option_map (λ bytes. front ++ bytes) o)
+    ≡ option_map (λ bytes. x ∷ front ++ bytes) o
 mapped_twice x front None = refl
 mapped_twice x front (Some bytes) = refl
 
-joined_of : (high low : Option ℕ) (others : Option (List ℕ)) (a b : ℕ) → high ≡ Some a → low ≡ Some b → joined_pair high low others ≡ option_map (λ all. (a * 16 + b) ∷ all) others
+joined_of : (high low : Option ℕ) (others : Option (List ℕ)) (a b : ℕ) → high ≡ Some a → low ≡ Some b
+    → joined_pair high low others ≡ option_map (λ all. (a * 16 + b) ∷ all) others
 joined_of high low others a b e f = rw (e, f) refl
 
 -- what all digits write, where the first ones write these bytes: some of these, and what the digits behind those write
-pub pairs_front : (some n : ℕ) (digits bytes : List ℕ) → some ≤ n → twice n ≤ length digits → pairs (take (twice n) digits) ≡ Some bytes
+pub pairs_front : (some n : ℕ) (digits bytes : List ℕ) → some ≤ n → twice n ≤ length digits
+    → pairs (take (twice n) digits) ≡ Some bytes
     → pairs digits ≡ option_map (λ rest. take some bytes ++ rest) (pairs (drop (twice some) digits))
 pairs_front zero n digits bytes within long e = same_option (pairs digits)
 pairs_front (suc some) zero digits bytes within long e = absurd (omega arith)
@@ -113,19 +126,22 @@ pairs_front (suc some) (suc n) (x ∷ y ∷ rest) bytes within long e =
     ∙ mapped_twice x_of (take some parts.2) behind
     ∙ ap (λ (before : List ℕ). option_map (λ all. before ++ all) behind) front
 
-broken_pair : (high low : Option ℕ) (front others : Option (List ℕ)) → (front ≡ None → others ≡ None) → joined_pair high low front ≡ None → joined_pair high low others ≡ None
+broken_pair : (high low : Option ℕ) (front others : Option (List ℕ)) → (front ≡ None → others ≡ None)
+    → joined_pair high low front ≡ None → joined_pair high low others ≡ None
 broken_pair None low front others none e = refl
 broken_pair (Some a) None front others none e = refl
 broken_pair (Some a) (Some b) None others none e = no_others (Some a) (Some b) others (none refl)
 broken_pair (Some a) (Some b) (Some bytes) others none e = absurd (cc e)
 
 -- digits that begin with some that write nothing
-pub pairs_broken : (n : ℕ) (digits : List ℕ) → twice n ≤ length digits → pairs (take (twice n) digits) ≡ None → pairs digits ≡ None
+pub pairs_broken : (n : ℕ) (digits : List ℕ) → twice n ≤ length digits → pairs (take (twice n) digits) ≡ None
+    → pairs digits ≡ None
 pairs_broken zero digits long e = absurd (cc e)
 pairs_broken (suc n) [] long e = absurd (omega arith)
 pairs_broken (suc n) (x ∷ []) long e = absurd (omega arith)
 pairs_broken (suc n) (x ∷ y ∷ rest) long e =
-    broken_pair (hex_digit_value x) (hex_digit_value y) (pairs (take (twice n) rest)) (pairs rest) (pairs_broken n rest (omega arith)) e
+    broken_pair (hex_digit_value x) (hex_digit_value y) (pairs (take (twice n) rest)) (pairs rest)
+    (pairs_broken n rest (omega arith)) e
 
 -- a byte takes two digits
 pub pairs_length : (digits bytes : List ℕ) → pairs digits ≡ Some bytes → length digits ≡ 2 * length bytes

@@ -40,33 +40,43 @@ utf8_behind front rest text = by_tests (is_utf8 (front ++ rest)) (is_utf8 rest) 
     by_tests : (all behind : Bool) → is_utf8 (front ++ rest) ≡ all → is_utf8 rest ≡ behind → all ≡ behind
     by_tests true true e f = refl
     by_tests false false e f = refl
-    by_tests false true e f = sym e ∙ is_utf8-from_IsUtf8 (front ++ rest) (IsUtf8-append front rest text (IsUtf8-from_is_utf8 rest f))
+    by_tests false true e f = sym e
+        ∙ is_utf8-from_IsUtf8 (front ++ rest) (IsUtf8-append front rest text (IsUtf8-from_is_utf8 rest f))
     by_tests true false e f =
         let whole = IsUtf8-from_is_utf8 (front ++ rest) e in
-        let cut = IsCharBoundary-from_take (front ++ rest) (length front) whole (omega (arith, length-append front rest)) (subst IsUtf8 (sym front_is) text) in
+        let cut = IsCharBoundary-from_take (front
+        ++ rest) (length front) whole (omega (arith, length-append front rest)) (subst IsUtf8 (sym front_is) text)
+        in
         sym (is_utf8-from_IsUtf8 rest (subst IsUtf8 rest_is (IsUtf8-drop (front ++ rest) (length front) whole cut))) ∙ f
 
 -- how many bytes pairs of digits write
-bytes_count : (n : ℕ) (digits bytes : List ℕ) → 2 * n ≤ length digits → bytes_in (take (2 * n) digits) ≡ Some bytes → length bytes ≡ n
+bytes_count : (n : ℕ) (digits bytes : List ℕ) → 2 * n ≤ length digits → bytes_in (take (2 * n) digits) ≡ Some bytes
+    → length bytes ≡ n
 bytes_count n digits bytes long e =
     let two = pairs_length (take (2 * n) digits) bytes (sym (bytes_are_pairs (take (2 * n) digits)) ∙ e) in
     omega (arith, two, length-take-le (2 * n) digits long)
 
 -- digits whose first ones write a text are a text where the others are
-pub text_behind : (some n : ℕ) (digits bytes : List ℕ) → some ≤ n → 2 * n ≤ length digits → bytes_in (take (2 * n) digits) ≡ Some bytes → IsUtf8 (take some bytes)
+pub text_behind : (some n : ℕ) (digits bytes : List ℕ) → some ≤ n → 2 * n ≤ length digits
+    → bytes_in (take (2 * n) digits) ≡ Some bytes → IsUtf8 (take some bytes)
     → is_some (text_in digits) ≡ is_some (text_in (drop (2 * some) digits))
 text_behind some n digits bytes within long e text =
     let here = rw (← twice_is n) at (sym (bytes_are_pairs (take (2 * n) digits)) ∙ e) in
     let all = pairs_front some n digits bytes within (omega (arith, twice_is n)) here in
     ap is_some (text_is digits ∙ ap (option_and_then as_text) all) ∙ by_rest (pairs (drop (twice some) digits))
-    ∙ ap is_some (sym (text_is (drop (twice some) digits))) ∙ ap (λ k. is_some (text_in (drop k digits))) (twice_is some)
+    ∙ ap is_some (sym (text_is (drop (twice some) digits)))
+    ∙ ap (λ k. is_some (text_in (drop k digits))) (twice_is some)
   where
-    by_rest : (rest : Option (List ℕ)) → is_some (option_and_then as_text (option_map (λ behind. take some bytes ++ behind) rest)) ≡ is_some (option_and_then as_text rest)
+    by_rest : (rest : Option (List ℕ))
+        → is_some (option_and_then as_text (option_map (λ behind. take some bytes ++ behind) rest))
+        ≡ is_some (option_and_then as_text rest)
     by_rest None = refl
-    by_rest (Some behind) = is_some_text (take some bytes ++ behind) ∙ utf8_behind (take some bytes) behind text ∙ sym (is_some_text behind)
+    by_rest (Some behind) = is_some_text (take some bytes ++ behind) ∙ utf8_behind (take some bytes) behind text
+        ∙ sym (is_some_text behind)
 
 -- digits whose first ones write nothing
-pub text_broken : (n : ℕ) (digits : List ℕ) → 2 * n ≤ length digits → bytes_in (take (2 * n) digits) ≡ None → text_in digits ≡ None
+pub text_broken : (n : ℕ) (digits : List ℕ) → 2 * n ≤ length digits → bytes_in (take (2 * n) digits) ≡ None
+    → text_in digits ≡ None
 text_broken n digits long e =
     let here = rw (← twice_is n) at (sym (bytes_are_pairs (take (2 * n) digits)) ∙ e) in
     text_is digits ∙ ap (option_and_then as_text) (pairs_broken n digits (omega (arith, twice_is n)) here)
@@ -80,7 +90,8 @@ front_of m xs ys us vs within is same =
 
 -- digits whose first ones begin with no character, where these are enough for one, or all
 pub text_begins : (n : ℕ) (digits bytes : List ℕ) → 2 * n ≤ length digits → bytes_in (take (2 * n) digits) ≡ Some bytes
-    → (n < 4 → length digits < 2 * n + 2) → (0 < length bytes → IsValidUpTo bytes 0) → 0 < length digits → text_in digits ≡ None
+    → (n < 4 → length digits < 2 * n + 2) → (0 < length bytes → IsValidUpTo bytes 0) → 0 < length digits
+    → text_in digits ≡ None
 text_begins n digits bytes long e enough none some = text_is digits ∙ by_all (pairs digits) refl
   where
     here : pairs (take (2 * n) digits) ≡ Some bytes
@@ -89,19 +100,26 @@ text_begins n digits bytes long e enough none some = text_is digits ∙ by_all (
     count : length bytes ≡ n
     count = bytes_count n digits bytes long e
 
-    starts : (all : List ℕ) → pairs digits ≡ Some all → (rest : List ℕ) × (all ≡ bytes ++ rest) × (n < 4 → length rest ≡ 0)
-    starts all is = by_rest (pairs (drop (twice n) digits)) refl (pairs_front n n digits bytes (omega arith) (omega (arith, twice_is n)) (rw (twice_is n) here))
+    starts : (all : List ℕ) → pairs digits ≡ Some all
+        → (rest : List ℕ) × (all ≡ bytes ++ rest) × (n < 4 → length rest ≡ 0)
+    starts all is = by_rest (pairs (drop (twice n) digits)) refl
+        (pairs_front n n digits bytes (omega arith) (omega (arith, twice_is n)) (rw (twice_is n) here))
       where
         whole : take n bytes ≡ bytes
         whole = take_all n bytes (omega (arith, count))
 
-        by_rest : (behind : Option (List ℕ)) → pairs (drop (twice n) digits) ≡ behind → pairs digits ≡ option_map (λ rest. take n bytes ++ rest) behind
+        by_rest : (behind : Option (List ℕ)) → pairs (drop (twice n) digits) ≡ behind
+            → pairs digits ≡ option_map (λ rest. take n bytes ++ rest) behind
             → (rest : List ℕ) × (all ≡ bytes ++ rest) × (n < 4 → length rest ≡ 0)
         by_rest None e f = absurd (cc (is, f))
         by_rest (Some rest) e f =
             let same : take n bytes ++ rest ≡ all = ap (λ o. unwrap_or o []) (sym f ∙ is) in
-            let two = pairs_length (drop (twice n) digits) rest e in
-            (rest, sym same ∙ ap (λ front. front ++ rest) whole, λ few. omega (arith, two, enough few, twice_is n, length-drop (twice n) digits))
+            let two = pairs_length (drop (twice n) digits) rest e in (
+              rest,
+              sym same ∙ ap (λ front. front
+                  ++ rest) whole,
+              λ few. omega (arith, two, enough few, twice_is n, length-drop (twice n) digits),
+            )
 
     no_text : (all : List ℕ) → pairs digits ≡ Some all → ¬ (IsUtf8 all)
     no_text all is ([], (scalars, same)) =
@@ -113,7 +131,8 @@ text_begins n digits bytes long e enough none some = text_is digits ∙ by_all (
         let parts = starts all is in
         let bounds = len_utf8_bounds c in
         let long = length-encode c in
-        let size : length all ≡ length (encode_utf8 c) + length (encode_utf8_all cs) = ap length (sym same) ∙ length-append (encode_utf8 c) (encode_utf8_all cs) in
+        let size : length all ≡ length (encode_utf8 c) + length (encode_utf8_all cs) = ap length (sym same)
+        ∙ length-append (encode_utf8 c) (encode_utf8_all cs) in
         let sum : length all ≡ length bytes + length parts.0 = ap length parts.1 ∙ length-append bytes parts.0 in
         let m = length (encode_utf8 c) in
         let within : m ≤ length bytes =
@@ -121,9 +140,12 @@ text_begins n digits bytes long e enough none some = text_is digits ∙ by_all (
           | inl few ↦ omega (arith, size, sum, parts.2 few)
           | inr many ↦ omega (arith, count, bounds.1, long)
         ] in
-        let front : take m bytes ≡ encode_utf8 c = front_of m bytes parts.0 (encode_utf8 c) (encode_utf8_all cs) within refl (sym parts.1 ∙ sym same) in
+        let front : take m bytes
+        ≡ encode_utf8 c = front_of m bytes parts.0 (encode_utf8 c) (encode_utf8_all cs) within refl (sym parts.1
+        ∙ sym same) in
         let fault = none (omega (arith, within, bounds.0, long)) in
-        fault.longest m (omega (arith, bounds.0, long)) (subst IsUtf8 (sym front) (IsUtf8-encode c (and_parts _ _ scalars).0))
+        fault.longest m (omega (arith, bounds.0, long))
+        (subst IsUtf8 (sym front) (IsUtf8-encode c (and_parts _ _ scalars).0))
 
     by_all : (all : Option (List ℕ)) → pairs digits ≡ all → option_and_then as_text all ≡ None
     by_all None is = refl
@@ -134,11 +156,14 @@ text_begins n digits bytes long e enough none some = text_is digits ∙ by_all (
         by_test false e = refl
 
 -- the same, where what is behind is answer_of by its length
-pub text_behind_part : (some n : ℕ) (digits bytes : List ℕ) (behind : ℕ) → some ≤ length bytes → 2 * n ≤ length digits → bytes_in (take (2 * n) digits) ≡ Some bytes → IsUtf8 (take some bytes)
-    → length digits ≤ 2 * some + behind → is_some (text_in digits) ≡ is_some (text_in (take behind (drop (2 * some) digits)))
+pub text_behind_part : (some n : ℕ) (digits bytes : List ℕ) (behind : ℕ) → some ≤ length bytes → 2 * n ≤ length digits
+    → bytes_in (take (2 * n) digits) ≡ Some bytes → IsUtf8 (take some bytes)
+    → length digits ≤ 2 * some + behind
+    → is_some (text_in digits) ≡ is_some (text_in (take behind (drop (2 * some) digits)))
 text_behind_part some n digits bytes behind within long e text all =
     text_behind some n digits bytes (omega (arith, within, bytes_count n digits bytes long e)) long e text
-    ∙ ap (λ rest. is_some (text_in rest)) (sym (take_all behind (drop (2 * some) digits) (omega (arith, length-drop (2 * some) digits))))
+    ∙ ap (λ rest. is_some (text_in rest))
+    (sym (take_all behind (drop (2 * some) digits) (omega (arith, length-drop (2 * some) digits))))
 
 -- no digits are the empty text
 pub no_digits : (digits : List ℕ) → length digits ≡ 0 → is_some (text_in digits) ≡ true

@@ -18,5 +18,6 @@ module _ {A B : Type 0} where
   some_map make None = refl
   some_map make (Some x) = refl
 
-  pub reads_some : (reader : Reader A) (make : A → B) (words : List (List ℕ)) → is_some (reads reader make words) ≡ is_some (reader words)
+  pub reads_some : (reader : Reader A) (make : A → B) (words : List (List ℕ))
+      → is_some (reads reader make words) ≡ is_some (reader words)
   reads_some reader make words = some_map make (reader words)

@@ -20,16 +20,19 @@ digits_value_ge n (b ∷ bs) = omega (arith, digits_value_ge (n * 10 + digit_val
 
 -- all digits, and a number that fits
 abbrev whole : ℕ → List ℕ → Option ℕ
-whole n bs = cond (list_all is_digit bs && nat_lt (digits_value_after 10 n bs) (2 ^ 64)) (Some (digits_value_after 10 n bs)) None
+whole n bs = cond (list_all is_digit bs
+    && nat_lt (digits_value_after 10 n bs) (2 ^ 64)) (Some (digits_value_after 10 n bs)) None
 
-number_after-cons : (n b : ℕ) (bs : List ℕ) (digit fits : Bool) → is_digit b ≡ digit → nat_lt (n * 10 + digit_value b) (2 ^ 64) ≡ fits
+number_after-cons : (n b : ℕ) (bs : List ℕ) (digit fits : Bool) → is_digit b ≡ digit
+    → nat_lt (n * 10 + digit_value b) (2 ^ 64) ≡ fits
     → (n * 10 + digit_value b < 2 ^ 64 → number_after (n * 10 + digit_value b) bs ≡ whole (n * 10 + digit_value b) bs)
     → number_after n (b ∷ bs) ≡ whole n (b ∷ bs)
 number_after-cons n b bs false fits d f rest = rw d refl
 number_after-cons n b bs true true d f rest = rw (d, f) (rest (ltb-true _ _ f))
 number_after-cons n b bs true false d f rest =
     let above = ltb-false _ _ f in
-    let past = le-ltb (digits_value_after 10 (n * 10 + digit_value b) bs) (2 ^ 64) (omega (arith, digits_value_ge (n * 10 + digit_value b) bs)) in
+    let past = le-ltb (digits_value_after 10 (n * 10 + digit_value b) bs) (2 ^ 64)
+    (omega (arith, digits_value_ge (n * 10 + digit_value b) bs)) in
     rw (d, f, past, and_right (list_all is_digit bs) false refl) refl
 
 pub number_after_is : (n : ℕ) (bs : List ℕ) → n < 2 ^ 64 → number_after n bs ≡ whole n bs

@@ -1,5 +1,6 @@
 -- A first word that is one digit.
-use Rattle.std.proofs.Common.{◌≡◌, ◌∙◌, ◌-◌, ◌≤◌, ℕ, Bool, true, false, List, [], ◌∷◌, length, take, drop, slice_index, ap, arith}
+use Rattle.std.proofs.Common.{◌≡◌, ◌∙◌, ◌-◌, ◌≤◌, ℕ, Bool, true, false, List, [], ◌∷◌, length, take, drop}
+use Rattle.std.proofs.Common.{slice_index, ap, arith}
 use Rattle.std.proofs.Common.{Some, refl}
 use Rattle.std.specs.Prelude.{◌==◌, option_and_then, option_map}
 use Rattle.std.proofs.lemmas.Bool.{eqb-true}
@@ -20,14 +21,17 @@ digit_piece : (d : ℕ) (rest : List ℕ) → (d == 32) ≡ false → pieces 32 
 unfolding pieces
 digit_piece d rest h = rw h refl
 
-pub digit_first : (d n : ℕ) (rest : List ℕ) → with_digit 0 d ≡ Some n → first number_of (words_of (d ∷ 32 ∷ rest)) ≡ Some (n, words_of rest)
+pub digit_first : (d n : ℕ) (rest : List ℕ) → with_digit 0 d ≡ Some n
+    → first number_of (words_of (d ∷ 32 ∷ rest)) ≡ Some (n, words_of rest)
 digit_first d n rest e =
     let words = words_first (d ∷ 32 ∷ rest) (d ∷ []) rest (digit_piece d rest (no_space d n e)) (omega arith) in
-    let number : number_of (d ∷ []) ≡ Some n = number_of_is (d ∷ []) (omega arith) ∙ ap (option_and_then (λ m. number_after m [])) e in
+    let number : number_of (d ∷ []) ≡ Some n = number_of_is (d ∷ []) (omega arith)
+    ∙ ap (option_and_then (λ m. number_after m [])) e in
     ap (first number_of) words ∙ ap (option_map (λ x. (x, words_of rest))) number
 
 -- the same of a text that is known by its first two bytes
-pub digit_first_of : (text : List ℕ) (n : ℕ) → 2 ≤ length text → slice_index text 1 ≡ 32 → with_digit 0 (slice_index text 0) ≡ Some n
+pub digit_first_of : (text : List ℕ) (n : ℕ) → 2 ≤ length text → slice_index text 1 ≡ 32
+    → with_digit 0 (slice_index text 0) ≡ Some n
     → first number_of (words_of text) ≡ Some (n, words_of (take (length text - 2) (drop 2 text)))
 digit_first_of [] n long space digit = absurd (omega arith)
 digit_first_of (d ∷ []) n long space digit = absurd (omega arith)

@@ -28,14 +28,17 @@ byte_below_128 bits h = byte_below 7 bits h
 rest_is : (bits : List Bool) (place : ℕ) → take (length bits - place) (drop place bits) ≡ drop place bits
 rest_is bits place = take_all (length bits - place) (drop place bits) (omega (arith, length-drop place bits))
 
-pub eight_of : (bits rest piece : List Bool) (place n : ℕ) → rest ≡ take (length bits - place) (drop place bits) → n ≡ min (length rest) 8 → piece ≡ take n rest → piece ≡ take 8 (drop place bits)
+pub eight_of : (bits rest piece : List Bool) (place n : ℕ) → rest ≡ take (length bits - place) (drop place bits)
+    → n ≡ min (length rest) 8 → piece ≡ take n rest → piece ≡ take 8 (drop place bits)
 eight_of bits rest piece place n e f g =
     let m : n ≡ min 8 (length rest) = omega (arith, f) in
     g ∙ ap (λ k. take k rest) m ∙ take_min 8 rest ∙ ap (take 8) (e ∙ rest_is bits place)
 
 -- one byte more
-pub byte_more : (bits : List Bool) (index : ℕ) (bytes : List ℕ) (byte : ℕ) → bytes ≡ map (λ i. byte_of (take 8 (drop (8 * i) bits))) (range_with_len 0 index)
-    → byte ≡ byte_of (take 8 (drop (8 * index) bits)) → bytes ++ byte ∷ [] ≡ map (λ i. byte_of (take 8 (drop (8 * i) bits))) (range_with_len 0 (index + 1))
+pub byte_more : (bits : List Bool) (index : ℕ) (bytes : List ℕ) (byte : ℕ)
+    → bytes ≡ map (λ i. byte_of (take 8 (drop (8 * i) bits))) (range_with_len 0 index)
+    → byte ≡ byte_of (take 8 (drop (8 * index) bits))
+    → bytes ++ byte ∷ [] ≡ map (λ i. byte_of (take 8 (drop (8 * i) bits))) (range_with_len 0 (index + 1))
 byte_more bits index bytes byte e f =
     let start : 0 + index ≡ index = omega arith in
     ap (λ before. before ++ byte ∷ []) e

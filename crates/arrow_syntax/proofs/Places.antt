@@ -18,7 +18,8 @@ module _ (p : ℕ → Bool) (xs : List ℕ) where
 
   pub found_nowhere : NoneBelow (length xs) → None ≡ position p xs
   found_nowhere before =
-      let is : position_or_len p xs ≡ length xs = position_or_len_is p xs (length xs) 0 (omega arith) before (λ h. absurd (omega arith)) in
+      let is : position_or_len p xs
+      ≡ length xs = position_or_len_is p xs (length xs) 0 (omega arith) before (λ h. absurd (omega arith)) in
       rw (is, le-ltb (length xs) (length xs) (omega arith)) refl
 
   not_true : (b : Bool) → (b ≡ true → ⊥) → b ≡ false
@@ -28,4 +29,5 @@ module _ (p : ℕ → Bool) (xs : List ℕ) where
   -- the same of the answer of a search
   pub first_is_position : (found : Option ℕ) → IsFirstByte p xs found → found ≡ position p xs
   first_is_position None h = found_nowhere (λ k below. not_true (p (get_or xs k 0)) (h k (omega arith) below))
-  first_is_position (Some n) h = found_at n h.0.high (λ k below. not_true (p (get_or xs k 0)) (h.0.before k (omega arith) below)) h.1
+  first_is_position (Some n) h = found_at n h.0.high
+      (λ k below. not_true (p (get_or xs k 0)) (h.0.before k (omega arith) below)) h.1

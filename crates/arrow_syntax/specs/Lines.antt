@@ -14,7 +14,8 @@ use Rattle.arrow_syntax.specs.Readers.{Reader, beside, no_words, only, each, ◌
 use Rattle.arrow_syntax.specs.Words.{line_feed, lines_of, space, words_of, is_passed_over, is_printable}
 use Rattle.arrow_syntax.specs.Words.{number_of, integer_of, offset_of}
 
--- a line: its name, and what a number behind the name and then further words ask; the number is most often that of an entry
+-- a line: its name, and what a number behind the name and then further words ask; the number is most often that of
+-- an entry
 abbrev pub Line : Type 0
 Line = List ℕ × (ℕ → Reader (Request ℤ))
 

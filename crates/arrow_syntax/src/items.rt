@@ -2,7 +2,8 @@
 ghost use Rattle.std.specs.Prelude.{◌≡◌, ℕ, ℤ, true, false, List, Option, Some, None, IfOk, is_some};
 ghost use Rattle.std.specs.Prelude.{option_map, string_bytes, if◌then◌else◌};
 ghost use Rattle.std.specs.Str.{is_utf8};
-ghost use Rattle.arrow_model.specs.Item.{Stored, value, bytes_item, ListChange, fill, turn, stored_item, stored_slot, change_of};
+ghost use Rattle.arrow_model.specs.Item.{Stored, value, bytes_item, ListChange, fill, turn, stored_item, stored_slot};
+ghost use Rattle.arrow_model.specs.Item.{change_of};
 ghost use Rattle.arrow_syntax.specs.Fields.{bytes_in, bytes_of, change_by_name, change_in, item_by_letter};
 ghost use Rattle.arrow_syntax.specs.Fields.{item_of, slot_of, text_in};
 ghost use Rattle.arrow_syntax.specs.Readers.{only, reads, no_words};

@@ -1,5 +1,6 @@
 -- What an entry that is lent tells is what the command that lists slots answers.
-use Rattle.std.proofs.Common.{◌≡◌, ℕ, option_and_then, slice_get, slice_set, Option, Some, None, MatchOption, option_map, refl, sym, arith}
+use Rattle.std.proofs.Common.{◌≡◌, ℕ, option_and_then, slice_get, slice_set, Option, Some, None, MatchOption}
+use Rattle.std.proofs.Common.{option_map, refl, sym, arith}
 use Rattle.arrow_entry.specs.declared.entry.Entry.{Entry}
 use Rattle.arrow_model.specs.Answer.{Answer, not_met}
 use Rattle.arrow_entry.specs.Entry.{value_of}
@@ -11,7 +12,8 @@ use Rattle.arrow_table.specs.Listed.{listed}
 
 module _ {T O : Type 0} (c : Types T) where
   -- nothing changes where slots are listed
-  lists : (held : Option (Entry T O)) → Does c (option_map value_of held) all_slots (listed held) (option_map value_of held)
+  lists : (held : Option (Entry T O))
+      → Does c (option_map value_of held) all_slots (listed held) (option_map value_of held)
   lists None = (refl, refl)
   lists (Some kept) = (refl, refl)
 
@@ -19,10 +21,13 @@ module _ {T O : Type 0} (c : Types T) where
   past None is = refl
   past (Some kept) is = grind arith
 
-  at-found : (found : Option (Option (Value T))) (state : State T) (e : ℕ) (held : Option (Entry T O)) → slice_get state e ≡ found → option_and_then (λ entry. entry) found ≡ option_map value_of held
-      → MatchOption found ((listed held ≡ not_met) × (state ≡ state)) (λ old. (kept : Option (Value T)) × Does c old all_slots (listed held) kept × (state ≡ slice_set state e kept))
+  at-found : (found : Option (Option (Value T))) (state : State T) (e : ℕ) (held : Option (Entry T O))
+      → slice_get state e ≡ found → option_and_then (λ entry. entry) found ≡ option_map value_of held
+      → MatchOption found ((listed held ≡ not_met) × (state ≡ state)) (λ old. (kept : Option (Value T))
+      × Does c old all_slots (listed held) kept × (state ≡ slice_set state e kept))
   at-found None state e held there is = (past held is, refl)
   at-found (Some old) state e held there is = (old, rw is (lists held), sym (set-same state e old there))
 
-  pub tells : (state : State T) (e : ℕ) (held : Option (Entry T O)) → entry_at state e ≡ option_map value_of held → AtEntry state e (λ old. Does c old all_slots) (listed held) state
+  pub tells : (state : State T) (e : ℕ) (held : Option (Entry T O)) → entry_at state e ≡ option_map value_of held
+      → AtEntry state e (λ old. Does c old all_slots) (listed held) state
   tells state e held is = at-found (slice_get state e) state e held refl is

@@ -1,5 +1,6 @@
 -- Runs, and what they cost.
-use Rattle.std.proofs.Common.{◌≡◌, ℤ, ℕ, ◌+◌, ◌<◌, List, [], ◌∷◌, ◌++◌, length, map, take, slice_index_or, refl, sym, ap, subst, ◌∙◌, append_assoc, arith}
+use Rattle.std.proofs.Common.{◌≡◌, ℤ, ℕ, ◌+◌, ◌<◌, List, [], ◌∷◌, ◌++◌, length, map, take, slice_index_or, refl, sym}
+use Rattle.std.proofs.Common.{ap, subst, ◌∙◌, append_assoc, arith}
 use Rattle.std.proofs.lemmas.List.{take_more}
 use Rattle.arrow_types.specs.declared.primitive_type.PrimitiveType.{PrimitiveType}
 use Rattle.arrow_check.specs.Reading.{Cost, RisesAtMost}
@@ -11,32 +12,37 @@ use Rattle.arrow_model.specs.Answer.{Answer, answer_of}
 use Rattle.arrow_model.specs.Value.{Held, Types}
 use Rattle.arrow_model.specs.Step.{IsStep}
 use Rattle.arrow_model.specs.Run.{Runs, IsRun, CostsAtMost, total, texts_of, inner_offsets_of}
-use Rattle.arrow_model.specs.Both.{Both, BothRequest, narrow, wide, widen, narrow_to, both_asked, narrow_of, wide_of, IsBothStep}
+use Rattle.arrow_model.specs.Both.{Both, BothRequest, narrow, wide, widen, narrow_to, both_asked, narrow_of, wide_of}
+use Rattle.arrow_model.specs.Both.{IsBothStep}
 use Rattle.arrow_entry.proofs.CallerLemmas.{costs-still}
 
 -- ---- any steps
 
 module _ {S C A : Type 0} (Step : S → C → A → S → Type 0) where
   -- a run, and then one step
-  run-step : (s m n : S) (cs : List C) (rs : List A) (d : C) (r : A) → Runs Step s cs rs m → Step m d r n → Runs Step s (cs ++ d ∷ []) (rs ++ r ∷ []) n
+  run-step : (s m n : S) (cs : List C) (rs : List A) (d : C) (r : A) → Runs Step s cs rs m → Step m d r n
+      → Runs Step s (cs ++ d ∷ []) (rs ++ r ∷ []) n
   run-step s m n [] [] d r e step = (n, subst (λ k. Step k d r n) e step, refl)
   run-step s m n [] (r₁ ∷ rs) d r h step = absurd h
   run-step s m n (d₁ ∷ cs) [] d r h step = absurd h
   run-step s m n (d₁ ∷ cs) (r₁ ∷ rs) d r h step = (h.0, h.1, run-step h.0 m n cs rs d r h.2 step)
 
   -- one more command, whose reply is appended
-  pub runs-more : (s m n : S) (commands : List C) (done : ℕ) (before after : List A) (d : C) (r : A) → done < length commands → d ≡ slice_index_or commands done d
+  pub runs-more : (s m n : S) (commands : List C) (done : ℕ) (before after : List A) (d : C) (r : A)
+      → done < length commands → d ≡ slice_index_or commands done d
       → ((added : List A) × (after ≡ before ++ added) × Runs Step s (take done commands) added m) → Step m d r n
       → (added : List A) × (after ++ r ∷ [] ≡ before ++ added) × Runs Step s (take (done + 1) commands) added n
   runs-more s m n commands done before after d r within is h step = (
     h.0 ++ r ∷ [],
     ap (λ rs. rs ++ r ∷ []) h.1 ∙ append_assoc before h.0 (r ∷ []),
-    subst (λ cs. Runs Step s cs (h.0 ++ r ∷ []) n) (sym (take_more commands done d within ∙ ap (λ x. take done commands ++ x ∷ []) (sym is)))
+    subst (λ cs. Runs Step s cs (h.0 ++ r ∷ []) n)
+        (sym (take_more commands done d within ∙ ap (λ x. take done commands ++ x ∷ []) (sym is)))
         (run-step s m n (take done commands) h.0 d r h.2 step),
   )
 
 -- a run by other steps, which follow from the first
-module _ {S C A D B : Type 0} (Step : S → C → A → S → Type 0) (Other : S → D → B → S → Type 0) (asks : C → D) (tells : A → B)
+module _ {S C A D B : Type 0} (Step : S → C → A → S → Type 0) (Other : S → D → B → S → Type 0) (asks : C
+    → D) (tells : A → B)
     (follows : (s n : S) (c : C) (r : A) → Step s c r n → Other s (asks c) (tells r) n) where
   runs-by : (s n : S) (cs : List C) (rs : List A) → Runs Step s cs rs n → Runs Other s (map asks cs) (map tells rs) n
   runs-by s n [] [] h = h
@@ -46,18 +52,24 @@ module _ {S C A D B : Type 0} (Step : S → C → A → S → Type 0) (Other : S
 
 -- ---- costs
 
-total-join : {T : Type 0} (measure : Request T → ℕ) (cs ds : List (Request T)) → total measure (cs ++ ds) ≡ total measure cs + total measure ds
+total-join : {T : Type 0} (measure : Request T → ℕ) (cs ds : List (Request T))
+    → total measure (cs ++ ds) ≡ total measure cs + total measure ds
 total-join measure [] ds = omega arith
 total-join measure (c ∷ cs) ds = let rest = total-join measure cs ds in omega (arith, rest)
 
 rises-more : (i j n a b d : ℕ) → n ≡ i + j → RisesAtMost i a b → RisesAtMost j b d → RisesAtMost n a d
-rises-more i j n a b d is h k = record { never_falls = omega (arith, h.never_falls, k.never_falls); most = omega (arith, is, h.most, k.most) }
+rises-more i j n a b d is h k = record
+    { never_falls = omega (arith, h.never_falls, k.never_falls); most = omega (arith, is, h.most, k.most) }
 
-costs-join : {T : Type 0} (cs ds : List (Request T)) (x y z : Cost) → CostsAtMost cs x y → CostsAtMost ds y z → CostsAtMost (cs ++ ds) x z
+costs-join : {T : Type 0} (cs ds : List (Request T)) (x y z : Cost) → CostsAtMost cs x y → CostsAtMost ds y z
+    → CostsAtMost (cs ++ ds) x z
 costs-join cs ds x y z h k = record {
-  ascii = rises-more (total texts_of cs) (total texts_of ds) (total texts_of (cs ++ ds)) x.ascii_tests y.ascii_tests z.ascii_tests (total-join texts_of cs ds) h.ascii k.ascii;
-  whole = rises-more (total texts_of cs) (total texts_of ds) (total texts_of (cs ++ ds)) x.whole_tests y.whole_tests z.whole_tests (total-join texts_of cs ds) h.whole k.whole;
-  looked = rises-more (total inner_offsets_of cs) (total inner_offsets_of ds) (total inner_offsets_of (cs ++ ds)) x.bytes_looked y.bytes_looked z.bytes_looked (total-join inner_offsets_of cs ds) h.looked k.looked;
+  ascii = rises-more (total texts_of cs) (total texts_of ds) (total texts_of (cs ++ ds)) x.ascii_tests y.ascii_tests
+      z.ascii_tests (total-join texts_of cs ds) h.ascii k.ascii;
+  whole = rises-more (total texts_of cs) (total texts_of ds) (total texts_of (cs ++ ds)) x.whole_tests y.whole_tests
+      z.whole_tests (total-join texts_of cs ds) h.whole k.whole;
+  looked = rises-more (total inner_offsets_of cs) (total inner_offsets_of ds) (total inner_offsets_of (cs ++ ds))
+      x.bytes_looked y.bytes_looked z.bytes_looked (total-join inner_offsets_of cs ds) h.looked k.looked;
 }
 
 -- what the requests of a list of commands cost, where each step costs at most what its own do
@@ -65,35 +77,43 @@ module _ {S C A T : Type 0} (Step : S → C → A → S → Type 0) (cost : S �
     (none : requests [] ≡ []) (joins : (c : C) (cs : List C) → requests (c ∷ cs) ≡ requests (c ∷ []) ++ requests cs)
     (costs : (s n : S) (c : C) (r : A) → Step s c r n → CostsAtMost (requests (c ∷ [])) (cost s) (cost n)) where
   run-costs : (s n : S) (cs : List C) (rs : List A) → Runs Step s cs rs n → CostsAtMost (requests cs) (cost s) (cost n)
-  run-costs s n [] [] h = subst (λ m. CostsAtMost (requests []) (cost s) (cost m)) (sym h) (costs-still (requests []) (cost s))
+  run-costs s n [] [] h = subst (λ m. CostsAtMost (requests []) (cost s) (cost m)) (sym h)
+      (costs-still (requests []) (cost s))
   run-costs s n [] (r ∷ rs) h = absurd h
   run-costs s n (c ∷ cs) [] h = absurd h
   run-costs s n (c ∷ cs) (r ∷ rs) h =
       subst (λ asks. CostsAtMost asks (cost s) (cost n)) (sym (joins c cs))
-      (costs-join (requests (c ∷ [])) (requests cs) (cost s) (cost h.0) (cost n) (costs s h.0 c r h.1) (run-costs h.0 n cs rs h.2))
+      (costs-join (requests (c ∷ [])) (requests cs) (cost s) (cost h.0) (cost n) (costs s h.0 c r h.1)
+      (run-costs h.0 n cs rs h.2))
 
 -- ---- a table
 
 module _ {T O : Type 0} (c : Types T) (number : O → ℤ) where
   -- a step, and what it costs
   abbrev pub TableStep : Held T → Command T O → Reply T → Held T → Type 0
-  TableStep old command reply new = IsStep c old (asked number command) (answer_of reply) new × CostsAtMost (asked number command ∷ []) old.cost new.cost
+  TableStep old command reply new = IsStep c old (asked number command) (answer_of reply) new
+      × CostsAtMost (asked number command ∷ []) old.cost new.cost
 
-  pub table-runs : (s n : Held T) (cs : List (Command T O)) (rs : List (Reply T)) → Runs TableStep s cs rs n → IsRun c s (map (asked number) cs) (map answer_of rs) n
+  pub table-runs : (s n : Held T) (cs : List (Command T O)) (rs : List (Reply T)) → Runs TableStep s cs rs n
+      → IsRun c s (map (asked number) cs) (map answer_of rs) n
   table-runs = runs-by TableStep (IsStep c) (asked number) answer_of (λ s n command r h. h.0)
 
-  pub table-costs : (s n : Held T) (cs : List (Command T O)) (rs : List (Reply T)) → Runs TableStep s cs rs n → CostsAtMost (map (asked number) cs) s.cost n.cost
-  table-costs = run-costs TableStep (λ s. s.cost) (map (asked number)) refl (λ command cs. refl) (λ s n command r h. h.1)
+  pub table-costs : (s n : Held T) (cs : List (Command T O)) (rs : List (Reply T)) → Runs TableStep s cs rs n
+      → CostsAtMost (map (asked number) cs) s.cost n.cost
+  table-costs = run-costs TableStep (λ s. s.cost) (map (asked number)) refl (λ command cs. refl)
+      (λ s n command r h. h.1)
 
 -- ---- two tables
 
-narrow-joins : {T : Type 0} (b : BothRequest T) (bs : List (BothRequest T)) → narrow_of (b ∷ bs) ≡ narrow_of (b ∷ []) ++ narrow_of bs
+narrow-joins : {T : Type 0} (b : BothRequest T) (bs : List (BothRequest T))
+    → narrow_of (b ∷ bs) ≡ narrow_of (b ∷ []) ++ narrow_of bs
 narrow-joins (narrow asks) bs = refl
 narrow-joins (wide asks) bs = refl
 narrow-joins (widen e f) bs = refl
 narrow-joins (narrow_to e f) bs = refl
 
-wide-joins : {T : Type 0} (b : BothRequest T) (bs : List (BothRequest T)) → wide_of (b ∷ bs) ≡ wide_of (b ∷ []) ++ wide_of bs
+wide-joins : {T : Type 0} (b : BothRequest T) (bs : List (BothRequest T))
+    → wide_of (b ∷ bs) ≡ wide_of (b ∷ []) ++ wide_of bs
 wide-joins (narrow asks) bs = refl
 wide-joins (wide asks) bs = refl
 wide-joins (widen e f) bs = refl
@@ -106,11 +126,16 @@ module _ {T : Type 0} (zero : T) (primitive : PrimitiveType) where
       × CostsAtMost (narrow_of (both_asked command ∷ [])) old.narrow.cost new.narrow.cost
       × CostsAtMost (wide_of (both_asked command ∷ [])) old.wide.cost new.wide.cost
 
-  pub both-runs : (s n : Both T) (cs : List (BothCommand T)) (rs : List (Reply T)) → Runs TablesStep s cs rs n → Runs (IsBothStep zero primitive) s (map both_asked cs) (map answer_of rs) n
+  pub both-runs : (s n : Both T) (cs : List (BothCommand T)) (rs : List (Reply T)) → Runs TablesStep s cs rs n
+      → Runs (IsBothStep zero primitive) s (map both_asked cs) (map answer_of rs) n
   both-runs = runs-by TablesStep (IsBothStep zero primitive) both_asked answer_of (λ s n command r h. h.0)
 
-  pub narrow-costs : (s n : Both T) (cs : List (BothCommand T)) (rs : List (Reply T)) → Runs TablesStep s cs rs n → CostsAtMost (narrow_of (map both_asked cs)) s.narrow.cost n.narrow.cost
-  narrow-costs = run-costs TablesStep (λ s. s.narrow.cost) (λ cs. narrow_of (map both_asked cs)) refl (λ command cs. narrow-joins (both_asked command) (map both_asked cs)) (λ s n command r h. h.1)
+  pub narrow-costs : (s n : Both T) (cs : List (BothCommand T)) (rs : List (Reply T)) → Runs TablesStep s cs rs n
+      → CostsAtMost (narrow_of (map both_asked cs)) s.narrow.cost n.narrow.cost
+  narrow-costs = run-costs TablesStep (λ s. s.narrow.cost) (λ cs. narrow_of (map both_asked cs)) refl
+      (λ command cs. narrow-joins (both_asked command) (map both_asked cs)) (λ s n command r h. h.1)
 
-  pub wide-costs : (s n : Both T) (cs : List (BothCommand T)) (rs : List (Reply T)) → Runs TablesStep s cs rs n → CostsAtMost (wide_of (map both_asked cs)) s.wide.cost n.wide.cost
-  wide-costs = run-costs TablesStep (λ s. s.wide.cost) (λ cs. wide_of (map both_asked cs)) refl (λ command cs. wide-joins (both_asked command) (map both_asked cs)) (λ s n command r h. h.2)
+  pub wide-costs : (s n : Both T) (cs : List (BothCommand T)) (rs : List (Reply T)) → Runs TablesStep s cs rs n
+      → CostsAtMost (wide_of (map both_asked cs)) s.wide.cost n.wide.cost
+  wide-costs = run-costs TablesStep (λ s. s.wide.cost) (λ cs. wide_of (map both_asked cs)) refl
+      (λ command cs. wide-joins (both_asked command) (map both_asked cs)) (λ s n command r h. h.2)

@@ -19,7 +19,8 @@ pub(crate) fn check_indexes<T: NativeType>(
     length: usize,
 ) -> Result<Reply<T>, Error>
     ensures { outcome result
-        ≡ option_map_or (λ key. refused (key_refusal key)) (find (λ key. not (in_bounds length key)) keys.now.items) done }
+        ≡ option_map_or (λ key. refused (key_refusal key)) (find (λ key. not (in_bounds length key)) keys.now.items)
+        done }
 {
     indexes::check_indexes(keys, length)?;
     Ok(Reply::Done)

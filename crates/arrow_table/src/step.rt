@@ -71,7 +71,8 @@ fn change<T: NativeType, O: Offset>(
     command: &Command<T, O>,
 ) -> Result<Reply<T>, Error>
     requires { is_parts (asked O.number command.now) ≡ false }
-    ensures { Changes (types T.zero T.PRIMITIVE O.most O.IS_LARGE) (state_of entries.old.items) (asked O.number command.now)
+    ensures { Changes (types T.zero T.PRIMITIVE O.most O.IS_LARGE) (state_of entries.old.items)
+        (asked O.number command.now)
         (outcome result) (state_of entries.new.items) }
 {
     match command {

@@ -1,5 +1,6 @@
 //! A table, and the run of a list of commands on it.
-ghost use Rattle.std.specs.Prelude.{◌≡◌, ◌<◌, ◌≤◌, ◌∷◌, [], length, map, replicate, take, vec_capacity, vec_len, IfErr, IfOk, IfSome, None, option_copied, option_map};
+ghost use Rattle.std.specs.Prelude.{◌≡◌, ◌<◌, ◌≤◌, ◌∷◌, [], length, map, replicate, take, vec_capacity, vec_len};
+ghost use Rattle.std.specs.Prelude.{IfErr, IfOk, IfSome, None, option_copied, option_map};
 ghost use Rattle.arrow_check.specs.Reading.{no_cost};
 ghost use Rattle.arrow_model.specs.Answer.{answer_of};
 ghost use Rattle.arrow_entry.specs.Entry.{table_of, value_of};
@@ -26,7 +27,8 @@ use arrow_types::offset::Offset;
 use std::alloc::Global;
 use std::marker::Model;
 
-/// A table of entries, each of which is empty or holds an array or a builder; and counts of what its tests of text cost.
+/// A table of entries, each of which is empty or holds an array or a builder; and counts of what its tests of text
+/// cost.
 #[derive(Drop)]
 pub struct Table<T: NativeType, O: Offset> {
     pub(crate) entries: Vec<Option<Entry<T, O>>>,
@@ -80,13 +82,15 @@ impl<T: NativeType, O: Offset> Table<T, O> {
         }
     }
 
-    /// What an entry holds, lent to a caller who reads it where it lies; `None` where the entry is empty or past the table.
-    /// Its slots are what the command `Slots` tells, which copies them. What is held is a value.
+    /// What an entry holds, lent to a caller who reads it where it lies; `None` where the entry is empty or past
+    /// the table. Its slots are what the command `Slots` tells, which copies them. What is held is a value.
     #[inline(always)]
     pub fn get(&self, i: usize) -> Option<&Entry<T, O>>
         ensures held { entry_at self.now.entries i ≡ option_map value_of (option_copied result) }
-        ensures step { IsStep (types T.zero T.PRIMITIVE O.most O.IS_LARGE) self.now (at i all_slots) (listed (option_copied result)) self.now }
-        ensures value { IfSome (option_copied result) (λ held. IsValue (types T.zero T.PRIMITIVE O.most O.IS_LARGE) (value_of held)) }
+        ensures step { IsStep (types T.zero T.PRIMITIVE O.most O.IS_LARGE) self.now (at i all_slots)
+            (listed (option_copied result)) self.now }
+        ensures value { IfSome (option_copied result)
+            (λ held. IsValue (types T.zero T.PRIMITIVE O.most O.IS_LARGE) (value_of held)) }
     {
         match entry_at(&self.entries, i) {
             Some(held) => {
@@ -101,7 +105,8 @@ impl<T: NativeType, O: Offset> Table<T, O> {
     /// Does the command that appends a slot to the builder in an entry, and answers, with no command made for it.
     #[inline(always)]
     pub fn push_at(&mut self, i: usize, slot: &Option<Item<T>>) -> Reply<T>
-        ensures { IsStep (types T.zero T.PRIMITIVE O.most O.IS_LARGE) self.old (at i (push (stored_slot slot.now))) (answer_of result) self.new }
+        ensures { IsStep (types T.zero T.PRIMITIVE O.most O.IS_LARGE) self.old (at i (push (stored_slot slot.now)))
+            (answer_of result) self.new }
     {
         let alloc = *self.entries.allocator();
         reply_of(run_at(alloc, &mut self.entries, i, Push(slot)))
@@ -110,7 +115,8 @@ impl<T: NativeType, O: Offset> Table<T, O> {
     /// Does the command that puts what raw parts make into an entry, and answers. The parts are taken, not copied.
     #[inline(always)]
     pub fn parts_at(&mut self, i: usize, parts: Parts<T, O>) -> Reply<T>
-        ensures step { IsStep (types T.zero T.PRIMITIVE O.most O.IS_LARGE) self.old (parts_asked O.number i parts) (answer_of result) self.new }
+        ensures step { IsStep (types T.zero T.PRIMITIVE O.most O.IS_LARGE) self.old (parts_asked O.number i parts)
+            (answer_of result) self.new }
         ensures costs { CostsAtMost (parts_asked O.number i parts ∷ []) self.old.cost self.new.cost }
     {
         reply_of(parts_at(&mut self.entries, i, parts, &mut self.cost))
@@ -134,7 +140,9 @@ impl<T: NativeType, O: Offset> Executor<T> for Table<T, O> {
 
     type Command = Command<T, O>;
 
-    ghost steps_to = { λ old command reply new. IsStep (types T.zero T.PRIMITIVE O.most O.IS_LARGE) old (asked O.number command) (answer_of reply) new × CostsAtMost (asked O.number command ∷ []) old.cost new.cost };
+    ghost steps_to = { λ old command reply new. IsStep (types T.zero T.PRIMITIVE O.most O.IS_LARGE) old
+        (asked O.number command) (answer_of reply) new
+        × CostsAtMost (asked O.number command ∷ []) old.cost new.cost };
 
     #[inline(always)]
     fn step(&mut self, alloc: Global, command: &Command<T, O>) -> Reply<T> {
@@ -142,16 +150,17 @@ impl<T: NativeType, O: Offset> Executor<T> for Table<T, O> {
     }
 }
 
-/// Runs commands in order and appends a reply for each. Answers how many were done: all, or as many as there was room for
-/// replies. It stops early only where the list of replies is full and its growth was refused, and never gives up room that
-/// the list has.
+/// Runs commands in order and appends a reply for each. Answers how many were done: all, or as many as there was
+/// room for replies. It stops early only where the list of replies is full and its growth was refused, and never
+/// gives up room that the list has.
 pub fn run<T: NativeType, O: Offset>(
     table: &mut Table<T, O>,
     commands: &[Command<T, O>],
     replies: &mut Vec<Reply<T>>,
 ) -> usize
     ensures count { result ≤ length commands.now }
-    ensures run { AppendsRun (types T.zero T.PRIMITIVE O.most O.IS_LARGE) O.number table.old (take result commands.now) replies.old.items replies.new.items table.new }
+    ensures run { AppendsRun (types T.zero T.PRIMITIVE O.most O.IS_LARGE) O.number table.old
+        (take result commands.now) replies.old.items replies.new.items table.new }
     ensures costs { CostsAtMost (map (asked O.number) (take result commands.now)) table.old.cost table.new.cost }
     ensures full { result < length commands.now → vec_len replies.new ≡ vec_capacity replies.new }
     ensures room { vec_capacity replies.old ≤ vec_capacity replies.new }

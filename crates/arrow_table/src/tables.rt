@@ -1,8 +1,10 @@
 //! Two tables, one of each width of offsets, and the run of a list of commands on them.
-ghost use Rattle.std.specs.Prelude.{◌≡◌, ◌<◌, ◌≤◌, ◌∷◌, [], length, map, option_copied, option_map, replicate, take, vec_capacity, vec_len, IfErr, IfOk, None};
+ghost use Rattle.std.specs.Prelude.{◌≡◌, ◌<◌, ◌≤◌, ◌∷◌, [], length, map, option_copied, option_map, replicate, take};
+ghost use Rattle.std.specs.Prelude.{vec_capacity, vec_len, IfErr, IfOk, None};
 ghost use Rattle.arrow_check.specs.Reading.{no_cost};
 ghost use Rattle.arrow_model.specs.Answer.{answer_of};
-ghost use Rattle.arrow_model.specs.Both.{AppendsBothRun, IsBothStep, both_asked, narrow, narrow_of, narrow_to, wide, wide_of, widen};
+ghost use Rattle.arrow_model.specs.Both.{AppendsBothRun, IsBothStep, both_asked, narrow, narrow_of, narrow_to, wide};
+ghost use Rattle.arrow_model.specs.Both.{wide_of, widen};
 ghost use Rattle.arrow_entry.specs.Entry.{value_of};
 ghost use Rattle.arrow_model.specs.Item.{stored_slot};
 ghost use Rattle.arrow_model.specs.Request.{all_slots, asked, at, parts_asked, push};
@@ -71,7 +73,8 @@ impl<T: NativeType> Tables<T> {
     /// Runs a command on the table over offsets of 32 bits, and returns its reply, which is allocated by `alloc`.
     #[inline(always)]
     pub fn on_narrow(&mut self, alloc: Global, command: &Command<T, i32>) -> Reply<T>
-        ensures step { IsBothStep T.zero T.PRIMITIVE self.old (narrow (asked (λ n. n) command.now)) (answer_of result) self.new }
+        ensures step { IsBothStep T.zero T.PRIMITIVE self.old (narrow (asked (λ n. n) command.now)) (answer_of result)
+            self.new }
         ensures costs { CostsAtMost (asked (λ n. n) command.now ∷ []) self.old.narrow.cost self.new.narrow.cost }
     {
         self.narrow.step(alloc, command)
@@ -80,14 +83,15 @@ impl<T: NativeType> Tables<T> {
     /// Runs a command on the table over offsets of 64 bits, and returns its reply, which is allocated by `alloc`.
     #[inline(always)]
     pub fn on_wide(&mut self, alloc: Global, command: &Command<T, i64>) -> Reply<T>
-        ensures step { IsBothStep T.zero T.PRIMITIVE self.old (wide (asked (λ n. n) command.now)) (answer_of result) self.new }
+        ensures step { IsBothStep T.zero T.PRIMITIVE self.old (wide (asked (λ n. n) command.now)) (answer_of result)
+            self.new }
         ensures costs { CostsAtMost (asked (λ n. n) command.now ∷ []) self.old.wide.cost self.new.wide.cost }
     {
         self.wide.step(alloc, command)
     }
 
-    /// Copies the array of bytes or text in the narrow entry `e` into the empty wide entry `f`, over offsets of 64 bits,
-    /// and returns the reply.
+    /// Copies the array of bytes or text in the narrow entry `e` into the empty wide entry `f`, over offsets of 64
+    /// bits, and returns the reply.
     pub fn widen(&mut self, e: usize, f: usize) -> Reply<T>
         ensures { IsBothStep T.zero T.PRIMITIVE self.old (widen e f) (answer_of result) self.new }
     {
@@ -96,8 +100,8 @@ impl<T: NativeType> Tables<T> {
         reply_of(put_at(alloc, &mut self.wide.entries, f, row))
     }
 
-    /// Copies the array of bytes or text in the wide entry `e` into the empty narrow entry `f`, over offsets of 32 bits,
-    /// and returns the reply.
+    /// Copies the array of bytes or text in the wide entry `e` into the empty narrow entry `f`, over offsets of 32
+    /// bits, and returns the reply.
     pub fn narrow_to(&mut self, e: usize, f: usize) -> Reply<T>
         ensures { IsBothStep T.zero T.PRIMITIVE self.old (narrow_to e f) (answer_of result) self.new }
     {

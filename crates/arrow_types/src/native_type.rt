@@ -264,7 +264,8 @@ impl NativeType for months_days_ns {
 
     ghost same = { λ x y.
         let d = both-Decides (signed_Decides x.0 y.0) (both-Decides (signed_Decides x.1 y.1) (signed_Decides x.2 y.2)) in
-        (λ h. let p = d.0 h in λ i. record { 0 = p.0 i; 1 = p.1.0 i; 2 = p.1.1 i }, λ e. d.1 (ap (λ v. v.0) e, (ap (λ v. v.1) e, ap (λ v. v.2) e))) };
+        (λ h. let p = d.0 h in λ i. record { 0 = p.0 i; 1 = p.1.0 i; 2 = p.1.1 i }, λ e. d.1
+        (ap (λ v. v.0) e, (ap (λ v. v.1) e, ap (λ v. v.2) e))) };
 
     #[inline(always)]
     fn default() -> months_days_ns {

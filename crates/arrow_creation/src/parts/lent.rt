@@ -128,8 +128,8 @@ fn are_for<T: NativeType, O: Offset>(given: &Parts<T, O>) -> bool
     }
 }
 
-/// IntoEmpty what raw parts make into an empty entry. They are copied if the entry is empty and the command is for their
-/// kind. What the test of text costs is added to the counts.
+/// IntoEmpty what raw parts make into an empty entry. They are copied if the entry is empty and the command is for
+/// their kind. What the test of text costs is added to the counts.
 ///
 /// # Errors
 /// The refusal that the command is answered with; the entry is then as before.

@@ -41,7 +41,9 @@ pub(crate) struct NullLine;
 impl<O: ParseOffset> CommandLine<O> for NullLine {
     type Rest = (Kind, Last<usize>);
 
-    ghost reader = { λ e. reads (kind_of ▸ only number_of) (λ (kind, n). make e (shape kind) (nulls (default_type (types_over O.most O.IS_LARGE) (shape kind).value_kind) n)) };
+    ghost reader = { λ e. reads (kind_of ▸ only number_of)
+        (λ (kind, n). make e (shape kind)
+        (nulls (default_type (types_over O.most O.IS_LARGE) (shape kind).value_kind) n)) };
 
     ghost same = { Prim.search rules };
 
@@ -201,7 +203,8 @@ fn raw_bytes<O: ParseOffset>(alloc: Global, words: &[u8]) -> Result<Option<Raw<i
 
 /// Returns whether words are a type, a mask and raw values of a kind.
 fn are_parts<O: ParseOffset>(kind: Kind, words: &[u8]) -> bool
-    ensures { result ≡ is_some ((type_of ▸ packed_mask_in ▸ raw_in O.offset (shape kind).value_kind) (words_of words.now)) }
+    ensures { result ≡ is_some
+        ((type_of ▸ packed_mask_in ▸ raw_in O.offset (shape kind).value_kind) (words_of words.now)) }
 {
     match kind {
         Kind::Primitive | Kind::MutablePrimitive => <PartsOf<Vec<i64>>>::are_words(words),

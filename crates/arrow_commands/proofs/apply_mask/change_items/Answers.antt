@@ -7,9 +7,11 @@ use Rattle.arrow_commands.proofs.Masks.{keeps, changes}
 use Rattle.arrow_commands.proofs.apply_mask.change_items.Goals as goal
 
 pub apply_validity-requires-clause-keeps : goal.apply_validity-requires-clause-keeps
-apply_validity-requires-clause-keeps g c = keeps (λ around. around) (bytes_item g.K.ByteKind.is_text) c.args.held.now c.requires.held c.args.marks _ c.requires.fits (λ old changed made. search (made, rules))
+apply_validity-requires-clause-keeps g c = keeps (λ around. around) (bytes_item g.K.ByteKind.is_text) c.args.held.now
+    c.requires.held c.args.marks _ c.requires.fits (λ old changed made. search (made, rules))
 
 pub returns-clause-ok : goal.returns-clause-ok
 returns-clause-ok g c =
     ap (with_column (bytes_value frozen g.K.ByteKind.is_text c.args.held.now))
-    (changes (λ around. around) (bytes_item g.K.ByteKind.is_text) c.args.held.now c.requires.held c.args.marks _ c.apply_validity.new.self (λ old changed made. search (made, rules)) c.apply_validity.ensures)
+    (changes (λ around. around) (bytes_item g.K.ByteKind.is_text) c.args.held.now c.requires.held c.args.marks _
+    c.apply_validity.new.self (λ old changed made. search (made, rules)) c.apply_validity.ensures)

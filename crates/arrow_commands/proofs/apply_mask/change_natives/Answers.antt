@@ -8,9 +8,11 @@ use Rattle.arrow_commands.proofs.Masks.{keeps, changes}
 use Rattle.arrow_commands.proofs.apply_mask.change_natives.Goals as goal
 
 pub apply_validity-requires-clause-keeps : goal.apply_validity-requires-clause-keeps
-apply_validity-requires-clause-keeps g c = keeps (λ _. nothing_around) value c.args.held.now c.requires.held c.args.marks _ c.requires.fits (λ old changed made. search (made, rules))
+apply_validity-requires-clause-keeps g c = keeps (λ _. nothing_around) value c.args.held.now c.requires.held
+    c.args.marks _ c.requires.fits (λ old changed made. search (made, rules))
 
 pub returns-clause-ok : goal.returns-clause-ok
 returns-clause-ok g c =
     ap (with_column (native_value frozen c.args.held.now))
-    (changes (λ _. nothing_around) value c.args.held.now c.requires.held c.args.marks _ c.apply_validity.new.self (λ old changed made. search (made, rules)) c.apply_validity.ensures)
+    (changes (λ _. nothing_around) value c.args.held.now c.requires.held c.args.marks _ c.apply_validity.new.self
+    (λ old changed made. search (made, rules)) c.apply_validity.ensures)

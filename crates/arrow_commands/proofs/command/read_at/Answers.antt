@@ -12,13 +12,17 @@ returns-in-Some g c =
     let known = types g.T.NativeType.zero g.T.NativeType.PRIMITIVE g.O.Offset.most g.O.Offset.IS_LARGE in
     let entries = c.args.entries.now.items in
     let within : c.args.e < length entries = omega arith in
-    stays-row (option_map value_of) (λ old. Does known old (g.R.ReadsEntry.asks c.args.command)) entries c.args.e (Some c.in-Some.held) (outcome c.read.result)
-    (got entries c.args.e c.index.result.now c.index.result.now within c.index.ensures ∙ ap Some c.in-Some.is) c.read.ensures
+    stays-row (option_map value_of) (λ old. Does known old (g.R.ReadsEntry.asks c.args.command)) entries c.args.e
+    (Some c.in-Some.held) (outcome c.read.result)
+    (got entries c.args.e c.index.result.now c.index.result.now within c.index.ensures
+    ∙ ap Some c.in-Some.is) c.read.ensures
 
 pub returns-in-None : goal.returns-in-None
 returns-in-None g c =
     let known = types g.T.NativeType.zero g.T.NativeType.PRIMITIVE g.O.Offset.most g.O.Offset.IS_LARGE in
     let entries = c.args.entries.now.items in
     let within : c.args.e < length entries = omega arith in
-    stays-row (option_map value_of) (λ old. Does known old (g.R.ReadsEntry.asks c.args.command)) entries c.args.e None not_met
-    (got entries c.args.e c.index.result.now c.index.result.now within c.index.ensures ∙ ap Some c.in-None.is) (refl, refl)
+    stays-row (option_map value_of) (λ old. Does known old (g.R.ReadsEntry.asks c.args.command)) entries c.args.e None
+    not_met
+    (got entries c.args.e c.index.result.now c.index.result.now within c.index.ensures
+    ∙ ap Some c.in-None.is) (refl, refl)

@@ -27,7 +27,8 @@ returns-then-is_array g c =
     let known = types g.T.NativeType.zero g.T.NativeType.PRIMITIVE g.O.Offset.most g.O.Offset.IS_LARGE in
     let s = shape c.args.kind in
     let w = value_of c.push_items.new.held in
-    let done-so = items-done known s.value_kind s.group (map stored_item c.args.items.now) (value_of c.in_ok-made.made) w
+    let done-so = items-done known s.value_kind s.group (map stored_item c.args.items.now)
+    (value_of c.in_ok-made.made) w
     (c.in_ok-made.ensures.ok ∙ ap (empty_value known) c.builder_kind.ensures) c.in_ok-push_items.ensures.ok in
     let row = Filled known (empty_value known s) (map Some (map stored_item c.args.items.now)) (λ v. v) in
     frozen-built row w c.frozen.result c.frozen.ensures.ok c.frozen.ensures.err
@@ -39,7 +40,8 @@ returns-else-is_array g c =
     let known = types g.T.NativeType.zero g.T.NativeType.PRIMITIVE g.O.Offset.most g.O.Offset.IS_LARGE in
     let s = shape c.args.kind in
     let w = value_of c.push_items.new.held in
-    let done-so = items-done known s.value_kind s.group (map stored_item c.args.items.now) (value_of c.in_ok-made.made) w
+    let done-so = items-done known s.value_kind s.group (map stored_item c.args.items.now)
+    (value_of c.in_ok-made.made) w
     (c.in_ok-made.ensures.ok ∙ ap (empty_value known) c.builder_kind.ensures) c.in_ok-push_items.ensures.ok in
     let row = Filled known (empty_value known s) (map Some (map stored_item c.args.items.now)) (λ v. v) in
     subst (λ b. row done (Some (if b then frozen_value w else w))) (sym c.is_array.ensures ∙ c.if-is_array.false)

@@ -26,7 +26,8 @@ returns-then-is_array g c =
     let known = types g.T.NativeType.zero g.T.NativeType.PRIMITIVE g.O.Offset.most g.O.Offset.IS_LARGE in
     let s = shape c.args.kind in
     let w = value_of c.push_slots.new.held in
-    let done-so = slots-done known s.value_kind s.group (map stored_slot c.args.slots.now) (value_of c.in_ok-made.made) w
+    let done-so = slots-done known s.value_kind s.group (map stored_slot c.args.slots.now)
+    (value_of c.in_ok-made.made) w
     c.in_ok-made.ensures.ok c.in_ok-push_slots.ensures.ok in
     let row = Filled known (slots_start known s) (map stored_slot c.args.slots.now)
     (λ v. if is_frozen s then frozen_value v else v) in
@@ -39,7 +40,8 @@ returns-else-is_array g c =
     let known = types g.T.NativeType.zero g.T.NativeType.PRIMITIVE g.O.Offset.most g.O.Offset.IS_LARGE in
     let s = shape c.args.kind in
     let w = value_of c.push_slots.new.held in
-    let done-so = slots-done known s.value_kind s.group (map stored_slot c.args.slots.now) (value_of c.in_ok-made.made) w
+    let done-so = slots-done known s.value_kind s.group (map stored_slot c.args.slots.now)
+    (value_of c.in_ok-made.made) w
     c.in_ok-made.ensures.ok c.in_ok-push_slots.ensures.ok in
     let row = Filled known (slots_start known s) (map stored_slot c.args.slots.now)
     (λ v. if is_frozen s then frozen_value v else v) in

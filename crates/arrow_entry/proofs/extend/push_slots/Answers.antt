@@ -15,19 +15,28 @@ loop-slot-preserved g c =
     let split : c.loop-slot.rest.now ≡ c.in-Some.slot.now ∷ c.in-Some.others.now = search rules in (
       search rules,
       subst (λ (s : Shape). IsTrue (list_all (slot_fits s.value_kind) (map stored_slot c.in-Some.others.now)))
-          (sym (let same : (value_of c.push_slot.new.self).shape ≡ (value_of c.loop-slot.held).shape = ap (λ (v : Value g.row.T.Denot). v.shape) c.in-Ok.ensures.ok.1 in same))
-          (and-second (slot_fits (value_of c.loop-slot.held).shape.value_kind (stored_slot c.in-Some.slot.now)) (list_all (slot_fits (value_of c.loop-slot.held).shape.value_kind) (map stored_slot c.in-Some.others.now))
-          (subst (λ xs. IsTrue (list_all (slot_fits (value_of c.loop-slot.held).shape.value_kind) (map stored_slot xs))) split c.loop-slot.invariant.1)),
-      rest-taken (types g.T.NativeType.zero g.T.NativeType.PRIMITIVE g.O.Offset.most g.O.Offset.IS_LARGE) (value_of c.args.held.now) (map stored_slot c.args.slots.now)
-          (value_of c.loop-slot.held) (value_of c.push_slot.new.self) (map stored_slot c.loop-slot.rest.now) (map stored_slot c.in-Some.others.now) (stored_slot c.in-Some.slot.now)
+          (sym (let same : (value_of c.push_slot.new.self).shape
+          ≡ (value_of c.loop-slot.held).shape = ap (λ (v : Value g.row.T.Denot). v.shape) c.in-Ok.ensures.ok.1
+          in same))
+          (and-second (slot_fits (value_of c.loop-slot.held).shape.value_kind (stored_slot c.in-Some.slot.now))
+          (list_all (slot_fits (value_of c.loop-slot.held).shape.value_kind)
+          (map stored_slot c.in-Some.others.now))
+          (subst (λ xs. IsTrue (list_all (slot_fits (value_of c.loop-slot.held).shape.value_kind)
+          (map stored_slot xs))) split c.loop-slot.invariant.1)),
+      rest-taken (types g.T.NativeType.zero g.T.NativeType.PRIMITIVE g.O.Offset.most g.O.Offset.IS_LARGE)
+          (value_of c.args.held.now) (map stored_slot c.args.slots.now)
+          (value_of c.loop-slot.held) (value_of c.push_slot.new.self) (map stored_slot c.loop-slot.rest.now)
+          (map stored_slot c.in-Some.others.now) (stored_slot c.in-Some.slot.now)
           (ap (map stored_slot) split) c.in-Ok.ensures.ok c.loop-slot.invariant.2,
     )
 
 pub returns-clause-ok : goal.returns-clause-ok
 returns-clause-ok g c =
     let split : c.loop-slot.rest.now ≡ [] = nil_from_length c.loop-slot.rest.now (search rules) in
-    rest-none (types g.T.NativeType.zero g.T.NativeType.PRIMITIVE g.O.Offset.most g.O.Offset.IS_LARGE) (value_of c.args.held.now) (map stored_slot c.args.slots.now)
-    (value_of c.loop-slot.held) (map stored_slot c.loop-slot.rest.now) (ap (map stored_slot) split) c.loop-slot.invariant.2
+    rest-none (types g.T.NativeType.zero g.T.NativeType.PRIMITIVE g.O.Offset.most g.O.Offset.IS_LARGE)
+    (value_of c.args.held.now) (map stored_slot c.args.slots.now)
+    (value_of c.loop-slot.held) (map stored_slot c.loop-slot.rest.now) (ap (map stored_slot) split)
+    c.loop-slot.invariant.2
 
 pub returns-in-Err-clause-err : goal.returns-in-Err-clause-err
 returns-in-Err-clause-err g c =
@@ -37,6 +46,8 @@ returns-in-Err-clause-err g c =
       slot_over known (value_of c.loop-slot.held) (stored_slot c.in-Some.slot.now),
       refused.0,
       rw (refused.0, refused.1)
-          (rest-refused known (value_of c.args.held.now) (map stored_slot c.args.slots.now) (value_of c.loop-slot.held) (map stored_slot c.loop-slot.rest.now) (map stored_slot c.in-Some.others.now) (stored_slot c.in-Some.slot.now)
+          (rest-refused known (value_of c.args.held.now) (map stored_slot c.args.slots.now)
+          (value_of c.loop-slot.held) (map stored_slot c.loop-slot.rest.now)
+          (map stored_slot c.in-Some.others.now) (stored_slot c.in-Some.slot.now)
           (ap (map stored_slot) split) c.loop-slot.invariant.2),
     )

@@ -12,8 +12,10 @@ invariant-loop-slot g l =
     ((value_of l.held).shape ≡ (value_of l.fn.held).shape)
     × IsTrue (list_all (slot_fits (value_of l.held).shape.value_kind) (map stored_slot l.rest))
     × ((reply : Answer g.row.T.Denot) (new : Option (Value g.row.T.Denot))
-    → Extends (types g.T.NativeType.zero g.T.NativeType.PRIMITIVE g.O.Offset.most g.O.Offset.IS_LARGE) (value_of l.held) (map stored_slot l.rest) reply new
-    → Extends (types g.T.NativeType.zero g.T.NativeType.PRIMITIVE g.O.Offset.most g.O.Offset.IS_LARGE) (value_of l.fn.held) (map stored_slot l.fn.slots) reply new)
+    → Extends (types g.T.NativeType.zero g.T.NativeType.PRIMITIVE g.O.Offset.most g.O.Offset.IS_LARGE)
+    (value_of l.held) (map stored_slot l.rest) reply new
+    → Extends (types g.T.NativeType.zero g.T.NativeType.PRIMITIVE g.O.Offset.most g.O.Offset.IS_LARGE)
+    (value_of l.fn.held) (map stored_slot l.fn.slots) reply new)
 
 abbrev pub decreases-loop-slot : goal.decreases-loop-slot
 decreases-loop-slot g l = length l.rest

@@ -6,7 +6,8 @@ use Rattle.arrow_entry.proofs.fit.items_fit.Given as goal
 
 abbrev pub invariant-loop-item : goal.invariant-loop-item
 invariant-loop-item g l =
-    list_all (fits (shape l.kind).value_kind) (map stored_item l.rest) ≡ list_all (fits (shape l.kind).value_kind) (map stored_item l.fn.items)
+    list_all (fits (shape l.kind).value_kind) (map stored_item l.rest)
+    ≡ list_all (fits (shape l.kind).value_kind) (map stored_item l.fn.items)
 
 abbrev pub decreases-loop-item : goal.decreases-loop-item
 decreases-loop-item g l = length l.rest

@@ -6,7 +6,8 @@ use Rattle.arrow_entry.proofs.fit.slots_fit.Given as goal
 
 abbrev pub invariant-loop-slot : goal.invariant-loop-slot
 invariant-loop-slot g l =
-    list_all (slot_fits (shape l.kind).value_kind) (map stored_slot l.rest) ≡ list_all (slot_fits (shape l.kind).value_kind) (map stored_slot l.fn.slots)
+    list_all (slot_fits (shape l.kind).value_kind) (map stored_slot l.rest)
+    ≡ list_all (slot_fits (shape l.kind).value_kind) (map stored_slot l.fn.slots)
 
 abbrev pub decreases-loop-slot : goal.decreases-loop-slot
 decreases-loop-slot g l = length l.rest

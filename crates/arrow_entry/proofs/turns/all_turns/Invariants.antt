@@ -6,4 +6,6 @@ use Rattle.arrow_entry.proofs.turns.all_turns.Given as goal
 abbrev pub invariant-loop-i : goal.invariant-loop-i
 invariant-loop-i g l =
     g.I.SlotIterator.can_turn l.items
-    × (map stored_slot l.slots.items ++ turns_of (drop l.i l.fn.turns) (g.I.SlotIterator.left l.items) ≡ turns_of l.fn.turns (g.I.SlotIterator.left l.fn.items))
+    × (map stored_slot l.slots.items
+    ++ turns_of (drop l.i l.fn.turns) (g.I.SlotIterator.left l.items)
+    ≡ turns_of l.fn.turns (g.I.SlotIterator.left l.fn.items))

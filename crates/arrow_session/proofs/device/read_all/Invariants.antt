@@ -8,5 +8,6 @@ invariant-loop g l = record {
   piece : 0 < vec_len l.piece;
   taken : Consumes (g.R.Read.remaining (inside l.fn.input)) (g.R.Read.remaining (inside l.input)) l.bytes.items;
   rising : fault_count l.fn.input ≤ fault_count l.input;
-  turns : fault_count l.fn.input < 2 ^ 64 - 1 → fault_count l.input ≡ fault_count l.fn.input → l.counter ≤ vec_len l.bytes;
+  turns : fault_count l.fn.input < 2 ^ 64 - 1 → fault_count l.input ≡ fault_count l.fn.input
+      → l.counter ≤ vec_len l.bytes;
 }

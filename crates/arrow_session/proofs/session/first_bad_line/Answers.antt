@@ -9,14 +9,16 @@ use Rattle.arrow_session.proofs.Runs.{IsReadTo, read_none, read_good, read_bad, 
 use Rattle.arrow_session.proofs.session.first_bad_line.Goals as goal
 
 pub loop-rest-init : goal.loop-rest-init
-loop-rest-init c = record { read = read_none c.args.input.now; known = c.all_printable-printable.ensures; room = omega arith }
+loop-rest-init c = record
+    { read = read_none c.args.input.now; known = c.all_printable-printable.ensures; room = omega arith }
 
 pub is_line-requires : goal.is_line-requires
 is_line-requires c =
     let line = c.split_line.result.0.now in
     let after = c.split_line.result.1 in
     let here = ap lines_after c.in-Some.is ∙ lines_cut c.in-Some.lines.now line after c.split_line.ensures.pieces in
-    λ met. (all_printable_cut line (lines_after after) (subst (λ rest. IsTrue (list_all is_printable rest)) here (c.loop-rest.invariant.known met))).0
+    λ met. (all_printable_cut line (lines_after after)
+    (subst (λ rest. IsTrue (list_all is_printable rest)) here (c.loop-rest.invariant.known met))).0
 
 pub returns-then-not-is_line : goal.returns-then-not-is_line
 returns-then-not-is_line c =
@@ -26,7 +28,8 @@ returns-then-not-is_line c =
     let after = c.split_line.result.1 in
     let here = ap lines_after c.in-Some.is ∙ lines_cut c.in-Some.lines.now line after c.split_line.ensures.pieces in
     let bad : is_bad line ≡ true = grind (arith, c.is_line.ensures, c.if-not-is_line.true) in
-    read_bad input line (lines_after after) n bad (subst (λ rest. IsReadTo input n rest) here c.loop-rest.invariant.read)
+    read_bad input line (lines_after after) n bad
+    (subst (λ rest. IsReadTo input n rest) here c.loop-rest.invariant.read)
 
 pub loop-rest-preserved : goal.loop-rest-preserved
 loop-rest-preserved c =
@@ -37,9 +40,17 @@ loop-rest-preserved c =
     let here = ap lines_after c.in-Some.is ∙ lines_cut c.in-Some.lines.now line after c.split_line.ensures.pieces in
     let good : is_bad line ≡ false = grind (arith, c.is_line.ensures, c.if-not-is_line.false) in
     record {
-      read = read_good input line (lines_after after) n good (subst (λ rest. IsReadTo input n rest) here c.loop-rest.invariant.read);
-      known = λ met. (all_printable_cut line (lines_after after) (subst (λ rest. IsTrue (list_all is_printable rest)) here (c.loop-rest.invariant.known met))).1;
-      room = omega (arith, c.loop-rest.invariant.room, after_shorter after (length c.in-Some.lines.now) c.split_line.ensures.shorter, ap length_after c.in-Some.is);
+      read = read_good input line (lines_after after) n good
+          (subst (λ rest. IsReadTo input n rest) here c.loop-rest.invariant.read);
+      known = λ met. (all_printable_cut line (lines_after after)
+          (subst (λ rest. IsTrue (list_all is_printable rest)) here (c.loop-rest.invariant.known met))).1;
+      room = omega (
+        arith,
+        c.loop-rest.invariant.room,
+        after_shorter after (length c.in-Some.lines.now)
+            c.split_line.ensures.shorter,
+        ap length_after c.in-Some.is,
+      );
     }
 
 pub returns : goal.returns

@@ -17,7 +17,8 @@ run_line-requires c =
     let table = c.loop-rest.interpreter.tables in
     let text = string_bytes c.loop-rest.interpreter.text in
     let here = ap lines_after c.in-Some.is ∙ lines_cut c.in-Some.lines.now line after c.split_line.ensures.pieces in
-    run_next input line (lines_after after) table text c.requires (subst (λ rest. IsRunTo input rest table text) here c.loop-rest.invariant)
+    run_next input line (lines_after after) table text c.requires
+    (subst (λ rest. IsRunTo input rest table text) here c.loop-rest.invariant)
 
 pub loop-rest-preserved : goal.loop-rest-preserved
 loop-rest-preserved c =
@@ -28,7 +29,8 @@ loop-rest-preserved c =
     let text = string_bytes c.loop-rest.interpreter.text in
     let here = ap lines_after c.in-Some.is ∙ lines_cut c.in-Some.lines.now line after c.split_line.ensures.pieces in
     let run = subst (λ rest. IsRunTo input rest table text) here c.loop-rest.invariant in
-    run_good input line (lines_after after) table text c.run_line.new.interpreter.tables (string_bytes c.run_line.new.interpreter.text)
+    run_good input line (lines_after after) table text c.run_line.new.interpreter.tables
+    (string_bytes c.run_line.new.interpreter.text)
     (run_next input line (lines_after after) table text c.requires run) c.in_ok-run_line.ensures run
 
 pub returns : goal.returns
@@ -36,4 +38,5 @@ returns c =
     let input = c.args.input.now in
     let table = c.loop-rest.interpreter.tables in
     let text = string_bytes c.loop-rest.interpreter.text in
-    run_to_end input table text (subst (λ rest. IsRunTo input rest table text) (ap lines_after c.in_default.is) c.loop-rest.invariant)
+    run_to_end input table text
+    (subst (λ rest. IsRunTo input rest table text) (ap lines_after c.in_default.is) c.loop-rest.invariant)

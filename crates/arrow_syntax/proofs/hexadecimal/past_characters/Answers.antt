@@ -8,21 +8,26 @@ pub returns-then-not-decode_into-clause-none : goal.returns-then-not-decode_into
 returns-then-not-decode_into-clause-none c =
     let digits = c.args.digits.now in
     let count = c.min-count.result in
-    let none : bytes_in (take (2 * count) digits) ≡ None = grind (arith, c.decode_into.ensures, c.if-not-decode_into.true) in
+    let none : bytes_in (take (2 * count) digits)
+    ≡ None = grind (arith, c.decode_into.ensures, c.if-not-decode_into.true) in
     text_broken count digits (omega arith) none
 
 pub returns-then-whole-eq0-clause-none : goal.returns-then-whole-eq0-clause-none
 returns-then-whole-eq0-clause-none c =
     let digits = c.args.digits.now in
     let count = c.min-count.result in
-    let some : bytes_in (take (2 * count) digits) ≡ Some c.decode_into.new.room = grind (arith, c.decode_into.ensures, c.if-not-decode_into.false) in
+    let some : bytes_in (take (2 * count) digits)
+    ≡ Some c.decode_into.new.room = grind (arith, c.decode_into.ensures, c.if-not-decode_into.false) in
     let zero : c.whole_characters-whole.result ≡ 0 = grind (arith, nat_tests, c.if-whole-eq0.true) in
-    text_begins count digits c.decode_into.new.room (omega arith) some (omega arith) (c.whole_characters-whole.ensures.none zero) c.requires
+    text_begins count digits c.decode_into.new.room (omega arith) some (omega arith)
+    (c.whole_characters-whole.ensures.none zero) c.requires
 
 pub returns-clause-some : goal.returns-clause-some
 returns-clause-some c =
     let digits = c.args.digits.now in
     let count = c.min-count.result in
     let whole = c.whole_characters-whole.result in
-    let some : bytes_in (take (2 * count) digits) ≡ Some c.decode_into.new.room = grind (arith, c.decode_into.ensures, c.if-not-decode_into.false) in
-    text_behind_part whole count digits c.decode_into.new.room (length digits - 2 * whole) (omega arith) (omega arith) some c.whole_characters-whole.ensures.text (omega arith)
+    let some : bytes_in (take (2 * count) digits)
+    ≡ Some c.decode_into.new.room = grind (arith, c.decode_into.ensures, c.if-not-decode_into.false) in
+    text_behind_part whole count digits c.decode_into.new.room (length digits - 2 * whole) (omega arith) (omega arith)
+    some c.whole_characters-whole.ensures.text (omega arith)

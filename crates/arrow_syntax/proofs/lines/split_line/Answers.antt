@@ -5,7 +5,8 @@ use Rattle.arrow_syntax.proofs.lines.split_line.Goals as goal
 
 pub returns-in-Some-clause-pieces : goal.returns-in-Some-clause-pieces
 unfolding pieces
-returns-in-Some-clause-pieces c = cut_some (λ b. b == 10) c.args.text.now c.in-Some.place (sym c.line_end.ensures ∙ c.in-Some.is)
+returns-in-Some-clause-pieces c = cut_some (λ b. b == 10) c.args.text.now c.in-Some.place (sym c.line_end.ensures
+    ∙ c.in-Some.is)
 
 pub returns-in-None-clause-pieces : goal.returns-in-None-clause-pieces
 unfolding pieces

@@ -12,11 +12,13 @@ returns-in_err-number c =
     let word = c.args.word.now in
     let all = number_of_is word (omega arith) in
     let here = at_drop_more (number_after c.loop-byte.number) word c.loop-byte.byte-index 0 c.loop-byte-test.true in
-    let stops = number_after_stops c.loop-byte.number (get_or word c.loop-byte.byte-index 0) (drop (c.loop-byte.byte-index + 1) word) (sym c.with_digit.ensures ∙ c.in_err-number.was) in
+    let stops = number_after_stops c.loop-byte.number (get_or word c.loop-byte.byte-index 0)
+    (drop (c.loop-byte.byte-index + 1) word) (sym c.with_digit.ensures ∙ c.in_err-number.was) in
     c.from_residual.ensures ∙ sym (all ∙ c.loop-byte.invariant ∙ here ∙ stops)
 
 pub returns : goal.returns
 returns c =
     let word = c.args.word.now in
     let long : 0 < length word = grind (arith, nat_tests) in
-    sym (number_of_is word long ∙ c.loop-byte.invariant ∙ at_drop_all (number_after c.loop-byte.number) word c.loop-byte.byte-index (omega arith))
+    sym (number_of_is word long ∙ c.loop-byte.invariant
+    ∙ at_drop_all (number_after c.loop-byte.number) word c.loop-byte.byte-index (omega arith))

@@ -3,4 +3,5 @@ use Rattle.hex.specs.Hex.{encode_lower}
 use Rattle.arrow_syntax.proofs.print.push_hex.Given as goal
 
 abbrev pub invariant-loop-byte : goal.invariant-loop-byte
-invariant-loop-byte l = string_bytes l.text ++ encode_lower (drop l.byte-index l.bytes) ≡ string_bytes l.fn.text ++ encode_lower l.bytes
+invariant-loop-byte l = string_bytes l.text ++ encode_lower (drop l.byte-index l.bytes) ≡ string_bytes l.fn.text
+    ++ encode_lower l.bytes

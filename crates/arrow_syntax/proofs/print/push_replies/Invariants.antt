@@ -4,4 +4,5 @@ use Rattle.arrow_syntax.specs.Text.{text_of}
 use Rattle.arrow_syntax.proofs.print.push_replies.Given as goal
 
 abbrev pub invariant-loop-reply : goal.invariant-loop-reply
-invariant-loop-reply l = string_bytes l.text ≡ string_bytes l.fn.text ++ text_of (map answer_of (take l.reply-index l.replies))
+invariant-loop-reply l = string_bytes l.text ≡ string_bytes l.fn.text
+    ++ text_of (map answer_of (take l.reply-index l.replies))

@@ -7,4 +7,5 @@ use Rattle.arrow_syntax.proofs.print.push_reply.Goals as goal
 pub returns-in-Slots : goal.returns-in-Slots
 returns-in-Slots c =
     let old = string_bytes c.args.text.now in
-    rw (c.in-Slots.is, ← map_twice slot_text stored_slot c.in-Slots.slots.items, ← c.deref.ensures.value) c.push_list.ensures
+    rw (c.in-Slots.is, ← map_twice slot_text stored_slot c.in-Slots.slots.items, ← c.deref.ensures.value)
+    c.push_list.ensures

@@ -12,4 +12,5 @@ returns g c =
     let within : e < length entries = omega arith in
     stays-row (option_map value_of) (λ old. Compares_to old (entry_at (map (option_map value_of) entries) c.args.f))
     entries e c.index.result.now (answer_of c.compare.result)
-    (got entries e c.index.result.now c.index.result.now within c.index.ensures) (rw c.entry_at.ensures c.compare.ensures)
+    (got entries e c.index.result.now c.index.result.now within c.index.ensures)
+    (rw c.entry_at.ensures c.compare.ensures)

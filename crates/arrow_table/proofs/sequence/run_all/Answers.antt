@@ -8,7 +8,9 @@ loop-command-init g c = (refl, ([], sym (append-nil c.args.replies.now.items), r
 
 pub loop-command-preserved : goal.loop-command-preserved
 loop-command-preserved g c =
-    let more = runs-more g.S.Executor.steps_to c.args.state.now c.loop-command.state c.step-reply.new.self c.args.commands.now c.loop-command.command-index c.args.replies.now.items c.loop-command.replies.items c.command-item.result c.step-reply.result
+    let more = runs-more g.S.Executor.steps_to c.args.state.now c.loop-command.state c.step-reply.new.self
+    c.args.commands.now c.loop-command.command-index c.args.replies.now.items c.loop-command.replies.items
+    c.command-item.result c.step-reply.result
     c.loop-command-test.true c.command-item.is c.loop-command.invariant.1 c.step-reply.ensures
     in (
       ap (λ n. n + 1) c.loop-command.invariant.0,

@@ -7,7 +7,8 @@ returns-clause-run g c =
     (ran.0, ran.1, both-runs g.T.NativeType.zero g.T.NativeType.PRIMITIVE _ _ _ _ ran.2)
 
 pub returns-clause-narrow_costs : goal.returns-clause-narrow_costs
-returns-clause-narrow_costs g c = narrow-costs g.T.NativeType.zero g.T.NativeType.PRIMITIVE _ _ _ _ c.run_all.ensures.run.2
+returns-clause-narrow_costs g c = narrow-costs g.T.NativeType.zero g.T.NativeType.PRIMITIVE _ _ _ _
+    c.run_all.ensures.run.2
 
 pub returns-clause-wide_costs : goal.returns-clause-wide_costs
 returns-clause-wide_costs g c = wide-costs g.T.NativeType.zero g.T.NativeType.PRIMITIVE _ _ _ _ c.run_all.ensures.run.2

@@ -12,14 +12,17 @@ use Rattle.arrow_commands.proofs.extend.ExtendChangesEntry.run.Goals as goal
 pub returns-then-not-slots_fit : goal.returns-then-not-slots_fit
 returns-then-not-slots_fit g c =
     let xs = map stored_slot c.args.self.0.now in
-    unfit (types g.T.NativeType.zero g.T.NativeType.PRIMITIVE g.O.Offset.most g.O.Offset.IS_LARGE) (option_map value_of c.args.entry.now) (value_of c.in-Some.held) xs
+    unfit (types g.T.NativeType.zero g.T.NativeType.PRIMITIVE g.O.Offset.most g.O.Offset.IS_LARGE)
+    (option_map value_of c.args.entry.now) (value_of c.in-Some.held) xs
     (ap (option_map value_of) c.in-Some.is) (sym c.if-not-has_nulls.ensures)
-    (subst (λ (s : Shape). list_all (slot_fits s.value_kind) xs ≡ false) c.kind.ensures (sym c.if-not-slots_fit.ensures))
+    (subst (λ (s : Shape). list_all (slot_fits s.value_kind) xs ≡ false) c.kind.ensures
+    (sym c.if-not-slots_fit.ensures))
 
 pub returns-in-Ok : goal.returns-in-Ok
 returns-in-Ok g c =
     let xs = map stored_slot c.args.self.0.now in
-    extended (types g.T.NativeType.zero g.T.NativeType.PRIMITIVE g.O.Offset.most g.O.Offset.IS_LARGE) (option_map value_of c.args.entry.now) (value_of c.in-Some.held) xs
+    extended (types g.T.NativeType.zero g.T.NativeType.PRIMITIVE g.O.Offset.most g.O.Offset.IS_LARGE)
+    (option_map value_of c.args.entry.now) (value_of c.in-Some.held) xs
     (ap (option_map value_of) c.in-Some.is) (sym c.if-not-has_nulls.ensures)
     (subst (λ (s : Shape). list_all (slot_fits s.value_kind) xs ≡ true) c.kind.ensures (sym c.if-not-slots_fit.ensures))
     done (Some (value_of c.push_slots.new.held)) c.in-Ok.ensures.ok
@@ -27,7 +30,8 @@ returns-in-Ok g c =
 pub returns-in-Err : goal.returns-in-Err
 returns-in-Err g c =
     let xs = map stored_slot c.args.self.0.now in
-    extended (types g.T.NativeType.zero g.T.NativeType.PRIMITIVE g.O.Offset.most g.O.Offset.IS_LARGE) (option_map value_of c.args.entry.now) (value_of c.in-Some.held) xs
+    extended (types g.T.NativeType.zero g.T.NativeType.PRIMITIVE g.O.Offset.most g.O.Offset.IS_LARGE)
+    (option_map value_of c.args.entry.now) (value_of c.in-Some.held) xs
     (ap (option_map value_of) c.in-Some.is) (sym c.if-not-has_nulls.ensures)
     (subst (λ (s : Shape). list_all (slot_fits s.value_kind) xs ≡ true) c.kind.ensures (sym c.if-not-slots_fit.ensures))
     (refused (refusal c.in-Err.refused)) (Some (value_of c.push_slots.new.held)) c.in-Err.ensures.err.2

@@ -10,5 +10,6 @@ returns g c =
     let request = on_width g.O.Offset.IS_LARGE (parts_asked g.O.Offset.number c.args.e c.args.parts) in
     let old = c.args.self.now in
     let new = c.push_reply.new.self in
-    step_and_text request (answer_of c.parts-reply.result) old.tables c.parts-reply.new.tables new.tables (string_bytes old.text) (string_bytes new.text)
+    step_and_text request (answer_of c.parts-reply.result) old.tables c.parts-reply.new.tables new.tables
+    (string_bytes old.text) (string_bytes new.text)
     c.push_reply.result c.parts-reply.ensures.step c.push_reply.ensures

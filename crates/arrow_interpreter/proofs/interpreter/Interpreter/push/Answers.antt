@@ -11,5 +11,6 @@ returns g c =
     let request = on_width g.O.Offset.IS_LARGE (at c.args.e (push (stored_slot c.args.slot.now))) in
     let old = c.args.self.now in
     let new = c.push_reply.new.self in
-    step_and_text request (answer_of c.push-reply.result) old.tables c.push-reply.new.tables new.tables (string_bytes old.text) (string_bytes new.text)
+    step_and_text request (answer_of c.push-reply.result) old.tables c.push-reply.new.tables new.tables
+    (string_bytes old.text) (string_bytes new.text)
     c.push_reply.result c.push-reply.ensures c.push_reply.ensures

@@ -8,5 +8,6 @@ pub returns : goal.returns
 returns c =
     let old = c.args.self.now in
     let new = c.push_reply.new.self in
-    step_and_text (widen c.args.e c.args.f) (answer_of c.widen-reply.result) old.tables c.widen-reply.new.self new.tables (string_bytes old.text) (string_bytes new.text)
+    step_and_text (widen c.args.e c.args.f) (answer_of c.widen-reply.result) old.tables c.widen-reply.new.self
+    new.tables (string_bytes old.text) (string_bytes new.text)
     c.push_reply.result c.widen-reply.ensures c.push_reply.ensures
