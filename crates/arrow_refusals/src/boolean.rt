@@ -7,7 +7,7 @@ use crate::again::{
 };
 use arrow_boolean::{BooleanArray, MutableBooleanArray};
 use arrow_memory::bitmap::{Bitmap, MutableBitmap};
-use arrow_testing::{after, all_told, is_mask, tells, answer_of};
+use arrow_testing::{after, all_told, is_mask, tells, told};
 use arrow_types::data_type::DataType;
 use arrow_types::error::Error;
 use std::alloc::Global;
@@ -246,7 +246,7 @@ fn changed(alloc: Global) -> Result<bool, Error> {
 
 #[test]
 fn apply_values_mut(rt: HostRuntime) -> Result<(), Fail> {
-    answer_of(changed(rt.alloc()))
+    told(changed(rt.alloc()))
 }
 
 /// The calls that make an array of truth values.
@@ -406,5 +406,5 @@ fn fits_room(alloc: Global) -> Result<bool, Error> {
 /// Whichever allocation is refused, it is none of those pushes that is.
 #[test]
 fn room_that_was_given(rt: HostRuntime) -> Result<(), Fail> {
-    answer_of(fits_room(rt.alloc()))
+    told(fits_room(rt.alloc()))
 }

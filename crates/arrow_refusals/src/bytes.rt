@@ -615,7 +615,7 @@ fn growths(rt: HostRuntime) -> Result<(), Fail> {
     all_told(&grown::<Utf8, i64>(rt.alloc(), Maker::WithCapacities))
 }
 
-/// What is answer_of of more slots, or more bytes, than any memory holds.
+/// What is told of more slots, or more bytes, than any memory holds.
 fn too_many<K: Known, O: Offset>(alloc: Global) -> [&'static str; 4] {
     let data_type = ByteArray::<K, O>::default_data_type();
     [

@@ -10,7 +10,7 @@ use arrow_kernels::{
     take_binary, take_boolean, take_primitive, take_utf8, widen_binary, widen_utf8,
 };
 use arrow_primitive::PrimitiveArray;
-use arrow_testing::{after, answer_of};
+use arrow_testing::{after, told};
 use arrow_types::error::Error;
 use arrow_utf8::Utf8Array;
 use std::alloc::Global;
@@ -209,5 +209,5 @@ fn all_made(alloc: Global) -> Result<bool, Error> {
 
 #[test]
 fn kernels(rt: HostRuntime) -> Result<(), Fail> {
-    answer_of(all_made(rt.alloc()))
+    told(all_made(rt.alloc()))
 }

@@ -4,7 +4,7 @@ ghost use Rattle.std.specs.Prelude.{◌≡◌, length};
 use crate::again::{Copied, Growing, Making, Shows, all_grown, all_made, copy_of};
 use arrow_memory::bitmap::{Bitmap, BitmapIter, MutableBitmap};
 use arrow_memory::buffer::Buffer;
-use arrow_testing::{after, all_told, is_mask, answer_of};
+use arrow_testing::{after, all_told, is_mask, told};
 use arrow_types::error::Error;
 use std::alloc::Global;
 use std::cell::Cell;
@@ -225,7 +225,7 @@ fn changed(alloc: Global) -> Result<bool, Error> {
 
 #[test]
 fn apply_mut(rt: HostRuntime) -> Result<(), Fail> {
-    answer_of(changed(rt.alloc()))
+    told(changed(rt.alloc()))
 }
 
 /// The calls that make marks which can change.

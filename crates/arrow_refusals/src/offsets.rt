@@ -65,7 +65,7 @@ fn most(alloc: Global, count: usize) -> Result<bool, Error> {
     }
 }
 
-/// What is answer_of of new offsets that no memory holds.
+/// What is told of new offsets that no memory holds.
 fn too_many(alloc: Global) -> [&'static str; 2] {
     [
         tells(Offsets::<i32>::new_zeroed(alloc, usize::MAX)),

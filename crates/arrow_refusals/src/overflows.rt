@@ -1,4 +1,4 @@
-//! Growths that would end past the greatest offset: that is answer_of, whether memory would be refused or not, and none is
+//! Growths that would end past the greatest offset: that is told, whether memory would be refused or not, and none is
 //! asked for.
 use crate::bytes::Known;
 use arrow_byte_array::MutableByteArray;
@@ -9,7 +9,7 @@ use arrow_types::error::Error;
 use std::alloc::Global;
 use std::test::Fail;
 
-/// Whether a slot of forty-one bytes is answer_of as an overflow behind one of sixty, for which there is room.
+/// Whether a slot of forty-one bytes is told as an overflow behind one of sixty, for which there is room.
 fn are_past(offsets: &mut Offsets<Tiny>, other: &Offsets<Tiny>) -> bool {
     let is_full = offsets.try_push_usize(60).is_ok();
     let room = offsets.capacity();
@@ -60,7 +60,7 @@ fn room<K: ByteKind>(builder: &MutableByteArray<K, Tiny>) -> [usize; 3] {
     ]
 }
 
-/// Whether forty-one bytes are answer_of as an overflow behind sixty, for which there is room.
+/// Whether forty-one bytes are told as an overflow behind sixty, for which there is room.
 fn is_past<K: Known>(
     builder: &mut MutableByteArray<K, Tiny>,
     other: &MutableByteArray<K, Tiny>,

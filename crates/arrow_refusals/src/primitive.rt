@@ -4,7 +4,7 @@ use crate::again::{
     all_made, copy_of,
 };
 use arrow_primitive::{MutablePrimitiveArray, PrimitiveArray};
-use arrow_testing::{all_told, is_mask, answer_of};
+use arrow_testing::{all_told, is_mask, told};
 use arrow_types::data_type::DataType;
 use arrow_types::error::Error;
 use std::alloc::Global;
@@ -365,5 +365,5 @@ fn fits_room(alloc: Global) -> Result<bool, Error> {
 /// Whichever allocation is refused, it is none of those pushes that is.
 #[test]
 fn room_that_was_given(rt: HostRuntime) -> Result<(), Fail> {
-    answer_of(fits_room(rt.alloc()))
+    told(fits_room(rt.alloc()))
 }
