@@ -1,4 +1,4 @@
--- Held masks that are changed, erase_type over what slots store.
+-- Held masks that are changed, seen over what slots store.
 use Rattle.std.proofs.Common.{◌≡◌, ◌∙◌, Bool, true, List, length, None, Some, IfSome, MatchOption, if◌then◌else◌, sym}
 use Rattle.std.proofs.Common.{ap}
 use Rattle.std.proofs.lemmas.List.{length-map}

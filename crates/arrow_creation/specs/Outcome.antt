@@ -32,7 +32,7 @@ abbrev pub MadeBy : {T O : Type 0} → Result (Option (Entry T O)) Error → Row
 MadeBy result row = row (made_answer result) (made_entry result)
 
 -- the same of a call whose condition is known to hold, and of an array or a builder of one kind, which is
--- erase_type as a value
+-- seen as a value
 module _ {T A : Type 0} where
   abbrev pub built_answer : Result A Error → Answer T
   built_answer (Ok made) = done

@@ -31,7 +31,7 @@ pub trait MakesEntry<T: NativeType, O: Offset>: Drop {
         ensures { MadeBy result (makes self (state_of entries.now.items)) };
 }
 
-/// IntoEmpty what a command makes into the entry of a number; the command's condition fails if that is not empty or
+/// Puts what a command makes into the entry of a number; the command's condition fails if that is not empty or
 /// past the table.
 ///
 /// # Errors

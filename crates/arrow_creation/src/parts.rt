@@ -55,7 +55,7 @@ fn entry_from_parts<T: NativeType, O: Offset>(
     }
 }
 
-/// IntoEmpty what raw parts make into an empty entry. What the test of text costs is added to the counts.
+/// Puts what raw parts make into an empty entry. What the test of text costs is added to the counts.
 ///
 /// # Errors
 /// The refusal that the command is answered with; the entry is then as before.
@@ -81,7 +81,7 @@ fn put_parts<T: NativeType, O: Offset>(
     }
 }
 
-/// IntoEmpty what raw parts make into the entry of a number; the command's condition fails if that is not empty or
+/// Puts what raw parts make into the entry of a number; the command's condition fails if that is not empty or
 /// past the table. What the test of text costs is added to the counts.
 ///
 /// # Errors

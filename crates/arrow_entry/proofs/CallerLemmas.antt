@@ -1,6 +1,6 @@
--- What proofs of callers cite about entries: how a column is erase_type over what slots store, whatever their sort.
+-- What proofs of callers cite about entries: how a column is seen over what slots store, whatever their sort.
 
--- Reading a column that is erase_type so: the number of its rows, type, mask, what is around, stored values, marks,
+-- Reading a column that is seen so: the number of its rows, type, mask, what is around, stored values, marks,
 -- slots, and the last slot.
 pub use Rattle.arrow_entry.proofs.Seen.{seen_reads}
 -- Reading one place of it, or past its end; and that it has as many stored values as rows.

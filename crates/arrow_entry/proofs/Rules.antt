@@ -1,4 +1,4 @@
--- What rows use of how columns are erase_type: rulesets over the laws of `erase_type`.
+-- What rows use of how columns are seen: rulesets over the laws of `erase_type`.
 use Rattle.arrow_entry.proofs.Seen.{parts-seen, append-seen, appends-seen, values-seen, nulls-seen, short-seen}
 use Rattle.arrow_entry.proofs.Seen.{frozen-seen, slot-seen, mask-seen, with-stored-seen, with-type-seen, same-values}
 use Rattle.arrow_entry.proofs.Seen.{same-bits, same-pieces, freeze-pieces, freeze-plain, thaw-pieces, thaw-plain}

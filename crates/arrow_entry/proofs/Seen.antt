@@ -374,7 +374,7 @@ pub freeze-plain : {S T : Type 0} (stored : S → Stored T) (c : Column S)
 freeze-plain stored c = frozen-seen (λ _. nothing_around) stored c
     ∙ ap without_needless_mask (sym (thaw-plain stored c))
 
--- the slots are the same, erase_type so, exactly where they are the same
+-- the slots are the same, seen so, exactly where they are the same
 slots-back : {S X : Type 0} (stored : S → X) (back : X → Option S) → ((x : S) → back (stored x) ≡ Some x)
     → (xs : List (Option S)) → map (option_and_then back) (map (option_map stored) xs) ≡ xs
 slots-back stored back again [] = refl

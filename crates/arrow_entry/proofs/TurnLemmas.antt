@@ -13,7 +13,7 @@ use Rattle.arrow_model.specs.declared.item.Turn.TheVariants as turn
 use Rattle.arrow_model.specs.Change.{turns_of}
 use Rattle.arrow_model.specs.Item.{Stored}
 
--- lists that are given, erase_type as what slots store
+-- lists that are given, seen as what slots store
 module _ {S X : Type 0} (f : S → X) where
   pub last-map : (xs ys : List S) (x : S) → xs ≡ ys ++ x ∷ [] → map f xs ≡ map f ys ++ f x ∷ []
   last-map xs ys x is = ap (map f) is ∙ map-append f ys (x ∷ [])

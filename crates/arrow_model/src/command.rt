@@ -39,15 +39,15 @@ pub struct Parts<T, O> {
 /// A command; its first number is the entry that it is about.
 #[derive(Drop)]
 pub enum Command<T, O> {
-    /// IntoEmpty an empty array or builder into an empty entry.
+    /// Puts an empty array or builder into an empty entry.
     New(usize, Kind),
-    /// IntoEmpty an array of so many nulls into an empty entry.
+    /// Puts an array of so many nulls into an empty entry.
     NewNull(usize, Kind, DataType, usize),
-    /// IntoEmpty what raw parts make into an empty entry.
+    /// Puts what raw parts make into an empty entry.
     Parts(usize, Parts<T, O>),
-    /// IntoEmpty an array or a builder of these slots into an empty entry.
+    /// Puts an array or a builder of these slots into an empty entry.
     FromSlots(usize, Kind, Vec<Option<Item<T>>>),
-    /// IntoEmpty an array or a builder of these items into an empty entry.
+    /// Puts an array or a builder of these items into an empty entry.
     FromItems(usize, Kind, Vec<Item<T>>),
     /// The number of slots.
     Len(usize),
@@ -73,7 +73,7 @@ pub enum Command<T, O> {
     Offsets(usize),
     /// Keeps only the slots from a place on, so many of them.
     Slice(usize, usize, usize),
-    /// IntoEmpty a clone of the first entry into the second, which is empty.
+    /// Puts a clone of the first entry into the second, which is empty.
     Clone(usize, usize),
     /// Empties an entry.
     Drop(usize),
@@ -117,10 +117,10 @@ pub enum Command<T, O> {
     To(usize, DataType),
     /// Whether two builders have the same slots.
     Equal(usize, usize),
-    /// IntoEmpty the rows of the first entry for which the second asks, as many truth values, into the third, which
+    /// Puts the rows of the first entry for which the second asks, as many truth values, into the third, which
     /// is empty.
     Filter(usize, usize, usize),
-    /// IntoEmpty the rows of the first entry at the places that keys tell into the second, which is empty.
+    /// Puts the rows of the first entry at the places that keys tell into the second, which is empty.
     Take(usize, Vec<i64>, usize),
     /// Whether keys are places below a length.
     CheckIndexes(Vec<i64>, usize),
@@ -133,8 +133,8 @@ pub enum BothCommand<T> {
     Narrow(Command<T, i32>),
     /// A command on the wide table.
     Wide(Command<T, i64>),
-    /// IntoEmpty the array of items of a narrow entry, over wide offsets, into a wide entry, which is empty.
+    /// Puts the array of items of a narrow entry, over wide offsets, into a wide entry, which is empty.
     Widen(usize, usize),
-    /// IntoEmpty the array of items of a wide entry, over narrow offsets, into a narrow entry, which is empty.
+    /// Puts the array of items of a wide entry, over narrow offsets, into a narrow entry, which is empty.
     NarrowTo(usize, usize),
 }

@@ -28,8 +28,8 @@ impl Read for Reader {
         if self.reads == self.failure.number {
             return Err(io::Error::from(self.failure.kind));
         }
-        let mut bytes_item = &self.bytes[..self.bytes.len().min(7)];
-        let count = bytes_item.read(buf)?;
+        let mut piece = &self.bytes[..self.bytes.len().min(7)];
+        let count = piece.read(buf)?;
         self.bytes = &self.bytes[self.bytes.len().min(count)..];
         Ok(count)
     }
@@ -51,9 +51,9 @@ impl Write for Writer<'_> {
         if self.writes == self.failure.number {
             return Err(io::Error::from(self.failure.kind));
         }
-        let bytes_item = &buf[..buf.len().min(3)];
-        self.taken.extend_from_slice(bytes_item)?;
-        Ok(bytes_item.len())
+        let piece = &buf[..buf.len().min(3)];
+        self.taken.extend_from_slice(piece)?;
+        Ok(piece.len())
     }
 
     fn flush(&mut self) -> io::Result<()> {
@@ -309,14 +309,14 @@ fn full_writer(rt: HostRuntime) {
 }
 
 /// How many faults a full writer has after a write of these bytes.
-fn faults_of(bytes_item: &str) -> u64 {
+fn faults_of(piece: &str) -> u64 {
     let mut room = [0; 0];
     let mut output = Counted::new(room.as_mut_slice());
-    let _ = output.write(bytes_item.as_bytes());
+    let _ = output.write(piece.as_bytes());
     output.count()
 }
 
-/// A writer is at fault that takes nothing of a bytes_item, unless there was nothing to take.
+/// A writer is at fault that takes nothing of a piece, unless there was nothing to take.
 #[test]
 fn empty_piece_is_no_fault(rt: HostRuntime) {
     assert!(rt; faults_of("") == 0 && faults_of("a") == 1);

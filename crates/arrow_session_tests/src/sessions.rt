@@ -86,7 +86,7 @@ const WORKED: &[(&str, &str)] = &[
         "slots 0 utf8 t6869 _ t7468657265\nwiden 0 0\nwide type 0\nwide offsets 0\nnarrow 0 1\ndrop 0\ntype 1\nlist 1\nwide list 0\nwiden 1 0\nnarrow 5 2\n",
         "ok\nok\nLargeUtf8\n[0 2 2 7]\nok\nok\nUtf8\n[t6869 _ t7468657265]\n[t6869 _ t7468657265]\nnot met\nnot met\n",
     ),
-    // Texts, and what is answer_of of them.
+    // Texts, and what is told of them.
     (
         "slots 1 utf8 t6869 _ t7468657265\nlist 1\nbytes 1\noffsets 1\nheld 1\n",
         "ok\n[t6869 _ t7468657265]\nx68697468657265\n[0 2 2 7]\ntrue\n",

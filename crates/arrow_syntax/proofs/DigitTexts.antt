@@ -155,7 +155,7 @@ text_begins n digits bytes long e enough none some = text_is digits ∙ by_all (
         by_test true e = absurd (no_text all is (IsUtf8-from_is_utf8 all e))
         by_test false e = refl
 
--- the same, where what is behind is answer_of by its length
+-- the same, where what is behind is told by its length
 pub text_behind_part : (some n : ℕ) (digits bytes : List ℕ) (behind : ℕ) → some ≤ length bytes → 2 * n ≤ length digits
     → bytes_in (take (2 * n) digits) ≡ Some bytes → IsUtf8 (take some bytes)
     → length digits ≤ 2 * some + behind

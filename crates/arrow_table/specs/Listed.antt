@@ -1,4 +1,4 @@
--- What is answer_of of the slots of an entry that is lent.
+-- What an entry that is lent answers for its slots.
 use Rattle.std.specs.Prelude.{Option, Some, None}
 use Rattle.arrow_column.specs.Column.{slots_of}
 use Rattle.arrow_entry.specs.declared.entry.Entry.{Entry}

@@ -122,7 +122,7 @@ list 7 -> [x0404 _]
 offsets 7 -> [0 2 2]
 ";
 
-/// What the conditions exclude, which is answer_of before a key is; the first key that tells no row is answer_of, and the entry that
+/// What the conditions exclude, which is told before a key is; the first key that tells no row is told, and the entry that
 /// was to be filled stays empty.
 const UNMET: &str = "
 filter 0 1 2 -> not met

@@ -94,7 +94,7 @@ slots 0 mutf8 _ taaaaaaaaaaaaaaaaaaaaaaaaaaaaaaaaaaaaaaaaaaaaaaaaaaaaaaaaaaaaaaa
 offsets 0 -> [0 0 99 100]
 ";
 
-/// Rows at keys: what is answer_of first is a key that tells no row, and then an end that no offset tells; the entry that was to
+/// Rows at keys: what is told first is a key that tells no row, and then an end that no offset tells; the entry that was to
 /// be filled stays empty. Some rows of an array never end past the greatest offset, and numbers have no end.
 const CHOICES: &str = "
 slots 0 bin x00000000000000000000000000000000000000000000000000000000000000000000000000000000 -> ok

@@ -1,4 +1,4 @@
-//! Raw parts of each kind: what they make, and which of their faults is answer_of.
+//! Raw parts of each kind: what they make, and which of their faults is told.
 use crate::script::{answers, both_answer};
 use arrow_types::native_type::days_ms;
 use std::test::Fail;

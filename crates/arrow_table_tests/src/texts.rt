@@ -135,7 +135,7 @@ const COSTS: &[(&str, Cost)] = &[
     ),
 ];
 
-/// Whether they are answer_of so.
+/// Whether they are told so.
 fn are_counted<O: Width>(alloc: Global, rt: &impl Abort, table: &mut Table<i64, O>) -> bool {
     for (script, wanted) in COSTS {
         if !costs(alloc, rt, table, *script, *wanted) {

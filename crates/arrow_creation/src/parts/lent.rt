@@ -128,7 +128,7 @@ fn are_for<T: NativeType, O: Offset>(given: &Parts<T, O>) -> bool
     }
 }
 
-/// IntoEmpty what raw parts make into an empty entry. They are copied if the entry is empty and the command is for
+/// Puts what raw parts make into an empty entry. They are copied if the entry is empty and the command is for
 /// their kind. What the test of text costs is added to the counts.
 ///
 /// # Errors

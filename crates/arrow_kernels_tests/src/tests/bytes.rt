@@ -254,7 +254,7 @@ const TWICE: &[(Written, &[i64], Written)] = &[(
     ),
 )];
 
-/// Items past the greatest offset overflow, and keys out_of_bounds are told before that.
+/// Items past the greatest offset overflow, and keys that are out of bounds are told before that.
 const ENDS: &[(Written, &[i64], &str)] = &[
     (FORTY, &[0, 0, 0], "overflow"),
     (FORTY, &[0, 0], "made"),
