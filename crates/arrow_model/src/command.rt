@@ -8,7 +8,7 @@ use arrow_types::data_type::DataType;
 pub struct Bits {
     /// The bytes.
     pub bytes: Vec<u8>,
-    /// How many bits count.
+    /// The number of bits.
     pub length: usize,
 }
 
@@ -26,7 +26,7 @@ pub enum Raw<T, O> {
 /// The raw parts of an array or a builder.
 #[derive(Drop)]
 pub struct Parts<T, O> {
-    /// What is to be made of them.
+    /// The kind of array or builder that they make.
     pub kind: Kind,
     /// Its type.
     pub data_type: DataType,
@@ -36,44 +36,44 @@ pub struct Parts<T, O> {
     pub mask: Option<Bits>,
 }
 
-/// A command; its first number is the entry that it is about.
+/// A command. Its numbers name entries first, in the order of its description.
 #[derive(Drop)]
 pub enum Command<T, O> {
-    /// Puts an empty array or builder into an empty entry.
+    /// Makes an array or a builder without slots in an empty entry.
     New(usize, Kind),
-    /// Puts an array of so many nulls into an empty entry.
+    /// Makes an array of nulls in an empty entry; the last number is how many.
     NewNull(usize, Kind, DataType, usize),
-    /// Puts what raw parts make into an empty entry.
+    /// Makes an array or a builder of raw parts in an empty entry.
     Parts(usize, Parts<T, O>),
-    /// Puts an array or a builder of these slots into an empty entry.
+    /// Makes an array or a builder of slots in an empty entry.
     FromSlots(usize, Kind, Vec<Option<Item<T>>>),
-    /// Puts an array or a builder of these items into an empty entry.
+    /// Makes an array or a builder of items, none of them null, in an empty entry.
     FromItems(usize, Kind, Vec<Item<T>>),
     /// The number of slots.
     Len(usize),
-    /// What is stored at a place.
+    /// What the slot at a place stores, also if it is null.
     Value(usize, usize),
-    /// What the slot at a place of an array shows.
+    /// The slot at a place of an array.
     Get(usize, usize),
     /// Whether the slot at a place of an array is null.
     IsNull(usize, usize),
-    /// The number of an array's nulls.
+    /// The number of nulls of an array.
     NullCount(usize),
-    /// What all slots show.
+    /// All slots.
     Slots(usize),
-    /// What an iterator over the stored items gives.
+    /// What the turns of a fresh iterator over the stored items give.
     Turns(usize, Vec<Turn>),
     /// The data type.
     TypeOf(usize),
     /// Whether a mask is held.
     Held(usize),
-    /// All stored bytes.
+    /// All bytes, those around the slots too.
     Bytes(usize),
     /// The offsets.
     Offsets(usize),
-    /// Keeps only the slots from a place on, so many of them.
+    /// Keeps some slots of an array: the second number is the first of them, the third how many.
     Slice(usize, usize, usize),
-    /// Puts a clone of the first entry into the second, which is empty.
+    /// Clones the first entry into the second, which is empty.
     Clone(usize, usize),
     /// Empties an entry.
     Drop(usize),
@@ -91,38 +91,37 @@ pub enum Command<T, O> {
     Write(usize, usize, Item<T>),
     /// Appends a slot.
     Push(usize, Option<Item<T>>),
-    /// Appends a null, or an empty item where there are no nulls.
+    /// Appends a null, or an empty item to a builder without nulls.
     PushNull(usize),
-    /// Removes the last slot and answers it.
+    /// Removes the last slot, which is the reply.
     Pop(usize),
     /// Appends slots.
     Extend(usize, Vec<Option<Item<T>>>),
     /// Appends items.
     ExtendValues(usize, Vec<Item<T>>),
-    /// Appends so many equal slots.
+    /// Appends equal slots; the second number is how many.
     ExtendConstant(usize, usize, Option<Item<T>>),
     /// Appends the rows of the second entry to the first.
     ExtendFromSelf(usize, usize),
-    /// Makes room for so many slots, and so many bytes.
+    /// Reserves room; the second number counts slots, the third bytes.
     Reserve(usize, usize, usize),
     /// Gives back the room that is not used.
     Shrink(usize),
     /// Makes a builder an array.
     Freeze(usize),
-    /// Makes an array a builder, where no one else has its parts.
+    /// Makes an array a builder if its memory is not shared.
     Thaw(usize),
     /// Makes a builder of values alone one with nulls.
     Nullable(usize),
     /// Replaces the data type.
     To(usize, DataType),
-    /// Whether two builders have the same slots.
+    /// Whether two builders with nulls have the same slots.
     Equal(usize, usize),
-    /// Puts the rows of the first entry for which the second asks, as many truth values, into the third, which
-    /// is empty.
+    /// Filters the array in the first entry by the truth values in the second, as many, into the third, which is empty.
     Filter(usize, usize, usize),
-    /// Puts the rows of the first entry at the places that keys tell into the second, which is empty.
+    /// Takes the rows at keys of the array in the first entry into the second, which is empty.
     Take(usize, Vec<i64>, usize),
-    /// Whether keys are places below a length.
+    /// Whether keys are indexes below a length.
     CheckIndexes(Vec<i64>, usize),
 }
 
@@ -133,8 +132,8 @@ pub enum BothCommand<T> {
     Narrow(Command<T, i32>),
     /// A command on the wide table.
     Wide(Command<T, i64>),
-    /// Puts the array of items of a narrow entry, over wide offsets, into a wide entry, which is empty.
+    /// Copies the array of bytes or text in a narrow entry into an empty wide entry, over wide offsets.
     Widen(usize, usize),
-    /// Puts the array of items of a wide entry, over narrow offsets, into a narrow entry, which is empty.
+    /// Copies the array of bytes or text in a wide entry into an empty narrow entry, over narrow offsets.
     NarrowTo(usize, usize),
 }
