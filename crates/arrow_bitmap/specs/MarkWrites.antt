@@ -8,7 +8,7 @@ pub record FillsMarks (old new : List ℕ) (start end : ℕ) (value : Bool) : Ty
   pub below : (i : ℕ) → i < start → mark_at new i ≡ mark_at old i
   pub above : (i : ℕ) → end ≤ i → mark_at new i ≡ mark_at old i
 
--- behind the first so many marks, which stay, stand other bytes' marks from a place on, so many
+-- the first marks stay, and behind them stand marks of other bytes, from a place on
 pub record CopiesMarks (old new source : List ℕ) (length place count : ℕ) : Type 0 where
   pub kept : (i : ℕ) → i < length → mark_at new i ≡ mark_at old i
   pub copied : (i : ℕ) → i < count → mark_at new (length + i) ≡ mark_at source (place + i)

@@ -122,7 +122,7 @@ pub(crate) fn extend_from_bytes(
     ensures room_left { len ≤ 8 * vec_len bytes.new }
 {
     bytes.truncate(len.div_ceil(8));
-    // bits behind the last mark are free, so these may be written before memory is asked for
+    // Bits behind the last mark have no meaning, so they may be written before memory is allocated.
     join_byte(bytes, len, source, start);
     let head = (8 - len % 8) % 8;
     if head < count {

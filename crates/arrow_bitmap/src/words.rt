@@ -71,7 +71,7 @@ pub(crate) fn extend_from_word(
 {
     bytes.truncate(len.div_ceil(8));
     let source = word.to_le_bytes();
-    // bits behind the last mark are free, so these may be written before memory is asked for
+    // Bits behind the last mark have no meaning, so they may be written before memory is allocated.
     join_byte(bytes, len, &source, 0);
     let head = (8 - len % 8) % 8;
     let rest = (word >> head).to_le_bytes();

@@ -155,7 +155,7 @@ impl<K: ByteKind, O: Offset> MutableByteValuesArray<K, O> {
         ensures held { self.now.held ≡ false }
         ensures valid { IsTrue (all_valid self.now) }
     {
-        // The column tells that without a mask every slot is valid.
+        // Called for its contract: without a mask every slot is valid.
         self.column.validity();
         self.column.data_type()
     }

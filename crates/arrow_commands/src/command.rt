@@ -1,4 +1,4 @@
-//! What a command is to an entry, and how it is done to the entry of a number.
+//! The traits of commands on one entry, and how such a command is run on an entry of a table.
 ghost use Rattle.std.specs.Prelude.{Some, option_map};
 ghost use Rattle.arrow_model.specs.Answer.{outcome};
 ghost use Rattle.arrow_entry.specs.Entry.{state_of, value_of};

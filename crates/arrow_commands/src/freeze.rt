@@ -14,7 +14,7 @@ use arrow_types::native_type::NativeType;
 use arrow_types::offset::Offset;
 use std::alloc::Global;
 
-/// Returns what becomes of what was in an entry that is to be an array, and the answer.
+/// Freezes what was in an entry, and returns what the entry then holds, and the answer.
 fn freeze_held<T: NativeType, O: Offset>(
     taken: Option<Entry<T, O>>,
 ) -> (Option<Entry<T, O>>, Result<Reply<T>, Error>)

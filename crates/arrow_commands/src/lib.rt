@@ -1,4 +1,4 @@
-//! The commands on a table of entries, each in a file of its own: what it asks, the kinds that it is for, and its code.
+//! The commands that read or change one entry of a table, each in a file of its own.
 #![tactic(auto)]
 
 pub mod command;
@@ -36,7 +36,7 @@ pub mod push_null;
 pub mod reserve;
 pub mod shrink;
 
-// Commands that make one kind of another.
+// Commands that convert a value to another kind or data type.
 pub mod freeze;
 pub mod nullable;
 pub mod thaw;

@@ -14,7 +14,7 @@ use arrow_types::native_type::NativeType;
 use arrow_types::offset::Offset;
 use std::alloc::Global;
 
-/// Returns what becomes of what was in an entry that is to be a builder with nulls, and the answer.
+/// Converts what was in an entry into a builder with nulls, and returns what the entry then holds, and the answer.
 fn with_nulls<T: NativeType, O: Offset>(
     taken: Option<Entry<T, O>>,
 ) -> (Option<Entry<T, O>>, Reply<T>)

@@ -15,8 +15,7 @@ use arrow_types::native_type::NativeType;
 use arrow_types::offset::Offset;
 use std::alloc::Global;
 
-/// Returns whether the mask of an entry can be replaced: those of arrays, and of builders with nulls but those of
-/// truth values.
+/// Returns whether the command is for the kind of an entry: arrays, and builders with nulls except of truth values.
 fn takes_mask<T: NativeType, O: Offset>(held: &Entry<T, O>) -> bool
     ensures { result ≡ (let s : Shape = (value_of held.now).shape in is_frozen s || (is_nullable s
         && not (is_boolean s))) }

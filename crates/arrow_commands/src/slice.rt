@@ -29,7 +29,7 @@ fn slice_array<T: NativeType, O: Offset>(held: &mut Entry<T, O>, offset: usize, 
     }
 }
 
-/// Keeps some slots of an array: as many as the second number says, from the place of the first on.
+/// Keeps some slots of an array: the first number is where they begin, the second how many they are.
 #[derive(Drop)]
 pub struct Slice(pub usize, pub usize);
 

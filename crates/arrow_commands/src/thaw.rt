@@ -15,7 +15,7 @@ use arrow_types::offset::Offset;
 use either::{Left, Right};
 use std::alloc::Global;
 
-/// Returns what becomes of what was in an entry that is to be a builder, and the answer.
+/// Thaws what was in an entry, and returns what the entry then holds, and the answer.
 #[tactic(auto, using(arrow_entry::proofs::CallerLemmas::seen_reads, arrow_entry::proofs::CallerLemmas::seen_thaws))]
 fn thawed<T: NativeType, O: Offset>(taken: Option<Entry<T, O>>) -> (Option<Entry<T, O>>, Reply<T>)
     ensures { Does (types T.zero T.PRIMITIVE O.most O.IS_LARGE) (option_map value_of taken) ask.thaw
@@ -43,7 +43,7 @@ fn thawed<T: NativeType, O: Offset>(taken: Option<Entry<T, O>>) -> (Option<Entry
     }
 }
 
-/// Makes an array a builder if its memory is not shared; otherwise the array stays.
+/// Converts an array into a builder if its `into_mut` can do so without a copy; otherwise the array stays.
 #[derive(Drop)]
 pub struct Thaw;
 

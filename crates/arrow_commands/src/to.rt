@@ -18,8 +18,8 @@ use arrow_types::offset::Offset;
 use arrow_types::physical_type::PhysicalType;
 use std::alloc::Global;
 
-/// Returns what becomes of what was in an entry that is to have a type, which is right for native values, and the
-/// answer.
+/// Gives what was in an entry a data type, which must be right for native values, and returns what the entry then
+/// holds, and the answer.
 #[tactic(auto, using(arrow_entry::proofs::CallerLemmas::seen_changes))]
 fn retyped<T: NativeType, O: Offset>(
     taken: Option<Entry<T, O>>,

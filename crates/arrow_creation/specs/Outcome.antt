@@ -1,4 +1,4 @@
--- What the result of a command's code answers, and what then stands in the entry that it fills.
+-- What the code of a command that fills an entry answers by its result, and what it leaves in the entry.
 use Rattle.std.specs.Prelude.{◌≡◌, ⊤, ℤ, Bool, List, Option, Some, None, Result, Ok, Err, IfSome, MatchOption}
 use Rattle.arrow_types.specs.Types.{Refusal, refusal, out_of_spec}
 use Rattle.arrow_types.specs.declared.error.Error.{Error}
@@ -62,7 +62,7 @@ RejectedParts mask numbers e =
     (MatchOption (first_fault numbers) ((IfSome mask BitsFit → ⊥) × (refusal e ≡ bits_past_bytes))
     (λ fault. refusal e ≡ out_of_spec fault))
 
--- how the values of a kind lie in memory, and how it refuses another type, are what the model says of its sort
+-- the physical type of a kind, and its refusal of another type, are those of its value kind in the model
 abbrev pub IsKindOf : {T : Type 0} → Types T → ValueKind → Bool → PhysicalType → Refusal → Type 0
 IsKindOf c sort is_frozen physical wrong = (physical ≡ layout c sort) × (wrong ≡ wrong_type sort is_frozen)
 

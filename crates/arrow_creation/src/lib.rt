@@ -1,4 +1,4 @@
-//! The commands that fill an empty entry of a table, each in a file of its own: what it makes, its condition, its code.
+//! The commands that fill an empty entry of a table, each in a file of its own.
 #![tactic(auto)]
 
 pub mod make;

@@ -1,4 +1,4 @@
-//! What a command that fills an empty entry is, and how it is done to the entry of a number.
+//! The trait of commands that fill an empty entry, and how such a command is run on an entry of a table.
 ghost use Rattle.std.specs.Prelude.{◌≡◌, None, option_map};
 ghost use Rattle.arrow_creation.specs.Outcome.{MadeBy};
 ghost use Rattle.arrow_model.specs.Answer.{outcome};
@@ -16,10 +16,10 @@ use std::alloc::Global;
 
 /// A command that makes what an empty entry is to hold.
 pub trait MakesEntry<T: NativeType, O: Offset>: Drop {
-    /// Which answer may come of what the entries hold, and what is then in the entry.
+    /// What the command may answer, given what the entries hold, and what the entry then is.
     ghost makes: { Self → State T → Row T };
 
-    /// Makes it; `None` if the command's condition fails. What is made is allocated by `alloc`.
+    /// Creates what the entry is to hold; `None` if the command's condition fails. Memory is allocated by `alloc`.
     ///
     /// # Errors
     /// The refusal that the command is answered with.

@@ -104,7 +104,7 @@ pub fn parts_at<T: NativeType, O: Offset>(
     put_parts(entry, given, cost)
 }
 
-/// Does the same with borrowed parts, which are copied only if the entry is empty and the command is for their kind.
+/// Does the same as [`parts_at`] with borrowed parts, which are copied only if the command's condition holds.
 ///
 /// # Errors
 /// The refusal that the command is answered with; the entries are then as before.

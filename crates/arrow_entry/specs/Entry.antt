@@ -10,7 +10,7 @@ use Rattle.arrow_model.specs.Item.{Stored, value, bit, bytes_item}
 use Rattle.arrow_model.specs.Kind.{Group, native, boolean, var_binary, shaped, frozen, with_nulls, values_alone}
 use Rattle.arrow_model.specs.Value.{Value, State, Held}
 
--- the same column, over what slots store whatever their sort
+-- the same column over stored items of any kind
 unfoldable pub erase_type : {A S T : Type 0} → (A → Around) → (S → Stored T) → ColumnWith A S
     → ColumnWith Around (Stored T)
 erase_type around stored column = record {
@@ -49,7 +49,7 @@ value_of (entry.MutableUtf8 column) = bytes_value with_nulls true column
 value_of (entry.BinaryValues column) = bytes_value values_alone false column
 value_of (entry.Utf8Values column) = bytes_value values_alone true column
 
--- the values of entries as they are kept, and the table of these and of counts
+-- the values of a list of entries, and the table of these values and of the counts
 abbrev pub state_of : {T O : Type 0} → List (Option (Entry T O)) → State T
 state_of = map (option_map value_of)
 

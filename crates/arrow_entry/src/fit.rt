@@ -1,4 +1,4 @@
-//! Whether slots and items are of a kind's sort.
+//! Whether items and slots fit a kind: native values, truth values, bytes or text.
 ghost use Rattle.std.specs.Prelude.{◌≡◌, map};
 ghost use Rattle.std.specs.List.{list_all};
 ghost use Rattle.arrow_model.specs.Item.{fits, slot_fits, stored_item, stored_slot};
@@ -7,7 +7,7 @@ ghost use Rattle.arrow_model.specs.Kind.{shape};
 use crate::{Item, Kind};
 use arrow_types::native_type::NativeType;
 
-/// Returns whether an item is of a kind's sort.
+/// Returns whether an item fits a kind: whether it is what the kind's slots store.
 fn item_fits<T: NativeType>(kind: Kind, item: &Item<T>) -> bool
     ensures { result ≡ fits (shape kind).value_kind (stored_item item.now) }
 {
@@ -22,7 +22,7 @@ fn item_fits<T: NativeType>(kind: Kind, item: &Item<T>) -> bool
     }
 }
 
-/// Returns whether a slot is null or of a kind's sort.
+/// Returns whether a slot is null or its item fits a kind.
 fn fits_in<T: NativeType>(kind: Kind, slot: &Option<Item<T>>) -> bool
     ensures { result ≡ slot_fits (shape kind).value_kind (stored_slot slot.now) }
 {
@@ -32,7 +32,7 @@ fn fits_in<T: NativeType>(kind: Kind, slot: &Option<Item<T>>) -> bool
     }
 }
 
-/// Returns whether each slot is null or of a kind's sort.
+/// Returns whether each slot is null or its item fits a kind.
 pub fn slots_fit<T: NativeType>(kind: Kind, slots: &[Option<Item<T>>]) -> bool
     ensures { result ≡ list_all (slot_fits (shape kind).value_kind) (map stored_slot slots.now) }
 {
@@ -46,7 +46,7 @@ pub fn slots_fit<T: NativeType>(kind: Kind, slots: &[Option<Item<T>>]) -> bool
     true
 }
 
-/// Returns whether each item is of a kind's sort.
+/// Returns whether each item fits a kind.
 pub fn items_fit<T: NativeType>(kind: Kind, items: &[Item<T>]) -> bool
     ensures { result ≡ list_all (fits (shape kind).value_kind) (map stored_item items.now) }
 {

@@ -15,8 +15,8 @@ use arrow_types::offset::Offset;
 
 #[tactic(auto, using(crate::proofs::Seen::seen_reads, crate::proofs::Seen::seen_pushes, crate::proofs::Seen::seen_bytes))]
 impl<T: NativeType, O: Offset> Entry<T, O> {
-    /// Returns whether a slot can be pushed: the entry is a builder, the slot's item is of its sort, and the slot
-    /// is null only if the builder has nulls.
+    /// Returns whether a slot can be pushed: the entry is a builder, the slot's item fits its kind, and the slot is
+    /// null only if the builder has nulls.
     #[inline(always)]
     pub fn takes(&self, slot: &Option<Item<T>>) -> bool
         ensures { result ≡ (is_builder (value_of self.now).shape
@@ -65,7 +65,7 @@ impl<T: NativeType, O: Offset> Entry<T, O> {
         }
     }
 
-    /// Appends an item of the builder's sort.
+    /// Appends an item that fits the builder's kind.
     ///
     /// # Errors
     /// `Overflow` if offsets can't express its end, or else `OutOfMemory`; the builder is then as before.

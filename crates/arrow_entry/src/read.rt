@@ -57,7 +57,7 @@ impl<T: NativeType, O: Offset> Entry<T, O> {
             Entry::MutableBoolean(builder) => builder.validity().is_some(),
             Entry::MutableBinary(builder) => builder.validity().is_some(),
             Entry::MutableUtf8(builder) => builder.validity().is_some(),
-            // These say with their type that they hold none.
+            // Called for its contract: a builder without nulls holds no mask.
             Entry::BinaryValues(builder) => {
                 builder.data_type();
                 false
@@ -115,7 +115,7 @@ impl<T: NativeType, O: Offset> Entry<T, O> {
                 None => false,
                 Some(mask) => !mask.get(i),
             },
-            // These say with their type that no slot is null.
+            // Called for its contract: a builder without nulls has no null slot.
             Entry::BinaryValues(builder) => {
                 builder.data_type();
                 false

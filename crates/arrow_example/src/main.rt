@@ -49,7 +49,7 @@ fn read_ends(rt: &impl Print, names: &Utf8Array<i32>) -> io::Result<()> {
     Ok(())
 }
 
-/// An array is thawed, with no copy, where no one else has its memory, and else given back as it was.
+/// An array is thawed without a copy if its memory is not shared, and returned unchanged otherwise.
 fn append(names: Utf8Array<i32>, name: &str) -> Result<Utf8Array<i32>, Error> {
     match names.into_mut() {
         Right(mut builder) => {

@@ -35,7 +35,7 @@ RunsRequests requests old new =
 abbrev pub Appends : Answer ℤ → Interpreter → Interpreter → Type 0
 Appends answer old new = (new.tables ≡ old.tables) × Grows old.text new.text (text_of (answer ∷ []))
 
--- what words ask was run and answered, where they are a line
+-- if the words are a line, its request was run and its reply appended
 abbrev pub RunsLine : Option (BothRequest ℤ) → Interpreter → Interpreter → Bool → Type 0
 RunsLine request old new is_line =
     (is_some request ≡ is_line) × (IsTrue is_line → RunsRequests (option_to_list request) old new)

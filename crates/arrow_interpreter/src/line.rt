@@ -51,7 +51,7 @@ pub(crate) trait DirectLine<O: ParseOffset> {
     /// What a number and the words behind it ask, if they are well formed.
     ghost reader: { ℕ → List (List ℕ) → Option (Request ℤ) };
 
-    /// Returns whether the words are well formed. The number is named for the contract.
+    /// Returns whether the words are well formed. The number is a parameter only because the contract names it.
     fn is_line(number: usize, words: &[u8]) -> bool
         ensures { result ≡ is_some (reader number (words_of words.now)) };
 

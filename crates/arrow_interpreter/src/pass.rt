@@ -15,7 +15,7 @@ use std::alloc::AllocError;
 /// What is done with each line. The table of lines is written once, over this. Each call returns whether the words were
 /// a line.
 pub(crate) trait Pass {
-    /// What comes of words that ask this, or that are no line.
+    /// What a pass does with words that make this request, or with words that are no line (`None`).
     ghost Comes: { Option (BothRequest ℤ) → Self → Self → Result Bool AllocError → Type 0 };
 
     /// Handles words that are no line.

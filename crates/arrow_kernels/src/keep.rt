@@ -289,7 +289,7 @@ fn keep_runs<O: Offset>(
     let mut first = next_set(word, 0);
     while first < 64 {
         let end = run_end(word, first);
-        // Some items of an array never end past what its offsets can tell, so it is memory that is refused.
+        // Some items of an array cannot end past the greatest offset, so the error is a failed allocation.
         match kept.try_extend_slots(kept_bytes, offsets, bytes, 64 * at + first, end - first) {
             Ok(()) => {}
             Err(_) => return Err(Error::OutOfMemory),

@@ -184,7 +184,7 @@ fn pick_items<O: Offset, K: IndexKey>(
     let mut picked_bytes = Vec::with_capacity(alloc, room)?;
     for key in keys {
         let item = item_at(offsets, bytes, place_of(key, offsets.len_proxy()));
-        // No item ends past what an offset can tell, so it is memory that is refused.
+        // No item can end past the greatest offset here, so the error is a failed allocation.
         match picked.try_push_item(&mut picked_bytes, item) {
             Ok(()) => {}
             Err(_) => return Err(Error::OutOfMemory),

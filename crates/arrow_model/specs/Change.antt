@@ -74,19 +74,19 @@ module _ {T : Type 0} where
     abbrev pub grown : Value T → List (Option (Stored T)) → Value T
     grown v slots = with_column v (append_slots (null_in v) v.column slots)
 
-    -- whether an item, or a slot, is more than offsets can tell the end of
+    -- whether an item, or a slot, would end past the greatest offset
     abbrev pub item_over : Around → List (Stored T) → Stored T → Bool
     item_over around items x = item_overflows bytes_in c.most around (map bytes_in items) x
 
     abbrev pub slot_over : Value T → Option (Stored T) → Bool
     slot_over v x = slot_overflows item_over v.column x
 
-    -- whether the rows of another are more than offsets can tell the ends of
+    -- whether the rows of w, appended to v, would end past the greatest offset
     abbrev pub join_over : Value T → Value T → Bool
     join_over v w = overflows_by c.most v.column.around (map bytes_in (stored_values v.column))
         (length (concat (map bytes_in (stored_values w.column))))
 
-    -- how many of these slots can be appended before the first that is more
+    -- how many of these slots can be appended before one would end past the greatest offset
     abbrev pub fitting : Value T → List (Option (Stored T)) → ℕ
     fitting v [] = 0
     fitting v (x ∷ slots) = if slot_over v x then 0 else suc (fitting (grown v (x ∷ [])) slots)

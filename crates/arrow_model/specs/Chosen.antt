@@ -1,4 +1,4 @@
--- How kernels see the values of entries: those that they take rows of, those that ask for rows, and the bytes of items.
+-- What kernels get of entries: the array, the filter, and columns over truth values or bytes alone.
 use Rattle.std.specs.Prelude.{Bool, false, ◌&&◌, map, Option, Some, None, option_and_then, if◌then◌else◌}
 use Rattle.arrow_column.specs.Column.{Column, ColumnWith}
 use Rattle.arrow_bytes.specs.Pieces.{Around}

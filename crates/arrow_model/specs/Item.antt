@@ -30,7 +30,7 @@ bytes_in (value x) = []
 bytes_in (bit b) = []
 bytes_in (bytes_item is_text bytes) = bytes
 
--- whether it is one of bytes
+-- whether an item is bytes or text
 abbrev pub has_bytes : {T : Type 0} → Stored T → Bool
 has_bytes (value x) = false
 has_bytes (bit b) = false
@@ -42,7 +42,7 @@ value_kind_of (value x) = native
 value_kind_of (bit b) = boolean
 value_kind_of (bytes_item is_text bytes) = var_binary is_text
 
--- whether it is of a kind's sort
+-- whether an item is of a value kind
 abbrev pub fits : {T : Type 0} → ValueKind → Stored T → Bool
 fits sort x = same_value_kind sort (value_kind_of x)
 
@@ -51,7 +51,7 @@ abbrev pub slot_fits : {T : Type 0} → ValueKind → Option (Stored T) → Bool
 slot_fits sort (Some x) = fits sort x
 slot_fits sort None = true
 
--- a change of a list: every place gets the same, or the list is turned round
+-- a change of a list that keeps its length: all elements become the same, or the list is reversed
 pub data ListChange (S : Type 0) : Type 0 where
   fill : S → ListChange S
   turn : ListChange S
@@ -64,12 +64,12 @@ abbrev pub change_of : {T : Type 0} → Change T → ListChange (Stored T)
 change_of (named.Fill x) = fill (stored_item x)
 change_of named.Reverse = turn
 
--- whether what fills is of a kind's sort
+-- whether the item that fills a list is of a value kind
 abbrev pub change_fits : {T : Type 0} → ValueKind → ListChange (Stored T) → Bool
 change_fits sort (fill x) = fits sort x
 change_fits sort turn = true
 
--- the same change of marks, where what fills is a truth value
+-- the same change of a list of marks; `None` if the item that fills it is not a truth value
 abbrev pub change_of_marks : {T : Type 0} → ListChange (Stored T) → Option (ListChange Bool)
 change_of_marks (fill (bit b)) = Some (fill b)
 change_of_marks turn = Some turn

@@ -32,7 +32,7 @@ shape kind.MutableUtf8 = shaped with_nulls (var_binary true)
 shape kind.BinaryValues = shaped values_alone (var_binary false)
 shape kind.Utf8Values = shaped values_alone (var_binary true)
 
--- whether two groups are the same, and two sorts
+-- whether two groups are the same, and whether two value kinds are
 abbrev pub same_group : Group → Group → Bool
 same_group frozen frozen = true
 same_group with_nulls with_nulls = true

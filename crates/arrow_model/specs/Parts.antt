@@ -91,8 +91,8 @@ module _ {T : Type 0} (c : Types T) where
         (bits_test mask (pieces_tests s.group (is_text s) t offsets held (option_map marks_in mask))))
         (made (around_of offsets held) (map (bytes_item (is_text s)) (items_of offsets held)))))
 
--- what parts that are cut out of bytes cost: nothing unless the command's condition held, memory was not wanting, and
--- all vectors were taken
+-- what the test of text costs for parts of offsets and bytes: nothing if the command's condition fails, if memory is
+-- refused, if the offsets are not legal, or if the mask has too few bits
 abbrev pub PartsCost : {T : Type 0} → Shape → Option Packed → List ℤ → List ℕ → Answer T → Cost → Cost → Type 0
 PartsCost s mask numbers held reply old new =
     let IsTested : Type 0 = (is_not_met reply ≡ false) × (is_memory reply ≡ false) × (first_fault numbers ≡ None)

@@ -30,7 +30,7 @@ pub data Source (T : Type 0) : Type 0 where
   slots : List (Option (Stored T)) → Source T
   items : List (Stored T) → Source T
 
--- what is asked of what an entry holds
+-- a command on one entry, without the entry's number
 pub data Ask (T : Type 0) : Type 0 where
   len type_of held all_slots null_count bytes offsets empty push_null pop reserve shrink freeze thaw nullable : Ask T
   value get is_null : ℕ → Ask T
@@ -46,8 +46,8 @@ pub data Ask (T : Type 0) : Type 0 where
   extend_constant : ℕ → Option (Stored T) → Ask T
   to : LogicalType → Ask T
 
--- what is asked of a table, each with the numbers of its entries in the order of the command: that an entry be
--- made; something of what it holds; something of two entries, or of three; something of none
+-- a command on a table, with the numbers of its entries in the order of `Command`: one that makes a value in an entry,
+-- one on one entry, and those on two entries, on three, and on none
 pub data Request (T : Type 0) : Type 0 where
   make : ℕ → Shape → Source T → Request T
   at : ℕ → Ask T → Request T

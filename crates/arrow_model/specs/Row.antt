@@ -1,5 +1,5 @@
--- What a command may do to one entry, in the words that its rows are written in. A command's condition is tested:
--- where it fails the answer is `not_met` and nothing changes, and it is `not_met` nowhere else.
+-- Rows, and the words of which they are made: what a command may answer, and what the entry then is. If a command's
+-- condition fails, the answer is `not_met` and nothing changes; otherwise the answer is another.
 use Rattle.std.specs.Prelude.{◌≡◌, ◌⊎◌, Bool, Option, Some, None, MatchOption, MatchBool, option_and_then}
 use Rattle.std.specs.Prelude.{if◌then◌else◌}
 use Rattle.arrow_model.specs.Kind.{Shape}
@@ -10,11 +10,11 @@ use Rattle.arrow_model.specs.Value.{Value}
 abbrev pub Row : Type 0 → Type 1
 Row T = Answer T → Option (Value T) → Type 0
 
--- this is answered, and this is left
+-- the answer is `given`, and the entry is then `kept`
 abbrev pub gives : {T : Type 0} → Answer T → Option (Value T) → Row T
 gives given kept reply new = (reply ≡ given) × (new ≡ kept)
 
--- it is done, and leaves this value
+-- the answer is `done`, and the entry then holds this value
 abbrev pub leaves : {T : Type 0} → Value T → Row T
 leaves kept = gives done (Some kept)
 
@@ -22,7 +22,7 @@ leaves kept = gives done (Some kept)
 abbrev pub by_test : {T : Type 0} → Bool → Row T → Row T → Row T
 by_test test row other reply new = MatchBool test (row reply new) (other reply new)
 
--- a free choice: such an answer may come too, and then this is left
+-- a free choice: an answer of which `chosen` holds is allowed too, and the entry is then `kept`
 abbrev pub or_else_keep : {T : Type 0} → (Answer T → Bool) → Option (Value T) → Row T → Row T
 or_else_keep chosen kept row reply new = MatchBool (chosen reply) (new ≡ kept) (row reply new)
 
@@ -36,11 +36,11 @@ module _ {T : Type 0} (old : Option (Value T)) where
   abbrev pub answers : Answer T → Row T
   answers given = gives given old
 
-  -- memory may be wanting; the entry is then as before
+  -- the command may be refused for memory; the entry is then as before
   abbrev pub memory : Row T → Row T
   memory = or_else_keep is_memory old
 
-  -- the condition that something is there
+  -- the condition that `found` is `Some x`, for a row of x
   abbrev pub require_some : {A : Type 0} → Option A → (A → Row T) → Row T
   require_some found row reply new = MatchOption found (unmet reply new) (λ x. row x reply new)
 

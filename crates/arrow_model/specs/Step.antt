@@ -1,5 +1,5 @@
--- What each command does to the entry that it names, and what it answers. What is freely chosen stands behind
--- `or_else_keep`, and behind `memory` that the answer may be out of memory.
+-- What each command does to the entries that it names, and what it answers. Where a row allows more than one answer,
+-- it says so by `or_else_keep`, or by `memory` if the other answer is out of memory.
 use Rattle.std.specs.Prelude.{◌≡◌, ◌↔◌, ℕ, ℤ, ◌-◌, ◌==◌, ◌<◌, Bool, true, false, not, ◌&&◌, ◌||◌, nat_le, nat_lt}
 use Rattle.std.specs.Prelude.{nat_eq, List, [], ◌∷◌, length, map, take, replicate, count_by, find, is_none, is_some}
 use Rattle.std.specs.Prelude.{Option, Some, None, option_and_then, MatchOption, MatchBool, IsTrue, slice_get}
@@ -32,11 +32,11 @@ use Rattle.arrow_model.specs.Change.{empty_value, slots_start, all_bytes, all_of
 use Rattle.arrow_model.specs.Change.{join_over, fitting}
 use Rattle.arrow_model.specs.Chosen.{bytes_column, array_in, filter_in}
 
--- what is more than offsets can tell the end of is refused; this is tested before memory is asked for
+-- if `over` holds, the command is refused for an overflow, which takes precedence over memory; else this row
 abbrev pub unless_over : {T : Type 0} → Option (Value T) → Bool → Row T → Row T
 unless_over old over row reply new = MatchBool over (answers old (refused overflow) reply new) (row reply new)
 
--- what is done to an entry of such a kind
+-- a command on one entry: the kinds that it is for, and its row for a value of such a kind
 pub record Effect (T : Type 0) : Type 1 where
   pub kinds : Shape → Bool
   pub row : Value T → Row T
@@ -45,12 +45,12 @@ abbrev pub on : {T : Type 0} → (Shape → Bool) → (Value T → Row T) → Ef
 on kinds row = record { kinds = kinds; row = row }
 
 module _ {T : Type 0} (c : Types T) where
-  -- whether all of these slots can be appended
+  -- whether offsets can express the ends of all these slots
   abbrev pub all_fit : Value T → List (Option (Stored T)) → Bool
   all_fit v slots = nat_eq (fitting c v slots) (length slots)
 
-  -- these slots appended to a new value, which is then left; memory may be wanting before the first slot that is
-  -- more than offsets can tell the end of
+  -- a new value with these slots appended, and then `last` of it; the command is refused for an overflow if offsets
+  -- can't express the end of a slot, or for memory, whichever comes first
   abbrev pub Filled : Value T → List (Option (Stored T)) → (Value T → Value T) → Row T
   Filled start slots last = memory None
       (unless_over None (not (all_fit start slots)) (leaves (last (grown c start slots))))
@@ -72,8 +72,8 @@ module _ {T : Type 0} (c : Types T) where
   Makes s (ask.items items) = where_true None (list_all (fits s.value_kind) items)
       (Filled (empty_value c s) (map Some items) (λ v. v))
 
-  -- slots that are appended as far as they can be: all before the first that is more than offsets can tell the end of;
-  -- where memory is wanting for one of these, the ones before it
+  -- slots appended in order: all that precede the first whose end offsets can't express; or, if the command is refused
+  -- for memory, fewer of them
   abbrev pub Extends : Value T → List (Option (Stored T)) → Row T
   Extends v slots reply new =
       MatchBool (is_memory reply)
@@ -94,11 +94,11 @@ module _ {T : Type 0} (c : Types T) where
     abbrev pub tells : Answer T → Row T
     tells = answers old
 
-    -- an item is answered: where it is one of bytes, memory may be wanting
+    -- a row whose answer copies an item: copying bytes or text may be refused for memory
     abbrev pub copied : Value T → Row T → Row T
     copied v row reply new = MatchBool (is_var_binary v.shape) (memory old row reply new) (row reply new)
 
-    -- another column, unless memory is wanting
+    -- the value gets this column, unless the command is refused for memory
     abbrev pub becomes : Value T → ColumnWith Around (Stored T) → Row T
     becomes v column = memory old (leaves (with_column v column))
 
@@ -179,7 +179,7 @@ module _ {T : Type 0} (c : Types T) where
     abbrev pub Does : Ask T → Row T
     Does asked = of_kind old (effect asked).kinds (effect asked).row
 
-    -- the same with what another entry holds: the rows of a builder of the same kind are appended
+    -- the rows of a builder of the same kind, which another entry holds, are appended
     abbrev pub Joins : Value T → Value T → Row T
     Joins v w =
         same_kind v.shape w.shape >>
@@ -199,9 +199,8 @@ module _ {T : Type 0} (old : Option (Value T)) where
   abbrev pub Compares_to : Option (Value T) → Row T
   Compares_to other = of_kind old is_nullable (λ v. require_some old other (Compares v))
 
--- an array that kernels make of another, where it is to stand alone: of the rows for which a filter of as many
--- slots asks; or of the rows at the places of keys, all of which are looked at, and their items' lengths, before
--- memory is asked for
+-- an array that a kernel makes of another: of the rows where a filter of equal length is valid and true, or of the rows
+-- at keys; a key that is out of bounds, and then an overflow, take precedence over memory
 module _ {T : Type 0} where
   abbrev pub Filtered : Column Bool → Value T → Row T
   Filtered filter v =
@@ -221,11 +220,11 @@ module _ {T : Type 0} where
   abbrev pub Takes : ℕ → List ℤ → Option (Value T) → Row T
   Takes most keys from = require_some None (array_in from) (Taken most keys)
 
-  -- the same once more, whatever it is
+  -- a copy of what an entry holds, of any kind
   abbrev pub Clones : Option (Value T) → Row T
   Clones from = require_some None from (λ v. memory None (leaves v))
 
-  -- what is made so is put into an entry, which has to be empty
+  -- the condition that the entry to be filled is empty
   abbrev pub IntoEmpty : Row T → Option (Value T) → Row T
   IntoEmpty row old = where_true old (is_none old) row
 
@@ -256,7 +255,7 @@ Changes c state (check_indexes keys n) = λ reply new.
     (reply ≡ option_map_or (λ key. refused (key_refusal key)) (find (λ key. not (in_bounds n key)) keys) done)
     × (new ≡ state)
 
--- what its tests of text cost: only parts that are cut out of bytes are tested
+-- what a command's tests of text cost: only the command `Parts` with offsets and bytes has such tests
 abbrev pub StepCosts : {T : Type 0} → Request T → Answer T → Cost → Cost → Type 0
 StepCosts (make e s (ask.parts t (cut_pieces starts held) mask)) reply old new = PartsCost s mask starts held reply
     old new

@@ -1,5 +1,5 @@
--- Which values can stand in an entry; and what requests name: kinds that there are, and text that is UTF-8, as that
--- of every string is.
+-- Which values an entry may hold; and which requests there are: their kinds exist, and their text is UTF-8, as that of
+-- every `String` is.
 use Rattle.std.specs.Prelude.{◌≡◌, ⊤, Bool, true, false, All, [], Option, IfSome}
 use Rattle.arrow_types.specs.Types.{IsRightType}
 use Rattle.arrow_memory.specs.Rows.{Row}
@@ -22,14 +22,14 @@ pub record IsAround (s : Shape) (around : Around) : Type 0 where
   pub no_tail : is_builder s ≡ true → around.tail ≡ []
 
 module _ {T : Type 0} where
-  -- what is stored is no text, or UTF-8
+  -- if an item is text, it is UTF-8
   abbrev pub IsText : Stored T → Type 0
   IsText (value x) = ⊤
   IsText (bit b) = ⊤
   IsText (bytes_item false bytes) = ⊤
   IsText (bytes_item true bytes) = IsWellFormed bytes
 
-  -- it is of this sort, too
+  -- and it is of this value kind
   pub record IsStored (sort : ValueKind) (x : Stored T) : Type 0 where
     pub of_value_kind : fits sort x ≡ true
     pub text : IsText x
@@ -59,7 +59,7 @@ module _ {T : Type 0} where
   IsTextChange (fill x) = IsText x
   IsTextChange turn = ⊤
 
-  -- and so does what a value is made of, and what is asked of an entry
+  -- the same of the source of a value, and of a command on one entry
   abbrev pub IsTextSource : Source T → Type 0
   IsTextSource (slots xs) = All IsTextSlot xs
   IsTextSource (items xs) = All IsText xs

@@ -36,7 +36,7 @@ pub struct Parts<T, O> {
     pub mask: Option<Bits>,
 }
 
-/// A command. Its numbers name entries first, in the order of its description.
+/// A command. The numbers of its entries come in the order in which its description names them.
 #[derive(Drop)]
 pub enum Command<T, O> {
     /// Makes an array or a builder without slots in an empty entry.
@@ -109,7 +109,7 @@ pub enum Command<T, O> {
     Shrink(usize),
     /// Makes a builder an array.
     Freeze(usize),
-    /// Makes an array a builder if its memory is not shared.
+    /// Converts an array into a builder, if that needs no copy.
     Thaw(usize),
     /// Makes a builder of values alone one with nulls.
     Nullable(usize),

@@ -9,7 +9,7 @@ ghost use Rattle.arrow_model.specs.Run.{IsRun};
 ghost use Rattle.arrow_model.specs.Step.{IsStep};
 ghost use Rattle.arrow_model.specs.Values.{AreValues, IsBothRequest, IsRequest};
 
-/// Where each entry is empty or holds a value, it is so after each command, and after each run of commands.
+/// If each entry is empty or holds a valid value, the same is true after a command, and after a run of commands.
 pub fn values_stay<T>()
     ensures step { (c : Types T) (old new : Held T) (asks : Request T) (reply : Answer T) → IsRequest asks
         → AreValues c old.entries → IsStep c old asks reply new → AreValues c new.entries }

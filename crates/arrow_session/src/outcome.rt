@@ -13,7 +13,7 @@ pub enum Outcome {
     BadLine(usize),
     /// A read, a write or a flush failed.
     Device,
-    /// An allocation failed outside of a command that answers so itself.
+    /// An allocation failed outside of a command; a command has a reply for that.
     Memory,
 }
 

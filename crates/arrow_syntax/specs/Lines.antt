@@ -108,7 +108,7 @@ narrow_lines = lines (narrow_types (pos 0) Int64) offset_of
 unfoldable pub wide_lines : List Line
 wide_lines = lines (wide_types (pos 0) Int64) integer_of
 
--- those of these lines whose names have such a length
+-- the lines whose names have a length for which p holds
 abbrev pub with_length : (ℕ → Bool) → List Line → List Line
 with_length p = filter (λ row. p (length row.0))
 
@@ -120,7 +120,7 @@ request_behind rows name number words = option_and_then (λ reader. reader numbe
 unfoldable pub request_among : List Line → List ℕ → Reader (Request ℤ)
 request_among rows name = next number_of (request_behind rows name)
 
--- what words ask that begin with the name of one of these lines
+-- the request of the line that these words are
 unfoldable pub request_of : List Line → Reader (Request ℤ)
 request_of rows [] = None
 request_of rows (name ∷ words) = request_among rows name words

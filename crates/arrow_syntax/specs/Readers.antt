@@ -1,8 +1,8 @@
--- How words are read: each by what it has to say, and none is left over.
+-- How a list of words is read: each word by its own reader, and no word may be left over.
 use Rattle.std.specs.Prelude.{⊤, ℕ, bytes_eq, if◌then◌else◌, List, [], ◌∷◌, Option, Some, None, option_map}
 use Rattle.std.specs.Prelude.{option_and_then}
 
--- what words say, where they are as they should be
+-- a reader: the value that words write, or `None` if they are malformed
 abbrev pub Reader : Type 0 → Type 0
 Reader A = List (List ℕ) → Option A
 
@@ -42,6 +42,6 @@ infixr 40 ◌▸◌
 abbrev pub ◌▸◌ : {A B : Type 0} → (List ℕ → Option A) → Reader B → Reader (A × B)
 (f ▸ others) words = option_and_then (λ x. option_map (λ y. (x.0, y)) (others x.1)) (first f words)
 
--- one word, by which it is known how the words behind it are read
+-- one word, whose value decides how the words behind it are read
 abbrev pub next : {A B : Type 0} → (List ℕ → Option A) → (A → Reader B) → Reader B
 next f others words = option_and_then (λ x. others x.0 x.1) (first f words)

@@ -1,4 +1,4 @@
--- What a table of one width of offsets is of two tables, and what a request of it is of both.
+-- The table of one width of offsets among two, and a request on it as a request on both.
 use Rattle.std.specs.Prelude.{Bool, true, false}
 use Rattle.arrow_model.specs.Both.{Both, BothRequest, narrow, wide}
 use Rattle.arrow_model.specs.Value.{Held}

@@ -53,7 +53,7 @@ fn join<T: NativeType, O: Offset>(
     Ok(Reply::Done)
 }
 
-/// Appends to the builder in the entry of a number the rows of the one in another; the condition fails past the table.
+/// Appends the rows of the builder in entry `f` to the builder in entry `e`; the condition fails past the table.
 pub(crate) fn extend_at<T: NativeType, O: Offset>(
     entries: &mut Vec<Option<Entry<T, O>>>,
     e: usize,

@@ -47,10 +47,10 @@ impl<T: NativeType, O: Offset> Model for Table<T, O> {
 
 #[tactic(auto, using(crate::proofs::Steps::none_yet))]
 impl<T: NativeType, O: Offset> Table<T, O> {
-    /// A table of n empty entries.
+    /// Creates a table of `n` empty entries.
     ///
     /// # Errors
-    /// `OutOfMemory` where memory is refused.
+    /// `OutOfMemory` if an allocation fails.
     pub fn new(alloc: Global, n: usize) -> Result<Self, Error>
         ensures ok { IfOk result (λ table. table ≡ record { entries = replicate n None; cost = no_cost }) }
         ensures err { IfErr result (λ e. e ≡ Error.OutOfMemory) }
@@ -72,7 +72,7 @@ impl<T: NativeType, O: Offset> Table<T, O> {
         self.entries.len()
     }
 
-    /// The kind of an entry; `None` where it is empty or past the table.
+    /// Returns the kind of an entry; `None` if the entry is empty or out of bounds.
     pub fn kind(&self, i: usize) -> Option<Kind>
         ensures { option_map shape result ≡ option_map (λ v. v.shape) (entry_at self.now.entries i) }
     {
@@ -82,8 +82,8 @@ impl<T: NativeType, O: Offset> Table<T, O> {
         }
     }
 
-    /// What an entry holds, lent to a caller who reads it where it lies; `None` where the entry is empty or past
-    /// the table. Its slots are what the command `Slots` tells, which copies them. What is held is a value.
+    /// Returns what an entry holds, borrowed; `None` if the entry is empty or out of bounds. It is a valid value, and its
+    /// slots are those that the command `Slots` copies.
     #[inline(always)]
     pub fn get(&self, i: usize) -> Option<&Entry<T, O>>
         ensures held { entry_at self.now.entries i ≡ option_map value_of (option_copied result) }
@@ -102,7 +102,8 @@ impl<T: NativeType, O: Offset> Table<T, O> {
         }
     }
 
-    /// Does the command that appends a slot to the builder in an entry, and answers, with no command made for it.
+    /// Appends a slot to the builder in an entry, and returns the reply. This is the command `Push`, with no command
+    /// made for it.
     #[inline(always)]
     pub fn push_at(&mut self, i: usize, slot: &Option<Item<T>>) -> Reply<T>
         ensures { IsStep (types T.zero T.PRIMITIVE O.most O.IS_LARGE) self.old (at i (push (stored_slot slot.now)))
@@ -112,7 +113,8 @@ impl<T: NativeType, O: Offset> Table<T, O> {
         reply_of(run_at(alloc, &mut self.entries, i, Push(slot)))
     }
 
-    /// Does the command that puts what raw parts make into an entry, and answers. The parts are taken, not copied.
+    /// Makes a value of raw parts in an empty entry, and returns the reply. This is the command `Parts`, but the parts
+    /// are moved into the value and not copied.
     #[inline(always)]
     pub fn parts_at(&mut self, i: usize, parts: Parts<T, O>) -> Reply<T>
         ensures step { IsStep (types T.zero T.PRIMITIVE O.most O.IS_LARGE) self.old (parts_asked O.number i parts)
@@ -150,9 +152,8 @@ impl<T: NativeType, O: Offset> Executor<T> for Table<T, O> {
     }
 }
 
-/// Runs commands in order and appends a reply for each. Answers how many were done: all, or as many as there was
-/// room for replies. It stops early only where the list of replies is full and its growth was refused, and never
-/// gives up room that the list has.
+/// Runs commands in order, appends a reply for each, and returns how many were run. It stops early only if the list of
+/// replies is full and cannot grow, and never shrinks that list.
 pub fn run<T: NativeType, O: Offset>(
     table: &mut Table<T, O>,
     commands: &[Command<T, O>],

@@ -134,7 +134,7 @@ impl<T: NativeType> Executor<T> for Tables<T> {
     }
 }
 
-/// A width of offsets, which finds its table of two.
+/// A width of offsets. Its calls are about the table of this width.
 pub trait Width: Offset {
     /// Returns what an entry of the table of this width holds, or `None` if it is empty or out of bounds. Its slots are
     /// those that the command `Slots` copies.

@@ -74,7 +74,7 @@ impl<O: ParseOffset> CommandLine<O> for MaskLine {
     }
 }
 
-/// `applymask E CHANGE`
+/// `applymask E NAMED`
 pub(crate) struct ApplyMaskLine;
 
 impl<O: ParseOffset> CommandLine<O> for ApplyMaskLine {
@@ -106,7 +106,7 @@ impl<O: ParseOffset> CommandLine<O> for ValuesLine {
     }
 }
 
-/// `applyvalues E CHANGE`
+/// `applyvalues E NAMED`
 pub(crate) struct ApplyValuesLine;
 
 impl<O: ParseOffset> CommandLine<O> for ApplyValuesLine {

@@ -18,7 +18,7 @@ fn write_numbers<O: Offset, P: Offset>(offsets: &[O], written: &mut [P])
     requires room { length written.old ≡ length offsets.now }
     ensures { map P.number written.new ≡ map pos (numbers_of O.number offsets.now) }
 {
-    // It tells the compiler that no place is outside of either, so that it makes vector code of the loop.
+    // With equal lengths the compiler needs no bounds check, and can make vector code of the loop.
     if written.len() != offsets.len() {
         unreachable!();
     }
