@@ -14,7 +14,7 @@ use Rattle.arrow_model.specs.Step.{IsStep}
 use Rattle.arrow_model.specs.Run.{Runs, IsRun, CostsAtMost, total, texts_of, inner_offsets_of}
 use Rattle.arrow_model.specs.Both.{Both, BothRequest, narrow, wide, widen, narrow_to, both_asked, narrow_of, wide_of}
 use Rattle.arrow_model.specs.Both.{IsBothStep}
-use Rattle.arrow_entry.proofs.CallerLemmas.{costs-still}
+use Rattle.arrow_model.proofs.CallerLemmas.{costs-still}
 
 -- ---- any steps
 
