@@ -263,9 +263,11 @@ impl NativeType for months_days_ns {
     ghost zero = { record { 0 = pos 0; 1 = pos 0; 2 = pos 0 } };
 
     ghost same = { λ x y.
-        let d = both-Decides (signed_Decides x.0 y.0) (both-Decides (signed_Decides x.1 y.1) (signed_Decides x.2 y.2)) in
-        (λ h. let p = d.0 h in λ i. record { 0 = p.0 i; 1 = p.1.0 i; 2 = p.1.1 i }, λ e. d.1
-        (ap (λ v. v.0) e, (ap (λ v. v.1) e, ap (λ v. v.2) e))) };
+        let d = both-Decides (signed_Decides x.0 y.0) (both-Decides (signed_Decides x.1 y.1) (signed_Decides x.2 y.2)) in (
+          λ h. let p = d.0 h in λ i. record { 0 = p.0 i; 1 = p.1.0 i; 2 = p.1.1 i },
+          λ e. d.1
+              (ap (λ v. v.0) e, (ap (λ v. v.1) e, ap (λ v. v.2) e)),
+        ) };
 
     #[inline(always)]
     fn default() -> months_days_ns {

@@ -1,7 +1,7 @@
 //! What several words of a script say, up to the end of its line.
 use crate::script::samples::{Sample, Width};
 use crate::script::words::{bits_in, bytes_in, integer_in, item_in, slot_in, turn_in, word};
-use arrow_table::{Item, Change, Raw, Turn};
+use arrow_table::{Change, Item, Raw, Turn};
 use std::alloc::Global;
 use std::marker::PhantomData;
 use std::process::Abort;
