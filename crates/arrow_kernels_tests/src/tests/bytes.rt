@@ -254,7 +254,7 @@ const TWICE: &[(Written, &[i64], Written)] = &[(
     ),
 )];
 
-/// Items past the greatest offset overflow, and keys that are out of bounds are told before that.
+/// Items whose bytes exceed the greatest offset are an `Overflow`; a key that is out of bounds takes precedence over it.
 const ENDS: &[(Written, &[i64], &str)] = &[
     (FORTY, &[0, 0, 0], "overflow"),
     (FORTY, &[0, 0], "made"),

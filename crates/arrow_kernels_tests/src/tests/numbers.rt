@@ -94,7 +94,7 @@ const TAKES: &[(Numbers, &[i64], Numbers)] = &[
     (ONE_NULL_TEN, &[], (&[], "none")),
 ];
 
-/// The first key that is out of bounds is told.
+/// The error names the first key that is out of bounds.
 const ASTRAY: &[(Numbers, &[i64], &str)] = &[
     (ONE_NULL_TEN, &[3], TOO_GREAT),
     (ONE_NULL_TEN, &[0, -1, 9], NO_INDEX),
