@@ -120,16 +120,6 @@ module _ (first second : List Bool) (mask : Option (List Bool)) (n k a b valid :
         ∙ sym (seconds (i - 8 * k) inner there))
   ]
 
-  -- where the lists agree, so do their bits
-  pub bits-agree : AgreeWhere mask first second → (i : ℕ) → i < 8 → bit_at valid i ≡ 1 → bit_at a i ≡ bit_at b i
-  bits-agree agree i low set =
-      let is = (valids i low).0 set in
-      let here : 8 * k + i < length first = omega (arith, is.0, long) in
-      let there : 8 * k + i < length second = omega (arith, here, same) in
-      let marks : Some (bit_at a i == 1) ≡ Some (bit_at b i == 1) = sym (firsts i low here)
-      ∙ agree (8 * k + i) here is.1 ∙ seconds i low there in
-      same-bit (bit_at a i) (bit_at b i) (bit_at-lt a i) (bit_at-lt b i) cc
-
 -- lists that agree at each place are the same
 pub agree-all : {X : Type 0} (xs ys : List X) → length xs ≡ length ys
     → ((k : ℕ) → k < length xs → slice_get xs k ≡ slice_get ys k) → xs ≡ ys

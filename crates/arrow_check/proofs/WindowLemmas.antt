@@ -27,9 +27,6 @@ texts-join a b first second =
 pub no-bytes : IsWellFormed []
 no-bytes = (well_formed-IsUtf8 []).1 IsUtf8-nil
 
-pub ascii-text : (bytes : List ℕ) → IsAscii bytes → IsWellFormed bytes
-ascii-text bytes ascii = (well_formed-IsUtf8 bytes).1 (IsUtf8-from_ascii bytes ascii)
-
 -- a place that is the end, or where no continuation byte stands
 boundary : (bytes : List ℕ) (n : ℕ) → n ≤ length bytes → CutsBetween (length bytes) bytes n → IsCharBoundary bytes n
 boundary bytes n within (inl end) = (within, λ more. absurd (omega (arith, end)))
@@ -182,10 +179,6 @@ slots-by-window (start ∷ ends) bytes legal within =
     )
 
 -- ---- a window as the code reads it
-
-pub window-read : (offsets bytes : List ℕ) (start end : ℕ) → start ≡ first_of offsets → end ≡ last_of offsets
-    → bytes_between start end bytes ≡ window_of offsets bytes
-window-read offsets bytes start end from upto = λ k. bytes_between (from k) (upto k) bytes
 
 byte-at : (numbers old now : List ℕ) (i place byte : ℕ) → now ≡ old → place ≡ get_or numbers i 0
     → slice_get now place ≡ Some byte

@@ -328,13 +328,6 @@ popped-column t o p values ws mask ns m fits e takes g =
     shorter-column t o p values ws mask ns (length values - 1) fits refl e (taken-mask mask ns m (length values)
     fits takes) g
 
-pub popped-fits : {S : Type 0} (values ws : List S) (mask ns : Option (List Bool)) (m : Bool) → FitsMask values mask
-    → ws ≡ take (length values - 1) values → TakesLastMark mask ns m → FitsMask ws ns
-popped-fits values ws mask ns m fits e takes =
-    subst (λ k. FitsMask ws k) (sym (taken-mask mask ns m (length values) fits takes))
-    (subst (λ xs. FitsMask xs (option_map (λ marks. take (length values - 1) marks) mask)) (sym e)
-    (first-fits (length values - 1) values mask fits))
-
 -- the mark that was taken is that of the last row
 pub popped-mark : {S : Type 0} (values : List S) (mask ns : Option (List Bool)) (m : Bool) → FitsMask values mask
     → 0 < length values → TakesLastMark mask ns m
@@ -528,19 +521,6 @@ grown-column t o p values ws more mask ns n fits e f g h =
     whole None fits = many-all values more
     whole (Some marks) fits = join-rows values more (Some marks) None fits
 
-pub grown-fits : {S : Type 0} (values ws more : List S) (mask ns : Option (List Bool)) (n : ℕ)
-    → FitsMask values mask → ws ≡ values ++ more → n ≡ length more
-    → ns ≡ option_map (λ marks. marks ++ replicate n true) mask → FitsMask ws ns
-grown-fits values ws more mask ns n fits e f g =
-    subst (λ k. FitsMask ws k) (sym g)
-    (subst (λ xs. FitsMask xs (option_map (λ marks. marks ++ replicate n true) mask)) (sym e) (whole mask fits))
-  where
-    whole : (mask : Option (List Bool)) → FitsMask values mask
-        → FitsMask (values ++ more) (option_map (λ marks. marks ++ replicate n true) mask)
-    whole None fits = tt
-    whole (Some marks) fits = both-long marks (replicate n true) _ _ fits (long-replicate n ∙ f)
-        ∙ sym (length-append values more)
-
 pub nulled-rows : {S : Type 0} (values more : List S) (mask : Option (List Bool)) → FitsMask values mask
     → rows_of (values ++ more) (Some (unwrap_or mask (replicate (length values) true)
     ++ replicate (length more) false)) ≡ rows_of values mask ++ map (λ v. (v, false)) more
@@ -561,18 +541,6 @@ nulled-column t o p values ws more mask ns m n fits e d f g h =
     ∙ nulled-rows values more mask fits)
     (ap is_some g)
 
-pub nulled-fits : {S : Type 0} (values ws more : List S) (mask ns : Option (List Bool)) (m n : ℕ)
-    → FitsMask values mask → ws ≡ values ++ more → m ≡ length values → n ≡ length more
-    → ns ≡ Some (unwrap_or mask (replicate m true) ++ replicate n false) → FitsMask ws ns
-nulled-fits values ws more mask ns m n fits e d f g =
-    subst (λ k. FitsMask ws k) (sym g) (both-long (unwrap_or mask (replicate m true)) (replicate n false) _ _
-    (whole mask fits) (long-clear n false ∙ f) ∙ sym (ap length e ∙ length-append values more))
-  where
-    whole : (mask : Option (List Bool)) → FitsMask values mask
-        → length (unwrap_or mask (replicate m true)) ≡ length values
-    whole None fits = long-replicate m ∙ d
-    whole (Some marks) fits = fits
-
 pub joined-column : {A B S : Type 0} (t u : LogicalType) (o p : A) (q : B) (values ws more : List S)
     (mask ns other : Option (List Bool)) (m n : ℕ) → FitsMask values mask → ws ≡ values ++ more → m ≡ length values
     → n ≡ length more
@@ -585,14 +553,6 @@ joined-column t u o p q values ws more mask ns other m n fits e d f g h =
     (is_some mask || is_some other) h
     (ap₂ rows_of e same ∙ join-rows values more mask other fits)
     (ap is_some same ∙ join-held values more mask other)
-
-pub joined-fits : {S : Type 0} (values ws more : List S) (mask ns other : Option (List Bool)) (m n : ℕ)
-    → FitsMask values mask → FitsMask more other → ws ≡ values ++ more → m ≡ length values → n ≡ length more
-    → ns ≡ joined_mask mask m other n → FitsMask ws ns
-joined-fits values ws more mask ns other m n fits matches e d f g =
-    subst (λ k. FitsMask ws k) (sym (g ∙ ap₂ (λ j k. joined_mask mask j other k) d f))
-    (subst (λ xs. FitsMask xs (joined_mask mask (length values) other (length more))) (sym e)
-    (join-fits values more mask other fits matches))
 
 -- what is tested of the parts holds of the column
 pub same-test : {A S : Type 0} (test : A → List S → Bool) (t : LogicalType) (o : A) (values : List S)

@@ -80,15 +80,6 @@ module _ {A S T : Type 0} (around : A → Around) (stored : S → Stored T) wher
   mask-length c marks is = ap length (is-mask c.held (marks_of c) marks is) ∙ length-map c.rows _
       ∙ sym (length-seen around stored c)
 
-  -- what is read at a place of the stored values
-  pub seen-read : (c : ColumnWith A S) (xs : List S) (i : ℕ) (x : S) → xs ≡ stored_values c
-      → i < length (erase_type around stored c).rows → x ≡ slice_index_or xs i x
-      → slice_get (stored_values (erase_type around stored c)) i ≡ Some (stored x)
-  seen-read c xs i x is within reads =
-      get-stored around stored c i x (ap (λ ys. slice_get ys i) (sym is)
-      ∙ slice_get_read xs (length xs) i x refl
-      (omega (arith, within, ap length is, length-stored around stored c)) reads)
-
 -- a list that has grown up to a place, by the item there
 more-at : {Y : Type 0} (ys : List Y) (i : ℕ) (y : Y) → slice_get ys i ≡ Some y → take i ys ++ y ∷ [] ≡ take (i + 1) ys
 more-at [] i y is = grind arith

@@ -387,25 +387,7 @@ pub numbers-joined : {O : Type 0} (number : O → ℤ) (old new : List O) (ms : 
 numbers-joined number old new ms whole is =
     numbers-known number new (numbers_of number old ++ ms) (joined-known number old new ms whole is)
 
--- values that are known by their numbers, where those are legal
-pub keeps-known : {O : Type 0} (number : O → ℤ) (most : ℕ) (xs : List O) (ns : List ℕ) → IsOffsets ns
-    → last_of ns ≤ most → map number xs ≡ map pos ns → KeepsOffsets number most xs
-keeps-known number most xs ns legal le is =
-    let e = numbers-known number xs ns is in
-    record {
-      whole = is ∙ ap (map pos) (sym e);
-      legal = rw e legal;
-      within = rw e le;
-    }
-
 -- ---- numbers that are written over values of another type
-
--- no number is above the last
-pub number-within : {O : Type 0} (number : O → ℤ) (most : ℕ) (xs : List O) (i : ℕ) → KeepsOffsets number most xs
-    → i < length xs → get_or (numbers_of number xs) i 0 ≤ last_of (numbers_of number xs)
-number-within number most xs i keeps within =
-    let long = length-numbers number xs in
-    keeps.legal.order i (length (numbers_of number xs) - 1) (omega (arith, long)) (omega (arith, long))
 
 pub number-step : {O : Type 0} (number : O → ℤ) (xs : List O) (i : ℕ) (v : O) (ns : List ℕ) → i < length xs
     → i < length ns → number v ≡ pos (get_or ns i 0)
