@@ -87,15 +87,6 @@ byte-mark bytes n i k low within =
 
 -- ---- lists
 
-same-bit : (x y : ℕ) → x < 2 → y < 2 → (x == 1) ≡ (y == 1) → x ≡ y
-same-bit zero zero low small e = refl
-same-bit zero (suc zero) low small e = cc
-same-bit zero (suc (suc y)) low small e = absurd (omega arith)
-same-bit (suc zero) zero low small e = cc
-same-bit (suc zero) (suc zero) low small e = refl
-same-bit (suc zero) (suc (suc y)) low small e = absurd (omega arith)
-same-bit (suc (suc x)) y low small e = absurd (omega arith)
-
 -- eight places of two lists of marks that have the bits of two bytes, of which a third tells the valid ones
 module _ (first second : List Bool) (mask : Option (List Bool)) (n k a b valid : ℕ) (long : n ≡ length first)
     (same : length first ≡ length second)

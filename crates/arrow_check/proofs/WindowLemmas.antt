@@ -7,7 +7,6 @@ use Rattle.std.proofs.lemmas.List.{drop-drop, drop-take, take-take, take-append-
 use Rattle.std.proofs.lemmas.Option.{get_or_from_slice_get}
 use Rattle.std.proofs.lemmas.List.Elements.{All-from_recursion, recursion_from_All, All-from_get_or, All-get_or}
 use Rattle.std.proofs.lemmas.Str.{IsUtf8-append, IsUtf8-nil, IsUtf8-take, IsUtf8-drop, IsCharBoundary-start}
-use Rattle.std.proofs.lemmas.Str.{IsUtf8-from_ascii}
 use Rattle.std.specs.List.{All, AllByRecursion}
 use Rattle.std.specs.Str.{IsAscii, IsNotAscii, IsCharBoundary}
 use Rattle.arrow_memory.specs.Offsets.{first_of, last_of, NeverFalls, IsOffsets}
