@@ -3,3 +3,4 @@ pub mod Types
 pub mod Decisions
 pub mod TypeEquality
 pub mod IndexKey
+pub mod TypeText

@@ -109,4 +109,5 @@ impl DataType {
 }
 
 mod clone;
+mod display;
 mod equality;

@@ -1,4 +1,8 @@
 //! Units of time and of intervals.
+ghost use Rattle.std.specs.Prelude.{Some};
+ghost use Rattle.arrow_types.specs.TypeText.{interval_unit_text, time_unit_text};
+
+use std::fmt;
 
 /// The unit in which times, timestamps and durations are counted.
 #[derive(Clone, Copy, Debug, PartialEq, Eq)]
@@ -13,6 +17,19 @@ pub enum TimeUnit {
     Nanosecond,
 }
 
+impl fmt::Display for TimeUnit {
+    ghost output = { λ unit. Some (time_unit_text unit) };
+
+    fn fmt<W: fmt::Write>(&self, f: &mut fmt::Formatter<W>) -> fmt::Result {
+        match self {
+            TimeUnit::Second => write!(f, "Second"),
+            TimeUnit::Millisecond => write!(f, "Millisecond"),
+            TimeUnit::Microsecond => write!(f, "Microsecond"),
+            TimeUnit::Nanosecond => write!(f, "Nanosecond"),
+        }
+    }
+}
+
 /// The unit in which calendar intervals are counted.
 #[derive(Clone, Copy, Debug, PartialEq, Eq)]
 pub enum IntervalUnit {
@@ -22,4 +39,16 @@ pub enum IntervalUnit {
     DayTime,
     /// Months, days and nanoseconds.
     MonthDayNano,
+}
+
+impl fmt::Display for IntervalUnit {
+    ghost output = { λ unit. Some (interval_unit_text unit) };
+
+    fn fmt<W: fmt::Write>(&self, f: &mut fmt::Formatter<W>) -> fmt::Result {
+        match self {
+            IntervalUnit::YearMonth => write!(f, "YearMonth"),
+            IntervalUnit::DayTime => write!(f, "DayTime"),
+            IntervalUnit::MonthDayNano => write!(f, "MonthDayNano"),
+        }
+    }
 }

@@ -5,6 +5,8 @@
 #[cfg(test)]
 mod data_types;
 #[cfg(test)]
+mod display;
+#[cfg(test)]
 mod equality;
 #[cfg(test)]
 mod errors;
