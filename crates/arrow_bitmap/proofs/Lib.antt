@@ -1,4 +1,5 @@
 mod AgreeLemmas
 mod CopyLemmas
+mod OpLemmas
 pub mod MarkLemmas
 pub mod ByteWords

@@ -17,3 +17,8 @@ pub record CopiesMarks (old new source : List ℕ) (length place count : ℕ) : 
 abbrev pub TakesLastMark : Option (List Bool) → Option (List Bool) → Bool → Type 0
 TakesLastMark None new mark = (new ≡ None) × (mark ≡ true)
 TakesLastMark (Some marks) new mark = IsSomeAnd new (λ rest. marks ≡ rest ++ mark ∷ [])
+
+-- the first marks are those of two other lists of bytes, from a place on in each, combined one by one
+abbrev pub CombinesMarks : (Bool → Bool → Bool) → List ℕ → List ℕ → ℕ → List ℕ → ℕ → ℕ → Type 0
+CombinesMarks op new first place second other count = (i : ℕ) → i < count
+    → mark_at new i ≡ op (mark_at first (place + i)) (mark_at second (other + i))

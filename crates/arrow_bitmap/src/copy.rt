@@ -13,7 +13,7 @@ use std::rc::Rc;
 
 /// Returns eight marks of two bytes, from bit `shift` of the lower one on.
 #[inline(always)]
-fn between(low: u8, high: u8, shift: usize) -> u8
+pub(crate) fn between(low: u8, high: u8, shift: usize) -> u8
     requires { shift < 8 }
     ensures { (k : ℕ) → k < 8 → (bit_at result k == 1) ≡ mark_at (low ∷ high ∷ []) (shift + k) }
 {

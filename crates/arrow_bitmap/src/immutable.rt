@@ -225,6 +225,14 @@ impl Bitmap {
         self.length
     }
 
+    /// Returns whether there is no mark.
+    #[inline(always)]
+    pub fn is_empty(&self) -> bool
+        ensures { result ≡ (length self.now == 0) }
+    {
+        self.length == 0
+    }
+
     /// Returns the mark at `index`.
     #[inline(always)]
     pub fn get_bit(&self, index: usize) -> bool
@@ -241,6 +249,16 @@ impl Bitmap {
         ensures { (k : ℕ) → k < 64 → slice_get self.now (place + k) ≡ Some (bit_at result k == 1) }
     {
         word_at(self.bytes.as_slice(), self.offset + place)
+    }
+
+    /// Returns the packed bytes and the place of the first mark.
+    #[inline(always)]
+    pub(crate) fn packed(&self) -> (&[u8], usize)
+        ensures within { result.1 + length self.now ≤ 8 * length result.0.now }
+        ensures fits { result.1 + length self.now < 2 ^ 64 }
+        ensures value { marks result.0.now result.1 (length self.now) ≡ self.now }
+    {
+        (self.bytes.as_slice(), self.offset)
     }
 
     /// Returns the number of clear marks, in constant time.
@@ -279,6 +297,16 @@ impl Bitmap {
             self.offset,
             self.offset + self.length,
         )
+    }
+
+    /// Returns an iterator over the `len` marks from `offset` on.
+    #[inline(always)]
+    pub fn iter_range(&self, offset: usize, len: usize) -> BitmapIter<'_>
+        requires { offset + len ≤ length self.now }
+        ensures { result ≡ take len (drop offset self.now) }
+    {
+        let first = self.offset + offset;
+        BitmapIter::new(self.bytes.as_slice(), first, first + len)
     }
 }
 

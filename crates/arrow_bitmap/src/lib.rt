@@ -9,6 +9,7 @@ mod immutable;
 mod iterator;
 mod mark_iter;
 mod mutable;
+mod ops;
 mod pack;
 mod words;
 
@@ -16,3 +17,4 @@ pub use immutable::Bitmap;
 pub use iterator::{BitmapIntoIter, BitmapIter};
 pub use mark_iter::MarkIter;
 pub use mutable::MutableBitmap;
+pub use ops::{and, not, or};

@@ -1,7 +1,7 @@
 //! Bitmaps that can be changed and grow.
 ghost use Rattle.std.specs.Prelude.{◌≡◌, ℕ, ◌<◌, ◌+◌, ◌↔◌, ◌==◌, IsTrue, [], ◌∷◌, ◌++◌, count_by, length, not};
 ghost use Rattle.std.specs.Prelude.{replicate, slice_get, slice_set, take, Some, IfSome, OnOk, IfOk, IfErr};
-ghost use Rattle.std.specs.Prelude.{MatchOption, ◌*◌, ◌≤◌, vec_len, IsOk};
+ghost use Rattle.std.specs.Prelude.{MatchOption, drop, ◌*◌, ◌≤◌, vec_len, IsOk};
 ghost use Rattle.std.specs.Int.{bit_at};
 ghost use Rattle.arrow_types.specs.Failures.{OnlyOutOfMemory, OutOfMemoryKeeps};
 ghost use Rattle.arrow_bitmap.specs.Marks.{bits_of, marks, bits_past_bytes};
@@ -160,6 +160,14 @@ impl MutableBitmap {
         self.length
     }
 
+    /// Returns whether there is no mark.
+    #[inline(always)]
+    pub fn is_empty(&self) -> bool
+        ensures { result ≡ (length self.now == 0) }
+    {
+        self.length == 0
+    }
+
     /// Returns the mark at `index`.
     pub fn get(&self, index: usize) -> bool
         requires { index < length self.now }
@@ -280,6 +288,30 @@ impl MutableBitmap {
             return Err(Error::OutOfMemory);
         };
         extend_from_bytes(&mut self.bytes, self.length, &other.bytes, 0, other.length)?;
+        self.length = end;
+        Ok(())
+    }
+
+    /// Appends the `len` marks of a frozen bitmap from `offset` on, whole bytes at a time.
+    ///
+    /// # Errors
+    /// `OutOfMemory` if an allocation fails or the length would pass `usize::MAX`; the marks are
+    /// then unchanged.
+    pub fn extend_from_range(
+        &mut self,
+        other: &Bitmap,
+        offset: usize,
+        len: usize,
+    ) -> Result<(), Error>
+        requires { offset + len ≤ length other.now }
+        ensures ok { OnOk result (self.new ≡ self.old ++ take len (drop offset other.now)) }
+        ensures err { OutOfMemoryKeeps result self.old self.new }
+    {
+        let Some(end) = self.length.checked_add(len) else {
+            return Err(Error::OutOfMemory);
+        };
+        let (bytes, start) = other.packed();
+        extend_from_bytes(&mut self.bytes, self.length, bytes, start + offset, len)?;
         self.length = end;
         Ok(())
     }

@@ -1,6 +1,8 @@
 // Marks are written as texts, in which '1' is a set mark.
 mod copies;
 mod mutable;
+mod ops;
+mod ranges;
 mod shared;
 mod words;
 

@@ -29,8 +29,20 @@ fn slices_of_slices_add_their_places(rt: HostRuntime) {
 #[test]
 fn new_buffers_are_empty(rt: HostRuntime) {
     let wide = Buffer::<i64>::new(rt.alloc()).expect(&rt, "memory").len();
-    let narrow = Buffer::<u8>::new(rt.alloc()).expect(&rt, "memory").len();
-    assert!(rt; (wide == 0) & (narrow == 0));
+    let narrow = Buffer::<u8>::new(rt.alloc())
+        .expect(&rt, "memory")
+        .is_empty();
+    assert!(rt; (wide == 0) & narrow);
+}
+
+#[test]
+fn slices_of_no_value_are_empty(rt: HostRuntime) {
+    let mut buffer = three(rt.alloc(), &rt);
+    let is_empty = buffer.is_empty();
+    let is_cut = cuts(&mut buffer, 3, 0, [].as_slice());
+    let is_cut_empty = buffer.is_empty();
+    drop(buffer);
+    assert!(rt; !is_empty & is_cut & is_cut_empty);
 }
 
 /// Whether a buffer is thawed while a clone lives, and once it doesn't.

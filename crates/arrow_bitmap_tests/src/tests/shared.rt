@@ -102,3 +102,17 @@ fn owned_marks_come_from_both_ends(rt: HostRuntime) {
     assert!(rt; cut(&mut bitmap, 1, 3));
     assert!(rt; gives_owned(bitmap));
 }
+
+/// Whether a bitmap and the marks that it is thawed to are empty.
+fn are_empty(bitmap: Bitmap) -> (bool, bool) {
+    let is_empty = bitmap.is_empty();
+    let thawed = bitmap.into_mut().right().map(|marks| marks.is_empty());
+    (is_empty, thawed == Some(true))
+}
+
+#[test]
+fn bitmaps_of_no_mark_are_empty(rt: HostRuntime) {
+    let none = are_empty(frozen(rt.alloc(), &rt, ""));
+    let clear = are_empty(frozen(rt.alloc(), &rt, "00"));
+    assert!(rt; (none == (true, true)) & (clear == (false, false)));
+}

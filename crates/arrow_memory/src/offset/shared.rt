@@ -1,6 +1,6 @@
 //! Immutable offsets, whose clones and slices share memory.
 ghost use Rattle.std.specs.Prelude.{◌≡◌, ◌+◌, ◌<◌, ◌≤◌, pos, [], ◌∷◌, length, map, take, drop, slice_index, IfOk};
-ghost use Rattle.std.specs.Prelude.{IfErr};
+ghost use Rattle.std.specs.Prelude.{◌==◌, IfErr};
 ghost use Rattle.either.specs.Either.{MatchEither};
 ghost use Rattle.arrow_types.specs.Failures.{OnlyOutOfMemory};
 ghost use Rattle.arrow_memory.specs.Offsets.{first_of, last_of, IsOffsets, KeepsOffsets, numbers_of};
@@ -74,9 +74,18 @@ impl<O: Offset> OffsetsBuffer<O> {
     /// Returns the number of slots, which is one below the number of offsets.
     #[inline(always)]
     pub fn len_proxy(&self) -> usize
-        ensures { result + 1 ≡ length self.now }
+        ensures count { result + 1 ≡ length self.now }
+        ensures legal { IsOffsets self.now }
     {
         self.offsets.len() - 1
+    }
+
+    /// Returns whether there is no slot, which one offset shows.
+    #[inline(always)]
+    pub fn is_empty(&self) -> bool
+        ensures { result ≡ (length self.now == 1) }
+    {
+        self.len_proxy() == 0
     }
 
     /// Returns the first offset, where the first slot begins.
@@ -108,6 +117,7 @@ impl<O: Offset> OffsetsBuffer<O> {
         ensures end { result.1 ≡ slice_index self.now (index + 1) }
         ensures order { result.0 ≤ result.1 }
         ensures within { result.1 ≤ last_of self.now }
+        ensures legal { IsOffsets self.now }
     {
         start_end_of(self.offsets.as_slice(), index)
     }

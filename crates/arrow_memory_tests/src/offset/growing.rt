@@ -28,6 +28,16 @@ fn pushed<O: Offset>(alloc: Global, rt: &impl Abort) -> Offsets<O> {
     offsets
 }
 
+#[test]
+fn offsets_of_no_slot_are_empty(rt: HostRuntime) {
+    let mut offsets = Offsets::<i32>::new(rt.alloc()).expect(&rt, "memory");
+    let is_empty = offsets.is_empty();
+    offsets.try_push_usize(0).expect(&rt, "room");
+    let is_still_empty = offsets.is_empty();
+    drop(offsets);
+    assert!(rt; is_empty & !is_still_empty);
+}
+
 /// Where the last offset lies.
 fn end<O: Offset>(offsets: Offsets<O>) -> usize {
     let end = offsets.last().to_usize();

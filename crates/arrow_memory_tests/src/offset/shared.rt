@@ -20,8 +20,8 @@ fn cuts(offsets: &mut OffsetsBuffer<i32>, offset: usize, len: usize, list: &[i32
 #[test]
 fn slices_count_offsets(rt: HostRuntime) {
     let mut offsets = narrow(rt.alloc(), &rt, [2, 3, 3, 5].as_slice());
-    let first = cuts(&mut offsets, 1, 3, [3, 3, 5].as_slice());
-    let second = cuts(&mut offsets, 2, 1, [5].as_slice());
+    let first = cuts(&mut offsets, 1, 3, [3, 3, 5].as_slice()) & !offsets.is_empty();
+    let second = cuts(&mut offsets, 2, 1, [5].as_slice()) & offsets.is_empty();
     drop(offsets);
     assert!(rt; first & second);
 }

@@ -8,8 +8,8 @@ invariant_of-self g c =
     let long = length-numbers g.O.Offset.number offsets.items in
     let slots = ap length c.self.view_is in
     rw c.pop.ensures.rest (keeps-piece g.O.Offset.number g.O.Offset.most offsets.items 0 (offsets.len - 1)
-    c.self.invariant (omega (arith, long, slots, offsets.ok.0, c.len_proxy.ensures))
-    (omega (arith, offsets.ok.0, long, slots, c.len_proxy.ensures)))
+    c.self.invariant (omega (arith, long, slots, offsets.ok.0, c.len_proxy.ensures.count))
+    (omega (arith, offsets.ok.0, long, slots, c.len_proxy.ensures.count)))
 
 pub returns-else-len_proxy-eq0 : goal.returns-else-len_proxy-eq0
 returns-else-len_proxy-eq0 g c =
@@ -23,6 +23,6 @@ returns-else-len_proxy-eq0 g c =
       long,
       slots,
       offsets.ok.0,
-      c.len_proxy.ensures,
+      c.len_proxy.ensures.count,
     ))
     c.pop.ensures.cases c.pop.ensures.value c.pop.ensures.rest

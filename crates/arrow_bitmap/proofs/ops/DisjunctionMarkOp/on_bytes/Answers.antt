@@ -1,0 +1,5 @@
+use Rattle.arrow_bitmap.proofs.OpLemmas.{or-bit}
+use Rattle.arrow_bitmap.proofs.ops.DisjunctionMarkOp.on_bytes.Goals as goal
+
+pub returns : goal.returns
+returns c = λ k low. or-bit c.args.first c.args.second k

@@ -1,0 +1,92 @@
+// Marks that are combined one by one. Marks are written as texts, in which '1' is a set mark; answers were worked
+// out by hand.
+use crate::tests::{cut, gives};
+use arrow_bitmap::{Bitmap, MutableBitmap, and, not, or};
+use std::alloc::Global;
+use std::process::Abort;
+
+/// The marks that a text writes, as a slice that begins behind some set marks and ends before another.
+fn sliced(alloc: Global, rt: &impl Abort, offset: usize, text: &str) -> Bitmap {
+    let mut marks = MutableBitmap::new(alloc);
+    marks.extend_constant(offset, true).expect(rt, "memory");
+    for mark in text.as_bytes() {
+        marks.push(*mark == b'1').expect(rt, "memory");
+    }
+    marks.push(true).expect(rt, "memory");
+    let mut bitmap = marks.freeze().expect(rt, "memory");
+    assert!(rt; cut(&mut bitmap, offset, text.len()));
+    bitmap
+}
+
+/// Whether a bitmap has the marks that a text writes, and counts the clear ones.
+fn has(bitmap: Bitmap, text: &str) -> bool {
+    let clear = text.as_bytes().iter().filter(|mark| **mark == b'0').count();
+    let is_right = gives(bitmap.iter(), text) & (bitmap.unset_bits() == clear);
+    drop(bitmap);
+    is_right
+}
+
+/// Two lists of marks, and what they are combined to: the marks set in both, those set in one, and the opposites of the
+/// first list.
+type Combined = [&'static str; 5];
+
+const COMBINED: &[Combined] = &[
+    ["", "", "", "", ""],
+    ["1100", "1010", "1000", "1110", "0011"],
+    ["11110000", "10101010", "10100000", "11111010", "00001111"],
+    [
+        "1111000011",
+        "1010101010",
+        "1010000010",
+        "1111101011",
+        "0000111100",
+    ],
+    [
+        "11110000111100001111",
+        "10101010101010101010",
+        "10100000101000001010",
+        "11111010111110101111",
+        "00001111000011110000",
+    ],
+];
+
+/// Whether two bitmaps are combined so.
+fn are_combined(
+    alloc: Global,
+    rt: &impl Abort,
+    first: &Bitmap,
+    second: &Bitmap,
+    texts: &Combined,
+) -> bool {
+    if first.len() != second.len() {
+        return false;
+    }
+    let is_and = has(and(alloc, first, second).expect(rt, "memory"), texts[2]);
+    let is_or = has(or(alloc, first, second).expect(rt, "memory"), texts[3]);
+    is_and & is_or & has(not(alloc, first).expect(rt, "memory"), texts[4])
+}
+
+/// Whether slices that begin at these places are combined so.
+fn are_combined_from(
+    alloc: Global,
+    rt: &impl Abort,
+    offset: usize,
+    other: usize,
+    texts: &Combined,
+) -> bool {
+    let first = sliced(alloc, rt, offset, texts[0]);
+    let second = sliced(alloc, rt, other, texts[1]);
+    let are_combined = are_combined(alloc, rt, &first, &second, texts);
+    drop(second);
+    drop(first);
+    are_combined
+}
+
+#[test]
+fn marks_are_combined_from_any_place(rt: HostRuntime) {
+    for (offset, other) in [(0, 0), (3, 0), (0, 5), (3, 5), (8, 13)] {
+        for texts in COMBINED {
+            assert!(rt; are_combined_from(rt.alloc(), &rt, offset, other, texts));
+        }
+    }
+}
