@@ -1,10 +1,11 @@
 //! Builders of arrays of truth values.
-ghost use Rattle.std.specs.Prelude.{◌≡◌, ◌<◌, length, false, None, OnOk, IfOk, IfErr, IsOk};
+ghost use Rattle.std.specs.Prelude.{◌≡◌, ◌↔◌, ◌<◌, IsTrue, length, not, count_by, slice_get, false, Some, None};
+ghost use Rattle.std.specs.Prelude.{OnOk, IfOk, IfErr, IsOk};
 ghost use Rattle.std.specs.Option.{option_copied};
 ghost use Rattle.arrow_types.specs.Failures.{OnlyOutOfMemory, OutOfMemoryKeeps};
 ghost use Rattle.arrow_types.specs.Types.{logical_type, IsRightType};
-ghost use Rattle.arrow_column.specs.Column.{IsColumn, append_slot, empty_column, last_slot, mask_of, stored_values};
-ghost use Rattle.arrow_column.specs.Column.{with_slot, without_last};
+ghost use Rattle.arrow_column.specs.Column.{IsColumn, append_slot, empty_column, last_slot, marks_of, mask_of};
+ghost use Rattle.arrow_column.specs.Column.{slots_of, stored_values, with_slot, without_last};
 ghost use Rattle.arrow_boolean.specs.Fits.{boolean_type};
 
 use crate::BooleanArray;
@@ -69,6 +70,43 @@ impl MutableBooleanArray {
         ensures { result ≡ length self.now.rows }
     {
         self.column.len()
+    }
+
+    /// Returns whether there is no slot.
+    #[inline(always)]
+    pub fn is_empty(&self) -> bool
+        ensures { IsTrue result ↔ length self.now.rows ≡ 0 }
+    {
+        self.column.is_empty()
+    }
+
+    /// Returns the slot at `i`: its value, or `None` if it is null.
+    #[inline(always)]
+    pub fn get(&self, i: usize) -> Option<bool>
+        requires { i < length self.now.rows }
+        ensures { slice_get (slots_of self.now) i ≡ Some result }
+    {
+        if self.column.is_null(i) {
+            return None;
+        }
+        Some(self.column.values().get(i))
+    }
+
+    /// Returns whether the slot at `i` is null.
+    #[inline(always)]
+    pub fn is_null(&self, i: usize) -> bool
+        requires { i < length self.now.rows }
+        ensures { slice_get (marks_of self.now) i ≡ Some (not result) }
+    {
+        self.column.is_null(i)
+    }
+
+    /// Returns the number of null slots. Counts them if a mask is held.
+    #[inline(always)]
+    pub fn null_count(&self) -> usize
+        ensures { result ≡ count_by not (marks_of self.now) }
+    {
+        self.column.null_count()
     }
 
     /// Returns the stored values, those of null slots included.

@@ -2,9 +2,9 @@
 ghost use Rattle.std.specs.Prelude.{◌≡◌, List, Bool, Option, Some, false, map, OnOk, IfErr};
 ghost use Rattle.std.specs.Iterator.{Drains, IsFinite, Yields};
 ghost use Rattle.arrow_types.specs.Failures.{OutOfMemoryKeeps};
-ghost use Rattle.arrow_column.specs.Column.{append_slots, joined};
+ghost use Rattle.arrow_column.specs.Column.{append_slots, cut, FitsCut, joined};
 
-use crate::MutableBooleanArray;
+use crate::{BooleanArray, MutableBooleanArray};
 use arrow_types::error::Error;
 
 impl MutableBooleanArray {
@@ -65,5 +65,23 @@ impl MutableBooleanArray {
         ensures err { OutOfMemoryKeeps result self.old self.new }
     {
         self.column.try_extend_from_self(&other.column)
+    }
+
+    /// Appends the rows of the `len` slots of an array from `offset` on. The data type stays; a
+    /// mask is held if the builder or the array held one.
+    ///
+    /// # Errors
+    /// `OutOfMemory` if an allocation fails; the builder is then unchanged.
+    pub fn extend_from_array(
+        &mut self,
+        array: &BooleanArray,
+        offset: usize,
+        len: usize,
+    ) -> Result<(), Error>
+        requires { FitsCut array.now offset len }
+        ensures ok { OnOk result (self.new ≡ joined self.old (cut array.now offset len)) }
+        ensures err { OutOfMemoryKeeps result self.old self.new }
+    {
+        self.column.extend_from_frozen(&array.column, offset, len)
     }
 }

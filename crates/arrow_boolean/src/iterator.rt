@@ -1,6 +1,6 @@
 //! Iterators over arrays and builders.
-ghost use Rattle.std.specs.Prelude.{◌≡◌};
-ghost use Rattle.arrow_column.specs.Column.{slots_of, stored_values};
+ghost use Rattle.std.specs.Prelude.{◌≡◌, take, drop};
+ghost use Rattle.arrow_column.specs.Column.{FitsCut, slots_of, stored_values};
 
 use crate::{BooleanArray, MutableBooleanArray};
 use arrow_memory::bitmap::{BitmapIntoIter, BitmapIter};
@@ -13,6 +13,20 @@ impl BooleanArray {
         ensures { result ≡ slots_of self.now }
     {
         ZipValidity::new(self.column.values().iter(), self.column.marks())
+    }
+
+    /// Returns an iterator over the `len` slots from `offset` on.
+    #[inline(always)]
+    pub fn iter_range(
+        &self,
+        offset: usize,
+        len: usize,
+    ) -> ZipValidity<BitmapIter<'_>, BitmapIter<'_>>
+        requires { FitsCut self.now offset len }
+        ensures { result ≡ take len (drop offset (slots_of self.now)) }
+    {
+        let values = self.column.values().iter_range(offset, len);
+        ZipValidity::new(values, self.column.marks_range(offset, len))
     }
 
     /// Returns an iterator over the stored values, those of null slots included.

@@ -4,4 +4,8 @@
 #[cfg(test)]
 mod equality;
 #[cfg(test)]
+mod ranges;
+#[cfg(test)]
+mod slots;
+#[cfg(test)]
 mod tests;

@@ -1,4 +1,6 @@
 // Slots are written as texts: 't', 'f', and '_' for a null. Stored values and marks are texts of '1' and '0'.
+mod extend_from_array;
+
 ghost use Rattle.std.specs.Prelude.{◌≡◌, length};
 
 use arrow_boolean::{BooleanArray, MutableBooleanArray};

@@ -1,5 +1,6 @@
 //! Arrays of bytes and of text.
-ghost use Rattle.std.specs.Prelude.{◌≡◌, ◌<◌, length, not, count_by, slice_get, Some, None, IfOk, IfErr};
+ghost use Rattle.std.specs.Prelude.{◌≡◌, ◌↔◌, ◌<◌, IsTrue, length, not, count_by, slice_get, Some, None, IfOk};
+ghost use Rattle.std.specs.Prelude.{IfErr};
 ghost use Rattle.std.specs.Option.{option_copied};
 ghost use Rattle.arrow_types.specs.Failures.{OnlyOutOfMemory};
 ghost use Rattle.arrow_types.specs.Types.{logical_type, IsRightType};
@@ -122,6 +123,14 @@ impl<K: ByteKind, O: Offset> ByteArray<K, O> {
         ensures { result ≡ length self.now.rows }
     {
         self.column.len()
+    }
+
+    /// Returns whether there is no slot.
+    #[inline(always)]
+    pub fn is_empty(&self) -> bool
+        ensures { IsTrue result ↔ length self.now.rows ≡ 0 }
+    {
+        self.column.is_empty()
     }
 
     /// Returns whether the slot at `i` is null.

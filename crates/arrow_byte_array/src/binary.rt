@@ -1,6 +1,6 @@
 //! The iterators over arrays and builders of bytes, whose items are `&[u8]`.
-ghost use Rattle.std.specs.Prelude.{◌≡◌};
-ghost use Rattle.arrow_column.specs.Column.{slots_of, stored_values};
+ghost use Rattle.std.specs.Prelude.{◌≡◌, take, drop};
+ghost use Rattle.arrow_column.specs.Column.{FitsCut, slots_of, stored_values};
 ghost use Rattle.arrow_check.specs.Items.{IsWithin, rest_of};
 
 use crate::{ByteArray, ByteItems, MutableByteArray, MutableByteValuesArray};
@@ -89,6 +89,35 @@ impl<O: Offset> ByteArray<Binary, O> {
         ensures all { rest_of stored_values result ≡ stored_values self.now }
     {
         ArrayValuesIter::new(self)
+    }
+
+    /// Returns an iterator over the `len` slots from `offset` on.
+    #[inline(always)]
+    pub fn iter_range(
+        &self,
+        offset: usize,
+        len: usize,
+    ) -> ZipValidity<ByteItems<'_, ByteArray<Binary, O>>, BitmapIter<'_>>
+        requires { FitsCut self.now offset len }
+        ensures { result ≡ take len (drop offset (slots_of self.now)) }
+    {
+        let items = self.values_iter_range(offset, len);
+        ZipValidity::new(ByteItems { items }, self.column.marks_range(offset, len))
+    }
+
+    /// Returns an iterator over the items that the `len` slots from `offset` on store, those of
+    /// null slots included.
+    #[inline(always)]
+    pub fn values_iter_range(
+        &self,
+        offset: usize,
+        len: usize,
+    ) -> ArrayValuesIter<'_, ByteArray<Binary, O>>
+        requires { FitsCut self.now offset len }
+        ensures within { IsWithin stored_values result }
+        ensures all { rest_of stored_values result ≡ take len (drop offset (stored_values self.now)) }
+    {
+        ArrayValuesIter::new_range(self, offset, len)
     }
 }
 

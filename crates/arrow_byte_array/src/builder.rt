@@ -1,11 +1,12 @@
 //! Builders with nulls of arrays of bytes and of text.
-ghost use Rattle.std.specs.Prelude.{◌≡◌, ◌≤◌, [], is_some, IsTrue, length, None, OnOk, IfOk, IfErr, option_map, IsOk};
+ghost use Rattle.std.specs.Prelude.{◌≡◌, ◌↔◌, ◌<◌, ◌≤◌, [], is_some, IsTrue, length, not, count_by, slice_get};
+ghost use Rattle.std.specs.Prelude.{Some, None, OnOk, IfOk, IfErr, option_map, IsOk};
 ghost use Rattle.std.specs.Option.{option_copied};
 ghost use Rattle.arrow_types.specs.Failures.{OnlyOutOfMemory, OutOfMemoryKeeps};
 ghost use Rattle.arrow_types.specs.Types.{logical_type, IsRightType};
 ghost use Rattle.arrow_memory.specs.Rows.{FitsMask};
-ghost use Rattle.arrow_column.specs.Column.{IsColumn, append_slot, last_slot, mask_of, stored_values, without_last};
-ghost use Rattle.arrow_column.specs.Column.{without_needless_mask};
+ghost use Rattle.arrow_column.specs.Column.{IsColumn, append_slot, last_slot, marks_of, mask_of, stored_values};
+ghost use Rattle.arrow_column.specs.Column.{without_last, without_needless_mask};
 ghost use Rattle.arrow_memory.specs.Offsets.{last_of};
 ghost use Rattle.arrow_check.specs.Pieces.{items_of};
 ghost use Rattle.arrow_bytes.specs.Column.{byte_column, bytes_held, empty_bytes, offsets_held};
@@ -122,6 +123,31 @@ impl<K: ByteKind, O: Offset> MutableByteArray<K, O> {
         ensures { result ≡ length self.now.rows }
     {
         self.column.len()
+    }
+
+    /// Returns whether there is no slot.
+    #[inline(always)]
+    pub fn is_empty(&self) -> bool
+        ensures { IsTrue result ↔ length self.now.rows ≡ 0 }
+    {
+        self.column.is_empty()
+    }
+
+    /// Returns whether the slot at `i` is null.
+    #[inline(always)]
+    pub fn is_null(&self, i: usize) -> bool
+        requires { i < length self.now.rows }
+        ensures { slice_get (marks_of self.now) i ≡ Some (not result) }
+    {
+        self.column.is_null(i)
+    }
+
+    /// Returns the number of null slots. Counts them if a mask is held.
+    #[inline(always)]
+    pub fn null_count(&self) -> usize
+        ensures { result ≡ count_by not (marks_of self.now) }
+    {
+        self.column.null_count()
     }
 
     /// Returns the number of slots for whose offsets there is room; bytes and a mask may have less.

@@ -2,11 +2,12 @@
 ghost use Rattle.std.specs.Prelude.{Option, [], OnOk, IfErr};
 ghost use Rattle.std.specs.Iterator.{IsFinite};
 ghost use Rattle.arrow_column.specs.Appends.{ExtendsByItems, ExtendsBySlots, StopsInItems, StopsInSlots};
-ghost use Rattle.arrow_column.specs.Column.{joined};
+ghost use Rattle.arrow_column.specs.Column.{cut_with, FitsCut, joined};
 ghost use Rattle.arrow_column.specs.Growth.{Grows, GrowthKeeps};
 ghost use Rattle.arrow_bytes.specs.Column.{item_overflows, joins_overflow};
+ghost use Rattle.arrow_bytes.specs.Pieces.{around_cut};
 
-use crate::{MutableByteArray, MutableByteValuesArray};
+use crate::{ByteArray, MutableByteArray, MutableByteValuesArray};
 use arrow_bytes::{ByteItem, ByteKind, ItemError};
 use arrow_types::error::Error;
 use arrow_types::offset::Offset;
@@ -94,6 +95,29 @@ impl<K: ByteKind, O: Offset> MutableByteArray<K, O> {
         ensures err { GrowthKeeps result (joins_overflow O.most self.old other.now) self.old self.new }
     {
         self.column.try_extend_from_self(&other.column)
+    }
+
+    /// Appends the rows of the `len` slots of an array from `offset` on. The data type stays; a
+    /// mask is held if the builder or the array held one.
+    ///
+    /// # Errors
+    /// - `Overflow` if the bytes would end past the greatest offset; this is checked first.
+    /// - `OutOfMemory` if an allocation fails.
+    ///
+    /// The builder is unchanged on an error.
+    pub fn extend_from_array(
+        &mut self,
+        array: &ByteArray<K, O>,
+        offset: usize,
+        len: usize,
+    ) -> Result<(), Error>
+        requires { FitsCut array.now offset len }
+        ensures ok { let added = cut_with around_cut array.now offset len in
+            Grows result (joins_overflow O.most self.old added) self.new (joined self.old added) }
+        ensures err { let added = cut_with around_cut array.now offset len in
+            GrowthKeeps result (joins_overflow O.most self.old added) self.old self.new }
+    {
+        self.column.extend_from_frozen(&array.column, offset, len)
     }
 }
 

@@ -135,6 +135,18 @@ impl<'a, K: BorrowItem<'a>, O: Offset> MutableByteArray<K, O> {
         K::borrow_item(self.column.values().value(i))
     }
 
+    /// Returns the slot at `i`: its item, or `None` if it is null.
+    #[inline(always)]
+    pub fn get(&'a self, i: usize) -> Option<K::Borrowed>
+        requires { i < length self.now.rows }
+        ensures { slice_get (slots_of self.now) i ≡ Some (option_map K.Borrowed.bytes result) }
+    {
+        if !self.column.is_null(i) {
+            return Some(self.value(i));
+        }
+        None
+    }
+
     /// Appends a slot. A null stores no byte, and the builder holds a mask from then on.
     ///
     /// # Errors

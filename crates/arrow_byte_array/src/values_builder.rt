@@ -1,6 +1,6 @@
 //! Builders without nulls of arrays of bytes and of text.
-ghost use Rattle.std.specs.Prelude.{◌≡◌, ◌≤◌, [], false, is_some, IsTrue, length, None, Some, OnOk, IfOk, IfErr};
-ghost use Rattle.std.specs.Prelude.{option_map, IsOk};
+ghost use Rattle.std.specs.Prelude.{◌≡◌, ◌↔◌, ◌≤◌, [], false, is_some, IsTrue, length, None, Some, OnOk, IfOk};
+ghost use Rattle.std.specs.Prelude.{IfErr, option_map, IsOk};
 ghost use Rattle.arrow_types.specs.Failures.{OnlyOutOfMemory, OutOfMemoryKeeps};
 ghost use Rattle.arrow_types.specs.Types.{logical_type, IsRightType};
 ghost use Rattle.arrow_column.specs.Column.{all_valid, append_slot, last_slot, stored_values, without_last};
@@ -120,6 +120,14 @@ impl<K: ByteKind, O: Offset> MutableByteValuesArray<K, O> {
         ensures { result ≡ length self.now.rows }
     {
         self.column.len()
+    }
+
+    /// Returns whether there is no item.
+    #[inline(always)]
+    pub fn is_empty(&self) -> bool
+        ensures { IsTrue result ↔ length self.now.rows ≡ 0 }
+    {
+        self.column.is_empty()
     }
 
     /// Returns the number of items for whose offsets there is room; their bytes may have less.

@@ -5,4 +5,8 @@
 #[cfg(test)]
 mod byte_values;
 #[cfg(test)]
+mod ranges;
+#[cfg(test)]
+mod slots;
+#[cfg(test)]
 mod tests;

@@ -9,6 +9,7 @@ mod arrays;
 mod builders;
 mod bytes;
 mod kinds;
+mod extend_from_array;
 mod text;
 mod values;
 

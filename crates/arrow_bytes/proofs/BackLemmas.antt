@@ -1,12 +1,13 @@
 -- The way back: the offsets and bytes of three pieces cut them out again.
 use Rattle.std.proofs.Common.{◌≡◌, ℕ, zero, suc, ◌+◌, ◌-◌, ◌<◌, ◌≤◌, List, [], ◌∷◌, ◌++◌, length, take, drop}
 use Rattle.std.proofs.Common.{get_or, refl, sym, ap, ap₂, ◌∙◌, arith, append_assoc, length-append}
+use Rattle.std.specs.Prelude.{slice_range}
 use Rattle.std.specs.List.{concat}
 use Rattle.std.proofs.lemmas.List.{drop_at, take_at}
 use Rattle.arrow_memory.specs.Offsets.{IsOffsets, NeverFalls, last_of}
 use Rattle.arrow_column.specs.Column.{IsColumn, column_with, mask_of, stored_values}
 use Rattle.arrow_column.proofs.CallerLemmas.{parts_again}
-use Rattle.arrow_check.specs.Pieces.{bytes_between, bytes_of, ends_after, items_after, items_of, lead_of}
+use Rattle.arrow_check.specs.Pieces.{bytes_of, ends_after, items_after, items_of, lead_of}
 use Rattle.arrow_check.specs.Pieces.{offsets_of, tail_of}
 use Rattle.arrow_bytes.specs.Column.{ByteColumn, byte_column, bytes_held, offsets_held}
 use Rattle.arrow_bytes.specs.Pieces.{Around, around_of}
@@ -62,7 +63,7 @@ items-back lead (item ∷ items) tail =
     let whole : (item ++ concat items) ++ tail ≡ item ++ (concat items ++ tail) =
     append_assoc item (concat items) tail in
     let rest = (item ++ concat items) ++ tail in
-    let first : bytes_between (length lead) (length lead + length item) (lead ++ rest) ≡ item =
+    let first : slice_range (lead ++ rest) (length lead) (length lead + length item) ≡ item =
     ap₂ take start (drop_at lead rest (length lead) refl ∙ whole)
     ∙ take_at item (concat items ++ tail) (length item) refl in
     let moved : lead ++ rest ≡ (lead ++ item) ++ (concat items ++ tail) =

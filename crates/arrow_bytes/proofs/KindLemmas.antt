@@ -1,11 +1,12 @@
 -- Lemmas about lists of items of a kind, and which of them offsets cut out of bytes.
 use Rattle.std.proofs.Common.{◌≡◌, ℕ, ◌+◌, ◌<◌, ◌≤◌, List, [], ◌∷◌, ◌++◌, Bool, true, false, length, take, drop}
 use Rattle.std.proofs.Common.{replicate, slice_get, Some, refl, sym, subst}
+use Rattle.std.specs.Prelude.{slice_range}
 use Rattle.std.proofs.lemmas.List.Elements.{All-nil, All-replicate, All-get_or, All-append, All-push, All-take}
 use Rattle.std.proofs.lemmas.List.Elements.{All-drop}
 use Rattle.std.proofs.lemmas.Option.{get_or_from_slice_get, slice_get_within}
 use Rattle.arrow_memory.specs.Offsets.{first_of, last_of, IsOffsets, moved_behind}
-use Rattle.arrow_check.specs.Pieces.{bytes_between, items_of}
+use Rattle.arrow_check.specs.Pieces.{items_of}
 use Rattle.arrow_check.specs.Utf8.{IsWellFormed}
 use Rattle.arrow_bytes.specs.Kinds.{AreItems, IsItem}
 use Rattle.arrow_bytes.proofs.PieceLemmas as piece
@@ -87,8 +88,8 @@ kinds-short text n os bytes legal within low all =
 pub kinds-joined : (text : Bool) (os bytes other obytes : List ℕ) → IsOffsets os → last_of os ≡ length bytes
     → IsOffsets other → last_of other ≤ length obytes
     → AreItems text (items_of os bytes) → AreItems text (items_of other obytes)
-    → AreItems text (items_of (os ++ moved_behind (last_of os) other) (bytes ++ bytes_between (first_of other)
-    (last_of other) obytes))
+    → AreItems text (items_of (os ++ moved_behind (last_of os) other) (bytes ++ slice_range obytes
+    (first_of other) (last_of other)))
 kinds-joined text os bytes other obytes legal ends added within all more =
     subst (AreItems text) (sym (piece.items-joined os bytes other obytes legal ends added))
     (join-of text (items_of os bytes) (items_of other obytes) all more)

@@ -1,5 +1,6 @@
 mod BackLemmas
 pub mod CallerLemmas
+mod CutLemmas
 mod KindLemmas
 pub mod PieceLemmas
 mod TextLemmas

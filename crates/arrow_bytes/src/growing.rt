@@ -9,7 +9,7 @@ ghost use Rattle.arrow_bytes.specs.Pieces.{nothing_around, pieces_of};
 use crate::around::BytesAround;
 use crate::{ByteItem, ByteKind, ByteValues};
 use arrow_check::accessor::Bytes;
-use arrow_column::{MutableValues, PushValue, ReserveItems};
+use arrow_column::{GrowFrom, MutableValues, PushValue, ReserveItems};
 use arrow_memory::buffer::Buffer;
 use arrow_memory::offset::Offsets;
 use arrow_types::error::Error;
@@ -223,6 +223,20 @@ impl<K: ByteKind, O: Offset> MutableValues for MutableByteValues<K, O> {
             bytes,
             kind: PhantomData,
         })
+    }
+}
+
+#[tactic(auto, using(crate::proofs::PieceLemmas::piece_reads, crate::proofs::PieceLemmas::piece_growth, crate::proofs::CutLemmas::piece_cut_joins))]
+impl<K: ByteKind, O: Offset> GrowFrom<ByteValues<K, O>> for MutableByteValues<K, O> {
+    fn grow_from(
+        &mut self,
+        other: &ByteValues<K, O>,
+        offset: usize,
+        len: usize,
+    ) -> Result<(), Error> {
+        let bytes = other.bytes.as_slice();
+        self.offsets
+            .try_extend_slots(&mut self.bytes, &other.offsets, bytes, offset, len)
     }
 }
 

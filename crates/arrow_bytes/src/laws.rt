@@ -1,6 +1,7 @@
 //! Laws of offsets and the items between them, stated over the definitions for all values. Each is
 //! the contract of a function with an empty body.
-ghost use Rattle.std.specs.Prelude.{◌≡◌, ◌+◌, ◌++◌, ◌≤◌, ℕ, List, length};
+ghost use Rattle.std.specs.Prelude.{◌≡◌, ◌+◌, ◌++◌, ◌<◌, ◌≤◌, ℕ, List, Some, length, slice_get, slice_index};
+ghost use Rattle.std.specs.Prelude.{drop, slice_range, take};
 ghost use Rattle.std.specs.List.{concat};
 ghost use Rattle.arrow_memory.specs.Offsets.{IsOffsets, first_of, last_of};
 ghost use Rattle.arrow_check.specs.Pieces.{bytes_of, items_of, lead_of, offsets_of, tail_of};
@@ -30,4 +31,16 @@ pub fn bytes_of_pieces()
     ensures pieces { (around : Around) (items : List (List ℕ))
         → pieces_of (offsets_of (length around.lead) items) (bytes_of around.lead items around.tail)
         ≡ record { around = around; items = items } }
+{}
+
+/// Offsets cut any list, bytes or the rows of an array: one item fewer than offsets, each from its
+/// offset up to the next, and a cut of the offsets cuts out the same items.
+pub fn items_by_offsets<X>()
+    ensures count { (offsets : List ℕ) (xs : List X) → 0 < length offsets
+        → length (items_of offsets xs) + 1 ≡ length offsets }
+    ensures item { (offsets : List ℕ) (xs : List X) (i : ℕ) → i + 1 < length offsets
+        → slice_get (items_of offsets xs) i
+        ≡ Some (slice_range xs (slice_index offsets i) (slice_index offsets (i + 1))) }
+    ensures cut { (offsets : List ℕ) (xs : List X) (a n : ℕ)
+        → items_of (take (n + 1) (drop a offsets)) xs ≡ take n (drop a (items_of offsets xs)) }
 {}

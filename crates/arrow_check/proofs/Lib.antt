@@ -3,4 +3,5 @@ pub mod Utf8Lemmas
 pub mod WindowLemmas
 mod CountLemmas
 mod InnerLemmas
+mod KeyLemmas
 mod AsciiLemmas

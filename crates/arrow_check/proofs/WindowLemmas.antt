@@ -2,6 +2,7 @@
 use Rattle.std.proofs.Common.{◌≡◌, ℕ, zero, suc, ◌+◌, ◌-◌, ◌<◌, ◌≤◌, ◌↔◌, Bool, true, false, not, ◌&&◌, IsTrue}
 use Rattle.std.proofs.Common.{Some, slice_get, List, [], ◌∷◌, ◌++◌, length, take, drop, get_or, refl, sym, ap, ◌∙◌}
 use Rattle.std.proofs.Common.{subst, inl, inr, arith, length-take, length-drop}
+use Rattle.std.specs.Prelude.{slice_range}
 use Rattle.std.proofs.lemmas.Bool.{cases_lt, false≢true}
 use Rattle.std.proofs.lemmas.List.{drop-drop, drop-take, take-take, take-append-drop, get_or-take, get_or-drop}
 use Rattle.std.proofs.lemmas.Option.{get_or_from_slice_get}
@@ -10,7 +11,7 @@ use Rattle.std.proofs.lemmas.Str.{IsUtf8-append, IsUtf8-nil, IsUtf8-take, IsUtf8
 use Rattle.std.specs.List.{All, AllByRecursion}
 use Rattle.std.specs.Str.{IsAscii, IsNotAscii, IsCharBoundary}
 use Rattle.arrow_memory.specs.Offsets.{first_of, last_of, NeverFalls, IsOffsets}
-use Rattle.arrow_check.specs.Pieces.{bytes_between, items_after, items_of}
+use Rattle.arrow_check.specs.Pieces.{items_after, items_of}
 use Rattle.arrow_check.specs.Texts.{AreTexts, CutTexts}
 use Rattle.arrow_check.specs.Utf8.{IsWellFormed}
 use Rattle.arrow_check.specs.Windows.{IsContinuation, window_of, AllBegin, CutsBetween, InnerCutBetween, PassesWhole}
@@ -53,10 +54,10 @@ text-start bytes text some both =
 -- ---- pieces of a window
 
 module _ (bytes : List ℕ) (s m e : ℕ) (low : s ≤ m) (high : m ≤ e) where
-  front : take (m - s) (bytes_between s e bytes) ≡ bytes_between s m bytes
+  front : take (m - s) (slice_range bytes s e) ≡ slice_range bytes s m
   front = take-take (m - s) (e - s) (drop s bytes) (omega arith)
 
-  back : drop (m - s) (bytes_between s e bytes) ≡ bytes_between m e bytes
+  back : drop (m - s) (slice_range bytes s e) ≡ slice_range bytes m e
   back =
       let all : e - s ≡ (m - s) + (e - m) = omega arith in
       let place : s + (m - s) ≡ m = omega arith in
@@ -64,13 +65,13 @@ module _ (bytes : List ℕ) (s m e : ℕ) (low : s ≤ m) (high : m ≤ e) where
       ∙ drop-take (m - s) (e - m) (drop s bytes)
       ∙ ap (take (e - m)) (drop-drop (m - s) s bytes ∙ ap (λ k. drop k bytes) place)
 
-  whole : bytes_between s m bytes ++ bytes_between m e bytes ≡ bytes_between s e bytes
-  whole = (λ k. sym front k ++ sym back k) ∙ take-append-drop (m - s) (bytes_between s e bytes)
+  whole : slice_range bytes s m ++ slice_range bytes m e ≡ slice_range bytes s e
+  whole = (λ k. sym front k ++ sym back k) ∙ take-append-drop (m - s) (slice_range bytes s e)
 
-length-window : (bytes : List ℕ) (s e : ℕ) → s ≤ e → e ≤ length bytes → length (bytes_between s e bytes) ≡ e - s
+length-window : (bytes : List ℕ) (s e : ℕ) → s ≤ e → e ≤ length bytes → length (slice_range bytes s e) ≡ e - s
 length-window bytes s e low high = simp (length-take, length-drop) (omega arith)
 
-byte-window : (bytes : List ℕ) (s e k : ℕ) → s + k < e → get_or (bytes_between s e bytes) k 0 ≡ get_or bytes (s + k) 0
+byte-window : (bytes : List ℕ) (s e k : ℕ) → s + k < e → get_or (slice_range bytes s e) k 0 ≡ get_or bytes (s + k) 0
 byte-window bytes s e k low = get_or-take (e - s) (drop s bytes) k 0 (omega arith) ∙ get_or-drop s bytes k 0
 
 -- ---- items one after the other
@@ -97,7 +98,7 @@ module _ (bytes : List ℕ) (last : ℕ) (within : last ≤ length bytes) where
   -- the items are texts, so what they make up is, and no offset cuts a character of it
   joined : (start : ℕ) (ends : List ℕ) → Rise last start ends
       → AllByRecursion IsWellFormed (items_after start ends bytes)
-      → IsWellFormed (bytes_between start last bytes) × AllByRecursion (CutsBetween last bytes) ends
+      → IsWellFormed (slice_range bytes start last) × AllByRecursion (CutsBetween last bytes) ends
   joined start [] same all =
       let none : last - start ≡ 0 = omega (arith, same) in
       (subst (λ k. IsWellFormed (take k (drop start bytes))) (sym none) no-bytes, tt)
@@ -106,35 +107,35 @@ module _ (bytes : List ℕ) (last : ℕ) (within : last ≤ length bytes) where
       let below = rise-le last end ends more in
       let cuts : CutsBetween last bytes end = elim (cases_lt end last) [
         | inl inner ↦ inr (
-            let some : 0 < length (bytes_between end last bytes) =
+            let some : 0 < length (slice_range bytes end last) =
             omega (arith, length-window bytes end last below within) in
             let place : end + 0 ≡ end = omega arith in
             subst (λ b. ¬ IsContinuation b) (byte-window bytes end last 0 (omega arith)
-            ∙ ap (λ k. get_or bytes k 0) place) (text-start (bytes_between end last bytes) rest.0 some))
+            ∙ ap (λ k. get_or bytes k 0) place) (text-start (slice_range bytes end last) rest.0 some))
         | inr past ↦ inl (let same : end ≡ last = omega arith in same)
       ] in
       (subst IsWellFormed (whole bytes start end last up below) (texts-join _ _ all.0 rest.0), (cuts, rest.1))
 
   -- and the other way
-  parted : (start : ℕ) (ends : List ℕ) → Rise last start ends → IsWellFormed (bytes_between start last bytes)
+  parted : (start : ℕ) (ends : List ℕ) → Rise last start ends → IsWellFormed (slice_range bytes start last)
       → AllByRecursion (CutsBetween last bytes) ends → AllByRecursion IsWellFormed (items_after start ends bytes)
   parted start [] same text all = tt
   parted start (end ∷ ends) (up, more) text (cuts, others) =
       let below = rise-le last end ends more in
       let long = length-window bytes start last (omega (arith, up, below)) within in
-      let at : CutsBetween (length (bytes_between start last bytes)) (bytes_between start last bytes) (end - start)
+      let at : CutsBetween (length (slice_range bytes start last)) (slice_range bytes start last) (end - start)
       = elim cuts [
-        | inl same ↦ inl (let e : end - start ≡ length (bytes_between start last bytes) =
+        | inl same ↦ inl (let e : end - start ≡ length (slice_range bytes start last) =
             omega (arith, long, same) in e)
         | inr begins ↦ elim (cases_lt end last) [
           | inl inner ↦ inr (
               let place : start + (end - start) ≡ end = omega arith in
               subst (λ b. ¬ IsContinuation b) (sym (byte-window bytes start last (end - start) (omega arith)
               ∙ ap (λ k. get_or bytes k 0) place)) begins)
-          | inr past ↦ inl (let e : end - start ≡ length (bytes_between start last bytes) = omega (arith, long) in e)
+          | inr past ↦ inl (let e : end - start ≡ length (slice_range bytes start last) = omega (arith, long) in e)
         ]
       ] in
-      let both = text-cut (bytes_between start last bytes) (end - start) text (omega (arith, long)) at in (
+      let both = text-cut (slice_range bytes start last) (end - start) text (omega (arith, long)) at in (
         subst IsWellFormed (front bytes start end last up below) both.0,
         parted end ends more (subst IsWellFormed (back bytes start end last up below) both.1) others,
       )

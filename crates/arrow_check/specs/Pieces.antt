@@ -1,22 +1,19 @@
 -- Three pieces: the items that offsets cut out of bytes, what lies before the first of them, and what lies behind
 -- the last (Arrow columnar format, "Variable-size Binary Layout").
-use Rattle.std.specs.Prelude.{ℕ, ◌+◌, ◌-◌, List, [], ◌∷◌, ◌++◌, length, take, drop}
+use Rattle.std.specs.Prelude.{ℕ, ◌+◌, List, [], ◌∷◌, ◌++◌, length, take, drop, slice_range}
 use Rattle.std.specs.List.{concat}
 use Rattle.arrow_memory.specs.Offsets.{first_of, last_of}
 
--- the bytes from one place up to another
-abbrev pub bytes_between : ℕ → ℕ → List ℕ → List ℕ
-bytes_between start end bytes = take (end - start) (drop start bytes)
-
 -- the items that end at each of these offsets, the first of which begins at start
-abbrev pub items_after : ℕ → List ℕ → List ℕ → List (List ℕ)
-items_after start [] bytes = []
-items_after start (end ∷ ends) bytes = bytes_between start end bytes ∷ items_after end ends bytes
+abbrev pub items_after : {X : Type 0} → ℕ → List ℕ → List X → List (List X)
+items_after start [] xs = []
+items_after start (end ∷ ends) xs = slice_range xs start end ∷ items_after end ends xs
 
--- the items: the bytes from each offset up to the next
-abbrev pub items_of : List ℕ → List ℕ → List (List ℕ)
-items_of [] bytes = []
-items_of (start ∷ ends) bytes = items_after start ends bytes
+-- the items: what lies from each offset up to the next; of bytes these are the slots of a byte array, of the rows of
+-- an array those of a list array
+abbrev pub items_of : {X : Type 0} → List ℕ → List X → List (List X)
+items_of [] xs = []
+items_of (start ∷ ends) xs = items_after start ends xs
 
 -- what lies before the first item
 abbrev pub lead_of : List ℕ → List ℕ → List ℕ

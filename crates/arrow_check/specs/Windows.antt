@@ -1,10 +1,10 @@
 -- Which windows of bytes a text check accepts: the bytes from the first offset up to the last, and where the offsets
 -- between these stand.
-use Rattle.std.specs.Prelude.{◌≡◌, ℕ, ◌+◌, ◌-◌, ◌<◌, ◌≤◌, ◌⊎◌, List, length, slice_index, take, drop, count_by, nat_lt}
+use Rattle.std.specs.Prelude.{◌≡◌, ℕ, ◌+◌, ◌-◌, ◌<◌, ◌≤◌, ◌⊎◌, List, length, slice_index, slice_range}
+use Rattle.std.specs.Prelude.{take, drop, count_by, nat_lt}
 use Rattle.std.specs.Int.{IsInRange}
 use Rattle.std.specs.Str.{IsAscii}
 use Rattle.arrow_memory.specs.Offsets.{first_of, last_of}
-use Rattle.arrow_check.specs.Pieces.{bytes_between}
 use Rattle.arrow_check.specs.Reading.{Reading, LooksAtMost, after_ascii, after_looks, after_whole_test}
 
 -- a byte that goes on with a character, and begins none (Unicode Standard, Table 3-7)
@@ -13,7 +13,7 @@ IsContinuation = IsInRange 0x80 0xBF
 
 -- the bytes from the first offset up to the last
 abbrev pub window_of : List ℕ → List ℕ → List ℕ
-window_of offsets bytes = bytes_between (first_of offsets) (last_of offsets) bytes
+window_of offsets bytes = slice_range bytes (first_of offsets) (last_of offsets)
 
 -- an offset cuts no character of a window with this end: it is the end, or a character may begin at its byte
 abbrev pub CutsBetween : ℕ → List ℕ → ℕ → Type 0

@@ -1,10 +1,13 @@
 //! Checks that keys are indexes of items.
 ghost use Rattle.std.specs.Prelude.{◌≡◌, ◌<◌, not, find, All, IfNone, IsOk, IsErrAnd, IsSomeAnd, MatchOption, OnOk};
+ghost use Rattle.std.specs.Prelude.{length, Some};
 ghost use Rattle.std.specs.Option.{option_copied};
 ghost use Rattle.arrow_types.specs.IndexKey.{index_of};
 ghost use Rattle.arrow_types.specs.Types.{refusal};
-ghost use Rattle.arrow_check.specs.Indexes.{in_bounds, key_refusal};
+ghost use Rattle.arrow_memory.specs.Rows.{FitsMask};
+ghost use Rattle.arrow_check.specs.Indexes.{in_bounds, key_refusal, valid_keys};
 
+use arrow_memory::bitmap::Bitmap;
 use arrow_types::error::Error;
 use arrow_types::index_key::IndexKey;
 
@@ -54,5 +57,47 @@ pub fn check_indexes<K: IndexKey>(keys: &[K], len: usize) -> Result<(), Error>
     match first_out_of_bounds(keys, len) {
         Some(key) => Err(key_fault(key)),
         None => Ok(()),
+    }
+}
+
+/// Checks that every key with a set mark is an index below `len`. The mark is read only of a key
+/// that is not.
+fn check_marked<K: IndexKey>(keys: &[K], marks: &Bitmap, len: usize) -> Result<(), Error>
+    requires { length marks.now ≡ length keys.now }
+    ensures first { MatchOption (find (λ key. not (in_bounds len (K.number key)))
+        (valid_keys keys.now (Some marks.now))) (IsOk result) (λ key.
+        IsErrAnd result (λ e. refusal e ≡ key_refusal (K.number key))) }
+    ensures ok { OnOk result (All (λ key. IsSomeAnd (index_of (K.number key)) (λ index. index < len))
+        (valid_keys keys.now (Some marks.now))) }
+{
+    for index in 0..keys.len() {
+        let key = &keys[index];
+        if !points_at_item(key, len) && marks.get_bit(index) {
+            return Err(key_fault(key));
+        }
+    }
+    Ok(())
+}
+
+/// Checks that the key of every valid slot is an index below `len`, as [`check_indexes`]. The keys
+/// of null slots may be anything. Without a validity bitmap every slot is valid.
+///
+/// # Errors
+/// `OutOfSpec` with the fault of the first key of a valid slot that is no such index.
+pub fn check_slots<K: IndexKey>(
+    keys: &[K],
+    validity: Option<&Bitmap>,
+    len: usize,
+) -> Result<(), Error>
+    requires { FitsMask keys.now (option_copied validity) }
+    ensures first { MatchOption (find (λ key. not (in_bounds len (K.number key)))
+        (valid_keys keys.now (option_copied validity.entry))) (IsOk result) (λ key.
+        IsErrAnd result (λ e. refusal e ≡ key_refusal (K.number key))) }
+    ensures ok { OnOk result (All (λ key. IsSomeAnd (index_of (K.number key)) (λ index. index < len))
+        (valid_keys keys.now (option_copied validity.entry))) }
+{
+    match validity {
+        None => check_indexes(keys, len),
+        Some(marks) => check_marked(keys, marks, len),
     }
 }

@@ -1,5 +1,5 @@
 //! Iterators over the items of an array.
-ghost use Rattle.std.specs.Prelude.{◌≡◌, ◌-◌, length, Some, IfSome};
+ghost use Rattle.std.specs.Prelude.{◌≡◌, ◌-◌, ◌≤◌, length, take, drop, Some, IfSome};
 ghost use Rattle.std.specs.Iterator.{MakesProgress, YieldsFirstBy, YieldsLastBy, at_most, UpTo};
 ghost use Rattle.std.specs.Iterator.SizeHint.{IsWithinCount};
 ghost use Rattle.arrow_memory.specs.Items.{SkipsThenFirstBy};
@@ -27,6 +27,23 @@ impl<'a, A: ArrayAccessor<'a>> ArrayValuesIter<'a, A> {
             array,
             index: 0,
             end: array.len(),
+        }
+    }
+
+    /// Creates an iterator over the `len` items of an array from `offset` on.
+    #[inline(always)]
+    pub fn new_range(array: &'a A, offset: usize, len: usize) -> Self
+        requires start { offset ≤ length (A.items array.now) }
+        requires end { len ≤ length (A.items array.now) - offset }
+        ensures within { IsWithin A.items result }
+        ensures all { rest_of A.items result ≡ take len (drop offset (A.items array.entry.now)) }
+    {
+        // Called for its contract: the sum is no greater than the number of items.
+        array.len();
+        ArrayValuesIter {
+            array,
+            index: offset,
+            end: offset + len,
         }
     }
 

@@ -1,6 +1,9 @@
 //! Keys that point at items.
-use arrow_check::indexes::check_indexes;
+use arrow_check::indexes::{check_indexes, check_slots};
+use arrow_memory::bitmap::Bitmap;
 use arrow_testing::tells;
+use std::alloc::Global;
+use std::process::Abort;
 
 const NO_INDEX: &str = "the dictionary key must fit in a usize";
 
@@ -28,4 +31,39 @@ fn wide() -> [&'static str; 2] {
 fn keys_of_other_types(rt: HostRuntime) {
     let are_told = narrow() == [NO_INDEX, PAST, "made", PAST];
     assert!(rt; are_told & (wide() == [PAST, "made"]));
+}
+
+/// What is told of four keys with these marks, of a list of three items.
+fn told_of_slots(
+    alloc: Global,
+    rt: &impl Abort,
+    keys: &[i32; 4],
+    marks: [bool; 4],
+) -> &'static str {
+    let validity = Bitmap::from_slice(alloc, marks.as_slice()).expect(rt, "memory");
+    let answer = if validity.len() == 4 {
+        check_slots(keys.as_slice(), Some(&validity), 3)
+    } else {
+        Ok(())
+    };
+    drop(validity);
+    tells(answer)
+}
+
+/// Keys, their marks, and what is told of them.
+const SLOTS: &[([i32; 4], [bool; 4], &str)] = &[
+    ([2, 9, 0, -1], [true, false, true, false], "made"),
+    ([2, 9, 0, -1], [true, false, true, true], NO_INDEX),
+    ([2, 9, 0, -1], [true, true, true, true], PAST),
+    ([-1, 0, 3, -1], [false, true, true, true], PAST),
+    ([3, -1, 9, -7], [false; 4], "made"),
+];
+
+#[test]
+fn keys_under_nulls_are_not_asked(rt: HostRuntime) {
+    for (keys, marks, answer) in SLOTS {
+        assert!(rt; told_of_slots(rt.alloc(), &rt, keys, *marks) == *answer);
+    }
+    let bare = tells(check_slots([0_u8, 3].as_slice(), None, 3));
+    assert!(rt; bare == PAST && tells(check_slots([0_u8, 2].as_slice(), None, 3)) == "made");
 }

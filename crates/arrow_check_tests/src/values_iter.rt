@@ -70,6 +70,25 @@ fn turns_from_both_ends(rt: HostRuntime) {
     assert!(rt; turns(&tens()));
 }
 
+/// Whether parts of three items have theirs, from both ends.
+fn has_parts(array: &Numbers) -> bool {
+    if array.len() != 3 {
+        return false;
+    }
+    let mut last = ArrayValuesIter::new_range(array, 1, 2);
+    let is_sized = last.len() == 2;
+    let are_last = is(last.next_back(), 30) & is(last.next(), 20) & last.next().is_none();
+    let mut first = ArrayValuesIter::new_range(array, 0, 1);
+    let is_first = is(first.next(), 10) & first.next().is_none();
+    let mut none = ArrayValuesIter::new_range(array, 3, 0);
+    is_sized & are_last & is_first & none.next().is_none()
+}
+
+#[test]
+fn parts_have_their_items(rt: HostRuntime) {
+    assert!(rt; has_parts(&tens()));
+}
+
 /// Whether items are passed over, and none comes after the last.
 fn passes(array: &Numbers) -> bool {
     let mut items = ArrayValuesIter::new(array);

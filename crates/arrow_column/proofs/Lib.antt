@@ -1,4 +1,7 @@
 mod AgreeLemmas
 pub mod CallerLemmas
 pub mod ColumnLemmas
+mod CutLemmas
+mod RangeLemmas
 mod RowLemmas
+mod SlotLemmas

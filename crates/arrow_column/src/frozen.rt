@@ -1,8 +1,9 @@
 //! Immutable columns, of which arrays are made.
-ghost use Rattle.std.specs.Prelude.{IsTrue, None, ◌≡◌, ◌-◌, ◌<◌, length, not, count_by, slice_get, Some, IfSome};
+ghost use Rattle.std.specs.Prelude.{IsTrue, None, ◌≡◌, ◌↔◌, ◌-◌, ◌<◌, length, not, count_by, slice_get, Some};
+ghost use Rattle.std.specs.Prelude.{IfSome, map, take, drop};
 ghost use Rattle.std.specs.Option.{option_copied};
 ghost use Rattle.arrow_types.specs.Types.{logical_type};
-ghost use Rattle.arrow_memory.specs.Rows.{FitsMask, rows_of};
+ghost use Rattle.arrow_memory.specs.Rows.{FitsMask, rows_of, slot};
 ghost use Rattle.arrow_column.specs.Column.{slots_of, ColumnWith, FitsCut, IsColumn, column_with, cut_with};
 ghost use Rattle.arrow_column.specs.Column.{marks_of, mask_of, stored_values, with_mask, with_type};
 
@@ -90,6 +91,14 @@ impl<V: Values> FrozenColumn<V> {
         self.values.count()
     }
 
+    /// Returns whether there is no slot.
+    #[inline(always)]
+    pub fn is_empty(&self) -> bool
+        ensures { IsTrue result ↔ length self.now.rows ≡ 0 }
+    {
+        self.len() == 0
+    }
+
     /// Returns the stored values, those of null slots included.
     #[inline(always)]
     pub fn values(&self) -> &V
@@ -118,6 +127,20 @@ impl<V: Values> FrozenColumn<V> {
         match &self.validity {
             None => None,
             Some(validity) => Some(validity.iter()),
+        }
+    }
+
+    /// Returns an iterator over the marks of the `len` slots from `offset` on if a mask is held.
+    #[inline(always)]
+    pub fn marks_range(&self, offset: usize, len: usize) -> Option<BitmapIter<'_>>
+        requires { FitsCut self.now offset len }
+        ensures slots { map slot (rows_of (take len (drop offset (stored_values self.now))) result)
+            ≡ take len (drop offset (slots_of self.now)) }
+        ensures fits { FitsMask (take len (drop offset (stored_values self.now))) result }
+    {
+        match &self.validity {
+            None => None,
+            Some(validity) => Some(validity.iter_range(offset, len)),
         }
     }
 

@@ -1,10 +1,10 @@
 //! Growth of columns by many slots at once.
-ghost use Rattle.arrow_column.specs.Column.{append_nulls, append_values, joined, stored_values};
+ghost use Rattle.arrow_column.specs.Column.{append_nulls, append_values, cut_with, FitsCut, joined, stored_values};
 ghost use Rattle.arrow_column.specs.Growth.{Grows, GrowthKeeps};
 
-use crate::GrowingColumn;
-use crate::mask::{extend_null_marks, extend_valid_marks, join_marks};
-use crate::values::{Grow, MutableValues};
+use crate::mask::{extend_null_marks, extend_valid_marks, join_marks, join_marks_of_range};
+use crate::values::{Grow, GrowFrom, MutableValues, Values};
+use crate::{FrozenColumn, GrowingColumn};
 use arrow_types::error::Error;
 
 #[tactic(auto, using(crate::proofs::RowLemmas::row_steps))]
@@ -83,6 +83,46 @@ impl<V: MutableValues> GrowingColumn<V> {
             before,
             &other.validity,
             other.values.count(),
+        ) {
+            Ok(()) => Ok(()),
+            Err(refused) => {
+                self.values.keep_first(before);
+                Err(refused)
+            }
+        }
+    }
+
+    /// Appends the rows of the `len` slots of an array's column from `offset` on. The data type
+    /// stays; a mask is held if either column held one.
+    ///
+    /// # Errors
+    /// As `try_extend_from_self`.
+    pub fn extend_from_frozen<F: Values<Stored = V::Stored>>(
+        &mut self,
+        other: &FrozenColumn<F>,
+        offset: usize,
+        len: usize,
+    ) -> Result<(), Error>
+    where
+        V: GrowFrom<F>,
+        requires { FitsCut other.now offset len }
+        ensures ok { let added = cut_with F.cut_around other.now offset len in
+            Grows result (V.join_overflows self.old.around (stored_values self.old) (stored_values added))
+            self.new (joined self.old added) }
+        ensures err { let added = cut_with F.cut_around other.now offset len in
+            GrowthKeeps result (V.join_overflows self.old.around (stored_values self.old) (stored_values added))
+            self.old self.new }
+    {
+        let before = self.values.count();
+        let alloc = self.values.allocated_by();
+        self.values.grow_from(&other.values, offset, len)?;
+        match join_marks_of_range(
+            alloc,
+            &mut self.validity,
+            before,
+            &other.validity,
+            offset,
+            len,
         ) {
             Ok(()) => Ok(()),
             Err(refused) => {

@@ -1,6 +1,6 @@
 //! Growing columns, of which builders are made.
-ghost use Rattle.std.specs.Prelude.{IsTrue, slice_get, not, is_some, ◌≡◌, ◌<◌, ◌-◌, length, Some, None};
-ghost use Rattle.std.specs.Prelude.{OnOk, IfOk, IfErr, IfSome, option_map};
+ghost use Rattle.std.specs.Prelude.{IsTrue, slice_get, not, is_some, count_by, ◌≡◌, ◌↔◌, ◌<◌, ◌-◌, length, Some};
+ghost use Rattle.std.specs.Prelude.{None, OnOk, IfOk, IfErr, IfSome, option_map};
 ghost use Rattle.std.specs.Option.{option_copied};
 ghost use Rattle.arrow_types.specs.Failures.{OnlyOutOfMemory, OutOfMemoryKeeps};
 ghost use Rattle.arrow_types.specs.Types.{logical_type};
@@ -93,6 +93,14 @@ impl<V: MutableValues> GrowingColumn<V> {
         ensures { result ≡ length self.now.rows }
     {
         self.values.count()
+    }
+
+    /// Returns whether there is no slot.
+    #[inline(always)]
+    pub fn is_empty(&self) -> bool
+        ensures { IsTrue result ↔ length self.now.rows ≡ 0 }
+    {
+        self.len() == 0
     }
 
     /// Returns the stored values, those of null slots included.
@@ -244,6 +252,17 @@ impl<V: MutableValues> GrowingColumn<V> {
             → slice_get (slots_of self.now) i ≡ Some (Some value) }
     {
         !self.is_valid(i)
+    }
+
+    /// Returns the number of null slots. Counts them if a mask is held.
+    #[inline(always)]
+    pub fn null_count(&self) -> usize
+        ensures { result ≡ count_by not (marks_of self.now) }
+    {
+        match &self.validity {
+            None => 0,
+            Some(validity) => validity.unset_bits(),
+        }
     }
 
     /// Returns the data type, the stored values, and the mask of an array of the same slots. The

@@ -2,10 +2,11 @@
 //! with an empty body.
 ghost use Rattle.std.specs.Prelude.{true, false, not, replicate, ◌<◌, ◌||◌, is_some, ◌≡◌, ℕ, ◌+◌, ◌≤◌, Bool, []};
 ghost use Rattle.std.specs.Prelude.{List, Option, Some, None, length, map, slice_get, option_map, if◌then◌else◌};
-ghost use Rattle.std.specs.Prelude.{◌↔◌, IsTrue, IsNone};
+ghost use Rattle.std.specs.Prelude.{take, drop};
+ghost use Rattle.std.specs.Prelude.{◌↔◌, ◌++◌, ◌∷◌, IsTrue, IsNone};
 ghost use Rattle.arrow_types.specs.Types.{LogicalType};
 ghost use Rattle.arrow_memory.specs.Rows.{FitsMask, rows_of};
-ghost use Rattle.arrow_column.specs.Column.{ColumnWith, append_nulls, append_slots, append_values, column_with};
+ghost use Rattle.arrow_column.specs.Column.{Column, ColumnWith, cut, append_nulls, append_slots, append_values, column_with};
 ghost use Rattle.arrow_column.specs.Column.{cut_with, joined, with_mask, with_slot, with_stored, with_type};
 ghost use Rattle.arrow_column.specs.Column.{FitsCut, mask_of, marks_of, slots_of, stored_values, all_valid};
 ghost use Rattle.arrow_column.specs.Column.{IsColumn, append_slot, last_slot, without_last, without_needless_mask};
@@ -128,4 +129,86 @@ pub fn push_then_pop<A, S>()
         → last_slot (append_slot default column slot) ≡ slot }
     ensures rows { (default : S) (column : ColumnWith A S) (slot : Option S)
         → (without_last (append_slot default column slot)).rows ≡ column.rows }
+{}
+
+/// The column of parts that fit: its stored values are the values, it has as many rows, and its
+/// marks are those of the mask, or all set if there is none.
+pub fn rows_of_parts<A, S>()
+    ensures is_column { (t : LogicalType) (around : A) (values : List S) (mask : Option (List Bool))
+        → IsColumn (column_with t around values mask) }
+    ensures values { (t : LogicalType) (around : A) (values : List S) (mask : Option (List Bool))
+        → FitsMask values mask → stored_values (column_with t around values mask) ≡ values }
+    ensures count { (t : LogicalType) (around : A) (values : List S) (mask : Option (List Bool))
+        → FitsMask values mask → length (column_with t around values mask).rows ≡ length values }
+    ensures mask { (t : LogicalType) (around : A) (values : List S) (mask : Option (List Bool))
+        → FitsMask values mask → mask_of (column_with t around values mask) ≡ mask }
+    ensures marks { (t : LogicalType) (around : A) (values : List S) (mask : Option (List Bool)) (marks : List Bool)
+        → FitsMask values mask → mask ≡ Some marks → marks_of (column_with t around values mask) ≡ marks }
+    ensures all_set { (t : LogicalType) (around : A) (values : List S) (mask : Option (List Bool)) → mask ≡ None
+        → marks_of (column_with t around values mask) ≡ replicate (length values) true }
+{}
+
+/// The slots of the column of parts that fit: each value where its mark is set and a null
+/// elsewhere, and all values if there is no mask.
+pub fn slots_of_parts<A, S>()
+    ensures masked { (t : LogicalType) (around : A) (values : List S) (mask : Option (List Bool)) (marks : List Bool)
+        (i : ℕ) (value : S) (mark : Bool) → FitsMask values mask → mask ≡ Some marks
+        → slice_get values i ≡ Some value → slice_get marks i ≡ Some mark
+        → slice_get (slots_of (column_with t around values mask)) i ≡ Some (if mark then Some value else None) }
+    ensures null { (t : LogicalType) (around : A) (values : List S) (mask : Option (List Bool)) (marks : List Bool)
+        (i : ℕ) → FitsMask values mask → mask ≡ Some marks → slice_get marks i ≡ Some false
+        → slice_get (slots_of (column_with t around values mask)) i ≡ Some None }
+    ensures bare { (t : LogicalType) (around : A) (values : List S) (mask : Option (List Bool)) → mask ≡ None
+        → slots_of (column_with t around values mask) ≡ map Some values }
+{}
+
+/// There is a slot for each row, and a slot that shows a value stores it.
+pub fn slots_by_rows<A, S>()
+    ensures count { (column : ColumnWith A S) → length (slots_of column) ≡ length column.rows }
+    ensures stored { (column : ColumnWith A S) (i : ℕ) (value : S) → slice_get (slots_of column) i ≡ Some (Some value)
+        → slice_get (stored_values column) i ≡ Some value }
+    ensures by_mark { (column : ColumnWith A S) (i : ℕ) (value : S) (mark : Bool)
+        → slice_get (stored_values column) i ≡ Some value → slice_get (marks_of column) i ≡ Some mark
+        → slice_get (slots_of column) i ≡ Some (if mark then Some value else None) }
+{}
+
+/// A builder shows what was appended to it, behind what it showed before, and a frozen column shows
+/// what the builder did.
+pub fn appended_slots<A, S>()
+    ensures one { (default : S) (column : ColumnWith A S) (slot : Option S)
+        → slots_of (append_slot default column slot) ≡ slots_of column ++ slot ∷ [] }
+    ensures many { (default : S) (column : ColumnWith A S) (slots : List (Option S))
+        → slots_of (append_slots default column slots) ≡ slots_of column ++ slots }
+    ensures values { (column : ColumnWith A S) (values : List S)
+        → slots_of (append_values column values) ≡ slots_of column ++ map Some values }
+    ensures nulls { (column : ColumnWith A S) (values : List S)
+        → slots_of (append_nulls column values) ≡ slots_of column ++ replicate (length values) None }
+    ensures frozen { (column : ColumnWith A S) → slots_of (without_needless_mask column) ≡ slots_of column }
+{}
+
+/// A column of joined rows shows the slots of both.
+pub fn joined_slots<A, B, S>()
+    ensures { (column : ColumnWith A S) (other : ColumnWith B S)
+        → slots_of (joined column other) ≡ slots_of column ++ slots_of other }
+{}
+
+/// A cut that fits has as many rows as were asked for, and its slot `i` is slot `a + i` of the
+/// column, whatever lies around its stored values.
+pub fn cut_slots<A, S>()
+    ensures count { (around : A → List S → ℕ → ℕ → A) (column : ColumnWith A S) (a n : ℕ) → FitsCut column a n
+        → length (cut_with around column a n).rows ≡ n }
+    ensures slot { (around : A → List S → ℕ → ℕ → A) (column : ColumnWith A S) (a n i : ℕ) → i < n
+        → slice_get (slots_of (cut_with around column a n)) i ≡ slice_get (slots_of column) (a + i) }
+    ensures value { (around : A → List S → ℕ → ℕ → A) (column : ColumnWith A S) (a n i : ℕ) → i < n
+        → slice_get (stored_values (cut_with around column a n)) i ≡ slice_get (stored_values column) (a + i) }
+    ensures all { (around : A → List S → ℕ → ℕ → A) (column : ColumnWith A S) (a n : ℕ)
+        → slots_of (cut_with around column a n) ≡ take n (drop a (slots_of column)) }
+{}
+
+/// The same of a column with nothing around its stored values.
+pub fn plain_cut_slots<S>()
+    ensures count { (column : Column S) (a n : ℕ) → FitsCut column a n → length (cut column a n).rows ≡ n }
+    ensures slot { (column : Column S) (a n i : ℕ) → i < n
+        → slice_get (slots_of (cut column a n)) i ≡ slice_get (slots_of column) (a + i) }
+    ensures all { (column : Column S) (a n : ℕ) → slots_of (cut column a n) ≡ take n (drop a (slots_of column)) }
 {}

@@ -23,4 +23,4 @@ pub use growing::GrowingColumn;
 pub use lend::LendValues;
 pub use mask::{is_growing_mask_of, is_mask_of};
 pub use room::ReserveItems;
-pub use values::{Grow, MutableValues, PushValue, Repeated, SetValue, Values};
+pub use values::{Grow, GrowFrom, MutableValues, PushValue, Repeated, SetValue, Values};

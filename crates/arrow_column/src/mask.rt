@@ -190,6 +190,53 @@ pub(crate) fn join_marks(
     }
 }
 
+/// Creates a mask of `slots` valid slots followed by the `len` marks of an array from `offset` on.
+fn marks_behind_range(
+    alloc: Global,
+    slots: usize,
+    others: &Bitmap,
+    offset: usize,
+    len: usize,
+) -> Result<MutableBitmap, Error>
+    requires { offset + len ≤ length others.now }
+    ensures ok { IfOk result (λ marks. marks ≡ replicate slots true ++ take len (drop offset others.now)) }
+    ensures err { OnlyOutOfMemory result }
+{
+    let mut marks = MutableBitmap::new(alloc);
+    marks.extend_constant(slots, true)?;
+    marks.extend_from_range(others, offset, len)?;
+    Ok(marks)
+}
+
+/// Appends the mask of the `len` slots of an array from `offset` on, as [`join_marks`].
+pub(crate) fn join_marks_of_range(
+    alloc: Global,
+    validity: &mut Option<MutableBitmap>,
+    slots: usize,
+    others: &Option<Bitmap>,
+    offset: usize,
+    len: usize,
+) -> Result<(), Error>
+    requires { IfSome others.now (λ marks. offset + len ≤ length marks) }
+    ensures ok { OnOk result (validity.new ≡ joined_mask validity.old slots
+        (option_map (λ marks. take len (drop offset marks)) others.now) len) }
+    ensures err { OutOfMemoryKeeps result validity.old validity.new }
+{
+    match validity {
+        Some(marks) => match others {
+            Some(others) => marks.extend_from_range(others, offset, len),
+            None => marks.extend_constant(len, true),
+        },
+        None => match others {
+            Some(others) => {
+                *validity = Some(marks_behind_range(alloc, slots, others, offset, len)?);
+                Ok(())
+            }
+            None => Ok(()),
+        },
+    }
+}
+
 /// Sets the mark at `i`, if a mask is held.
 #[inline(always)]
 pub(crate) fn set_valid_mark(validity: &mut Option<MutableBitmap>, i: usize)

@@ -245,6 +245,22 @@ pub trait Grow<X>: MutableValues {
             (Self.stored self.old) (Self.stored self.new) };
 }
 
+/// Values to which a range of those of an array can be appended.
+pub trait GrowFrom<F: Values<Stored = Self::Stored>>: MutableValues {
+    /// Appends the `len` values of an array from `offset` on.
+    ///
+    /// # Errors
+    /// As [`MutableValues::append`].
+    fn grow_from(&mut self, other: &F, offset: usize, len: usize) -> Result<(), Error>
+        requires { offset + len ≤ length (F.stored other.now) }
+        ensures ok { Grows result (Self.join_overflows (Self.around self.old) (Self.stored self.old)
+            (take len (drop offset (F.stored other.now))))
+            (Self.stored self.new) (Self.stored self.old ++ take len (drop offset (F.stored other.now))) }
+        ensures around { Self.around self.new ≡ Self.around self.old }
+        ensures err { GrowthKeeps result (Self.join_overflows (Self.around self.old) (Self.stored self.old)
+            (take len (drop offset (F.stored other.now)))) (Self.stored self.old) (Self.stored self.new) };
+}
+
 impl<T: NativeType> MutableValues for Vec<T> {
     type Stored = T;
 
@@ -436,6 +452,20 @@ impl<'a, T: NativeType> Grow<&'a [T]> for Vec<T> {
     fn grow(&mut self, values: &'a [T]) -> Result<usize, Error> {
         self.extend_from_slice(values)?;
         Ok(values.len())
+    }
+}
+
+impl<T: NativeType> GrowFrom<Buffer<T>> for Vec<T> {
+    #[inline(always)]
+    fn grow_from(&mut self, other: &Buffer<T>, offset: usize, len: usize) -> Result<(), Error> {
+        Ok(self.extend_from_slice(&other.as_slice()[offset..offset + len])?)
+    }
+}
+
+impl GrowFrom<Bitmap> for MutableBitmap {
+    #[inline(always)]
+    fn grow_from(&mut self, other: &Bitmap, offset: usize, len: usize) -> Result<(), Error> {
+        self.extend_from_range(other, offset, len)
     }
 }
 

@@ -1,12 +1,13 @@
 //! Builders of arrays of native values.
-ghost use Rattle.std.specs.Prelude.{◌≡◌, ◌<◌, ◌≤◌, length, Some, None, OnOk, IfOk, IfErr, IsOk};
+ghost use Rattle.std.specs.Prelude.{◌≡◌, ◌↔◌, ◌<◌, ◌≤◌, IsTrue, length, not, count_by, slice_get, Some, None};
+ghost use Rattle.std.specs.Prelude.{OnOk, IfOk, IfErr, IsOk};
 ghost use Rattle.std.specs.Option.{option_copied};
 ghost use Rattle.arrow_types.specs.Failures.{OnlyOutOfMemory, OutOfMemoryKeeps};
 ghost use Rattle.arrow_types.specs.Types.{logical_type, IsRightType, default_logical_type};
 ghost use Rattle.arrow_memory.specs.Rows.{FitsMask};
 ghost use Rattle.arrow_column.specs.Column.{Column, IsColumn, append_slot, column_of_parts, empty_column};
-ghost use Rattle.arrow_column.specs.Column.{without_needless_mask, last_slot, mask_of, stored_values, with_slot};
-ghost use Rattle.arrow_column.specs.Column.{with_type, without_last};
+ghost use Rattle.arrow_column.specs.Column.{without_needless_mask, last_slot, marks_of, mask_of, slots_of};
+ghost use Rattle.arrow_column.specs.Column.{stored_values, with_slot, with_type, without_last};
 
 use crate::PrimitiveArray;
 use arrow_column::GrowingColumn;
@@ -136,6 +137,43 @@ impl<T: NativeType> MutablePrimitiveArray<T> {
         ensures { result ≡ length self.now.rows }
     {
         self.column.len()
+    }
+
+    /// Returns whether there is no slot.
+    #[inline(always)]
+    pub fn is_empty(&self) -> bool
+        ensures { IsTrue result ↔ length self.now.rows ≡ 0 }
+    {
+        self.column.is_empty()
+    }
+
+    /// Returns the slot at `i`: its value, or `None` if it is null.
+    #[inline(always)]
+    pub fn get(&self, i: usize) -> Option<T>
+        requires { i < length self.now.rows }
+        ensures { slice_get (slots_of self.now) i ≡ Some result }
+    {
+        if self.column.is_null(i) {
+            return None;
+        }
+        Some(self.column.values()[i])
+    }
+
+    /// Returns whether the slot at `i` is null.
+    #[inline(always)]
+    pub fn is_null(&self, i: usize) -> bool
+        requires { i < length self.now.rows }
+        ensures { slice_get (marks_of self.now) i ≡ Some (not result) }
+    {
+        self.column.is_null(i)
+    }
+
+    /// Returns the number of null slots. Counts them if a mask is held.
+    #[inline(always)]
+    pub fn null_count(&self) -> usize
+        ensures { result ≡ count_by not (marks_of self.now) }
+    {
+        self.column.null_count()
     }
 
     /// Returns the number of values for which there is room; a mask may have less.

@@ -2,9 +2,9 @@
 ghost use Rattle.std.specs.Prelude.{◌≡◌, List, Option, Some, None, map, replicate, IfSome, IfNone, OnOk, IfErr};
 ghost use Rattle.std.specs.Iterator.{Drains, IsFinite, Yields};
 ghost use Rattle.arrow_types.specs.Failures.{OutOfMemoryKeeps};
-ghost use Rattle.arrow_column.specs.Column.{append_nulls, append_slots, append_values, joined};
+ghost use Rattle.arrow_column.specs.Column.{append_nulls, append_slots, append_values, cut, FitsCut, joined};
 
-use crate::MutablePrimitiveArray;
+use crate::{MutablePrimitiveArray, PrimitiveArray};
 use arrow_column::Repeated;
 use arrow_types::error::Error;
 use arrow_types::native_type::NativeType;
@@ -104,5 +104,23 @@ impl<T: NativeType> MutablePrimitiveArray<T> {
         ensures err { OutOfMemoryKeeps result self.old self.new }
     {
         self.column.try_extend_from_self(&other.column)
+    }
+
+    /// Appends the rows of the `len` slots of an array from `offset` on. The data type stays; a
+    /// mask is held if the builder or the array held one.
+    ///
+    /// # Errors
+    /// `OutOfMemory` if an allocation fails; the builder is then unchanged.
+    pub fn extend_from_array(
+        &mut self,
+        array: &PrimitiveArray<T>,
+        offset: usize,
+        len: usize,
+    ) -> Result<(), Error>
+        requires { FitsCut array.now offset len }
+        ensures ok { OnOk result (self.new ≡ joined self.old (cut array.now offset len)) }
+        ensures err { OutOfMemoryKeeps result self.old self.new }
+    {
+        self.column.extend_from_frozen(&array.column, offset, len)
     }
 }

@@ -1,7 +1,7 @@
 //! Iterators over arrays and builders.
-ghost use Rattle.std.specs.Prelude.{◌≡◌};
+ghost use Rattle.std.specs.Prelude.{◌≡◌, take, drop};
 ghost use Rattle.std.specs.Slice.Iter.{iter_rest};
-ghost use Rattle.arrow_column.specs.Column.{slots_of, stored_values};
+ghost use Rattle.arrow_column.specs.Column.{FitsCut, slots_of, stored_values};
 
 use crate::{MutablePrimitiveArray, PrimitiveArray};
 use arrow_memory::bitmap::{BitmapIntoIter, BitmapIter};
@@ -17,6 +17,16 @@ impl<T: NativeType> PrimitiveArray<T> {
         ensures { result ≡ slots_of self.now }
     {
         ZipValidity::new(self.column.values().as_slice().iter(), self.column.marks())
+    }
+
+    /// Returns an iterator over the `len` slots from `offset` on.
+    #[inline(always)]
+    pub fn iter_range(&self, offset: usize, len: usize) -> ZipValidity<Iter<'_, T>, BitmapIter<'_>>
+        requires { FitsCut self.now offset len }
+        ensures { result ≡ take len (drop offset (slots_of self.now)) }
+    {
+        let values = &self.column.values().as_slice()[offset..offset + len];
+        ZipValidity::new(values.iter(), self.column.marks_range(offset, len))
     }
 
     /// Returns an iterator over the stored values, those of null slots included.

@@ -3,11 +3,14 @@
 mod arrays;
 mod builders;
 mod equal;
+mod extend_from_array;
 mod growth;
 mod made;
 mod named;
 mod parts;
+mod ranges;
 mod shared;
+mod slots;
 
 use arrow_primitive::{MutablePrimitiveArray, PrimitiveArray};
 use arrow_testing::{all_told, is_mask, told};

@@ -10,7 +10,7 @@ invariant_of-self g c =
     let bytes = c.self.inside.bytes.items in
     let end : c.to_usize-end.result ≡ last_of c.truncate.new.self = search rules in
     let within : last_of os ≤ length bytes = omega (arith, c.self.invariant.1) in
-    let low : c.len_proxy.result - 1 < length os = omega (arith, c.len_proxy.ensures) in (
+    let low : c.len_proxy.result - 1 < length os = omega (arith, c.len_proxy.ensures.count) in (
       c.last.ensures.legal,
       rw (c.truncate-2.ensures.items, end, c.truncate.ensures) (ends-short (c.len_proxy.result - 1) os bytes
           c.self.invariant.0 within low),

@@ -1,0 +1,66 @@
+//! The slots of a part of an array, which an iterator borrows.
+use arrow_boolean::BooleanArray;
+use arrow_testing::{all_told, told};
+use arrow_types::error::Error;
+use std::test::Fail;
+
+/// Whether the part of an array from a place on has these slots, in order and from its end.
+fn has(array: &BooleanArray, offset: usize, slots: &[Option<bool>]) -> bool {
+    let len = slots.len();
+    if array.len() < offset || array.len() - offset < len {
+        return false;
+    }
+    let mut part = array.iter_range(offset, len);
+    for slot in slots {
+        if part.next() != Some(*slot) {
+            return false;
+        }
+    }
+    let mut back = array.iter_range(offset, len);
+    let is_sized = back.size_hint() == (len, Some(len));
+    for i in 0..len {
+        if back.next_back() != Some(slots[len - 1 - i]) {
+            return false;
+        }
+    }
+    is_sized && part.next().is_none() && back.next_back().is_none()
+}
+
+/// Whether parts of an array of eleven slots have theirs, and so do parts of its last ten.
+fn are_parts(mut array: BooleanArray, slots: &[Option<bool>]) -> bool {
+    if array.len() != 11 || slots.len() != 11 {
+        return false;
+    }
+    let are_whole = has(&array, 0, slots) && has(&array, 1, &slots[1..4]);
+    let are_ends = has(&array, 7, &slots[7..]) && has(&array, 0, &[]) && has(&array, 11, &[]);
+    array.slice(1, 10);
+    are_whole && are_ends && has(&array, 0, &slots[1..]) && has(&array, 6, &slots[7..10])
+}
+
+/// Whether those of the array that was made do.
+fn have_parts(array: Result<BooleanArray, Error>, slots: &[Option<bool>]) -> Result<bool, Error> {
+    match array {
+        Ok(array) => Ok(are_parts(array, slots)),
+        Err(refused) => Err(refused),
+    }
+}
+
+#[test]
+fn parts_of_arrays(rt: HostRuntime) -> Result<(), Fail> {
+    let (yes, no) = (Some(true), Some(false));
+    let slots = [yes, None, no, yes, yes, None, None, no, yes, None, no];
+    let values = [
+        true, false, false, true, true, false, true, false, true, false, false,
+    ];
+    let valid = [yes, no, no, yes, yes, no, yes, no, yes, no, no];
+    all_told(&[
+        have_parts(
+            BooleanArray::from(rt.alloc(), slots.as_slice()),
+            slots.as_slice(),
+        ),
+        have_parts(
+            BooleanArray::from_slice(rt.alloc(), values.as_slice()),
+            valid.as_slice(),
+        ),
+    ])
+}

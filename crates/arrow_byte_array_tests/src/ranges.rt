@@ -1,0 +1,123 @@
+//! The slots and the stored items of a part of an array, which an iterator borrows.
+use arrow_binary::BinaryArray;
+use arrow_byte_array::ByteArray;
+use arrow_bytes::{Binary, ByteKind, Utf8};
+use arrow_memory::buffer::Buffer;
+use arrow_testing::{frozen_mask, frozen_offsets};
+use arrow_types::error::Error;
+use arrow_types::offset::Offset;
+use arrow_utf8::Utf8Array;
+use std::alloc::Global;
+use std::test::Fail;
+
+/// Whether the part of an array of text from a place on has these slots, in order and from its end.
+fn are_texts<O: Offset>(array: &Utf8Array<O>, offset: usize, slots: &[Option<&str>]) -> bool {
+    let len = slots.len();
+    if array.len() < offset || array.len() - offset < len {
+        return false;
+    }
+    let (mut part, mut back) = (array.iter_range(offset, len), array.iter_range(offset, len));
+    let is_sized = part.size_hint() == (len, Some(len));
+    for i in 0..len {
+        if part.next() != Some(slots[i]) || back.next_back() != Some(slots[len - 1 - i]) {
+            return false;
+        }
+    }
+    is_sized & part.next().is_none() & back.next_back().is_none()
+}
+
+/// Whether that of an array of bytes has.
+fn are_bytes<O: Offset>(array: &BinaryArray<O>, offset: usize, slots: &[Option<&[u8]>]) -> bool {
+    let len = slots.len();
+    if array.len() < offset || array.len() - offset < len {
+        return false;
+    }
+    let (mut part, mut back) = (array.iter_range(offset, len), array.iter_range(offset, len));
+    let is_sized = part.size_hint() == (len, Some(len));
+    for i in 0..len {
+        if part.next() != Some(slots[i]) || back.next_back() != Some(slots[len - 1 - i]) {
+            return false;
+        }
+    }
+    is_sized & part.next().is_none() & back.next_back().is_none()
+}
+
+/// Whether an array of text stores two items from a place on.
+fn stores_texts<O: Offset>(array: &Utf8Array<O>, offset: usize, first: &str, last: &str) -> bool {
+    if array.len() < offset || array.len() - offset < 2 {
+        return false;
+    }
+    let mut items = array.values_iter_range(offset, 2);
+    let is_sized = items.len() == 2;
+    let are_ends = (items.next_back() == Some(last)) & (items.next() == Some(first));
+    is_sized & are_ends & items.next().is_none()
+}
+
+/// Whether an array of bytes does.
+fn stores_bytes<O: Offset>(
+    array: &BinaryArray<O>,
+    offset: usize,
+    first: &[u8],
+    last: &[u8],
+) -> bool {
+    if array.len() < offset || array.len() - offset < 2 {
+        return false;
+    }
+    let mut items = array.values_iter_range(offset, 2);
+    let is_sized = items.len() == 2;
+    let are_ends = (items.next_back() == Some(last)) & (items.next() == Some(first));
+    is_sized & are_ends & items.next().is_none()
+}
+
+/// An array of items of two, no, one and three bytes under marks, which lie between other bytes.
+fn marked<K: ByteKind, O: Offset>(alloc: Global, mask: &str) -> Result<ByteArray<K, O>, Error> {
+    let offsets = frozen_offsets::<O>(alloc, &[1, 3, 3, 4, 7])?;
+    let values = Buffer::from_vec(b"-abcdef-".as_slice().to_vec(alloc)?)?;
+    let validity = frozen_mask(alloc, mask)?;
+    ByteArray::try_new(K::default_type(O::IS_LARGE), offsets, values, validity)
+}
+
+/// An array without its first slot.
+fn without_first<K: ByteKind, O: Offset>(mut array: ByteArray<K, O>) -> ByteArray<K, O> {
+    if array.len() > 0 {
+        array.slice(1, array.len() - 1);
+    }
+    array
+}
+
+/// Whether parts of an array of text have their slots and items, a null that stores bytes too, and so has a part of a
+/// slice.
+fn parts_of_texts<O: Offset>(alloc: Global) -> Result<bool, Error> {
+    let array = marked::<Utf8, O>(alloc, "1101")?;
+    let slots = [Some("ab"), Some(""), None, Some("def")];
+    let are_whole = are_texts(&array, 0, slots.as_slice());
+    let are_last = are_texts(&array, 2, &[None, Some("def")]);
+    let are_none = are_texts(&array, 1, &[]) & are_texts(&array, 4, &[]);
+    let are_stored = stores_texts(&array, 2, "c", "def");
+    let rest = without_first(array);
+    let are_cut = are_texts(&rest, 1, &[None]) & stores_texts(&rest, 0, "", "c");
+    Ok(are_whole & are_last & are_none & are_stored & are_cut)
+}
+
+/// Whether parts of an array of bytes without a mask do.
+fn parts_of_bytes<O: Offset>(alloc: Global) -> Result<bool, Error> {
+    let array = marked::<Binary, O>(alloc, "none")?;
+    let (first, third) = (b"ab".as_slice(), b"c".as_slice());
+    let slots = [Some(first), Some(&[]), Some(third)];
+    let are_first = are_bytes(&array, 0, slots.as_slice());
+    let is_third = are_bytes(&array, 2, &[Some(third)]);
+    let are_none = are_bytes(&array, 4, &[]);
+    let are_stored = stores_bytes(&array, 1, &[], third);
+    let rest = without_first(array);
+    let is_cut = are_bytes(&rest, 1, &[Some(third)]) & stores_bytes(&rest, 1, third, b"def");
+    Ok(are_first & is_third & are_none & are_stored & is_cut)
+}
+
+#[test]
+fn parts_of_arrays(rt: HostRuntime) -> Result<(), Fail> {
+    assert!(rt; parts_of_texts::<i32>(rt.alloc())?);
+    assert!(rt; parts_of_texts::<i64>(rt.alloc())?);
+    assert!(rt; parts_of_bytes::<i32>(rt.alloc())?);
+    assert!(rt; parts_of_bytes::<i64>(rt.alloc())?);
+    Ok(())
+}

@@ -1,0 +1,223 @@
+//! Builders that take a range of an array's slots: their bytes, those of nulls too, and their marks, and how that ends
+//! where the bytes would end past the greatest offset, which is 100 of `Tiny`.
+ghost use Rattle.std.specs.Prelude.{IsTrue};
+ghost use Rattle.arrow_column.specs.Column.{FitsCut};
+
+use super::*;
+use arrow_bytes::ByteKind;
+use arrow_testing::{Tiny, tells};
+use std::process::Abort;
+
+/// A builder, an array, the slice of this that is taken first, the range of that slice, what is answered, and what the
+/// builder has then.
+type Case = (
+    Pieces,
+    Pieces,
+    (usize, usize),
+    (usize, usize),
+    &'static str,
+    Pieces,
+);
+
+/// Whether an array has this range of slots.
+fn has<K: ByteKind, O: Offset>(array: &ByteArray<K, O>, offset: usize, len: usize) -> bool
+    ensures { IsTrue result → FitsCut array.now offset len }
+{
+    offset <= array.len() && len <= array.len() - offset
+}
+
+/// Cuts an array to these slots, where it has them.
+fn cut<K: ByteKind, O: Offset>(array: &mut ByteArray<K, O>, offset: usize, len: usize) -> bool {
+    let is_there = has(array, offset, len);
+    if is_there {
+        array.slice(offset, len);
+    }
+    is_there
+}
+
+/// Whether this is answered to a range of an array.
+fn answers<K: ByteKind, O: Offset>(
+    builder: &mut MutableByteArray<K, O>,
+    array: &ByteArray<K, O>,
+    range: (usize, usize),
+    answer: &'static str,
+) -> bool {
+    let (offset, len) = range;
+    has(array, offset, len) && tells(builder.extend_from_array(array, offset, len)) == answer
+}
+
+/// Whether it goes so.
+fn joins<K: Known, O: Offset>(alloc: Global, rt: &impl Abort, case: &Case) -> bool {
+    let (first, second, slice, range, answer, joined) = *case;
+    let mut array = array_of::<K, O>(alloc, second).expect(rt, "memory");
+    let is_cut = cut(&mut array, slice.0, slice.1);
+    let mut builder = builder_of::<K, O>(alloc, first).expect(rt, "memory");
+    let is_joined = is_cut & answers(&mut builder, &array, range, answer) & builder.shows(joined);
+    drop(builder);
+    drop(array);
+    is_joined
+}
+
+/// Whether it does of a kind over both widths of offsets.
+fn both_join<K: Known>(alloc: Global, rt: &impl Abort, case: &Case) -> bool {
+    let is_narrow = joins::<K, i32>(alloc, rt, case);
+    is_narrow & joins::<K, i64>(alloc, rt, case)
+}
+
+/// Items of one, no and two bytes, the second of which is null, with bytes around them that are no text.
+const AROUND: Pieces = (&[2, 3, 3, 5], b"\xFF\xFF\x01\x04\x04\xC3", "101");
+
+/// Eleven items of a byte.
+const BARE: Pieces = (
+    &[0, 1, 2, 3, 4, 5, 6, 7, 8, 9, 10, 11],
+    b"abcdefghijk",
+    "none",
+);
+
+/// The same; the nulls store `b`, `f` and `j`.
+const MASKED: Pieces = (
+    &[0, 1, 2, 3, 4, 5, 6, 7, 8, 9, 10, 11],
+    b"abcdefghijk",
+    "10111011101",
+);
+
+/// Only the bytes of the range come. A mask is held where either has one, also where no slot of the range is null, or none
+/// is in it.
+const CASES: &[Case] = &[
+    (
+        NOTHING,
+        AROUND,
+        (0, 3),
+        (0, 3),
+        "made",
+        (&[0, 1, 1, 3], b"\x01\x04\x04", "101"),
+    ),
+    (
+        (&[1, 2, 3], b"\xFFyz", "10"),
+        AROUND,
+        (1, 2),
+        (1, 1),
+        "made",
+        (&[1, 2, 3, 5], b"\xFFyz\x04\x04", "101"),
+    ),
+    (
+        (&[1, 2, 3], b"\xFFyz", "none"),
+        AROUND,
+        (0, 3),
+        (3, 0),
+        "made",
+        (&[1, 2, 3], b"\xFFyz", "11"),
+    ),
+    (
+        ITEMS,
+        BARE,
+        (0, 11),
+        (3, 4),
+        "made",
+        (&[0, 2, 2, 7, 8, 9, 10, 11], b"\xC3\xA9theredefg", "none"),
+    ),
+    (
+        SLOTS,
+        BARE,
+        (0, 11),
+        (3, 4),
+        "made",
+        (&[0, 2, 2, 7, 8, 9, 10, 11], b"\xC3\xA9theredefg", "1011111"),
+    ),
+    (
+        ITEMS,
+        MASKED,
+        (1, 9),
+        (4, 5),
+        "made",
+        (
+            &[0, 2, 2, 7, 8, 9, 10, 11, 12],
+            b"\xC3\xA9therefghij",
+            "11101110",
+        ),
+    ),
+    (
+        SLOTS,
+        MASKED,
+        (0, 11),
+        (2, 9),
+        "made",
+        (
+            &[0, 2, 2, 7, 8, 9, 10, 11, 12, 13, 14, 15, 16],
+            b"\xC3\xA9therecdefghijk",
+            "101111011101",
+        ),
+    ),
+    (NOTHING, BARE, (4, 0), (0, 0), "made", NOTHING),
+];
+
+#[test]
+fn ranges_of_arrays_are_appended(rt: HostRuntime) {
+    for case in CASES {
+        let are_bytes = both_join::<Binary>(rt.alloc(), &rt, case);
+        assert!(rt; are_bytes & both_join::<Utf8>(rt.alloc(), &rt, case));
+    }
+}
+
+const SIXTY: &[u8] = &[7; 60];
+
+const EIGHTY_ONE: &[u8] = &[7; 81];
+
+const NINETY: &[u8] = &[7; 90];
+
+const HUNDRED: &[u8] = &[7; 100];
+
+/// Items of forty bytes, one byte and thirty, between ten bytes that are counted nowhere.
+const LONG: Pieces = (&[5, 45, 46, 76], EIGHTY_ONE, "101");
+
+/// What ends one past the greatest offset is refused, and the builder is as it was. Other slots of the array don't count.
+const CASES_THAT_END: &[Case] = &[
+    (
+        (&[0, 60], SIXTY, "none"),
+        LONG,
+        (0, 3),
+        (0, 2),
+        "overflow",
+        (&[0, 60], SIXTY, "none"),
+    ),
+    (
+        (&[0, 60], SIXTY, "none"),
+        LONG,
+        (0, 3),
+        (0, 1),
+        "made",
+        (&[0, 60, 100], HUNDRED, "11"),
+    ),
+    (
+        (&[30, 60], SIXTY, "0"),
+        LONG,
+        (1, 2),
+        (1, 1),
+        "made",
+        (&[30, 60, 90], NINETY, "01"),
+    ),
+    (
+        (&[100], HUNDRED, "none"),
+        LONG,
+        (0, 3),
+        (1, 1),
+        "overflow",
+        (&[100], HUNDRED, "none"),
+    ),
+    (
+        (&[100], HUNDRED, "none"),
+        LONG,
+        (0, 3),
+        (2, 0),
+        "made",
+        (&[100], HUNDRED, ""),
+    ),
+];
+
+#[test]
+fn ranges_end_at_the_greatest_offset(rt: HostRuntime) {
+    for case in CASES_THAT_END {
+        let are_bytes = joins::<Binary, Tiny>(rt.alloc(), &rt, case);
+        assert!(rt; are_bytes & joins::<Utf8, Tiny>(rt.alloc(), &rt, case));
+    }
+}
