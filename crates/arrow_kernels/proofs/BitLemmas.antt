@@ -171,12 +171,20 @@ both-bit zero (suc (suc b)) p q = absurd (omega arith)
 both-bit (suc zero) (suc (suc b)) p q = absurd (omega arith)
 both-bit (suc (suc a)) b p q = absurd (omega arith)
 
--- 64 of them, found in words
+-- one of 64 of them, found in words
+pub both-found : (values marks : List Bool) (n v m : ℕ)
+    → ((k : ℕ) → k < 64 → slice_get values (n + k) ≡ Some (bit_at v k == 1))
+    → ((k : ℕ) → k < 64 → slice_get marks (n + k) ≡ Some (bit_at m k == 1))
+    → (k : ℕ) → k < 64 → slice_get (set_in_both values marks) (n + k) ≡ Some (bit_at (bit_and v m) k == 1)
+both-found values marks n v m read held k low =
+    both-at values marks (n + k) (bit_at v k == 1) (bit_at m k == 1) (read k low) (held k low)
+    ∙ ap Some (both-bit (bit_at v k) (bit_at m k) (bit_at-lt v k) (bit_at-lt m k)
+    ∙ ap (λ x. x == 1) (sym (bit_at_and v m k)))
+
+-- all of them
 pub both-word : (values marks : List Bool) (n v m : ℕ)
     → ((k : ℕ) → k < 64 → slice_get values (n + k) ≡ Some (bit_at v k == 1))
     → ((k : ℕ) → k < 64 → slice_get marks (n + k) ≡ Some (bit_at m k == 1))
     → take (n + 64) (set_in_both values marks) ≡ take n (set_in_both values marks) ++ bits_of (bit_and v m) 64
-both-word values marks n v m read held = take-bits (set_in_both values marks) n 64 (bit_and v m) (λ k low.
-    both-at values marks (n + k) (bit_at v k == 1) (bit_at m k == 1) (read k low) (held k low)
-    ∙ ap Some (both-bit (bit_at v k) (bit_at m k) (bit_at-lt v k) (bit_at-lt m k)
-    ∙ ap (λ x. x == 1) (sym (bit_at_and v m k))))
+both-word values marks n v m read held =
+    take-bits (set_in_both values marks) n 64 (bit_and v m) (both-found values marks n v m read held)

@@ -2,3 +2,5 @@
 
 -- Some of a list, as a filter or keys choose them: what is said of each of these is said of each of the list first.
 pub use Rattle.arrow_kernels.proofs.ChoiceLemmas.{keys-map, where-map}
+-- How many a filter asks for of its slots, and how many marks leave.
+pub use Rattle.arrow_kernels.proofs.LawLemmas.{length-asked, length-where}

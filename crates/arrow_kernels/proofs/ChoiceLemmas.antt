@@ -328,7 +328,7 @@ marked t nothing rows true e = column_again t nothing false rows (λ _. e)
 marked t nothing rows false e = column_again t nothing true rows (λ f. cc)
 
 -- stored values and the mask that they need make a column of their rows
-needed : {A S : Type 0} (t : LogicalType) (nothing : A) (held : Bool) (rows : List (Row S))
+pub needed : {A S : Type 0} (t : LogicalType) (nothing : A) (held : Bool) (rows : List (Row S))
     → (held ≡ false → IsTrue (list_all (λ row. row.1) rows))
     → column_with t nothing (map (λ row. row.0) rows) (mask_with_nulls (if held then Some (map (λ row. row.1) rows)
     else None))
@@ -341,7 +341,7 @@ needed t nothing true rows h =
     (marks-all rows)
     ∙ marked t nothing rows (list_all (λ row. row.1) rows) refl
 
-needed-fits : {S : Type 0} (held : Bool) (rows : List (Row S))
+pub needed-fits : {S : Type 0} (held : Bool) (rows : List (Row S))
     → FitsMask (map (λ row. row.0) rows) (mask_with_nulls (if held then Some (map (λ row. row.1) rows) else None))
 needed-fits false rows = tt
 needed-fits {S} true rows = by_test (list_all (λ mark. mark) (map (λ (row : Row S). row.1) rows))

@@ -1,8 +1,8 @@
 -- Lemmas about items, and the offsets and bytes that they have alone.
 use Rattle.std.proofs.Common.{◌≡◌, ℕ, zero, suc, ◌+◌, ◌-◌, ◌<◌, ◌≤◌, ℤ, Bool, true, false, List, [], ◌∷◌, ◌++◌}
-use Rattle.std.proofs.Common.{length, take, drop, get_or, slice_get, Option, Some, None, option_and_then, refl, sym}
-use Rattle.std.proofs.Common.{subst, ap, ap₂, ◌∙◌, arith, append_assoc, length-append, zero-add}
-use Rattle.std.specs.Prelude.{All, IfErr, IfOk, IfSome, OnOk, Result, Ok, Err, nat_lt}
+use Rattle.std.proofs.Common.{length, take, drop, slice_get, Option, Some, None, option_and_then, refl, sym}
+use Rattle.std.proofs.Common.{subst, ap, ap₂, ◌∙◌, arith, length-append, zero-add}
+use Rattle.std.specs.Prelude.{All, IfErr, IfOk, IfSome, OnOk, Result, Ok, Err, nat_lt, slice_range}
 use Rattle.std.specs.List.{concat, cons_option}
 use Rattle.std.proofs.Math.Seq.{drop-length}
 use Rattle.std.proofs.lemmas.Bool.{le-ltb, lt-ltb}
@@ -15,7 +15,7 @@ use Rattle.arrow_types.specs.declared.error.Error.TheVariants as error
 use Rattle.arrow_column.specs.Column.{stored_values}
 use Rattle.arrow_memory.specs.Offsets.{first_of, IsOffsets, last_of, moved_behind}
 use Rattle.arrow_memory.proofs.CallerLemmas.{legal-piece}
-use Rattle.arrow_check.specs.Pieces.{bytes_between, bytes_of, ends_after, items_after, items_of, lead_of}
+use Rattle.arrow_check.specs.Pieces.{ends_after, items_of, lead_of}
 use Rattle.arrow_check.specs.Pieces.{offsets_of, tail_of}
 use Rattle.arrow_check.specs.Utf8.{IsWellFormed}
 use Rattle.arrow_bytes.specs.Column.{ByteColumn, bytes_held, offsets_held}
@@ -67,7 +67,7 @@ items-alone items = ap (items_of (offsets_of 0 items)) (sym (append-nil (concat 
 
 -- the bytes that offsets cut items out of
 cut-bytes : (os bytes : List ℕ) → IsOffsets os → last_of os ≤ length bytes
-    → concat (items_of os bytes) ≡ bytes_between (first_of os) (last_of os) bytes
+    → concat (items_of os bytes) ≡ slice_range bytes (first_of os) (last_of os)
 cut-bytes os bytes legal within =
     sym (
     ap (λ all. take (last_of os - first_of os) (drop (first_of os) all)) (sym (bytes-again os bytes legal))
@@ -84,12 +84,12 @@ cut-bytes os bytes legal within =
 module _ (items : List (List ℕ)) (piece others old new held longer : List ℕ) (legal : IsOffsets piece)
     (within : last_of piece ≤ length others) (was : old ≡ offsets_of 0 items) (joined : held ≡ concat items)
     (ends : IsOffsets new) (appended : new ≡ old ++ moved_behind (last_of old) piece) (copied : longer ≡ held
-    ++ bytes_between (first_of piece) (last_of piece) others) where
+    ++ slice_range others (first_of piece) (last_of piece)) where
   behind : List ℕ
   behind = offsets_of 0 items ++ moved_behind (last_of (offsets_of 0 items)) piece
 
   whole : List ℕ
-  whole = concat items ++ bytes_between (first_of piece) (last_of piece) others
+  whole = concat items ++ slice_range others (first_of piece) (last_of piece)
 
   is-behind : new ≡ behind
   unfolding behind

@@ -1,6 +1,9 @@
 pub mod BitLemmas
 pub mod CallerLemmas
 pub mod ChoiceLemmas
+pub mod CountLemmas
 pub mod ItemLemmas
+pub mod JoinLemmas
 pub mod RunLemmas
 pub mod WordLemmas
+mod LawLemmas

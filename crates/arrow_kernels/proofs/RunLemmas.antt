@@ -1,18 +1,17 @@
 -- Lemmas about runs of set bits of words, and about runs of rows that are asked for.
 use Rattle.std.proofs.Common.{◌≡◌, ℕ, zero, suc, ◌+◌, ◌-◌, ◌*◌, ◌/◌, ◌%◌, ◌^◌, ◌<◌, ◌≤◌, ◌==◌, min, bit_and, w64}
-use Rattle.std.proofs.Common.{Bool, true, false, List, [], ◌∷◌, ◌++◌, length, replicate, take, slice_get, Some}
+use Rattle.std.proofs.Common.{Bool, true, List, [], ◌∷◌, ◌++◌, length, replicate, take, slice_get, Some}
 use Rattle.std.proofs.Common.{refl, sym, subst, ap, ap₂, ◌∙◌, inl, inr, arith, add_comm, append_assoc}
 use Rattle.std.proofs.Common.{mul-le-mul_right}
 use Rattle.std.specs.Int.{bit_at, bit_not, trailing_ones, trailing_zeros}
 use Rattle.std.proofs.Math.Nat.{pow-le-pow_right}
 use Rattle.std.proofs.Math.Seq.{take-length}
 use Rattle.std.proofs.lemmas.Bool.{cases_eq, cases_lt}
-use Rattle.std.proofs.lemmas.List.{append-nil, length-replicate, length-take-le, replicate_more}
+use Rattle.std.proofs.lemmas.List.{append-nil, length-take-le, replicate_more}
 use Rattle.std.proofs.lemmas.Nat.{and_le_r, pow-add, shl_whole, shr-shr, shr_below, shr_le}
-use Rattle.std.proofs.lemmas.Nat.Bits.{bit_at_above, bit_at_and, bit_at_cat_high, bit_at_cat_low, bit_at_lowest}
+use Rattle.std.proofs.lemmas.Nat.Bits.{bit_at_above, bit_at_and, bit_at_cat_high, bit_at_cat_low}
 use Rattle.std.proofs.lemmas.Nat.Bits.{bit_at_ones, bit_at-trailing_ones, bit_at-trailing_zeros, bit_at-zero}
 use Rattle.std.proofs.lemmas.Nat.Bits.{ones_shr}
-use Rattle.std.proofs.lemmas.Option.{slice_get_within}
 use Rattle.arrow_memory.specs.Marks.{bits_of}
 use Rattle.arrow_bytes.specs.Selection.{where_set}
 use Rattle.arrow_kernels.proofs.BitLemmas.{length-bits, slice_get-bits, take-bits, taken-more}

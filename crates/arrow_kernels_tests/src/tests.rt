@@ -41,6 +41,12 @@ trait Chosen: Drop + Sized {
 
     /// What keys take.
     fn taken(&self, alloc: Global, keys: &[Self::Key]) -> Result<Self, Error>;
+
+    /// So many of its slots from a place on; where it hasn't so many no answer.
+    fn part(self, offset: usize, len: usize) -> Option<Self>;
+
+    /// Several arrays one after the other; of none no answer.
+    fn joined(alloc: Global, arrays: &[Self]) -> Option<Result<Self, Error>>;
 }
 
 /// Appends the bits that a text writes with other letters than that of a clear one.
@@ -203,6 +209,66 @@ fn all_tell<A: Chosen>(
 ) -> Result<bool, Error> {
     for (given, keys, wanted) in cases {
         if !tells_keys::<A>(alloc, given, *keys, *wanted)? {
+            return Ok(false);
+        }
+    }
+    Ok(true)
+}
+
+/// What a part of an array is answered that hasn't so many slots.
+const NO_PART: Error = Error::OutOfSpec("no such part");
+
+/// Appends an array that was made to others.
+fn push_array<A: Chosen>(arrays: &mut Vec<A>, array: Option<A>) -> Result<(), Error> {
+    match array {
+        Some(array) => Ok(arrays.push(array)?),
+        None => Err(NO_PART),
+    }
+}
+
+/// Appends so many slots of the array that is written so, from a place on.
+fn push_part<A: Chosen>(
+    alloc: Global,
+    arrays: &mut Vec<A>,
+    part: &(A::Written, usize, usize),
+) -> Result<(), Error> {
+    let (written, offset, len) = part;
+    match A::of(alloc, written) {
+        Ok(array) => push_array(arrays, array.part(*offset, *len)),
+        Err(refused) => Err(refused),
+    }
+}
+
+/// The parts of the arrays that are written so.
+fn parts_of<A: Chosen>(
+    alloc: Global,
+    parts: &[(A::Written, usize, usize)],
+) -> Result<Vec<A>, Error> {
+    let mut arrays = Vec::new(alloc);
+    for part in parts {
+        push_part(alloc, &mut arrays, part)?;
+    }
+    Ok(arrays)
+}
+
+/// What the arrays that were made are one after the other.
+fn joined_parts<A: Chosen>(alloc: Global, arrays: Result<Vec<A>, Error>) -> Result<A, Error> {
+    match arrays {
+        Ok(arrays) => match A::joined(alloc, &arrays) {
+            Some(answer) => answer,
+            None => Err(NO_PART),
+        },
+        Err(refused) => Err(refused),
+    }
+}
+
+/// Whether parts of arrays are this one after the other.
+fn all_join<A: Chosen>(
+    alloc: Global,
+    cases: &[(&[(A::Written, usize, usize)], A::Written)],
+) -> Result<bool, Error> {
+    for (parts, wanted) in cases {
+        if !made(joined_parts(alloc, parts_of::<A>(alloc, *parts)), wanted)? {
             return Ok(false);
         }
     }

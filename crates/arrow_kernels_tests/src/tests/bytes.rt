@@ -3,7 +3,9 @@ use super::*;
 use arrow_binary::BinaryArray;
 use arrow_byte_array::ByteArray;
 use arrow_bytes::{Binary, ByteKind, Utf8};
-use arrow_kernels::{filter_binary, filter_utf8, take_binary, take_utf8};
+use arrow_kernels::{
+    concat_binary, concat_utf8, filter_binary, filter_utf8, take_binary, take_utf8,
+};
 use arrow_memory::buffer::Buffer;
 use arrow_memory::offset::OffsetsBuffer;
 use arrow_testing::{Tiny, are_offsets, frozen_offsets};
@@ -28,6 +30,12 @@ trait Known: ByteKind {
         array: &ByteArray<Self, O>,
         keys: &[i64],
     ) -> Result<ByteArray<Self, O>, Error>;
+
+    /// Several arrays one after the other; of none no answer.
+    fn concat<O: Offset>(
+        alloc: Global,
+        arrays: &[ByteArray<Self, O>],
+    ) -> Option<Result<ByteArray<Self, O>, Error>>;
 }
 
 impl Known for Binary {
@@ -49,6 +57,16 @@ impl Known for Binary {
     ) -> Result<BinaryArray<O>, Error> {
         take_binary(alloc, array, keys)
     }
+
+    fn concat<O: Offset>(
+        alloc: Global,
+        arrays: &[BinaryArray<O>],
+    ) -> Option<Result<BinaryArray<O>, Error>> {
+        if arrays.is_empty() {
+            return None;
+        }
+        Some(concat_binary(alloc, arrays))
+    }
 }
 
 impl Known for Utf8 {
@@ -69,6 +87,16 @@ impl Known for Utf8 {
         keys: &[i64],
     ) -> Result<Utf8Array<O>, Error> {
         take_utf8(alloc, array, keys)
+    }
+
+    fn concat<O: Offset>(
+        alloc: Global,
+        arrays: &[Utf8Array<O>],
+    ) -> Option<Result<Utf8Array<O>, Error>> {
+        if arrays.is_empty() {
+            return None;
+        }
+        Some(concat_utf8(alloc, arrays))
     }
 }
 
@@ -157,6 +185,17 @@ impl<K: Known, O: Offset> Chosen for ByteArray<K, O> {
     fn taken(&self, alloc: Global, keys: &[i64]) -> Result<ByteArray<K, O>, Error> {
         K::take(alloc, self, keys)
     }
+
+    fn part(self, offset: usize, len: usize) -> Option<ByteArray<K, O>> {
+        if offset > self.len() || len > self.len() - offset {
+            return None;
+        }
+        Some(self.sliced(offset, len))
+    }
+
+    fn joined(alloc: Global, arrays: &[ByteArray<K, O>]) -> Option<Result<ByteArray<K, O>, Error>> {
+        K::concat(alloc, arrays)
+    }
 }
 
 /// Items of one, no and two bytes, the second of which is null, with bytes around them.
@@ -176,10 +215,29 @@ const TAKES: &[(Written, &[i64], Written)] = &[
     ((&[0, 1, 2], b"ab", "01"), &[0], (&[0, 1], b"a", "0")),
 ];
 
-/// Whether both hold over a width of offsets.
+/// Parts of them one after the other, without the bytes around.
+const JOINS: &[(&[(Written, usize, usize)], Written)] = &[
+    (&[(ITEMS, 0, 3)], (&[0, 1, 1, 3], &[1, 4, 4], "101")),
+    (
+        &[
+            (ITEMS, 1, 2),
+            (ITEMS, 0, 1),
+            ((&[0, 2], b"ab", "none"), 0, 1),
+        ],
+        (&[0, 0, 2, 3, 5], &[4, 4, 1, b'a', b'b'], "0111"),
+    ),
+    (
+        &[(ITEMS, 0, 1), (ITEMS, 2, 1)],
+        (&[0, 1, 3], &[1, 4, 4], "none"),
+    ),
+    (&[(ITEMS, 3, 0), (ITEMS, 0, 0)], (&[0], &[], "none")),
+];
+
+/// Whether these hold over a width of offsets.
 fn chosen<K: Known, O: Offset>(alloc: Global) -> Result<bool, Error> {
     let are_left = all_filter::<ByteArray<K, O>>(alloc, FILTERS)?;
-    Ok(all_take::<ByteArray<K, O>>(alloc, TAKES)? & are_left)
+    let are_joined = all_join::<ByteArray<K, O>>(alloc, JOINS)?;
+    Ok(all_take::<ByteArray<K, O>>(alloc, TAKES)? & are_left & are_joined)
 }
 
 #[test]
@@ -277,4 +335,45 @@ fn items_are_chosen_over_borders_and_up_to_the_greatest_offset(
 ) -> Result<(), Fail> {
     all_told(&ends::<Binary>(rt.alloc()))?;
     all_told(&ends::<Utf8>(rt.alloc()))
+}
+
+/// One item of twenty bytes, and one of one.
+const TWENTY: Written = (&[0, 20], b"yyyyyyyyyyyyyyyyyyyy", "none");
+
+const LETTER: Written = (&[3, 4], b"abcz", "none");
+
+/// Items that end exactly at the greatest offset are joined; those that would end past it are an `Overflow`.
+const JOINED_ENDS: &[(&[(Written, usize, usize)], &str)] = &[
+    (&[(FORTY, 0, 1), (TWENTY, 0, 1), (FORTY, 0, 1)], "made"),
+    (
+        &[(FORTY, 0, 1), (TWENTY, 0, 1), (FORTY, 0, 1), (LETTER, 0, 1)],
+        "overflow",
+    ),
+    (
+        &[(FORTY, 0, 1), (FORTY, 0, 1), (TWENTY, 1, 0), (TWENTY, 0, 1)],
+        "made",
+    ),
+    (&[(FORTY, 0, 1), (FORTY, 0, 1), (FORTY, 0, 1)], "overflow"),
+];
+
+/// Whether this is told of each of them.
+fn all_tell_joined<K: Known>(
+    alloc: Global,
+    cases: &[(&[(Written, usize, usize)], &str)],
+) -> Result<bool, Error> {
+    for (parts, wanted) in cases {
+        let arrays = parts_of::<ByteArray<K, Tiny>>(alloc, *parts);
+        if tells(joined_parts(alloc, arrays)) != *wanted {
+            return Ok(false);
+        }
+    }
+    Ok(true)
+}
+
+#[test]
+fn items_are_joined_up_to_the_greatest_offset(rt: HostRuntime) -> Result<(), Fail> {
+    all_told(&[
+        all_tell_joined::<Binary>(rt.alloc(), JOINED_ENDS),
+        all_tell_joined::<Utf8>(rt.alloc(), JOINED_ENDS),
+    ])
 }

@@ -1,6 +1,6 @@
 //! Arrays of numbers.
 use super::*;
-use arrow_kernels::{filter_primitive, take_primitive};
+use arrow_kernels::{concat_primitive, filter_primitive, take_primitive};
 use arrow_memory::buffer::Buffer;
 use arrow_primitive::PrimitiveArray;
 
@@ -68,6 +68,23 @@ impl Chosen for PrimitiveArray<i64> {
     fn taken(&self, alloc: Global, keys: &[i64]) -> Result<PrimitiveArray<i64>, Error> {
         take_primitive(alloc, self, keys)
     }
+
+    fn part(self, offset: usize, len: usize) -> Option<PrimitiveArray<i64>> {
+        if offset > self.len() || len > self.len() - offset {
+            return None;
+        }
+        Some(self.sliced(offset, len))
+    }
+
+    fn joined(
+        alloc: Global,
+        arrays: &[PrimitiveArray<i64>],
+    ) -> Option<Result<PrimitiveArray<i64>, Error>> {
+        if arrays.is_empty() {
+            return None;
+        }
+        Some(concat_primitive(alloc, arrays))
+    }
 }
 
 /// Numbers as values and a mask.
@@ -108,6 +125,46 @@ fn numbers_are_chosen(rt: HostRuntime) -> Result<(), Fail> {
         all_take::<PrimitiveArray<i64>>(rt.alloc(), TAKES),
         all_tell::<PrimitiveArray<i64>>(rt.alloc(), ASTRAY),
     ])
+}
+
+/// Eleven numbers, the third and the tenth of which are null.
+const ELEVEN: Numbers = (&[0, 1, 2, 3, 4, 5, 6, 7, 8, 9, 10], "11011111101");
+
+/// Rows of several arrays come in order, at places that don't agree within a byte too. A mask that no row needs is
+/// dropped, and a mask is made of marks where only some arrays hold one.
+const JOINS: &[(&[(Numbers, usize, usize)], Numbers)] = &[
+    (&[(ONE_NULL_TEN, 0, 3)], ONE_NULL_TEN),
+    (
+        &[(ONE_NULL_TEN, 1, 2), ((&[5, 6], "none"), 0, 2)],
+        (&[0, 10, 5, 6], "0111"),
+    ),
+    (
+        &[(ONE_NULL_TEN, 2, 1), (ONE_NULL_TEN, 0, 1)],
+        (&[10, 1], "none"),
+    ),
+    (
+        &[(ONE_NULL_TEN, 3, 0), ((&[5, 6], "11"), 1, 1)],
+        (&[6], "none"),
+    ),
+    (&[(ONE_NULL_TEN, 3, 0), (ONE_NULL_TEN, 0, 0)], (&[], "none")),
+    (
+        &[
+            (ELEVEN, 3, 8),
+            ((&[20, 21, 22], "none"), 1, 2),
+            (ELEVEN, 1, 10),
+        ],
+        (
+            &[
+                3, 4, 5, 6, 7, 8, 9, 10, 21, 22, 1, 2, 3, 4, 5, 6, 7, 8, 9, 10,
+            ],
+            "11111101111011111101",
+        ),
+    ),
+];
+
+#[test]
+fn numbers_are_joined(rt: HostRuntime) -> Result<(), Fail> {
+    told(all_join::<PrimitiveArray<i64>>(rt.alloc(), JOINS))
 }
 
 /// Long arrays: each number below this one.

@@ -1,6 +1,6 @@
 //! Arrays of truth values.
 use super::*;
-use arrow_kernels::{filter_boolean, take_boolean};
+use arrow_kernels::{concat_boolean, filter_boolean, take_boolean, true_count};
 
 /// The array of values under a mask.
 fn masked(values: Result<Bitmap, Error>, mask: Option<Bitmap>) -> Result<BooleanArray, Error> {
@@ -46,6 +46,20 @@ impl Chosen for BooleanArray {
 
     fn taken(&self, alloc: Global, keys: &[u8]) -> Result<BooleanArray, Error> {
         take_boolean(alloc, self, keys)
+    }
+
+    fn part(self, offset: usize, len: usize) -> Option<BooleanArray> {
+        if offset > self.len() || len > self.len() - offset {
+            return None;
+        }
+        Some(self.sliced(offset, len))
+    }
+
+    fn joined(alloc: Global, arrays: &[BooleanArray]) -> Option<Result<BooleanArray, Error>> {
+        if arrays.is_empty() {
+            return None;
+        }
+        Some(concat_boolean(alloc, arrays))
     }
 }
 
@@ -107,4 +121,67 @@ fn truth_values_are_chosen(rt: HostRuntime) -> Result<(), Fail> {
         all_take::<BooleanArray>(rt.alloc(), TAKES),
         all_tell::<BooleanArray>(rt.alloc(), ASTRAY),
     ])
+}
+
+/// Twelve truth values, the second and the ninth of which are null.
+const TWELVE: Truths = ("110010101011", "101111110111");
+
+/// Rows of several arrays come in order, at places that don't agree within a byte too.
+const JOINS: &[(&[(Truths, usize, usize)], Truths)] = &[
+    (&[(FOUR, 0, 4)], FOUR),
+    (&[(FOUR, 1, 3), (FOUR, 0, 4)], ("1001100", "0101010")),
+    (&[(FOUR, 2, 1), (("01", "11"), 0, 2)], ("001", "none")),
+    (&[(FOUR, 4, 0), (FOUR, 0, 0)], ("", "none")),
+    (
+        &[(("01", "none"), 1, 1), (TWELVE, 3, 9), (TWELVE, 0, 11)],
+        ("101010101111001010101", "111111011110111111011"),
+    ),
+];
+
+#[test]
+fn truth_values_are_joined(rt: HostRuntime) -> Result<(), Fail> {
+    told(all_join::<BooleanArray>(rt.alloc(), JOINS))
+}
+
+/// Of 130 rows the first, the last, and rows 63 and 64 are asked for; the second is null.
+const LONG: &str =
+    "t_fffffffffffffffffffffffffffffffffffffffffffffffffffffffffffffttfffffffffffffffffffffffffffffffffffffffffffffffffffffffffffffffft";
+
+/// How many slots are valid and true, of so many from a place on.
+const COUNTS: &[(Filter, usize, usize, usize)] = &[
+    (("t_ft", true), 0, 4, 2),
+    (("ttf", false), 0, 3, 2),
+    (("ttf", true), 0, 3, 2),
+    (("", true), 0, 0, 0),
+    ((LONG, true), 0, 130, 4),
+    ((LONG, true), 1, 129, 3),
+    ((LONG, true), 1, 62, 0),
+    ((LONG, true), 0, 64, 2),
+    ((LONG, true), 63, 2, 2),
+    // Without a mask the null's true counts.
+    ((LONG, false), 0, 130, 5),
+    ((LONG, false), 1, 64, 3),
+];
+
+/// Whether so many slots of a part of a filter are valid and true.
+fn has_true(part: Option<BooleanArray>, count: usize) -> bool {
+    match part {
+        Some(part) => true_count(&part) == count,
+        None => false,
+    }
+}
+
+/// Whether of each filter as many are as should be.
+fn all_count(alloc: Global, cases: &[(Filter, usize, usize, usize)]) -> Result<bool, Error> {
+    for (filter, offset, len, count) in cases {
+        if !has_true(filter_of(alloc, *filter)?.part(*offset, *len), *count) {
+            return Ok(false);
+        }
+    }
+    Ok(true)
+}
+
+#[test]
+fn true_slots_are_counted(rt: HostRuntime) -> Result<(), Fail> {
+    told(all_count(rt.alloc(), COUNTS))
 }

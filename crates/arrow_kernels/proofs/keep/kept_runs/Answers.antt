@@ -1,4 +1,4 @@
-use Rattle.std.proofs.Common.{◌≡◌, ◌+◌, ◌-◌, ◌*◌, ◌/◌, ◌%◌, ◌^◌, ◌<◌, ◌≤◌, ◌++◌, bit_and, length, take, ap, arith}
+use Rattle.std.proofs.Common.{◌≡◌, ◌+◌, ◌-◌, ◌*◌, ◌/◌, ◌%◌, ◌^◌, ◌<◌, ◌≤◌, ◌++◌, bit_and, take, ap, arith}
 use Rattle.std.proofs.Common.{refl, sym, ◌∙◌}
 use Rattle.arrow_memory.specs.Marks.{bits_of}
 use Rattle.arrow_bytes.specs.Selection.{where_set}

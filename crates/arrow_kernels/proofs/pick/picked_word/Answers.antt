@@ -1,5 +1,4 @@
-use Rattle.std.proofs.Common.{◌≡◌, ◌+◌, ◌*◌, ◌%◌, ◌^◌, ◌<◌, ◌==◌, Some, ap, arith, refl, sym, ◌∙◌}
-use Rattle.arrow_memory.specs.Marks.{bits_of}
+use Rattle.std.proofs.Common.{◌+◌, ◌*◌, ◌%◌, ◌^◌, ◌<◌, ◌==◌, Some, ap, arith, refl, sym, ◌∙◌}
 use Rattle.arrow_kernels.proofs.BitLemmas.{more-bits, more-small, number-mark, number-small}
 use Rattle.arrow_kernels.proofs.ChoiceLemmas.{key-place, keys-grown}
 use Rattle.arrow_kernels.proofs.pick.picked_word.Goals as goal

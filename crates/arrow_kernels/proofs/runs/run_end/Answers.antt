@@ -1,5 +1,4 @@
-use Rattle.std.proofs.Common.{◌+◌, ◌/◌, ◌^◌, ◌<◌, ◌≤◌, ap, arith, subst, sym, w64}
-use Rattle.std.specs.Int.{trailing_ones}
+use Rattle.std.proofs.Common.{arith}
 use Rattle.arrow_kernels.proofs.RunLemmas.{run-more, run-set, run-within}
 use Rattle.arrow_kernels.proofs.runs.run_end.Goals as goal
 

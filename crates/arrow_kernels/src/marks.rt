@@ -1,0 +1,165 @@
+//! The marks and masks of arrays, one array after the other.
+ghost use Rattle.std.specs.Prelude.{◌≡◌, ◌++◌, List, Bool, Some, length, not, count_by, replicate, true, flat_map};
+ghost use Rattle.std.specs.Prelude.{IfOk, IfErr, IfSome, MatchOption, OnOk};
+ghost use Rattle.std.specs.List.{list_all};
+ghost use Rattle.std.specs.Option.{option_copied};
+ghost use Rattle.arrow_types.specs.Failures.{OnlyOutOfMemory};
+ghost use Rattle.arrow_column.specs.Masks.{mask_with_nulls};
+
+use arrow_boolean::BooleanArray;
+use arrow_byte_array::ByteArray;
+use arrow_bytes::ByteKind;
+use arrow_memory::bitmap::{Bitmap, MutableBitmap};
+use arrow_primitive::PrimitiveArray;
+use arrow_types::error::Error;
+use arrow_types::native_type::NativeType;
+use arrow_types::offset::Offset;
+use std::alloc::Global;
+
+/// Appends the marks of a bitmap.
+pub(crate) fn extend_marks(joined: &mut MutableBitmap, marks: &Bitmap) -> Result<(), Error>
+    ensures ok { OnOk result (joined.new ≡ joined.old ++ marks.now) }
+    ensures err { OnlyOutOfMemory result }
+{
+    joined.extend_from_range(marks, 0, marks.len())
+}
+
+/// Appends the marks of a mask, or without one as many set marks as there are slots.
+fn extend_mask(
+    joined: &mut MutableBitmap,
+    validity: Option<&Bitmap>,
+    slots: usize,
+) -> Result<(), Error>
+    ensures ok { OnOk result (MatchOption (option_copied validity.entry)
+        (joined.new ≡ joined.old ++ replicate slots true) (λ marks. joined.new ≡ joined.old ++ marks)) }
+    ensures err { OnlyOutOfMemory result }
+{
+    match validity {
+        None => joined.extend_constant(slots, true),
+        Some(marks) => extend_marks(joined, marks),
+    }
+}
+
+/// Arrays whose slots are valid or null.
+pub(crate) trait Marked {
+    /// The mark of each slot.
+    ghost marks: { Self → List Bool };
+
+    /// Returns the number of slots.
+    fn slots(&self) -> usize
+        ensures { result ≡ length (marks self.now) };
+
+    /// Returns the number of null slots.
+    fn nulls(&self) -> usize
+        ensures { result ≡ count_by not (marks self.now) };
+
+    /// Appends the mark of each slot.
+    fn push_marks(&self, joined: &mut MutableBitmap) -> Result<(), Error>
+        ensures ok { OnOk result (joined.new ≡ joined.old ++ marks self.now) }
+        ensures err { OnlyOutOfMemory result };
+}
+
+impl<T: NativeType> Marked for PrimitiveArray<T> {
+    ghost use Rattle.arrow_column.specs.Column.{marks_of};
+
+    ghost marks = { marks_of };
+
+    #[inline(always)]
+    fn slots(&self) -> usize {
+        self.len()
+    }
+
+    #[inline(always)]
+    fn nulls(&self) -> usize {
+        self.null_count()
+    }
+
+    fn push_marks(&self, joined: &mut MutableBitmap) -> Result<(), Error> {
+        extend_mask(joined, self.validity(), self.len())
+    }
+}
+
+impl Marked for BooleanArray {
+    ghost use Rattle.arrow_column.specs.Column.{marks_of};
+
+    ghost marks = { marks_of };
+
+    #[inline(always)]
+    fn slots(&self) -> usize {
+        self.len()
+    }
+
+    #[inline(always)]
+    fn nulls(&self) -> usize {
+        self.null_count()
+    }
+
+    fn push_marks(&self, joined: &mut MutableBitmap) -> Result<(), Error> {
+        extend_mask(joined, self.validity(), self.len())
+    }
+}
+
+impl<K: ByteKind, O: Offset> Marked for ByteArray<K, O> {
+    ghost use Rattle.arrow_column.specs.Column.{marks_of};
+
+    ghost marks = { marks_of };
+
+    #[inline(always)]
+    fn slots(&self) -> usize {
+        self.len()
+    }
+
+    #[inline(always)]
+    fn nulls(&self) -> usize {
+        self.null_count()
+    }
+
+    fn push_marks(&self, joined: &mut MutableBitmap) -> Result<(), Error> {
+        extend_mask(joined, self.validity(), self.len())
+    }
+}
+
+/// Returns whether one of the slots is null.
+fn has_nulls<A: Marked>(arrays: &[A]) -> bool
+    ensures { result ≡ not (list_all (λ mark. mark) (flat_map A.marks arrays.now)) }
+{
+    for array in arrays {
+        if array.nulls() != 0 {
+            return true;
+        }
+    }
+    false
+}
+
+/// Returns the number of slots, or the greatest `usize` if it is above that.
+pub(crate) fn count_slots<A: Marked>(arrays: &[A]) -> usize {
+    let mut count = 0_usize;
+    for array in arrays {
+        count = count.saturating_add(array.slots());
+    }
+    count
+}
+
+/// Returns the marks of the slots. Room is reserved once.
+fn join_marks<A: Marked>(alloc: Global, arrays: &[A]) -> Result<Bitmap, Error>
+    ensures ok { IfOk result (λ joined. joined ≡ flat_map A.marks arrays.now) }
+    ensures err { OnlyOutOfMemory result }
+{
+    let mut joined = MutableBitmap::with_capacity(alloc, count_slots(arrays))?;
+    for array in arrays {
+        array.push_marks(&mut joined)?;
+    }
+    joined.freeze()
+}
+
+/// Returns the mask of the slots, which is held exactly if one of them is null. If no slot is null,
+/// none is made.
+pub(crate) fn join_masks<A: Marked>(alloc: Global, arrays: &[A]) -> Result<Option<Bitmap>, Error>
+    ensures ok { IfOk result (λ mask. mask ≡ mask_with_nulls (Some (flat_map A.marks arrays.now))) }
+    ensures err { OnlyOutOfMemory result }
+{
+    if !has_nulls(arrays) {
+        return Ok(None);
+    }
+    Ok(Some(join_marks(alloc, arrays)?))
+}
