@@ -24,7 +24,9 @@ uint64_t rattle_flat_prim_push_freeze(numbers, size_t, bytes, size_t, size_t rou
 uint64_t rattle_flat_prim_extend(numbers, size_t, bytes, size_t, size_t rounds);
 uint64_t rattle_flat_prim_extend_slice(numbers, size_t, size_t piece, size_t rounds);
 uint64_t rattle_flat_prim_extend_self(numbers, size_t, bytes, size_t, size_t rounds);
+uint64_t rattle_flat_prim_extend_array(numbers, size_t, bytes, size_t, size_t rounds);
 uint64_t rattle_flat_prim_iter_sum(numbers, size_t, bytes, size_t, size_t rounds);
+uint64_t rattle_flat_prim_range_sum(numbers, size_t, bytes, size_t, size_t window, size_t rounds);
 uint64_t rattle_flat_prim_builder_iter_sum(numbers, size_t, bytes, size_t, size_t rounds);
 uint64_t rattle_flat_prim_values_sum(numbers, size_t, size_t rounds);
 uint64_t rattle_flat_prim_value_sum(numbers, size_t, size_t rounds);
@@ -34,21 +36,31 @@ uint64_t rattle_flat_bits_push(bytes, size_t, size_t times, size_t rounds);
 uint64_t rattle_flat_bits_extend_constant(size_t piece, size_t times, size_t rounds);
 uint64_t rattle_flat_bits_unset(bytes, size_t, size_t times, size_t rounds);
 uint64_t rattle_flat_bits_freeze_unset(bytes, size_t, size_t times, size_t rounds);
+uint64_t rattle_flat_bits_and(bytes, size_t, size_t times, size_t rounds);
+uint64_t rattle_flat_bits_or(bytes, size_t, size_t times, size_t rounds);
+uint64_t rattle_flat_bits_not(bytes, size_t, size_t times, size_t rounds);
 uint64_t rattle_flat_bits_iter(bytes, size_t, size_t times, size_t rounds);
 uint64_t rattle_flat_bits_get_bit(bytes, size_t, size_t times, size_t rounds);
 uint64_t rattle_flat_bits_get(bytes, size_t, size_t times, size_t rounds);
 uint64_t rattle_flat_bits_set(bytes, size_t, size_t rounds);
 uint64_t rattle_flat_bool_push(bytes, size_t, bytes, size_t, size_t rounds);
 uint64_t rattle_flat_bool_iter(bytes, size_t, bytes, size_t, size_t rounds);
+uint64_t rattle_flat_bool_extend_array(bytes, size_t, bytes, size_t, size_t rounds);
+uint64_t rattle_flat_bool_true_count(bytes, size_t, bytes, size_t, size_t rounds);
 uint64_t rattle_flat_bin_push(bytes, size_t, size_t item, size_t times, bytes, size_t, size_t rounds);
 uint64_t rattle_flat_vbin_push(bytes, size_t, size_t item, size_t times, size_t rounds);
 uint64_t rattle_flat_bin_extend(bytes, size_t, size_t item, size_t times, size_t rounds);
 uint64_t rattle_flat_bin_extend_values(bytes, size_t, size_t item, size_t times, size_t rounds);
 uint64_t rattle_flat_bin_extend_self(bytes, size_t, size_t item, bytes, size_t, size_t rounds);
+uint64_t rattle_flat_bin_extend_array(bytes, size_t, size_t item, bytes, size_t, size_t rounds);
 uint64_t rattle_flat_utf8_try_new(bytes, size_t, ends, size_t, size_t rounds);
 uint64_t rattle_flat_utf8_iter(bytes, size_t, ends, size_t, size_t rounds);
 uint64_t rattle_flat_utf8_push(bytes, size_t, size_t item, size_t times, bytes, size_t, size_t rounds);
 uint64_t rattle_flat_utf8_extend_self(bytes, size_t, size_t item, bytes, size_t, size_t rounds);
+uint64_t rattle_flat_utf8_extend_array(bytes, size_t, size_t item, bytes, size_t, size_t rounds);
+/* kernels: a concatenation of one array in two parts */
+uint64_t rattle_flat_concat_prim(numbers, size_t, bytes, size_t, size_t rounds);
+uint64_t rattle_flat_concat_utf8(bytes, size_t, ends, size_t, bytes, size_t, size_t rounds);
 /* whole arrays, whose cost hangs on their masks alone, if on anything */
 uint64_t rattle_flat_prim_null_count(numbers, size_t, bytes, size_t, size_t rounds);
 uint64_t rattle_flat_prim_freeze_thaw(numbers, size_t, bytes, size_t, size_t rounds);
@@ -126,8 +138,10 @@ static uint8_t *ones;
     LINE(prim_extend_slice_all, rattle_flat_prim_extend_slice(VALUES, in->n, rounds))                                  \
     LINE(prim_extend_slice_1000, rattle_flat_prim_extend_slice(VALUES, 1000, rounds))                                  \
     LINE(prim_extend_self_null10, rattle_flat_prim_extend_self(VALUES, NULLS, rounds))                                 \
+    LINE(prim_extend_array_null10, rattle_flat_prim_extend_array(VALUES, NULLS, rounds))                               \
     LINE(prim_iter_sum, rattle_flat_prim_iter_sum(VALUES, ALL_VALID, rounds))                                          \
     LINE(prim_iter_sum_null10, rattle_flat_prim_iter_sum(VALUES, NULLS, rounds))                                       \
+    LINE(prim_range_sum_null10, rattle_flat_prim_range_sum(VALUES, NULLS, 100, rounds))                                \
     LINE(prim_builder_iter_sum_null10, rattle_flat_prim_builder_iter_sum(VALUES, NULLS, rounds))                       \
     LINE(prim_values_sum, rattle_flat_prim_values_sum(VALUES, rounds))                                                 \
     LINE(prim_value_sum, rattle_flat_prim_value_sum(VALUES, rounds))                                                   \
@@ -137,24 +151,35 @@ static uint8_t *ones;
     LINE(bits_extend_constant_13, rattle_flat_bits_extend_constant(13, in->n / 13, rounds))                            \
     LINE(bits_unset, rattle_flat_bits_unset(BITS, 1, rounds))                                                          \
     LINE(bits_freeze_unset, rattle_flat_bits_freeze_unset(BITS, 1, rounds))                                            \
+    LINE(bits_and, rattle_flat_bits_and(BITS, 1, rounds))                                                              \
+    LINE(bits_or, rattle_flat_bits_or(BITS, 1, rounds))                                                                \
+    LINE(bits_not, rattle_flat_bits_not(BITS, 1, rounds))                                                              \
     LINE(bits_iter, rattle_flat_bits_iter(BITS, 1, rounds))                                                            \
     LINE(bits_get_bit, rattle_flat_bits_get_bit(BITS, 1, rounds))                                                      \
     LINE(bits_get, rattle_flat_bits_get(BITS, 1, rounds))                                                              \
     LINE(bits_set, rattle_flat_bits_set(BITS, rounds))                                                                 \
     LINE(bool_push_null10, rattle_flat_bool_push(BITS, NULLS, rounds))                                                 \
     LINE(bool_iter_null10, rattle_flat_bool_iter(BITS, NULLS, rounds))                                                 \
+    LINE(bool_extend_array_null10, rattle_flat_bool_extend_array(BITS, NULLS, rounds))                                 \
+    LINE(bool_true_count_null10, rattle_flat_bool_true_count(BITS, NULLS, rounds))                                     \
     LINE(bin_push_12, rattle_flat_bin_push(ITEMS, ITEM, 1, ALL_VALID, rounds))                                         \
     LINE(bin_push_12_null10, rattle_flat_bin_push(ITEMS, ITEM, 1, NULLS, rounds))                                      \
     LINE(vbin_push_12, rattle_flat_vbin_push(ITEMS, ITEM, 1, rounds))                                                  \
     LINE(bin_extend_12, rattle_flat_bin_extend(ITEMS, ITEM, 1, rounds))                                                \
     LINE(bin_extend_values_12, rattle_flat_bin_extend_values(ITEMS, ITEM, 1, rounds))                                  \
     LINE(bin_extend_self_12, rattle_flat_bin_extend_self(ITEMS, ITEM, NULLS, rounds))                                  \
+    LINE(bin_extend_array_12, rattle_flat_bin_extend_array(ITEMS, ITEM, NULLS, rounds))                                \
     LINE(utf8_try_new_ascii_12, rattle_flat_utf8_try_new(ITEMS, ENDS, rounds))                                         \
     LINE(utf8_try_new_mixed_12, rattle_flat_utf8_try_new(in->mixed, in->n * ITEM, ENDS, rounds))                       \
     LINE(utf8_iter_12, rattle_flat_utf8_iter(ITEMS, ENDS, rounds))                                                     \
     LINE(utf8_push_12, rattle_flat_utf8_push(ITEMS, ITEM, 1, ALL_VALID, rounds))                                       \
     LINE(utf8_push_12_null10, rattle_flat_utf8_push(ITEMS, ITEM, 1, NULLS, rounds))                                    \
     LINE(utf8_extend_self_12, rattle_flat_utf8_extend_self(ITEMS, ITEM, NULLS, rounds))                                \
+    LINE(utf8_extend_array_12, rattle_flat_utf8_extend_array(ITEMS, ITEM, NULLS, rounds))                              \
+    LINE(concat_prim, rattle_flat_concat_prim(VALUES, ALL_VALID, rounds))                                              \
+    LINE(concat_prim_null10, rattle_flat_concat_prim(VALUES, NULLS, rounds))                                           \
+    LINE(concat_utf8_12, rattle_flat_concat_utf8(ITEMS, ENDS, ALL_VALID, rounds))                                      \
+    LINE(concat_utf8_12_null10, rattle_flat_concat_utf8(ITEMS, ENDS, NULLS, rounds))                                   \
     LINE(prim_null_count, rattle_flat_prim_null_count(VALUES, NULLS, rounds))                                          \
     LINE(prim_freeze_thaw, rattle_flat_prim_freeze_thaw(VALUES, NULLS, rounds))                                        \
     LINE(prim_thaw_push, rattle_flat_prim_thaw_push(VALUES, NULLS, rounds))                                            \

@@ -2,7 +2,8 @@
 ghost use Rattle.std.specs.Prelude.{◌≡◌, length};
 
 use crate::{place, told};
-use arrow_memory::bitmap::{Bitmap, MutableBitmap};
+use arrow_memory::bitmap::{Bitmap, MutableBitmap, and, not, or};
+use arrow_types::error::Error;
 use std::alloc::Global;
 
 #[inline(always)]
@@ -310,4 +311,78 @@ fn set(alloc: Global, pattern: &[u8], rounds: usize) -> Option<u64> {
 #[unsafe(no_mangle)]
 pub extern "C" fn rattle_flat_bits_set(alloc: Global, pattern: &[u8], rounds: usize) -> u64 {
     told(set(alloc, pattern, rounds))
+}
+
+/// The number of clear marks of what a call makes of a bitmap.
+fn clear_marks(made: Result<Bitmap, Error>) -> Option<u64> {
+    match made {
+        Ok(made) => Some(made.unset_bits() as u64),
+        Err(_) => None,
+    }
+}
+
+fn and_all(alloc: Global, marks: &Bitmap, rounds: usize) -> Option<u64> {
+    let mut sum = 0u64;
+    for _ in 0..rounds {
+        sum = sum.wrapping_add(clear_marks(and(alloc, marks, marks))?);
+    }
+    Some(sum)
+}
+
+fn or_all(alloc: Global, marks: &Bitmap, rounds: usize) -> Option<u64> {
+    let mut sum = 0u64;
+    for _ in 0..rounds {
+        sum = sum.wrapping_add(clear_marks(or(alloc, marks, marks))?);
+    }
+    Some(sum)
+}
+
+fn not_all(alloc: Global, marks: &Bitmap, rounds: usize) -> Option<u64> {
+    let mut sum = 0u64;
+    for _ in 0..rounds {
+        sum = sum.wrapping_add(clear_marks(not(alloc, marks))?);
+    }
+    Some(sum)
+}
+
+// sum: the clear marks of the bits and of themselves
+#[unsafe(no_mangle)]
+pub extern "C" fn rattle_flat_bits_and(
+    alloc: Global,
+    pattern: &[u8],
+    times: usize,
+    rounds: usize,
+) -> u64 {
+    match frozen(alloc, pattern, times) {
+        Some(marks) => told(and_all(alloc, &marks, rounds)),
+        None => u64::MAX,
+    }
+}
+
+// sum: the clear marks of the bits or themselves
+#[unsafe(no_mangle)]
+pub extern "C" fn rattle_flat_bits_or(
+    alloc: Global,
+    pattern: &[u8],
+    times: usize,
+    rounds: usize,
+) -> u64 {
+    match frozen(alloc, pattern, times) {
+        Some(marks) => told(or_all(alloc, &marks, rounds)),
+        None => u64::MAX,
+    }
+}
+
+// sum: the clear marks of the opposite bits
+#[unsafe(no_mangle)]
+pub extern "C" fn rattle_flat_bits_not(
+    alloc: Global,
+    pattern: &[u8],
+    times: usize,
+    rounds: usize,
+) -> u64 {
+    match frozen(alloc, pattern, times) {
+        Some(marks) => told(not_all(alloc, &marks, rounds)),
+        None => u64::MAX,
+    }
 }

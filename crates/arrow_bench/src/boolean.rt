@@ -36,7 +36,7 @@ fn builder(alloc: Global, bits: &[u8], valid: &[u8]) -> Option<MutableBooleanArr
 }
 
 /// The number of rows and the truth value that is stored in one of them.
-fn probe(out: &MutableBooleanArray, round: usize) -> u64 {
+pub(crate) fn probe(out: &MutableBooleanArray, round: usize) -> u64 {
     let rows = out.values().len();
     let at = place(round, rows);
     (rows as u64).wrapping_add(if at < rows {
@@ -93,7 +93,7 @@ fn iter_all(array: &BooleanArray, rounds: usize) -> u64 {
 }
 
 /// The frozen array of the same as `builder`.
-fn array(alloc: Global, bits: &[u8], valid: &[u8]) -> Option<BooleanArray> {
+pub(crate) fn array(alloc: Global, bits: &[u8], valid: &[u8]) -> Option<BooleanArray> {
     match builder(alloc, bits, valid) {
         Some(out) => out.freeze().ok(),
         None => None,

@@ -77,7 +77,7 @@ fn of_marks(
 }
 
 /// A builder of items of so many bytes and marks, as parts; a null stores its item too.
-fn of_parts(
+pub(crate) fn of_parts(
     alloc: Global,
     data: &[u8],
     item: usize,
@@ -135,7 +135,11 @@ fn push_marked(
     Some(())
 }
 
-fn probe_pushed(out: &MutableBinaryArray<i32>, pushed: Option<()>, round: usize) -> Option<u64> {
+pub(crate) fn probe_pushed(
+    out: &MutableBinaryArray<i32>,
+    pushed: Option<()>,
+    round: usize,
+) -> Option<u64> {
     match pushed {
         Some(()) => Some(probe_builder(out, round)),
         None => None,

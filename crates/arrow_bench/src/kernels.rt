@@ -3,7 +3,10 @@ use crate::bytes::marks;
 use crate::whole::{array_of_parts, probe_array};
 use crate::{text, told};
 use arrow_boolean::BooleanArray;
-use arrow_kernels::{filter_primitive, filter_utf8, take_primitive, take_utf8};
+use arrow_kernels::{
+    concat_primitive, concat_utf8, filter_primitive, filter_utf8, take_primitive, take_utf8,
+    true_count,
+};
 use arrow_memory::bitmap::Bitmap;
 use arrow_primitive::PrimitiveArray;
 use arrow_types::data_type::DataType;
@@ -243,6 +246,141 @@ pub extern "C" fn rattle_flat_take_utf8(
 ) -> u64 {
     match texts_array(alloc, data, offsets, valid) {
         Some(array) => told(take_texts(alloc, &array, keys, rounds)),
+        None => u64::MAX,
+    }
+}
+
+/// An array in two parts, the second of which begins at a third of its slots, so at no border of bytes
+/// of marks.
+fn values_parts(alloc: Global, array: PrimitiveArray<i64>) -> Option<Vec<PrimitiveArray<i64>>> {
+    let len = array.len();
+    let cut = len / 3;
+    let rest = array.clone().ok()?.sliced(cut, len - cut);
+    let mut parts = Vec::new(alloc);
+    parts.push(array.sliced(0, cut)).ok()?;
+    parts.push(rest).ok()?;
+    Some(parts)
+}
+
+#[inline(always)]
+fn concat_values_once(alloc: Global, parts: &[PrimitiveArray<i64>], round: usize) -> Option<u64> {
+    if parts.is_empty() {
+        return None;
+    }
+    match concat_primitive(alloc, parts) {
+        Ok(made) => Some(probe_array(&made, round)),
+        Err(_) => None,
+    }
+}
+
+fn concat_values_each(alloc: Global, parts: &[PrimitiveArray<i64>], rounds: usize) -> Option<u64> {
+    let mut sum = 0u64;
+    for round in 0..rounds {
+        sum = sum.wrapping_add(concat_values_once(alloc, parts, round)?);
+    }
+    Some(sum)
+}
+
+fn concat_values_of(alloc: Global, array: PrimitiveArray<i64>, rounds: usize) -> Option<u64> {
+    match values_parts(alloc, array) {
+        Some(parts) => concat_values_each(alloc, &parts, rounds),
+        None => None,
+    }
+}
+
+// concatenation of an array in two parts
+#[unsafe(no_mangle)]
+pub extern "C" fn rattle_flat_concat_prim(
+    alloc: Global,
+    values: &[i64],
+    valid: &[u8],
+    rounds: usize,
+) -> u64 {
+    match array_of_parts(alloc, values, valid) {
+        Some(array) => told(concat_values_of(alloc, array, rounds)),
+        None => u64::MAX,
+    }
+}
+
+/// The same of an array of texts.
+fn texts_parts(alloc: Global, array: Utf8Array<i32>) -> Option<Vec<Utf8Array<i32>>> {
+    let len = array.len();
+    let cut = len / 3;
+    let rest = array.clone().ok()?.sliced(cut, len - cut);
+    let mut parts = Vec::new(alloc);
+    parts.push(array.sliced(0, cut)).ok()?;
+    parts.push(rest).ok()?;
+    Some(parts)
+}
+
+#[inline(always)]
+fn concat_texts_once(alloc: Global, parts: &[Utf8Array<i32>], round: usize) -> Option<u64> {
+    if parts.is_empty() {
+        return None;
+    }
+    match concat_utf8(alloc, parts) {
+        Ok(made) => Some(text::probe_array(&made, round)),
+        Err(_) => None,
+    }
+}
+
+fn concat_texts_each(alloc: Global, parts: &[Utf8Array<i32>], rounds: usize) -> Option<u64> {
+    let mut sum = 0u64;
+    for round in 0..rounds {
+        sum = sum.wrapping_add(concat_texts_once(alloc, parts, round)?);
+    }
+    Some(sum)
+}
+
+fn concat_texts(alloc: Global, array: Utf8Array<i32>, rounds: usize) -> Option<u64> {
+    match texts_parts(alloc, array) {
+        Some(parts) => concat_texts_each(alloc, &parts, rounds),
+        None => None,
+    }
+}
+
+#[unsafe(no_mangle)]
+pub extern "C" fn rattle_flat_concat_utf8(
+    alloc: Global,
+    data: &[u8],
+    offsets: &[i32],
+    valid: &[u8],
+    rounds: usize,
+) -> u64 {
+    match texts_array(alloc, data, offsets, valid) {
+        Some(array) => told(concat_texts(alloc, array, rounds)),
+        None => u64::MAX,
+    }
+}
+
+/// The array of truth values with their marks, one byte each.
+fn truths_array(alloc: Global, bits: &[u8], valid: &[u8]) -> Option<BooleanArray> {
+    match mask(alloc, bits)? {
+        Some(values) => {
+            BooleanArray::try_new(DataType::Boolean, values, mask(alloc, valid)?).ok()
+        }
+        None => None,
+    }
+}
+
+fn true_counts(array: &BooleanArray, rounds: usize) -> u64 {
+    let mut sum = 0u64;
+    for _ in 0..rounds {
+        sum = sum.wrapping_add(true_count(array) as u64);
+    }
+    sum
+}
+
+// the number of slots that are valid and true
+#[unsafe(no_mangle)]
+pub extern "C" fn rattle_flat_bool_true_count(
+    alloc: Global,
+    bits: &[u8],
+    valid: &[u8],
+    rounds: usize,
+) -> u64 {
+    match truths_array(alloc, bits, valid) {
+        Some(array) => true_counts(&array, rounds),
         None => u64::MAX,
     }
 }

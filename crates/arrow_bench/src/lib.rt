@@ -7,6 +7,7 @@ mod boolean;
 mod bytes;
 mod kernels;
 mod primitive;
+mod ranges;
 mod read;
 mod text;
 mod whole;

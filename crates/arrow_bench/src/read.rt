@@ -41,6 +41,62 @@ pub extern "C" fn rattle_flat_prim_iter_sum(
     told(iter_sum(alloc, values, valid, rounds))
 }
 
+#[inline(always)]
+fn by_range(array: &PrimitiveArray<i64>, at: usize, window: usize, start: i64) -> i64 {
+    if at > array.len() || window > array.len() - at {
+        return start;
+    }
+    let mut sum = start;
+    for slot in array.iter_range(at, window) {
+        if let Some(value) = slot {
+            sum = sum.wrapping_add(*value);
+        }
+    }
+    sum
+}
+
+#[inline(never)]
+fn by_ranges(array: &PrimitiveArray<i64>, window: usize, start: i64) -> i64 {
+    let mut sum = start;
+    for i in 0..array.len().checked_div(window).unwrap_or(0) {
+        sum = by_range(array, i.wrapping_mul(window), window, sum);
+    }
+    sum
+}
+
+fn ranges_all(array: &PrimitiveArray<i64>, window: usize, rounds: usize) -> u64 {
+    let mut sum = 0i64;
+    for _ in 0..rounds {
+        sum = by_ranges(array, window, sum);
+    }
+    sum.cast_unsigned()
+}
+
+fn range_sum(
+    alloc: Global,
+    values: &[i64],
+    valid: &[u8],
+    window: usize,
+    rounds: usize,
+) -> Option<u64> {
+    match array(alloc, values, valid) {
+        Some(array) => Some(ranges_all(&array, window, rounds)),
+        None => None,
+    }
+}
+
+// as prim_iter_sum, of parts of so many slots, one after the other
+#[unsafe(no_mangle)]
+pub extern "C" fn rattle_flat_prim_range_sum(
+    alloc: Global,
+    values: &[i64],
+    valid: &[u8],
+    window: usize,
+    rounds: usize,
+) -> u64 {
+    told(range_sum(alloc, values, valid, window, rounds))
+}
+
 #[inline(never)]
 fn by_builder_iter(array: &MutablePrimitiveArray<i64>, start: i64) -> i64 {
     let mut sum = start;

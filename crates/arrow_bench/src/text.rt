@@ -182,7 +182,11 @@ fn push_marked(
     Some(())
 }
 
-fn probe_pushed(out: &MutableUtf8Array<i32>, pushed: Option<()>, round: usize) -> Option<u64> {
+pub(crate) fn probe_pushed(
+    out: &MutableUtf8Array<i32>,
+    pushed: Option<()>,
+    round: usize,
+) -> Option<u64> {
     match pushed {
         Some(()) => Some(probe_builder(out, round)),
         None => None,
@@ -281,7 +285,7 @@ fn of_marks(
 }
 
 /// The same of marks, one byte each.
-fn of_parts(
+pub(crate) fn of_parts(
     alloc: Global,
     data: &[u8],
     item: usize,

@@ -33,7 +33,11 @@ pub(crate) fn of_parts(
 }
 
 #[inline(always)]
-fn probe_filled(out: &MutablePrimitiveArray<i64>, filled: Option<()>, round: usize) -> Option<u64> {
+pub(crate) fn probe_filled(
+    out: &MutablePrimitiveArray<i64>,
+    filled: Option<()>,
+    round: usize,
+) -> Option<u64> {
     match filled {
         Some(()) => Some(probe(out, round)),
         None => None,

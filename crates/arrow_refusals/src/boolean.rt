@@ -72,6 +72,7 @@ pub(crate) enum Growth {
     TryPush,
     PushNull,
     TryExtendFromSelf,
+    ExtendFromArray,
     Set,
     Reserve,
     ShrinkToFit,
@@ -83,6 +84,25 @@ fn replace(builder: &mut MutableBooleanArray) -> Result<(), Error> {
         return Ok(());
     }
     builder.set(0, None)
+}
+
+/// Appends the last slot of an array, where there is one.
+fn extend_by_last(builder: &mut MutableBooleanArray, array: &BooleanArray) -> Result<(), Error> {
+    if array.len() == 0 {
+        return Ok(());
+    }
+    builder.extend_from_array(array, array.len() - 1, 1)
+}
+
+/// The same of one that was made.
+fn take_last(
+    builder: &mut MutableBooleanArray,
+    array: Result<BooleanArray, Error>,
+) -> Result<(), Error> {
+    match array {
+        Ok(array) => extend_by_last(builder, &array),
+        Err(refused) => Err(refused),
+    }
 }
 
 // A small one is of a true slot, without a mask, and the other of a false slot and a null.
@@ -108,6 +128,7 @@ impl Growing for MutableBooleanArray {
             Growth::TryPush => self.try_push(None),
             Growth::PushNull => self.push_null(),
             Growth::TryExtendFromSelf => self.try_extend_from_self(other),
+            Growth::ExtendFromArray => take_last(self, freeze(other.clone())),
             Growth::Set => replace(self),
             Growth::Reserve => self.reserve(1000),
             Growth::ShrinkToFit => self.shrink_to_fit(),
@@ -122,6 +143,7 @@ const GROWTHS: &[(Growth, Stored)] = &[
     (Growth::TryPush, ("10", "10")),
     (Growth::PushNull, ("10", "10")),
     (Growth::TryExtendFromSelf, ("100", "110")),
+    (Growth::ExtendFromArray, ("10", "10")),
     (Growth::Set, ("0", "0")),
     (Growth::Reserve, ("1", "none")),
     (Growth::ShrinkToFit, ("1", "none")),

@@ -222,6 +222,7 @@ pub(crate) enum Growth {
     TryPush,
     PushNull,
     TryExtendFromSelf,
+    ExtendFromArray,
     Reserve,
     ShrinkToFit,
     Pop,
@@ -243,6 +244,7 @@ const GROWTHS: &[(Growth, Pieces)] = &[
         Growth::TryExtendFromSelf,
         (&[0, 1, 3, 3, 8], "aéthere", "1101"),
     ),
+    (Growth::ExtendFromArray, (&[0, 1, 6], "athere", "11")),
     (Growth::Reserve, (&[0, 1], "a", "none")),
     (Growth::ShrinkToFit, (&[0, 1], "a", "none")),
     (Growth::Pop, (&[0], "", "none")),
@@ -253,6 +255,28 @@ fn popped<K: Known>(answer: Result<Option<K::Owned>, Error>, text: &str) -> Resu
     match answer {
         Ok(Some(item)) if K::is(&item, text) => Ok(()),
         Ok(_) => Err(Error::OutOfSpec("another item")),
+        Err(refused) => Err(refused),
+    }
+}
+
+/// Appends the last slot of an array, where there is one.
+fn extend_by_last<K: ByteKind, O: Offset>(
+    builder: &mut MutableByteArray<K, O>,
+    array: &ByteArray<K, O>,
+) -> Result<(), Error> {
+    if array.len() == 0 {
+        return Ok(());
+    }
+    builder.extend_from_array(array, array.len() - 1, 1)
+}
+
+/// The same of one that was made.
+fn take_last<K: ByteKind, O: Offset>(
+    builder: &mut MutableByteArray<K, O>,
+    array: Result<ByteArray<K, O>, Error>,
+) -> Result<(), Error> {
+    match array {
+        Ok(array) => extend_by_last(builder, &array),
         Err(refused) => Err(refused),
     }
 }
@@ -280,6 +304,7 @@ impl<K: Known, O: Offset> Growing for MutableByteArray<K, O> {
             Growth::TryPush => K::push(self, Some(LONG), true),
             Growth::PushNull => self.push_null(),
             Growth::TryExtendFromSelf => self.try_extend_from_self(other),
+            Growth::ExtendFromArray => take_last(self, freeze(other.clone())),
             Growth::Reserve => self.reserve(100, 1000),
             Growth::ShrinkToFit => self.shrink_to_fit(),
             Growth::Pop => popped::<K>(self.pop(), "a"),
@@ -309,6 +334,8 @@ impl<K: Known, O: Offset> Growing for MutableByteValuesArray<K, O> {
             Growth::TryPush => K::push_item(self, LONG, true),
             Growth::PushOfANull | Growth::PushNull => self.push_null(),
             Growth::TryExtendFromSelf => self.try_extend_from_self(other),
+            // It takes no array, so the item that this would give is pushed.
+            Growth::ExtendFromArray => K::push_item(self, "there", false),
             Growth::Reserve => self.reserve(100, 1000),
             Growth::ShrinkToFit => self.shrink_to_fit(),
             Growth::Pop => popped::<K>(self.pop(), "a"),
@@ -403,7 +430,7 @@ pub(crate) enum Maker {
 }
 
 /// The array of a builder.
-fn freeze<K: ByteKind, O: Offset>(
+pub(crate) fn freeze<K: ByteKind, O: Offset>(
     builder: Result<MutableByteArray<K, O>, Error>,
 ) -> Result<ByteArray<K, O>, Error> {
     match builder {

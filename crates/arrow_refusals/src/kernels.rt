@@ -1,26 +1,30 @@
 //! Kernels. Each makes of an array of three slots, the second of which is null, one of a null and the last, or the same
-//! three over other offsets, and over their own again.
+//! three, as a concatenation of this array alone, or over other offsets, and over their own again.
 use crate::again::{Shows, shown};
 use crate::bytes::Pieces;
 use crate::{boolean, primitive};
 use arrow_binary::BinaryArray;
 use arrow_boolean::BooleanArray;
 use arrow_kernels::{
-    filter_binary, filter_boolean, filter_primitive, filter_utf8, narrow_binary, narrow_utf8,
-    take_binary, take_boolean, take_primitive, take_utf8, widen_binary, widen_utf8,
+    concat_binary, concat_boolean, concat_primitive, concat_utf8, filter_binary, filter_boolean,
+    filter_primitive, filter_utf8, narrow_binary, narrow_utf8, take_binary, take_boolean,
+    take_primitive, take_utf8, widen_binary, widen_utf8,
 };
 use arrow_primitive::PrimitiveArray;
 use arrow_testing::{after, told};
 use arrow_types::error::Error;
 use arrow_utf8::Utf8Array;
 use std::alloc::Global;
+use std::slice;
 use std::test::Fail;
 
-/// What a kernel does: it keeps the slots at which a filter is true, or takes those at places, or widens and narrows.
+/// What a kernel does: it keeps the slots at which a filter is true, or takes those at places, or concatenates, or widens
+/// and narrows.
 #[derive(Clone, Copy)]
 enum Act {
     Filter,
     Take,
+    Concat,
     Resize,
 }
 
@@ -53,6 +57,7 @@ impl Acted for PrimitiveArray<i64> {
         match act {
             Act::Filter if filter.len() == self.len() => filter_primitive(alloc, self, filter),
             Act::Take => take_primitive(alloc, self, KEYS),
+            Act::Concat => concat_primitive(alloc, slice::from_ref(self)),
             _ => Err(UNFIT),
         }
     }
@@ -67,6 +72,7 @@ impl Acted for BooleanArray {
         match act {
             Act::Filter if filter.len() == self.len() => filter_boolean(alloc, self, filter),
             Act::Take => take_boolean(alloc, self, KEYS),
+            Act::Concat => concat_boolean(alloc, slice::from_ref(self)),
             _ => Err(UNFIT),
         }
     }
@@ -102,6 +108,7 @@ impl Acted for BinaryArray<i32> {
         match act {
             Act::Filter if filter.len() == self.len() => filter_binary(alloc, self, filter),
             Act::Take => take_binary(alloc, self, KEYS),
+            Act::Concat => concat_binary(alloc, slice::from_ref(self)),
             Act::Resize => narrowed(alloc, widen_binary(alloc, self)),
             _ => Err(UNFIT),
         }
@@ -137,6 +144,7 @@ impl Acted for Utf8Array<i32> {
         match act {
             Act::Filter if filter.len() == self.len() => filter_utf8(alloc, self, filter),
             Act::Take => take_utf8(alloc, self, KEYS),
+            Act::Concat => concat_utf8(alloc, slice::from_ref(self)),
             Act::Resize => narrowed_text(alloc, widen_utf8(alloc, self)),
             _ => Err(UNFIT),
         }
@@ -177,13 +185,19 @@ fn all_act<V: Acted>(
 const NUMBERS: &[(Act, primitive::Stored)] = &[
     (Act::Filter, (&[0, 9], "01")),
     (Act::Take, (&[0, 9], "01")),
+    (Act::Concat, (&[7, 0, 9], "101")),
 ];
 
-const TRUTHS: &[(Act, boolean::Stored)] = &[(Act::Filter, ("01", "01")), (Act::Take, ("01", "01"))];
+const TRUTHS: &[(Act, boolean::Stored)] = &[
+    (Act::Filter, ("01", "01")),
+    (Act::Take, ("01", "01")),
+    (Act::Concat, ("101", "101")),
+];
 
 const ITEMS: &[(Act, Pieces)] = &[
     (Act::Filter, (&[0, 0, 3], "cde", "01")),
     (Act::Take, (&[0, 0, 3], "cde", "01")),
+    (Act::Concat, (&[0, 2, 2, 5], "abcde", "101")),
     (Act::Resize, (&[0, 2, 2, 5], "abcde", "101")),
 ];
 

@@ -2,7 +2,7 @@
 ghost use Rattle.std.specs.Prelude.{◌≡◌, length};
 
 use crate::again::{Copied, Growing, Making, Shows, all_grown, all_made, copy_of};
-use arrow_memory::bitmap::{Bitmap, BitmapIter, MutableBitmap};
+use arrow_memory::bitmap::{Bitmap, BitmapIter, MutableBitmap, and, not, or};
 use arrow_memory::buffer::Buffer;
 use arrow_testing::{after, all_told, is_mask, told};
 use arrow_types::error::Error;
@@ -98,8 +98,21 @@ fn extends(marks: &mut MutableBitmap, calls: &[(usize, usize)]) -> Result<bool, 
 /// The calls by which marks come from others, or room is made, or given back.
 pub(crate) enum Growth {
     ExtendFromBitmap,
+    ExtendFromRange,
     Reserve,
     ShrinkToFit,
+}
+
+/// Appends ten marks of a bitmap from its fifth on, once they are frozen, where it has so many.
+fn extend_from_fifth(marks: &mut MutableBitmap, other: &MutableBitmap) -> Result<(), Error> {
+    let frozen = other.clone()?.freeze()?;
+    let answer = if frozen.len() >= 15 {
+        marks.extend_from_range(&frozen, 5, 10)
+    } else {
+        Ok(())
+    };
+    drop(frozen);
+    answer
 }
 
 // A small one has one set mark, and the other a hundred clear ones.
@@ -121,6 +134,7 @@ impl Growing for MutableBitmap {
     fn grow(&mut self, other: &MutableBitmap, call: &Growth) -> Result<(), Error> {
         match call {
             Growth::ExtendFromBitmap => self.extend_from_bitmap(other),
+            Growth::ExtendFromRange => extend_from_fifth(self, other),
             Growth::Reserve => self.reserve(1000),
             Growth::ShrinkToFit => self.shrink_to_fit(),
         }
@@ -136,6 +150,7 @@ const GROWTHS: &[(Growth, Marks)] = &[
             100,
         ),
     ),
+    (Growth::ExtendFromRange, ("10000000000", 10)),
     (Growth::Reserve, ("1", 0)),
     (Growth::ShrinkToFit, ("1", 0)),
 ];
@@ -266,6 +281,9 @@ pub(crate) enum Frozen {
     Freeze,
     FreezeCounted,
     Clone,
+    And,
+    Or,
+    Not,
 }
 
 /// Marks that are frozen, with the count of the clear ones where one is asked for.
@@ -291,6 +309,30 @@ fn packed(alloc: Global, byte: u8) -> Result<Bitmap, Error> {
     }
 }
 
+/// The bitmap that a call combines of three marks and of three others, of which the last is set too.
+fn combined(alloc: Global, call: &Frozen) -> Result<Bitmap, Error> {
+    let first = Bitmap::from_slice(alloc, THREE.as_slice())?;
+    let answer = combined_with(alloc, &first, call);
+    drop(first);
+    answer
+}
+
+/// The same, of the first three.
+fn combined_with(alloc: Global, first: &Bitmap, call: &Frozen) -> Result<Bitmap, Error> {
+    let second = Bitmap::from_slice(alloc, [true, false, true].as_slice())?;
+    let answer = if first.len() != second.len() {
+        Err(Error::Overflow)
+    } else {
+        match call {
+            Frozen::And => and(alloc, first, &second),
+            Frozen::Or => or(alloc, first, &second),
+            _ => not(alloc, first),
+        }
+    };
+    drop(second);
+    answer
+}
+
 impl Making for Bitmap {
     type Maker = Frozen;
 
@@ -306,6 +348,7 @@ impl Making for Bitmap {
                 true,
             ),
             Frozen::Clone => copy_of(Bitmap::from_slice(alloc, THREE.as_slice())),
+            Frozen::And | Frozen::Or | Frozen::Not => combined(alloc, call),
         }
     }
 }
@@ -319,6 +362,9 @@ const FROZEN: &[(Frozen, Marks)] = &[
     (Frozen::Freeze, ("100", 2)),
     (Frozen::FreezeCounted, ("100", 2)),
     (Frozen::Clone, ("100", 2)),
+    (Frozen::And, ("100", 2)),
+    (Frozen::Or, ("101", 1)),
+    (Frozen::Not, ("011", 1)),
 ];
 
 /// The calls that make a buffer.

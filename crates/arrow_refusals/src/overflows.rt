@@ -1,7 +1,7 @@
 //! Growths that would end past the greatest offset: that is told, whether memory would be refused or not, and none is
 //! asked for.
-use crate::bytes::Known;
-use arrow_byte_array::MutableByteArray;
+use crate::bytes::{Known, freeze};
+use arrow_byte_array::{ByteArray, MutableByteArray};
 use arrow_bytes::{Binary, ByteKind, Utf8};
 use arrow_memory::offset::Offsets;
 use arrow_testing::{Tiny, all_told, are_offsets, tells};
@@ -64,26 +64,44 @@ fn room<K: ByteKind>(builder: &MutableByteArray<K, Tiny>) -> [usize; 3] {
 fn is_past<K: Known>(
     builder: &mut MutableByteArray<K, Tiny>,
     other: &MutableByteArray<K, Tiny>,
+    array: &ByteArray<K, Tiny>,
 ) -> bool {
     let is_full = K::push(builder, Some(SIXTY), false).is_ok();
     let before = room(builder);
     let pushed = tells(K::push(builder, Some(FORTY_ONE), false));
     let joined = tells(builder.try_extend_from_self(other));
+    let taken = tells(builder.extend_from_array(array, 0, array.len()));
     let is_left = (room(builder) == before) & (builder.values().len() == 60);
-    is_full & is_left & ([pushed, joined] == ["overflow"; 2])
+    is_full & is_left & ([pushed, joined, taken] == ["overflow"; 3])
 }
 
-/// Whether those of a new builder are; the other has room for forty-one bytes.
+/// Whether those of a new builder are, from a builder and from an array.
+fn is_past_both<K: Known>(
+    alloc: Global,
+    other: &MutableByteArray<K, Tiny>,
+    array: &ByteArray<K, Tiny>,
+) -> Result<bool, Error> {
+    match MutableByteArray::<K, Tiny>::with_capacities(alloc, 1, 60) {
+        Ok(mut builder) => {
+            let answer = is_past(&mut builder, other, array);
+            drop(builder);
+            Ok(answer)
+        }
+        Err(refused) => Err(refused),
+    }
+}
+
+/// Whether they are from a builder and from its array; that has room for forty-one bytes.
 fn is_past_new<K: Known>(
     alloc: Global,
     other: &mut MutableByteArray<K, Tiny>,
 ) -> Result<bool, Error> {
     let is_full = K::push(other, Some(FORTY_ONE), false).is_ok();
-    match MutableByteArray::<K, Tiny>::with_capacities(alloc, 1, 60) {
-        Ok(mut builder) => {
-            let answer = is_past(&mut builder, other) & is_full;
-            drop(builder);
-            Ok(answer)
+    match freeze(other.clone()) {
+        Ok(array) => {
+            let answer = is_past_both(alloc, other, &array);
+            drop(array);
+            if is_full { answer } else { Ok(false) }
         }
         Err(refused) => Err(refused),
     }

@@ -69,6 +69,7 @@ pub(crate) enum Growth {
     ExtendConstantByNulls,
     ExtendFromSlice,
     TryExtendFromSelf,
+    ExtendFromArray,
     Set,
     Reserve,
     ShrinkToFit,
@@ -80,6 +81,28 @@ fn replace(builder: &mut MutablePrimitiveArray<i64>) -> Result<(), Error> {
         return Ok(());
     }
     builder.set(0, None)
+}
+
+/// Appends the last slot of an array, where there is one.
+fn extend_by_last(
+    builder: &mut MutablePrimitiveArray<i64>,
+    array: &PrimitiveArray<i64>,
+) -> Result<(), Error> {
+    if array.len() == 0 {
+        return Ok(());
+    }
+    builder.extend_from_array(array, array.len() - 1, 1)
+}
+
+/// The same of one that was made.
+fn take_last(
+    builder: &mut MutablePrimitiveArray<i64>,
+    array: Result<PrimitiveArray<i64>, Error>,
+) -> Result<(), Error> {
+    match array {
+        Ok(array) => extend_by_last(builder, &array),
+        Err(refused) => Err(refused),
+    }
 }
 
 // A small one is of a value, without a mask, and the other of a null.
@@ -108,6 +131,7 @@ impl Growing for MutablePrimitiveArray<i64> {
             Growth::ExtendConstantByNulls => self.extend_constant(2, None),
             Growth::ExtendFromSlice => self.extend_from_slice([8, 9].as_slice()),
             Growth::TryExtendFromSelf => self.try_extend_from_self(other),
+            Growth::ExtendFromArray => take_last(self, freeze(other.clone())),
             Growth::Set => replace(self),
             Growth::Reserve => self.reserve(100),
             Growth::ShrinkToFit => self.shrink_to_fit(),
@@ -125,6 +149,7 @@ const GROWTHS: &[(Growth, Roomy)] = &[
     (Growth::ExtendConstantByNulls, (&[7, 0, 0], "100", 0)),
     (Growth::ExtendFromSlice, (&[7, 8, 9], "none", 0)),
     (Growth::TryExtendFromSelf, (&[7, 0], "10", 0)),
+    (Growth::ExtendFromArray, (&[7, 0], "10", 0)),
     (Growth::Set, (&[0], "0", 0)),
     (Growth::Reserve, (&[7], "none", 101)),
     (Growth::ShrinkToFit, (&[7], "none", 0)),
