@@ -2,14 +2,17 @@
 //! `stdout`, beside `src`.
 #![tactic(auto)]
 
-use arrow_boolean::BooleanArray;
-use arrow_kernels::{filter_utf8, take_utf8};
-use arrow_memory::buffer::Buffer;
-use arrow_memory::offset::{Offsets, OffsetsBuffer};
-use arrow_types::data_type::DataType;
-use arrow_types::error::Error;
-use arrow_utf8::{MutableUtf8Array, Utf8Array};
-use either::{Left, Right};
+mod wide;
+
+use crate::wide::widen;
+use dethrugn::array::{BooleanArray, MutableUtf8Array, Utf8Array};
+use dethrugn::buffer::Buffer;
+use dethrugn::compute::filter::filter_utf8;
+use dethrugn::compute::take::take_utf8;
+use dethrugn::datatypes::DataType;
+use dethrugn::either::{Left, Right};
+use dethrugn::error::Error;
+use dethrugn::offset::{Offsets, OffsetsBuffer};
 use std::alloc::Global;
 use std::io;
 
@@ -124,13 +127,21 @@ fn take(rt: &impl Print, alloc: Global, names: &Utf8Array<i32>) -> anyhow::Resul
     Ok(())
 }
 
+/// Prints how many slots there are over wider offsets.
+fn count_wide(rt: &impl Print, alloc: Global, names: &Utf8Array<i32>) -> anyhow::Result<()> {
+    let count = widen(alloc, names)?.len();
+    println!(rt; "{count} slots over offsets of 64 bits")?;
+    Ok(())
+}
+
 /// All that is done with an array.
 fn show(rt: &impl Print, alloc: Global, names: &Utf8Array<i32>) -> anyhow::Result<()> {
     read_ends(rt, names)?;
     share(rt, names)?;
     refuse(rt, alloc)?;
     filter(rt, alloc, names)?;
-    take(rt, alloc, names)
+    take(rt, alloc, names)?;
+    count_wide(rt, alloc, names)
 }
 
 fn main(rt: HostRuntime) -> anyhow::Result<()> {

@@ -1,0 +1,10 @@
+-- What proofs of callers cite, by the crate that proves it: `Rattle.dethrugn.proofs.CallerLemmas.Column.{parts_again}`.
+
+-- lists of offsets, and cuts of lists
+pub use Rattle.arrow_memory.proofs.CallerLemmas as Memory
+-- columns
+pub use Rattle.arrow_column.proofs.CallerLemmas as Column
+-- offsets and the items that they cut out
+pub use Rattle.arrow_bytes.proofs.CallerLemmas as Bytes
+-- kernels
+pub use Rattle.arrow_kernels.proofs.CallerLemmas as Kernels

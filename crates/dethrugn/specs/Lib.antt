@@ -1,0 +1,51 @@
+-- Definitions of the crates below that contracts of arrays, builders and kernels cite; callers cite them as specs of
+-- this crate.
+
+-- data types, their physical types, refusals; what failures leave; which index a number is; equality of types
+pub use Rattle.arrow_types.specs.Types
+pub use Rattle.arrow_types.specs.Failures
+pub use Rattle.arrow_types.specs.IndexKey
+pub use Rattle.arrow_types.specs.TypeEquality
+pub use Rattle.arrow_types.specs.Decisions
+-- the enums of data types and errors, and their variants (`Error.TheVariants`)
+pub use Rattle.arrow_types.specs.declared.data_type.DataType
+pub use Rattle.arrow_types.specs.declared.error.Error
+pub use Rattle.arrow_types.specs.declared.physical_type.PhysicalType
+pub use Rattle.arrow_types.specs.declared.primitive_type.PrimitiveType
+pub use Rattle.arrow_types.specs.declared.units.TimeUnit
+pub use Rattle.arrow_types.specs.declared.units.IntervalUnit
+-- marks of packed bytes, iterators over marks; offsets; rows and slots, and which mask fits
+pub use Rattle.arrow_memory.specs.Marks
+pub use Rattle.arrow_memory.specs.Items as MarkItems
+pub use Rattle.arrow_memory.specs.Offsets
+pub use Rattle.arrow_memory.specs.Rows
+-- columns, which are what contracts see of arrays and builders, and how they change and grow
+pub use Rattle.arrow_column.specs.Column
+pub use Rattle.arrow_column.specs.Masks
+pub use Rattle.arrow_column.specs.Growth
+pub use Rattle.arrow_column.specs.Appends
+pub use Rattle.arrow_column.specs.SlotEquality
+-- tests of raw parts in order
+pub use Rattle.arrow_column.specs.Acceptance
+pub use Rattle.arrow_primitive.specs.Fits as PrimitiveFits
+pub use Rattle.arrow_boolean.specs.Fits as BooleanFits
+-- the items between offsets; what is left of an iterator over items; bounds and keys
+pub use Rattle.arrow_check.specs.Pieces
+pub use Rattle.arrow_check.specs.Items
+pub use Rattle.arrow_check.specs.Bounds
+pub use Rattle.arrow_check.specs.Indexes
+-- text, the tests of text and what these read
+pub use Rattle.arrow_check.specs.Utf8
+pub use Rattle.arrow_check.specs.AsciiText
+pub use Rattle.arrow_check.specs.Texts
+pub use Rattle.arrow_check.specs.Windows
+pub use Rattle.arrow_check.specs.Reading
+-- columns of bytes and text, and what lies around their items; the two kinds of items
+pub use Rattle.arrow_bytes.specs.Column as ByteColumn
+pub use Rattle.arrow_bytes.specs.Pieces as Around
+pub use Rattle.arrow_bytes.specs.Cuts
+pub use Rattle.arrow_bytes.specs.Equality as ByteEquality
+pub use Rattle.arrow_bytes.specs.Kinds
+pub use Rattle.arrow_bytes.specs.Acceptance as ByteAcceptance
+-- what filters, takes and concatenations choose
+pub use Rattle.arrow_bytes.specs.Selection

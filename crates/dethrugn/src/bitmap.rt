@@ -1,0 +1,11 @@
+//! Bitmaps.
+pub use arrow_memory::bitmap::{
+    Bitmap, BitmapIntoIter as IntoIter, MutableBitmap, and, not, or,
+};
+
+/// Iterators over marks, and over slots.
+pub mod utils {
+    pub use arrow_memory::bitmap::{BitmapIter, MarkIter};
+    pub use arrow_memory::list_iter::ListIter;
+    pub use arrow_memory::zip_validity::ZipValidity;
+}

@@ -1,0 +1,4 @@
+//! Native types, and types of keys.
+pub use arrow_types::index_key::IndexKey;
+pub use arrow_types::native_type::{NativeType, days_ms, i256, months_days_ns};
+pub use arrow_types::primitive_type::PrimitiveType;
