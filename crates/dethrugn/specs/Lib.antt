@@ -1,8 +1,9 @@
 -- Definitions of the crates below that contracts of arrays, builders and kernels cite; callers cite them as specs of
 -- this crate.
 
--- data types, their physical types, refusals; what failures leave; which index a number is; equality of types
+-- data types, their physical types and texts, refusals; what failures leave; which index a number is; equality of types
 pub use Rattle.arrow_types.specs.Types
+pub use Rattle.arrow_types.specs.TypeText
 pub use Rattle.arrow_types.specs.Failures
 pub use Rattle.arrow_types.specs.IndexKey
 pub use Rattle.arrow_types.specs.TypeEquality
