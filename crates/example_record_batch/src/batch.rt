@@ -1,0 +1,155 @@
+//! Named columns of equal length.
+ghost use Rattle.std.specs.Prelude.{◌≡◌, ◌≤◌, ◌-◌, length, map, All, IfOk, IfErr, find, option_map, string_bytes};
+ghost use Rattle.std.specs.Str.{bytes_eq};
+ghost use Rattle.std.specs.Option.{option_copied};
+ghost use Rattle.dethrugn.specs.Types.{refusal};
+ghost use Rattle.example_record_batch.specs.AnyArrays.{FitsAnyCut, slot_count};
+ghost use Rattle.example_record_batch.specs.Batches.{HaveRows, IsBatch, batch_cut, batch_filtered, batch_of, column_of, field_cut, named, named_filtered, unequal_columns};
+
+use crate::any::AnyArray;
+use dethrugn::array::BooleanArray;
+use dethrugn::compute::filter::true_count;
+use dethrugn::error::Error;
+use std::alloc::Global;
+use std::marker::Model;
+
+/// A column, and its name.
+#[derive(Drop)]
+pub struct Field {
+    /// The name.
+    pub name: String,
+    /// The column.
+    pub array: AnyArray,
+}
+
+/// Columns, each of as many slots.
+#[derive(Drop)]
+pub struct RecordBatch {
+    fields: Vec<Field>,
+    len: usize,
+}
+
+// Contracts see the columns with their names, and how many rows there are.
+impl Model for RecordBatch {
+    ghost use Rattle.example_record_batch.specs.Batches.{Batch, HaveRows, batch_of};
+
+    ghost Value = { Batch };
+
+    ghost view = { λ batch. batch_of batch.fields.items batch.len };
+
+    ghost invariant = { λ batch. HaveRows batch.fields.items batch.len };
+}
+
+/// Keeps only `len` slots of each column from `offset` on.
+fn slice_all(fields: &mut Vec<Field>, offset: usize, len: usize)
+    requires { All (λ field. FitsAnyCut field.array offset len) fields.old.items }
+    ensures { fields.new.items ≡ map (field_cut offset len) fields.old.items }
+{
+    for field in fields.iter_mut() {
+        field.array.slice(offset, len);
+    }
+}
+
+/// A column of the same name, of the slots for which a filter of as many slots asks.
+fn filter_field(alloc: Global, field: &Field, filter: &BooleanArray) -> Result<Field, Error>
+    requires { length filter.now.rows ≡ slot_count field.now.array }
+    ensures ok { IfOk result (λ kept. named kept ≡ named_filtered filter.now (named field.now)) }
+    ensures err { IfErr result (λ e. e ≡ Error.OutOfMemory) }
+{
+    let array = field.array.filter(alloc, filter)?;
+    let name = field.name.clone()?;
+    Ok(Field { name, array })
+}
+
+/// Columns of the same names, of the slots for which a filter of as many slots asks.
+fn filter_all(
+    alloc: Global,
+    fields: &Vec<Field>,
+    filter: &BooleanArray,
+) -> Result<Vec<Field>, Error>
+    requires { HaveRows fields.now.items (length filter.now.rows) }
+    ensures ok { IfOk result (λ kept. map named kept.items ≡ map (λ field. named_filtered filter.now (named field)) fields.now.items) }
+    ensures err { IfErr result (λ e. e ≡ Error.OutOfMemory) }
+{
+    let mut kept = Vec::new(alloc);
+    for field in fields {
+        kept.push(filter_field(alloc, field, filter)?)?;
+    }
+    Ok(kept)
+}
+
+/// The first column of a name.
+fn find_field<'a>(fields: &'a [Field], name: &str) -> Option<&'a Field>
+    ensures { option_copied result ≡ find (λ field. bytes_eq (string_bytes field.name) name.now) fields.now }
+{
+    fields.iter().find(|field| field.name.as_str() == name)
+}
+
+impl RecordBatch {
+    /// The columns, which have to be of this length.
+    ///
+    /// # Errors
+    /// `OutOfSpec` where one isn't.
+    pub fn try_new(fields: Vec<Field>, len: usize) -> Result<Self, Error>
+        ensures ok { IfOk result (λ batch. HaveRows fields.items len × (batch ≡ batch_of fields.items len)) }
+        ensures err { IfErr result (λ e. refusal e ≡ unequal_columns) }
+    {
+        for field in &fields {
+            if field.array.len() != len {
+                return Err(Error::OutOfSpec("all columns of a batch must have the same length"));
+            }
+        }
+        Ok(RecordBatch { fields, len })
+    }
+
+    /// The number of rows.
+    pub fn num_rows(&self) -> usize
+        ensures rows { result ≡ self.now.rows }
+        ensures each { IsBatch self.now }
+    {
+        self.len
+    }
+
+    /// The columns.
+    pub fn fields(&self) -> &[Field]
+        ensures columns { batch_of result.now self.now.rows ≡ self.now }
+        ensures each { HaveRows result.now self.now.rows }
+    {
+        self.fields.as_slice()
+    }
+
+    /// The first column of a name.
+    pub fn column(&self, name: &str) -> Option<&AnyArray>
+        ensures { option_copied result ≡ column_of self.now name.now }
+    {
+        match find_field(self.fields.as_slice(), name) {
+            Some(field) => Some(&field.array),
+            None => None,
+        }
+    }
+
+    /// Keeps only `len` rows from `offset` on.
+    pub fn slice(&mut self, offset: usize, len: usize)
+        requires { (offset ≤ self.old.rows) × (len ≤ self.old.rows - offset) }
+        ensures { self.new ≡ batch_cut self.old offset len }
+    {
+        slice_all(&mut self.fields, offset, len);
+        self.len = len;
+    }
+
+    /// The rows for which a filter of as many slots asks.
+    ///
+    /// # Errors
+    /// `OutOfMemory` where memory is refused.
+    pub fn filter(&self, alloc: Global, filter: &BooleanArray) -> Result<Self, Error>
+        requires { length filter.now.rows ≡ self.now.rows }
+        ensures ok { IfOk result (λ kept. kept ≡ batch_filtered self.now filter.now) }
+        ensures err { IfErr result (λ e. e ≡ Error.OutOfMemory) }
+    {
+        let fields = filter_all(alloc, &self.fields, filter)?;
+        Ok(RecordBatch {
+            fields,
+            len: true_count(filter),
+        })
+    }
+}
