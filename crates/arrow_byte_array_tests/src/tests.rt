@@ -8,8 +8,8 @@
 mod arrays;
 mod builders;
 mod bytes;
-mod kinds;
 mod extend_from_array;
+mod kinds;
 mod text;
 mod values;
 

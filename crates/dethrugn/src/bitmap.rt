@@ -1,7 +1,5 @@
 //! Bitmaps.
-pub use arrow_memory::bitmap::{
-    Bitmap, BitmapIntoIter as IntoIter, MutableBitmap, and, not, or,
-};
+pub use arrow_memory::bitmap::{Bitmap, BitmapIntoIter as IntoIter, MutableBitmap, and, not, or};
 
 /// Iterators over marks, and over slots.
 pub mod utils {
