@@ -313,7 +313,7 @@ pub extern "C" fn rattle_flat_bits_set(alloc: Global, pattern: &[u8], rounds: us
     told(set(alloc, pattern, rounds))
 }
 
-/// The number of clear marks of what a call makes of a bitmap.
+/// Returns the number of clear marks of a bitmap that a call returned.
 fn clear_marks(made: Result<Bitmap, Error>) -> Option<u64> {
     match made {
         Ok(made) => Some(made.unset_bits() as u64),
@@ -345,7 +345,7 @@ fn not_all(alloc: Global, marks: &Bitmap, rounds: usize) -> Option<u64> {
     Some(sum)
 }
 
-// sum: the clear marks of the bits and of themselves
+// sum: the clear marks of the bits combined with themselves by `and`
 #[unsafe(no_mangle)]
 pub extern "C" fn rattle_flat_bits_and(
     alloc: Global,
@@ -359,7 +359,7 @@ pub extern "C" fn rattle_flat_bits_and(
     }
 }
 
-// sum: the clear marks of the bits or themselves
+// sum: the clear marks of the bits combined with themselves by `or`
 #[unsafe(no_mangle)]
 pub extern "C" fn rattle_flat_bits_or(
     alloc: Global,

@@ -250,8 +250,8 @@ pub extern "C" fn rattle_flat_take_utf8(
     }
 }
 
-/// An array in two parts, the second of which begins at a third of its slots, so at no border of bytes
-/// of marks.
+/// Returns an array in two parts. The second begins at a third of its slots, so that its marks do not
+/// begin at a byte.
 fn values_parts(alloc: Global, array: PrimitiveArray<i64>) -> Option<Vec<PrimitiveArray<i64>>> {
     let len = array.len();
     let cut = len / 3;
@@ -302,7 +302,7 @@ pub extern "C" fn rattle_flat_concat_prim(
     }
 }
 
-/// The same of an array of texts.
+/// Returns an array of texts in two parts, as `values_parts`.
 fn texts_parts(alloc: Global, array: Utf8Array<i32>) -> Option<Vec<Utf8Array<i32>>> {
     let len = array.len();
     let cut = len / 3;
@@ -353,7 +353,7 @@ pub extern "C" fn rattle_flat_concat_utf8(
     }
 }
 
-/// The array of truth values with their marks, one byte each.
+/// Creates an array of truth values and their marks, each given as one byte.
 fn truths_array(alloc: Global, bits: &[u8], valid: &[u8]) -> Option<BooleanArray> {
     match mask(alloc, bits)? {
         Some(values) => {

@@ -7,9 +7,9 @@ use arrow_primitive::{MutablePrimitiveArray, PrimitiveArray};
 use arrow_utf8::{MutableUtf8Array, Utf8Array};
 use std::alloc::Global;
 
-/// An array of which a builder takes a range.
+/// An array whose slots a builder takes a range of.
 trait RangeSource: Drop {
-    /// What is looked at of a builder that took it twice.
+    /// Returns a value read from a builder that took the range twice.
     fn taken(&self, alloc: Global, round: usize) -> Option<u64>;
 }
 
@@ -126,7 +126,7 @@ pub extern "C" fn rattle_flat_bool_extend_array(
     all(alloc, boolean::array(alloc, bits, valid), rounds)
 }
 
-/// The array of items of so many bytes and marks.
+/// Creates an array of items of `item` bytes each, with these marks.
 fn array_of_bytes(
     alloc: Global,
     data: &[u8],
@@ -150,7 +150,7 @@ pub extern "C" fn rattle_flat_bin_extend_array(
     all(alloc, array_of_bytes(alloc, data, item, valid), rounds)
 }
 
-/// The array of texts of so many bytes and marks.
+/// Creates an array of texts of `item` bytes each, with these marks.
 fn array_of_texts(alloc: Global, data: &[u8], item: usize, valid: &[u8]) -> Option<Utf8Array<i32>> {
     match text::of_parts(alloc, data, item, valid) {
         Some(builder) => builder.freeze().ok(),

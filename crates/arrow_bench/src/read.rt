@@ -85,7 +85,7 @@ fn range_sum(
     }
 }
 
-// as prim_iter_sum, of parts of so many slots, one after the other
+// as prim_iter_sum, over windows of `window` slots
 #[unsafe(no_mangle)]
 pub extern "C" fn rattle_flat_prim_range_sum(
     alloc: Global,

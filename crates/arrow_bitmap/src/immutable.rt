@@ -253,7 +253,7 @@ impl Bitmap {
 
     /// Returns the packed bytes and the place of the first mark.
     #[inline(always)]
-    pub(crate) fn packed(&self) -> (&[u8], usize)
+    pub(crate) fn packed_bytes(&self) -> (&[u8], usize)
         ensures within { result.1 + length self.now ≤ 8 * length result.0.now }
         ensures fits { result.1 + length self.now < 2 ^ 64 }
         ensures value { marks result.0.now result.1 (length self.now) ≡ self.now }

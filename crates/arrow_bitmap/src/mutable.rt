@@ -310,7 +310,7 @@ impl MutableBitmap {
         let Some(end) = self.length.checked_add(len) else {
             return Err(Error::OutOfMemory);
         };
-        let (bytes, start) = other.packed();
+        let (bytes, start) = other.packed_bytes();
         extend_from_bytes(&mut self.bytes, self.length, bytes, start + offset, len)?;
         self.length = end;
         Ok(())

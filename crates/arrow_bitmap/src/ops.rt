@@ -32,7 +32,7 @@ impl MarkOp for Conjunction {
     }
 }
 
-/// Whether one of the marks is set.
+/// Whether at least one of the marks is set.
 struct Disjunction;
 
 impl MarkOp for Disjunction {
@@ -97,8 +97,8 @@ fn combine<O: MarkOp>(alloc: Global, first: &Bitmap, second: &Bitmap) -> Result<
     let length = first.len();
     let mut bytes = Vec::new(alloc);
     bytes.resize(length.div_ceil(8), 0)?;
-    let (left, place) = first.packed();
-    let (right, other) = second.packed();
+    let (left, place) = first.packed_bytes();
+    let (right, other) = second.packed_bytes();
     write_combined::<O>(&mut bytes, left, place, right, other);
     Bitmap::from_bytes(bytes, length)
 }
@@ -115,7 +115,7 @@ pub fn and(alloc: Global, lhs: &Bitmap, rhs: &Bitmap) -> Result<Bitmap, Error>
     combine::<Conjunction>(alloc, lhs, rhs)
 }
 
-/// Returns the bitmap of the marks that are set in one of two bitmaps of equal length.
+/// Returns the bitmap of the marks that are set in at least one of two bitmaps of equal length.
 ///
 /// # Errors
 /// `OutOfMemory` if an allocation fails.

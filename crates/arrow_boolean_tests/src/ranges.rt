@@ -1,10 +1,10 @@
-//! The slots of a part of an array, which an iterator borrows.
+//! Iterators over a range of slots.
 use arrow_boolean::BooleanArray;
 use arrow_testing::{all_told, told};
 use arrow_types::error::Error;
 use std::test::Fail;
 
-/// Whether the part of an array from a place on has these slots, in order and from its end.
+/// Returns whether a range of an array has these slots, from both ends.
 fn has(array: &BooleanArray, offset: usize, slots: &[Option<bool>]) -> bool {
     let len = slots.len();
     if array.len() < offset || array.len() - offset < len {
@@ -26,7 +26,7 @@ fn has(array: &BooleanArray, offset: usize, slots: &[Option<bool>]) -> bool {
     is_sized && part.next().is_none() && back.next_back().is_none()
 }
 
-/// Whether parts of an array of eleven slots have theirs, and so do parts of its last ten.
+/// Returns whether ranges of an array of eleven slots, and of its last ten, have the right slots.
 fn are_parts(mut array: BooleanArray, slots: &[Option<bool>]) -> bool {
     if array.len() != 11 || slots.len() != 11 {
         return false;
@@ -37,7 +37,7 @@ fn are_parts(mut array: BooleanArray, slots: &[Option<bool>]) -> bool {
     are_whole && are_ends && has(&array, 0, &slots[1..]) && has(&array, 6, &slots[7..10])
 }
 
-/// Whether those of the array that was made do.
+/// Returns whether they do for an array, if it could be created.
 fn have_parts(array: Result<BooleanArray, Error>, slots: &[Option<bool>]) -> Result<bool, Error> {
     match array {
         Ok(array) => Ok(are_parts(array, slots)),

@@ -1,4 +1,4 @@
-//! What builders answer of the slot at a place, and which arrays and builders are empty.
+//! Reads of builders by index, and empty arrays and builders.
 use arrow_boolean::{BooleanArray, MutableBooleanArray};
 use arrow_testing::{all_told, told};
 use arrow_types::data_type::DataType;
@@ -6,7 +6,7 @@ use arrow_types::error::Error;
 use std::alloc::Global;
 use std::test::Fail;
 
-/// Whether a builder has these slots, told by their places, and so many nulls.
+/// Returns whether a builder has these slots and `nulls` nulls.
 fn answers(builder: &MutableBooleanArray, slots: &[Option<bool>], nulls: usize) -> bool {
     if builder.len() != slots.len() {
         return false;
@@ -19,7 +19,7 @@ fn answers(builder: &MutableBooleanArray, slots: &[Option<bool>], nulls: usize) 
     builder.is_empty() == slots.is_empty() && builder.null_count() == nulls
 }
 
-/// Whether one of such slots has.
+/// Returns whether a builder of these slots has them.
 fn built_answers(alloc: Global, slots: &[Option<bool>], nulls: usize) -> Result<bool, Error> {
     match MutableBooleanArray::from(alloc, slots) {
         Ok(builder) => Ok(answers(&builder, slots, nulls)),
@@ -27,7 +27,7 @@ fn built_answers(alloc: Global, slots: &[Option<bool>], nulls: usize) -> Result<
     }
 }
 
-/// Whether one of such values, without a mask, has.
+/// Returns whether a builder of these values, without a mask, has them.
 fn valued_answers(alloc: Global, values: &[bool], slots: &[Option<bool>]) -> Result<bool, Error> {
     match MutableBooleanArray::from_slice(alloc, values) {
         Ok(builder) => Ok(answers(&builder, slots, 0)),
@@ -46,7 +46,7 @@ fn slots_of_builders_by_place(rt: HostRuntime) -> Result<(), Fail> {
     ])
 }
 
-/// Whether an array is empty or not, as it should be.
+/// Returns whether `is_empty` of an array gives the expected answer.
 fn is_empty(array: Result<BooleanArray, Error>, wanted: bool) -> Result<bool, Error> {
     match array {
         Ok(array) => Ok(array.is_empty() == wanted),

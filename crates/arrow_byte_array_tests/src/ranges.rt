@@ -1,4 +1,4 @@
-//! The slots and the stored items of a part of an array, which an iterator borrows.
+//! Iterators over the slots and the stored items of a range.
 use arrow_binary::BinaryArray;
 use arrow_byte_array::ByteArray;
 use arrow_bytes::{Binary, ByteKind, Utf8};
@@ -10,7 +10,7 @@ use arrow_utf8::Utf8Array;
 use std::alloc::Global;
 use std::test::Fail;
 
-/// Whether the part of an array of text from a place on has these slots, in order and from its end.
+/// Returns whether a range of an array of text has these slots, from both ends.
 fn are_texts<O: Offset>(array: &Utf8Array<O>, offset: usize, slots: &[Option<&str>]) -> bool {
     let len = slots.len();
     if array.len() < offset || array.len() - offset < len {
@@ -26,7 +26,7 @@ fn are_texts<O: Offset>(array: &Utf8Array<O>, offset: usize, slots: &[Option<&st
     is_sized & part.next().is_none() & back.next_back().is_none()
 }
 
-/// Whether that of an array of bytes has.
+/// Returns whether a range of an array of bytes has these slots, from both ends.
 fn are_bytes<O: Offset>(array: &BinaryArray<O>, offset: usize, slots: &[Option<&[u8]>]) -> bool {
     let len = slots.len();
     if array.len() < offset || array.len() - offset < len {
@@ -42,7 +42,7 @@ fn are_bytes<O: Offset>(array: &BinaryArray<O>, offset: usize, slots: &[Option<&
     is_sized & part.next().is_none() & back.next_back().is_none()
 }
 
-/// Whether an array of text stores two items from a place on.
+/// Returns whether an array of text stores these two items from an index on.
 fn stores_texts<O: Offset>(array: &Utf8Array<O>, offset: usize, first: &str, last: &str) -> bool {
     if array.len() < offset || array.len() - offset < 2 {
         return false;
@@ -53,7 +53,7 @@ fn stores_texts<O: Offset>(array: &Utf8Array<O>, offset: usize, first: &str, las
     is_sized & are_ends & items.next().is_none()
 }
 
-/// Whether an array of bytes does.
+/// Returns whether an array of bytes does.
 fn stores_bytes<O: Offset>(
     array: &BinaryArray<O>,
     offset: usize,
@@ -69,7 +69,7 @@ fn stores_bytes<O: Offset>(
     is_sized & are_ends & items.next().is_none()
 }
 
-/// An array of items of two, no, one and three bytes under marks, which lie between other bytes.
+/// Creates an array of items of two, zero, one and three bytes with a mask and bytes around them.
 fn marked<K: ByteKind, O: Offset>(alloc: Global, mask: &str) -> Result<ByteArray<K, O>, Error> {
     let offsets = frozen_offsets::<O>(alloc, &[1, 3, 3, 4, 7])?;
     let values = Buffer::from_vec(b"-abcdef-".as_slice().to_vec(alloc)?)?;
@@ -77,7 +77,7 @@ fn marked<K: ByteKind, O: Offset>(alloc: Global, mask: &str) -> Result<ByteArray
     ByteArray::try_new(K::default_type(O::IS_LARGE), offsets, values, validity)
 }
 
-/// An array without its first slot.
+/// Returns an array without its first slot.
 fn without_first<K: ByteKind, O: Offset>(mut array: ByteArray<K, O>) -> ByteArray<K, O> {
     if array.len() > 0 {
         array.slice(1, array.len() - 1);
@@ -85,8 +85,8 @@ fn without_first<K: ByteKind, O: Offset>(mut array: ByteArray<K, O>) -> ByteArra
     array
 }
 
-/// Whether parts of an array of text have their slots and items, a null that stores bytes too, and so has a part of a
-/// slice.
+/// Returns whether ranges of an array of text have the right slots and items, also for a null that stores bytes and
+/// for a slice.
 fn parts_of_texts<O: Offset>(alloc: Global) -> Result<bool, Error> {
     let array = marked::<Utf8, O>(alloc, "1101")?;
     let slots = [Some("ab"), Some(""), None, Some("def")];
@@ -99,7 +99,7 @@ fn parts_of_texts<O: Offset>(alloc: Global) -> Result<bool, Error> {
     Ok(are_whole & are_last & are_none & are_stored & are_cut)
 }
 
-/// Whether parts of an array of bytes without a mask do.
+/// Returns whether ranges of an array of bytes without a mask do.
 fn parts_of_bytes<O: Offset>(alloc: Global) -> Result<bool, Error> {
     let array = marked::<Binary, O>(alloc, "none")?;
     let (first, third) = (b"ab".as_slice(), b"c".as_slice());

@@ -1,4 +1,4 @@
-//! What builders answer of the slot at a place, and which arrays and builders are empty.
+//! Reads of builders by index, and empty arrays and builders.
 use arrow_binary::MutableBinaryArray;
 use arrow_byte_array::{ByteArray, MutableByteArray, MutableByteValuesArray};
 use arrow_bytes::{Binary, ByteKind, Utf8};
@@ -9,7 +9,7 @@ use arrow_utf8::MutableUtf8Array;
 use std::alloc::Global;
 use std::test::Fail;
 
-/// Whether a builder of text has these slots, told by their places.
+/// Returns whether a builder of text has these slots.
 fn are_texts<O: Offset>(builder: &MutableUtf8Array<O>, slots: &[Option<&str>]) -> bool {
     if builder.len() != slots.len() {
         return false;
@@ -22,7 +22,7 @@ fn are_texts<O: Offset>(builder: &MutableUtf8Array<O>, slots: &[Option<&str>]) -
     true
 }
 
-/// Whether a builder of bytes has.
+/// Returns whether a builder of bytes has these slots.
 fn are_bytes<O: Offset>(builder: &MutableBinaryArray<O>, slots: &[Option<&[u8]>]) -> bool {
     if builder.len() != slots.len() {
         return false;
@@ -35,7 +35,7 @@ fn are_bytes<O: Offset>(builder: &MutableBinaryArray<O>, slots: &[Option<&[u8]>]
     true
 }
 
-/// A builder of items of no, two and one byte under marks.
+/// Creates a builder of items of zero, two and one byte with a mask.
 fn marked<K: ByteKind, O: Offset>(
     alloc: Global,
     mask: &str,
@@ -46,7 +46,7 @@ fn marked<K: ByteKind, O: Offset>(
     MutableByteArray::try_new(K::default_type(O::IS_LARGE), offsets, values, validity)
 }
 
-/// Whether a null of text that stores bytes is one, and slots without a mask are valid.
+/// Returns whether a null slot that stores text reads as null, and slots without a mask as valid.
 fn texts_by_place(alloc: Global) -> Result<bool, Error> {
     let some = marked::<Utf8, i32>(alloc, "101")?;
     let is_right = are_texts(&some, &[Some(""), None, Some("c")]) & (some.null_count() == 1);
@@ -56,7 +56,7 @@ fn texts_by_place(alloc: Global) -> Result<bool, Error> {
     Ok(is_right & are_texts(&all, slots.as_slice()) & (all.null_count() == 0))
 }
 
-/// Whether nulls of bytes that store some are.
+/// Returns whether null slots that store bytes read as null.
 fn bytes_by_place(alloc: Global) -> Result<bool, Error> {
     let builder = marked::<Binary, i64>(alloc, "010")?;
     let slots = [None, Some(b"ab".as_slice()), None];
@@ -70,7 +70,7 @@ fn slots_of_builders_by_place(rt: HostRuntime) -> Result<(), Fail> {
     Ok(())
 }
 
-/// Whether builders are empty until a slot is appended, and arrays without one are.
+/// Returns whether builders are empty until a slot is appended.
 fn empties<K: ByteKind, O: Offset>(alloc: Global) -> Result<bool, Error> {
     let mut builder = MutableByteArray::<K, O>::new(alloc)?;
     let is_empty = builder.is_empty();
@@ -78,7 +78,7 @@ fn empties<K: ByteKind, O: Offset>(alloc: Global) -> Result<bool, Error> {
     Ok(is_empty & !builder.is_empty())
 }
 
-/// The same of builders without nulls.
+/// Returns whether builders without nulls are.
 fn empty_items<K: ByteKind, O: Offset>(alloc: Global) -> Result<bool, Error> {
     let mut builder = MutableByteValuesArray::<K, O>::new(alloc)?;
     let is_empty = builder.is_empty();
@@ -86,7 +86,7 @@ fn empty_items<K: ByteKind, O: Offset>(alloc: Global) -> Result<bool, Error> {
     Ok(is_empty & !builder.is_empty())
 }
 
-/// Whether an array is empty or not, as it should be.
+/// Returns whether `is_empty` of an array gives the expected answer.
 fn is_empty<K: ByteKind, O: Offset>(
     array: Result<ByteArray<K, O>, Error>,
     wanted: bool,
@@ -97,7 +97,7 @@ fn is_empty<K: ByteKind, O: Offset>(
     }
 }
 
-/// Whether arrays of no slot are empty, and one of a null is not.
+/// Returns whether arrays of no slot are empty, and an array of one null is not.
 fn empty_arrays<K: ByteKind, O: Offset>(alloc: Global) -> Result<bool, Error> {
     let none = is_empty(ByteArray::<K, O>::default(alloc), true)?;
     let null = ByteArray::<K, O>::new_null(alloc, K::default_type(O::IS_LARGE), 1);

@@ -1,5 +1,5 @@
 -- What kernels make of columns: a column of some of the rows of another, those for which a filter asks, or those at the
--- places that keys tell; and one of the rows of several, one column after the other.
+-- places that keys tell; and the concatenation of several columns.
 use Rattle.std.specs.Prelude.{◌≡◌, ◌&&◌, ℕ, ℤ, Bool, false, not, nat_lt, List, [], ◌∷◌, length, map, find, flat_map}
 use Rattle.std.specs.Prelude.{Option, slice_get, option_and_then, unwrap_or}
 use Rattle.std.specs.List.{concat, filter_map, zip}
@@ -51,16 +51,16 @@ first_out_of_bounds number column keys = find (λ key. not (in_bounds (length co
 abbrev pub taking_overflows : {K : Type 0} → ℕ → (K → ℤ) → ByteColumn → List K → Bool
 taking_overflows most number column keys = nat_lt most (length (concat (at_keys number keys (stored_values column))))
 
--- the column of the rows of several, one column after the other, under the type of the first
+-- the column of the rows of several columns in order, with the type of the first
 abbrev pub concatenated : {A S : Type 0} → A → ColumnWith A S → List (ColumnWith A S) → ColumnWith A S
 concatenated nothing first columns = column_of_rows nothing first (flat_map (λ column. column.rows) columns)
 
--- there is a first of these columns, and this is what they are one after the other
+-- there is at least one column, and this is their concatenation
 abbrev pub Concatenates : {A S : Type 0} → A → List (ColumnWith A S) → ColumnWith A S → Type 0
 Concatenates nothing [] made = ⊥
 Concatenates nothing (first ∷ others) made = made ≡ concatenated nothing first (first ∷ others)
 
--- whether the items of several columns would end past the greatest number of an offset
+-- whether the items of several columns together have more bytes than the greatest offset
 abbrev pub concat_overflows : ℕ → List ByteColumn → Bool
 concat_overflows most columns = nat_lt most (length (concat (flat_map stored_values columns)))
 

@@ -33,7 +33,7 @@ fn keys_of_other_types(rt: HostRuntime) {
     assert!(rt; are_told & (wide() == [PAST, "made"]));
 }
 
-/// What is told of four keys with these marks, of a list of three items.
+/// Returns the answer of `check_slots` for four keys with these marks and a list of three items.
 fn told_of_slots(
     alloc: Global,
     rt: &impl Abort,
@@ -50,7 +50,7 @@ fn told_of_slots(
     tells(answer)
 }
 
-/// Keys, their marks, and what is told of them.
+/// Keys, their marks, and the expected answer.
 const SLOTS: &[([i32; 4], [bool; 4], &str)] = &[
     ([2, 9, 0, -1], [true, false, true, false], "made"),
     ([2, 9, 0, -1], [true, false, true, true], NO_INDEX),

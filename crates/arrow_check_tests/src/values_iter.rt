@@ -70,7 +70,7 @@ fn turns_from_both_ends(rt: HostRuntime) {
     assert!(rt; turns(&tens()));
 }
 
-/// Whether parts of three items have theirs, from both ends.
+/// Returns whether ranges of three items give the right items, from both ends.
 fn has_parts(array: &Numbers) -> bool {
     if array.len() != 3 {
         return false;

@@ -10,16 +10,16 @@ use Rattle.arrow_column.proofs.ColumnLemmas as column
 pub use Rattle.arrow_column.proofs.ColumnLemmas.{all-bare, appended-values, needless-bare}
 -- The slots of valid rows are their stored values; where no mask is held, all rows are valid.
 pub use Rattle.arrow_column.proofs.ColumnLemmas.{slots_valid, valid_by_held}
--- The rows of stored values and a mask that fits: as many as the values, which they store; their marks, those of the mask
--- that is held, or all set where none is; and what they show.
+-- The rows of stored values and a mask that fits: as many as the values, which they store; their marks, those of the
+-- mask, or all set without one; and their slots.
 pub use Rattle.arrow_column.proofs.RowLemmas.{length-rows, stored-rows}
 pub use Rattle.arrow_column.proofs.SlotLemmas.{held-marks, bare-marks, held-shown, held-null, bare-shown}
--- The slot at a place of rows, by its stored value and its mark; a null, by its mark; what a slot shows is stored there.
+-- The slot at an index, by its stored value and its mark; a null, by its mark; a value that a slot shows is stored.
 pub use Rattle.arrow_column.proofs.RowLemmas.{slot-at, null-at, set-mark}
 pub use Rattle.arrow_column.proofs.SlotLemmas.{shown-stored}
 -- A builder shows what was appended: one slot, and many.
 pub use Rattle.arrow_column.proofs.SlotLemmas.{one-slot, many-slots}
--- A cut of a list: its length, what is made of each of it, and that at a place.
+-- A cut of a list: its length, and a map of it, as a whole and at an index.
 pub use Rattle.arrow_column.proofs.SlotLemmas.{length-cut, map-piece, get-piece}
 -- The parts of a column make it again.
 pub use Rattle.arrow_column.proofs.ColumnLemmas.{column_again}

@@ -1,5 +1,5 @@
 //! Immutable columns, of which arrays are made.
-ghost use Rattle.std.specs.Prelude.{IsTrue, None, ◌≡◌, ◌↔◌, ◌-◌, ◌<◌, length, not, count_by, slice_get, Some};
+ghost use Rattle.std.specs.Prelude.{IsTrue, None, ◌≡◌, ◌==◌, ◌-◌, ◌<◌, length, not, count_by, slice_get, Some};
 ghost use Rattle.std.specs.Prelude.{IfSome, map, take, drop};
 ghost use Rattle.std.specs.Option.{option_copied};
 ghost use Rattle.arrow_types.specs.Types.{logical_type};
@@ -94,7 +94,7 @@ impl<V: Values> FrozenColumn<V> {
     /// Returns whether there is no slot.
     #[inline(always)]
     pub fn is_empty(&self) -> bool
-        ensures { IsTrue result ↔ length self.now.rows ≡ 0 }
+        ensures { result ≡ (length self.now.rows == 0) }
     {
         self.len() == 0
     }

@@ -1,5 +1,5 @@
 //! Growing columns, of which builders are made.
-ghost use Rattle.std.specs.Prelude.{IsTrue, slice_get, not, is_some, count_by, ◌≡◌, ◌↔◌, ◌<◌, ◌-◌, length, Some};
+ghost use Rattle.std.specs.Prelude.{IsTrue, slice_get, not, is_some, count_by, ◌≡◌, ◌==◌, ◌<◌, ◌-◌, length, Some};
 ghost use Rattle.std.specs.Prelude.{None, OnOk, IfOk, IfErr, IfSome, option_map};
 ghost use Rattle.std.specs.Option.{option_copied};
 ghost use Rattle.arrow_types.specs.Failures.{OnlyOutOfMemory, OutOfMemoryKeeps};
@@ -98,7 +98,7 @@ impl<V: MutableValues> GrowingColumn<V> {
     /// Returns whether there is no slot.
     #[inline(always)]
     pub fn is_empty(&self) -> bool
-        ensures { IsTrue result ↔ length self.now.rows ≡ 0 }
+        ensures { result ≡ (length self.now.rows == 0) }
     {
         self.len() == 0
     }

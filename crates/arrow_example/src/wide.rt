@@ -1,5 +1,5 @@
-//! A call whose contract follows from a law. It stands in a file of its own: the toolchain refuses a clause about an array
-//! in a file that imports `DataType` from a crate that passes it on.
+//! A call whose contract follows from a law. It stands in a file of its own: the toolchain refuses a clause about an
+//! array in a file that imports `DataType` from a crate that passes it on.
 ghost use Rattle.std.specs.Prelude.{◌≡◌, IfOk};
 ghost use Rattle.dethrugn.specs.Column.{slots_of};
 
@@ -11,9 +11,10 @@ use dethrugn::laws::BytesAround;
 use dethrugn::laws::kernels::retyped_slots;
 use std::alloc::Global;
 
-/// Returns the same slots over offsets of 64 bits. The contract of `widen_utf8` names the column that it makes, and a law
-/// says that such a column has the same slots. A law is a function that does nothing, called where its fact is needed; its
-/// types are those of every column of bytes or text, what lies around the items and an item.
+/// Returns the same slots over offsets of 64 bits. The contract of `widen_utf8` names the column that
+/// it makes, and a law says that this column has the same slots. A law is a function with an empty
+/// body, which is called where its fact is needed. It takes two types: of what lies around the items
+/// and of an item.
 pub(crate) fn widen(alloc: Global, names: &Utf8Array<i32>) -> Result<Utf8Array<i64>, Error>
     ensures { IfOk result (λ wide. slots_of wide ≡ slots_of names.now) }
 {

@@ -42,10 +42,10 @@ trait Chosen: Drop + Sized {
     /// What keys take.
     fn taken(&self, alloc: Global, keys: &[Self::Key]) -> Result<Self, Error>;
 
-    /// So many of its slots from a place on; where it hasn't so many no answer.
+    /// Returns a slice, or `None` if it does not lie within the array.
     fn part(self, offset: usize, len: usize) -> Option<Self>;
 
-    /// Several arrays one after the other; of none no answer.
+    /// Returns the concatenation of arrays, or `None` if there is none.
     fn joined(alloc: Global, arrays: &[Self]) -> Option<Result<Self, Error>>;
 }
 
@@ -215,10 +215,10 @@ fn all_tell<A: Chosen>(
     Ok(true)
 }
 
-/// What a part of an array is answered that hasn't so many slots.
+/// The answer for a slice that does not lie within the array.
 const NO_PART: Error = Error::OutOfSpec("no such part");
 
-/// Appends an array that was made to others.
+/// Appends an array to others, if it could be created.
 fn push_array<A: Chosen>(arrays: &mut Vec<A>, array: Option<A>) -> Result<(), Error> {
     match array {
         Some(array) => Ok(arrays.push(array)?),
@@ -226,7 +226,7 @@ fn push_array<A: Chosen>(arrays: &mut Vec<A>, array: Option<A>) -> Result<(), Er
     }
 }
 
-/// Appends so many slots of the array that is written so, from a place on.
+/// Appends a slice of the array that a text writes.
 fn push_part<A: Chosen>(
     alloc: Global,
     arrays: &mut Vec<A>,
@@ -239,7 +239,7 @@ fn push_part<A: Chosen>(
     }
 }
 
-/// The parts of the arrays that are written so.
+/// Returns slices of the arrays that texts write.
 fn parts_of<A: Chosen>(
     alloc: Global,
     parts: &[(A::Written, usize, usize)],
@@ -251,7 +251,7 @@ fn parts_of<A: Chosen>(
     Ok(arrays)
 }
 
-/// What the arrays that were made are one after the other.
+/// Returns the concatenation of arrays, as a text.
 fn joined_parts<A: Chosen>(alloc: Global, arrays: Result<Vec<A>, Error>) -> Result<A, Error> {
     match arrays {
         Ok(arrays) => match A::joined(alloc, &arrays) {
@@ -262,7 +262,7 @@ fn joined_parts<A: Chosen>(alloc: Global, arrays: Result<Vec<A>, Error>) -> Resu
     }
 }
 
-/// Whether parts of arrays are this one after the other.
+/// Returns whether the concatenation of slices is the expected one.
 fn all_join<A: Chosen>(
     alloc: Global,
     cases: &[(&[(A::Written, usize, usize)], A::Written)],

@@ -86,7 +86,7 @@ fn replace(builder: &mut MutableBooleanArray) -> Result<(), Error> {
     builder.set(0, None)
 }
 
-/// Appends the last slot of an array, where there is one.
+/// Appends the last slot of an array, if there is one.
 fn extend_by_last(builder: &mut MutableBooleanArray, array: &BooleanArray) -> Result<(), Error> {
     if array.len() == 0 {
         return Ok(());
@@ -94,7 +94,7 @@ fn extend_by_last(builder: &mut MutableBooleanArray, array: &BooleanArray) -> Re
     builder.extend_from_array(array, array.len() - 1, 1)
 }
 
-/// The same of one that was made.
+/// Does so if the array could be created.
 fn take_last(
     builder: &mut MutableBooleanArray,
     array: Result<BooleanArray, Error>,

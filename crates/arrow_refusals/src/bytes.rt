@@ -259,7 +259,7 @@ fn popped<K: Known>(answer: Result<Option<K::Owned>, Error>, text: &str) -> Resu
     }
 }
 
-/// Appends the last slot of an array, where there is one.
+/// Appends the last slot of an array, if there is one.
 fn extend_by_last<K: ByteKind, O: Offset>(
     builder: &mut MutableByteArray<K, O>,
     array: &ByteArray<K, O>,
@@ -270,7 +270,7 @@ fn extend_by_last<K: ByteKind, O: Offset>(
     builder.extend_from_array(array, array.len() - 1, 1)
 }
 
-/// The same of one that was made.
+/// Does so if the array could be created.
 fn take_last<K: ByteKind, O: Offset>(
     builder: &mut MutableByteArray<K, O>,
     array: Result<ByteArray<K, O>, Error>,
@@ -334,7 +334,7 @@ impl<K: Known, O: Offset> Growing for MutableByteValuesArray<K, O> {
             Growth::TryPush => K::push_item(self, LONG, true),
             Growth::PushOfANull | Growth::PushNull => self.push_null(),
             Growth::TryExtendFromSelf => self.try_extend_from_self(other),
-            // It takes no array, so the item that this would give is pushed.
+            // This builder takes no array, so the item is pushed instead.
             Growth::ExtendFromArray => K::push_item(self, "there", false),
             Growth::Reserve => self.reserve(100, 1000),
             Growth::ShrinkToFit => self.shrink_to_fit(),

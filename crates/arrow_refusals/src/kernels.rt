@@ -18,8 +18,7 @@ use std::alloc::Global;
 use std::slice;
 use std::test::Fail;
 
-/// What a kernel does: it keeps the slots at which a filter is true, or takes those at places, or concatenates, or widens
-/// and narrows.
+/// A kernel: filter, take, concatenation, or widening and narrowing.
 #[derive(Clone, Copy)]
 enum Act {
     Filter,

@@ -103,7 +103,7 @@ pub(crate) enum Growth {
     ShrinkToFit,
 }
 
-/// Appends ten marks of a bitmap from its fifth on, once they are frozen, where it has so many.
+/// Freezes a bitmap and appends ten of its marks, from the fifth on, if it has as many.
 fn extend_from_fifth(marks: &mut MutableBitmap, other: &MutableBitmap) -> Result<(), Error> {
     let frozen = other.clone()?.freeze()?;
     let answer = if frozen.len() >= 15 {
@@ -309,7 +309,7 @@ fn packed(alloc: Global, byte: u8) -> Result<Bitmap, Error> {
     }
 }
 
-/// The bitmap that a call combines of three marks and of three others, of which the last is set too.
+/// Combines three marks with three others by a call.
 fn combined(alloc: Global, call: &Frozen) -> Result<Bitmap, Error> {
     let first = Bitmap::from_slice(alloc, THREE.as_slice())?;
     let answer = combined_with(alloc, &first, call);
@@ -317,7 +317,7 @@ fn combined(alloc: Global, call: &Frozen) -> Result<Bitmap, Error> {
     answer
 }
 
-/// The same, of the first three.
+/// Applies a call to the first three marks alone.
 fn combined_with(alloc: Global, first: &Bitmap, call: &Frozen) -> Result<Bitmap, Error> {
     let second = Bitmap::from_slice(alloc, [true, false, true].as_slice())?;
     let answer = if first.len() != second.len() {

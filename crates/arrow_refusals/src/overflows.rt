@@ -75,7 +75,7 @@ fn is_past<K: Known>(
     is_full & is_left & ([pushed, joined, taken] == ["overflow"; 3])
 }
 
-/// Whether those of a new builder are, from a builder and from an array.
+/// Returns whether a new builder answers `Overflow` to a builder and to a range of an array.
 fn is_past_both<K: Known>(
     alloc: Global,
     other: &MutableByteArray<K, Tiny>,
@@ -91,7 +91,7 @@ fn is_past_both<K: Known>(
     }
 }
 
-/// Whether they are from a builder and from its array; that has room for forty-one bytes.
+/// Returns whether it does for a builder with room for forty-one bytes, and for its array.
 fn is_past_new<K: Known>(
     alloc: Global,
     other: &mut MutableByteArray<K, Tiny>,

@@ -83,7 +83,7 @@ fn replace(builder: &mut MutablePrimitiveArray<i64>) -> Result<(), Error> {
     builder.set(0, None)
 }
 
-/// Appends the last slot of an array, where there is one.
+/// Appends the last slot of an array, if there is one.
 fn extend_by_last(
     builder: &mut MutablePrimitiveArray<i64>,
     array: &PrimitiveArray<i64>,
@@ -94,7 +94,7 @@ fn extend_by_last(
     builder.extend_from_array(array, array.len() - 1, 1)
 }
 
-/// The same of one that was made.
+/// Does so if the array could be created.
 fn take_last(
     builder: &mut MutablePrimitiveArray<i64>,
     array: Result<PrimitiveArray<i64>, Error>,

@@ -5,7 +5,7 @@ use arrow_types::units::{IntervalUnit, TimeUnit};
 use std::alloc::{AllocError, Global};
 use std::process::Abort;
 
-/// Does this type print this text?
+/// Returns whether a type prints as this text.
 fn prints(alloc: Global, rt: &impl Abort, data_type: DataType, text: &str) -> bool {
     let printed = data_type.to_string(alloc).expect(rt, "memory");
     let is_text = printed.as_str() == text;
@@ -76,7 +76,7 @@ fn decimals_print_their_digits(rt: HostRuntime) {
     assert!(rt; is_narrow & is_wide);
 }
 
-/// Does this type that was made print this text?
+/// Returns whether a type, if it could be created, prints as this text.
 fn made_prints(
     alloc: Global,
     rt: &impl Abort,

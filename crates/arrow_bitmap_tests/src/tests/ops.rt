@@ -1,11 +1,11 @@
-// Marks that are combined one by one. Marks are written as texts, in which '1' is a set mark; answers were worked
-// out by hand.
+// Operations on the marks of bitmaps. Marks are written as texts, in which '1' is a set mark; expected answers were
+// worked out by hand.
 use crate::tests::{cut, gives};
 use arrow_bitmap::{Bitmap, MutableBitmap, and, not, or};
 use std::alloc::Global;
 use std::process::Abort;
 
-/// The marks that a text writes, as a slice that begins behind some set marks and ends before another.
+/// Creates the bitmap that a text writes, as a slice with set marks before and after it.
 fn sliced(alloc: Global, rt: &impl Abort, offset: usize, text: &str) -> Bitmap {
     let mut marks = MutableBitmap::new(alloc);
     marks.extend_constant(offset, true).expect(rt, "memory");
@@ -18,7 +18,7 @@ fn sliced(alloc: Global, rt: &impl Abort, offset: usize, text: &str) -> Bitmap {
     bitmap
 }
 
-/// Whether a bitmap has the marks that a text writes, and counts the clear ones.
+/// Returns whether a bitmap has the marks that a text writes, and counts its clear marks right.
 fn has(bitmap: Bitmap, text: &str) -> bool {
     let clear = text.as_bytes().iter().filter(|mark| **mark == b'0').count();
     let is_right = gives(bitmap.iter(), text) & (bitmap.unset_bits() == clear);
@@ -26,8 +26,7 @@ fn has(bitmap: Bitmap, text: &str) -> bool {
     is_right
 }
 
-/// Two lists of marks, and what they are combined to: the marks set in both, those set in one, and the opposites of the
-/// first list.
+/// Two lists of marks, and the expected answers of `and`, `or`, and `not` of the first.
 type Combined = [&'static str; 5];
 
 const COMBINED: &[Combined] = &[
@@ -50,7 +49,7 @@ const COMBINED: &[Combined] = &[
     ],
 ];
 
-/// Whether two bitmaps are combined so.
+/// Returns whether the operations on two bitmaps give the expected answers.
 fn are_combined(
     alloc: Global,
     rt: &impl Abort,
@@ -66,7 +65,7 @@ fn are_combined(
     is_and & is_or & has(not(alloc, first).expect(rt, "memory"), texts[4])
 }
 
-/// Whether slices that begin at these places are combined so.
+/// Returns whether they do for slices that begin at these indexes.
 fn are_combined_from(
     alloc: Global,
     rt: &impl Abort,

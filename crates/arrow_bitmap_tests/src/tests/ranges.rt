@@ -6,7 +6,7 @@ use arrow_bitmap::{Bitmap, MutableBitmap};
 use std::alloc::Global;
 use std::process::Abort;
 
-/// Whether a bitmap has this range of marks.
+/// Returns whether a range lies within a bitmap.
 fn has(bitmap: &Bitmap, offset: usize, len: usize) -> bool
     ensures { IsTrue result → offset + len ≤ length bitmap.now }
 {
@@ -23,7 +23,7 @@ const RANGES: &[(usize, &str)] = &[
     (32, ""),
 ];
 
-/// Whether an iterator over each range gives its marks.
+/// Returns whether an iterator over each range gives its marks.
 fn are_given(bitmap: &Bitmap, ranges: &[(usize, &str)]) -> bool {
     for (offset, text) in ranges {
         let len = text.len();
@@ -47,7 +47,7 @@ fn ranges_are_read_from_any_mark(rt: HostRuntime) {
     assert!(rt; are_whole & is_cut & are_sliced);
 }
 
-/// Marks that others are appended to, the offset and the number of those, and the marks that there are then.
+/// Marks, the offset and length of the range that is appended to them, and the expected marks.
 const APPENDED: &[(&str, usize, usize, &str)] = &[
     ("", 0, 0, ""),
     ("", 2, 12, "011111111110"),
@@ -57,12 +57,12 @@ const APPENDED: &[(&str, usize, usize, &str)] = &[
     ("1", 0, 32, "100011111111110000011111111111111"),
 ];
 
-/// Appends a range of a bitmap that has it.
+/// Appends a range of a bitmap, if it lies within.
 fn extend(marks: &mut MutableBitmap, other: &Bitmap, offset: usize, len: usize) -> bool {
     has(other, offset, len) && marks.extend_from_range(other, offset, len).is_ok()
 }
 
-/// Whether each range is appended behind the marks that are there.
+/// Returns whether each range is appended after the marks.
 fn are_appended(alloc: Global, rt: &impl Abort, other: &Bitmap) -> bool {
     for (first, offset, len, text) in APPENDED {
         let mut marks = pushed(alloc, rt, *first);

@@ -103,7 +103,7 @@ fn owned_marks_come_from_both_ends(rt: HostRuntime) {
     assert!(rt; gives_owned(bitmap));
 }
 
-/// Whether a bitmap and the marks that it is thawed to are empty.
+/// Returns whether a bitmap and the growing one that it is thawed to are both empty.
 fn are_empty(bitmap: Bitmap) -> (bool, bool) {
     let is_empty = bitmap.is_empty();
     let thawed = bitmap.into_mut().right().map(|marks| marks.is_empty());

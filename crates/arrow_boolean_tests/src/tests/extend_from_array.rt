@@ -1,4 +1,4 @@
-//! Builders that take a range of an array's slots: their stored values, those of nulls too, and their marks.
+//! Ranges of arrays that builders take: stored values, those of null slots included, and marks.
 ghost use Rattle.std.specs.Prelude.{IsTrue};
 ghost use Rattle.arrow_column.specs.Column.{FitsCut};
 
@@ -6,13 +6,13 @@ use super::*;
 use arrow_testing::{frozen_mask, growing_mask, is_mask};
 use std::process::Abort;
 
-/// Stored values and marks; these are `none` where no mask is held.
+/// Stored values and marks; `none` means that no mask is held.
 type Stored = (&'static str, &'static str);
 
-/// A builder, an array, the slice of this that is taken first, the range of that slice, and what the builder has then.
+/// A builder, an array, the slice of the array, the range of that slice, and the expected builder.
 type Case = (Stored, Stored, (usize, usize), (usize, usize), Stored);
 
-/// The array of such parts.
+/// Creates the array of these parts.
 fn array_of(alloc: Global, rt: &impl Abort, parts: Stored) -> BooleanArray {
     let values = frozen_mask(alloc, parts.0).expect(rt, "memory");
     let values = values.expect(rt, "stored values");
@@ -20,7 +20,7 @@ fn array_of(alloc: Global, rt: &impl Abort, parts: Stored) -> BooleanArray {
     BooleanArray::try_new(DataType::Boolean, values, validity).expect(rt, "parts that fit")
 }
 
-/// The builder of such parts.
+/// Creates the builder of these parts.
 fn builder_of(alloc: Global, rt: &impl Abort, parts: Stored) -> MutableBooleanArray {
     let values = growing_mask(alloc, parts.0).expect(rt, "memory");
     let values = values.expect(rt, "stored values");
@@ -28,7 +28,7 @@ fn builder_of(alloc: Global, rt: &impl Abort, parts: Stored) -> MutableBooleanAr
     MutableBooleanArray::try_new(DataType::Boolean, values, validity).expect(rt, "parts that fit")
 }
 
-/// Whether a builder has these stored values and marks.
+/// Returns whether a builder has these stored values and marks.
 fn has_parts(builder: &MutableBooleanArray, parts: Stored) -> bool {
     let marks = match builder.validity() {
         Some(marks) => Some(marks.iter()),
@@ -37,14 +37,14 @@ fn has_parts(builder: &MutableBooleanArray, parts: Stored) -> bool {
     gives(builder.values_iter(), parts.0) & is_mask(marks, parts.1)
 }
 
-/// Whether an array has this range of slots.
+/// Returns whether a range lies within an array.
 fn has(array: &BooleanArray, offset: usize, len: usize) -> bool
     ensures { IsTrue result → FitsCut array.now offset len }
 {
     offset <= array.len() && len <= array.len() - offset
 }
 
-/// Cuts an array to these slots, where it has them.
+/// Slices an array, if the slice lies within it.
 fn cut(array: &mut BooleanArray, offset: usize, len: usize) -> bool {
     let is_there = has(array, offset, len);
     if is_there {
@@ -53,7 +53,7 @@ fn cut(array: &mut BooleanArray, offset: usize, len: usize) -> bool {
     is_there
 }
 
-/// Whether a builder takes a range of an array, and has these slots then.
+/// Returns whether a builder that takes a range of an array is the expected one.
 fn takes(
     builder: &mut MutableBooleanArray,
     array: &BooleanArray,
@@ -65,7 +65,7 @@ fn takes(
     is_taken & has_parts(builder, joined)
 }
 
-/// Whether a new one does.
+/// Returns whether this case gives the expected builder.
 fn joins(alloc: Global, rt: &impl Abort, case: &Case) -> bool {
     let (first, second, slice, range, joined) = *case;
     let mut array = array_of(alloc, rt, second);
@@ -82,7 +82,7 @@ const BARE: Stored = ("01100111010", "none");
 /// Each null stores true.
 const MASKED: Stored = ("01100111010", "10111011101");
 
-/// A mask is held where either has one, also where no slot of the range is null, or none is in it.
+/// A mask is held if either side holds one, also if no slot of the range is null or the range is empty.
 const CASES: &[Case] = &[
     (("10", "none"), BARE, (0, 11), (3, 4), ("100011", "none")),
     (("10", "01"), BARE, (0, 11), (3, 4), ("100011", "011111")),

@@ -1,5 +1,5 @@
-//! Builders that take a range of an array's slots: their bytes, those of nulls too, and their marks, and how that ends
-//! where the bytes would end past the greatest offset, which is 100 of `Tiny`.
+//! Ranges of arrays that builders take: bytes, those of null slots included, and marks; and the overflow past the
+//! greatest offset, which is 100 for `Tiny`.
 ghost use Rattle.std.specs.Prelude.{IsTrue};
 ghost use Rattle.arrow_column.specs.Column.{FitsCut};
 
@@ -8,8 +8,7 @@ use arrow_bytes::ByteKind;
 use arrow_testing::{Tiny, tells};
 use std::process::Abort;
 
-/// A builder, an array, the slice of this that is taken first, the range of that slice, what is answered, and what the
-/// builder has then.
+/// A builder, an array, the slice of the array, the range of that slice, the expected answer and the expected builder.
 type Case = (
     Pieces,
     Pieces,
@@ -19,14 +18,14 @@ type Case = (
     Pieces,
 );
 
-/// Whether an array has this range of slots.
+/// Returns whether a range lies within an array.
 fn has<K: ByteKind, O: Offset>(array: &ByteArray<K, O>, offset: usize, len: usize) -> bool
     ensures { IsTrue result → FitsCut array.now offset len }
 {
     offset <= array.len() && len <= array.len() - offset
 }
 
-/// Cuts an array to these slots, where it has them.
+/// Slices an array, if the slice lies within it.
 fn cut<K: ByteKind, O: Offset>(array: &mut ByteArray<K, O>, offset: usize, len: usize) -> bool {
     let is_there = has(array, offset, len);
     if is_there {
@@ -35,7 +34,7 @@ fn cut<K: ByteKind, O: Offset>(array: &mut ByteArray<K, O>, offset: usize, len: 
     is_there
 }
 
-/// Whether this is answered to a range of an array.
+/// Returns whether a builder that takes a range gives this answer.
 fn answers<K: ByteKind, O: Offset>(
     builder: &mut MutableByteArray<K, O>,
     array: &ByteArray<K, O>,
@@ -46,7 +45,7 @@ fn answers<K: ByteKind, O: Offset>(
     has(array, offset, len) && tells(builder.extend_from_array(array, offset, len)) == answer
 }
 
-/// Whether it goes so.
+/// Returns whether a case goes as expected.
 fn joins<K: Known, O: Offset>(alloc: Global, rt: &impl Abort, case: &Case) -> bool {
     let (first, second, slice, range, answer, joined) = *case;
     let mut array = array_of::<K, O>(alloc, second).expect(rt, "memory");
@@ -58,13 +57,13 @@ fn joins<K: Known, O: Offset>(alloc: Global, rt: &impl Abort, case: &Case) -> bo
     is_joined
 }
 
-/// Whether it does of a kind over both widths of offsets.
+/// Returns whether it does for a kind over both widths of offsets.
 fn both_join<K: Known>(alloc: Global, rt: &impl Abort, case: &Case) -> bool {
     let is_narrow = joins::<K, i32>(alloc, rt, case);
     is_narrow & joins::<K, i64>(alloc, rt, case)
 }
 
-/// Items of one, no and two bytes, the second of which is null, with bytes around them that are no text.
+/// Items of one, zero and two bytes, the second of which is null, with bytes around them that are not text.
 const AROUND: Pieces = (&[2, 3, 3, 5], b"\xFF\xFF\x01\x04\x04\xC3", "101");
 
 /// Eleven items of a byte.
@@ -81,8 +80,8 @@ const MASKED: Pieces = (
     "10111011101",
 );
 
-/// Only the bytes of the range come. A mask is held where either has one, also where no slot of the range is null, or none
-/// is in it.
+/// Only the bytes of the range are appended. A mask is held if either side holds one, also if no slot of the range is
+/// null or the range is empty.
 const CASES: &[Case] = &[
     (
         NOTHING,
@@ -167,10 +166,11 @@ const NINETY: &[u8] = &[7; 90];
 
 const HUNDRED: &[u8] = &[7; 100];
 
-/// Items of forty bytes, one byte and thirty, between ten bytes that are counted nowhere.
+/// Items of forty bytes, one byte and thirty, between ten bytes that do not count.
 const LONG: Pieces = (&[5, 45, 46, 76], EIGHTY_ONE, "101");
 
-/// What ends one past the greatest offset is refused, and the builder is as it was. Other slots of the array don't count.
+/// A range that ends one past the greatest offset is an `Overflow`, and the builder is unchanged. Other slots of the
+/// array do not count.
 const CASES_THAT_END: &[Case] = &[
     (
         (&[0, 60], SIXTY, "none"),

@@ -31,7 +31,7 @@ trait Known: ByteKind {
         keys: &[i64],
     ) -> Result<ByteArray<Self, O>, Error>;
 
-    /// Several arrays one after the other; of none no answer.
+    /// Returns the concatenation of arrays, or `None` if there is none.
     fn concat<O: Offset>(
         alloc: Global,
         arrays: &[ByteArray<Self, O>],
@@ -215,7 +215,7 @@ const TAKES: &[(Written, &[i64], Written)] = &[
     ((&[0, 1, 2], b"ab", "01"), &[0], (&[0, 1], b"a", "0")),
 ];
 
-/// Parts of them one after the other, without the bytes around.
+/// Concatenations of slices, without the bytes around their items.
 const JOINS: &[(&[(Written, usize, usize)], Written)] = &[
     (&[(ITEMS, 0, 3)], (&[0, 1, 1, 3], &[1, 4, 4], "101")),
     (
@@ -233,7 +233,7 @@ const JOINS: &[(&[(Written, usize, usize)], Written)] = &[
     (&[(ITEMS, 3, 0), (ITEMS, 0, 0)], (&[0], &[], "none")),
 ];
 
-/// Whether these hold over a width of offsets.
+/// Returns whether they are as expected over a width of offsets.
 fn chosen<K: Known, O: Offset>(alloc: Global) -> Result<bool, Error> {
     let are_left = all_filter::<ByteArray<K, O>>(alloc, FILTERS)?;
     let are_joined = all_join::<ByteArray<K, O>>(alloc, JOINS)?;
@@ -337,7 +337,7 @@ fn items_are_chosen_over_borders_and_up_to_the_greatest_offset(
     all_told(&ends::<Utf8>(rt.alloc()))
 }
 
-/// One item of twenty bytes, and one of one.
+/// One item of twenty bytes, and one of one byte.
 const TWENTY: Written = (&[0, 20], b"yyyyyyyyyyyyyyyyyyyy", "none");
 
 const LETTER: Written = (&[3, 4], b"abcz", "none");
@@ -356,7 +356,7 @@ const JOINED_ENDS: &[(&[(Written, usize, usize)], &str)] = &[
     (&[(FORTY, 0, 1), (FORTY, 0, 1), (FORTY, 0, 1)], "overflow"),
 ];
 
-/// Whether this is told of each of them.
+/// Returns whether each case gives the expected answer.
 fn all_tell_joined<K: Known>(
     alloc: Global,
     cases: &[(&[(Written, usize, usize)], &str)],

@@ -130,8 +130,8 @@ fn numbers_are_chosen(rt: HostRuntime) -> Result<(), Fail> {
 /// Eleven numbers, the third and the tenth of which are null.
 const ELEVEN: Numbers = (&[0, 1, 2, 3, 4, 5, 6, 7, 8, 9, 10], "11011111101");
 
-/// Rows of several arrays come in order, at places that don't agree within a byte too. A mask that no row needs is
-/// dropped, and a mask is made of marks where only some arrays hold one.
+/// Slots of several arrays come in order, also if their marks do not begin at a byte. A mask that no slot needs is
+/// dropped, and one is created if only some of the arrays hold one.
 const JOINS: &[(&[(Numbers, usize, usize)], Numbers)] = &[
     (&[(ONE_NULL_TEN, 0, 3)], ONE_NULL_TEN),
     (

@@ -126,7 +126,7 @@ fn truth_values_are_chosen(rt: HostRuntime) -> Result<(), Fail> {
 /// Twelve truth values, the second and the ninth of which are null.
 const TWELVE: Truths = ("110010101011", "101111110111");
 
-/// Rows of several arrays come in order, at places that don't agree within a byte too.
+/// Slots of several arrays come in order, also if their marks do not begin at a byte.
 const JOINS: &[(&[(Truths, usize, usize)], Truths)] = &[
     (&[(FOUR, 0, 4)], FOUR),
     (&[(FOUR, 1, 3), (FOUR, 0, 4)], ("1001100", "0101010")),
@@ -143,11 +143,11 @@ fn truth_values_are_joined(rt: HostRuntime) -> Result<(), Fail> {
     told(all_join::<BooleanArray>(rt.alloc(), JOINS))
 }
 
-/// Of 130 rows the first, the last, and rows 63 and 64 are asked for; the second is null.
+/// A filter of 130 slots: the first, the last, slots 63 and 64 are true; the second is null.
 const LONG: &str =
     "t_fffffffffffffffffffffffffffffffffffffffffffffffffffffffffffffttfffffffffffffffffffffffffffffffffffffffffffffffffffffffffffffffft";
 
-/// How many slots are valid and true, of so many from a place on.
+/// The offset and length of a slice, and how many of its slots are valid and true.
 const COUNTS: &[(Filter, usize, usize, usize)] = &[
     (("t_ft", true), 0, 4, 2),
     (("ttf", false), 0, 3, 2),
@@ -158,12 +158,12 @@ const COUNTS: &[(Filter, usize, usize, usize)] = &[
     ((LONG, true), 1, 62, 0),
     ((LONG, true), 0, 64, 2),
     ((LONG, true), 63, 2, 2),
-    // Without a mask the null's true counts.
+    // Without a mask the value of the null counts.
     ((LONG, false), 0, 130, 5),
     ((LONG, false), 1, 64, 3),
 ];
 
-/// Whether so many slots of a part of a filter are valid and true.
+/// Returns whether `true_count` of a slice gives the expected answer.
 fn has_true(part: Option<BooleanArray>, count: usize) -> bool {
     match part {
         Some(part) => true_count(&part) == count,
@@ -171,7 +171,7 @@ fn has_true(part: Option<BooleanArray>, count: usize) -> bool {
     }
 }
 
-/// Whether of each filter as many are as should be.
+/// Returns whether it does for each case.
 fn all_count(alloc: Global, cases: &[(Filter, usize, usize, usize)]) -> Result<bool, Error> {
     for (filter, offset, len, count) in cases {
         if !has_true(filter_of(alloc, *filter)?.part(*offset, *len), *count) {

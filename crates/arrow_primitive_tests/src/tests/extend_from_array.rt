@@ -1,4 +1,4 @@
-//! Builders that take a range of an array's slots: their stored values, those of nulls too, and their marks.
+//! Ranges of arrays that builders take: stored values, those of null slots included, and marks.
 ghost use Rattle.std.specs.Prelude.{IsTrue};
 ghost use Rattle.arrow_column.specs.Column.{FitsCut};
 
@@ -10,10 +10,10 @@ use std::process::Abort;
 /// Stored values and marks.
 type Stored = (&'static [i64], &'static str);
 
-/// A builder, an array, the slice of this that is taken first, the range of that slice, and what the builder has then.
+/// A builder, an array, the slice of the array, the range of that slice, and the expected builder.
 type Case = (Stored, Stored, (usize, usize), (usize, usize), Stored);
 
-/// The array of such parts.
+/// Creates the array of these parts.
 fn array_of(alloc: Global, rt: &impl Abort, parts: Stored) -> PrimitiveArray<i64> {
     let validity = frozen_mask(alloc, parts.1).expect(rt, "memory");
     let values = parts.0.to_vec(alloc).expect(rt, "memory");
@@ -21,7 +21,7 @@ fn array_of(alloc: Global, rt: &impl Abort, parts: Stored) -> PrimitiveArray<i64
     PrimitiveArray::<i64>::try_new(DataType::Int64, values, validity).expect(rt, "parts that fit")
 }
 
-/// The builder of such parts, which are dates.
+/// Creates the builder of these parts, whose data type is a date.
 fn builder_of(alloc: Global, rt: &impl Abort, parts: Stored) -> MutablePrimitiveArray<i64> {
     let validity = growing_mask(alloc, parts.1).expect(rt, "memory");
     let values = parts.0.to_vec(alloc).expect(rt, "memory");
@@ -29,14 +29,14 @@ fn builder_of(alloc: Global, rt: &impl Abort, parts: Stored) -> MutablePrimitive
     builder.expect(rt, "parts that fit")
 }
 
-/// Whether an array has this range of slots.
+/// Returns whether a range lies within an array.
 fn has(array: &PrimitiveArray<i64>, offset: usize, len: usize) -> bool
     ensures { IsTrue result → FitsCut array.now offset len }
 {
     offset <= array.len() && len <= array.len() - offset
 }
 
-/// Cuts an array to these slots, where it has them.
+/// Slices an array, if the slice lies within it.
 fn cut(array: &mut PrimitiveArray<i64>, offset: usize, len: usize) -> bool {
     let is_there = has(array, offset, len);
     if is_there {
@@ -45,7 +45,7 @@ fn cut(array: &mut PrimitiveArray<i64>, offset: usize, len: usize) -> bool {
     is_there
 }
 
-/// Whether a builder takes a range of an array, and has these dates then.
+/// Returns whether a builder that takes a range of an array is the expected one, still of dates.
 fn takes(
     builder: &mut MutablePrimitiveArray<i64>,
     array: &PrimitiveArray<i64>,
@@ -58,7 +58,7 @@ fn takes(
     is_taken & is_date & builds(builder, joined.0, joined.1)
 }
 
-/// Whether a new one does.
+/// Returns whether this case gives the expected builder.
 fn joins(alloc: Global, rt: &impl Abort, case: &Case) -> bool {
     let (first, second, slice, range, joined) = *case;
     let mut array = array_of(alloc, rt, second);
@@ -75,7 +75,7 @@ const BARE: Stored = (&[10, 11, 12, 13, 14, 15, 16, 17, 18, 19, 20], "none");
 /// The nulls store 11, 15 and 19.
 const MASKED: Stored = (&[10, 11, 12, 13, 14, 15, 16, 17, 18, 19, 20], "10111011101");
 
-/// A mask is held where either has one, also where no slot of the range is null, or none is in it.
+/// A mask is held if either side holds one, also if no slot of the range is null or the range is empty.
 const CASES: &[Case] = &[
     (
         (&[1, 2], "none"),

@@ -1,9 +1,8 @@
-//! The slots of a part of an array, which an iterator borrows.
+//! Iterators over a range of slots.
 use super::*;
 use arrow_types::native_type::{NativeType, i256};
 
-/// Whether the part of an array of `len` slots from a place on has as many of these slots from another place on, in order
-/// and from its end.
+/// Returns whether a range of an array has the slots of `slots` from an index on, from both ends.
 fn has<T: NativeType>(
     array: &PrimitiveArray<T>,
     offset: usize,
@@ -26,7 +25,7 @@ fn has<T: NativeType>(
     is_sized & part.next().is_none() & back.next_back().is_none()
 }
 
-/// Whether parts of an array of five slots have theirs, and so do parts of its last four.
+/// Returns whether ranges of an array of five slots, and of its last four, have the right slots.
 fn are_parts<T: NativeType>(mut array: PrimitiveArray<T>, slots: &[Option<T>]) -> bool {
     if array.len() != 5 {
         return false;
@@ -38,7 +37,7 @@ fn are_parts<T: NativeType>(mut array: PrimitiveArray<T>, slots: &[Option<T>]) -
     are_whole && are_ends && is_none && has(&array, 0, 4, slots, 1) && has(&array, 2, 1, slots, 3)
 }
 
-/// Whether those of an array of such slots do.
+/// Returns whether they do for an array of these slots.
 fn slots_have_parts<T: NativeType>(alloc: Global, slots: &[Option<T>]) -> Result<bool, Error> {
     match PrimitiveArray::<T>::from(alloc, slots) {
         Ok(array) => Ok(are_parts(array, slots)),
@@ -46,7 +45,7 @@ fn slots_have_parts<T: NativeType>(alloc: Global, slots: &[Option<T>]) -> Result
     }
 }
 
-/// Whether those of an array of such values, without a mask, do.
+/// Returns whether they do for an array of these values, without a mask.
 fn values_have_parts<T: NativeType>(
     alloc: Global,
     values: &[T],

@@ -1,8 +1,8 @@
-//! What builders answer of the slot at a place, and which arrays and builders are empty.
+//! Reads of builders by index, and empty arrays and builders.
 use super::*;
 use arrow_types::native_type::{NativeType, i256};
 
-/// Whether a builder has these slots, told by their places, and so many nulls.
+/// Returns whether a builder has these slots and `nulls` nulls.
 fn answers<T: NativeType>(
     builder: &MutablePrimitiveArray<T>,
     slots: &[Option<T>],
@@ -19,7 +19,7 @@ fn answers<T: NativeType>(
     builder.is_empty() == slots.is_empty() && builder.null_count() == nulls
 }
 
-/// Whether one of such slots has.
+/// Returns whether a builder of these slots has them.
 fn built_answers<T: NativeType>(
     alloc: Global,
     slots: &[Option<T>],
@@ -31,7 +31,7 @@ fn built_answers<T: NativeType>(
     }
 }
 
-/// Whether one of such values, without a mask, has.
+/// Returns whether a builder of these values, without a mask, has them.
 fn valued_answers<T: NativeType>(
     alloc: Global,
     values: &[T],
@@ -54,7 +54,7 @@ fn slots_of_builders_by_place(rt: HostRuntime) -> Result<(), Fail> {
     ])
 }
 
-/// Whether an array is empty or not, as it should be.
+/// Returns whether `is_empty` of an array gives the expected answer.
 fn is_empty(array: Result<PrimitiveArray<i64>, Error>, wanted: bool) -> Result<bool, Error> {
     match array {
         Ok(array) => Ok(array.is_empty() == wanted),

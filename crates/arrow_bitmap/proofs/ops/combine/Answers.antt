@@ -12,8 +12,8 @@ returns-clause-ok g c =
     let op = g.O.MarkOp.op in
     let new = c.write_combined.new.target in
     let n = c.len-length.result in
-    let left = c.packed-place.result in
-    let right = c.packed-other.result in
+    let left = c.packed_bytes-place.result in
+    let right = c.packed_bytes-other.result in
     let behind = drop (length new) c.resize.new.self.items in
     let whole : length new ≡ vec_len c.resize.new.self = omega arith in
     let room : n ≤ 8 * length c.deref_mut.result.now =
@@ -24,5 +24,5 @@ returns-clause-ok g c =
     ∙ marks-combined op new left.0.now right.0.now left.1 right.1 n (λ i low.
     c.write_combined.ensures.marks i (omega (arith, low, room)))
     ∙ ap₂ (λ xs ys. map (λ (pair : Bool × Bool). op pair.0 pair.1) (zip xs ys))
-    (ap (marks left.0.now left.1) c.len-length.ensures ∙ c.packed-place.ensures.value)
-    (ap (marks right.0.now right.1) (c.len-length.ensures ∙ c.requires) ∙ c.packed-other.ensures.value)) (λ _ t. t)
+    (ap (marks left.0.now left.1) c.len-length.ensures ∙ c.packed_bytes-place.ensures.value)
+    (ap (marks right.0.now right.1) (c.len-length.ensures ∙ c.requires) ∙ c.packed_bytes-other.ensures.value)) (λ _ t. t)

@@ -1,4 +1,0 @@
-//! Kernels over columns, written over the public calls of arrays.
-#![tactic(auto)]
-
-pub mod kernels;
