@@ -1,5 +1,5 @@
 //! Builders with nulls of arrays of bytes and of text.
-ghost use Rattle.std.specs.Prelude.{◌≡◌, ◌↔◌, ◌<◌, ◌≤◌, [], is_some, IsTrue, length, not, count_by, slice_get};
+ghost use Rattle.std.specs.Prelude.{◌≡◌, ◌==◌, ◌<◌, ◌≤◌, [], is_some, IsTrue, length, not, count_by, slice_get};
 ghost use Rattle.std.specs.Prelude.{Some, None, OnOk, IfOk, IfErr, option_map, IsOk};
 ghost use Rattle.std.specs.Option.{option_copied};
 ghost use Rattle.arrow_types.specs.Failures.{OnlyOutOfMemory, OutOfMemoryKeeps};
@@ -128,7 +128,7 @@ impl<K: ByteKind, O: Offset> MutableByteArray<K, O> {
     /// Returns whether there is no slot.
     #[inline(always)]
     pub fn is_empty(&self) -> bool
-        ensures { IsTrue result ↔ length self.now.rows ≡ 0 }
+        ensures { result ≡ (length self.now.rows == 0) }
     {
         self.column.is_empty()
     }

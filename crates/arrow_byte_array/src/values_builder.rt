@@ -1,5 +1,5 @@
 //! Builders without nulls of arrays of bytes and of text.
-ghost use Rattle.std.specs.Prelude.{◌≡◌, ◌↔◌, ◌≤◌, [], false, is_some, IsTrue, length, None, Some, OnOk, IfOk};
+ghost use Rattle.std.specs.Prelude.{◌≡◌, ◌==◌, ◌≤◌, [], false, is_some, IsTrue, length, None, Some, OnOk, IfOk};
 ghost use Rattle.std.specs.Prelude.{IfErr, option_map, IsOk};
 ghost use Rattle.arrow_types.specs.Failures.{OnlyOutOfMemory, OutOfMemoryKeeps};
 ghost use Rattle.arrow_types.specs.Types.{logical_type, IsRightType};
@@ -125,7 +125,7 @@ impl<K: ByteKind, O: Offset> MutableByteValuesArray<K, O> {
     /// Returns whether there is no item.
     #[inline(always)]
     pub fn is_empty(&self) -> bool
-        ensures { IsTrue result ↔ length self.now.rows ≡ 0 }
+        ensures { result ≡ (length self.now.rows == 0) }
     {
         self.column.is_empty()
     }
