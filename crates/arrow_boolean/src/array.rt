@@ -1,5 +1,5 @@
 //! Arrays of truth values.
-ghost use Rattle.std.specs.Prelude.{◌≡◌, ◌↔◌, ◌<◌, IsTrue, length, not, count_by, slice_get, Some, IfOk, IfErr};
+ghost use Rattle.std.specs.Prelude.{◌≡◌, ◌==◌, ◌<◌, length, not, count_by, slice_get, Some, IfOk, IfErr};
 ghost use Rattle.std.specs.Option.{option_copied};
 ghost use Rattle.arrow_types.specs.Failures.{OnlyOutOfMemory};
 ghost use Rattle.arrow_types.specs.Types.{logical_type, IsRightType};
@@ -85,7 +85,7 @@ impl BooleanArray {
     /// Returns whether there is no slot.
     #[inline(always)]
     pub fn is_empty(&self) -> bool
-        ensures { IsTrue result ↔ length self.now.rows ≡ 0 }
+        ensures { result ≡ (length self.now.rows == 0) }
     {
         self.column.is_empty()
     }

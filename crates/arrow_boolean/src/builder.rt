@@ -1,5 +1,5 @@
 //! Builders of arrays of truth values.
-ghost use Rattle.std.specs.Prelude.{◌≡◌, ◌↔◌, ◌<◌, IsTrue, length, not, count_by, slice_get, false, Some, None};
+ghost use Rattle.std.specs.Prelude.{◌≡◌, ◌==◌, ◌<◌, length, not, count_by, slice_get, false, Some, None};
 ghost use Rattle.std.specs.Prelude.{OnOk, IfOk, IfErr, IsOk};
 ghost use Rattle.std.specs.Option.{option_copied};
 ghost use Rattle.arrow_types.specs.Failures.{OnlyOutOfMemory, OutOfMemoryKeeps};
@@ -75,7 +75,7 @@ impl MutableBooleanArray {
     /// Returns whether there is no slot.
     #[inline(always)]
     pub fn is_empty(&self) -> bool
-        ensures { IsTrue result ↔ length self.now.rows ≡ 0 }
+        ensures { result ≡ (length self.now.rows == 0) }
     {
         self.column.is_empty()
     }
