@@ -142,7 +142,8 @@ module _ (values marks : List Bool) (place from v m : ℕ) (small : v < 2 ^ 64) 
   last-bit i up = ap (λ x. x % 2 == 1) (shr-shr (bit_and v m) (from - place) i)
       ∙ ap (λ k. bit_at (bit_and v m) k == 1) (let e : from - place + i ≡ from + i - place = omega arith in e)
 
-  pub count-last : ones (bit_and v m / 2 ^ (from - place)) ≡ count_by (λ mark. mark) (drop from (set_in_both values marks))
+  pub count-last : ones (bit_and v m / 2 ^ (from - place))
+      ≡ count_by (λ mark. mark) (drop from (set_in_both values marks))
   count-last =
       sym (ap (count_by (λ mark. mark)) last-bits
       ∙ ones-set bit-from (length values - from) from (bit_and v m / 2 ^ (from - place)) last-fits last-bit)

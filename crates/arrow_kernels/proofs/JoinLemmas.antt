@@ -105,7 +105,8 @@ set-marks ((x, false) ∷ rows) all = cc
 pub pushed-marks : {A S : Type 0} (column : ColumnWith A S) (mask : Option (List Bool)) (n : ℕ) (old new : List Bool)
     → IsColumn column → mask ≡ mask_of column → n ≡ length column.rows
     → MatchOption mask (new ≡ old ++ replicate n true) (λ marks. new ≡ old ++ marks) → new ≡ old ++ marks_of column
-pushed-marks {A} {S} column mask n old new is_column same count pushed = by_held column.held column.rows is_column (subst
+pushed-marks {A} {S} column mask n old new is_column same count pushed = by_held column.held column.rows is_column
+    (subst
     (λ m. MatchOption m (new ≡ old ++ replicate n true) (λ marks. new ≡ old ++ marks)) same pushed) count
   where
     by_held : (held : Bool) (rows : List (Row S)) → (held ≡ false → IsTrue (list_all (λ row. row.1) rows))

@@ -41,7 +41,7 @@ fn extend_mask(
 }
 
 /// Arrays whose slots are valid or null.
-pub(crate) trait Marked {
+pub(crate) trait HasMarks {
     /// The mark of each slot.
     ghost marks: { Self → List Bool };
 
@@ -59,7 +59,7 @@ pub(crate) trait Marked {
         ensures err { OnlyOutOfMemory result };
 }
 
-impl<T: NativeType> Marked for PrimitiveArray<T> {
+impl<T: NativeType> HasMarks for PrimitiveArray<T> {
     ghost use Rattle.arrow_column.specs.Column.{marks_of};
 
     ghost marks = { marks_of };
@@ -79,7 +79,7 @@ impl<T: NativeType> Marked for PrimitiveArray<T> {
     }
 }
 
-impl Marked for BooleanArray {
+impl HasMarks for BooleanArray {
     ghost use Rattle.arrow_column.specs.Column.{marks_of};
 
     ghost marks = { marks_of };
@@ -99,7 +99,7 @@ impl Marked for BooleanArray {
     }
 }
 
-impl<K: ByteKind, O: Offset> Marked for ByteArray<K, O> {
+impl<K: ByteKind, O: Offset> HasMarks for ByteArray<K, O> {
     ghost use Rattle.arrow_column.specs.Column.{marks_of};
 
     ghost marks = { marks_of };
@@ -120,7 +120,7 @@ impl<K: ByteKind, O: Offset> Marked for ByteArray<K, O> {
 }
 
 /// Returns whether one of the slots is null.
-fn has_nulls<A: Marked>(arrays: &[A]) -> bool
+fn has_nulls<A: HasMarks>(arrays: &[A]) -> bool
     ensures { result ≡ not (list_all (λ mark. mark) (flat_map A.marks arrays.now)) }
 {
     for array in arrays {
@@ -132,7 +132,7 @@ fn has_nulls<A: Marked>(arrays: &[A]) -> bool
 }
 
 /// Returns the number of slots, or the greatest `usize` if it is above that.
-pub(crate) fn count_slots<A: Marked>(arrays: &[A]) -> usize {
+pub(crate) fn count_slots<A: HasMarks>(arrays: &[A]) -> usize {
     let mut count = 0_usize;
     for array in arrays {
         count = count.saturating_add(array.slots());
@@ -141,7 +141,7 @@ pub(crate) fn count_slots<A: Marked>(arrays: &[A]) -> usize {
 }
 
 /// Returns the marks of the slots. Room is reserved once.
-fn join_marks<A: Marked>(alloc: Global, arrays: &[A]) -> Result<Bitmap, Error>
+fn join_marks<A: HasMarks>(alloc: Global, arrays: &[A]) -> Result<Bitmap, Error>
     ensures ok { IfOk result (λ joined. joined ≡ flat_map A.marks arrays.now) }
     ensures err { OnlyOutOfMemory result }
 {
@@ -154,7 +154,7 @@ fn join_marks<A: Marked>(alloc: Global, arrays: &[A]) -> Result<Bitmap, Error>
 
 /// Returns the mask of the slots, which is held exactly if one of them is null. If no slot is null,
 /// none is made.
-pub(crate) fn join_masks<A: Marked>(alloc: Global, arrays: &[A]) -> Result<Option<Bitmap>, Error>
+pub(crate) fn join_masks<A: HasMarks>(alloc: Global, arrays: &[A]) -> Result<Option<Bitmap>, Error>
     ensures ok { IfOk result (λ mask. mask ≡ mask_with_nulls (Some (flat_map A.marks arrays.now))) }
     ensures err { OnlyOutOfMemory result }
 {

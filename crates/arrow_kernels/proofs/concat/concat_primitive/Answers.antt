@@ -3,7 +3,8 @@ use Rattle.arrow_kernels.proofs.JoinLemmas.{concatenates, fits-joined, makes-joi
 use Rattle.arrow_kernels.proofs.concat.concat_primitive.Goals as goal
 
 pub new-requires-clause-mask : goal.new-requires-clause-mask
-new-requires-clause-mask g c = fits-joined c.args.arrays.now _ _ (c.in_ok-from_vec.ensures.ok ∙ c.in_ok-values.ensures.ok) c.in_ok-mask.ensures.ok
+new-requires-clause-mask g c = fits-joined c.args.arrays.now _ _ (c.in_ok-from_vec.ensures.ok
+    ∙ c.in_ok-values.ensures.ok) c.in_ok-mask.ensures.ok
 
 pub returns-clause-ok : goal.returns-clause-ok
 returns-clause-ok g c =

@@ -5,7 +5,7 @@ use Rattle.arrow_kernels.proofs.marks.has_nulls.Goals as goal
 
 pub returns-then-nulls-ne0 : goal.returns-then-nulls-ne0
 returns-then-nulls-ne0 g c =
-    let marks = g.A.Marked.marks in
+    let marks = g.A.HasMarks.marks in
     let arrays = c.args.arrays.now in
     let i = c.loop-array.array-index in
     let array = c.array-item.result in
@@ -16,7 +16,7 @@ returns-then-nulls-ne0 g c =
 
 pub loop-array-preserved : goal.loop-array-preserved
 loop-array-preserved g c =
-    let marks = g.A.Marked.marks in
+    let marks = g.A.HasMarks.marks in
     let arrays = c.args.arrays.now in
     let i = c.loop-array.array-index in
     let array = c.array-item.result in

@@ -3,4 +3,4 @@ use Rattle.std.specs.List.{list_all}
 use Rattle.arrow_kernels.proofs.marks.has_nulls.Given as goal
 
 abbrev pub invariant-loop-array : goal.invariant-loop-array
-invariant-loop-array g l = list_all (λ mark. mark) (flat_map g.A.Marked.marks (take l.array-index l.arrays)) ≡ true
+invariant-loop-array g l = list_all (λ mark. mark) (flat_map g.A.HasMarks.marks (take l.array-index l.arrays)) ≡ true

@@ -1,6 +1,6 @@
 use Rattle.std.proofs.lemmas.Result.{on_ok_weaker}
 use Rattle.arrow_kernels.proofs.JoinLemmas.{pushed-marks}
-use Rattle.arrow_kernels.proofs.marks.ByteArrayMarked.push_marks.Goals as goal
+use Rattle.arrow_kernels.proofs.marks.PrimitiveArrayHasMarks.push_marks.Goals as goal
 
 pub returns-clause-ok : goal.returns-clause-ok
 returns-clause-ok g c =
