@@ -74,7 +74,7 @@ fn extend(builder: &mut MutablePrimitiveArray<i64>, values: &[i64]) -> Result<()
     builder.extend_from_slice(values)
 }
 
-/// Creates an array of a builder's slots.
+/// Freezes a builder.
 fn freeze(builder: MutablePrimitiveArray<i64>) -> Result<PrimitiveArray<i64>, Error>
     ensures { IfOk result (λ array. slots_of array ≡ slots_of builder) }
 {
@@ -173,6 +173,18 @@ fn take<K: IndexKey>(
     take_utf8(alloc, array, keys)
 }
 
+/// Returns the texts at keys, of which there are as many as keys: none of the keys was out of bounds.
+fn take_each<K: IndexKey>(
+    alloc: Global,
+    array: &Utf8Array<i32>,
+    keys: &[K],
+) -> Result<Utf8Array<i32>, Error>
+    ensures { IfOk result (λ made. length made.rows ≡ length keys.now) }
+{
+    taken_slots::<BytesAround, Bytes, K>();
+    take_utf8(alloc, array, keys)
+}
+
 /// Returns the same texts over wide offsets.
 fn widen(alloc: Global, array: &Utf8Array<i32>) -> Result<Utf8Array<i64>, Error>
     ensures { IfOk result (λ wide. slots_of wide ≡ slots_of array.now) }
@@ -181,7 +193,7 @@ fn widen(alloc: Global, array: &Utf8Array<i32>) -> Result<Utf8Array<i64>, Error>
     widen_utf8(alloc, array)
 }
 
-/// Does nothing. Its contract says that marks leave as many values as they are set.
+/// Does nothing. Its contract says that set marks leave all values.
 fn count_marked()
     ensures { (values : List ℕ) → length (where_set (map (λ _. true) values) values)
         ≡ count_by (λ mark. mark) (map (λ _. true) values) }
@@ -189,7 +201,7 @@ fn count_marked()
     marked_items::<usize, usize>();
 }
 
-/// Returns how many lists offsets cut out of an array, whatever its rows.
+/// Returns the number of lists between offsets, whatever the rows of their values.
 fn count_lists(offsets: &OffsetsBuffer<i32>) -> usize
     ensures { (rows : List ℕ) → result ≡ length (items_of offsets.now rows) }
 {
@@ -200,7 +212,8 @@ fn count_lists(offsets: &OffsetsBuffer<i32>) -> usize
 /// Returns where the list at `index` begins and ends.
 fn list_range(offsets: &OffsetsBuffer<i32>, index: usize) -> (usize, usize)
     requires { index + 1 < length offsets.now }
-    ensures { (rows : List ℕ) → slice_get (items_of offsets.now rows) index ≡ Some (slice_range rows result.0 result.1) }
+    ensures { (rows : List ℕ) → slice_get (items_of offsets.now rows) index
+        ≡ Some (slice_range rows result.0 result.1) }
 {
     items_by_offsets::<usize>();
     offsets.start_end(index)
