@@ -51,7 +51,11 @@ abbrev pub named_filtered : Column Bool → Named → Named
 named_filtered filter column = record column { array = any_filtered column.array filter }
 
 abbrev pub batch_filtered : Batch → Column Bool → Batch
-batch_filtered batch filter = record { rows = asked_count filter; columns = map (named_filtered filter) batch.columns }
+batch_filtered batch filter = record {
+  rows = asked_count filter;
+  columns = map
+      (named_filtered filter) batch.columns;
+}
 
 -- the first column of a name
 abbrev pub column_of : Batch → List ℕ → Option AnyArray

@@ -21,7 +21,7 @@ pub enum AnyArray {
 }
 
 impl AnyArray {
-    /// The number of slots.
+    /// Returns the number of slots.
     pub fn len(&self) -> usize
         ensures { result ≡ slot_count self.now }
     {
@@ -33,7 +33,7 @@ impl AnyArray {
         }
     }
 
-    /// The number of null slots.
+    /// Returns the number of null slots.
     pub fn null_count(&self) -> usize
         ensures { result ≡ nulls_of self.now }
     {
@@ -45,7 +45,7 @@ impl AnyArray {
         }
     }
 
-    /// Keeps only `len` slots from `offset` on.
+    /// Keeps only the `len` slots from `offset` on, without copying any.
     pub fn slice(&mut self, offset: usize, len: usize)
         requires { FitsAnyCut self.old offset len }
         ensures { self.new ≡ any_cut self.old offset len }
@@ -58,10 +58,10 @@ impl AnyArray {
         }
     }
 
-    /// The same array once more.
+    /// Returns a clone that shares the memory of the array.
     ///
     /// # Errors
-    /// `OutOfMemory` where memory is refused.
+    /// `OutOfMemory` if an allocation fails.
     pub fn clone(&self) -> Result<Self, Error>
         ensures ok { IfOk result (λ copy. copy ≡ self.now) }
         ensures err { IfErr result (λ e. e ≡ Error.OutOfMemory) }
@@ -74,10 +74,10 @@ impl AnyArray {
         })
     }
 
-    /// The slots for which a filter of as many slots asks.
+    /// Returns the slots where `filter` is valid and true. Both must have equally many slots.
     ///
     /// # Errors
-    /// `OutOfMemory` where memory is refused.
+    /// `OutOfMemory` if an allocation fails.
     pub fn filter(&self, alloc: Global, filter: &BooleanArray) -> Result<Self, Error>
         requires { length filter.now.rows ≡ slot_count self.now }
         ensures ok { IfOk result (λ kept. kept ≡ any_filtered self.now filter.now) }

@@ -4,7 +4,9 @@ ghost use Rattle.std.specs.Str.{bytes_eq};
 ghost use Rattle.std.specs.Option.{option_copied};
 ghost use Rattle.dethrugn.specs.Types.{refusal};
 ghost use Rattle.example_record_batch.specs.AnyArrays.{FitsAnyCut, slot_count};
-ghost use Rattle.example_record_batch.specs.Batches.{HaveRows, IsBatch, batch_cut, batch_filtered, batch_of, column_of, field_cut, named, named_filtered, unequal_columns};
+ghost use Rattle.example_record_batch.specs.Batches.{HaveRows, IsBatch, batch_cut, batch_filtered, batch_of};
+ghost use Rattle.example_record_batch.specs.Batches.{column_of, field_cut, named, named_filtered};
+ghost use Rattle.example_record_batch.specs.Batches.{unequal_columns};
 
 use crate::any::AnyArray;
 use dethrugn::array::BooleanArray;
@@ -13,7 +15,7 @@ use dethrugn::error::Error;
 use std::alloc::Global;
 use std::marker::Model;
 
-/// A column, and its name.
+/// A column and its name.
 #[derive(Drop)]
 pub struct Field {
     /// The name.
@@ -22,14 +24,14 @@ pub struct Field {
     pub array: AnyArray,
 }
 
-/// Columns, each of as many slots.
+/// Named columns of equal length (a record batch of Arrow).
 #[derive(Drop)]
 pub struct RecordBatch {
     fields: Vec<Field>,
     len: usize,
 }
 
-// Contracts see the columns with their names, and how many rows there are.
+// Contracts see the columns with their names, and the number of rows.
 impl Model for RecordBatch {
     ghost use Rattle.example_record_batch.specs.Batches.{Batch, HaveRows, batch_of};
 
@@ -40,7 +42,7 @@ impl Model for RecordBatch {
     ghost invariant = { λ batch. HaveRows batch.fields.items batch.len };
 }
 
-/// Keeps only `len` slots of each column from `offset` on.
+/// Keeps only the `len` slots from `offset` on of each column.
 fn slice_all(fields: &mut Vec<Field>, offset: usize, len: usize)
     requires { All (λ field. FitsAnyCut field.array offset len) fields.old.items }
     ensures { fields.new.items ≡ map (field_cut offset len) fields.old.items }
@@ -50,7 +52,7 @@ fn slice_all(fields: &mut Vec<Field>, offset: usize, len: usize)
     }
 }
 
-/// A column of the same name, of the slots for which a filter of as many slots asks.
+/// Returns the slots of a column where `filter` is valid and true, under the same name.
 fn filter_field(alloc: Global, field: &Field, filter: &BooleanArray) -> Result<Field, Error>
     requires { length filter.now.rows ≡ slot_count field.now.array }
     ensures ok { IfOk result (λ kept. named kept ≡ named_filtered filter.now (named field.now)) }
@@ -61,14 +63,15 @@ fn filter_field(alloc: Global, field: &Field, filter: &BooleanArray) -> Result<F
     Ok(Field { name, array })
 }
 
-/// Columns of the same names, of the slots for which a filter of as many slots asks.
+/// Returns the slots of each column where `filter` is valid and true, under the same names.
 fn filter_all(
     alloc: Global,
     fields: &Vec<Field>,
     filter: &BooleanArray,
 ) -> Result<Vec<Field>, Error>
     requires { HaveRows fields.now.items (length filter.now.rows) }
-    ensures ok { IfOk result (λ kept. map named kept.items ≡ map (λ field. named_filtered filter.now (named field)) fields.now.items) }
+    ensures ok { IfOk result (λ kept. map named kept.items
+        ≡ map (λ field. named_filtered filter.now (named field)) fields.now.items) }
     ensures err { IfErr result (λ e. e ≡ Error.OutOfMemory) }
 {
     let mut kept = Vec::new(alloc);
@@ -78,7 +81,7 @@ fn filter_all(
     Ok(kept)
 }
 
-/// The first column of a name.
+/// Returns the first column of a name.
 fn find_field<'a>(fields: &'a [Field], name: &str) -> Option<&'a Field>
     ensures { option_copied result ≡ find (λ field. bytes_eq (string_bytes field.name) name.now) fields.now }
 {
@@ -86,13 +89,13 @@ fn find_field<'a>(fields: &'a [Field], name: &str) -> Option<&'a Field>
 }
 
 impl RecordBatch {
-    /// The columns, which have to be of this length.
+    /// Creates a batch of columns of `len` slots each.
     ///
     /// # Errors
-    /// `OutOfSpec` where one isn't.
+    /// `OutOfSpec` if a column has another number of slots.
     pub fn try_new(fields: Vec<Field>, len: usize) -> Result<Self, Error>
         ensures ok { IfOk result (λ batch. HaveRows fields.items len × (batch ≡ batch_of fields.items len)) }
-        ensures err { IfErr result (λ e. refusal e ≡ unequal_columns) }
+        ensures err { IfErr result (λ e. (HaveRows fields.items len → ⊥) × (refusal e ≡ unequal_columns)) }
     {
         for field in &fields {
             if field.array.len() != len {
@@ -102,7 +105,7 @@ impl RecordBatch {
         Ok(RecordBatch { fields, len })
     }
 
-    /// The number of rows.
+    /// Returns the number of rows.
     pub fn num_rows(&self) -> usize
         ensures rows { result ≡ self.now.rows }
         ensures each { IsBatch self.now }
@@ -110,7 +113,7 @@ impl RecordBatch {
         self.len
     }
 
-    /// The columns.
+    /// Returns the columns.
     pub fn fields(&self) -> &[Field]
         ensures columns { batch_of result.now self.now.rows ≡ self.now }
         ensures each { HaveRows result.now self.now.rows }
@@ -118,7 +121,7 @@ impl RecordBatch {
         self.fields.as_slice()
     }
 
-    /// The first column of a name.
+    /// Returns the first column of a name, or `None` if there is none.
     pub fn column(&self, name: &str) -> Option<&AnyArray>
         ensures { option_copied result ≡ column_of self.now name.now }
     {
@@ -128,7 +131,7 @@ impl RecordBatch {
         }
     }
 
-    /// Keeps only `len` rows from `offset` on.
+    /// Keeps only the `len` rows from `offset` on.
     pub fn slice(&mut self, offset: usize, len: usize)
         requires { (offset ≤ self.old.rows) × (len ≤ self.old.rows - offset) }
         ensures { self.new ≡ batch_cut self.old offset len }
@@ -137,10 +140,10 @@ impl RecordBatch {
         self.len = len;
     }
 
-    /// The rows for which a filter of as many slots asks.
+    /// Returns the rows where `filter` is valid and true. It must have a slot for each row.
     ///
     /// # Errors
-    /// `OutOfMemory` where memory is refused.
+    /// `OutOfMemory` if an allocation fails.
     pub fn filter(&self, alloc: Global, filter: &BooleanArray) -> Result<Self, Error>
         requires { length filter.now.rows ≡ self.now.rows }
         ensures ok { IfOk result (λ kept. kept ≡ batch_filtered self.now filter.now) }

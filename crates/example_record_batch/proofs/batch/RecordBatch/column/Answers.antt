@@ -6,10 +6,20 @@ use Rattle.example_record_batch.proofs.batch.RecordBatch.column.Goals as goal
 
 pub returns-in-Some : goal.returns-in-Some
 returns-in-Some c =
-    rw (← c.self.view_is, column-found c.self.inside.fields.items c.self.inside.len c.args.name.now, ← c.as_slice.ensures.value)
+    rw (
+      ← c.self.view_is,
+      column-found c.self.inside.fields.items c.self.inside.len c.args.name.now,
+      ←
+          c.as_slice.ensures.value,
+    )
     (ap (option_map (λ (field : Field). field.array)) c.in-Some.ensures)
 
 pub returns-in-None : goal.returns-in-None
 returns-in-None c =
-    rw (← c.self.view_is, column-found c.self.inside.fields.items c.self.inside.len c.args.name.now, ← c.as_slice.ensures.value)
+    rw (
+      ← c.self.view_is,
+      column-found c.self.inside.fields.items c.self.inside.len c.args.name.now,
+      ←
+          c.as_slice.ensures.value,
+    )
     (ap (option_map (λ (field : Field). field.array)) c.in-None.ensures)
