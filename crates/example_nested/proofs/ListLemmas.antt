@@ -1,5 +1,6 @@
 -- Lemmas about lists that offsets cut out of rows, and about keys of texts.
-use Rattle.std.proofs.Common.{◌≡◌, ℕ, ◌+◌, ◌<◌, Bool, List, length, map, slice_get, Option, Some, None, ap, subst, ◌∙◌, arith}
+use Rattle.std.proofs.Common.{◌≡◌, ℕ, ◌+◌, ◌<◌, Bool, List, length, map, slice_get, Option, Some, None, ap, subst}
+use Rattle.std.proofs.Common.{◌∙◌, arith}
 use Rattle.std.specs.Prelude.{All, option_and_then, option_map, slice_index, slice_range}
 use Rattle.std.proofs.lemmas.List.Elements.{All-get_or}
 use Rattle.std.proofs.lemmas.Option.{get_or_from_slice_get, slice_get-map, slice_get_within}
@@ -35,11 +36,13 @@ module _ {X : Type 0} (offsets : List ℕ) (xs : List X) (mask : Option (List Bo
   pub mark-within : (marks : List Bool) (i : ℕ) → mask ≡ Some marks → i < length (rows_of (items_of offsets xs) mask)
       → i < length marks
   mark-within marks i held low =
-      let as_many : length marks ≡ length (items_of offsets xs) = subst (FitsMask (items_of offsets xs)) held lists-fit in
+      let as_many : length marks ≡ length (items_of offsets xs) = subst (FitsMask
+      (items_of offsets xs)) held lists-fit in
       omega (arith, list-within i low, as_many)
 
   -- the list that is stored at a place
-  pub list-stored : (i : ℕ) → i + 1 < length offsets → slice_get (map (λ row. row.0) (rows_of (items_of offsets xs) mask)) i
+  pub list-stored : (i : ℕ) → i + 1 < length offsets
+      → slice_get (map (λ row. row.0) (rows_of (items_of offsets xs) mask)) i
       ≡ Some (slice_range xs (slice_index offsets i) (slice_index offsets (i + 1)))
   list-stored i low =
       ap (λ lists. slice_get lists i) (stored-rows (items_of offsets xs) mask lists-fit) ∙ item-at offsets xs i low

@@ -1,4 +1,4 @@
-//! Arrays over arrays: lists, and dictionaries.
+//! Arrays over arrays: lists and dictionaries.
 #![tactic(auto)]
 
 pub mod dictionary;

@@ -1,5 +1,7 @@
-//! Lists of slots of an inner array.
-ghost use Rattle.std.specs.Prelude.{◌≡◌, ◌<◌, ◌≤◌, Some, not, length, map, option_map, slice_get, IfOk, IfErr, IsErrAnd, IsOk};
+//! List arrays: each slot is a list of slots of an inner array (Arrow columnar format, "Variable-size
+//! List Layout").
+ghost use Rattle.std.specs.Prelude.{◌≡◌, ◌<◌, ◌≤◌, Some, not, length, map, option_map, slice_get, IfOk, IfErr};
+ghost use Rattle.std.specs.Prelude.{IsErrAnd, IsOk};
 ghost use Rattle.dethrugn.specs.Types.{refusal};
 ghost use Rattle.dethrugn.specs.Offsets.{last_of};
 ghost use Rattle.dethrugn.specs.Rows.{slot};
@@ -32,10 +34,15 @@ impl<O: Offset> Model for ListArray<O> {
 
     ghost view = { λ array. array_of array.offsets array.values.rows array.validity };
 
-    ghost invariant = { λ array. (0 < length array.offsets) × (last_of array.offsets ≤ length array.values.rows) × FitsLists array.offsets array.validity };
+    ghost invariant = { λ array. (0 < length array.offsets)
+        × (last_of array.offsets ≤ length array.values.rows)
+        × FitsLists array.offsets array.validity };
 }
 
-/// Refuses a mask that has another number of marks than there are lists.
+/// Checks that a mask, if there is one, has a mark for each list.
+///
+/// # Errors
+/// `OutOfSpec` if it has another number of marks.
 fn check_mask<O: Offset>(offsets: &OffsetsBuffer<O>, validity: &Option<Bitmap>) -> Result<(), Error>
     ensures ok { IfOk result (λ _. FitsLists offsets.now validity.now) }
     ensures err { IfErr result (λ e. (FitsLists offsets.now validity.now → ⊥) × (refusal e ≡ unfit_mask)) }
@@ -49,19 +56,21 @@ fn check_mask<O: Offset>(offsets: &OffsetsBuffer<O>, validity: &Option<Bitmap>) 
 }
 
 impl<O: Offset> ListArray<O> {
-    /// The lists that offsets cut out of values.
+    /// Creates an array of the lists between offsets of `values`.
     ///
     /// # Errors
-    /// `OutOfSpec` where the last offset is past the values, or else where a mask has another number of marks than there
-    /// are lists.
+    /// - `OutOfSpec` if the last offset is above the number of values.
+    /// - Otherwise `OutOfSpec` if the mask has another number of marks than there are lists.
     pub fn try_new(
         offsets: OffsetsBuffer<O>,
         values: Utf8Array<i32>,
         validity: Option<Bitmap>,
     ) -> Result<Self, Error>
-        ensures ok { IfOk result (λ lists. (last_of offsets ≤ length values.rows) × FitsLists offsets validity × (lists ≡ array_of offsets values.rows validity)) }
+        ensures ok { IfOk result (λ lists. (last_of offsets ≤ length values.rows) × FitsLists offsets validity
+            × (lists ≡ array_of offsets values.rows validity)) }
         ensures past { length values.rows < last_of offsets → IsErrAnd result (λ e. refusal e ≡ past_values) }
-        ensures unfit { last_of offsets ≤ length values.rows → (FitsLists offsets validity → ⊥) → IsErrAnd result (λ e. refusal e ≡ unfit_mask) }
+        ensures unfit { last_of offsets ≤ length values.rows → (FitsLists offsets validity → ⊥)
+            → IsErrAnd result (λ e. refusal e ≡ unfit_mask) }
         ensures fit { last_of offsets ≤ length values.rows → FitsLists offsets validity → IsOk result }
     {
         check_bounds(offsets.buffer().as_slice(), values.len())?;
@@ -73,14 +82,14 @@ impl<O: Offset> ListArray<O> {
         })
     }
 
-    /// The number of lists.
+    /// Returns the number of lists.
     pub fn len(&self) -> usize
         ensures { result ≡ length self.now }
     {
         self.offsets.len_proxy()
     }
 
-    /// Whether a list is null.
+    /// Returns whether the list at `i` is null.
     pub fn is_null(&self, i: usize) -> bool
         requires { i < length self.now }
         ensures { slice_get (map (λ row. row.1) self.now) i ≡ Some (not result) }
@@ -91,10 +100,10 @@ impl<O: Offset> ListArray<O> {
         }
     }
 
-    /// The list that is stored at a place, a null one too: a cut of the values, of which none is copied.
+    /// Returns the list that is stored at `i`, also if it is null. It shares the memory of the values.
     ///
     /// # Errors
-    /// `OutOfMemory` where memory is refused.
+    /// `OutOfMemory` if an allocation fails.
     pub fn value(&self, i: usize) -> Result<Utf8Array<i32>, Error>
         requires { i < length self.now }
         ensures ok { IfOk result (λ list. slice_get (map (λ row. row.0) self.now) i ≡ Some list.rows) }
@@ -104,10 +113,10 @@ impl<O: Offset> ListArray<O> {
         Ok(self.values.clone()?.sliced(start, end - start))
     }
 
-    /// The list at a place, or none where it is null.
+    /// Returns the list at `i`, or `None` if it is null.
     ///
     /// # Errors
-    /// `OutOfMemory` where memory is refused.
+    /// `OutOfMemory` if an allocation fails.
     pub fn get(&self, i: usize) -> Result<Option<Utf8Array<i32>>, Error>
         requires { i < length self.now }
         ensures ok { IfOk result (λ list. slice_get (map slot self.now) i ≡ Some (option_map (λ cut. cut.rows) list)) }

@@ -29,4 +29,5 @@ returns-in-None g c =
     rw (← c.self.view_is)
     (ap (λ marks. slice_get marks c.args.i) (bare-marks lists array.validity c.in-None.is)
     ∙ set-mark (length lists) c.args.i
-    (list-within array.offsets array.values.rows array.validity c.self.invariant.0 c.self.invariant.2 c.args.i within))
+    (list-within array.offsets array.values.rows array.validity c.self.invariant.0 c.self.invariant.2 c.args.i
+    within))
