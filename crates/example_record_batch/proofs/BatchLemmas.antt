@@ -1,26 +1,24 @@
 -- Lemmas about columns of equal length.
-use Rattle.std.proofs.Common.{◌≡◌, ℕ, zero, suc, ◌+◌, ◌-◌, ◌<◌, ◌≤◌, Bool, true, false, List, [], ◌∷◌, ◌++◌}
-use Rattle.std.proofs.Common.{length, map, take, drop, get_or, slice_get, Option, Some, refl, ap, subst, ◌∙◌, sym}
-use Rattle.std.proofs.Common.{add-one, add-zero, arith}
-use Rattle.std.specs.Prelude.{All, count_by, find, option_map, slice_set, unwrap_or, if◌then◌else◌}
+use Rattle.std.proofs.Common.{◌≡◌, ℕ, ◌+◌, ◌-◌, ◌<◌, ◌≤◌, Bool, true, false, List, [], ◌∷◌, ◌++◌}
+use Rattle.std.proofs.Common.{length, map, take, drop, get_or, Some, refl, ap, subst, ◌∙◌, sym}
+use Rattle.std.proofs.Common.{arith}
+use Rattle.std.specs.Prelude.{All, find, option_map, slice_set, cond}
 use Rattle.std.specs.Str.{bytes_eq}
 use Rattle.std.specs.Prelude.{string_bytes}
-use Rattle.std.proofs.lemmas.List.{get_or-map, length-map}
-use Rattle.std.proofs.lemmas.List.Elements.{All-map, All-weaker}
-use Rattle.std.proofs.lemmas.List.Sums.{count_by_more_no, count_by_more_yes}
-use Rattle.std.proofs.lemmas.Option.{get_or_from_slice_get, slice_get-map, slice_get_within}
-use Rattle.dethrugn.specs.Column.{Column, slots_of}
+use Rattle.std.proofs.lemmas.List.{get_or-map, length-map, map-append, take_more}
+use Rattle.std.proofs.lemmas.List.Elements.{All-head, All-map, All-tail, All-weaker}
+use Rattle.std.proofs.lemmas.List.Edits.{map_over_more}
+use Rattle.std.proofs.lemmas.Option.{none-some, same_Some}
+use Rattle.dethrugn.specs.Column.{Column}
 use Rattle.dethrugn.specs.Selection.{asked}
-use Rattle.dethrugn.proofs.CallerLemmas.Column.{get-piece, length-cut}
+use Rattle.dethrugn.proofs.CallerLemmas.Column.{length-cut}
 use Rattle.dethrugn.proofs.CallerLemmas.Kernels.{length-asked, length-where}
 use Rattle.example_record_batch.specs.declared.any.AnyArray.{AnyArray}
 use Rattle.example_record_batch.specs.declared.any.AnyArray.TheVariants.{Int64, Boolean, Binary, Utf8}
 use Rattle.example_record_batch.specs.declared.batch.Field.{Field}
-use Rattle.dethrugn.specs.Rows.{slot}
-use Rattle.example_record_batch.specs.AnyArrays.{FitsAnyCut, any_cut, any_filtered, bytes, cell_at, number}
-use Rattle.example_record_batch.specs.AnyArrays.{slot_count, text, truth}
-use Rattle.example_record_batch.specs.Batches.{HaveRows, IsBatch, Named, asked_count, batch_of, column_of}
-use Rattle.example_record_batch.specs.Batches.{field_cut, named, named_cut, named_filtered}
+use Rattle.example_record_batch.specs.AnyArrays.{FitsAnyCut, any_cut, any_filtered, slot_count}
+use Rattle.example_record_batch.specs.Batches.{HaveRows, IsBatch, Named, asked_count, batch_of, column_of, field_cut}
+use Rattle.example_record_batch.specs.Batches.{named, named_cut, named_filtered}
 
 pub slot_count-cut : (array : AnyArray) (a n : ℕ) → FitsAnyCut array a n → slot_count (any_cut array a n) ≡ n
 slot_count-cut (Int64 column) a n f = length-cut column.rows a n f.0 f.1
@@ -54,25 +52,14 @@ cut-named (field ∷ fields) a n = ap (λ rest. named_cut a n (named field) ∷ 
 pub named-rows : (fields : List Field) (rows : ℕ) → HaveRows fields rows → IsBatch (batch_of fields rows)
 named-rows fields rows h = All-map (λ column. slot_count column.array ≡ rows) named fields h
 
--- one item more is changed
-pub changed-more : {X : Type 0} (f : X → X) (xs : List X) (i : ℕ) (d : X) → i < length xs
-    → slice_set (map f (take i xs) ++ drop i xs) i (f (get_or (map f (take i xs) ++ drop i xs) i d))
-    ≡ map f (take (i + 1) xs) ++ drop (i + 1) xs
-changed-more f [] i d h = absurd (omega arith)
-changed-more f (x ∷ xs) zero d h = refl
-changed-more f (x ∷ xs) (suc i) d h =
-    let short : i < length xs = omega arith in
-    ap (λ ys. f x ∷ ys) (changed-more f xs i d short) ∙ simp add-one
-
+-- one column more is cut
 pub cut-more : (a n : ℕ) (xs items : List Field) (i : ℕ) (d : Field) (array : AnyArray) → i < length xs
-    → items ≡ map (field_cut a n) (take i xs) ++ drop i xs
-    → array ≡ any_cut (get_or items i d).array a n
-    → slice_set items i (record (get_or items i d) { array = array })
+    → items ≡ map (field_cut a n) (take i xs) ++ drop i xs → d ≡ get_or items i d
+    → array ≡ any_cut (get_or items i d).array a n → slice_set items i (record (get_or items i d) { array = array })
     ≡ map (field_cut a n) (take (i + 1) xs) ++ drop (i + 1) xs
-cut-more a n xs items i d array h e f =
+cut-more a n xs items i d array h e is f =
     ap (λ c. slice_set items i (record (get_or items i d) { array = c })) f
-    ∙ ap (λ ys. slice_set ys i (field_cut a n (get_or ys i d))) e
-    ∙ changed-more (field_cut a n) xs i d h
+    ∙ map_over_more (field_cut a n) xs items i (get_or items i d) h e (ap (get_or items i) is)
 
 pub find-map : {X Y : Type 0} (f : X → Y) (p : Y → Bool) (xs : List X)
     → find p (map f xs) ≡ option_map f (find (λ x. p (f x)) xs)
@@ -87,48 +74,47 @@ column-found fields rows name =
     (λ column. bytes_eq column.name name) fields)
     ∙ grind arith
 
+-- and so are the columns with these names
+pub rows-named : (fields : List Field) (rows : ℕ) → IsBatch (batch_of fields rows) → HaveRows fields rows
+rows-named fields rows h = λ k d l.
+    subst (λ column. slot_count column.array ≡ rows) (get_or-map named fields k d (named d) l)
+    (h k (named d) (subst (λ n. k < n) (sym (length-map fields named)) l))
+
 -- the columns that a filter makes of columns of equal length are of equal length
 pub filtered-rows : (fields kept : List Field) (filter : Column Bool) → HaveRows fields (length filter.rows)
-    → map named kept ≡ map (λ field. named_filtered filter (named field)) fields → HaveRows kept (asked_count filter)
-filtered-rows fields kept filter h e = λ k d l. here k d l
+    → map named kept ≡ map (named_filtered filter) (map named fields) → HaveRows kept (asked_count filter)
+filtered-rows fields kept filter h e =
+    let P = λ (column : Named). slot_count column.array ≡ asked_count filter in
+    rows-named kept (asked_count filter) (subst (All P) (sym e) (All-map P (named_filtered filter) (map named fields)
+    (All-weaker (λ (column : Named). slot_count column.array ≡ length filter.rows) (λ column. P (named_filtered
+    filter column)) (λ column same. slot_count-filtered column.array filter (sym same)) (map named fields)
+    (named-rows fields (length filter.rows) h))))
+
+-- one column more is filtered
+pub filter-more : (filter : Column Bool) (fields kept after : List Field) (i : ℕ) (field new : Field)
+    → i < length fields → field ≡ get_or fields i field
+    → map named kept ≡ map (named_filtered filter) (map named (take i fields))
+    → after ≡ kept ++ new ∷ [] → named new ≡ named_filtered filter (named field)
+    → map named after ≡ map (named_filtered filter) (map named (take (i + 1) fields))
+filter-more filter fields kept after i field new low is before push same =
+    ap (map named) push ∙ map-append named kept (new ∷ []) ∙ (λ j. before j ++ same j ∷ [])
+    ∙ sym (ap (λ xs. map (named_filtered filter) (map named xs)) (take_more fields i field low
+    ∙ ap (λ x. take i fields ++ x ∷ []) (sym is))
+    ∙ ap (map (named_filtered filter)) (map-append named (take i fields) (field ∷ []))
+    ∙ map-append (named_filtered filter) (map named (take i fields)) (named field ∷ []))
+
+-- the column that is found has the rows of the others
+pub found-rows : (fields : List Field) (rows : ℕ) (test : Field → Bool) (field : Field) → HaveRows fields rows
+    → find test fields ≡ Some field → slot_count field.array ≡ rows
+found-rows [] rows test field each e = absurd (none-some field e)
+found-rows (first ∷ fields) rows test field each e =
+    by-test (test first) (found-rows fields rows test field (All-tail (λ field. slot_count field.array ≡ rows) first
+    fields each)) e
   where
-    P : Named → Type 0
-    P column = slot_count column.array ≡ asked_count filter
+    here : slot_count first.array ≡ rows
+    here = All-head (λ field. slot_count field.array ≡ rows) first fields each
 
-    each : All (λ (field : Field). P (named_filtered filter (named field))) fields
-    each =
-        All-weaker (λ (field : Field). slot_count field.array
-        ≡ length filter.rows) (λ (field : Field). P (named_filtered filter (named field)))
-        (λ field same. slot_count-filtered field.array filter (sym same)) fields h
-
-    made : All P (map named kept)
-    made = subst (λ columns. All P columns) (sym e) (All-map P
-        (λ (field : Field). named_filtered filter (named field)) fields each)
-
-    here : (k : ℕ) (d : Field) → k < length kept → slot_count (get_or kept k d).array ≡ asked_count filter
-    here k d l = subst P (get_or-map named kept k d (named d) l) (made k (named d) (subst
-        (λ n. k < n) (sym (length-map kept named)) l))
-
-pub filtered-named : (fields kept : List Field) (filter : Column Bool)
-    → map named kept ≡ map (λ field. named_filtered filter (named field)) fields
-    → map named kept ≡ map (named_filtered filter) (map named fields)
-filtered-named fields kept filter e = e ∙ fuse fields
-  where
-    fuse : (fields : List Field) → map (λ field. named_filtered filter (named field)) fields
-        ≡ map (named_filtered filter) (map named fields)
-    fuse [] = refl
-    fuse (field ∷ fields) = ap (λ rest. named_filtered filter (named field) ∷ rest) (fuse fields)
-
-pub cell-cut : (array : AnyArray) (a n i : ℕ) → i < n → cell_at (any_cut array a n) i ≡ cell_at array (a + i)
-cell-cut (Int64 column) a n i h = ap (option_map number) (get-piece slot column.rows a n i h)
-cell-cut (Boolean column) a n i h = ap (option_map truth) (get-piece slot column.rows a n i h)
-cell-cut (Binary column) a n i h = ap (option_map bytes) (get-piece slot column.rows a n i h)
-cell-cut (Utf8 column) a n i h = ap (option_map text) (get-piece slot column.rows a n i h)
-
-pub row-cut : (columns : List Named) (a n i : ℕ) → i < n → map
-    (λ column. cell_at column.array i) (map (named_cut a n) columns)
-    ≡ map (λ column. cell_at column.array (a + i)) columns
-row-cut [] a n i h = refl
-row-cut (column ∷ columns) a n i h = ap (λ cell. cell ∷ map (λ column. cell_at column.array i) (map
-    (named_cut a n) columns)) (cell-cut column.array a n i h)
-    ∙ ap (λ rest. cell_at column.array (a + i) ∷ rest) (row-cut columns a n i h)
+    by-test : (b : Bool) → (find test fields ≡ Some field → slot_count field.array ≡ rows)
+        → cond b (Some first) (find test fields) ≡ Some field → slot_count field.array ≡ rows
+    by-test true later e = subst (λ (field : Field). slot_count field.array ≡ rows) (same_Some first field e) here
+    by-test false later e = later e

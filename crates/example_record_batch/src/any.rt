@@ -1,9 +1,13 @@
 //! An array of one of four kinds.
-ghost use Rattle.std.specs.Prelude.{◌≡◌, length, IfOk, IfErr};
-ghost use Rattle.example_record_batch.specs.AnyArrays.{FitsAnyCut, any_cut, any_filtered, nulls_of, slot_count};
+ghost use Rattle.std.specs.Prelude.{◌≡◌, ◌<◌, length, not, slice_get, Some, IfOk};
+ghost use Rattle.dethrugn.specs.Failures.{OnlyOutOfMemory};
+ghost use Rattle.example_record_batch.specs.AnyArrays.{FitsAnyCut, any_cut, any_filtered, kind_of, nulls_of};
+ghost use Rattle.example_record_batch.specs.AnyArrays.{slot_count, type_of, validity_of};
+ghost use Rattle.dethrugn.specs.Types.{IsRightType, logical_type};
 
 use dethrugn::array::{BinaryArray, BooleanArray, PrimitiveArray, Utf8Array};
 use dethrugn::compute::filter::{filter_binary, filter_boolean, filter_primitive, filter_utf8};
+use dethrugn::datatypes;
 use dethrugn::error::Error;
 use std::alloc::Global;
 
@@ -33,6 +37,32 @@ impl AnyArray {
         }
     }
 
+    /// Returns the data type.
+    pub fn data_type(&self) -> &datatypes::DataType
+        ensures value { logical_type result.now ≡ type_of self.now }
+        ensures right { IsRightType (kind_of self.now) (type_of self.now) }
+    {
+        match self {
+            AnyArray::Int64(array) => array.data_type(),
+            AnyArray::Boolean(array) => array.data_type(),
+            AnyArray::Binary(array) => array.data_type(),
+            AnyArray::Utf8(array) => array.data_type(),
+        }
+    }
+
+    /// Returns whether the slot at `i` is null.
+    pub fn is_null(&self, i: usize) -> bool
+        requires { i < slot_count self.now }
+        ensures { slice_get (validity_of self.now) i ≡ Some (not result) }
+    {
+        match self {
+            AnyArray::Int64(array) => array.is_null(i),
+            AnyArray::Boolean(array) => array.is_null(i),
+            AnyArray::Binary(array) => array.is_null(i),
+            AnyArray::Utf8(array) => array.is_null(i),
+        }
+    }
+
     /// Returns the number of null slots.
     pub fn null_count(&self) -> usize
         ensures { result ≡ nulls_of self.now }
@@ -45,7 +75,7 @@ impl AnyArray {
         }
     }
 
-    /// Keeps only the `len` slots from `offset` on, without copying any.
+    /// Keeps only the `len` slots that begin at `offset`, without copying any.
     pub fn slice(&mut self, offset: usize, len: usize)
         requires { FitsAnyCut self.old offset len }
         ensures { self.new ≡ any_cut self.old offset len }
@@ -64,7 +94,7 @@ impl AnyArray {
     /// `OutOfMemory` if an allocation fails.
     pub fn clone(&self) -> Result<Self, Error>
         ensures ok { IfOk result (λ copy. copy ≡ self.now) }
-        ensures err { IfErr result (λ e. e ≡ Error.OutOfMemory) }
+        ensures err { OnlyOutOfMemory result }
     {
         Ok(match self {
             AnyArray::Int64(array) => AnyArray::Int64(array.clone()?),
@@ -74,14 +104,14 @@ impl AnyArray {
         })
     }
 
-    /// Returns the slots where `filter` is valid and true. Both must have equally many slots.
+    /// Returns the slots where `filter` is valid and true. `filter` must have as many slots as the array.
     ///
     /// # Errors
     /// `OutOfMemory` if an allocation fails.
     pub fn filter(&self, alloc: Global, filter: &BooleanArray) -> Result<Self, Error>
         requires { length filter.now.rows ≡ slot_count self.now }
         ensures ok { IfOk result (λ kept. kept ≡ any_filtered self.now filter.now) }
-        ensures err { IfErr result (λ e. e ≡ Error.OutOfMemory) }
+        ensures err { OnlyOutOfMemory result }
     {
         Ok(match self {
             AnyArray::Int64(array) => AnyArray::Int64(filter_primitive(alloc, array, filter)?),
@@ -91,3 +121,5 @@ impl AnyArray {
         })
     }
 }
+
+mod concat;

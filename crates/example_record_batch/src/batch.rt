@@ -1,14 +1,16 @@
 //! Named columns of equal length.
-ghost use Rattle.std.specs.Prelude.{◌≡◌, ◌≤◌, ◌-◌, length, map, All, IfOk, IfErr, find, option_map, string_bytes};
+ghost use Rattle.std.specs.Prelude.{◌≡◌, ◌≤◌, ◌-◌, All, IfErr, IfOk, IfSome, find, length, map, string_bytes};
 ghost use Rattle.std.specs.Str.{bytes_eq};
 ghost use Rattle.std.specs.Option.{option_copied};
+ghost use Rattle.dethrugn.specs.Failures.{OnlyOutOfMemory};
 ghost use Rattle.dethrugn.specs.Types.{refusal};
 ghost use Rattle.example_record_batch.specs.AnyArrays.{FitsAnyCut, slot_count};
 ghost use Rattle.example_record_batch.specs.Batches.{HaveRows, IsBatch, batch_cut, batch_filtered, batch_of};
-ghost use Rattle.example_record_batch.specs.Batches.{column_of, field_cut, named, named_filtered};
-ghost use Rattle.example_record_batch.specs.Batches.{unequal_columns};
+ghost use Rattle.example_record_batch.specs.Batches.{column_of, field_cut, named, named_filtered, unequal_columns};
+ghost use Rattle.example_record_batch.specs.Schemas.{schema_of};
 
 use crate::any::AnyArray;
+use crate::schema::Schema;
 use dethrugn::array::BooleanArray;
 use dethrugn::compute::filter::true_count;
 use dethrugn::error::Error;
@@ -42,7 +44,7 @@ impl Model for RecordBatch {
     ghost invariant = { λ batch. HaveRows batch.fields.items batch.len };
 }
 
-/// Keeps only the `len` slots from `offset` on of each column.
+/// Keeps only the `len` slots that begin at `offset` of each column.
 fn slice_all(fields: &mut Vec<Field>, offset: usize, len: usize)
     requires { All (λ field. FitsAnyCut field.array offset len) fields.old.items }
     ensures { fields.new.items ≡ map (field_cut offset len) fields.old.items }
@@ -56,7 +58,7 @@ fn slice_all(fields: &mut Vec<Field>, offset: usize, len: usize)
 fn filter_field(alloc: Global, field: &Field, filter: &BooleanArray) -> Result<Field, Error>
     requires { length filter.now.rows ≡ slot_count field.now.array }
     ensures ok { IfOk result (λ kept. named kept ≡ named_filtered filter.now (named field.now)) }
-    ensures err { IfErr result (λ e. e ≡ Error.OutOfMemory) }
+    ensures err { OnlyOutOfMemory result }
 {
     let array = field.array.filter(alloc, filter)?;
     let name = field.name.clone()?;
@@ -64,15 +66,11 @@ fn filter_field(alloc: Global, field: &Field, filter: &BooleanArray) -> Result<F
 }
 
 /// Returns the slots of each column where `filter` is valid and true, under the same names.
-fn filter_all(
-    alloc: Global,
-    fields: &Vec<Field>,
-    filter: &BooleanArray,
-) -> Result<Vec<Field>, Error>
-    requires { HaveRows fields.now.items (length filter.now.rows) }
+fn filter_all(alloc: Global, fields: &[Field], filter: &BooleanArray) -> Result<Vec<Field>, Error>
+    requires { HaveRows fields.now (length filter.now.rows) }
     ensures ok { IfOk result (λ kept. map named kept.items
-        ≡ map (λ field. named_filtered filter.now (named field)) fields.now.items) }
-    ensures err { IfErr result (λ e. e ≡ Error.OutOfMemory) }
+        ≡ map (named_filtered filter.now) (map named fields.now)) }
+    ensures err { OnlyOutOfMemory result }
 {
     let mut kept = Vec::new(alloc);
     for field in fields {
@@ -81,7 +79,7 @@ fn filter_all(
     Ok(kept)
 }
 
-/// Returns the first column of a name.
+/// Returns the first field with this name.
 fn find_field<'a>(fields: &'a [Field], name: &str) -> Option<&'a Field>
     ensures { option_copied result ≡ find (λ field. bytes_eq (string_bytes field.name) name.now) fields.now }
 {
@@ -92,7 +90,7 @@ impl RecordBatch {
     /// Creates a batch of columns of `len` slots each.
     ///
     /// # Errors
-    /// `OutOfSpec` if a column has another number of slots.
+    /// `OutOfSpec` if a column does not have `len` slots.
     pub fn try_new(fields: Vec<Field>, len: usize) -> Result<Self, Error>
         ensures ok { IfOk result (λ batch. HaveRows fields.items len × (batch ≡ batch_of fields.items len)) }
         ensures err { IfErr result (λ e. (HaveRows fields.items len → ⊥) × (refusal e ≡ unequal_columns)) }
@@ -121,9 +119,26 @@ impl RecordBatch {
         self.fields.as_slice()
     }
 
-    /// Returns the first column of a name, or `None` if there is none.
+    /// Returns the number of columns.
+    pub fn num_columns(&self) -> usize
+        ensures { result ≡ length self.now.columns }
+    {
+        self.fields.len()
+    }
+
+    /// Returns the names and the data types of the columns.
+    pub fn schema(&self) -> Schema<'_>
+        ensures { result ≡ schema_of self.now }
+    {
+        Schema {
+            fields: self.fields.as_slice(),
+        }
+    }
+
+    /// Returns the first column with this name, or `None` if there is none.
     pub fn column(&self, name: &str) -> Option<&AnyArray>
-        ensures { option_copied result ≡ column_of self.now name.now }
+        ensures value { option_copied result ≡ column_of self.now name.now }
+        ensures rows { IfSome result (λ array. slot_count array.now ≡ self.now.rows) }
     {
         match find_field(self.fields.as_slice(), name) {
             Some(field) => Some(&field.array),
@@ -131,7 +146,7 @@ impl RecordBatch {
         }
     }
 
-    /// Keeps only the `len` rows from `offset` on.
+    /// Keeps only the `len` rows that begin at `offset`, without copying any.
     pub fn slice(&mut self, offset: usize, len: usize)
         requires { (offset ≤ self.old.rows) × (len ≤ self.old.rows - offset) }
         ensures { self.new ≡ batch_cut self.old offset len }
@@ -140,19 +155,22 @@ impl RecordBatch {
         self.len = len;
     }
 
-    /// Returns the rows where `filter` is valid and true. It must have a slot for each row.
+    /// Returns the rows where `filter` is valid and true. `filter` must have a slot for each row.
     ///
     /// # Errors
     /// `OutOfMemory` if an allocation fails.
     pub fn filter(&self, alloc: Global, filter: &BooleanArray) -> Result<Self, Error>
         requires { length filter.now.rows ≡ self.now.rows }
         ensures ok { IfOk result (λ kept. kept ≡ batch_filtered self.now filter.now) }
-        ensures err { IfErr result (λ e. e ≡ Error.OutOfMemory) }
+        ensures err { OnlyOutOfMemory result }
+        ensures each { IsBatch self.now }
     {
-        let fields = filter_all(alloc, &self.fields, filter)?;
+        let fields = filter_all(alloc, self.fields.as_slice(), filter)?;
         Ok(RecordBatch {
             fields,
             len: true_count(filter),
         })
     }
 }
+
+mod concat;

@@ -1,0 +1,6 @@
+use Rattle.std.proofs.Common.{◌≡◌, map, take}
+use Rattle.example_record_batch.specs.declared.any.AnyArray.TheVariants.{Boolean}
+use Rattle.example_record_batch.proofs.any.concat.clone_boolean.Given as goal
+
+abbrev pub invariant-loop-array : goal.invariant-loop-array
+invariant-loop-array l = map Boolean l.columns.items ≡ take l.array-index l.arrays

@@ -1,0 +1,33 @@
+-- Schemas: the name and the data type of each column of a batch, and their text.
+use Rattle.std.specs.Prelude.{List, [], ◌∷◌, ℕ, codes, map, Option, Some}
+use Rattle.std.specs.Fmt.{◌++?◌}
+use Rattle.dethrugn.specs.Types.{LogicalType}
+use Rattle.dethrugn.specs.TypeText.{type_text}
+use Rattle.example_record_batch.specs.declared.batch.Field.{Field}
+use Rattle.example_record_batch.specs.AnyArrays.{type_of}
+use Rattle.example_record_batch.specs.Batches.{Batch, Named, named}
+
+-- the name of a column and its data type
+pub record NamedType : Type 0 where
+  pub name : List ℕ
+  pub data_type : LogicalType
+
+abbrev pub named_type : Named → NamedType
+named_type column = record { name = column.name; data_type = type_of column.array }
+
+-- the schema of a batch
+abbrev pub schema_of : Batch → List NamedType
+schema_of batch = map named_type batch.columns
+
+-- the same of fields
+abbrev pub fields_schema : List Field → List NamedType
+fields_schema fields = map named_type (map named fields)
+
+-- the text of a column's type: its name, a colon, and its data type
+abbrev pub line_text : NamedType → Option (List ℕ)
+line_text column = Some column.name ++? Some (codes ": ") ++? type_text column.data_type ++? Some (codes "\n")
+
+-- the text of a schema: a line for each column
+abbrev pub schema_text : List NamedType → Option (List ℕ)
+schema_text [] = Some []
+schema_text (column ∷ columns) = line_text column ++? schema_text columns
