@@ -1,1 +1,4 @@
+pub mod CutLemmas
+pub mod DictionaryLemmas
 pub mod ListLemmas
+pub mod SlotLemmas

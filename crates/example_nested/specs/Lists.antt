@@ -1,15 +1,29 @@
 -- Lists of slots: what offsets cut out of an inner array.
-use Rattle.std.specs.Prelude.{◌≡◌, ℕ, ◌+◌, IfSome, Bool, List, length, Option}
+use Rattle.std.specs.Prelude.{ℕ, ◌≤◌, Bool, List, length, Option, option_and_then, slice_get}
+use Rattle.std.specs.Option.{option_flatten}
+use Rattle.dethrugn.specs.Acceptance.{Tests, accept, test}
+use Rattle.dethrugn.specs.Bounds.{past_values}
+use Rattle.dethrugn.specs.Column.{unfit_mask}
+use Rattle.dethrugn.specs.Offsets.{last_of}
 use Rattle.dethrugn.specs.Pieces.{items_of}
-use Rattle.dethrugn.specs.Rows.{Row, rows_of}
+use Rattle.dethrugn.specs.Rows.{FitsMask, Row, rows_of}
 
--- an array of lists: a row for each, whose items are rows of the inner array
-abbrev pub Lists : Type 0
-Lists = List (Row (List (Row (List ℕ))))
+-- an array of lists: a row for each, which stores the slots of the list
+abbrev pub Lists : Type 0 → Type 0
+Lists S = List (Row (List (Option S)))
 
-abbrev pub array_of : List ℕ → List (Row (List ℕ)) → Option (List Bool) → Lists
-array_of offsets rows mask = rows_of (items_of offsets rows) mask
+module _ {S : Type 0} (offsets : List ℕ) (slots : List (Option S)) (mask : Option (List Bool)) where
+  -- the lists that offsets cut out of slots, with the marks of a mask
+  abbrev pub lists_of : Lists S
+  lists_of = rows_of (items_of offsets slots) mask
 
--- a mask has a mark for each list
-abbrev pub FitsLists : List ℕ → Option (List Bool) → Type 0
-FitsLists offsets mask = IfSome mask (λ marks. length marks + 1 ≡ length offsets)
+  -- the tests of parts, in order: the last offset is within the slots, and a mask has a mark for each list
+  abbrev pub list_tests : Tests
+  list_tests =
+      test (last_of offsets ≤ length slots) past_values
+      (test (FitsMask (items_of offsets slots) mask) unfit_mask accept)
+
+-- slot k of list i, or a null where there is no such list or slot
+abbrev pub slot_in_list : {S : Type 0} → List (Option (List (Option S))) → ℕ → ℕ → Option S
+slot_in_list lists i k =
+    option_flatten (option_and_then (λ list. slice_get list k) (option_flatten (slice_get lists i)))
