@@ -1,0 +1,4 @@
+pub mod Aggregates
+pub mod Comparison
+pub mod Kleene
+pub mod Slots

@@ -1,0 +1,31 @@
+//! Callers of the kernels: what each promises follows from the contracts of the calls that it makes.
+ghost use Rattle.std.specs.Prelude.{◌≡◌, IfOk, map};
+ghost use Rattle.std.specs.Ordering.{is_ge, is_lt};
+ghost use Rattle.dethrugn.specs.Column.{slots_of};
+ghost use Rattle.dethrugn.specs.Failures.{OnlyOutOfMemory};
+ghost use Rattle.example_kernels.specs.Comparison.{compare_slot};
+ghost use Rattle.example_kernels.specs.Kleene.{kleene_and};
+
+use crate::boolean_kleene::and;
+use crate::comparison::{gt_eq_scalar, lt_scalar};
+use dethrugn::array::{BooleanArray, PrimitiveArray};
+use dethrugn::error::Error;
+use dethrugn::types::NativeType;
+use std::alloc::Global;
+
+/// Returns whether each value is at least `low` and less than `high`; null where the slot is null.
+pub fn within<T: NativeType + Ord>(
+    alloc: Global,
+    array: &PrimitiveArray<T>,
+    low: T,
+    high: T,
+) -> Result<BooleanArray, Error>
+    ensures ok { IfOk result (λ made. slots_of made
+        ≡ map (λ slot. kleene_and (compare_slot is_ge T.cmp low slot) (compare_slot is_lt T.cmp high slot))
+        (slots_of array.now)) }
+    ensures err { OnlyOutOfMemory result }
+{
+    let reaches = gt_eq_scalar(alloc, array, low)?;
+    let stays_below = lt_scalar(alloc, array, high)?;
+    and(alloc, &reaches, &stays_below)
+}
