@@ -1,0 +1,12 @@
+use Rattle.std.proofs.Common.{◌≡◌, ◌++◌, map, string_bytes, take}
+use Rattle.std.specs.Prelude.{codes}
+use Rattle.std.specs.List.{flat_map}
+use Rattle.example_record_batch.specs.Batches.{named}
+use Rattle.example_csv.specs.Aligned.{cell_of}
+use Rattle.example_csv.proofs.write_aligned.write_names.Given as goal
+
+abbrev pub invariant-loop-i : goal.invariant-loop-i
+invariant-loop-i g l =
+    string_bytes l.line.text
+    ≡ flat_map (λ cell. cell ++ codes "  ")
+    (map (λ field. cell_of l.table.rows (λ column. column.name) (named field)) (take l.i l.field-items))
