@@ -1,0 +1,8 @@
+//! Short callers of the library, each with a contract and its proof, to be copied: docs/USING.md quotes them.
+#![tactic(auto)]
+
+pub mod parts;
+pub mod push;
+pub mod rows;
+#[cfg(test)]
+mod tests;

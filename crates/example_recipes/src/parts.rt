@@ -1,0 +1,22 @@
+//! Parts that come from elsewhere.
+ghost use Rattle.std.specs.Prelude.{◌≡◌, IfOk, Some, map};
+ghost use Rattle.dethrugn.specs.Column.{slots_of};
+ghost use Rattle.dethrugn.specs.Pieces.{items_of};
+
+use dethrugn::array::Utf8Array;
+use dethrugn::buffer::Buffer;
+use dethrugn::error::Error;
+use dethrugn::laws::BytesAround;
+use dethrugn::laws::column::slots_of_parts;
+use dethrugn::offset::OffsetsBuffer;
+
+/// Creates an array of text from offsets and bytes that were received.
+///
+/// # Errors
+/// `OutOfSpec` if the last offset is past the bytes, or a text between two offsets is not UTF-8.
+pub fn receive(offsets: OffsetsBuffer<i32>, bytes: Buffer<u8>) -> Result<Utf8Array<i32>, Error>
+    ensures { IfOk result (λ array. slots_of array ≡ map Some (items_of offsets bytes)) }
+{
+    slots_of_parts::<BytesAround, Buffer<u8>>();
+    Utf8Array::try_new(Utf8Array::<i32>::default_data_type(), offsets, bytes, None)
+}
