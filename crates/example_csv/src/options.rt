@@ -45,7 +45,7 @@ pub fn command<'a>(alloc: Global) -> Result<Command<'a>, clap::Error> {
     Ok(
         Command::new(alloc, "example_csv")
             .about(
-                "Reads a CSV table from standard input and prints the rows and columns that are asked for",
+                "Reads a CSV table from standard input and prints the rows and columns that the options select",
             )
             .arg(filter)?
             .arg(columns)?
