@@ -61,11 +61,15 @@ abbrev pub first_rows : Option ℕ → Batch → Batch
 first_rows None batch = batch
 first_rows (Some n) batch = batch_cut batch 0 (min batch.rows n)
 
+-- the rows that `--where` keeps
+abbrev pub kept_rows : Options → Batch → Result Batch Reason
+kept_rows options batch = rows_where (option_map string_bytes options.filter) batch
+
 -- the rows and columns that options select
 abbrev pub selected : Options → Batch → Result Batch Reason
 selected options batch =
     and_then (λ kept. Ok (first_rows options.head kept))
-    (and_then (in_columns (option_map texts_of options.columns)) (rows_where (option_map string_bytes options.filter) batch))
+    (and_then (in_columns (option_map texts_of options.columns)) (kept_rows options batch))
 
 -- an error is the reason why nothing is selected, or out of memory
 abbrev pub Explains : {A : Type 0} → Result A Reason → Error → Type 0

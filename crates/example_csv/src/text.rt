@@ -33,8 +33,8 @@ fn bytes_text<'a>(bytes: &[u8], scratch: &'a mut String) -> Result<&'a str, Allo
     Ok(scratch.as_str())
 }
 
-/// Returns the text of the slot at `row`: none for a null. A number or bytes are written into
-/// `scratch`, text is lent by the array.
+/// Returns the text of the slot at `row`, empty for a null. A number or bytes are written into `scratch`; text is
+/// borrowed from the array.
 ///
 /// # Errors
 /// `AllocError` if an allocation fails.

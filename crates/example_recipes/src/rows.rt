@@ -1,7 +1,13 @@
 //! Some rows of an array, by the laws of slices and kernels.
-ghost use Rattle.std.specs.Prelude.{◌≡◌, ◌+◌, ◌<◌, ◌≤◌, ◌-◌, ℕ, IfOk, flat_map, length, slice_get};
-ghost use Rattle.dethrugn.specs.Column.{FitsCut, slots_of};
-ghost use Rattle.dethrugn.specs.Selection.{asked, at_keys, where_set};
+ghost use Rattle.std.specs.Prelude.{◌≡◌, ◌+◌, ◌<◌, ◌-◌, ◌^◌, ⊤, ℕ, None, IfErr, IfOk, IsErrAnd, MatchOption, flat_map, length};
+ghost use Rattle.std.specs.Prelude.{slice_get};
+ghost use Rattle.dethrugn.specs.Column.{FitsCut, refused_growth, slots_of};
+ghost use Rattle.dethrugn.specs.Failures.{OnlyOutOfMemory};
+ghost use Rattle.dethrugn.specs.Indexes.{key_refusal};
+ghost use Rattle.dethrugn.specs.Types.{refusal};
+ghost use Rattle.dethrugn.specs.Selection.{asked, at_keys, concat_overflows, first_out_of_bounds, taking_overflows};
+ghost use Rattle.dethrugn.specs.Selection.{where_set};
+ghost use Rattle.example_recipes.specs.Rows.{max_offset};
 
 use dethrugn::array::{BooleanArray, Utf8Array};
 use dethrugn::buffer::Buffer;
@@ -34,7 +40,8 @@ pub fn keep_where(
     filter: &BooleanArray,
 ) -> Result<Utf8Array<i32>, Error>
     requires { length filter.now.rows ≡ length names.now.rows }
-    ensures { IfOk result (λ kept. slots_of kept ≡ where_set (asked filter.now) (slots_of names.now)) }
+    ensures ok { IfOk result (λ kept. slots_of kept ≡ where_set (asked filter.now) (slots_of names.now)) }
+    ensures err { OnlyOutOfMemory result }
 {
     filtered_slots::<BytesAround, Buffer<u8>>();
     filter_utf8(alloc, names, filter)
@@ -46,7 +53,11 @@ pub fn keep_where(
 /// `OutOfSpec` if an index is out of bounds, `Overflow` if the texts are too long for offsets of 32 bits, and
 /// `OutOfMemory` if an allocation fails.
 pub fn pick(alloc: Global, names: &Utf8Array<i32>, indexes: &[i64]) -> Result<Utf8Array<i32>, Error>
-    ensures { IfOk result (λ picked. slots_of picked ≡ at_keys (λ index. index) indexes.now (slots_of names.now)) }
+    ensures ok { IfOk result (λ picked. slots_of picked ≡ at_keys (λ index. index) indexes.now (slots_of names.now)) }
+    ensures out_of_bounds { MatchOption (first_out_of_bounds (λ index. index) names.now indexes.now) ⊤
+        (λ index. IsErrAnd result (λ e. refusal e ≡ key_refusal index)) }
+    ensures err { IfErr result (λ e. first_out_of_bounds (λ index. index) names.now indexes.now ≡ None
+        → e ≡ refused_growth (taking_overflows max_offset (λ index. index) names.now indexes.now)) }
 {
     taken_slots::<BytesAround, Buffer<u8>, i64>();
     take_utf8(alloc, names, indexes)
@@ -58,7 +69,8 @@ pub fn pick(alloc: Global, names: &Utf8Array<i32>, indexes: &[i64]) -> Result<Ut
 /// `Overflow` if the texts are too long for offsets of 32 bits, and `OutOfMemory` if an allocation fails.
 pub fn join(alloc: Global, arrays: &[Utf8Array<i32>]) -> Result<Utf8Array<i32>, Error>
     requires { 0 < length arrays.now }
-    ensures { IfOk result (λ joined. slots_of joined ≡ flat_map slots_of arrays.now) }
+    ensures ok { IfOk result (λ joined. slots_of joined ≡ flat_map slots_of arrays.now) }
+    ensures err { IfErr result (λ e. e ≡ refused_growth (concat_overflows max_offset arrays.now)) }
 {
     concatenated_slots::<BytesAround, Buffer<u8>>();
     concat_utf8(alloc, arrays)

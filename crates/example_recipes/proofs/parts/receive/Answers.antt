@@ -6,8 +6,8 @@ use Rattle.dethrugn.specs.Pieces.{items_of}
 use Rattle.dethrugn.specs.Types.{logical_type}
 use Rattle.example_recipes.proofs.parts.receive.Goals as goal
 
-pub returns : goal.returns
-returns c =
+pub returns-clause-ok : goal.returns-clause-ok
+returns-clause-ok c =
     let items = items_of c.args.offsets c.args.bytes in
     IfOk-weaker c.try_new.result _ (λ array. slots_of array ≡ map Some items)
     (λ array made. ap slots_of made.1
