@@ -27,7 +27,8 @@ pub(crate) fn mark_of(bytes: &[u8], index: usize) -> bool
     requires { index < 8 * length bytes.now }
     ensures { result ≡ mark_at bytes.now index }
 {
-    bytes[index / 8] & (1 << (index % 8)) != 0
+    // Of 32 bits, since the compiler makes slow vector code of a shift of eight.
+    (u32::from(bytes[index / 8]) >> (index % 8)) % 2 == 1
 }
 
 /// Returns `mask` if `value` is true, else 0.
