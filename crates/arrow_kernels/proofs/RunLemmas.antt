@@ -1,7 +1,8 @@
 -- Lemmas about runs of set bits of words, and about runs of rows that are asked for.
 use Rattle.std.proofs.Common.{◌≡◌, ℕ, zero, suc, ◌+◌, ◌-◌, ◌*◌, ◌/◌, ◌%◌, ◌^◌, ◌<◌, ◌≤◌, ◌==◌, min, bit_and, w64}
-use Rattle.std.proofs.Common.{Bool, true, List, [], ◌∷◌, ◌++◌, length, replicate, take, slice_get, Some}
+use Rattle.std.proofs.Common.{Bool, true, false, List, [], ◌∷◌, ◌++◌, length, replicate, take, drop, slice_get, Some}
 use Rattle.std.proofs.Common.{refl, sym, subst, ap, ap₂, ◌∙◌, inl, inr, arith, add_comm, append_assoc}
+use Rattle.std.proofs.Common.{length-drop, take-add}
 use Rattle.std.proofs.Common.{mul-le-mul_right}
 use Rattle.std.specs.Int.{bit_at, bit_not, trailing_ones, trailing_zeros}
 use Rattle.std.proofs.Math.Nat.{pow-le-pow_right}
@@ -11,7 +12,7 @@ use Rattle.std.proofs.lemmas.List.{append-nil, length-take-le, replicate_more}
 use Rattle.std.proofs.lemmas.Nat.{and_le_r, pow-add, shl_whole, shr-shr, shr_below, shr_le}
 use Rattle.std.proofs.lemmas.Nat.Bits.{bit_at_above, bit_at_and, bit_at_cat_high, bit_at_cat_low}
 use Rattle.std.proofs.lemmas.Nat.Bits.{bit_at_ones, bit_at-trailing_ones, bit_at-trailing_zeros, bit_at-zero}
-use Rattle.std.proofs.lemmas.Nat.Bits.{ones_shr}
+use Rattle.std.proofs.lemmas.Nat.Bits.{bit_at-lt, bit_at_not, ones_shr}
 use Rattle.arrow_memory.specs.Marks.{bits_of}
 use Rattle.arrow_bytes.specs.Selection.{where_set}
 use Rattle.arrow_kernels.proofs.BitLemmas.{length-bits, slice_get-bits, take-bits, taken-more}
@@ -148,6 +149,78 @@ where-each zero [] e = refl
 where-each zero (x ∷ xs) e = cc
 where-each (suc c) [] e = cc
 where-each (suc c) (x ∷ xs) e = ap (λ rest. x ∷ rest) (where-each c xs (let f : length xs ≡ c = omega (arith, e) in f))
+
+-- behind what is asked for of the rows before a run, all of the run
+pub rows-more : {X : Type 0} (rows : List Bool) (xs : List X) (first end : ℕ) → length rows ≡ length xs → first ≤ end
+    → end ≤ length rows → ((k : ℕ) → first ≤ k → k < end → slice_get rows k ≡ Some true)
+    → where_set (take first rows) (take first xs) ++ take (end - first) (drop first xs)
+    ≡ where_set (take end rows) (take end xs)
+rows-more rows xs first end same order within set =
+    sym (
+    ap₂ where_set (ap (λ n. take n rows) there ∙ rows-run rows first (end - first) each) (ap (λ n. take n xs) there
+    ∙ take-add first (end - first) xs)
+    ∙ where-append (take first rows) (replicate (end - first) true) (take first xs) (take (end - first) (drop first xs))
+    lengths
+    ∙ ap (λ zs. where_set (take first rows) (take first xs) ++ zs) (where-each (end - first) (take (end - first)
+    (drop first xs)) long)
+    )
+  where
+    there : end ≡ first + (end - first)
+    there = omega (arith, order)
+
+    each : (k : ℕ) → k < end - first → slice_get rows (first + k) ≡ Some true
+    each k low = set (first + k) (omega arith) (omega (arith, low))
+
+    lengths : length (take first rows) ≡ length (take first xs)
+    lengths =
+        let le : first ≤ length rows = omega (arith, order, within) in
+        length-take-le first rows le ∙ sym (length-take-le first xs (omega (arith, le, same)))
+
+    long : length (take (end - first) (drop first xs)) ≡ end - first
+    long = length-take-le (end - first) (drop first xs) (omega (arith, length-drop first xs, same, within))
+
+-- a run of set marks that ends before a clear one, if not at the end, has a mark where its first is set
+pub run-longer : (rows : List Bool) (first end : ℕ) → first ≤ end → first < length rows → slice_get rows first ≡ Some true
+    → (end < length rows → slice_get rows end ≡ Some false) → first < end
+run-longer rows first end order within set clear = elim (cases_lt first end) [
+  | inl less ↦ less
+  | inr up ↦
+      let same : end ≡ first = omega (arith, order, up) in
+      absurd (cc (set, ap (slice_get rows) same, clear (omega (arith, same, within))))
+]
+
+-- marks that are read as a word
+module _ (rows : List Bool) (row word : ℕ)
+    (read : (k : ℕ) → k < 64 → slice_get rows (row + k) ≡ Some (bit_at word k == 1)) where
+  mark-read : (k b : ℕ) → row ≤ k → k < row + 64 → bit_at word (k - row) ≡ b → slice_get rows k ≡ Some (b == 1)
+  mark-read k b low high is =
+      ap (slice_get rows) (let e : k ≡ row + (k - row) = omega arith in e) ∙ read (k - row) (omega arith)
+      ∙ ap (λ n. Some (n == 1)) is
+
+  -- those before the first set bit, and that
+  pub clear-before : (place : ℕ) → place ≤ 64 → ((k : ℕ) → 0 ≤ k → k < place → bit_at word k ≡ 0)
+      → (k : ℕ) → row ≤ k → k < row + place → slice_get rows k ≡ Some false
+  clear-before place up clear k low high = mark-read k 0 low (omega (arith, high, up)) (clear (k - row) (omega arith)
+      (omega arith))
+
+  pub set-there : (place : ℕ) → place < 64 → bit_at word place ≡ 1 → slice_get rows (row + place) ≡ Some true
+  set-there place low set = read place low ∙ ap (λ n. Some (n == 1)) set
+
+  -- those before the first clear bit, and that: the first set one of the word with all bits turned over
+  module _ (fits : word < 2 ^ 64) where
+    turned : (k b : ℕ) → k < 64 → bit_at (bit_not w64 word) k ≡ b → b ≤ 1 → bit_at word k ≡ 1 - b
+    turned k b low is small = omega (arith, bit_at_not w64 word k fits low, is, bit_at-lt word k, small)
+
+    pub set-before : (place : ℕ) → place ≤ 64 → ((k : ℕ) → 0 ≤ k → k < place → bit_at (bit_not w64 word) k ≡ 0)
+        → (k : ℕ) → row ≤ k → k < row + place → slice_get rows k ≡ Some true
+    set-before place up clear k low high =
+        let inner : k - row < 64 = omega (arith, high, up) in
+        mark-read k 1 low (omega (arith, high, up)) (turned (k - row) 0 inner (clear (k - row) (omega arith)
+        (omega arith)) (omega arith))
+
+    pub clear-there : (place : ℕ) → place < 64 → bit_at (bit_not w64 word) place ≡ 1
+        → slice_get rows (row + place) ≡ Some false
+    clear-there place low set = read place low ∙ ap (λ n. Some (n == 1)) (turned place 1 low set (omega arith))
 
 -- the rows of a word
 module _ {X : Type 0} (rows : List Bool) (xs : List X) (start word : ℕ) (same : length rows ≡ length xs)

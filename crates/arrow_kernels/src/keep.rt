@@ -1,6 +1,6 @@
 //! The stored values, marks and items that a selection keeps.
-ghost use Rattle.std.specs.Prelude.{◌≡◌, ◌+◌, ◌*◌, ◌^◌, ◌<◌, ◌≤◌, count_by, length, not, option_map, take, IfOk};
-ghost use Rattle.std.specs.Prelude.{IfErr, IfSome, OnOk};
+ghost use Rattle.std.specs.Prelude.{◌≡◌, ℕ, ◌+◌, ◌*◌, ◌^◌, ◌<◌, ◌≤◌, true, count_by, length, not, option_map, take};
+ghost use Rattle.std.specs.Prelude.{slice_get, Some, IfErr, IfOk, IfSome, OnOk};
 ghost use Rattle.std.specs.List.{concat};
 ghost use Rattle.std.specs.Option.{option_copied};
 ghost use Rattle.std.specs.Vec.{vec_capacity};
@@ -40,7 +40,7 @@ fn keep_word<T: NativeType>(kept: &mut Vec<T>, values: &[T], asked: &Asked, at: 
     ensures so_far { kept.new.items ≡ where_set (take (64 * at + 64) asked.now) (take (64 * at + 64) values.now) }
     ensures room { length asked.now ≤ vec_capacity kept.new + count_by not asked.now }
 {
-    let mut left = asked.word(at);
+    let mut left = asked.word(64 * at);
     if left == u64::MAX {
         for row in 64 * at..64 * at + 64 {
             kept.push_reserved(values[row]);
@@ -176,7 +176,7 @@ fn keep_word_marks(
     ensures ok { OnOk result (kept.new ≡ where_set (take (64 * at + 64) asked.now) (take (64 * at + 64) marks.now)) }
     ensures err { OnlyOutOfMemory result }
 {
-    let (bits, count) = kept_word(asked.word(at), marks.word(64 * at));
+    let (bits, count) = kept_word(asked.word(64 * at), marks.word(64 * at));
     if count == 0 {
         return Ok(());
     }
@@ -259,8 +259,42 @@ pub(crate) fn keep_mask(
     }
 }
 
-/// Appends the selected items of 64 rows, from row `64 * at` on, run by run: the bytes of a run are
-/// copied at once.
+/// Appends the items of a run of selected rows: their bytes are copied at once. Whatever stood before it was selected
+/// from the rows up to `first`.
+#[inline(always)]
+fn keep_run<O: Offset>(
+    kept: &mut Offsets<O>,
+    kept_bytes: &mut Vec<u8>,
+    offsets: &OffsetsBuffer<O>,
+    bytes: &[u8],
+    asked: &Asked,
+    first: usize,
+    end: usize,
+) -> Result<(), Error>
+    requires count { length asked.now + 1 ≡ length offsets.now }
+    requires held { last_of offsets.now ≤ length bytes.now }
+    requires order { first ≤ end }
+    requires within { end ≤ length asked.now }
+    requires set { (k : ℕ) → first ≤ k → k < end → slice_get asked.now k ≡ Some true }
+    requires ends { kept.old
+        ≡ offsets_of 0 (where_set (take first asked.now) (take first (items_of offsets.now bytes.now))) }
+    requires joined { kept_bytes.old.items
+        ≡ concat (where_set (take first asked.now) (take first (items_of offsets.now bytes.now))) }
+    ensures ends { OnOk result (kept.new
+        ≡ offsets_of 0 (where_set (take end asked.now) (take end (items_of offsets.now bytes.now)))) }
+    ensures joined { OnOk result (kept_bytes.new.items
+        ≡ concat (where_set (take end asked.now) (take end (items_of offsets.now bytes.now)))) }
+    ensures err { OnlyOutOfMemory result }
+{
+    // Some items of an array cannot end past the greatest offset, so the error is a failed allocation.
+    match kept.try_extend_slots(kept_bytes, offsets, bytes, first, end - first) {
+        Ok(()) => Ok(()),
+        Err(_) => Err(Error::OutOfMemory),
+    }
+}
+
+/// Appends the selected items of 64 rows or more, from `row` on, run by run. A run that reaches the last of the 64 rows
+/// is followed to its end, so that it is copied whole. Returns the row up to which the selected items are appended.
 #[inline(never)]
 fn keep_runs<O: Offset>(
     kept: &mut Offsets<O>,
@@ -268,38 +302,34 @@ fn keep_runs<O: Offset>(
     offsets: &OffsetsBuffer<O>,
     bytes: &[u8],
     asked: &Asked,
-    at: usize,
-) -> Result<(), Error>
+    row: usize,
+) -> Result<usize, Error>
     requires count { length asked.now + 1 ≡ length offsets.now }
     requires held { last_of offsets.now ≤ length bytes.now }
-    requires within { 64 * at + 64 ≤ length asked.now }
+    requires within { row + 64 ≤ length asked.now }
     requires fits { length asked.now < 2 ^ 64 }
     requires ends { kept.old
-        ≡ offsets_of 0 (where_set (take (64 * at) asked.now) (take (64 * at) (items_of offsets.now bytes.now))) }
+        ≡ offsets_of 0 (where_set (take row asked.now) (take row (items_of offsets.now bytes.now))) }
     requires joined { kept_bytes.old.items
-        ≡ concat (where_set (take (64 * at) asked.now) (take (64 * at) (items_of offsets.now bytes.now))) }
-    ensures ends { OnOk result (kept.new
-        ≡ offsets_of 0 (where_set (take (64 * at + 64) asked.now)
-        (take (64 * at + 64) (items_of offsets.now bytes.now)))) }
-    ensures joined { OnOk result (kept_bytes.new.items
-        ≡ concat (where_set (take (64 * at + 64) asked.now) (take (64 * at + 64) (items_of offsets.now bytes.now)))) }
+        ≡ concat (where_set (take row asked.now) (take row (items_of offsets.now bytes.now))) }
+    ensures next { IfOk result (λ next. (row + 64 ≤ next) × (next ≤ length asked.now)) }
+    ensures ends { IfOk result (λ next. kept.new
+        ≡ offsets_of 0 (where_set (take next asked.now) (take next (items_of offsets.now bytes.now)))) }
+    ensures joined { IfOk result (λ next. kept_bytes.new.items
+        ≡ concat (where_set (take next asked.now) (take next (items_of offsets.now bytes.now)))) }
     ensures err { OnlyOutOfMemory result }
 {
-    let word = asked.word(at);
-    let mut first = next_set(word, 0);
-    while first < 64 {
-        let end = run_end(word, first);
-        // Some items of an array cannot end past the greatest offset, so the error is a failed allocation.
-        match kept.try_extend_slots(kept_bytes, offsets, bytes, 64 * at + first, end - first) {
-            Ok(()) => {}
-            Err(_) => return Err(Error::OutOfMemory),
-        }
-        first = next_set(word, end);
+    let past = row + 64;
+    let mut first = asked.next(row);
+    while first < past {
+        let end = asked.next_clear(first);
+        keep_run(kept, kept_bytes, offsets, bytes, asked, first, end)?;
+        first = asked.next(end);
     }
-    Ok(())
+    Ok(first)
 }
 
-/// Appends the selected items of 64 rows, from row `64 * at` on, item by item.
+/// Appends the selected items of 64 rows, from `row` on, item by item.
 #[inline(always)]
 fn keep_each_item<O: Offset>(
     kept: &mut Offsets<O>,
@@ -307,27 +337,27 @@ fn keep_each_item<O: Offset>(
     offsets: &OffsetsBuffer<O>,
     bytes: &[u8],
     asked: &Asked,
-    at: usize,
+    row: usize,
 ) -> Result<(), Error>
     requires count { length asked.now + 1 ≡ length offsets.now }
     requires held { last_of offsets.now ≤ length bytes.now }
-    requires within { 64 * at + 64 ≤ length asked.now }
+    requires within { row + 64 ≤ length asked.now }
     requires fits { length asked.now < 2 ^ 64 }
     requires ends { kept.old
-        ≡ offsets_of 0 (where_set (take (64 * at) asked.now) (take (64 * at) (items_of offsets.now bytes.now))) }
+        ≡ offsets_of 0 (where_set (take row asked.now) (take row (items_of offsets.now bytes.now))) }
     requires joined { kept_bytes.old.items
-        ≡ concat (where_set (take (64 * at) asked.now) (take (64 * at) (items_of offsets.now bytes.now))) }
+        ≡ concat (where_set (take row asked.now) (take row (items_of offsets.now bytes.now))) }
     ensures ends { OnOk result (kept.new
-        ≡ offsets_of 0 (where_set (take (64 * at + 64) asked.now)
-        (take (64 * at + 64) (items_of offsets.now bytes.now)))) }
+        ≡ offsets_of 0 (where_set (take (row + 64) asked.now)
+        (take (row + 64) (items_of offsets.now bytes.now)))) }
     ensures joined { OnOk result (kept_bytes.new.items
-        ≡ concat (where_set (take (64 * at + 64) asked.now) (take (64 * at + 64) (items_of offsets.now bytes.now)))) }
+        ≡ concat (where_set (take (row + 64) asked.now) (take (row + 64) (items_of offsets.now bytes.now)))) }
     ensures err { OnlyOutOfMemory result }
 {
-    let mut left = asked.word(at);
+    let mut left = asked.word(row);
     while left != 0 {
-        let row = 64 * at + left.trailing_zeros() as usize;
-        let item = item_at(offsets, bytes, row);
+        let place = row + left.trailing_zeros() as usize;
+        let item = item_at(offsets, bytes, place);
         // Here too it is memory that is refused.
         match kept.try_push_item(kept_bytes, item) {
             Ok(()) => {}
@@ -338,8 +368,8 @@ fn keep_each_item<O: Offset>(
     Ok(())
 }
 
-/// Appends the selected items of 64 rows, from row `64 * at` on, in the way that suits the
-/// selection.
+/// Appends the selected items of 64 rows or more, from `row` on, in the way that suits the selection. Returns the row up
+/// to which they are appended.
 #[inline(always)]
 fn keep_word_items<O: Offset>(
     kept: &mut Offsets<O>,
@@ -347,27 +377,28 @@ fn keep_word_items<O: Offset>(
     offsets: &OffsetsBuffer<O>,
     bytes: &[u8],
     asked: &Asked,
-    at: usize,
-) -> Result<(), Error>
+    row: usize,
+) -> Result<usize, Error>
     requires count { length asked.now + 1 ≡ length offsets.now }
     requires held { last_of offsets.now ≤ length bytes.now }
-    requires within { 64 * at + 64 ≤ length asked.now }
+    requires within { row + 64 ≤ length asked.now }
     requires fits { length asked.now < 2 ^ 64 }
     requires ends { kept.old
-        ≡ offsets_of 0 (where_set (take (64 * at) asked.now) (take (64 * at) (items_of offsets.now bytes.now))) }
+        ≡ offsets_of 0 (where_set (take row asked.now) (take row (items_of offsets.now bytes.now))) }
     requires joined { kept_bytes.old.items
-        ≡ concat (where_set (take (64 * at) asked.now) (take (64 * at) (items_of offsets.now bytes.now))) }
-    ensures ends { OnOk result (kept.new
-        ≡ offsets_of 0 (where_set (take (64 * at + 64) asked.now)
-        (take (64 * at + 64) (items_of offsets.now bytes.now)))) }
-    ensures joined { OnOk result (kept_bytes.new.items
-        ≡ concat (where_set (take (64 * at + 64) asked.now) (take (64 * at + 64) (items_of offsets.now bytes.now)))) }
+        ≡ concat (where_set (take row asked.now) (take row (items_of offsets.now bytes.now))) }
+    ensures next { IfOk result (λ next. (row + 64 ≤ next) × (next ≤ length asked.now)) }
+    ensures ends { IfOk result (λ next. kept.new
+        ≡ offsets_of 0 (where_set (take next asked.now) (take next (items_of offsets.now bytes.now)))) }
+    ensures joined { IfOk result (λ next. kept_bytes.new.items
+        ≡ concat (where_set (take next asked.now) (take next (items_of offsets.now bytes.now)))) }
     ensures err { OnlyOutOfMemory result }
 {
-    if has_few_runs(asked.word(at)) {
-        keep_runs(kept, kept_bytes, offsets, bytes, asked, at)
+    if has_few_runs(asked.word(row)) {
+        keep_runs(kept, kept_bytes, offsets, bytes, asked, row)
     } else {
-        keep_each_item(kept, kept_bytes, offsets, bytes, asked, at)
+        keep_each_item(kept, kept_bytes, offsets, bytes, asked, row)?;
+        Ok(row + 64)
     }
 }
 
@@ -416,7 +447,7 @@ fn room_for<O: Offset>(offsets: &OffsetsBuffer<O>, count: usize) -> usize {
     some.min(all).saturating_add(16)
 }
 
-/// Returns the selected items as offsets and bytes of their own, 64 rows at a time.
+/// Returns the selected items as offsets and bytes of their own, 64 rows or more at a time.
 pub(crate) fn keep_items<O: Offset>(
     alloc: Global,
     offsets: &OffsetsBuffer<O>,
@@ -433,18 +464,11 @@ pub(crate) fn keep_items<O: Offset>(
     let count = asked.len() - asked.unset_bits();
     let mut kept = Offsets::with_capacity(alloc, count)?;
     let mut kept_bytes = Vec::with_capacity(alloc, room_for(offsets, count))?;
-    let words = asked.len() / 64;
-    for at in 0..words {
-        keep_word_items(&mut kept, &mut kept_bytes, offsets, bytes, asked, at)?;
+    let mut row = 0;
+    while asked.len() - row >= 64 {
+        row = keep_word_items(&mut kept, &mut kept_bytes, offsets, bytes, asked, row)?;
     }
-    keep_last_items(
-        &mut kept,
-        &mut kept_bytes,
-        offsets,
-        bytes,
-        asked,
-        64 * words,
-    )?;
+    keep_last_items(&mut kept, &mut kept_bytes, offsets, bytes, asked, row)?;
     Ok((kept, kept_bytes))
 }
 

@@ -1,4 +1,4 @@
-use Rattle.std.proofs.Common.{◌+◌, ◌*◌, ap, arith, refl, take, w64, ◌∙◌}
+use Rattle.std.proofs.Common.{◌+◌, ap, arith, refl, take, w64, ◌∙◌}
 use Rattle.std.specs.Int.{trailing_zeros}
 use Rattle.std.specs.List.{concat}
 use Rattle.arrow_check.specs.Pieces.{items_of, offsets_of}
@@ -10,7 +10,7 @@ use Rattle.arrow_kernels.proofs.keep.keep_each_item.Goals as goal
 pub loop-left-init : goal.loop-left-init
 loop-left-init g c =
     let items = items_of c.args.offsets.now c.args.bytes.now in
-    let none = starts-word c.args.asked.now (64 * c.args.at) c.word-left.result (omega arith) items
+    let none = starts-word c.args.asked.now c.args.row c.word-left.result (omega arith) items
     c.word-left.ensures in
     record {
       marked = λ k low up. c.word-left.ensures k low;
@@ -24,13 +24,13 @@ loop-left-preserved g c =
     let items = items_of c.args.offsets.now c.args.bytes.now in
     let left = c.loop-left.left in
     let item = c.item_at-item.result.now in
-    let upto = 64 * c.args.at + trailing_zeros w64 left in
+    let upto = c.args.row + trailing_zeros w64 left in
     let so_far = where_set (take upto asked) (take upto items) in
-    let more = word-grown asked (64 * c.args.at) left (omega arith) (omega arith) c.loop-left.invariant.marked items
+    let more = word-grown asked c.args.row left (omega arith) (omega arith) c.loop-left.invariant.marked items
     so_far _ item c.item_at-item.ensures refl refl in
     let pushed = c.in-Ok.ensures.ok in
     record {
-      marked = left-next asked (64 * c.args.at) left (omega arith) (omega arith) c.loop-left.invariant.marked;
+      marked = left-next asked c.args.row left (omega arith) (omega arith) c.loop-left.invariant.marked;
       ends = offsets-more c.loop-left.kept _ so_far item c.loop-left.invariant.ends pushed.1 ∙ ap (offsets_of 0) more;
       joined = bytes-more c.loop-left.kept_bytes.items _ so_far item c.loop-left.invariant.joined pushed.2
           ∙ ap concat more;
@@ -43,12 +43,12 @@ pub returns-clause-ends : goal.returns-clause-ends
 returns-clause-ends g c =
     let items = items_of c.args.offsets.now c.args.bytes.now in
     c.loop-left.invariant.ends
-    ∙ ap (λ n. offsets_of 0 (where_set (take (64 * c.args.at + n) c.args.asked.now)
-    (take (64 * c.args.at + n) items))) (no-more c.loop-left.left (omega arith))
+    ∙ ap (λ n. offsets_of 0 (where_set (take (c.args.row + n) c.args.asked.now)
+    (take (c.args.row + n) items))) (no-more c.loop-left.left (omega arith))
 
 pub returns-clause-joined : goal.returns-clause-joined
 returns-clause-joined g c =
     let items = items_of c.args.offsets.now c.args.bytes.now in
     c.loop-left.invariant.joined
-    ∙ ap (λ n. concat (where_set (take (64 * c.args.at + n) c.args.asked.now) (take (64 * c.args.at + n) items)))
+    ∙ ap (λ n. concat (where_set (take (c.args.row + n) c.args.asked.now) (take (c.args.row + n) items)))
     (no-more c.loop-left.left (omega arith))

@@ -1,4 +1,4 @@
-use Rattle.std.proofs.Common.{◌≡◌, ◌+◌, ◌*◌, take, w64}
+use Rattle.std.proofs.Common.{◌≡◌, ◌+◌, take, w64}
 use Rattle.std.specs.Int.{trailing_zeros}
 use Rattle.std.specs.List.{concat}
 use Rattle.arrow_check.specs.Pieces.{items_of, offsets_of}
@@ -8,11 +8,11 @@ use Rattle.arrow_kernels.proofs.keep.keep_each_item.Given as goal
 
 abbrev pub invariant-loop-left : goal.invariant-loop-left
 invariant-loop-left g l = record {
-  marked : AreLeft l.asked (64 * l.at) l.left;
-  ends : l.kept ≡ offsets_of 0 (where_set (take (64 * l.at + trailing_zeros w64 l.left) l.asked)
-      (take (64 * l.at + trailing_zeros w64 l.left) (items_of l.offsets l.bytes)));
-  joined : l.kept_bytes.items ≡ concat (where_set (take (64 * l.at + trailing_zeros w64 l.left) l.asked)
-      (take (64 * l.at + trailing_zeros w64 l.left) (items_of l.offsets l.bytes)));
+  marked : AreLeft l.asked l.row l.left;
+  ends : l.kept ≡ offsets_of 0 (where_set (take (l.row + trailing_zeros w64 l.left) l.asked)
+      (take (l.row + trailing_zeros w64 l.left) (items_of l.offsets l.bytes)));
+  joined : l.kept_bytes.items ≡ concat (where_set (take (l.row + trailing_zeros w64 l.left) l.asked)
+      (take (l.row + trailing_zeros w64 l.left) (items_of l.offsets l.bytes)));
 }
 
 abbrev pub decreases-loop-left : goal.decreases-loop-left
