@@ -53,7 +53,8 @@ fn replies(alloc: Global) -> Result<bool, Error> {
 const BAD_AT_ITS_END: &str =
     "new 0 mprim\nextend 0 v1 v2 v3\nnull 1 prim 1000\nitems 2 utf8 t6869\nlist 2\nlen";
 
-/// Whether the first bad line is named, and no line before it is run: no memory is refused but to the reading of the input.
+/// Whether the first bad line is named and nothing is written, also if memory is refused to a line before it: only while the
+/// input is read does the session end for want of memory.
 fn names_line(alloc: Global) -> Result<bool, Error> {
     let mut room = [0; 1];
     match session_into(alloc, BAD_AT_ITS_END, room.as_mut_slice()) {

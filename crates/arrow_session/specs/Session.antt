@@ -22,6 +22,13 @@ IsAnswer input text =
 abbrev pub AreCommands : List ℕ → Type 0
 AreCommands input = (commands : List (BothRequest ℤ)) × (commands_of input ≡ requests commands)
 
+-- why an input has no answer: a line is no command, or memory was refused
+abbrev pub IsStop : List ℕ → Outcome → Type 0
+IsStop input outcome.Done = ⊥
+IsStop input (outcome.BadLine n) = commands_of input ≡ bad_line n
+IsStop input outcome.Device = ⊥
+IsStop input outcome.Memory = ⊤
+
 -- Of a session: the input, what is left of it, what the writer held, and what it holds.
 module _ (input : List ℕ) (left : Option (List ℕ)) (old : List ℕ) (new : Option (List ℕ)) where
   -- the input was read to its end
