@@ -1,8 +1,29 @@
 //! Iterators over a range of slots.
 use arrow_boolean::BooleanArray;
-use arrow_testing::{all_told, told};
-use arrow_types::error::Error;
-use std::test::Fail;
+use arrow_memory::bitmap::BitmapIter;
+use arrow_memory::zip_validity::ZipValidity;
+use std::process::Abort;
+
+/// The slots of a range.
+type Range<'a> = ZipValidity<BitmapIter<'a>, BitmapIter<'a>>;
+
+/// Returns whether these come, and no more.
+fn come(range: Range<'_>, slots: &[Option<bool>]) -> bool {
+    let (mut range, mut are_slots) = (range, true);
+    for slot in slots {
+        are_slots &= range.next() == Some(*slot);
+    }
+    are_slots & range.next().is_none()
+}
+
+/// Returns whether they do from the back.
+fn come_back(range: Range<'_>, slots: &[Option<bool>]) -> bool {
+    let (mut range, mut are_slots) = (range, true);
+    for slot in slots.iter().rev() {
+        are_slots &= range.next_back() == Some(*slot);
+    }
+    are_slots & range.next_back().is_none()
+}
 
 /// Returns whether a range of an array has these slots, from both ends.
 fn has(array: &BooleanArray, offset: usize, slots: &[Option<bool>]) -> bool {
@@ -10,57 +31,32 @@ fn has(array: &BooleanArray, offset: usize, slots: &[Option<bool>]) -> bool {
     if array.len() < offset || array.len() - offset < len {
         return false;
     }
-    let mut part = array.iter_range(offset, len);
-    for slot in slots {
-        if part.next() != Some(*slot) {
-            return false;
-        }
-    }
-    let mut back = array.iter_range(offset, len);
-    let is_sized = back.size_hint() == (len, Some(len));
-    for i in 0..len {
-        if back.next_back() != Some(slots[len - 1 - i]) {
-            return false;
-        }
-    }
-    is_sized && part.next().is_none() && back.next_back().is_none()
+    let is_sized = array.iter_range(offset, len).size_hint() == (len, Some(len));
+    let are_slots = come(array.iter_range(offset, len), slots);
+    is_sized & are_slots & come_back(array.iter_range(offset, len), slots)
 }
 
 /// Returns whether ranges of an array of eleven slots, and of its last ten, have the right slots.
-fn are_parts(mut array: BooleanArray, slots: &[Option<bool>]) -> bool {
-    if array.len() != 11 || slots.len() != 11 {
-        return false;
-    }
-    let are_whole = has(&array, 0, slots) && has(&array, 1, &slots[1..4]);
-    let are_ends = has(&array, 7, &slots[7..]) && has(&array, 0, &[]) && has(&array, 11, &[]);
+fn are_parts(rt: &impl Abort, mut array: BooleanArray, slots: &[Option<bool>; 11]) -> bool {
+    assert!(rt; array.len() == 11);
+    let are_whole = has(&array, 0, slots.as_slice()) & has(&array, 1, &slots[1..4]);
+    let are_ends = has(&array, 7, &slots[7..]) & has(&array, 0, &[]) & has(&array, 11, &[]);
     array.slice(1, 10);
-    are_whole && are_ends && has(&array, 0, &slots[1..]) && has(&array, 6, &slots[7..10])
-}
-
-/// Returns whether they do for an array, if it could be created.
-fn have_parts(array: Result<BooleanArray, Error>, slots: &[Option<bool>]) -> Result<bool, Error> {
-    match array {
-        Ok(array) => Ok(are_parts(array, slots)),
-        Err(refused) => Err(refused),
-    }
+    let are_cut = has(&array, 0, &slots[1..]) & has(&array, 6, &slots[7..10]);
+    drop(array);
+    are_whole & are_ends & are_cut
 }
 
 #[test]
-fn parts_of_arrays(rt: HostRuntime) -> Result<(), Fail> {
+fn parts_of_arrays(rt: HostRuntime) {
     let (yes, no) = (Some(true), Some(false));
     let slots = [yes, None, no, yes, yes, None, None, no, yes, None, no];
+    let array = BooleanArray::from(rt.alloc(), slots.as_slice()).expect(&rt, "memory");
+    let are_slots = are_parts(&rt, array, &slots);
     let values = [
         true, false, false, true, true, false, true, false, true, false, false,
     ];
+    let array = BooleanArray::from_slice(rt.alloc(), values.as_slice()).expect(&rt, "memory");
     let valid = [yes, no, no, yes, yes, no, yes, no, yes, no, no];
-    all_told(&[
-        have_parts(
-            BooleanArray::from(rt.alloc(), slots.as_slice()),
-            slots.as_slice(),
-        ),
-        have_parts(
-            BooleanArray::from_slice(rt.alloc(), values.as_slice()),
-            valid.as_slice(),
-        ),
-    ])
+    assert!(rt; are_slots & are_parts(&rt, array, &valid));
 }

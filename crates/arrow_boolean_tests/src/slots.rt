@@ -1,10 +1,6 @@
 //! Reads of builders by index, and empty arrays and builders.
 use arrow_boolean::{BooleanArray, MutableBooleanArray};
-use arrow_testing::{all_told, told};
 use arrow_types::data_type::DataType;
-use arrow_types::error::Error;
-use std::alloc::Global;
-use std::test::Fail;
 
 /// Returns whether a builder has these slots and `nulls` nulls.
 fn answers(builder: &MutableBooleanArray, slots: &[Option<bool>], nulls: usize) -> bool {
@@ -16,49 +12,39 @@ fn answers(builder: &MutableBooleanArray, slots: &[Option<bool>], nulls: usize) 
             return false;
         }
     }
-    builder.is_empty() == slots.is_empty() && builder.null_count() == nulls
+    (builder.is_empty() == slots.is_empty()) & (builder.null_count() == nulls)
 }
 
-/// Returns whether a builder of these slots has them.
-fn built_answers(alloc: Global, slots: &[Option<bool>], nulls: usize) -> Result<bool, Error> {
-    match MutableBooleanArray::from(alloc, slots) {
-        Ok(builder) => Ok(answers(&builder, slots, nulls)),
-        Err(refused) => Err(refused),
-    }
-}
-
-/// Returns whether a builder of these values, without a mask, has them.
-fn valued_answers(alloc: Global, values: &[bool], slots: &[Option<bool>]) -> Result<bool, Error> {
-    match MutableBooleanArray::from_slice(alloc, values) {
-        Ok(builder) => Ok(answers(&builder, slots, 0)),
-        Err(refused) => Err(refused),
-    }
+/// Returns whether a builder that is given away has them.
+fn has(builder: MutableBooleanArray, slots: &[Option<bool>], nulls: usize) -> bool {
+    let is_right = answers(&builder, slots, nulls);
+    drop(builder);
+    is_right
 }
 
 #[test]
-fn slots_of_builders_by_place(rt: HostRuntime) -> Result<(), Fail> {
+fn slots_of_builders_by_place(rt: HostRuntime) {
     let slots = [Some(true), None, Some(false), None, None];
-    let values = [Some(false), Some(true)];
-    all_told(&[
-        built_answers(rt.alloc(), slots.as_slice(), 3),
-        valued_answers(rt.alloc(), [false, true].as_slice(), values.as_slice()),
-        valued_answers(rt.alloc(), [].as_slice(), [].as_slice()),
-    ])
+    let builder = MutableBooleanArray::from(rt.alloc(), slots.as_slice());
+    let are_slots = has(builder.expect(&rt, "memory"), slots.as_slice(), 3);
+    let builder = MutableBooleanArray::from_slice(rt.alloc(), [false, true].as_slice());
+    let slots = [Some(false), Some(true)];
+    let are_valid = has(builder.expect(&rt, "memory"), slots.as_slice(), 0);
+    let builder = MutableBooleanArray::from_slice(rt.alloc(), &[]).expect(&rt, "memory");
+    assert!(rt; are_slots & are_valid & has(builder, &[], 0));
 }
 
-/// Returns whether `is_empty` of an array gives the expected answer.
-fn is_empty(array: Result<BooleanArray, Error>, wanted: bool) -> Result<bool, Error> {
-    match array {
-        Ok(array) => Ok(array.is_empty() == wanted),
-        Err(refused) => Err(refused),
-    }
+/// Returns whether an array is empty.
+fn is_empty(array: BooleanArray) -> bool {
+    let is_empty = array.is_empty();
+    drop(array);
+    is_empty
 }
 
 #[test]
-fn arrays_without_a_slot(rt: HostRuntime) -> Result<(), Fail> {
-    told(is_empty(BooleanArray::new_empty(rt.alloc(), DataType::Boolean), true))?;
-    told(is_empty(
-        BooleanArray::new_null(rt.alloc(), DataType::Boolean, 1),
-        false,
-    ))
+fn arrays_without_a_slot(rt: HostRuntime) {
+    let none = BooleanArray::new_empty(rt.alloc(), DataType::Boolean).expect(&rt, "memory");
+    let is_none = is_empty(none);
+    let null = BooleanArray::new_null(rt.alloc(), DataType::Boolean, 1).expect(&rt, "memory");
+    assert!(rt; is_none & !is_empty(null));
 }

@@ -6,11 +6,10 @@ ghost use Rattle.std.specs.Prelude.{◌≡◌, length};
 use arrow_boolean::{BooleanArray, MutableBooleanArray};
 use arrow_memory::bitmap::{Bitmap, BitmapIter, MutableBitmap};
 use arrow_memory::zip_validity::ZipValidity;
-use arrow_testing::{all_told, told};
 use arrow_types::data_type::DataType;
-use arrow_types::error::Error;
+use either::{Left, Right};
 use std::alloc::Global;
-use std::test::Fail;
+use std::process::Abort;
 
 /// The slot that a letter writes.
 fn slot(letter: u8) -> Option<bool> {
@@ -69,246 +68,150 @@ fn reversed(marks: MutableBitmap) -> MutableBitmap
 }
 
 /// True, null, false.
-fn three(alloc: Global) -> Result<BooleanArray, Error> {
-    BooleanArray::from(alloc, [Some(true), None, Some(false)].as_slice())
+fn three(alloc: Global, rt: &impl Abort) -> BooleanArray {
+    BooleanArray::from(alloc, [Some(true), None, Some(false)].as_slice()).expect(rt, "memory")
 }
 
-/// Whether the array that was made has these slots, stores these values, and holds a mask or none.
-fn made(
-    answer: Result<BooleanArray, Error>,
-    slots: &str,
-    values: &str,
-    held: bool,
-) -> Result<bool, Error> {
-    match answer {
-        Ok(array) => Ok(is(&array, slots, values, held)),
-        Err(refused) => Err(refused),
-    }
-}
-
-/// Overwrites a null.
-fn overwrite(builder: &mut MutableBooleanArray) -> Result<(), Error> {
-    builder.push(None)?;
-    if builder.len() > 0 {
-        builder.set(0, Some(true))?;
-    }
-    Ok(())
+/// Whether an array that is given away has these slots, stores these values, and holds a mask or none.
+fn made(array: BooleanArray, slots: &str, values: &str, held: bool) -> bool {
+    let is = is(&array, slots, values, held);
+    drop(array);
+    is
 }
 
 /// The array of a null that was overwritten, whose mask is held, though no slot is null.
-fn overwritten(alloc: Global) -> Result<BooleanArray, Error> {
+fn overwritten(alloc: Global, rt: &impl Abort) -> BooleanArray {
     let mut builder = MutableBooleanArray::new(alloc);
-    match overwrite(&mut builder) {
-        Ok(()) => builder.freeze(),
-        Err(refused) => Err(refused),
-    }
+    builder.push(None).expect(rt, "memory");
+    assert!(rt; builder.len() == 1);
+    builder.set(0, Some(true)).expect(rt, "memory");
+    builder.freeze().expect(rt, "memory")
 }
 
-/// An array's slots under other values, where they are as many.
-fn valued(array: BooleanArray, values: Bitmap) -> Result<BooleanArray, Error> {
-    if array.len() != values.len() {
-        return Ok(array);
-    }
-    array.with_values(values)
-}
-
-/// Those of three slots.
-fn replace(alloc: Global, values: Bitmap) -> Result<BooleanArray, Error> {
-    match three(alloc) {
-        Ok(array) => valued(array, values),
-        Err(refused) => Err(refused),
-    }
-}
-
-/// The same of new values.
-fn replaced(alloc: Global) -> Result<BooleanArray, Error> {
-    match Bitmap::from_slice(alloc, [false, true, true].as_slice()) {
-        Ok(values) => replace(alloc, values),
-        Err(refused) => Err(refused),
-    }
+/// An array's slots under other values.
+fn replaced(alloc: Global, rt: &impl Abort) -> BooleanArray {
+    let array = three(alloc, rt);
+    let values = Bitmap::from_slice(alloc, [false, true, true].as_slice()).expect(rt, "memory");
+    assert!(rt; array.len() == values.len());
+    array.with_values(values).expect(rt, "memory")
 }
 
 /// Nulls have a mask; what is made without one, or packed, or empty, has none; a mask is held that comes to have no null, and
 /// stays where values are replaced.
 #[test]
-fn arrays_have_a_mask_for_nulls(rt: HostRuntime) -> Result<(), Fail> {
-    let alloc = rt.alloc();
-    let slots = [Some(true), Some(false)].as_slice();
-    let nulls = BooleanArray::new_null(alloc, DataType::Boolean, 3);
-    all_told(&[
-        made(overwritten(alloc), "t", "1", true),
-        made(nulls, "___", "000", true),
-        made(BooleanArray::from(alloc, slots), "tf", "10", false),
-        made(
-            BooleanArray::from_slice(alloc, [true, false].as_slice()),
-            "tf",
-            "10",
-            false,
-        ),
-        made(
-            BooleanArray::new_empty(alloc, DataType::Boolean),
-            "",
-            "",
-            false,
-        ),
-        made(replaced(alloc), "f_t", "011", true),
-    ])
+fn arrays_have_a_mask_for_nulls(rt: HostRuntime) {
+    let (alloc, slots) = (rt.alloc(), [Some(true), Some(false)].as_slice());
+    let overwritten = made(overwritten(alloc, &rt), "t", "1", true);
+    let replaced = made(replaced(alloc, &rt), "f_t", "011", true);
+    let array = BooleanArray::new_null(alloc, DataType::Boolean, 3).expect(&rt, "memory");
+    let nulls = made(array, "___", "000", true);
+    let array = BooleanArray::from(alloc, slots).expect(&rt, "memory");
+    let valid = made(array, "tf", "10", false);
+    let array = BooleanArray::from_slice(alloc, [true, false].as_slice()).expect(&rt, "memory");
+    let packed = made(array, "tf", "10", false);
+    let array = BooleanArray::new_empty(alloc, DataType::Boolean).expect(&rt, "memory");
+    let empty = made(array, "", "", false);
+    assert!(rt; overwritten & replaced & nulls & valid & packed & empty);
 }
 
 /// Whether the values of a clone are reversed, and the first keeps its own.
-fn reverses(second: &mut BooleanArray, first: &BooleanArray) -> Result<bool, Error> {
-    second.apply_values_mut(reversed)?;
-    Ok(is(second, "f_t", "001", true) & is(first, "t_f", "100", true))
-}
-
-/// The same of a new clone.
-fn reverses_clone(first: &BooleanArray) -> Result<bool, Error> {
-    match first.clone() {
-        Ok(mut second) => reverses(&mut second, first),
-        Err(refused) => Err(refused),
-    }
+fn reverses(alloc: Global, rt: &impl Abort) -> bool {
+    let first = three(alloc, rt);
+    let mut second = first.clone().expect(rt, "memory");
+    second.apply_values_mut(reversed).expect(rt, "memory");
+    made(second, "f_t", "001", true) & made(first, "t_f", "100", true)
 }
 
 /// Whether an array is thawed.
 fn thaws(array: BooleanArray) -> bool {
-    array.into_mut().is_right()
-}
-
-/// Whether a clone of an array is left as it is.
-fn is_shared(first: &BooleanArray) -> Result<bool, Error> {
-    match first.clone() {
-        Ok(second) => Ok(!thaws(second)),
-        Err(refused) => Err(refused),
+    match array.into_mut() {
+        Left(array) => {
+            drop(array);
+            false
+        }
+        Right(builder) => {
+            drop(builder);
+            true
+        }
     }
 }
 
-/// Whether that is so while its clone lives, and it is thawed once none does.
-fn is_thawed(first: BooleanArray) -> Result<bool, Error> {
-    match is_shared(&first) {
-        Ok(is_shared) => Ok(thaws(first) & is_shared),
-        Err(refused) => Err(refused),
-    }
-}
-
-/// Whether both hold of a new array.
-fn shares(alloc: Global) -> [Result<bool, Error>; 2] {
-    let reversed = match three(alloc) {
-        Ok(first) => reverses_clone(&first),
-        Err(refused) => Err(refused),
-    };
-    let thawed = match three(alloc) {
-        Ok(first) => is_thawed(first),
-        Err(refused) => Err(refused),
-    };
-    [reversed, thawed]
+/// Whether an array is thawed while its clone lives, and once none does.
+fn sides(alloc: Global, rt: &impl Abort) -> (bool, bool) {
+    let first = three(alloc, rt);
+    let second = first.clone().expect(rt, "memory");
+    let shared = thaws(second);
+    (shared, thaws(first))
 }
 
 /// Changes leave other owners, and arrays thaw where nothing shares them.
 #[test]
-fn arrays_share_their_memory(rt: HostRuntime) -> Result<(), Fail> {
-    all_told(&shares(rt.alloc()))
+fn arrays_share_their_memory(rt: HostRuntime) {
+    let is_reversed = reverses(rt.alloc(), &rt);
+    assert!(rt; is_reversed & (sides(rt.alloc(), &rt) == (false, true)));
 }
 
-/// Whether a builder grows slot by slot, and gives its last slots back.
-fn grows(builder: &mut MutableBooleanArray) -> Result<bool, Error> {
-    builder.reserve(100)?;
-    builder.try_push(Some(true))?;
-    builder.push_null()?;
-    builder.shrink_to_fit()?;
-    let are_there = is_built(builder, "t_", "10", true);
-    Ok(are_there & builder.pop().is_none() & (builder.pop() == Some(true)))
+/// Whether a builder with room grows slot by slot, and gives its last slots back.
+fn grows(alloc: Global, rt: &impl Abort) -> bool {
+    let mut builder = MutableBooleanArray::with_capacity(alloc, 1).expect(rt, "memory");
+    builder.reserve(100).expect(rt, "memory");
+    builder.try_push(Some(true)).expect(rt, "memory");
+    builder.push_null().expect(rt, "memory");
+    builder.shrink_to_fit().expect(rt, "memory");
+    let are_there = is_built(&builder, "t_", "10", true);
+    let (last, first) = (builder.pop(), builder.pop());
+    drop(builder);
+    are_there & last.is_none() & (first == Some(true))
 }
 
-/// Whether one with room does.
-fn grows_from_room(alloc: Global) -> Result<bool, Error> {
-    match MutableBooleanArray::with_capacity(alloc, 1) {
-        Ok(mut builder) => grows(&mut builder),
-        Err(refused) => Err(refused),
-    }
+/// Whether the copy of a builder has the slots that this was extended by.
+fn extends(alloc: Global, rt: &impl Abort) -> bool {
+    let mut builder = MutableBooleanArray::default(alloc);
+    builder
+        .extend_values([true, false].into_iter())
+        .expect(rt, "memory");
+    builder.try_extend([None].into_iter()).expect(rt, "memory");
+    let copy = builder.clone().expect(rt, "memory");
+    drop(builder);
+    let is_copied = is_built(&copy, "tf_", "100", true);
+    drop(copy);
+    is_copied
 }
 
-/// Whether the copy of a builder has the slots that it was extended by.
-fn is_copied(builder: &MutableBooleanArray) -> Result<bool, Error> {
-    match builder.clone() {
-        Ok(copy) => Ok(is_built(&copy, "tf_", "100", true)),
-        Err(refused) => Err(refused),
-    }
-}
-
-/// Whether a builder grows by many slots, and is copied.
-fn extends(builder: &mut MutableBooleanArray) -> Result<bool, Error> {
-    builder.extend_values([true, false].into_iter())?;
-    builder.try_extend([None].into_iter())?;
-    is_copied(builder)
-}
-
-/// Whether slots behind others are these.
-fn joins(
-    builder: &mut MutableBooleanArray,
-    other: &MutableBooleanArray,
-    slots: &str,
-) -> Result<bool, Error> {
-    builder.try_extend_from_self(other)?;
-    Ok(shows(builder.iter(), slots))
-}
-
-/// Whether those of a builder of such slots are.
-fn joins_slots(
-    alloc: Global,
-    builder: &mut MutableBooleanArray,
-    second: &[Option<bool>],
-    slots: &str,
-) -> Result<bool, Error> {
-    match MutableBooleanArray::from(alloc, second) {
-        Ok(other) => joins(builder, &other, slots),
-        Err(refused) => Err(refused),
-    }
-}
-
-/// Whether they are behind those of another.
+/// Whether the slots of one builder behind those of another are these.
 fn joined(
     alloc: Global,
+    rt: &impl Abort,
     first: &[Option<bool>],
     second: &[Option<bool>],
     slots: &str,
-) -> Result<bool, Error> {
-    match MutableBooleanArray::from(alloc, first) {
-        Ok(mut builder) => joins_slots(alloc, &mut builder, second, slots),
-        Err(refused) => Err(refused),
-    }
+) -> bool {
+    let mut builder = MutableBooleanArray::from(alloc, first).expect(rt, "memory");
+    let other = MutableBooleanArray::from(alloc, second).expect(rt, "memory");
+    builder.try_extend_from_self(&other).expect(rt, "memory");
+    drop(other);
+    let are_joined = shows(builder.iter(), slots);
+    drop(builder);
+    are_joined
 }
 
 #[test]
-fn builders_grow(rt: HostRuntime) -> Result<(), Fail> {
+fn builders_grow(rt: HostRuntime) {
     let no_null = [Some(true), Some(false)].as_slice();
     let null = [None, Some(true)].as_slice();
-    all_told(&[
-        grows_from_room(rt.alloc()),
-        extends(&mut MutableBooleanArray::default(rt.alloc())),
-        joined(rt.alloc(), no_null, null, "tf_t"),
-        joined(rt.alloc(), null, no_null, "_ttf"),
-    ])
+    let grow = grows(rt.alloc(), &rt) & extends(rt.alloc(), &rt);
+    let is_masked = joined(rt.alloc(), &rt, no_null, null, "tf_t");
+    assert!(rt; grow & is_masked & joined(rt.alloc(), &rt, null, no_null, "_ttf"));
 }
 
-/// Whether the last two slots are given by value, from both ends.
-fn gives_slots(array: BooleanArray) -> bool {
-    if array.len() != 3 {
-        return false;
-    }
+/// The last two slots of three are given by value, from both ends.
+#[test]
+fn slots_come_by_value(rt: HostRuntime) {
+    let slots = [Some(true), None, Some(false)];
+    let array = BooleanArray::from_iter(rt.alloc(), slots.into_iter()).expect(&rt, "memory");
+    assert!(rt; array.len() == 3);
     let mut slots = array.sliced(1, 2).into_iter();
     let ends = (slots.next_back(), slots.next(), slots.next());
-    ends == (Some(Some(false)), Some(None), None)
-}
-
-/// Whether those of what an iterator gave are.
-fn gives_new_slots(alloc: Global) -> Result<bool, Error> {
-    match BooleanArray::from_iter(alloc, [Some(true), None, Some(false)].into_iter()) {
-        Ok(array) => Ok(gives_slots(array)),
-        Err(refused) => Err(refused),
-    }
-}
-
-#[test]
-fn slots_come_by_value(rt: HostRuntime) -> Result<(), Fail> {
-    told(gives_new_slots(rt.alloc()))
+    drop(slots);
+    assert!(rt; ends == (Some(Some(false)), Some(None), None));
 }

@@ -4,7 +4,6 @@ ghost use Rattle.arrow_column.specs.Column.{FitsCut};
 
 use super::*;
 use arrow_testing::{frozen_mask, growing_mask, is_mask};
-use std::process::Abort;
 
 /// Stored values and marks; `none` means that no mask is held.
 type Stored = (&'static str, &'static str);
