@@ -1,11 +1,9 @@
 //! Every boundary of Unicode's table of characters (Unicode Standard, Table 3-7), in every place of a window.
 use arrow_check::cost::{TextBytes, TextCost};
 use arrow_check::text::check_utf8;
-use arrow_memory::offset::Offsets;
-use arrow_types::error::Error;
-use arrow_types::offset::Offset;
+use arrow_testing::offsets_of;
 use std::alloc::Global;
-use std::test::Fail;
+use std::process::Abort;
 
 /// The rows of the table: the least and the greatest of each byte.
 const ROWS: [&[(u8, u8)]; 9] = [
@@ -22,11 +20,15 @@ const ROWS: [&[(u8, u8)]; 9] = [
 
 /// Whether bytes begin with a character of a row.
 fn begins_with(bytes: &[u8], row: &[(u8, u8)]) -> bool {
-    row.len() <= bytes.len()
-        && row
-            .iter()
-            .zip(bytes)
-            .all(|(range, byte)| range.0 <= *byte && *byte <= range.1)
+    if bytes.len() < row.len() {
+        return false;
+    }
+    for (range, byte) in row.iter().zip(bytes) {
+        if *byte < range.0 || range.1 < *byte {
+            return false;
+        }
+    }
+    true
 }
 
 /// The bytes behind the first character; none where no character begins them.
@@ -71,61 +73,69 @@ fn boundary(range: (u8, u8), which: usize) -> u8 {
 
 /// Bytes at the boundaries of a row, each of which is chosen by two bits of a number, between ASCII neighbours, with
 /// bytes before and behind that are no text.
-fn around(alloc: Global, row: &[(u8, u8)], choice: usize, before: usize) -> Result<Vec<u8>, Error> {
+fn around(
+    alloc: Global,
+    rt: &impl Abort,
+    row: &[(u8, u8)],
+    choice: usize,
+    before: usize,
+) -> Vec<u8> {
     let mut bytes = Vec::new(alloc);
-    bytes.push(0xFF)?;
-    bytes.resize(before.saturating_add(1), 0x61)?;
+    bytes.push(0xFF).expect(rt, "memory");
+    bytes
+        .resize(before.saturating_add(1), 0x61)
+        .expect(rt, "memory");
     let mut choice = choice;
     for range in row {
-        bytes.push(boundary(*range, choice % 4))?;
+        bytes
+            .push(boundary(*range, choice % 4))
+            .expect(rt, "memory");
         choice /= 4;
     }
-    bytes.push(0x7F)?;
-    bytes.push(0x80)?;
-    Ok(bytes)
+    bytes.push(0x7F).expect(rt, "memory");
+    bytes.push(0x80).expect(rt, "memory");
+    bytes
 }
 
 /// Whether two items, one behind the other, are accepted exactly if each is text by itself.
 fn are_cut_right(
     alloc: Global,
+    rt: &impl Abort,
     bytes: &[u8],
     [start, cut, end]: [usize; 3],
-) -> Result<bool, Error> {
-    let (Some(first), Some(second), Some(third)) = (
-        i32::from_usize(start),
-        i32::from_usize(cut),
-        i32::from_usize(end),
-    ) else {
-        return Ok(false);
-    };
-    let offsets = Offsets::try_from_vec(Vec::from_slice(alloc, &[first, second, third])?)?;
+) -> bool {
+    let offsets = offsets_of::<i32>(alloc, [start, cut, end].as_slice()).expect(rt, "offsets");
     let mut text = TextBytes::new(bytes, TextCost::new());
-    let wanted = is_text_between(bytes, start, cut) && is_text_between(bytes, cut, end);
-    Ok(check_utf8(offsets.as_slice(), &mut text).is_ok() == wanted)
+    let is_accepted = check_utf8(offsets.as_slice(), &mut text).is_ok();
+    drop(offsets);
+    let is_first = is_text_between(bytes, start, cut);
+    is_accepted == (is_first & is_text_between(bytes, cut, end))
 }
 
 /// Whether windows that begin before so many ASCII bytes are judged right, cut at and ended at each place behind these.
-fn are_long_windows_right(alloc: Global, bytes: &[u8], before: usize) -> Result<bool, Error> {
-    let mut is_right = true;
+fn are_long_windows_right(alloc: Global, rt: &impl Abort, bytes: &[u8], before: usize) -> bool {
     for cut in before..bytes.len() {
         for end in cut..bytes.len() {
-            is_right = is_right && are_cut_right(alloc, bytes, [1, cut, end])?;
-        }
-    }
-    Ok(is_right)
-}
-
-/// Whether windows that begin at each place are, cut at and ended at each place.
-fn are_windows_right(alloc: Global, bytes: &[u8]) -> Result<bool, Error> {
-    let mut is_right = true;
-    for cut in 1..bytes.len() {
-        for start in 1..cut + 1 {
-            for end in cut..bytes.len() {
-                is_right = is_right && are_cut_right(alloc, bytes, [start, cut, end])?;
+            if !are_cut_right(alloc, rt, bytes, [1, cut, end]) {
+                return false;
             }
         }
     }
-    Ok(is_right)
+    true
+}
+
+/// Whether windows that begin at each place are, cut at and ended at each place.
+fn are_windows_right(alloc: Global, rt: &impl Abort, bytes: &[u8]) -> bool {
+    for cut in 1..bytes.len() {
+        for start in 1..cut + 1 {
+            for end in cut..bytes.len() {
+                if !are_cut_right(alloc, rt, bytes, [start, cut, end]) {
+                    return false;
+                }
+            }
+        }
+    }
+    true
 }
 
 /// Whether at most one of the bytes that a number chooses isn't the least of its range.
@@ -135,61 +145,58 @@ fn is_simple(choice: usize) -> bool {
     differing & differing.saturating_sub(1) == 0
 }
 
-/// Whether all boundaries of a row are judged right, in every place.
-fn is_row_right(alloc: Global, row: &[(u8, u8)]) -> Result<bool, Error> {
-    let mut is_right = true;
-    for choice in 0..256_usize {
-        if choice >> (2 * row.len()).min(63) == 0 {
-            let bytes = around(alloc, row, choice, 1)?;
-            is_right = is_right && are_windows_right(alloc, bytes.as_slice())?;
-        }
-    }
-    Ok(is_right)
+/// Whether the boundaries of a row that a number chooses are judged right, in every place.
+fn is_choice_right(alloc: Global, rt: &impl Abort, row: &[(u8, u8)], choice: usize) -> bool {
+    let bytes = around(alloc, rt, row, choice, 1);
+    let is_right = are_windows_right(alloc, rt, bytes.as_slice());
+    drop(bytes);
+    is_right
 }
 
-/// Whether boundaries of a row, one at a time, are judged right behind so many ASCII bytes.
-fn is_row_right_behind(alloc: Global, row: &[(u8, u8)], before: usize) -> Result<bool, Error> {
-    let mut is_right = true;
-    for choice in 0..256_usize {
-        if is_simple(choice) {
-            let bytes = around(alloc, row, choice, before)?;
-            is_right = is_right && are_long_windows_right(alloc, bytes.as_slice(), before)?;
-        }
-    }
-    Ok(is_right)
-}
-
-#[test]
-fn each_boundary_of_the_table(rt: HostRuntime) -> Result<(), Fail> {
-    let mut is_right = true;
-    for row in ROWS {
-        is_right = is_right && is_row_right(rt.alloc(), row)?;
-    }
-    assert!(rt; is_right);
-    Ok(())
+/// Whether they are behind so many ASCII bytes.
+fn is_choice_right_behind(
+    alloc: Global,
+    rt: &impl Abort,
+    row: &[(u8, u8)],
+    choice: usize,
+    before: usize,
+) -> bool {
+    let bytes = around(alloc, rt, row, choice, before);
+    let is_right = are_long_windows_right(alloc, rt, bytes.as_slice(), before);
+    drop(bytes);
+    is_right
 }
 
 #[test]
-fn characters_across_blocks_of_64_bytes(rt: HostRuntime) -> Result<(), Fail> {
-    let mut is_right = true;
-    for before in [61, 62, 63] {
-        for row in ROWS {
-            is_right = is_right && is_row_right_behind(rt.alloc(), row, before)?;
+fn each_boundary_of_the_table(rt: HostRuntime) {
+    for row in ROWS.iter() {
+        for choice in 0..256_usize {
+            if choice >> (2 * row.len()).min(63) == 0 {
+                assert!(rt; is_choice_right(rt.alloc(), &rt, *row, choice));
+            }
         }
     }
-    assert!(rt; is_right);
-    Ok(())
+}
+
+/// One boundary at a time.
+#[test]
+fn characters_across_blocks_of_64_bytes(rt: HostRuntime) {
+    for before in 61..64_usize {
+        for row in ROWS.iter() {
+            for choice in 0..256_usize {
+                if is_simple(choice) {
+                    assert!(rt; is_choice_right_behind(rt.alloc(), &rt, *row, choice, before));
+                }
+            }
+        }
+    }
 }
 
 #[test]
-fn characters_across_long_parts(rt: HostRuntime) -> Result<(), Fail> {
-    let mut is_right = true;
+fn characters_across_long_parts(rt: HostRuntime) {
     for before in 8189..8192_usize {
-        for row in [ROWS[1], ROWS[7]] {
-            let bytes = around(rt.alloc(), row, 0b01_01_01_01, before)?;
-            is_right = is_right && are_long_windows_right(rt.alloc(), bytes.as_slice(), before)?;
-        }
+        let choice = 0b01_01_01_01;
+        let is_short = is_choice_right_behind(rt.alloc(), &rt, ROWS[1], choice, before);
+        assert!(rt; is_short & is_choice_right_behind(rt.alloc(), &rt, ROWS[7], choice, before));
     }
-    assert!(rt; is_right);
-    Ok(())
 }

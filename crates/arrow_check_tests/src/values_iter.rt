@@ -4,10 +4,6 @@ use arrow_check::values_iter::ArrayValuesIter;
 use arrow_memory::bitmap::{BitmapIter, MutableBitmap};
 use arrow_memory::list_iter::ListIter;
 use arrow_memory::zip_validity::ZipValidity;
-use arrow_testing::told;
-use arrow_types::error::Error;
-use std::alloc::Global;
-use std::test::Fail;
 
 /// An array of numbers.
 #[derive(Drop)]
@@ -173,15 +169,11 @@ fn stand_under(array: &Numbers, marks: BitmapIter<'_>) -> bool {
     ends & is_sized & is_null & slots.next().is_none() & slots.next_back().is_none()
 }
 
-/// Whether they do under marks that are made.
-fn marked(alloc: Global) -> Result<bool, Error> {
-    match MutableBitmap::from_slice(alloc, [true, false, true].as_slice()) {
-        Ok(marks) => Ok(stand_under(&tens(), marks.iter())),
-        Err(refused) => Err(refused),
-    }
-}
-
 #[test]
-fn items_stand_under_marks(rt: HostRuntime) -> Result<(), Fail> {
-    told(marked(rt.alloc()))
+fn items_stand_under_marks(rt: HostRuntime) {
+    let marks = MutableBitmap::from_slice(rt.alloc(), [true, false, true].as_slice());
+    let marks = marks.expect(&rt, "memory");
+    let are_under = stand_under(&tens(), marks.iter());
+    drop(marks);
+    assert!(rt; are_under);
 }

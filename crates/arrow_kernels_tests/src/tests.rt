@@ -1,8 +1,8 @@
 //! What kernels make was worked out by hand. Slots of a filter are written as a text: 't', 'f', and '_' for a null, which
 //! stores true; masks as texts of '1' and '0', or as `none` where none is held.
 //!
-//! What is asked of kernels is asked here once, of arrays of any kind. What makes a value and what looks at it stand in
-//! functions of their own: a step that can be refused is dear to prove beside values to drop.
+//! What is asked of kernels is asked here once, of arrays of any kind. Values are taken by `expect` and let go by `drop`,
+//! which is cheaper to prove than to leave that to the end of a function.
 mod bytes;
 mod numbers;
 mod truths;
@@ -10,11 +10,11 @@ mod widths;
 
 use arrow_boolean::BooleanArray;
 use arrow_memory::bitmap::{Bitmap, MutableBitmap};
-use arrow_testing::{all_told, frozen_mask, is_mask, tells, told};
+use arrow_testing::{frozen_mask, is_mask, tells};
 use arrow_types::data_type::DataType;
 use arrow_types::error::Error;
 use std::alloc::Global;
-use std::test::Fail;
+use std::process::Abort;
 
 /// What is told of a key that points at no slot.
 const TOO_GREAT: &str = "a dictionary key must be below the length of the dictionary values";
@@ -31,246 +31,172 @@ trait Chosen: Drop + Sized {
     type Key;
 
     /// The array that is written so.
-    fn of(alloc: Global, written: &Self::Written) -> Result<Self, Error>;
+    fn of(alloc: Global, rt: &impl Abort, written: &Self::Written) -> Self;
 
     /// Whether it is written so.
     fn is(&self, written: &Self::Written) -> bool;
 
-    /// What a filter leaves; of one of another length no answer.
-    fn filtered(&self, alloc: Global, filter: &BooleanArray) -> Option<Result<Self, Error>>;
+    /// What a filter leaves, which has to be of the same length.
+    fn filtered(
+        &self,
+        alloc: Global,
+        rt: &impl Abort,
+        filter: &BooleanArray,
+    ) -> Result<Self, Error>;
 
     /// What keys take.
     fn taken(&self, alloc: Global, keys: &[Self::Key]) -> Result<Self, Error>;
 
-    /// Returns a slice, or `None` if it does not lie within the array.
-    fn part(self, offset: usize, len: usize) -> Option<Self>;
+    /// Returns a slice, which has to lie within the array.
+    fn part(self, rt: &impl Abort, offset: usize, len: usize) -> Self;
 
-    /// Returns the concatenation of arrays, or `None` if there is none.
-    fn joined(alloc: Global, arrays: &[Self]) -> Option<Result<Self, Error>>;
+    /// Returns the concatenation of arrays, of which there has to be one.
+    fn joined(alloc: Global, rt: &impl Abort, arrays: &[Self]) -> Result<Self, Error>;
 }
 
-/// Appends the bits that a text writes with other letters than that of a clear one.
-fn push_bits(bits: &mut MutableBitmap, text: &str, clear: u8) -> Result<(), Error> {
-    for letter in text.as_bytes() {
-        bits.push(*letter != clear)?;
-    }
-    Ok(())
-}
-
-/// Those bits.
-fn bits(alloc: Global, text: &str, clear: u8) -> Result<Bitmap, Error> {
+/// The bits that a text writes with other letters than that of a clear one.
+fn bits(alloc: Global, rt: &impl Abort, text: &str, clear: u8) -> Bitmap {
     let mut bits = MutableBitmap::new(alloc);
-    match push_bits(&mut bits, text, clear) {
-        Ok(()) => bits.freeze(),
-        Err(refused) => Err(refused),
+    for letter in text.as_bytes() {
+        bits.push(*letter != clear).expect(rt, "memory");
     }
+    bits.freeze().expect(rt, "memory")
 }
 
 /// A filter as a text, and whether it holds a mask.
 type Filter = (&'static str, bool);
 
-/// The filter of these values under marks.
-fn masked_filter(values: Bitmap, marks: Result<Bitmap, Error>) -> Result<BooleanArray, Error> {
-    match marks {
-        Ok(marks) => BooleanArray::try_new(DataType::Boolean, values, Some(marks)),
-        Err(refused) => Err(refused),
-    }
-}
-
-/// The filter of these values, which holds no mask.
-fn bare_filter(values: Result<Bitmap, Error>) -> Result<BooleanArray, Error> {
-    match values {
-        Ok(values) => BooleanArray::try_new(DataType::Boolean, values, None),
-        Err(refused) => Err(refused),
-    }
-}
-
-/// The filter that a text writes, which holds a mask. Each null stores true.
-fn filter_with_mask(alloc: Global, text: &str) -> Result<BooleanArray, Error> {
-    match bits(alloc, text, b'f') {
-        Ok(values) => masked_filter(values, bits(alloc, text, b'_')),
-        Err(refused) => Err(refused),
-    }
-}
-
-/// The filter that is written so.
-fn filter_of(alloc: Global, filter: Filter) -> Result<BooleanArray, Error> {
+/// The filter that is written so. Each null stores true.
+fn filter_of(alloc: Global, rt: &impl Abort, filter: Filter) -> BooleanArray {
     let (text, holds_mask) = filter;
-    if holds_mask {
-        filter_with_mask(alloc, text)
+    let values = bits(alloc, rt, text, b'f');
+    let marks = if holds_mask {
+        Some(bits(alloc, rt, text, b'_'))
     } else {
-        bare_filter(bits(alloc, text, b'f'))
-    }
+        None
+    };
+    BooleanArray::try_new(DataType::Boolean, values, marks).expect(rt, "parts that fit")
 }
 
-/// Whether an array was made that is written so.
-fn made<A: Chosen>(answer: Result<A, Error>, wanted: &A::Written) -> Result<bool, Error> {
-    match answer {
-        Ok(array) => Ok(array.is(wanted)),
-        Err(refused) => Err(refused),
-    }
+/// Whether an array that is given away is written so.
+fn made<A: Chosen>(array: A, wanted: &A::Written) -> bool {
+    let is_made = array.is(wanted);
+    drop(array);
+    is_made
 }
 
 /// Whether a filter leaves this of an array.
-fn leaves<A: Chosen>(
-    alloc: Global,
-    array: &A,
-    filter: &BooleanArray,
-    wanted: &A::Written,
-) -> Result<bool, Error> {
-    match array.filtered(alloc, filter) {
-        Some(answer) => made(answer, wanted),
-        None => Ok(false),
-    }
-}
-
-/// Whether one that was made does.
-fn leaves_by<A: Chosen>(
-    alloc: Global,
-    array: &A,
-    filter: Result<BooleanArray, Error>,
-    wanted: &A::Written,
-) -> Result<bool, Error> {
-    match filter {
-        Ok(filter) => leaves(alloc, array, &filter, wanted),
-        Err(refused) => Err(refused),
-    }
-}
-
-/// Whether one that is written so does, of an array that is.
 fn filters<A: Chosen>(
     alloc: Global,
+    rt: &impl Abort,
     given: &A::Written,
     filter: Filter,
     wanted: &A::Written,
-) -> Result<bool, Error> {
-    match A::of(alloc, given) {
-        Ok(array) => leaves_by(alloc, &array, filter_of(alloc, filter), wanted),
-        Err(refused) => Err(refused),
-    }
+) -> bool {
+    let array = A::of(alloc, rt, given);
+    let filter = filter_of(alloc, rt, filter);
+    let left = array.filtered(alloc, rt, &filter).expect(rt, "memory");
+    drop(filter);
+    drop(array);
+    made(left, wanted)
 }
 
 /// Whether of each array its filter leaves what it should.
 fn all_filter<A: Chosen>(
     alloc: Global,
+    rt: &impl Abort,
     cases: &[(A::Written, Filter, A::Written)],
-) -> Result<bool, Error> {
+) -> bool {
     for (given, filter, wanted) in cases {
-        if !filters::<A>(alloc, given, *filter, wanted)? {
-            return Ok(false);
+        if !filters::<A>(alloc, rt, given, *filter, wanted) {
+            return false;
         }
     }
-    Ok(true)
+    true
 }
 
 /// Whether keys take this of an array.
 fn takes<A: Chosen>(
     alloc: Global,
+    rt: &impl Abort,
     given: &A::Written,
     keys: &[A::Key],
     wanted: &A::Written,
-) -> Result<bool, Error> {
-    match A::of(alloc, given) {
-        Ok(array) => made(array.taken(alloc, keys), wanted),
-        Err(refused) => Err(refused),
-    }
+) -> bool {
+    let array = A::of(alloc, rt, given);
+    let taken = array.taken(alloc, keys).expect(rt, "memory");
+    drop(array);
+    made(taken, wanted)
 }
 
 /// Whether of each array its keys take what they should.
 fn all_take<A: Chosen>(
     alloc: Global,
+    rt: &impl Abort,
     cases: &[(A::Written, &[A::Key], A::Written)],
-) -> Result<bool, Error> {
+) -> bool {
     for (given, keys, wanted) in cases {
-        if !takes::<A>(alloc, given, *keys, wanted)? {
-            return Ok(false);
+        if !takes::<A>(alloc, rt, given, *keys, wanted) {
+            return false;
         }
     }
-    Ok(true)
+    true
 }
 
-/// Whether this is told of keys into an array.
-fn tells_keys<A: Chosen>(
+/// What is told of keys into an array.
+fn told_of_keys<A: Chosen>(
     alloc: Global,
+    rt: &impl Abort,
     given: &A::Written,
     keys: &[A::Key],
-    wanted: &str,
-) -> Result<bool, Error> {
-    match A::of(alloc, given) {
-        Ok(array) => Ok(tells(array.taken(alloc, keys)) == wanted),
-        Err(refused) => Err(refused),
-    }
+) -> &'static str {
+    let array = A::of(alloc, rt, given);
+    let told = tells(array.taken(alloc, keys));
+    drop(array);
+    told
 }
 
 /// Whether of each array this is told of its keys.
 fn all_tell<A: Chosen>(
     alloc: Global,
+    rt: &impl Abort,
     cases: &[(A::Written, &[A::Key], &str)],
-) -> Result<bool, Error> {
+) -> bool {
     for (given, keys, wanted) in cases {
-        if !tells_keys::<A>(alloc, given, *keys, *wanted)? {
-            return Ok(false);
+        if told_of_keys::<A>(alloc, rt, given, *keys) != *wanted {
+            return false;
         }
     }
-    Ok(true)
+    true
 }
 
-/// The answer for a slice that does not lie within the array.
-const NO_PART: Error = Error::OutOfSpec("no such part");
-
-/// Appends an array to others, if it could be created.
-fn push_array<A: Chosen>(arrays: &mut Vec<A>, array: Option<A>) -> Result<(), Error> {
-    match array {
-        Some(array) => Ok(arrays.push(array)?),
-        None => Err(NO_PART),
-    }
-}
-
-/// Appends a slice of the array that a text writes.
-fn push_part<A: Chosen>(
+/// Returns the concatenation of slices of the arrays that are written so.
+fn joined_parts<A: Chosen>(
     alloc: Global,
-    arrays: &mut Vec<A>,
-    part: &(A::Written, usize, usize),
-) -> Result<(), Error> {
-    let (written, offset, len) = part;
-    match A::of(alloc, written) {
-        Ok(array) => push_array(arrays, array.part(*offset, *len)),
-        Err(refused) => Err(refused),
-    }
-}
-
-/// Returns slices of the arrays that texts write.
-fn parts_of<A: Chosen>(
-    alloc: Global,
+    rt: &impl Abort,
     parts: &[(A::Written, usize, usize)],
-) -> Result<Vec<A>, Error> {
+) -> Result<A, Error> {
     let mut arrays = Vec::new(alloc);
-    for part in parts {
-        push_part(alloc, &mut arrays, part)?;
+    for (written, offset, len) in parts {
+        let part = A::of(alloc, rt, written).part(rt, *offset, *len);
+        arrays.push(part).expect(rt, "memory");
     }
-    Ok(arrays)
-}
-
-/// Returns the concatenation of arrays, as a text.
-fn joined_parts<A: Chosen>(alloc: Global, arrays: Result<Vec<A>, Error>) -> Result<A, Error> {
-    match arrays {
-        Ok(arrays) => match A::joined(alloc, &arrays) {
-            Some(answer) => answer,
-            None => Err(NO_PART),
-        },
-        Err(refused) => Err(refused),
-    }
+    let joined = A::joined(alloc, rt, &arrays);
+    drop(arrays);
+    joined
 }
 
 /// Returns whether the concatenation of slices is the expected one.
 fn all_join<A: Chosen>(
     alloc: Global,
+    rt: &impl Abort,
     cases: &[(&[(A::Written, usize, usize)], A::Written)],
-) -> Result<bool, Error> {
+) -> bool {
     for (parts, wanted) in cases {
-        if !made(joined_parts(alloc, parts_of::<A>(alloc, *parts)), wanted)? {
-            return Ok(false);
+        let joined = joined_parts::<A>(alloc, rt, *parts).expect(rt, "memory");
+        if !made(joined, wanted) {
+            return false;
         }
     }
-    Ok(true)
+    true
 }

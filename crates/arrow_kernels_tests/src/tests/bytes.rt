@@ -7,7 +7,6 @@ use arrow_kernels::{
     concat_binary, concat_utf8, filter_binary, filter_utf8, take_binary, take_utf8,
 };
 use arrow_memory::buffer::Buffer;
-use arrow_memory::offset::OffsetsBuffer;
 use arrow_testing::{Tiny, are_offsets, frozen_offsets};
 use arrow_types::offset::Offset;
 use arrow_utf8::Utf8Array;
@@ -15,14 +14,15 @@ use arrow_utf8::Utf8Array;
 /// Offsets, bytes and marks.
 pub(super) type Written = (&'static [usize], &'static [u8], &'static str);
 
-/// A kind of items, and its kernels, one of which is called where a filter is as long as an array.
+/// A kind of items, and its kernels.
 trait Known: ByteKind {
-    /// What a filter leaves; of one of another length no answer.
+    /// What a filter leaves, which has to be as long as the array.
     fn filter<O: Offset>(
         alloc: Global,
+        rt: &impl Abort,
         array: &ByteArray<Self, O>,
         filter: &BooleanArray,
-    ) -> Option<Result<ByteArray<Self, O>, Error>>;
+    ) -> Result<ByteArray<Self, O>, Error>;
 
     /// What keys take.
     fn take<O: Offset>(
@@ -31,23 +31,23 @@ trait Known: ByteKind {
         keys: &[i64],
     ) -> Result<ByteArray<Self, O>, Error>;
 
-    /// Returns the concatenation of arrays, or `None` if there is none.
+    /// Returns the concatenation of arrays, of which there has to be one.
     fn concat<O: Offset>(
         alloc: Global,
+        rt: &impl Abort,
         arrays: &[ByteArray<Self, O>],
-    ) -> Option<Result<ByteArray<Self, O>, Error>>;
+    ) -> Result<ByteArray<Self, O>, Error>;
 }
 
 impl Known for Binary {
     fn filter<O: Offset>(
         alloc: Global,
+        rt: &impl Abort,
         array: &BinaryArray<O>,
         filter: &BooleanArray,
-    ) -> Option<Result<BinaryArray<O>, Error>> {
-        if filter.len() != array.len() {
-            return None;
-        }
-        Some(filter_binary(alloc, array, filter))
+    ) -> Result<BinaryArray<O>, Error> {
+        assert!(rt; filter.len() == array.len());
+        filter_binary(alloc, array, filter)
     }
 
     fn take<O: Offset>(
@@ -60,25 +60,23 @@ impl Known for Binary {
 
     fn concat<O: Offset>(
         alloc: Global,
+        rt: &impl Abort,
         arrays: &[BinaryArray<O>],
-    ) -> Option<Result<BinaryArray<O>, Error>> {
-        if arrays.is_empty() {
-            return None;
-        }
-        Some(concat_binary(alloc, arrays))
+    ) -> Result<BinaryArray<O>, Error> {
+        assert!(rt; !arrays.is_empty());
+        concat_binary(alloc, arrays)
     }
 }
 
 impl Known for Utf8 {
     fn filter<O: Offset>(
         alloc: Global,
+        rt: &impl Abort,
         array: &Utf8Array<O>,
         filter: &BooleanArray,
-    ) -> Option<Result<Utf8Array<O>, Error>> {
-        if filter.len() != array.len() {
-            return None;
-        }
-        Some(filter_utf8(alloc, array, filter))
+    ) -> Result<Utf8Array<O>, Error> {
+        assert!(rt; filter.len() == array.len());
+        filter_utf8(alloc, array, filter)
     }
 
     fn take<O: Offset>(
@@ -91,61 +89,26 @@ impl Known for Utf8 {
 
     fn concat<O: Offset>(
         alloc: Global,
+        rt: &impl Abort,
         arrays: &[Utf8Array<O>],
-    ) -> Option<Result<Utf8Array<O>, Error>> {
-        if arrays.is_empty() {
-            return None;
-        }
-        Some(concat_utf8(alloc, arrays))
-    }
-}
-
-/// The buffer of these bytes.
-fn buffer_of(alloc: Global, bytes: &[u8]) -> Result<Buffer<u8>, Error> {
-    match bytes.to_vec(alloc) {
-        Ok(bytes) => Buffer::from_vec(bytes),
-        Err(refused) => Err(Error::from(refused)),
-    }
-}
-
-/// The array of items under a mask.
-fn masked<K: ByteKind, O: Offset>(
-    offsets: OffsetsBuffer<O>,
-    bytes: Result<Buffer<u8>, Error>,
-    mask: Option<Bitmap>,
-) -> Result<ByteArray<K, O>, Error> {
-    match bytes {
-        Ok(bytes) => ByteArray::try_new(K::default_type(O::IS_LARGE), offsets, bytes, mask),
-        Err(refused) => Err(refused),
-    }
-}
-
-/// The array of items between offsets that were made, under a mask.
-fn between<K: ByteKind, O: Offset>(
-    offsets: Result<OffsetsBuffer<O>, Error>,
-    bytes: Result<Buffer<u8>, Error>,
-    mask: Option<Bitmap>,
-) -> Result<ByteArray<K, O>, Error> {
-    match offsets {
-        Ok(offsets) => masked(offsets, bytes, mask),
-        Err(refused) => Err(refused),
+    ) -> Result<Utf8Array<O>, Error> {
+        assert!(rt; !arrays.is_empty());
+        concat_utf8(alloc, arrays)
     }
 }
 
 /// The array of such parts.
 pub(super) fn array_of<K: ByteKind, O: Offset>(
     alloc: Global,
+    rt: &impl Abort,
     given: Written,
-) -> Result<ByteArray<K, O>, Error> {
-    let (offsets, bytes, text) = given;
-    match frozen_mask(alloc, text) {
-        Ok(mask) => between(
-            frozen_offsets(alloc, offsets),
-            buffer_of(alloc, bytes),
-            mask,
-        ),
-        Err(refused) => Err(refused),
-    }
+) -> ByteArray<K, O> {
+    let offsets = frozen_offsets(alloc, given.0).expect(rt, "offsets");
+    let bytes = given.1.to_vec(alloc).expect(rt, "memory");
+    let bytes = Buffer::from_vec(bytes).expect(rt, "memory");
+    let mask = frozen_mask(alloc, given.2).expect(rt, "memory");
+    let array = ByteArray::try_new(K::default_type(O::IS_LARGE), offsets, bytes, mask);
+    array.expect(rt, "parts that fit")
 }
 
 /// Whether an array has these offsets, bytes and marks.
@@ -166,8 +129,8 @@ impl<K: Known, O: Offset> Chosen for ByteArray<K, O> {
 
     type Key = i64;
 
-    fn of(alloc: Global, written: &Written) -> Result<ByteArray<K, O>, Error> {
-        array_of(alloc, *written)
+    fn of(alloc: Global, rt: &impl Abort, written: &Written) -> ByteArray<K, O> {
+        array_of(alloc, rt, *written)
     }
 
     fn is(&self, written: &Written) -> bool {
@@ -177,24 +140,27 @@ impl<K: Known, O: Offset> Chosen for ByteArray<K, O> {
     fn filtered(
         &self,
         alloc: Global,
+        rt: &impl Abort,
         filter: &BooleanArray,
-    ) -> Option<Result<ByteArray<K, O>, Error>> {
-        K::filter(alloc, self, filter)
+    ) -> Result<ByteArray<K, O>, Error> {
+        K::filter(alloc, rt, self, filter)
     }
 
     fn taken(&self, alloc: Global, keys: &[i64]) -> Result<ByteArray<K, O>, Error> {
         K::take(alloc, self, keys)
     }
 
-    fn part(self, offset: usize, len: usize) -> Option<ByteArray<K, O>> {
-        if offset > self.len() || len > self.len() - offset {
-            return None;
-        }
-        Some(self.sliced(offset, len))
+    fn part(self, rt: &impl Abort, offset: usize, len: usize) -> ByteArray<K, O> {
+        assert!(rt; offset <= self.len() && len <= self.len() - offset);
+        self.sliced(offset, len)
     }
 
-    fn joined(alloc: Global, arrays: &[ByteArray<K, O>]) -> Option<Result<ByteArray<K, O>, Error>> {
-        K::concat(alloc, arrays)
+    fn joined(
+        alloc: Global,
+        rt: &impl Abort,
+        arrays: &[ByteArray<K, O>],
+    ) -> Result<ByteArray<K, O>, Error> {
+        K::concat(alloc, rt, arrays)
     }
 }
 
@@ -234,22 +200,21 @@ const JOINS: &[(&[(Written, usize, usize)], Written)] = &[
 ];
 
 /// Returns whether they are as expected over a width of offsets.
-fn chosen<K: Known, O: Offset>(alloc: Global) -> Result<bool, Error> {
-    let are_left = all_filter::<ByteArray<K, O>>(alloc, FILTERS)?;
-    let are_joined = all_join::<ByteArray<K, O>>(alloc, JOINS)?;
-    Ok(all_take::<ByteArray<K, O>>(alloc, TAKES)? & are_left & are_joined)
+fn are_chosen<K: Known, O: Offset>(alloc: Global, rt: &impl Abort) -> bool {
+    let are_left = all_filter::<ByteArray<K, O>>(alloc, rt, FILTERS);
+    let are_joined = all_join::<ByteArray<K, O>>(alloc, rt, JOINS);
+    are_left & are_joined & all_take::<ByteArray<K, O>>(alloc, rt, TAKES)
 }
 
 #[test]
-fn items_are_chosen(rt: HostRuntime) -> Result<(), Fail> {
-    all_told(&[
-        chosen::<Binary, i32>(rt.alloc()),
-        chosen::<Binary, i64>(rt.alloc()),
-        chosen::<Binary, Tiny>(rt.alloc()),
-        chosen::<Utf8, i32>(rt.alloc()),
-        chosen::<Utf8, i64>(rt.alloc()),
-        chosen::<Utf8, Tiny>(rt.alloc()),
-    ])
+fn items_are_chosen(rt: HostRuntime) {
+    let are_bytes = are_chosen::<Binary, i32>(rt.alloc(), &rt)
+        & are_chosen::<Binary, i64>(rt.alloc(), &rt)
+        & are_chosen::<Binary, Tiny>(rt.alloc(), &rt);
+    let are_texts = are_chosen::<Utf8, i32>(rt.alloc(), &rt)
+        & are_chosen::<Utf8, i64>(rt.alloc(), &rt)
+        & are_chosen::<Utf8, Tiny>(rt.alloc(), &rt);
+    assert!(rt; are_bytes & are_texts);
 }
 
 /// Seventy items of one byte each.
@@ -321,20 +286,15 @@ const ENDS: &[(Written, &[i64], &str)] = &[
 ];
 
 /// Whether all of these hold of a kind.
-fn ends<K: Known>(alloc: Global) -> [Result<bool, Error>; 3] {
-    [
-        all_filter::<ByteArray<K, Tiny>>(alloc, WORDS),
-        all_take::<ByteArray<K, Tiny>>(alloc, TWICE),
-        all_tell::<ByteArray<K, Tiny>>(alloc, ENDS),
-    ]
+fn ends<K: Known>(alloc: Global, rt: &impl Abort) -> bool {
+    let are_left = all_filter::<ByteArray<K, Tiny>>(alloc, rt, WORDS);
+    let are_taken = all_take::<ByteArray<K, Tiny>>(alloc, rt, TWICE);
+    are_left & are_taken & all_tell::<ByteArray<K, Tiny>>(alloc, rt, ENDS)
 }
 
 #[test]
-fn items_are_chosen_over_borders_and_up_to_the_greatest_offset(
-    rt: HostRuntime,
-) -> Result<(), Fail> {
-    all_told(&ends::<Binary>(rt.alloc()))?;
-    all_told(&ends::<Utf8>(rt.alloc()))
+fn items_are_chosen_over_borders_and_up_to_the_greatest_offset(rt: HostRuntime) {
+    assert!(rt; ends::<Binary>(rt.alloc(), &rt) & ends::<Utf8>(rt.alloc(), &rt));
 }
 
 /// One item of twenty bytes, and one of one byte.
@@ -359,21 +319,19 @@ const JOINED_ENDS: &[(&[(Written, usize, usize)], &str)] = &[
 /// Returns whether each case gives the expected answer.
 fn all_tell_joined<K: Known>(
     alloc: Global,
+    rt: &impl Abort,
     cases: &[(&[(Written, usize, usize)], &str)],
-) -> Result<bool, Error> {
+) -> bool {
     for (parts, wanted) in cases {
-        let arrays = parts_of::<ByteArray<K, Tiny>>(alloc, *parts);
-        if tells(joined_parts(alloc, arrays)) != *wanted {
-            return Ok(false);
+        if tells(joined_parts::<ByteArray<K, Tiny>>(alloc, rt, *parts)) != *wanted {
+            return false;
         }
     }
-    Ok(true)
+    true
 }
 
 #[test]
-fn items_are_joined_up_to_the_greatest_offset(rt: HostRuntime) -> Result<(), Fail> {
-    all_told(&[
-        all_tell_joined::<Binary>(rt.alloc(), JOINED_ENDS),
-        all_tell_joined::<Utf8>(rt.alloc(), JOINED_ENDS),
-    ])
+fn items_are_joined_up_to_the_greatest_offset(rt: HostRuntime) {
+    let are_bytes = all_tell_joined::<Binary>(rt.alloc(), &rt, JOINED_ENDS);
+    assert!(rt; are_bytes & all_tell_joined::<Utf8>(rt.alloc(), &rt, JOINED_ENDS));
 }

@@ -4,23 +4,10 @@ use arrow_kernels::{concat_primitive, filter_primitive, take_primitive};
 use arrow_memory::buffer::Buffer;
 use arrow_primitive::PrimitiveArray;
 
-/// The buffer of these values.
-fn buffer_of(alloc: Global, values: &[i64]) -> Result<Buffer<i64>, Error> {
-    match values.to_vec(alloc) {
-        Ok(values) => Buffer::from_vec(values),
-        Err(refused) => Err(Error::from(refused)),
-    }
-}
-
 /// The array of values under a mask.
-fn masked(
-    values: Result<Buffer<i64>, Error>,
-    mask: Option<Bitmap>,
-) -> Result<PrimitiveArray<i64>, Error> {
-    match values {
-        Ok(values) => PrimitiveArray::try_new(DataType::Date64, values, mask),
-        Err(refused) => Err(refused),
-    }
+fn masked(rt: &impl Abort, values: Vec<i64>, mask: Option<Bitmap>) -> PrimitiveArray<i64> {
+    let values = Buffer::from_vec(values).expect(rt, "memory");
+    PrimitiveArray::try_new(DataType::Date64, values, mask).expect(rt, "parts that fit")
 }
 
 /// Whether an array has these marks, and the type of the one that it was made of.
@@ -40,13 +27,12 @@ impl Chosen for PrimitiveArray<i64> {
 
     fn of(
         alloc: Global,
+        rt: &impl Abort,
         written: &(&'static [i64], &'static str),
-    ) -> Result<PrimitiveArray<i64>, Error> {
+    ) -> PrimitiveArray<i64> {
         let (values, text) = *written;
-        match frozen_mask(alloc, text) {
-            Ok(mask) => masked(buffer_of(alloc, values), mask),
-            Err(refused) => Err(refused),
-        }
+        let mask = frozen_mask(alloc, text).expect(rt, "memory");
+        masked(rt, values.to_vec(alloc).expect(rt, "memory"), mask)
     }
 
     fn is(&self, written: &(&'static [i64], &'static str)) -> bool {
@@ -57,33 +43,29 @@ impl Chosen for PrimitiveArray<i64> {
     fn filtered(
         &self,
         alloc: Global,
+        rt: &impl Abort,
         filter: &BooleanArray,
-    ) -> Option<Result<PrimitiveArray<i64>, Error>> {
-        if filter.len() != self.len() {
-            return None;
-        }
-        Some(filter_primitive(alloc, self, filter))
+    ) -> Result<PrimitiveArray<i64>, Error> {
+        assert!(rt; filter.len() == self.len());
+        filter_primitive(alloc, self, filter)
     }
 
     fn taken(&self, alloc: Global, keys: &[i64]) -> Result<PrimitiveArray<i64>, Error> {
         take_primitive(alloc, self, keys)
     }
 
-    fn part(self, offset: usize, len: usize) -> Option<PrimitiveArray<i64>> {
-        if offset > self.len() || len > self.len() - offset {
-            return None;
-        }
-        Some(self.sliced(offset, len))
+    fn part(self, rt: &impl Abort, offset: usize, len: usize) -> PrimitiveArray<i64> {
+        assert!(rt; offset <= self.len() && len <= self.len() - offset);
+        self.sliced(offset, len)
     }
 
     fn joined(
         alloc: Global,
+        rt: &impl Abort,
         arrays: &[PrimitiveArray<i64>],
-    ) -> Option<Result<PrimitiveArray<i64>, Error>> {
-        if arrays.is_empty() {
-            return None;
-        }
-        Some(concat_primitive(alloc, arrays))
+    ) -> Result<PrimitiveArray<i64>, Error> {
+        assert!(rt; !arrays.is_empty());
+        concat_primitive(alloc, arrays)
     }
 }
 
@@ -119,12 +101,10 @@ const ASTRAY: &[(Numbers, &[i64], &str)] = &[
 ];
 
 #[test]
-fn numbers_are_chosen(rt: HostRuntime) -> Result<(), Fail> {
-    all_told(&[
-        all_filter::<PrimitiveArray<i64>>(rt.alloc(), FILTERS),
-        all_take::<PrimitiveArray<i64>>(rt.alloc(), TAKES),
-        all_tell::<PrimitiveArray<i64>>(rt.alloc(), ASTRAY),
-    ])
+fn numbers_are_chosen(rt: HostRuntime) {
+    let are_left = all_filter::<PrimitiveArray<i64>>(rt.alloc(), &rt, FILTERS);
+    let are_taken = all_take::<PrimitiveArray<i64>>(rt.alloc(), &rt, TAKES);
+    assert!(rt; are_left & are_taken & all_tell::<PrimitiveArray<i64>>(rt.alloc(), &rt, ASTRAY));
 }
 
 /// Eleven numbers, the third and the tenth of which are null.
@@ -163,8 +143,8 @@ const JOINS: &[(&[(Numbers, usize, usize)], Numbers)] = &[
 ];
 
 #[test]
-fn numbers_are_joined(rt: HostRuntime) -> Result<(), Fail> {
-    told(all_join::<PrimitiveArray<i64>>(rt.alloc(), JOINS))
+fn numbers_are_joined(rt: HostRuntime) {
+    assert!(rt; all_join::<PrimitiveArray<i64>>(rt.alloc(), &rt, JOINS));
 }
 
 /// Long arrays: each number below this one.
@@ -178,38 +158,23 @@ fn is_asked(rests: &[bool], number: usize) -> bool {
     rests[number % rests.len()]
 }
 
-/// Appends all of them.
-fn push_many(values: &mut Vec<i64>) -> Result<(), Error> {
-    for number in 0..MANY {
-        values.push(number as i64)?;
-    }
-    Ok(())
-}
-
 /// The array of all.
-fn many(alloc: Global) -> Result<PrimitiveArray<i64>, Error> {
+fn many(alloc: Global, rt: &impl Abort) -> PrimitiveArray<i64> {
     let mut values = Vec::new(alloc);
-    match push_many(&mut values) {
-        Ok(()) => masked(Buffer::from_vec(values), None),
-        Err(refused) => Err(refused),
-    }
-}
-
-/// Appends the marks of a filter as long that asks for numbers by what they leave.
-fn push_asked(marks: &mut MutableBitmap, rests: &[bool]) -> Result<(), Error> {
     for number in 0..MANY {
-        marks.push(is_asked(rests, number))?;
+        values.push(number as i64).expect(rt, "memory");
     }
-    Ok(())
+    masked(rt, values, None)
 }
 
-/// That filter.
-fn many_asked(alloc: Global, rests: &[bool]) -> Result<BooleanArray, Error> {
+/// A filter as long that asks for numbers by what they leave.
+fn many_asked(alloc: Global, rt: &impl Abort, rests: &[bool]) -> BooleanArray {
     let mut marks = MutableBitmap::new(alloc);
-    match push_asked(&mut marks, rests) {
-        Ok(()) => bare_filter(marks.freeze()),
-        Err(refused) => Err(refused),
+    for number in 0..MANY {
+        marks.push(is_asked(rests, number)).expect(rt, "memory");
     }
+    let marks = marks.freeze().expect(rt, "memory");
+    BooleanArray::try_new(DataType::Boolean, marks, None).expect(rt, "parts that fit")
 }
 
 /// Whether values are the numbers that are asked for.
@@ -226,23 +191,19 @@ fn are_asked(values: &[i64], rests: &[bool]) -> bool {
     count == values.len()
 }
 
-/// Whether an array of them was made.
-fn made_many(answer: Result<PrimitiveArray<i64>, Error>, rests: &[bool]) -> Result<bool, Error> {
-    match answer {
-        Ok(array) => Ok(are_asked(array.values().as_slice(), rests) & is_masked(&array, "none")),
-        Err(refused) => Err(refused),
-    }
-}
-
 /// Whether a long filter leaves the numbers that it asks for.
-fn leaves_many(alloc: Global, array: &PrimitiveArray<i64>, rests: &[bool]) -> Result<bool, Error> {
-    match many_asked(alloc, rests) {
-        Ok(filter) => match array.filtered(alloc, &filter) {
-            Some(answer) => made_many(answer, rests),
-            None => Ok(false),
-        },
-        Err(refused) => Err(refused),
-    }
+fn leaves_many(
+    alloc: Global,
+    rt: &impl Abort,
+    array: &PrimitiveArray<i64>,
+    rests: &[bool],
+) -> bool {
+    let filter = many_asked(alloc, rt, rests);
+    let left = array.filtered(alloc, rt, &filter).expect(rt, "memory");
+    drop(filter);
+    let are_left = are_asked(left.values().as_slice(), rests) & is_masked(&left, "none");
+    drop(left);
+    are_left
 }
 
 /// Which rests are asked for.
@@ -258,24 +219,24 @@ const RESTS: &[&[bool]] = &[
 ];
 
 /// Whether filters by each of them do.
-fn all_leave(alloc: Global, array: &PrimitiveArray<i64>, cases: &[&[bool]]) -> Result<bool, Error> {
+fn all_leave(
+    alloc: Global,
+    rt: &impl Abort,
+    array: &PrimitiveArray<i64>,
+    cases: &[&[bool]],
+) -> bool {
     for rests in cases {
-        if !leaves_many(alloc, array, *rests)? {
-            return Ok(false);
+        if !leaves_many(alloc, rt, array, *rests) {
+            return false;
         }
     }
-    Ok(true)
-}
-
-/// Whether they do of a new array.
-fn all_leave_many(alloc: Global) -> Result<bool, Error> {
-    match many(alloc) {
-        Ok(array) => all_leave(alloc, &array, RESTS),
-        Err(refused) => Err(refused),
-    }
+    true
 }
 
 #[test]
-fn long_filters_leave_what_they_ask_for(rt: HostRuntime) -> Result<(), Fail> {
-    told(all_leave_many(rt.alloc()))
+fn long_filters_leave_what_they_ask_for(rt: HostRuntime) {
+    let array = many(rt.alloc(), &rt);
+    let are_left = all_leave(rt.alloc(), &rt, &array, RESTS);
+    drop(array);
+    assert!(rt; are_left);
 }

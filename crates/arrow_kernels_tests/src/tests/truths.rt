@@ -2,26 +2,17 @@
 use super::*;
 use arrow_kernels::{concat_boolean, filter_boolean, take_boolean, true_count};
 
-/// The array of values under a mask.
-fn masked(values: Result<Bitmap, Error>, mask: Option<Bitmap>) -> Result<BooleanArray, Error> {
-    match values {
-        Ok(values) => BooleanArray::try_new(DataType::Boolean, values, mask),
-        Err(refused) => Err(refused),
-    }
-}
-
 // One is written as its stored values and its mask.
 impl Chosen for BooleanArray {
     type Written = (&'static str, &'static str);
 
     type Key = u8;
 
-    fn of(alloc: Global, written: &(&'static str, &'static str)) -> Result<BooleanArray, Error> {
+    fn of(alloc: Global, rt: &impl Abort, written: &(&'static str, &'static str)) -> BooleanArray {
         let (values, text) = *written;
-        match frozen_mask(alloc, text) {
-            Ok(mask) => masked(bits(alloc, values, b'0'), mask),
-            Err(refused) => Err(refused),
-        }
+        let mask = frozen_mask(alloc, text).expect(rt, "memory");
+        let values = bits(alloc, rt, values, b'0');
+        BooleanArray::try_new(DataType::Boolean, values, mask).expect(rt, "parts that fit")
     }
 
     fn is(&self, written: &(&'static str, &'static str)) -> bool {
@@ -36,30 +27,29 @@ impl Chosen for BooleanArray {
     fn filtered(
         &self,
         alloc: Global,
+        rt: &impl Abort,
         filter: &BooleanArray,
-    ) -> Option<Result<BooleanArray, Error>> {
-        if filter.len() != self.len() {
-            return None;
-        }
-        Some(filter_boolean(alloc, self, filter))
+    ) -> Result<BooleanArray, Error> {
+        assert!(rt; filter.len() == self.len());
+        filter_boolean(alloc, self, filter)
     }
 
     fn taken(&self, alloc: Global, keys: &[u8]) -> Result<BooleanArray, Error> {
         take_boolean(alloc, self, keys)
     }
 
-    fn part(self, offset: usize, len: usize) -> Option<BooleanArray> {
-        if offset > self.len() || len > self.len() - offset {
-            return None;
-        }
-        Some(self.sliced(offset, len))
+    fn part(self, rt: &impl Abort, offset: usize, len: usize) -> BooleanArray {
+        assert!(rt; offset <= self.len() && len <= self.len() - offset);
+        self.sliced(offset, len)
     }
 
-    fn joined(alloc: Global, arrays: &[BooleanArray]) -> Option<Result<BooleanArray, Error>> {
-        if arrays.is_empty() {
-            return None;
-        }
-        Some(concat_boolean(alloc, arrays))
+    fn joined(
+        alloc: Global,
+        rt: &impl Abort,
+        arrays: &[BooleanArray],
+    ) -> Result<BooleanArray, Error> {
+        assert!(rt; !arrays.is_empty());
+        concat_boolean(alloc, arrays)
     }
 }
 
@@ -115,12 +105,10 @@ const TAKES: &[(Truths, &[u8], Truths)] = &[
 const ASTRAY: &[(Truths, &[u8], &str)] = &[(("10", "none"), &[1, 2], TOO_GREAT)];
 
 #[test]
-fn truth_values_are_chosen(rt: HostRuntime) -> Result<(), Fail> {
-    all_told(&[
-        all_filter::<BooleanArray>(rt.alloc(), FILTERS),
-        all_take::<BooleanArray>(rt.alloc(), TAKES),
-        all_tell::<BooleanArray>(rt.alloc(), ASTRAY),
-    ])
+fn truth_values_are_chosen(rt: HostRuntime) {
+    let are_left = all_filter::<BooleanArray>(rt.alloc(), &rt, FILTERS);
+    let are_taken = all_take::<BooleanArray>(rt.alloc(), &rt, TAKES);
+    assert!(rt; are_left & are_taken & all_tell::<BooleanArray>(rt.alloc(), &rt, ASTRAY));
 }
 
 /// Twelve truth values, the second and the ninth of which are null.
@@ -139,8 +127,8 @@ const JOINS: &[(&[(Truths, usize, usize)], Truths)] = &[
 ];
 
 #[test]
-fn truth_values_are_joined(rt: HostRuntime) -> Result<(), Fail> {
-    told(all_join::<BooleanArray>(rt.alloc(), JOINS))
+fn truth_values_are_joined(rt: HostRuntime) {
+    assert!(rt; all_join::<BooleanArray>(rt.alloc(), &rt, JOINS));
 }
 
 /// A filter of 130 slots: the first, the last, slots 63 and 64 are true; the second is null.
@@ -163,25 +151,17 @@ const COUNTS: &[(Filter, usize, usize, usize)] = &[
     ((LONG, false), 1, 64, 3),
 ];
 
-/// Returns whether `true_count` of a slice gives the expected answer.
-fn has_true(part: Option<BooleanArray>, count: usize) -> bool {
-    match part {
-        Some(part) => true_count(&part) == count,
-        None => false,
-    }
-}
-
-/// Returns whether it does for each case.
-fn all_count(alloc: Global, cases: &[(Filter, usize, usize, usize)]) -> Result<bool, Error> {
-    for (filter, offset, len, count) in cases {
-        if !has_true(filter_of(alloc, *filter)?.part(*offset, *len), *count) {
-            return Ok(false);
-        }
-    }
-    Ok(true)
+/// Returns what `true_count` of a slice gives.
+fn count_true(alloc: Global, rt: &impl Abort, filter: Filter, offset: usize, len: usize) -> usize {
+    let part = filter_of(alloc, rt, filter).part(rt, offset, len);
+    let count = true_count(&part);
+    drop(part);
+    count
 }
 
 #[test]
-fn true_slots_are_counted(rt: HostRuntime) -> Result<(), Fail> {
-    told(all_count(rt.alloc(), COUNTS))
+fn true_slots_are_counted(rt: HostRuntime) {
+    for (filter, offset, len, count) in COUNTS {
+        assert!(rt; count_true(rt.alloc(), &rt, *filter, *offset, *len) == *count);
+    }
 }

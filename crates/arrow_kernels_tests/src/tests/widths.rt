@@ -36,55 +36,36 @@ impl Resized for Utf8 {
     }
 }
 
-/// Whether an array has these offsets, bytes and marks over narrow offsets again.
-fn narrows<K: Resized>(
-    alloc: Global,
-    wide: &ByteArray<K, i64>,
-    wanted: Written,
-) -> Result<bool, Error> {
-    match K::narrow(alloc, wide) {
-        Ok(narrow) => Ok(shows(&narrow, wanted) & shows(wide, wanted)),
-        Err(refused) => Err(refused),
-    }
-}
-
-/// Whether it has them over wide offsets, and over narrow ones again.
+/// Whether an array has these offsets, bytes and marks over wide offsets, and over narrow ones again.
 fn stays<K: Resized>(
     alloc: Global,
-    array: &ByteArray<K, i32>,
+    rt: &impl Abort,
+    array: ByteArray<K, i32>,
     wanted: Written,
-) -> Result<bool, Error> {
-    match K::widen(alloc, array) {
-        Ok(wide) => narrows(alloc, &wide, wanted),
-        Err(refused) => Err(refused),
-    }
+) -> bool {
+    let wide = K::widen(alloc, &array).expect(rt, "memory");
+    drop(array);
+    let narrow = K::narrow(alloc, &wide).expect(rt, "offsets that fit");
+    let is_wide = shows(&wide, wanted);
+    drop(wide);
+    let is_narrow = shows(&narrow, wanted);
+    drop(narrow);
+    is_wide & is_narrow
 }
 
-/// The same of the slots of an array from a place on.
+/// Whether the slots from a place on of the array of such parts have them.
 fn rest_stays<K: Resized>(
     alloc: Global,
-    array: &mut ByteArray<K, i32>,
+    rt: &impl Abort,
+    given: Written,
     place: usize,
     wanted: Written,
-) -> Result<bool, Error> {
+) -> bool {
+    let mut array = array_of::<K, i32>(alloc, rt, given);
     let count = array.len();
-    if place <= count {
-        array.slice(place, count - place);
-    }
-    stays(alloc, array, wanted)
-}
-
-/// The same of an array that was made.
-fn made_stays<K: Resized>(
-    alloc: Global,
-    array: Result<ByteArray<K, i32>, Error>,
-    place: usize,
-    wanted: Written,
-) -> Result<bool, Error> {
-    match array {
-        Ok(mut array) => rest_stays(alloc, &mut array, place, wanted),
-        Err(refused) => Err(refused),
-    }
+    assert!(rt; place <= count);
+    array.slice(place, count - place);
+    stays(alloc, rt, array, wanted)
 }
 
 /// Items with bytes around them, and what of them the last two are.
@@ -101,42 +82,23 @@ const NOTHING: Written = (&[1], b"ab", "none");
 /// Texts of one byte each.
 const LETTERS: Written = (&[0, 1, 2], b"ab", "none");
 
-/// A type of a name over `Utf8`.
-fn named(alloc: Global, inner: Box<DataType>) -> Result<DataType, Error> {
-    match String::from_str(alloc, "name") {
-        Ok(name) => Ok(DataType::Extension(name, inner, None)),
-        Err(refused) => Err(Error::from(refused)),
-    }
-}
-
-/// An array of text of another type.
-fn of_type(array: Utf8Array<i32>, data_type: DataType) -> Result<Utf8Array<i32>, Error> {
-    let (_, offsets, values, mask) = array.into_inner();
-    Utf8Array::try_new(data_type, offsets, values, mask)
-}
-
-/// An array of letters, of such a type.
-fn letters(alloc: Global, data_type: DataType) -> Result<Utf8Array<i32>, Error> {
-    match array_of::<Utf8, i32>(alloc, LETTERS) {
-        Ok(array) => of_type(array, data_type),
-        Err(refused) => Err(refused),
-    }
-}
-
 /// An array of letters, whose type is one of a name over `Utf8`.
-fn named_letters(alloc: Global) -> Result<Utf8Array<i32>, Error> {
-    letters(alloc, named(alloc, Box::new(alloc, DataType::Utf8)?)?)
+fn named_letters(alloc: Global, rt: &impl Abort) -> Utf8Array<i32> {
+    let (data_type, offsets, values, mask) = array_of::<Utf8, i32>(alloc, rt, LETTERS).into_inner();
+    let name = String::from_str(alloc, "name").expect(rt, "memory");
+    let inner = Box::new(alloc, data_type).expect(rt, "memory");
+    let data_type = DataType::Extension(name, inner, None);
+    Utf8Array::try_new(data_type, offsets, values, mask).expect(rt, "parts that fit")
 }
 
 /// The type is the other width's default, whatever it was.
 #[test]
-fn widths(rt: HostRuntime) -> Result<(), Fail> {
+fn widths(rt: HostRuntime) {
     let alloc = rt.alloc();
-    all_told(&[
-        made_stays::<Binary>(alloc, array_of(alloc, ITEMS), 1, LAST),
-        made_stays::<Utf8>(alloc, array_of(alloc, TEXTS), 0, TEXTS),
-        made_stays::<Binary>(alloc, array_of(alloc, NOTHING), 0, NOTHING),
-        made_stays::<Utf8>(alloc, array_of(alloc, NOTHING), 0, NOTHING),
-        made_stays::<Utf8>(alloc, named_letters(alloc), 0, LETTERS),
-    ])
+    let are_bytes = rest_stays::<Binary>(alloc, &rt, ITEMS, 1, LAST)
+        & rest_stays::<Binary>(alloc, &rt, NOTHING, 0, NOTHING);
+    let are_texts = rest_stays::<Utf8>(alloc, &rt, TEXTS, 0, TEXTS)
+        & rest_stays::<Utf8>(alloc, &rt, NOTHING, 0, NOTHING);
+    let letters = named_letters(alloc, &rt);
+    assert!(rt; are_bytes & are_texts & stays(alloc, &rt, letters, LETTERS));
 }
