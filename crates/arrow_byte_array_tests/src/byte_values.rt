@@ -1,33 +1,23 @@
 //! What the stored values of bytes do that no array or builder of bytes shows: those calls are tried there.
 use arrow_bytes::{Binary, ByteValues, MutableByteValues, Utf8, into_mut_values};
-use arrow_types::error::Error;
-use either::{Left, Right};
-use std::alloc::Global;
-use std::test::Fail;
-
-/// Whether there are two empty items.
-fn empties(alloc: Global) -> Result<bool, Error> {
-    let values = ByteValues::<Binary, i32>::new_empty_items(alloc, 2)?;
-    Ok(values.len() == 2 && values.value(1).is_empty())
-}
 
 #[test]
-fn items_are_empty(rt: HostRuntime) -> Result<(), Fail> {
-    assert!(rt; empties(rt.alloc())?);
-    Ok(())
+fn items_are_empty(rt: HostRuntime) {
+    let values = ByteValues::<Binary, i32>::new_empty_items(rt.alloc(), 2).expect(&rt, "memory");
+    let are_empty = values.len() == 2 && values.value(1).is_empty();
+    drop(values);
+    assert!(rt; are_empty);
 }
 
-/// Whether values that are frozen and thawed have no item.
-fn thaws(alloc: Global) -> Result<bool, Error> {
-    let values = MutableByteValues::<Utf8, i64>::with_capacities(alloc, 2, 2)?;
-    match into_mut_values(values.freeze()?, None) {
-        Left(_) => Ok(false),
-        Right((thawed, marks)) => Ok(thawed.len() == 0 && marks.is_none()),
-    }
-}
-
+/// Values that are frozen and thawed have no item.
 #[test]
-fn values_thaw_where_nothing_shares_them(rt: HostRuntime) -> Result<(), Fail> {
-    assert!(rt; thaws(rt.alloc())?);
-    Ok(())
+fn values_thaw_where_nothing_shares_them(rt: HostRuntime) {
+    let values = MutableByteValues::<Utf8, i64>::with_capacities(rt.alloc(), 2, 2);
+    let values = values.expect(&rt, "memory").freeze().expect(&rt, "memory");
+    let thawed = into_mut_values(values, None).right();
+    let (thawed, marks) = thawed.expect(&rt, "values alone");
+    let is_empty = (thawed.len() == 0) & marks.is_none();
+    drop(marks);
+    drop(thawed);
+    assert!(rt; is_empty);
 }

@@ -2,9 +2,8 @@
 //! each check is run for both kinds at both widths. What a kind has of its own stands in `bytes` and `text`. Offsets and
 //! bytes are written as numbers, items as texts, and masks as texts of '1' and '0', or as `none` where none is held.
 //!
-//! A case is written as how a value is made, what it has then, and steps that ask it something, or change it. What makes a
-//! value, what owns it and what looks at it stand in functions of their own: a step that can be refused is dear to prove
-//! beside values to drop.
+//! A case is written as how a value is made, what it has then, and steps that ask it something, or change it. Values are
+//! taken by `expect` and let go by `drop`, which is cheaper to prove than to leave that to the end of a function.
 mod arrays;
 mod builders;
 mod bytes;
@@ -18,14 +17,13 @@ use arrow_bytes::{Binary, Utf8};
 use arrow_check::accessor::ArrayAccessor;
 use arrow_memory::bitmap::{Bitmap, MutableBitmap};
 use arrow_memory::buffer::Buffer;
-use arrow_memory::offset::{Offsets, OffsetsBuffer};
 use arrow_testing::{are_offsets, frozen_mask, frozen_offsets, growing_mask, is_mask, offsets_of};
 use arrow_types::data_type::DataType;
 use arrow_types::error::Error;
 use arrow_types::offset::Offset;
-use either::{Either, Left, Right};
 use kinds::{Known, List};
 use std::alloc::Global;
+use std::process::Abort;
 
 /// Offsets, bytes and marks.
 type Pieces = (&'static [usize], &'static [u8], &'static str);
@@ -53,10 +51,17 @@ trait Shows: Drop {
     fn shows(&self, wanted: Pieces) -> bool;
 }
 
+/// Whether one that is given away has these.
+fn shown<V: Shows>(value: V, wanted: Pieces) -> bool {
+    let is_shown = value.shows(wanted);
+    drop(value);
+    is_shown
+}
+
 /// Whether one was made that has these.
-fn shown<V: Shows>(answer: Result<V, Error>, wanted: Pieces) -> bool {
+fn made<V: Shows>(answer: Result<V, Error>, wanted: Pieces) -> bool {
     match answer {
-        Ok(value) => value.shows(wanted),
+        Ok(value) => shown(value, wanted),
         Err(_) => false,
     }
 }
@@ -70,45 +75,45 @@ trait Asked: Shows + Sized {
     type Step;
 
     /// The one that is made so.
-    fn make(alloc: Global, maker: &Self::Maker) -> Result<Self, Error>;
+    fn make(alloc: Global, rt: &impl Abort, maker: &Self::Maker) -> Result<Self, Error>;
 
     /// Whether a step goes as it should.
-    fn goes(&mut self, alloc: Global, step: &Self::Step) -> bool;
+    fn goes(&mut self, alloc: Global, rt: &impl Abort, step: &Self::Step) -> bool;
 }
 
 /// Whether all steps go as they should.
-fn all_go<V: Asked>(alloc: Global, value: &mut V, steps: &[V::Step]) -> bool {
+fn all_go<V: Asked>(alloc: Global, rt: &impl Abort, value: &mut V, steps: &[V::Step]) -> bool {
     for step in steps {
-        if !value.goes(alloc, step) {
+        if !value.goes(alloc, rt, step) {
             return false;
         }
     }
     true
 }
 
-/// Whether one has these, and all steps go as they should then.
-fn shows_and_goes<V: Asked>(
+/// Whether one that is made in this way has these, and all steps go as they should then.
+fn is_asked<V: Asked>(
     alloc: Global,
-    value: &mut V,
+    rt: &impl Abort,
+    maker: &V::Maker,
     wanted: Pieces,
     steps: &[V::Step],
 ) -> bool {
+    let mut value = V::make(alloc, rt, maker).expect(rt, "memory");
     let is_shown = value.shows(wanted);
-    all_go(alloc, value, steps) & is_shown
-}
-
-/// Whether that is so of one that is made in this way.
-fn is_asked<V: Asked>(alloc: Global, maker: &V::Maker, wanted: Pieces, steps: &[V::Step]) -> bool {
-    match V::make(alloc, maker) {
-        Ok(mut value) => shows_and_goes(alloc, &mut value, wanted, steps),
-        Err(_) => false,
-    }
+    let is_right = all_go(alloc, rt, &mut value, steps);
+    drop(value);
+    is_shown & is_right
 }
 
 /// Whether it is in all cases.
-fn all_asked<V: Asked>(alloc: Global, cases: &[(V::Maker, Pieces, &[V::Step])]) -> bool {
+fn all_asked<V: Asked>(
+    alloc: Global,
+    rt: &impl Abort,
+    cases: &[(V::Maker, Pieces, &[V::Step])],
+) -> bool {
     for (maker, wanted, steps) in cases {
-        if !is_asked::<V>(alloc, maker, *wanted, *steps) {
+        if !is_asked::<V>(alloc, rt, maker, *wanted, *steps) {
             return false;
         }
     }
@@ -130,27 +135,20 @@ trait Paired: Shows + Sized {
 /// The copy of one that was made.
 fn copy_of<V: Paired>(answer: Result<V, Error>) -> Result<V, Error> {
     match answer {
-        Ok(value) => value.copy(),
+        Ok(value) => {
+            let copy = value.copy();
+            drop(value);
+            copy
+        }
         Err(refused) => Err(refused),
     }
 }
 
-/// Whether the answer is right beside one that was made.
-fn is_right_beside<V: Paired>(
-    value: &mut V,
-    other: Result<V, Error>,
-    question: &V::Question,
-) -> bool {
-    match other {
-        Ok(other) => value.is_right(&other, question),
-        Err(_) => false,
-    }
-}
-
-/// Whether it is right beside a copy.
-fn is_right_beside_copy<V: Paired>(value: &mut V, question: &V::Question) -> bool {
-    let copy = value.copy();
-    is_right_beside(value, copy, question)
+/// Whether the answer is right beside another.
+fn is_right_beside<V: Paired>(value: &mut V, other: V, question: &V::Question) -> bool {
+    let is_right = value.is_right(&other, question);
+    drop(other);
+    is_right
 }
 
 /// One that becomes another.
@@ -159,43 +157,32 @@ trait Turned: Asked {
     type Change;
 
     /// The other one.
-    fn turn(self, change: &Self::Change) -> Result<Self, Error>;
+    fn turn(self, rt: &impl Abort, change: &Self::Change) -> Self;
 }
 
-/// Whether all steps go as they should, and the value that one becomes then has these offsets, bytes and marks.
-fn turns<V: Turned>(
-    alloc: Global,
-    value: V,
-    steps: &[V::Step],
-    change: &V::Change,
-    wanted: Pieces,
-) -> bool {
-    let mut value = value;
-    let is_right = all_go(alloc, &mut value, steps);
-    is_right & shown(value.turn(change), wanted)
-}
-
-/// Whether that is so of one that is made in this way.
+/// Whether all steps go as they should of one that is made in this way, and the value that it becomes then has these
+/// offsets, bytes and marks.
 fn is_turned<V: Turned>(
     alloc: Global,
+    rt: &impl Abort,
     maker: &V::Maker,
     steps: &[V::Step],
     change: &V::Change,
     wanted: Pieces,
 ) -> bool {
-    match V::make(alloc, maker) {
-        Ok(value) => turns(alloc, value, steps, change, wanted),
-        Err(_) => false,
-    }
+    let mut value = V::make(alloc, rt, maker).expect(rt, "memory");
+    let is_right = all_go(alloc, rt, &mut value, steps);
+    is_right & shown(value.turn(rt, change), wanted)
 }
 
 /// Whether it is in all cases.
 fn all_turned<V: Turned>(
     alloc: Global,
+    rt: &impl Abort,
     cases: &[(V::Maker, &[V::Step], V::Change, Pieces)],
 ) -> bool {
     for (maker, steps, change, wanted) in cases {
-        if !is_turned::<V>(alloc, maker, *steps, change, *wanted) {
+        if !is_turned::<V>(alloc, rt, maker, *steps, change, *wanted) {
             return false;
         }
     }
@@ -218,148 +205,75 @@ fn has_growing_marks(mask: Option<&MutableBitmap>, text: &str) -> bool {
     }
 }
 
-/// What is answered on the left.
-fn left<L: Drop, R: Drop>(answer: Either<L, R>) -> Result<L, Error> {
-    match answer {
-        Left(value) => Ok(value),
-        Right(_) => Err(Error::OutOfSpec("right")),
-    }
-}
-
-/// What is answered on the right.
-fn right<L: Drop, R: Drop>(answer: Either<L, R>) -> Result<R, Error> {
-    match answer {
-        Left(_) => Err(Error::OutOfSpec("left")),
-        Right(value) => Ok(value),
-    }
-}
-
-/// What was made, where something else is right too.
-fn only_if<V: Drop>(is_right: bool, answer: Result<V, Error>) -> Result<V, Error> {
-    if is_right {
-        answer
-    } else {
-        Err(Error::OutOfSpec("a wrong answer"))
-    }
-}
-
 /// Whether a type is that of a kind over these offsets.
 fn is_type<K: Known, O: Offset>(data_type: &DataType) -> bool {
     *data_type == K::data_type(O::IS_LARGE)
 }
 
 /// The buffer of these bytes.
-fn buffer_of(alloc: Global, bytes: &[u8]) -> Result<Buffer<u8>, Error> {
-    match bytes.to_vec(alloc) {
-        Ok(bytes) => Buffer::from_vec(bytes),
-        Err(refused) => Err(Error::from(refused)),
-    }
-}
-
-/// Such bytes and marks.
-fn frozen_rest(
-    alloc: Global,
-    bytes: &[u8],
-    mask: &str,
-) -> Result<(Buffer<u8>, Option<Bitmap>), Error> {
-    let validity = frozen_mask(alloc, mask)?;
-    match buffer_of(alloc, bytes) {
-        Ok(values) => Ok((values, validity)),
-        Err(refused) => Err(refused),
-    }
-}
-
-/// Such offsets, bytes and marks, as an array has them.
-fn frozen<O: Offset>(
-    alloc: Global,
-    offsets: &[usize],
-    bytes: &[u8],
-    mask: &str,
-) -> Result<(OffsetsBuffer<O>, Buffer<u8>, Option<Bitmap>), Error> {
-    let offsets = frozen_offsets(alloc, offsets)?;
-    match frozen_rest(alloc, bytes, mask) {
-        Ok((values, validity)) => Ok((offsets, values, validity)),
-        Err(refused) => Err(refused),
-    }
-}
-
-/// Such offsets, bytes and marks, as a builder has them.
-fn growing<O: Offset>(
-    alloc: Global,
-    offsets: &[usize],
-    bytes: &[u8],
-    mask: &str,
-) -> Result<(Offsets<O>, Vec<u8>, Option<MutableBitmap>), Error> {
-    let values = bytes.to_vec(alloc)?;
-    let offsets = offsets_of(alloc, offsets)?;
-    match growing_mask(alloc, mask) {
-        Ok(validity) => Ok((offsets, values, validity)),
-        Err(refused) => Err(refused),
-    }
+fn buffer_of(alloc: Global, rt: &impl Abort, bytes: &[u8]) -> Buffer<u8> {
+    Buffer::from_vec(bytes.to_vec(alloc).expect(rt, "memory")).expect(rt, "memory")
 }
 
 /// The array of such parts.
-fn array_of<K: Known, O: Offset>(alloc: Global, parts: Pieces) -> Result<ByteArray<K, O>, Error> {
-    match frozen(alloc, parts.0, parts.1, parts.2) {
-        Ok((offsets, values, validity)) => {
-            ByteArray::try_new(K::data_type(O::IS_LARGE), offsets, values, validity)
-        }
-        Err(refused) => Err(refused),
-    }
+fn array_of<K: Known, O: Offset>(
+    alloc: Global,
+    rt: &impl Abort,
+    parts: Pieces,
+) -> Result<ByteArray<K, O>, Error> {
+    let offsets = frozen_offsets(alloc, parts.0).expect(rt, "offsets");
+    let values = buffer_of(alloc, rt, parts.1);
+    let validity = frozen_mask(alloc, parts.2).expect(rt, "memory");
+    ByteArray::try_new(K::data_type(O::IS_LARGE), offsets, values, validity)
 }
 
 /// The builder of such parts.
 fn builder_of<K: Known, O: Offset>(
     alloc: Global,
+    rt: &impl Abort,
     parts: Pieces,
 ) -> Result<MutableByteArray<K, O>, Error> {
-    match growing(alloc, parts.0, parts.1, parts.2) {
-        Ok((offsets, values, validity)) => {
-            MutableByteArray::try_new(K::data_type(O::IS_LARGE), offsets, values, validity)
-        }
-        Err(refused) => Err(refused),
-    }
+    let offsets = offsets_of(alloc, parts.0).expect(rt, "offsets");
+    let values = parts.1.to_vec(alloc).expect(rt, "memory");
+    let validity = growing_mask(alloc, parts.2).expect(rt, "memory");
+    MutableByteArray::try_new(K::data_type(O::IS_LARGE), offsets, values, validity)
 }
 
 /// The builder without nulls of such parts, whose marks are not looked at.
 fn values_of<K: Known, O: Offset>(
     alloc: Global,
+    rt: &impl Abort,
     parts: Pieces,
 ) -> Result<MutableByteValuesArray<K, O>, Error> {
-    match growing(alloc, parts.0, parts.1, "none") {
-        Ok((offsets, values, _)) => {
-            MutableByteValuesArray::try_new(K::data_type(O::IS_LARGE), offsets, values)
-        }
-        Err(refused) => Err(refused),
-    }
+    let offsets = offsets_of(alloc, parts.0).expect(rt, "offsets");
+    let values = parts.1.to_vec(alloc).expect(rt, "memory");
+    MutableByteValuesArray::try_new(K::data_type(O::IS_LARGE), offsets, values)
 }
 
-/// Whether the removal of the last slot, or item, is answered by this one, or by none.
-fn popped<K: Known>(answer: Result<Option<K::Owned>, Error>, wanted: Option<&str>) -> bool {
-    match answer {
-        Ok(Some(item)) => K::is(&item, wanted),
-        Ok(None) => wanted.is_none(),
-        Err(_) => false,
-    }
+/// Whether the last slot, or item, that was removed is this one, or none was.
+fn popped<K: Known>(slot: Option<K::Owned>, wanted: Option<&str>) -> bool {
+    let Some(item) = slot else {
+        return wanted.is_none();
+    };
+    let is_item = K::is(&item, wanted);
+    drop(item);
+    is_item
 }
 
-/// Whether a type that is given to arrays or builders is that of the kind.
-fn is_default<K: Known, O: Offset>(data_type: DataType) -> bool {
-    is_type::<K, O>(&data_type)
-}
-
-/// Whether those of a kind over a width of offsets are.
+/// Whether the types that are given to arrays and builders are those of the kind.
 fn are_defaults<K: Known, O: Offset>() -> bool {
-    is_default::<K, O>(ByteArray::<K, O>::default_data_type())
-        & is_default::<K, O>(MutableByteValuesArray::<K, O>::default_data_type())
-}
-
-/// Whether those of a kind are.
-fn default_types<K: Known>() -> bool {
-    are_defaults::<K, i32>() & are_defaults::<K, i64>()
+    let (array, builder) = (
+        ByteArray::<K, O>::default_data_type(),
+        MutableByteValuesArray::<K, O>::default_data_type(),
+    );
+    let are_defaults = is_type::<K, O>(&array) & is_type::<K, O>(&builder);
+    drop(builder);
+    drop(array);
+    are_defaults
 }
 
 #[test]
 fn types_are_those_of_the_kind(rt: HostRuntime) {
-    assert!(rt; default_types::<Binary>() & default_types::<Utf8>());
+    let are_bytes = are_defaults::<Binary, i32>() & are_defaults::<Binary, i64>();
+    assert!(rt; are_bytes & are_defaults::<Utf8, i32>() & are_defaults::<Utf8, i64>());
 }

@@ -1,5 +1,6 @@
 //! Arrays: how they are made, read, cut, masked, shared and thawed.
-ghost use Rattle.std.specs.Prelude.{◌≡◌, length};
+ghost use Rattle.std.specs.Prelude.{◌≡◌, IsTrue, length};
+ghost use Rattle.arrow_column.specs.Column.{FitsCut};
 
 use super::*;
 use arrow_bytes::ByteKind;
@@ -80,24 +81,10 @@ fn reads<K: Known, O: Offset>(
     is_marked & K::reads(array, place, item, is_null)
 }
 
-/// Replaces the mask by these marks, where they are as many as there are slots.
-fn take_marks<K: ByteKind, O: Offset>(array: &mut ByteArray<K, O>, marks: Bitmap) -> bool {
-    if array.len() != marks.len() {
-        return false;
-    }
+/// Replaces the mask by these marks.
+fn set_mask<K: ByteKind, O: Offset>(rt: &impl Abort, array: &mut ByteArray<K, O>, marks: Bitmap) {
+    assert!(rt; array.len() == marks.len());
     array.set_validity(Some(marks));
-    true
-}
-
-/// Replaces it by those that were made.
-fn set_mask<K: ByteKind, O: Offset>(
-    array: &mut ByteArray<K, O>,
-    marks: Result<Bitmap, Error>,
-) -> bool {
-    match marks {
-        Ok(marks) => take_marks(array, marks),
-        Err(_) => false,
-    }
 }
 
 /// Marks as they are.
@@ -107,35 +94,43 @@ fn same(marks: Bitmap) -> Bitmap
     marks
 }
 
-/// Leaves the marks of a mask as they are, where one is held.
-fn keep_mask<K: ByteKind, O: Offset>(array: &mut ByteArray<K, O>) -> bool {
-    array.apply_validity(same);
-    true
-}
-
 /// Whether a clone is not thawed while the first array lives, and both are as before.
-pub(super) fn is_shared<K: Known, O: Offset>(first: &ByteArray<K, O>, wanted: Pieces) -> bool {
-    match first.clone() {
-        Ok(copy) => shown(left(copy.into_mut()), wanted) & first.shows(wanted),
-        Err(_) => false,
-    }
+pub(super) fn is_shared<K: Known, O: Offset>(
+    rt: &impl Abort,
+    first: &ByteArray<K, O>,
+    wanted: Pieces,
+) -> bool {
+    let copy = first.clone().expect(rt, "memory");
+    let copy = copy.into_mut().left().expect(rt, "an array that is shared");
+    shown(copy, wanted) & first.shows(wanted)
 }
 
-/// The slots of an array from a place on; all of them where there are fewer.
+/// Returns whether slots from a place on lie within an array.
+pub(super) fn has<K: ByteKind, O: Offset>(
+    array: &ByteArray<K, O>,
+    offset: usize,
+    len: usize,
+) -> bool
+    ensures { IsTrue result → FitsCut array.now offset len }
+{
+    offset <= array.len() && len <= array.len() - offset
+}
+
+/// The slots of an array from a place on.
 fn cut_off<K: ByteKind, O: Offset>(
+    rt: &impl Abort,
     array: ByteArray<K, O>,
     offset: usize,
     len: usize,
 ) -> ByteArray<K, O> {
-    if array.len() < offset || array.len() - offset < len {
-        return array;
-    }
+    assert!(rt; has(&array, offset, len));
     array.sliced(offset, len)
 }
 
 /// The array of another's parts without its mask.
 fn unmasked<K: ByteKind, O: Offset>(array: ByteArray<K, O>) -> ByteArray<K, O> {
-    let (data_type, offsets, values, _) = array.into_inner();
+    let (data_type, offsets, values, validity) = array.into_inner();
+    drop(validity);
     ByteArray::new(data_type, offsets, values, None)
 }
 
@@ -154,7 +149,7 @@ impl<K: Known, O: Offset> Asked for ByteArray<K, O> {
 
     type Step = Step;
 
-    fn make(alloc: Global, maker: &Maker) -> Result<ByteArray<K, O>, Error> {
+    fn make(alloc: Global, rt: &impl Abort, maker: &Maker) -> Result<ByteArray<K, O>, Error> {
         match maker {
             Maker::From(list) => ByteArray::<K, O>::from(alloc, K::slots(*list)),
             Maker::FromIter(list) => {
@@ -171,27 +166,37 @@ impl<K: Known, O: Offset> Asked for ByteArray<K, O> {
             Maker::NewNull(count) => {
                 ByteArray::new_null(alloc, ByteArray::<K, O>::default_data_type(), *count)
             }
-            Maker::Parts(parts) => array_of(alloc, *parts),
-            Maker::Freeze(builder) => freeze(MutableByteArray::make(alloc, builder)),
+            Maker::Parts(parts) => array_of(alloc, rt, *parts),
+            Maker::Freeze(builder) => freeze(MutableByteArray::make(alloc, rt, builder)),
             Maker::FreezeValues(builder) => {
-                freeze_values(MutableByteValuesArray::make(alloc, builder))
+                freeze_values(MutableByteValuesArray::make(alloc, rt, builder))
             }
         }
     }
 
-    fn goes(&mut self, alloc: Global, step: &Step) -> bool {
+    fn goes(&mut self, alloc: Global, rt: &impl Abort, step: &Step) -> bool {
         match step {
             Step::Shows(wanted) => self.shows(*wanted),
             Step::NullCount(count) => self.null_count() == *count,
             Step::Reads(place, item, is_null) => reads(self, *place, *item, *is_null),
             Step::Lends => K::lends(self),
-            Step::SetMask(marks) => set_mask(self, Bitmap::from_slice(alloc, *marks)),
+            Step::SetMask(marks) => {
+                set_mask(
+                    rt,
+                    self,
+                    Bitmap::from_slice(alloc, *marks).expect(rt, "memory"),
+                );
+                true
+            }
             Step::DropMask => {
                 self.set_validity(None);
                 true
             }
-            Step::KeepMask => keep_mask(self),
-            Step::CloneIsNotThawed(wanted) => is_shared(self, *wanted),
+            Step::KeepMask => {
+                self.apply_validity(same);
+                true
+            }
+            Step::CloneIsNotThawed(wanted) => is_shared(rt, self, *wanted),
         }
     }
 }
@@ -199,15 +204,18 @@ impl<K: Known, O: Offset> Asked for ByteArray<K, O> {
 impl<K: Known, O: Offset> Turned for ByteArray<K, O> {
     type Change = Change;
 
-    fn turn(self, change: &Change) -> Result<ByteArray<K, O>, Error> {
+    fn turn(self, rt: &impl Abort, change: &Change) -> ByteArray<K, O> {
         match change {
-            Change::Cut(place, count) => Ok(cut_off(self, *place, *count)),
+            Change::Cut(place, count) => cut_off(rt, self, *place, *count),
             Change::CutTwice(place, count, next, left) => {
-                Ok(cut_off(cut_off(self, *place, *count), *next, *left))
+                cut_off(rt, cut_off(rt, self, *place, *count), *next, *left)
             }
-            Change::WithoutMask => Ok(self.with_validity(None)),
-            Change::PartsWithoutMask => Ok(unmasked(self)),
-            Change::CutIsNotThawed(place, count) => left(cut_off(self, *place, *count).into_mut()),
+            Change::WithoutMask => self.with_validity(None),
+            Change::PartsWithoutMask => unmasked(self),
+            Change::CutIsNotThawed(place, count) => {
+                let cut = cut_off(rt, self, *place, *count).into_mut();
+                cut.left().expect(rt, "an array that is shared")
+            }
         }
     }
 }
@@ -215,15 +223,13 @@ impl<K: Known, O: Offset> Turned for ByteArray<K, O> {
 /// How an array is made, what it has, and what is asked of it then.
 type Case = (Maker, Pieces, &'static [Step]);
 
-/// Whether all cases go as they should of a kind over both widths of offsets.
-fn arrays_of_kind<K: Known>(alloc: Global, cases: &[Case]) -> bool {
-    let is_narrow = all_asked::<ByteArray<K, i32>>(alloc, cases);
-    is_narrow & all_asked::<ByteArray<K, i64>>(alloc, cases)
-}
-
-/// Whether they do of both kinds.
-fn arrays(alloc: Global, cases: &[Case]) -> bool {
-    arrays_of_kind::<Binary>(alloc, cases) & arrays_of_kind::<Utf8>(alloc, cases)
+/// Whether all cases go as they should of both kinds over both widths of offsets.
+fn arrays(alloc: Global, rt: &impl Abort, cases: &[Case]) -> bool {
+    let are_bytes = all_asked::<ByteArray<Binary, i32>>(alloc, rt, cases)
+        & all_asked::<ByteArray<Binary, i64>>(alloc, rt, cases);
+    let are_texts = all_asked::<ByteArray<Utf8, i32>>(alloc, rt, cases)
+        & all_asked::<ByteArray<Utf8, i64>>(alloc, rt, cases);
+    are_bytes & are_texts
 }
 
 /// Arrays of slots have these, from a slice and from an iterator; those of items, and of slots none of which is null, hold
@@ -242,7 +248,7 @@ const MADE: &[Case] = &[
 
 #[test]
 fn arrays_are_offsets_bytes_and_marks_where_there_are_nulls(rt: HostRuntime) {
-    assert!(rt; arrays(rt.alloc(), MADE));
+    assert!(rt; arrays(rt.alloc(), &rt, MADE));
 }
 
 /// Builders of items have no mask, and that of a builder of slots is dropped where it has no null.
@@ -276,7 +282,7 @@ const FROZEN: &[Case] = &[
 
 #[test]
 fn freeze_drops_a_mask_without_nulls(rt: HostRuntime) {
-    assert!(rt; arrays(rt.alloc(), FROZEN));
+    assert!(rt; arrays(rt.alloc(), &rt, FROZEN));
 }
 
 /// Items of one, no and two bytes, the second of which is null, with bytes around them that are no text.
@@ -297,7 +303,7 @@ const READ: &[Case] = &[(
 
 #[test]
 fn slots_lie_between_other_bytes(rt: HostRuntime) {
-    assert!(rt; arrays(rt.alloc(), READ));
+    assert!(rt; arrays(rt.alloc(), &rt, READ));
 }
 
 /// These without a mask.
@@ -338,7 +344,7 @@ const MASKED: &[Case] = &[
 
 #[test]
 fn masks_of_arrays_are_replaced_and_dropped(rt: HostRuntime) {
-    assert!(rt; arrays(rt.alloc(), MASKED));
+    assert!(rt; arrays(rt.alloc(), &rt, MASKED));
 }
 
 /// A clone is not thawed while the first array lives.
@@ -350,21 +356,19 @@ const SHARED: &[Case] = &[(
 
 #[test]
 fn shared_arrays_are_not_thawed(rt: HostRuntime) {
-    assert!(rt; arrays(rt.alloc(), SHARED));
+    assert!(rt; arrays(rt.alloc(), &rt, SHARED));
 }
 
 /// How an array is made, what is asked of it, what it becomes, and what that has.
 type Turn = (Maker, &'static [Step], Change, Pieces);
 
-/// Whether all of them become these, of a kind over both widths of offsets.
-fn arrays_of_kind_turn<K: Known>(alloc: Global, cases: &[Turn]) -> bool {
-    let is_narrow = all_turned::<ByteArray<K, i32>>(alloc, cases);
-    is_narrow & all_turned::<ByteArray<K, i64>>(alloc, cases)
-}
-
-/// Whether they do of both kinds.
-fn arrays_turn(alloc: Global, cases: &[Turn]) -> bool {
-    arrays_of_kind_turn::<Binary>(alloc, cases) & arrays_of_kind_turn::<Utf8>(alloc, cases)
+/// Whether all of them become these, of both kinds over both widths of offsets.
+fn arrays_turn(alloc: Global, rt: &impl Abort, cases: &[Turn]) -> bool {
+    let are_bytes = all_turned::<ByteArray<Binary, i32>>(alloc, rt, cases)
+        & all_turned::<ByteArray<Binary, i64>>(alloc, rt, cases);
+    let are_texts = all_turned::<ByteArray<Utf8, i32>>(alloc, rt, cases)
+        & all_turned::<ByteArray<Utf8, i64>>(alloc, rt, cases);
+    are_bytes & are_texts
 }
 
 /// The first two slots are cut off by value, and then the rest. Parts that are known to fit are taken as they are.
@@ -397,7 +401,7 @@ const TURNS: &[Turn] = &[
 
 #[test]
 fn all_bytes_stay_in_slices_and_under_other_masks(rt: HostRuntime) {
-    assert!(rt; arrays_turn(rt.alloc(), TURNS));
+    assert!(rt; arrays_turn(rt.alloc(), &rt, TURNS));
 }
 
 /// An array that does not show its first slot.
@@ -410,5 +414,5 @@ const CUT: &[Turn] = &[(
 
 #[test]
 fn slices_are_not_thawed(rt: HostRuntime) {
-    assert!(rt; arrays_turn(rt.alloc(), CUT));
+    assert!(rt; arrays_turn(rt.alloc(), &rt, CUT));
 }

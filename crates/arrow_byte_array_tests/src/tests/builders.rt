@@ -51,30 +51,29 @@ pub(super) enum Step {
     BesideCopy(Question),
 }
 
+/// The builder that an array of three slots is thawed to, once a clone of it was not thawed, and was let go.
+fn thawed<K: Known, O: Offset>(rt: &impl Abort, array: ByteArray<K, O>) -> MutableByteArray<K, O> {
+    assert!(rt; is_shared(rt, &array, SLOTS));
+    array.into_mut().right().expect(rt, "an array alone")
+}
+
+/// The same of one that was made.
+fn made_thawed<K: Known, O: Offset>(
+    rt: &impl Abort,
+    array: Result<ByteArray<K, O>, Error>,
+) -> Result<MutableByteArray<K, O>, Error> {
+    match array {
+        Ok(array) => Ok(thawed(rt, array)),
+        Err(refused) => Err(refused),
+    }
+}
+
 /// The builder with nulls that one without becomes.
 fn with_nulls<K: ByteKind, O: Offset>(
     values: Result<MutableByteValuesArray<K, O>, Error>,
 ) -> Result<MutableByteArray<K, O>, Error> {
     match values {
         Ok(values) => Ok(values.into()),
-        Err(refused) => Err(refused),
-    }
-}
-
-/// The builder that an array of three slots is thawed to, once a clone of it was not thawed, and was let go.
-fn thaw_shared<K: Known, O: Offset>(
-    array: ByteArray<K, O>,
-) -> Result<MutableByteArray<K, O>, Error> {
-    let is_shared = is_shared(&array, SLOTS);
-    only_if(is_shared, right(array.into_mut()))
-}
-
-/// The same of one that was made.
-fn thawed<K: Known, O: Offset>(
-    array: Result<ByteArray<K, O>, Error>,
-) -> Result<MutableByteArray<K, O>, Error> {
-    match array {
-        Ok(array) => thaw_shared(array),
         Err(refused) => Err(refused),
     }
 }
@@ -99,27 +98,14 @@ fn lacks_room<K: ByteKind, O: Offset>(
     is_less & (builder.values().capacity() < bytes)
 }
 
-/// Replaces the mask by these marks, where they are as many as there are slots.
-fn take_marks<K: ByteKind, O: Offset>(
+/// Replaces the mask by these marks.
+fn set_mask<K: ByteKind, O: Offset>(
+    rt: &impl Abort,
     builder: &mut MutableByteArray<K, O>,
     marks: MutableBitmap,
-) -> bool {
-    if builder.len() != marks.len() {
-        return false;
-    }
+) {
+    assert!(rt; builder.len() == marks.len());
     builder.set_validity(Some(marks));
-    true
-}
-
-/// Replaces it by those that were made.
-fn set_mask<K: ByteKind, O: Offset>(
-    builder: &mut MutableByteArray<K, O>,
-    marks: Result<MutableBitmap, Error>,
-) -> bool {
-    match marks {
-        Ok(marks) => take_marks(builder, marks),
-        Err(_) => false,
-    }
 }
 
 /// Some marks with the first inverted.
@@ -132,12 +118,6 @@ fn inverted(marks: MutableBitmap) -> MutableBitmap
         marks.set(0, !first);
     }
     marks
-}
-
-/// Inverts the first mark of a mask, where one is held.
-fn invert_first<K: ByteKind, O: Offset>(builder: &mut MutableByteArray<K, O>) -> bool {
-    builder.apply_validity(inverted);
-    true
 }
 
 /// Whether a null that is pushed is in this builder alone, and not in its copy.
@@ -225,16 +205,24 @@ fn grow_by_many<K: Known, O: Offset>(
 /// Replaces the mask, or changes or drops it; else the builder grows.
 fn change<K: Known, O: Offset>(
     alloc: Global,
+    rt: &impl Abort,
     builder: &mut MutableByteArray<K, O>,
     step: &Step,
 ) -> bool {
     match step {
-        Step::SetMask(marks) => set_mask(builder, MutableBitmap::from_slice(alloc, *marks)),
+        Step::SetMask(marks) => {
+            let marks = MutableBitmap::from_slice(alloc, *marks).expect(rt, "memory");
+            set_mask(rt, builder, marks);
+            true
+        }
         Step::DropMask => {
             builder.set_validity(None);
             true
         }
-        Step::InvertFirstMark => invert_first(builder),
+        Step::InvertFirstMark => {
+            builder.apply_validity(inverted);
+            true
+        }
         _ => grow(builder, step).is_ok(),
     }
 }
@@ -244,7 +232,11 @@ impl<K: Known, O: Offset> Asked for MutableByteArray<K, O> {
 
     type Step = Step;
 
-    fn make(alloc: Global, maker: &Maker) -> Result<MutableByteArray<K, O>, Error> {
+    fn make(
+        alloc: Global,
+        rt: &impl Abort,
+        maker: &Maker,
+    ) -> Result<MutableByteArray<K, O>, Error> {
         match maker {
             Maker::New => MutableByteArray::new(alloc),
             Maker::Default => MutableByteArray::default(alloc),
@@ -259,26 +251,30 @@ impl<K: Known, O: Offset> Asked for MutableByteArray<K, O> {
             Maker::FromIterValues(list) => {
                 MutableByteArray::<K, O>::from_iter_values(alloc, K::items(*list).iter().copied())
             }
-            Maker::Parts(parts) => builder_of(alloc, *parts),
+            Maker::Parts(parts) => builder_of(alloc, rt, *parts),
             Maker::Clone(list) => copy_of(MutableByteArray::<K, O>::from(alloc, K::slots(*list))),
-            Maker::OfValues(values) => with_nulls(MutableByteValuesArray::make(alloc, values)),
-            Maker::Thawed(list) => thawed(ByteArray::<K, O>::from(alloc, K::slots(*list))),
+            Maker::OfValues(values) => with_nulls(MutableByteValuesArray::make(alloc, rt, values)),
+            Maker::Thawed(list) => made_thawed(rt, ByteArray::<K, O>::from(alloc, K::slots(*list))),
         }
     }
 
-    fn goes(&mut self, alloc: Global, step: &Step) -> bool {
+    fn goes(&mut self, alloc: Global, rt: &impl Abort, step: &Step) -> bool {
         match step {
             Step::Shows(wanted) => self.shows(*wanted),
             Step::Stores(place, item) => K::builder_stores(self, *place, *item),
             Step::Lends => K::builder_lends(self),
             Step::HasRoom(slots, bytes) => has_room(self, *slots, *bytes),
             Step::LacksRoom(slots, bytes) => lacks_room(self, *slots, *bytes),
-            Step::Pop(slot) => popped::<K>(self.pop(), *slot),
+            Step::Pop(slot) => popped::<K>(self.pop().expect(rt, "memory"), *slot),
             Step::BesideParts(parts, question) => {
-                is_right_beside(self, builder_of(alloc, *parts), question)
+                let other = builder_of(alloc, rt, *parts).expect(rt, "parts that fit");
+                is_right_beside(self, other, question)
             }
-            Step::BesideCopy(question) => is_right_beside_copy(self, question),
-            _ => change(alloc, self, step),
+            Step::BesideCopy(question) => {
+                let copy = self.copy().expect(rt, "memory");
+                is_right_beside(self, copy, question)
+            }
+            _ => change(alloc, rt, self, step),
         }
     }
 }
@@ -289,23 +285,21 @@ pub(super) struct WithoutMask;
 impl<K: Known, O: Offset> Turned for MutableByteArray<K, O> {
     type Change = WithoutMask;
 
-    fn turn(self, _: &WithoutMask) -> Result<MutableByteArray<K, O>, Error> {
-        Ok(self.with_validity(None))
+    fn turn(self, _rt: &impl Abort, _: &WithoutMask) -> MutableByteArray<K, O> {
+        self.with_validity(None)
     }
 }
 
 /// How a builder is made, what it has, and what is asked of it then.
 type Case = (Maker, Pieces, &'static [Step]);
 
-/// Whether all cases go as they should of a kind over both widths of offsets.
-fn builders_of_kind<K: Known>(alloc: Global, cases: &[Case]) -> bool {
-    let is_narrow = all_asked::<MutableByteArray<K, i32>>(alloc, cases);
-    is_narrow & all_asked::<MutableByteArray<K, i64>>(alloc, cases)
-}
-
-/// Whether they do of both kinds.
-fn builders(alloc: Global, cases: &[Case]) -> bool {
-    builders_of_kind::<Binary>(alloc, cases) & builders_of_kind::<Utf8>(alloc, cases)
+/// Whether all cases go as they should of both kinds over both widths of offsets.
+fn builders(alloc: Global, rt: &impl Abort, cases: &[Case]) -> bool {
+    let are_bytes = all_asked::<MutableByteArray<Binary, i32>>(alloc, rt, cases)
+        & all_asked::<MutableByteArray<Binary, i64>>(alloc, rt, cases);
+    let are_texts = all_asked::<MutableByteArray<Utf8, i32>>(alloc, rt, cases)
+        & all_asked::<MutableByteArray<Utf8, i64>>(alloc, rt, cases);
+    are_bytes & are_texts
 }
 
 /// New builders have no slot, and hold no mask. Builders of slots have these, from a slice and from an iterator, and so
@@ -332,7 +326,7 @@ const MADE: &[Case] = &[
 
 #[test]
 fn builders_are_offsets_bytes_and_marks_where_there_are_nulls(rt: HostRuntime) {
-    assert!(rt; builders(rt.alloc(), MADE));
+    assert!(rt; builders(rt.alloc(), &rt, MADE));
 }
 
 /// Slots that are pushed are there, and popped are the last of them, a null as nothing is. The bytes of a null that stores
@@ -376,7 +370,7 @@ const PUSHED: &[Case] = &[
 
 #[test]
 fn slots_are_pushed_and_popped(rt: HostRuntime) {
-    assert!(rt; builders(rt.alloc(), PUSHED));
+    assert!(rt; builders(rt.alloc(), &rt, PUSHED));
 }
 
 /// A builder grows by many items, and then by many slots; those that an iterator gives may be borrowed twice over.
@@ -408,7 +402,7 @@ const EXTENDED: &[Case] = &[
 
 #[test]
 fn builders_grow_by_many(rt: HostRuntime) {
-    assert!(rt; builders(rt.alloc(), EXTENDED));
+    assert!(rt; builders(rt.alloc(), &rt, EXTENDED));
 }
 
 /// Room for slots and bytes is there, then for more, and is given back, and slots stay.
@@ -432,7 +426,7 @@ const ROOMY: &[Case] = &[
 
 #[test]
 fn room_is_made_and_given_back(rt: HostRuntime) {
-    assert!(rt; builders(rt.alloc(), ROOMY));
+    assert!(rt; builders(rt.alloc(), &rt, ROOMY));
 }
 
 /// A builder with room, and its copy.
@@ -447,7 +441,7 @@ const COPIED: &[Case] = &[(
 
 #[test]
 fn copies_are_on_their_own(rt: HostRuntime) {
-    assert!(rt; builders(rt.alloc(), COPIED));
+    assert!(rt; builders(rt.alloc(), &rt, COPIED));
 }
 
 /// Slots of no byte, all of which are null.
@@ -486,7 +480,7 @@ const COMPARED: &[Case] = &[
 
 #[test]
 fn equal_builders_have_the_same_slots(rt: HostRuntime) {
-    assert!(rt; builders(rt.alloc(), COMPARED));
+    assert!(rt; builders(rt.alloc(), &rt, COMPARED));
 }
 
 /// A mask is replaced and changed where one is held, and not where it is dropped, and the bytes of the slots stay.
@@ -515,23 +509,23 @@ const UNMASKED: &[(Maker, &[Step], WithoutMask, Pieces)] = &[(
     ITEMS,
 )];
 
-/// Whether all of them become these, of a kind over both widths of offsets.
-fn builders_of_kind_turn<K: Known>(
+/// Whether all of them become these, of both kinds over both widths of offsets.
+fn builders_turn(
     alloc: Global,
+    rt: &impl Abort,
     cases: &[(Maker, &[Step], WithoutMask, Pieces)],
 ) -> bool {
-    let is_narrow = all_turned::<MutableByteArray<K, i32>>(alloc, cases);
-    is_narrow & all_turned::<MutableByteArray<K, i64>>(alloc, cases)
-}
-
-/// Whether they do of both kinds.
-fn builders_turn(alloc: Global, cases: &[(Maker, &[Step], WithoutMask, Pieces)]) -> bool {
-    builders_of_kind_turn::<Binary>(alloc, cases) & builders_of_kind_turn::<Utf8>(alloc, cases)
+    let are_bytes = all_turned::<MutableByteArray<Binary, i32>>(alloc, rt, cases)
+        & all_turned::<MutableByteArray<Binary, i64>>(alloc, rt, cases);
+    let are_texts = all_turned::<MutableByteArray<Utf8, i32>>(alloc, rt, cases)
+        & all_turned::<MutableByteArray<Utf8, i64>>(alloc, rt, cases);
+    are_bytes & are_texts
 }
 
 #[test]
 fn masks_of_builders_are_replaced_changed_and_dropped(rt: HostRuntime) {
-    assert!(rt; builders(rt.alloc(), MASKED) & builders_turn(rt.alloc(), UNMASKED));
+    let are_changed = builders(rt.alloc(), &rt, MASKED);
+    assert!(rt; are_changed & builders_turn(rt.alloc(), &rt, UNMASKED));
 }
 
 /// What a builder lends has another byte before it.
@@ -543,5 +537,5 @@ const LENT: &[Case] = &[(
 
 #[test]
 fn slots_come_in_order_and_from_both_ends(rt: HostRuntime) {
-    assert!(rt; builders(rt.alloc(), LENT));
+    assert!(rt; builders(rt.alloc(), &rt, LENT));
 }

@@ -2,6 +2,7 @@
 use super::arrays::{Maker, Step};
 use super::*;
 use arrow_binary::{BinaryArray, MutableBinaryArray, MutableBinaryValuesArray};
+use arrow_memory::offset::OffsetsBuffer;
 
 /// Whether the slots of an array come from both ends.
 fn slots<O: Offset>(array: &BinaryArray<O>) -> bool {
@@ -255,26 +256,16 @@ impl Known for Binary {
 
 /// Whether makers take items that are borrowed twice over.
 fn borrowed<O: Offset>(alloc: Global, slots: &[Option<&[u8]>], items: &[&[u8]]) -> bool {
-    let are_slots = shown(
-        BinaryArray::<O>::from_iter(alloc, slots.iter().copied()),
-        SLOTS,
-    ) & shown(
-        MutableBinaryArray::<O>::from_iter(alloc, slots.iter().copied()),
-        SLOTS,
-    );
-    are_slots
-        & shown(
-            BinaryArray::<O>::from_iter_values(alloc, items.iter().copied()),
-            ITEMS,
-        )
-        & shown(
-            MutableBinaryArray::<O>::from_iter_values(alloc, items.iter().copied()),
-            ITEMS,
-        )
-        & shown(
-            MutableBinaryValuesArray::<O>::from_iter(alloc, items.iter().copied()),
-            ITEMS,
-        )
+    let array = BinaryArray::<O>::from_iter(alloc, slots.iter().copied());
+    let is_array = made(array, SLOTS);
+    let builder = MutableBinaryArray::<O>::from_iter(alloc, slots.iter().copied());
+    let is_builder = made(builder, SLOTS);
+    let array = BinaryArray::<O>::from_iter_values(alloc, items.iter().copied());
+    let is_array_of_items = made(array, ITEMS);
+    let builder = MutableBinaryArray::<O>::from_iter_values(alloc, items.iter().copied());
+    let is_builder_of_items = made(builder, ITEMS);
+    let values = MutableBinaryValuesArray::<O>::from_iter(alloc, items.iter().copied());
+    is_array & is_builder & is_array_of_items & is_builder_of_items & made(values, ITEMS)
 }
 
 #[test]
@@ -294,37 +285,22 @@ const HALVES: &[(Maker, Pieces, &[Step])] = &[(
     ],
 )];
 
-/// Whether they are over a width of offsets.
-fn takes_any<O: Offset>(alloc: Global, cases: &[(Maker, Pieces, &[Step])]) -> bool {
-    all_asked::<BinaryArray<O>>(alloc, cases)
-}
-
 #[test]
 fn any_bytes_are_an_item(rt: HostRuntime) {
-    let is_narrow = takes_any::<i32>(rt.alloc(), HALVES);
-    assert!(rt; is_narrow & takes_any::<i64>(rt.alloc(), HALVES));
-}
-
-/// The array of no slot over some bytes.
-fn without_slots<O: Offset>(alloc: Global, values: Buffer<u8>) -> Result<BinaryArray<O>, Error> {
-    match OffsetsBuffer::<O>::new(alloc) {
-        Ok(offsets) => {
-            let data_type = BinaryArray::<O>::default_data_type();
-            Ok(BinaryArray::new(data_type, offsets, values, None))
-        }
-        Err(refused) => Err(refused),
-    }
+    let is_narrow = all_asked::<BinaryArray<i32>>(rt.alloc(), &rt, HALVES);
+    assert!(rt; is_narrow & all_asked::<BinaryArray<i64>>(rt.alloc(), &rt, HALVES));
 }
 
 /// Whether no slot over some bytes is taken, and all bytes stay.
-fn takes_none<O: Offset>(alloc: Global) -> bool {
-    match buffer_of(alloc, b"xy") {
-        Ok(values) => shown(without_slots::<O>(alloc, values), (&[0], b"xy", "none")),
-        Err(_) => false,
-    }
+fn takes_none<O: Offset>(alloc: Global, rt: &impl Abort) -> bool {
+    let values = buffer_of(alloc, rt, b"xy");
+    let offsets = OffsetsBuffer::<O>::new(alloc).expect(rt, "memory");
+    let data_type = BinaryArray::<O>::default_data_type();
+    let array = BinaryArray::new(data_type, offsets, values, None);
+    shown(array, (&[0], b"xy", "none"))
 }
 
 #[test]
 fn bytes_without_slots_are_taken(rt: HostRuntime) {
-    assert!(rt; takes_none::<i32>(rt.alloc()) & takes_none::<i64>(rt.alloc()));
+    assert!(rt; takes_none::<i32>(rt.alloc(), &rt) & takes_none::<i64>(rt.alloc(), &rt));
 }

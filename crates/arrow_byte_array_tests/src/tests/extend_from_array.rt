@@ -1,12 +1,9 @@
 //! Ranges of arrays that builders take: bytes, those of null slots included, and marks; and the overflow past the
 //! greatest offset, which is 100 for `Tiny`.
-ghost use Rattle.std.specs.Prelude.{IsTrue};
-ghost use Rattle.arrow_column.specs.Column.{FitsCut};
-
+use super::arrays::has;
 use super::*;
 use arrow_bytes::ByteKind;
 use arrow_testing::{Tiny, tells};
-use std::process::Abort;
 
 /// A builder, an array, the slice of the array, the range of that slice, the expected answer and the expected builder.
 type Case = (
@@ -17,13 +14,6 @@ type Case = (
     &'static str,
     Pieces,
 );
-
-/// Returns whether a range lies within an array.
-fn has<K: ByteKind, O: Offset>(array: &ByteArray<K, O>, offset: usize, len: usize) -> bool
-    ensures { IsTrue result → FitsCut array.now offset len }
-{
-    offset <= array.len() && len <= array.len() - offset
-}
 
 /// Slices an array, if the slice lies within it.
 fn cut<K: ByteKind, O: Offset>(array: &mut ByteArray<K, O>, offset: usize, len: usize) -> bool {
@@ -48,9 +38,9 @@ fn answers<K: ByteKind, O: Offset>(
 /// Returns whether a case goes as expected.
 fn joins<K: Known, O: Offset>(alloc: Global, rt: &impl Abort, case: &Case) -> bool {
     let (first, second, slice, range, answer, joined) = *case;
-    let mut array = array_of::<K, O>(alloc, second).expect(rt, "memory");
+    let mut array = array_of::<K, O>(alloc, rt, second).expect(rt, "memory");
     let is_cut = cut(&mut array, slice.0, slice.1);
-    let mut builder = builder_of::<K, O>(alloc, first).expect(rt, "memory");
+    let mut builder = builder_of::<K, O>(alloc, rt, first).expect(rt, "memory");
     let is_joined = is_cut & answers(&mut builder, &array, range, answer) & builder.shows(joined);
     drop(builder);
     drop(array);

@@ -207,26 +207,16 @@ impl Known for Utf8 {
 
 /// Whether makers take items that are borrowed twice over.
 fn borrowed<O: Offset>(alloc: Global, slots: &[Option<&str>], items: &[&str]) -> bool {
-    let are_slots = shown(
-        Utf8Array::<O>::from_iter(alloc, slots.iter().copied()),
-        SLOTS,
-    ) & shown(
-        MutableUtf8Array::<O>::from_iter(alloc, slots.iter().copied()),
-        SLOTS,
-    );
-    are_slots
-        & shown(
-            Utf8Array::<O>::from_iter_values(alloc, items.iter().copied()),
-            ITEMS,
-        )
-        & shown(
-            MutableUtf8Array::<O>::from_iter_values(alloc, items.iter().copied()),
-            ITEMS,
-        )
-        & shown(
-            MutableUtf8ValuesArray::<O>::from_iter(alloc, items.iter().copied()),
-            ITEMS,
-        )
+    let array = Utf8Array::<O>::from_iter(alloc, slots.iter().copied());
+    let is_array = made(array, SLOTS);
+    let builder = MutableUtf8Array::<O>::from_iter(alloc, slots.iter().copied());
+    let is_builder = made(builder, SLOTS);
+    let array = Utf8Array::<O>::from_iter_values(alloc, items.iter().copied());
+    let is_array_of_items = made(array, ITEMS);
+    let builder = MutableUtf8Array::<O>::from_iter_values(alloc, items.iter().copied());
+    let is_builder_of_items = made(builder, ITEMS);
+    let values = MutableUtf8ValuesArray::<O>::from_iter(alloc, items.iter().copied());
+    is_array & is_builder & is_array_of_items & is_builder_of_items & made(values, ITEMS)
 }
 
 #[test]
@@ -253,17 +243,14 @@ const CHARACTERS: &[(&[u8], &[usize])] = &[
 /// The array of such parts, whose test is counted.
 fn counted<O: Offset>(
     alloc: Global,
+    rt: &impl Abort,
     numbers: &[usize],
     bytes: &[u8],
     cost: &mut TextCost,
 ) -> Result<Utf8Array<O>, Error> {
-    match frozen(alloc, numbers, bytes, "none") {
-        Ok((offsets, values, validity)) => {
-            let data_type = Utf8::data_type(O::IS_LARGE);
-            Utf8Array::try_new_counted(data_type, offsets, values, validity, cost)
-        }
-        Err(refused) => Err(refused),
-    }
+    let offsets = frozen_offsets(alloc, numbers).expect(rt, "offsets");
+    let values = buffer_of(alloc, rt, bytes);
+    Utf8Array::try_new_counted(Utf8::data_type(O::IS_LARGE), offsets, values, None, cost)
 }
 
 /// Whether the counts are that all bytes were tested once at most, and each inner one of so many offsets looked at.
@@ -278,21 +265,27 @@ fn counts(cost: &TextCost) -> [u64; 3] {
 }
 
 /// Whether this is told of such parts, whose bytes are tested once at most.
-fn is_told<O: Offset>(alloc: Global, numbers: &[usize], bytes: &[u8], text: &str) -> bool {
+fn is_told<O: Offset>(
+    alloc: Global,
+    rt: &impl Abort,
+    numbers: &[usize],
+    bytes: &[u8],
+    text: &str,
+) -> bool {
     let mut cost = TextCost::new();
-    let told = tells(counted::<O>(alloc, numbers, bytes, &mut cost));
+    let told = tells(counted::<O>(alloc, rt, numbers, bytes, &mut cost));
     (told == text) & is_cheap(&cost, numbers.len())
 }
 
 /// Whether offsets 0, k, n over n bytes are accepted for these k, and no others up to n.
-fn is_cut_at<O: Offset>(alloc: Global, bytes: &[u8], accepted: &[usize]) -> bool {
+fn is_cut_at<O: Offset>(alloc: Global, rt: &impl Abort, bytes: &[u8], accepted: &[usize]) -> bool {
     for k in 0..bytes.len() + 1 {
         let text = if accepted.contains(&k) {
             "made"
         } else {
             NO_TEXT
         };
-        if !is_told::<O>(alloc, [0, k, bytes.len()].as_slice(), bytes, text) {
+        if !is_told::<O>(alloc, rt, [0, k, bytes.len()].as_slice(), bytes, text) {
             return false;
         }
     }
@@ -300,9 +293,9 @@ fn is_cut_at<O: Offset>(alloc: Global, bytes: &[u8], accepted: &[usize]) -> bool
 }
 
 /// Whether that is so of all of these.
-fn all_cut<O: Offset>(alloc: Global, cases: &[(&[u8], &[usize])]) -> bool {
+fn all_cut<O: Offset>(alloc: Global, rt: &impl Abort, cases: &[(&[u8], &[usize])]) -> bool {
     for (bytes, accepted) in cases {
-        if !is_cut_at::<O>(alloc, *bytes, *accepted) {
+        if !is_cut_at::<O>(alloc, rt, *bytes, *accepted) {
             return false;
         }
     }
@@ -311,48 +304,47 @@ fn all_cut<O: Offset>(alloc: Global, cases: &[(&[u8], &[usize])]) -> bool {
 
 #[test]
 fn each_slot_is_text_by_itself(rt: HostRuntime) {
-    let is_narrow = all_cut::<i32>(rt.alloc(), CHARACTERS);
-    assert!(rt; is_narrow & all_cut::<i64>(rt.alloc(), CHARACTERS));
+    let is_narrow = all_cut::<i32>(rt.alloc(), &rt, CHARACTERS);
+    assert!(rt; is_narrow & all_cut::<i64>(rt.alloc(), &rt, CHARACTERS));
 }
 
 /// The builder of such parts, whose test is counted.
 fn counted_builder<O: Offset>(
     alloc: Global,
+    rt: &impl Abort,
     numbers: &[usize],
     bytes: &[u8],
     cost: &mut TextCost,
 ) -> Result<MutableUtf8Array<O>, Error> {
-    match growing(alloc, numbers, bytes, "none") {
-        Ok((offsets, values, validity)) => {
-            let data_type = Utf8::data_type(O::IS_LARGE);
-            MutableUtf8Array::try_new_counted(data_type, offsets, values, validity, cost)
-        }
-        Err(refused) => Err(refused),
-    }
+    let offsets = offsets_of(alloc, numbers).expect(rt, "offsets");
+    let values = bytes.to_vec(alloc).expect(rt, "memory");
+    MutableUtf8Array::try_new_counted(Utf8::data_type(O::IS_LARGE), offsets, values, None, cost)
 }
 
 /// The builder without nulls of such parts, whose test is counted.
 fn counted_values<O: Offset>(
     alloc: Global,
+    rt: &impl Abort,
     numbers: &[usize],
     bytes: &[u8],
     cost: &mut TextCost,
 ) -> Result<MutableUtf8ValuesArray<O>, Error> {
-    match growing(alloc, numbers, bytes, "none") {
-        Ok((offsets, values, _)) => {
-            let data_type = Utf8::data_type(O::IS_LARGE);
-            MutableUtf8ValuesArray::try_new_counted(data_type, offsets, values, cost)
-        }
-        Err(refused) => Err(refused),
-    }
+    let offsets = offsets_of(alloc, numbers).expect(rt, "offsets");
+    let values = bytes.to_vec(alloc).expect(rt, "memory");
+    MutableUtf8ValuesArray::try_new_counted(Utf8::data_type(O::IS_LARGE), offsets, values, cost)
 }
 
 /// What the tests of such parts cost, of an array and of either builder.
-fn costs_of<O: Offset>(alloc: Global, numbers: &[usize], bytes: &[u8]) -> [[u64; 3]; 3] {
+fn costs_of<O: Offset>(
+    alloc: Global,
+    rt: &impl Abort,
+    numbers: &[usize],
+    bytes: &[u8],
+) -> [[u64; 3]; 3] {
     let (mut array, mut builder, mut values) = (TextCost::new(), TextCost::new(), TextCost::new());
-    let _told = tells(counted::<O>(alloc, numbers, bytes, &mut array));
-    let _told = tells(counted_builder::<O>(alloc, numbers, bytes, &mut builder));
-    let _told = tells(counted_values::<O>(alloc, numbers, bytes, &mut values));
+    let _told = tells(counted::<O>(alloc, rt, numbers, bytes, &mut array));
+    let _told = tells(counted_builder::<O>(alloc, rt, numbers, bytes, &mut builder));
+    let _told = tells(counted_values::<O>(alloc, rt, numbers, bytes, &mut values));
     [counts(&array), counts(&builder), counts(&values)]
 }
 
@@ -367,9 +359,13 @@ const COSTS: &[(&[usize], &[u8], [u64; 3], [u64; 3])] = &[
 ];
 
 /// Whether they all cost this.
-fn all_cost<O: Offset>(alloc: Global, cases: &[(&[usize], &[u8], [u64; 3], [u64; 3])]) -> bool {
+fn all_cost<O: Offset>(
+    alloc: Global,
+    rt: &impl Abort,
+    cases: &[(&[usize], &[u8], [u64; 3], [u64; 3])],
+) -> bool {
     for (numbers, bytes, array, builders) in cases {
-        if costs_of::<O>(alloc, *numbers, *bytes) != [*array, *builders, *builders] {
+        if costs_of::<O>(alloc, rt, *numbers, *bytes) != [*array, *builders, *builders] {
             return false;
         }
     }
@@ -378,21 +374,15 @@ fn all_cost<O: Offset>(alloc: Global, cases: &[(&[usize], &[u8], [u64; 3], [u64;
 
 #[test]
 fn tests_of_texts_are_counted(rt: HostRuntime) {
-    let is_narrow = all_cost::<i32>(rt.alloc(), COSTS);
-    assert!(rt; is_narrow & all_cost::<i64>(rt.alloc(), COSTS));
+    let is_narrow = all_cost::<i32>(rt.alloc(), &rt, COSTS);
+    assert!(rt; is_narrow & all_cost::<i64>(rt.alloc(), &rt, COSTS));
 }
 
-/// Whether the types of text that are written out are taken.
-fn takes_types(alloc: Global) -> bool {
-    let nulls = Utf8Array::<i32>::new_null(alloc, DataType::Utf8, 2);
-    shown(nulls, (&[0, 0, 0], b"", "00"))
-        & shown(
-            Utf8Array::<i64>::new_empty(alloc, DataType::LargeUtf8),
-            NOTHING,
-        )
-}
-
+/// Types of text may be written out.
 #[test]
 fn types_of_text_are_taken(rt: HostRuntime) {
-    assert!(rt; takes_types(rt.alloc()));
+    let nulls = Utf8Array::<i32>::new_null(rt.alloc(), DataType::Utf8, 2);
+    let are_nulls = made(nulls, (&[0, 0, 0], b"", "00"));
+    let none = Utf8Array::<i64>::new_empty(rt.alloc(), DataType::LargeUtf8);
+    assert!(rt; are_nulls & made(none, NOTHING));
 }

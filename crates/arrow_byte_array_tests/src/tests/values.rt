@@ -113,7 +113,11 @@ impl<K: Known, O: Offset> Asked for MutableByteValuesArray<K, O> {
 
     type Step = Step;
 
-    fn make(alloc: Global, maker: &Maker) -> Result<MutableByteValuesArray<K, O>, Error> {
+    fn make(
+        alloc: Global,
+        rt: &impl Abort,
+        maker: &Maker,
+    ) -> Result<MutableByteValuesArray<K, O>, Error> {
         match maker {
             Maker::New => MutableByteValuesArray::new(alloc),
             Maker::Default => MutableByteValuesArray::default(alloc),
@@ -136,15 +140,18 @@ impl<K: Known, O: Offset> Asked for MutableByteValuesArray<K, O> {
         }
     }
 
-    fn goes(&mut self, alloc: Global, step: &Step) -> bool {
+    fn goes(&mut self, alloc: Global, rt: &impl Abort, step: &Step) -> bool {
         match step {
             Step::Shows(wanted) => self.shows(*wanted),
             Step::Stores(place, item) => K::values_store(self, *place, *item),
             Step::Lends => K::values_lend(self),
             Step::HasRoom(items, bytes) => has_room(self, *items, *bytes),
             Step::LacksRoom(items, bytes) => lacks_room(self, *items, *bytes),
-            Step::Pop(item) => popped::<K>(self.pop(), Some(*item)),
-            Step::ExtendFrom(parts) => is_right_beside(self, values_of(alloc, *parts), parts),
+            Step::Pop(item) => popped::<K>(self.pop().expect(rt, "memory"), Some(*item)),
+            Step::ExtendFrom(parts) => {
+                let other = values_of(alloc, rt, *parts).expect(rt, "parts that fit");
+                is_right_beside(self, other, parts)
+            }
             _ => grow(self, step).is_ok(),
         }
     }
@@ -153,15 +160,13 @@ impl<K: Known, O: Offset> Asked for MutableByteValuesArray<K, O> {
 /// How a builder is made, what it has, and what is asked of it then.
 type Case = (Maker, Pieces, &'static [Step]);
 
-/// Whether all cases go as they should of a kind over both widths of offsets.
-fn values_of_kind<K: Known>(alloc: Global, cases: &[Case]) -> bool {
-    let is_narrow = all_asked::<MutableByteValuesArray<K, i32>>(alloc, cases);
-    is_narrow & all_asked::<MutableByteValuesArray<K, i64>>(alloc, cases)
-}
-
-/// Whether they do of both kinds.
-fn values(alloc: Global, cases: &[Case]) -> bool {
-    values_of_kind::<Binary>(alloc, cases) & values_of_kind::<Utf8>(alloc, cases)
+/// Whether all cases go as they should of both kinds over both widths of offsets.
+fn values(alloc: Global, rt: &impl Abort, cases: &[Case]) -> bool {
+    let are_bytes = all_asked::<MutableByteValuesArray<Binary, i32>>(alloc, rt, cases)
+        & all_asked::<MutableByteValuesArray<Binary, i64>>(alloc, rt, cases);
+    let are_texts = all_asked::<MutableByteValuesArray<Utf8, i32>>(alloc, rt, cases)
+        & all_asked::<MutableByteValuesArray<Utf8, i64>>(alloc, rt, cases);
+    are_bytes & are_texts
 }
 
 /// New builders have no item, and builders of items have these, and so have their copies.
@@ -177,7 +182,7 @@ const MADE: &[Case] = &[
 
 #[test]
 fn builders_are_offsets_and_bytes(rt: HostRuntime) {
-    assert!(rt; values(rt.alloc(), MADE));
+    assert!(rt; values(rt.alloc(), &rt, MADE));
 }
 
 /// Items that are pushed are there, an empty one for a null, and popped are the last of them.
@@ -200,7 +205,7 @@ const PUSHED: &[Case] = &[(
 
 #[test]
 fn nulls_are_empty_items(rt: HostRuntime) {
-    assert!(rt; values(rt.alloc(), PUSHED));
+    assert!(rt; values(rt.alloc(), &rt, PUSHED));
 }
 
 /// Room for items and bytes is there, then for more, and is given back, and items stay.
@@ -223,7 +228,7 @@ const ROOMY: &[Case] = &[
 
 #[test]
 fn room_is_made_and_given_back(rt: HostRuntime) {
-    assert!(rt; values(rt.alloc(), ROOMY));
+    assert!(rt; values(rt.alloc(), &rt, ROOMY));
 }
 
 /// A builder grows by many items; those that an iterator gives may be borrowed twice over, and of those of another builder
@@ -256,7 +261,7 @@ const EXTENDED: &[Case] = &[
 
 #[test]
 fn builders_grow_by_many(rt: HostRuntime) {
-    assert!(rt; values(rt.alloc(), EXTENDED));
+    assert!(rt; values(rt.alloc(), &rt, EXTENDED));
 }
 
 /// What a builder lends.
@@ -264,5 +269,5 @@ const LENT: &[Case] = &[(Maker::FromTwo, (&[0, 1, 3], b"abc", "none"), &[Step::L
 
 #[test]
 fn items_come_in_order_and_from_both_ends(rt: HostRuntime) {
-    assert!(rt; values(rt.alloc(), LENT));
+    assert!(rt; values(rt.alloc(), &rt, LENT));
 }
