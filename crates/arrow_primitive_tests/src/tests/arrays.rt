@@ -21,16 +21,17 @@ pub(crate) fn reads<T: NativeType>(
     if array.len() <= place {
         return false;
     }
-    let marks = array.is_valid(place) == slot.is_some() && array.is_null(place) == slot.is_none();
-    marks && array.get(place) == slot && array.value(place) == value
+    let marks = (array.is_valid(place) == slot.is_some())
+        & (array.is_null(place) == slot.is_none());
+    marks & (array.get(place) == slot) & (array.value(place) == value)
 }
 
 /// Whether an array is of a value and a null, and its iterators begin with the value.
 fn is_pair<T: NativeType>(array: &PrimitiveArray<T>, value: T, zero: T) -> bool {
-    let slots = reads(array, 0, Some(value), value) && reads(array, 1, None, zero);
-    let counted = array.len() == 2 && array.values().len() == 2 && array.null_count() == 1;
+    let slots = reads(array, 0, Some(value), value) & reads(array, 1, None, zero);
+    let counted = (array.len() == 2) & (array.values().len() == 2) & (array.null_count() == 1);
     let first = array.iter().next() == Some(Some(&value));
-    slots && counted && first && array.values_iter().next() == Some(&value)
+    slots & counted & first & (array.values_iter().next() == Some(&value))
 }
 
 /// The marks as they are.
@@ -43,135 +44,100 @@ fn same_mask(marks: Bitmap) -> Bitmap
 /// Writes nothing.
 fn unwritten<T: NativeType>(_values: &mut [T]) {}
 
-/// Whether an array is the same after changes by nothing.
-fn stays<T: NativeType>(array: &mut PrimitiveArray<T>, value: T, zero: T) -> bool {
-    array.apply_validity(same_mask);
-    let is_lent = array.get_mut_values(unwritten::<T>);
-    is_lent && is_pair(array, value, zero) && is_default::<T>(array.data_type())
-}
-
-/// Whether one of such slots is, which are a value and a null.
+/// Whether an array of such slots, which are a value and a null, is the same after changes by nothing.
 fn pair_stays<T: NativeType>(
     alloc: Global,
+    rt: &impl Abort,
     slots: &[Option<T>],
     value: T,
     zero: T,
-) -> Result<bool, Error> {
-    let mut array = PrimitiveArray::<T>::from(alloc, slots)?;
-    Ok(stays(&mut array, value, zero))
+) -> bool {
+    let mut array = PrimitiveArray::<T>::from(alloc, slots).expect(rt, "memory");
+    array.apply_validity(same_mask);
+    let is_lent = array.get_mut_values(unwritten::<T>);
+    let is_same = is_pair(&array, value, zero) & is_default::<T>(array.data_type());
+    drop(array);
+    is_lent & is_same
 }
 
 #[test]
-fn arrays_of_slots(rt: HostRuntime) -> Result<(), Fail> {
-    let value = i256(0, 1);
-    told(pair_stays::<i32>(rt.alloc(), [Some(1), None].as_slice(), 1, 0))?;
-    told(pair_stays::<i256>(
-        rt.alloc(),
-        [Some(value), None].as_slice(),
-        value,
-        i256(0, 0),
-    ))
+fn arrays_of_slots(rt: HostRuntime) {
+    let (value, zero) = (i256(0, 1), i256(0, 0));
+    let narrow = pair_stays::<i32>(rt.alloc(), &rt, [Some(1), None].as_slice(), 1, 0);
+    let slots = [Some(value), None];
+    assert!(rt; narrow & pair_stays::<i256>(rt.alloc(), &rt, slots.as_slice(), value, zero));
 }
 
-/// An array of other values, where they are as many.
-fn valued<T: NativeType>(array: PrimitiveArray<T>, values: Buffer<T>) -> PrimitiveArray<T> {
-    if array.len() != values.len() {
-        return array;
-    }
+/// An array of values that replaced another's.
+fn replaced<T: NativeType>(
+    alloc: Global,
+    rt: &impl Abort,
+    first: &[T],
+    second: &[T],
+) -> PrimitiveArray<T> {
+    let first = first.to_vec(alloc).expect(rt, "memory");
+    let array = PrimitiveArray::<T>::from_vec(first).expect(rt, "memory");
+    let values = second.to_vec(alloc).expect(rt, "memory");
+    let values = Buffer::from_vec(values).expect(rt, "memory");
+    assert!(rt; array.len() == values.len());
     array.with_values(values)
 }
 
-/// An array of other marks, where they are as many.
-fn masked<T: NativeType>(array: PrimitiveArray<T>, mask: Bitmap) -> PrimitiveArray<T> {
-    if array.len() != mask.len() {
-        return array;
-    }
-    array.with_validity(Some(mask))
-}
-
-/// An array of values that replaced others.
-fn replaced<T: NativeType>(
-    alloc: Global,
-    first: &[T],
-    second: &[T],
-) -> Result<PrimitiveArray<T>, Error> {
-    let values = Buffer::from_vec(second.to_vec(alloc)?)?;
-    Ok(valued(PrimitiveArray::<T>::from_vec(first.to_vec(alloc)?)?, values))
-}
-
-/// Whether an array begins with a null, and stores these values.
-fn stores<T: NativeType>(array: PrimitiveArray<T>, values: &[T]) -> bool {
-    let are_values = array.values().as_slice() == values;
-    are_values & (array.into_iter().next() == Some(None))
-}
-
 /// Whether another value and another mask are there.
-fn changes<T: NativeType>(alloc: Global, first: &[T], second: &[T]) -> Result<bool, Error> {
-    let mask = Bitmap::new_zeroed(alloc, 1)?;
-    Ok(stores(masked(replaced(alloc, first, second)?, mask), second))
+fn changes<T: NativeType>(alloc: Global, rt: &impl Abort, first: &[T], second: &[T]) -> bool {
+    let array = replaced(alloc, rt, first, second);
+    let mask = Bitmap::new_zeroed(alloc, 1).expect(rt, "memory");
+    assert!(rt; array.len() == mask.len());
+    let array = array.with_validity(Some(mask));
+    let are_values = array.values().as_slice() == second;
+    let mut slots = array.into_iter();
+    let slot = slots.next();
+    drop(slots);
+    are_values & (slot == Some(None))
 }
 
 #[test]
-fn arrays_of_other_parts(rt: HostRuntime) -> Result<(), Fail> {
-    all_told(&[
-        changes::<i32>(rt.alloc(), [1].as_slice(), [2].as_slice()),
-        changes::<i256>(rt.alloc(), [i256(0, 1)].as_slice(), [i256(1, 2)].as_slice()),
-    ])
+fn arrays_of_other_parts(rt: HostRuntime) {
+    let narrow = changes::<i32>(rt.alloc(), &rt, [1].as_slice(), [2].as_slice());
+    let (first, second) = ([i256(0, 1)], [i256(1, 2)]);
+    assert!(rt; narrow & changes::<i256>(rt.alloc(), &rt, first.as_slice(), second.as_slice()));
 }
 
 /// Whether an array has so many slots and nulls, and the default type.
-fn is_counted<T: NativeType>(array: &PrimitiveArray<T>, slots: usize, nulls: usize) -> bool {
-    let counted = array.len() == slots && array.null_count() == nulls;
-    counted && is_default::<T>(array.data_type())
-}
-
-/// Whether the array that was made has so many slots and nulls, and the default type.
-pub(crate) fn counts<T: NativeType>(
-    answer: Result<PrimitiveArray<T>, Error>,
-    slots: usize,
-    nulls: usize,
-) -> Result<bool, Error> {
-    match answer {
-        Ok(array) => Ok(is_counted(&array, slots, nulls)),
-        Err(refused) => Err(refused),
-    }
+pub(crate) fn counts<T: NativeType>(array: PrimitiveArray<T>, slots: usize, nulls: usize) -> bool {
+    let is_counted = (array.len() == slots) & (array.null_count() == nulls);
+    let is_typed = is_default::<T>(array.data_type());
+    drop(array);
+    is_counted & is_typed
 }
 
 /// Whether new arrays have their nulls, or no slot.
-fn begins<T: NativeType>(alloc: Global) -> Result<bool, Error> {
+fn begins<T: NativeType>(alloc: Global, rt: &impl Abort) -> bool {
     let nulls = PrimitiveArray::<T>::new_null(alloc, T::PRIMITIVE.default_data_type(), 3);
-    let is_null = counts(nulls, 3, 3)?;
+    let is_null = counts(nulls.expect(rt, "memory"), 3, 3);
     let empty = PrimitiveArray::<T>::new_empty(alloc, T::PRIMITIVE.default_data_type());
-    let is_empty = counts(empty, 0, 0)?;
-    Ok(is_null & is_empty & counts(PrimitiveArray::<T>::default(alloc), 0, 0)?)
+    let is_empty = counts(empty.expect(rt, "memory"), 0, 0);
+    let default = PrimitiveArray::<T>::default(alloc).expect(rt, "memory");
+    is_null & is_empty & counts(default, 0, 0)
 }
 
-/// Whether an array has the slots that an iterator gave, which are a value and a null.
-fn given<T: NativeType>(alloc: Global, slots: &[Option<T>]) -> Result<bool, Error> {
-    counts(
-        PrimitiveArray::<T>::from_iter(alloc, slots.iter().copied()),
-        2,
-        1,
-    )
-}
-
-/// Whether the clone of an array has the one value that an iterator gave.
-fn given_values<T: NativeType>(alloc: Global, values: &[T]) -> Result<bool, Error> {
-    match PrimitiveArray::<T>::from_values(alloc, values.iter().copied()) {
-        Ok(array) => counts(array.clone(), 1, 0),
-        Err(refused) => Err(refused),
-    }
+/// Whether an array has the slots that an iterator gave, which are a value and a null, and the clone of another the
+/// value that one gave.
+fn given<T: NativeType>(alloc: Global, rt: &impl Abort, slots: &[Option<T>], values: &[T]) -> bool {
+    let array = PrimitiveArray::<T>::from_iter(alloc, slots.iter().copied()).expect(rt, "memory");
+    let are_slots = counts(array, 2, 1);
+    let array = PrimitiveArray::<T>::from_values(alloc, values.iter().copied());
+    let array = array.expect(rt, "memory");
+    let copy = array.clone().expect(rt, "memory");
+    drop(array);
+    are_slots & counts(copy, 1, 0)
 }
 
 #[test]
-fn new_arrays(rt: HostRuntime) -> Result<(), Fail> {
-    let value = i256(0, 1);
-    all_told(&[
-        begins::<i32>(rt.alloc()),
-        begins::<i256>(rt.alloc()),
-        given::<i32>(rt.alloc(), [Some(1), None].as_slice()),
-        given_values::<i32>(rt.alloc(), [1].as_slice()),
-        given::<i256>(rt.alloc(), [Some(value), None].as_slice()),
-        given_values::<i256>(rt.alloc(), [value].as_slice()),
-    ])
+fn new_arrays(rt: HostRuntime) {
+    let are_new = begins::<i32>(rt.alloc(), &rt) & begins::<i256>(rt.alloc(), &rt);
+    let narrow = given::<i32>(rt.alloc(), &rt, [Some(1), None].as_slice(), [1].as_slice());
+    let (slots, values) = ([Some(i256(0, 1)), None], [i256(0, 1)]);
+    let wide = given::<i256>(rt.alloc(), &rt, slots.as_slice(), values.as_slice());
+    assert!(rt; are_new & narrow & wide);
 }

@@ -5,7 +5,6 @@ ghost use Rattle.arrow_column.specs.Column.{FitsCut};
 use super::*;
 use arrow_memory::buffer::Buffer;
 use arrow_testing::{frozen_mask, growing_mask};
-use std::process::Abort;
 
 /// Stored values and marks.
 type Stored = (&'static [i64], &'static str);

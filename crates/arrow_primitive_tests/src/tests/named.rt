@@ -5,89 +5,113 @@ use arrow_primitive::{
     MonthsDaysNsVec, UInt8Array, UInt8Vec, UInt16Array, UInt16Vec, UInt32Array, UInt32Vec,
     UInt64Array, UInt64Vec,
 };
+use arrow_types::error::Error;
 use arrow_types::native_type::NativeType;
 use arrow_types::units::IntervalUnit;
 
-/// How a test ends of a builder and an array, which are to be of a type.
+/// Whether a builder and an array are of a type.
 fn are_of<T: NativeType>(
+    rt: &impl Abort,
     builder: MutablePrimitiveArray<T>,
     array: Result<PrimitiveArray<T>, Error>,
     data_type: DataType,
-) -> Result<(), Fail> {
-    told(match array {
-        Ok(array) => Ok(*builder.data_type() == data_type && *array.data_type() == data_type),
-        Err(refused) => Err(refused),
-    })
+) -> bool {
+    let array = array.expect(rt, "memory");
+    let are_of = (*builder.data_type() == data_type) & (*array.data_type() == data_type);
+    drop(builder);
+    drop(array);
+    drop(data_type);
+    are_of
 }
 
 #[test]
-fn names_of_signed_numbers(rt: HostRuntime) -> Result<(), Fail> {
+fn names_of_signed_numbers(rt: HostRuntime) {
     let alloc = rt.alloc();
-    are_of(
+    let is_8 = are_of(
+        &rt,
         Int8Vec::new(alloc),
         Int8Array::default(alloc),
         DataType::Int8,
-    )?;
-    are_of(
+    );
+    let is_16 = are_of(
+        &rt,
         Int16Vec::new(alloc),
         Int16Array::default(alloc),
         DataType::Int16,
-    )?;
-    are_of(
+    );
+    let is_32 = are_of(
+        &rt,
         Int32Vec::new(alloc),
         Int32Array::default(alloc),
         DataType::Int32,
-    )?;
-    are_of(
+    );
+    let is_64 = are_of(
+        &rt,
         Int64Vec::new(alloc),
         Int64Array::default(alloc),
         DataType::Int64,
-    )
+    );
+    assert!(rt; is_8 & is_16 & is_32 & is_64);
 }
 
 #[test]
-fn names_of_unsigned_numbers(rt: HostRuntime) -> Result<(), Fail> {
+fn names_of_unsigned_numbers(rt: HostRuntime) {
     let alloc = rt.alloc();
-    are_of(
+    let is_8 = are_of(
+        &rt,
         UInt8Vec::new(alloc),
         UInt8Array::default(alloc),
         DataType::UInt8,
-    )?;
-    are_of(
+    );
+    let is_16 = are_of(
+        &rt,
         UInt16Vec::new(alloc),
         UInt16Array::default(alloc),
         DataType::UInt16,
-    )?;
-    are_of(
+    );
+    let is_32 = are_of(
+        &rt,
         UInt32Vec::new(alloc),
         UInt32Array::default(alloc),
         DataType::UInt32,
-    )?;
-    are_of(
+    );
+    let is_64 = are_of(
+        &rt,
         UInt64Vec::new(alloc),
         UInt64Array::default(alloc),
         DataType::UInt64,
-    )
+    );
+    assert!(rt; is_8 & is_16 & is_32 & is_64);
 }
 
 #[test]
-fn names_of_wide_numbers(rt: HostRuntime) -> Result<(), Fail> {
+fn names_of_wide_numbers_and_spans_of_time(rt: HostRuntime) {
     let alloc = rt.alloc();
     let narrow = DataType::Decimal(32, 32);
-    are_of(Int128Vec::new(alloc), Int128Array::default(alloc), narrow)?;
+    let is_128 = are_of(
+        &rt,
+        Int128Vec::new(alloc),
+        Int128Array::default(alloc),
+        narrow,
+    );
     let whole = DataType::Decimal256(32, 32);
-    are_of(Int256Vec::new(alloc), Int256Array::default(alloc), whole)
-}
-
-#[test]
-fn names_of_spans_of_time(rt: HostRuntime) -> Result<(), Fail> {
-    let alloc = rt.alloc();
+    let is_256 = are_of(
+        &rt,
+        Int256Vec::new(alloc),
+        Int256Array::default(alloc),
+        whole,
+    );
     let days = DataType::Interval(IntervalUnit::DayTime);
-    are_of(DaysMsVec::new(alloc), DaysMsArray::default(alloc), days)?;
+    let is_days = are_of(
+        &rt,
+        DaysMsVec::new(alloc),
+        DaysMsArray::default(alloc),
+        days,
+    );
     let months = DataType::Interval(IntervalUnit::MonthDayNano);
-    are_of(
+    let (builder, array) = (
         MonthsDaysNsVec::new(alloc),
         MonthsDaysNsArray::default(alloc),
-        months,
-    )
+    );
+    assert!(rt; is_128 & is_256 & is_days & are_of(&rt, builder, array, months));
 }

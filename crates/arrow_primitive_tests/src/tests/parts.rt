@@ -3,7 +3,6 @@ use super::*;
 use arrow_memory::bitmap::{Bitmap, MutableBitmap};
 use arrow_memory::buffer::Buffer;
 use arrow_types::native_type::{NativeType, i256};
-use std::process::Abort;
 
 /// The array of another's parts.
 fn again<T: NativeType>(rt: &impl Abort, array: PrimitiveArray<T>) -> PrimitiveArray<T> {
@@ -25,7 +24,7 @@ fn array_of<T: NativeType>(alloc: Global, rt: &impl Abort, given: &[T]) -> Primi
 /// Whether the parts of an array make it again.
 fn made_again<T: NativeType>(alloc: Global, rt: &impl Abort, given: &[T]) -> bool {
     let array = again_of_inner(rt, again(rt, array_of(alloc, rt, given)));
-    let is_again = array.values().as_slice() == given && array.validity().is_none();
+    let is_again = (array.values().as_slice() == given) & array.validity().is_none();
     drop(array);
     is_again
 }
@@ -49,8 +48,9 @@ fn builder_again<T: NativeType>(
 
 /// Whether a null is popped, and the value before it.
 fn pops<T: NativeType>(builder: &mut MutablePrimitiveArray<T>, value: T) -> bool {
-    let null = builder.pop().is_none();
-    null && builder.values_iter().next() == Some(&value) && builder.pop() == Some(value)
+    let is_null = builder.pop().is_none();
+    let is_left = builder.values_iter().next() == Some(&value);
+    is_null & is_left & (builder.pop() == Some(value))
 }
 
 /// Whether the parts of a builder make it again.
@@ -132,7 +132,8 @@ fn mask_builder<T: NativeType>(
 fn rebuilt<T: NativeType>(alloc: Global, rt: &impl Abort, given: &[T], others: &[T]) -> bool {
     let mut builder = built_valued(alloc, rt, given, others);
     mask_builder(alloc, rt, &mut builder);
-    let are_popped = builder.pop().is_none() && builder.pop() == others.get(1).copied();
+    let is_null = builder.pop().is_none();
+    let are_popped = is_null & (builder.pop() == others.get(1).copied());
     drop(builder);
     are_popped
 }
@@ -175,55 +176,43 @@ fn calls<T: NativeType>(alloc: Global, rt: &impl Abort, given: &[T; 3], others: 
 }
 
 #[test]
-fn calls_at_i32(rt: HostRuntime) {
-    assert!(rt; calls::<i32>(rt.alloc(), &rt, &[1, 2, 3], &[4, 5, 6]));
-}
-
-#[test]
-fn calls_at_i64(rt: HostRuntime) {
-    assert!(rt; calls::<i64>(rt.alloc(), &rt, &[1, 2, 3], &[4, 5, 6]));
-}
-
-#[test]
-fn calls_at_i256(rt: HostRuntime) {
+fn calls_at_three_types(rt: HostRuntime) {
+    let narrow = calls::<i32>(rt.alloc(), &rt, &[1, 2, 3], &[4, 5, 6]);
+    let wide = calls::<i64>(rt.alloc(), &rt, &[1, 2, 3], &[4, 5, 6]);
     let given = [i256(0, 1), i256(1, 2), i256(1, 0)];
     let others = [i256(2, 0), i256(0, 5), i256(6, 6)];
-    assert!(rt; calls::<i256>(rt.alloc(), &rt, &given, &others));
+    assert!(rt; narrow & wide & calls::<i256>(rt.alloc(), &rt, &given, &others));
 }
 
-/// Whether an array of numbers is of their type.
-fn is_of_numbers(alloc: Global) -> Result<bool, Error> {
-    let numbers = PrimitiveArray::<i32>::new(DataType::Int32, Buffer::new(alloc)?, None);
-    Ok(*numbers.data_type() == DataType::Int32)
-}
-
-/// Whether an array of dates is of their type.
-fn is_of_dates(alloc: Global) -> Result<bool, Error> {
-    let dates = PrimitiveArray::<i64>::new(DataType::Date64, Buffer::new(alloc)?, None);
-    Ok(*dates.data_type() == DataType::Date64)
+/// Whether an array is of a type.
+fn is_of<T: NativeType>(array: PrimitiveArray<T>, data_type: DataType) -> bool {
+    let is_of = *array.data_type() == data_type;
+    drop(array);
+    drop(data_type);
+    is_of
 }
 
 #[test]
-fn arrays_of_a_type(rt: HostRuntime) -> Result<(), Fail> {
-    all_told(&[is_of_numbers(rt.alloc()), is_of_dates(rt.alloc())])
+fn arrays_of_a_type(rt: HostRuntime) {
+    let values = Buffer::new(rt.alloc()).expect(&rt, "memory");
+    let numbers = PrimitiveArray::<i32>::new(DataType::Int32, values, None);
+    let is_of_numbers = is_of(numbers, DataType::Int32);
+    let values = Buffer::new(rt.alloc()).expect(&rt, "memory");
+    let dates = PrimitiveArray::<i64>::new(DataType::Date64, values, None);
+    assert!(rt; is_of_numbers & is_of(dates, DataType::Date64));
 }
 
-/// Whether a builder of dates is of their type.
-fn is_built_of_dates(alloc: Global) -> bool {
-    let dates = MutablePrimitiveArray::<i64>::from_data_type(alloc, DataType::Date64);
-    *dates.data_type() == DataType::Date64
-}
-
-/// Whether one with room is.
-fn is_roomy_of_dates(alloc: Global) -> Result<bool, Error> {
-    let roomy = MutablePrimitiveArray::<i64>::with_capacity_from(alloc, 1, DataType::Date64)?;
-    Ok(*roomy.data_type() == DataType::Date64)
+/// Whether a builder is of dates.
+fn is_of_dates(builder: MutablePrimitiveArray<i64>) -> bool {
+    let is_of = *builder.data_type() == DataType::Date64;
+    drop(builder);
+    is_of
 }
 
 #[test]
-fn builders_of_a_type(rt: HostRuntime) -> Result<(), Fail> {
-    all_told(&[
-        Ok(is_built_of_dates(rt.alloc())),
-        is_roomy_of_dates(rt.alloc()),
-    ])
+fn builders_of_a_type(rt: HostRuntime) {
+    let builder = MutablePrimitiveArray::<i64>::from_data_type(rt.alloc(), DataType::Date64);
+    let is_built = is_of_dates(builder);
+    let roomy = MutablePrimitiveArray::<i64>::with_capacity_from(rt.alloc(), 1, DataType::Date64);
+    assert!(rt; is_built & is_of_dates(roomy.expect(&rt, "memory")));
 }

@@ -7,42 +7,34 @@ fn write_first(values: &mut [i64]) {
     }
 }
 
-/// Whether values are lent for writing once the clone doesn't live, and not before, and what is written is there.
-fn lends(first: &mut PrimitiveArray<i64>, second: PrimitiveArray<i64>) -> bool {
+/// Values are lent for writing once the clone doesn't live, and not before, and what is written is there.
+#[test]
+fn values_are_lent_to_one_owner(rt: HostRuntime) {
+    let first = PrimitiveArray::from_slice(rt.alloc(), [1, 2, 3].as_slice());
+    let mut first = first.expect(&rt, "memory");
+    let second = first.clone().expect(&rt, "memory");
     let is_lent = first.get_mut_values(write_first);
-    let same = shows(first, [1, 2, 3].as_slice(), "none");
+    let is_same = shows(&first, [1, 2, 3].as_slice(), "none");
     drop(second);
     let is_written = first.get_mut_values(write_first);
-    !is_lent & same & is_written && shows(first, [7, 2, 3].as_slice(), "none")
+    assert!(rt; stores(first, [7, 2, 3].as_slice(), "none") & !is_lent & is_same & is_written);
 }
 
-/// Whether those of a new array are.
-fn lends_new(alloc: Global) -> Result<bool, Error> {
-    let mut first = PrimitiveArray::from_slice(alloc, [1, 2, 3].as_slice())?;
-    let second = first.clone()?;
-    Ok(lends(&mut first, second))
+/// Whether an array stores one and two under a type.
+fn is_named(array: PrimitiveArray<i32>, data_type: DataType) -> bool {
+    let is_named = *array.data_type() == data_type;
+    let is_stored = array.values().as_slice() == [1, 2].as_slice();
+    drop(array);
+    drop(data_type);
+    is_named & is_stored
 }
 
+/// The values of an array of `i32` stay the same under another type, and so do its clone's under the first.
 #[test]
-fn values_are_lent_to_one_owner(rt: HostRuntime) -> Result<(), Fail> {
-    told(lends_new(rt.alloc()))
-}
-
-/// Whether an array of dates and one of numbers both store one and two.
-fn same_values(dates: &PrimitiveArray<i32>, numbers: &PrimitiveArray<i32>) -> bool {
-    let types = *dates.data_type() == DataType::Date32 && *numbers.data_type() == DataType::Int32;
-    let stored = [1, 2].as_slice();
-    types && dates.values().as_slice() == stored && numbers.values().as_slice() == stored
-}
-
-/// Whether parts of an array of `i32` stay the same under another type, and so does its clone's under the first.
-fn renamed(alloc: Global) -> Result<bool, Error> {
-    let dates = PrimitiveArray::<i32>::from_slice(alloc, [1, 2].as_slice())?.to(DataType::Date32);
-    let numbers = dates.clone()?.to(DataType::Int32);
-    Ok(same_values(&dates, &numbers))
-}
-
-#[test]
-fn types_of_one_physical_type(rt: HostRuntime) -> Result<(), Fail> {
-    told(renamed(rt.alloc()))
+fn types_of_one_physical_type(rt: HostRuntime) {
+    let array = PrimitiveArray::<i32>::from_slice(rt.alloc(), [1, 2].as_slice());
+    let dates = array.expect(&rt, "memory").to(DataType::Date32);
+    let numbers = dates.clone().expect(&rt, "memory").to(DataType::Int32);
+    let are_dates = is_named(dates, DataType::Date32);
+    assert!(rt; are_dates & is_named(numbers, DataType::Int32));
 }
