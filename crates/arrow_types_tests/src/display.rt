@@ -2,92 +2,88 @@
 use crate::made::{extension, timestamp, two_extensions};
 use arrow_types::data_type::DataType;
 use arrow_types::units::{IntervalUnit, TimeUnit};
-use std::alloc::{AllocError, Global};
+use std::alloc::Global;
 use std::process::Abort;
 
 /// Returns whether a type prints as this text.
-fn prints(alloc: Global, rt: &impl Abort, data_type: DataType, text: &str) -> bool {
+fn prints(alloc: Global, rt: &impl Abort, data_type: &DataType, text: &str) -> bool {
     let printed = data_type.to_string(alloc).expect(rt, "memory");
     let is_text = printed.as_str() == text;
     drop(printed);
-    drop(data_type);
     is_text
 }
 
-#[test]
-fn types_without_parts_print_their_names(rt: HostRuntime) {
-    let alloc = rt.alloc();
-    let are_integers = prints(alloc, &rt, DataType::Int8, "Int8")
-        & prints(alloc, &rt, DataType::Int16, "Int16")
-        & prints(alloc, &rt, DataType::Int32, "Int32")
-        & prints(alloc, &rt, DataType::Int64, "Int64")
-        & prints(alloc, &rt, DataType::UInt8, "UInt8")
-        & prints(alloc, &rt, DataType::UInt16, "UInt16")
-        & prints(alloc, &rt, DataType::UInt32, "UInt32")
-        & prints(alloc, &rt, DataType::UInt64, "UInt64");
-    let are_others = prints(alloc, &rt, DataType::Boolean, "Boolean")
-        & prints(alloc, &rt, DataType::Date32, "Date32")
-        & prints(alloc, &rt, DataType::Date64, "Date64")
-        & prints(alloc, &rt, DataType::Binary, "Binary")
-        & prints(alloc, &rt, DataType::LargeBinary, "LargeBinary")
-        & prints(alloc, &rt, DataType::Utf8, "Utf8")
-        & prints(alloc, &rt, DataType::LargeUtf8, "LargeUtf8");
-    assert!(rt; are_integers & are_others);
-}
+/// The texts of the types below, in order.
+const TEXTS: &[&str] = &[
+    "Int8",
+    "Int16",
+    "Int32",
+    "Int64",
+    "UInt8",
+    "UInt16",
+    "UInt32",
+    "UInt64",
+    "Boolean",
+    "Date32",
+    "Date64",
+    "Binary",
+    "LargeBinary",
+    "Utf8",
+    "LargeUtf8",
+    "Time32(Second)",
+    "Time64(Nanosecond)",
+    "Duration(Millisecond)",
+    "Interval(YearMonth)",
+    "Interval(DayTime)",
+    "Interval(MonthDayNano)",
+    "Decimal(5, 2)",
+    "Decimal256(76, 0)",
+];
 
 #[test]
-fn types_of_units_print_them(rt: HostRuntime) {
-    let alloc = rt.alloc();
-    let are_times = prints(
-        alloc,
-        &rt,
+fn types_print_their_names_and_parts(rt: HostRuntime) {
+    let types = [
+        DataType::Int8,
+        DataType::Int16,
+        DataType::Int32,
+        DataType::Int64,
+        DataType::UInt8,
+        DataType::UInt16,
+        DataType::UInt32,
+        DataType::UInt64,
+        DataType::Boolean,
+        DataType::Date32,
+        DataType::Date64,
+        DataType::Binary,
+        DataType::LargeBinary,
+        DataType::Utf8,
+        DataType::LargeUtf8,
         DataType::Time32(TimeUnit::Second),
-        "Time32(Second)",
-    ) & prints(
-        alloc,
-        &rt,
         DataType::Time64(TimeUnit::Nanosecond),
-        "Time64(Nanosecond)",
-    ) & prints(
-        alloc,
-        &rt,
         DataType::Duration(TimeUnit::Millisecond),
-        "Duration(Millisecond)",
-    );
-    for (unit, text) in [
-        (IntervalUnit::YearMonth, "Interval(YearMonth)"),
-        (IntervalUnit::DayTime, "Interval(DayTime)"),
-        (IntervalUnit::MonthDayNano, "Interval(MonthDayNano)"),
-    ] {
-        assert!(rt; prints(alloc, &rt, DataType::Interval(unit), text));
-    }
-    assert!(rt; are_times);
-}
-
-#[test]
-fn decimals_print_their_digits(rt: HostRuntime) {
-    let is_narrow = prints(rt.alloc(), &rt, DataType::Decimal(5, 2), "Decimal(5, 2)");
-    let is_wide = prints(
-        rt.alloc(),
-        &rt,
+        DataType::Interval(IntervalUnit::YearMonth),
+        DataType::Interval(IntervalUnit::DayTime),
+        DataType::Interval(IntervalUnit::MonthDayNano),
+        DataType::Decimal(5, 2),
         DataType::Decimal256(76, 0),
-        "Decimal256(76, 0)",
-    );
-    assert!(rt; is_narrow & is_wide);
+    ];
+    let mut are_printed = types.len() == TEXTS.len();
+    for (data_type, text) in types.iter().zip(TEXTS) {
+        are_printed &= prints(rt.alloc(), &rt, data_type, *text);
+    }
+    drop(types);
+    assert!(rt; are_printed);
 }
 
-/// Returns whether a type, if it could be created, prints as this text.
-fn made_prints(
-    alloc: Global,
-    rt: &impl Abort,
-    made: Result<DataType, AllocError>,
-    text: &str,
-) -> bool {
-    prints(alloc, rt, made.expect(rt, "memory"), text)
+/// Returns whether a type that holds memory prints as this text.
+fn made_prints(alloc: Global, rt: &impl Abort, made: DataType, text: &str) -> bool {
+    let is_printed = prints(alloc, rt, &made, text);
+    drop(made);
+    is_printed
 }
 
 /// The texts of times with no zone, with one, and with one that has to be escaped.
-const TIMES: [(Option<&str>, &str); 3] = [
+const TIMES: &[(Option<&str>, &str)] = &[
     (None, "Timestamp(Microsecond, None)"),
     (Some("UTC"), "Timestamp(Microsecond, Some(\"UTC\"))"),
     (Some("\"\\"), "Timestamp(Microsecond, Some(\"\\\"\\\\\"))"),
@@ -96,17 +92,17 @@ const TIMES: [(Option<&str>, &str); 3] = [
 #[test]
 fn timestamps_print_their_zones(rt: HostRuntime) {
     for (zone, text) in TIMES {
-        let made = timestamp(rt.alloc(), TimeUnit::Microsecond, zone);
-        assert!(rt; made_prints(rt.alloc(), &rt, made, text));
+        let made = timestamp(rt.alloc(), &rt, TimeUnit::Microsecond, *zone);
+        assert!(rt; made_prints(rt.alloc(), &rt, made, *text));
     }
 }
 
 #[test]
 fn extensions_print_what_they_extend(rt: HostRuntime) {
-    let bare = extension(rt.alloc(), "names", DataType::Utf8, None);
+    let bare = extension(rt.alloc(), &rt, "names", DataType::Utf8, None);
     let is_bare = made_prints(rt.alloc(), &rt, bare, "Extension(\"names\", Utf8, None)");
     let nested =
         "Extension(\"ages\", Extension(\"months\", Interval(YearMonth), None), Some(\"whole\"))";
-    let two = two_extensions(rt.alloc());
+    let two = two_extensions(rt.alloc(), &rt);
     assert!(rt; is_bare & made_prints(rt.alloc(), &rt, two, nested));
 }

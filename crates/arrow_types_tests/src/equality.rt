@@ -2,111 +2,97 @@
 use crate::made::{extension, timestamp};
 use arrow_types::data_type::DataType;
 use arrow_types::units::{IntervalUnit, TimeUnit};
-use std::alloc::{AllocError, Global};
-
-/// Are the two types told apart?
-fn differ(first: DataType, second: DataType) -> bool {
-    first != second
-}
+use std::alloc::Global;
+use std::process::Abort;
 
 #[test]
-fn equality_sees_units(rt: HostRuntime) {
+fn equality_sees_units_and_digits(rt: HostRuntime) {
     let second = TimeUnit::Second;
-    let are_told = differ(DataType::Int32, DataType::Date32)
-        && differ(DataType::Binary, DataType::LargeBinary)
-        && differ(
+    let types = [
+        (DataType::Int32, DataType::Date32),
+        (DataType::Binary, DataType::LargeBinary),
+        (
             DataType::Time32(second),
             DataType::Time32(TimeUnit::Millisecond),
-        )
-        && differ(DataType::Time32(second), DataType::Time64(second))
-        && differ(
+        ),
+        (DataType::Time32(second), DataType::Time64(second)),
+        (
             DataType::Duration(second),
             DataType::Duration(TimeUnit::Nanosecond),
-        );
-    let months = DataType::Interval(IntervalUnit::YearMonth);
-    assert!(rt; are_told && differ(months, DataType::Interval(IntervalUnit::DayTime)));
-}
-
-#[test]
-fn equality_sees_digits(rt: HostRuntime) {
-    for (precision, scale) in [(6, 2), (5, 3)] {
-        assert!(rt; differ(DataType::Decimal(5, 2), DataType::Decimal(precision, scale)));
-        assert!(rt;
-            differ(
-                DataType::Decimal256(precision, scale),
-                DataType::Decimal256(5, 2)
-            )
-        );
+        ),
+        (
+            DataType::Interval(IntervalUnit::YearMonth),
+            DataType::Interval(IntervalUnit::DayTime),
+        ),
+        (DataType::Decimal(5, 2), DataType::Decimal(6, 2)),
+        (DataType::Decimal(5, 2), DataType::Decimal(5, 3)),
+        (DataType::Decimal256(6, 2), DataType::Decimal256(5, 2)),
+        (DataType::Decimal256(5, 3), DataType::Decimal256(5, 2)),
+        (DataType::Decimal(5, 2), DataType::Decimal256(5, 2)),
+    ];
+    let mut are_told = true;
+    for (first, second) in types.iter() {
+        are_told &= *first != *second;
     }
-    assert!(rt; differ(DataType::Decimal(5, 2), DataType::Decimal256(5, 2)));
+    drop(types);
+    assert!(rt; are_told);
 }
 
-/// Are the two types the same? Nothing where memory is refused for one.
-fn are_same(
-    first: Result<DataType, AllocError>,
-    second: Result<DataType, AllocError>,
-) -> Option<bool> {
-    let first = first.ok()?;
-    let second = second.ok()?;
-    Some(first == second)
+/// Are the two types the same?
+fn are_same(first: DataType, second: DataType) -> bool {
+    let are_same = first == second;
+    drop(second);
+    drop(first);
+    are_same
 }
 
-/// Is a time with this unit and zone one of seconds in UTC?
-fn is_universal(alloc: Global, unit: TimeUnit, zone: Option<&str>) -> Option<bool> {
-    are_same(
-        timestamp(alloc, unit, zone),
-        timestamp(alloc, TimeUnit::Second, Some("UTC")),
-    )
-}
+/// Units and zones of times, and whether these equal a time of seconds in UTC.
+const TIMES: &[(TimeUnit, Option<&str>, bool)] = &[
+    (TimeUnit::Second, Some("UTC"), true),
+    (TimeUnit::Millisecond, Some("UTC"), false),
+    (TimeUnit::Second, Some("UTC+1"), false),
+    (TimeUnit::Second, Some(""), false),
+    (TimeUnit::Second, None, false),
+];
 
 #[test]
 fn equality_sees_zones(rt: HostRuntime) {
-    for (unit, zone, same) in [
-        (TimeUnit::Second, Some("UTC"), true),
-        (TimeUnit::Millisecond, Some("UTC"), false),
-        (TimeUnit::Second, Some("UTC+1"), false),
-        (TimeUnit::Second, Some(""), false),
-        (TimeUnit::Second, None, false),
-    ] {
-        assert!(rt; is_universal(rt.alloc(), unit, zone) == Some(same));
+    for (unit, zone, same) in TIMES {
+        let time = timestamp(rt.alloc(), &rt, *unit, *zone);
+        let universal = timestamp(rt.alloc(), &rt, TimeUnit::Second, Some("UTC"));
+        assert!(rt; are_same(time, universal) == *same);
     }
 }
 
-/// An extension around an extension around lengths of time, with these parts.
-fn nested(
-    alloc: Global,
-    name: &str,
-    within: &str,
-    unit: TimeUnit,
-    metadata: Option<&str>,
-) -> Result<DataType, AllocError> {
-    let inner = extension(alloc, within, DataType::Duration(unit), None)?;
-    extension(alloc, name, inner, metadata)
+/// The names of an extension and of the one that it is around, the unit of the lengths of time around which that is,
+/// and the metadata of the first.
+type Nested = (&'static str, &'static str, TimeUnit, Option<&'static str>);
+
+/// The extension of these parts.
+fn nested(alloc: Global, rt: &impl Abort, parts: Nested) -> DataType {
+    let (name, within, unit, metadata) = parts;
+    let inner = extension(alloc, rt, within, DataType::Duration(unit), None);
+    extension(alloc, rt, name, inner, metadata)
 }
 
-/// Is an extension with these parts the one of an `id` of a `row` of seconds, without metadata?
-fn is_bare(
-    alloc: Global,
-    name: &str,
-    within: &str,
-    unit: TimeUnit,
-    metadata: Option<&str>,
-) -> Option<bool> {
-    let bare = nested(alloc, "id", "row", TimeUnit::Second, None);
-    are_same(nested(alloc, name, within, unit, metadata), bare)
-}
+/// An `id` of a `row` of seconds, without metadata.
+const BARE: Nested = ("id", "row", TimeUnit::Second, None);
+
+/// Extensions, and whether they equal that one.
+const EXTENSIONS: &[(Nested, bool)] = &[
+    (BARE, true),
+    (("id", "row", TimeUnit::Second, Some("")), false),
+    (("id", "row", TimeUnit::Second, Some("x")), false),
+    (("ID", "row", TimeUnit::Second, None), false),
+    (("id", "rows", TimeUnit::Second, None), false),
+    (("row", "id", TimeUnit::Second, None), false),
+    (("id", "row", TimeUnit::Nanosecond, None), false),
+];
 
 #[test]
 fn equality_sees_each_part_of_an_extension(rt: HostRuntime) {
-    for (name, within, unit, metadata, same) in [
-        ("id", "row", TimeUnit::Second, None, true),
-        ("id", "row", TimeUnit::Second, Some(""), false),
-        ("id", "row", TimeUnit::Second, Some("x"), false),
-        ("ID", "row", TimeUnit::Second, None, false),
-        ("id", "rows", TimeUnit::Second, None, false),
-        ("row", "id", TimeUnit::Second, None, false),
-        ("id", "row", TimeUnit::Nanosecond, None, false),
-    ] {
-        assert!(rt; is_bare(rt.alloc(), name, within, unit, metadata) == Some(same));
+    for (parts, same) in EXTENSIONS {
+        let other = nested(rt.alloc(), &rt, *parts);
+        assert!(rt; are_same(other, nested(rt.alloc(), &rt, BARE)) == *same);
     }
 }

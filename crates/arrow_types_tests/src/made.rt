@@ -1,40 +1,43 @@
 //! Data types that hold memory.
 use arrow_types::data_type::DataType;
 use arrow_types::units::{IntervalUnit, TimeUnit};
-use std::alloc::{AllocError, Global};
+use std::alloc::Global;
+use std::process::Abort;
 
 /// A time with this zone, which may be none.
 pub(crate) fn timestamp(
     alloc: Global,
+    rt: &impl Abort,
     unit: TimeUnit,
     zone: Option<&str>,
-) -> Result<DataType, AllocError> {
-    Ok(DataType::Timestamp(unit, text_of(alloc, zone)?))
+) -> DataType {
+    DataType::Timestamp(unit, text_of(alloc, rt, zone))
 }
 
 /// An extension around a type, with this metadata, which may be none.
 pub(crate) fn extension(
     alloc: Global,
+    rt: &impl Abort,
     name: &str,
     inner: DataType,
     metadata: Option<&str>,
-) -> Result<DataType, AllocError> {
-    let name = String::from_str(alloc, name)?;
-    let metadata = text_of(alloc, metadata)?;
-    Ok(DataType::Extension(name, Box::new(alloc, inner)?, metadata))
+) -> DataType {
+    let name = String::from_str(alloc, name).expect(rt, "memory");
+    let inner = Box::new(alloc, inner).expect(rt, "memory");
+    DataType::Extension(name, inner, text_of(alloc, rt, metadata))
 }
 
 /// A copy of a text, which may be none.
-fn text_of(alloc: Global, text: Option<&str>) -> Result<Option<String>, AllocError> {
+fn text_of(alloc: Global, rt: &impl Abort, text: Option<&str>) -> Option<String> {
     match text {
-        Some(text) => Ok(Some(String::from_str(alloc, text)?)),
-        None => Ok(None),
+        Some(text) => Some(String::from_str(alloc, text).expect(rt, "memory")),
+        None => None,
     }
 }
 
 /// Two extensions, one around the other, around months.
-pub(crate) fn two_extensions(alloc: Global) -> Result<DataType, AllocError> {
+pub(crate) fn two_extensions(alloc: Global, rt: &impl Abort) -> DataType {
     let months = DataType::Interval(IntervalUnit::YearMonth);
-    let inner = extension(alloc, "months", months, None)?;
-    extension(alloc, "ages", inner, Some("whole"))
+    let inner = extension(alloc, rt, "months", months, None);
+    extension(alloc, rt, "ages", inner, Some("whole"))
 }
