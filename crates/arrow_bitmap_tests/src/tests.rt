@@ -47,9 +47,12 @@ pub(crate) fn cut(bitmap: &mut Bitmap, offset: usize, len: usize) -> bool {
 
 /// Whether an iterator that passes over so many marks gives the one behind them, or ends.
 fn passes(mut marks: BitmapIter<'_>, text: &str, count: usize) -> bool {
-    let mark = text.as_bytes().get(count).map(|mark| *mark == b'1');
+    let mark = match text.as_bytes().get(count) {
+        Some(mark) => Some(*mark == b'1'),
+        None => None,
+    };
     let left = text.len().saturating_sub(count).saturating_sub(1);
-    marks.nth(count) == mark && marks.len() == left
+    (marks.nth(count) == mark) & (marks.len() == left)
 }
 
 /// Whether the marks of a text are read one by one and past some of them, and there are no more.
@@ -59,8 +62,8 @@ fn reads(bitmap: &Bitmap, text: &str) -> bool {
             return false;
         }
     }
-    let is_passed = passes(bitmap.iter(), text, 2) && passes(bitmap.iter(), text, usize::MAX);
-    is_passed && bitmap.len() == text.len()
+    let is_passed = passes(bitmap.iter(), text, 2) & passes(bitmap.iter(), text, usize::MAX);
+    is_passed & (bitmap.len() == text.len())
 }
 
 /// Where marks are cut, by how many, and the marks that are left then, of which so many are clear.

@@ -1,4 +1,5 @@
 use arrow_memory::buffer::Buffer;
+use either::{Left, Right};
 use std::alloc::Global;
 use std::process::Abort;
 
@@ -28,11 +29,13 @@ fn slices_of_slices_add_their_places(rt: HostRuntime) {
 
 #[test]
 fn new_buffers_are_empty(rt: HostRuntime) {
-    let wide = Buffer::<i64>::new(rt.alloc()).expect(&rt, "memory").len();
-    let narrow = Buffer::<u8>::new(rt.alloc())
-        .expect(&rt, "memory")
-        .is_empty();
-    assert!(rt; (wide == 0) & narrow);
+    let wide = Buffer::<i64>::new(rt.alloc()).expect(&rt, "memory");
+    let is_wide = wide.len() == 0;
+    drop(wide);
+    let narrow = Buffer::<u8>::new(rt.alloc()).expect(&rt, "memory");
+    let is_narrow = narrow.is_empty();
+    drop(narrow);
+    assert!(rt; is_wide & is_narrow);
 }
 
 #[test]
@@ -45,11 +48,25 @@ fn slices_of_no_value_are_empty(rt: HostRuntime) {
     assert!(rt; !is_empty & is_cut & is_cut_empty);
 }
 
-/// Whether a buffer is thawed while a clone lives, and once it doesn't.
+/// Whether a buffer is thawed.
+fn thaws(frozen: Buffer<i64>) -> bool {
+    match frozen.into_mut() {
+        Left(frozen) => {
+            drop(frozen);
+            false
+        }
+        Right(thawed) => {
+            drop(thawed);
+            true
+        }
+    }
+}
+
+/// Whether it is thawed while a clone lives, and once it doesn't.
 fn sides(rt: &impl Abort, first: Buffer<i64>) -> (bool, bool) {
     let second = first.clone().expect(rt, "memory");
-    let shared = first.into_mut().is_right();
-    (shared, second.into_mut().is_right())
+    let shared = thaws(first);
+    (shared, thaws(second))
 }
 
 #[test]
@@ -61,7 +78,7 @@ fn values_thaw_where_nothing_shares_them(rt: HostRuntime) {
 fn stay_frozen(buffer: Buffer<i64>) -> bool {
     let mut buffer = buffer;
     let are_cut = cuts(&mut buffer, 0, 2, [7, 8].as_slice());
-    are_cut & buffer.into_mut().is_left()
+    are_cut & !thaws(buffer)
 }
 
 /// A slice doesn't show the whole vector.

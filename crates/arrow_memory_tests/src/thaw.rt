@@ -3,6 +3,7 @@ use arrow_memory::buffer::Buffer;
 use arrow_memory::offset::{Offsets, OffsetsBuffer};
 use arrow_memory::thaw::{into_mut_bits, into_mut_bytes, into_mut_values};
 use arrow_types::offset::Offset;
+use either::{Left, Right};
 use std::alloc::Global;
 use std::process::Abort;
 
@@ -27,38 +28,54 @@ fn values(alloc: Global, rt: &impl Abort) -> Buffer<i64> {
 
 /// Whether values are thawed with a mask, or with none.
 fn thaws_values(alloc: Global, rt: &impl Abort, mask: Option<Bitmap>) -> bool {
-    into_mut_values(values(alloc, rt), mask).is_right()
+    match into_mut_values(values(alloc, rt), mask) {
+        Left((values, mask)) => {
+            drop(mask);
+            drop(values);
+            false
+        }
+        Right((values, mask)) => {
+            drop(mask);
+            drop(values);
+            true
+        }
+    }
 }
 
-/// Whether they are while the mask is shared, and once it isn't.
-fn sides_of_mask(alloc: Global, rt: &impl Abort) -> (bool, bool) {
-    let mask = cut(alloc, rt);
-    let other = mask.clone().expect(rt, "memory");
-    let shared = thaws_values(alloc, rt, Some(mask));
-    (shared, thaws_values(alloc, rt, Some(other)))
-}
-
+/// Values are not thawed while the mask is shared, and are once it isn't, or none is held.
 #[test]
 fn values_thaw_with_their_mask(rt: HostRuntime) {
-    assert!(rt; sides_of_mask(rt.alloc(), &rt) == (false, true));
-    assert!(rt; thaws_values(rt.alloc(), &rt, None));
+    let mask = cut(rt.alloc(), &rt);
+    let other = mask.clone().expect(&rt, "memory");
+    let is_shared = !thaws_values(rt.alloc(), &rt, Some(mask));
+    let is_alone = thaws_values(rt.alloc(), &rt, Some(other));
+    assert!(rt; is_shared & is_alone & thaws_values(rt.alloc(), &rt, None));
 }
 
-/// Whether bits are thawed with a mask while they are shared, and with another once they aren't.
-fn sides_of_bits(alloc: Global, rt: &impl Abort) -> (bool, bool) {
-    let first = bits(alloc, rt);
-    let other = first.clone().expect(rt, "memory");
-    let shared = into_mut_bits(first, Some(bits(alloc, rt))).is_right();
-    (
-        shared,
-        into_mut_bits(other, Some(cut(alloc, rt))).is_right(),
-    )
+/// Whether bits are thawed with a mask, or with none.
+fn thaws_bits(bits: Bitmap, mask: Option<Bitmap>) -> bool {
+    match into_mut_bits(bits, mask) {
+        Left((bits, mask)) => {
+            drop(mask);
+            drop(bits);
+            false
+        }
+        Right((bits, mask)) => {
+            drop(mask);
+            drop(bits);
+            true
+        }
+    }
 }
 
+/// Bits are not thawed while they are shared, and are with another mask once they aren't, or with none.
 #[test]
 fn bits_thaw_with_their_mask(rt: HostRuntime) {
-    assert!(rt; sides_of_bits(rt.alloc(), &rt) == (false, true));
-    assert!(rt; into_mut_bits(bits(rt.alloc(), &rt), None).is_right());
+    let first = bits(rt.alloc(), &rt);
+    let other = first.clone().expect(&rt, "memory");
+    let is_shared = !thaws_bits(first, Some(bits(rt.alloc(), &rt)));
+    let is_alone = thaws_bits(other, Some(cut(rt.alloc(), &rt)));
+    assert!(rt; is_shared & is_alone & thaws_bits(bits(rt.alloc(), &rt), None));
 }
 
 /// Two slots, the second of one byte.
@@ -73,43 +90,41 @@ fn bytes(alloc: Global, rt: &impl Abort, bytes: &[u8]) -> Buffer<u8> {
     Buffer::from_vec(bytes.to_vec(alloc).expect(rt, "memory")).expect(rt, "memory")
 }
 
-/// The bytes of the two slots that are thawed with a mask or none: those up to the last offset.
-fn thawed(
+/// Whether the two slots are thawed with a mask or none, to this one byte alone, up to the last offset; nothing if they
+/// are not thawed.
+fn thaws_to_one(
     alloc: Global,
     rt: &impl Abort,
     bytes: Buffer<u8>,
     mask: Option<Bitmap>,
-) -> Option<Vec<u8>> {
+) -> Option<bool> {
     let offsets = slots(alloc, rt);
     assert!(rt; offsets.last().to_usize() <= bytes.len());
-    let (_, bytes, _) = into_mut_bytes::<i32>(offsets, bytes, mask).right()?;
-    Some(bytes)
+    match into_mut_bytes::<i32>(offsets, bytes, mask) {
+        Left((offsets, bytes, mask)) => {
+            drop(mask);
+            drop(bytes);
+            drop(offsets);
+            None
+        }
+        Right((offsets, bytes, mask)) => {
+            drop(mask);
+            drop(offsets);
+            let is_one = bytes.as_slice() == [0x61].as_slice();
+            drop(bytes);
+            Some(is_one)
+        }
+    }
 }
 
-/// Whether bytes are thawed, to this one alone.
-fn is_one(thawed: Option<Vec<u8>>) -> bool {
-    let is_one = match &thawed {
-        Some(bytes) => bytes.as_slice() == [0x61].as_slice(),
-        None => false,
-    };
-    drop(thawed);
-    is_one
-}
-
-/// Whether two owners of bytes are, the first while both live.
-fn sides_of_bytes(alloc: Global, rt: &impl Abort) -> (bool, bool) {
-    let first = bytes(alloc, rt, [0x61, 0xff].as_slice());
-    let other = first.clone().expect(rt, "memory");
-    let shared = thawed(alloc, rt, first, Some(cut(alloc, rt))).is_some();
-    (
-        shared,
-        is_one(thawed(alloc, rt, other, Some(cut(alloc, rt)))),
-    )
-}
-
+/// Slots are not thawed while their bytes are shared, and are once they aren't, or without a mask.
 #[test]
 fn slots_thaw_with_their_mask(rt: HostRuntime) {
-    assert!(rt; sides_of_bytes(rt.alloc(), &rt) == (false, true));
+    let first = bytes(rt.alloc(), &rt, [0x61, 0xff].as_slice());
+    let other = first.clone().expect(&rt, "memory");
+    let shared = thaws_to_one(rt.alloc(), &rt, first, Some(cut(rt.alloc(), &rt)));
+    let alone = thaws_to_one(rt.alloc(), &rt, other, Some(cut(rt.alloc(), &rt)));
     let bare = bytes(rt.alloc(), &rt, [0x61].as_slice());
-    assert!(rt; is_one(thawed(rt.alloc(), &rt, bare, None)));
+    let bare = thaws_to_one(rt.alloc(), &rt, bare, None);
+    assert!(rt; shared.is_none() & (alone == Some(true)) & (bare == Some(true)));
 }

@@ -19,15 +19,15 @@ fn sum_and_nulls(slots: ZipValidity<Iter<'_, i64>, BitmapIter<'_>>) -> (i64, usi
 fn clear_marks_are_none(rt: HostRuntime) {
     let marks = MutableBitmap::from_slice(rt.alloc(), [true, false, true].as_slice());
     let marks = marks.expect(&rt, "memory");
-    let summed = sum_and_nulls(ZipValidity::new([1, 2, 4].iter(), Some(marks.iter())));
+    let (sum, nulls) = sum_and_nulls(ZipValidity::new([1, 2, 4].iter(), Some(marks.iter())));
     drop(marks);
-    assert!(rt; summed == (5, 1));
+    assert!(rt; (sum == 5) & (nulls == 1));
 }
 
 #[test]
 fn without_marks_all_are_valid(rt: HostRuntime) {
     let (sum, nulls) = sum_and_nulls(ZipValidity::new([3, -1].iter(), None));
-    assert!(rt; sum == 2 && nulls == 0);
+    assert!(rt; (sum == 2) & (nulls == 0));
 }
 
 /// Whether the last of three slots and the first of those left are null, and what is left after them is not.
@@ -38,7 +38,8 @@ fn meet(marks: &MutableBitmap) -> bool {
     let mut slots = ZipValidity::new([1, 2, 4].iter(), Some(marks.iter()));
     let last = matches!(slots.next_back(), Some(None));
     let first = matches!(slots.next(), Some(None));
-    last & first & (sum_and_nulls(slots) == (2, 0))
+    let (sum, nulls) = sum_and_nulls(slots);
+    last & first & (sum == 2) & (nulls == 0)
 }
 
 #[test]

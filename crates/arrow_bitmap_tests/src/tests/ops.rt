@@ -20,7 +20,10 @@ fn sliced(alloc: Global, rt: &impl Abort, offset: usize, text: &str) -> Bitmap {
 
 /// Returns whether a bitmap has the marks that a text writes, and counts its clear marks right.
 fn has(bitmap: Bitmap, text: &str) -> bool {
-    let clear = text.as_bytes().iter().filter(|mark| **mark == b'0').count();
+    let mut clear = 0_usize;
+    for mark in text.as_bytes() {
+        clear = clear.saturating_add(usize::from(*mark == b'0'));
+    }
     let is_right = gives(bitmap.iter(), text) & (bitmap.unset_bits() == clear);
     drop(bitmap);
     is_right

@@ -3,6 +3,7 @@ ghost use Rattle.std.specs.Prelude.{◌≡◌, length};
 
 use crate::tests::{cut, frozen, gives};
 use arrow_bitmap::{Bitmap, MutableBitmap};
+use either::{Left, Right};
 use std::alloc::Global;
 use std::process::Abort;
 
@@ -31,31 +32,40 @@ fn cut_marks_do_not_come_back(rt: HostRuntime) {
     assert!(rt; pushes_behind_cut(rt.alloc(), &rt));
 }
 
-/// How many marks there are, and how many of them are clear.
-fn counts(marks: Bitmap) -> (usize, usize) {
-    let counts = (marks.len(), marks.unset_bits());
+/// Whether so many marks are there, all of which are clear.
+fn are_clear(marks: Bitmap, count: usize) -> bool {
+    let are_clear = (marks.len() == count) & (marks.unset_bits() == count);
     drop(marks);
-    counts
+    are_clear
 }
 
 #[test]
 fn zeroed_marks_are_clear(rt: HostRuntime) {
-    let zeroed = counts(Bitmap::new_zeroed(rt.alloc(), 70).expect(&rt, "memory"));
-    let none = counts(Bitmap::new(rt.alloc()).expect(&rt, "memory"));
-    assert!(rt; (zeroed == (70, 70)) & (none == (0, 0)));
+    let zeroed = are_clear(Bitmap::new_zeroed(rt.alloc(), 70).expect(&rt, "memory"), 70);
+    assert!(rt; zeroed & are_clear(Bitmap::new(rt.alloc()).expect(&rt, "memory"), 0));
 }
 
-/// Whether marks are thawed while a clone lives, and once it doesn't.
-fn sides(rt: &impl Abort, first: Bitmap) -> (bool, bool) {
-    let second = first.clone().expect(rt, "memory");
-    let shared = first.into_mut().is_right();
-    (shared, second.into_mut().is_right())
+/// Whether marks are thawed.
+fn thaws(marks: Bitmap) -> bool {
+    match marks.into_mut() {
+        Left(marks) => {
+            drop(marks);
+            false
+        }
+        Right(marks) => {
+            drop(marks);
+            true
+        }
+    }
 }
 
+/// Marks are not thawed while a clone lives, and are once it doesn't.
 #[test]
 fn marks_thaw_where_nothing_shares_them(rt: HostRuntime) {
     let first = frozen(rt.alloc(), &rt, "1011000111");
-    assert!(rt; sides(&rt, first) == (false, true));
+    let second = first.clone().expect(&rt, "memory");
+    let is_shared = !thaws(first);
+    assert!(rt; is_shared & thaws(second));
 }
 
 /// Sets the second of some marks.
@@ -93,7 +103,7 @@ fn gives_owned(bitmap: Bitmap) -> bool {
     let ends = (marks.next_back(), marks.next(), marks.next_back());
     let is_over = marks.next().is_none();
     drop(marks);
-    is_over & (ends == (Some(true), Some(false), Some(true)))
+    is_over & (ends.0 == Some(true)) & (ends.1 == Some(false)) & (ends.2 == Some(true))
 }
 
 #[test]
@@ -103,16 +113,18 @@ fn owned_marks_come_from_both_ends(rt: HostRuntime) {
     assert!(rt; gives_owned(bitmap));
 }
 
-/// Returns whether a bitmap and the growing one that it is thawed to are both empty.
-fn are_empty(bitmap: Bitmap) -> (bool, bool) {
+/// Returns whether a bitmap and the growing one that it is thawed to are both empty, or neither is.
+fn are_empty(rt: &impl Abort, bitmap: Bitmap) -> bool {
     let is_empty = bitmap.is_empty();
-    let thawed = bitmap.into_mut().right().map(|marks| marks.is_empty());
-    (is_empty, thawed == Some(true))
+    let thawed = bitmap.into_mut().right().expect(rt, "marks alone");
+    let is_thawed_empty = thawed.is_empty();
+    drop(thawed);
+    assert!(rt; is_empty == is_thawed_empty);
+    is_empty
 }
 
 #[test]
 fn bitmaps_of_no_mark_are_empty(rt: HostRuntime) {
-    let none = are_empty(frozen(rt.alloc(), &rt, ""));
-    let clear = are_empty(frozen(rt.alloc(), &rt, "00"));
-    assert!(rt; (none == (true, true)) & (clear == (false, false)));
+    let none = are_empty(&rt, frozen(rt.alloc(), &rt, ""));
+    assert!(rt; none & !are_empty(&rt, frozen(rt.alloc(), &rt, "00")));
 }

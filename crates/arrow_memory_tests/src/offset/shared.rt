@@ -1,4 +1,5 @@
 use arrow_memory::offset::{Offsets, OffsetsBuffer};
+use either::{Left, Right};
 use std::alloc::Global;
 use std::process::Abort;
 
@@ -26,11 +27,25 @@ fn slices_count_offsets(rt: HostRuntime) {
     assert!(rt; first & second);
 }
 
-/// Whether offsets are thawed while a clone lives, and once it doesn't.
+/// Whether offsets are thawed.
+fn thaws(frozen: OffsetsBuffer<i32>) -> bool {
+    match frozen.into_mut() {
+        Left(frozen) => {
+            drop(frozen);
+            false
+        }
+        Right(thawed) => {
+            drop(thawed);
+            true
+        }
+    }
+}
+
+/// Whether they are thawed while a clone lives, and once it doesn't.
 fn sides(rt: &impl Abort, first: OffsetsBuffer<i32>) -> (bool, bool) {
     let second = first.clone().expect(rt, "memory");
-    let shared = first.into_mut().is_right();
-    (shared, second.into_mut().is_right())
+    let shared = thaws(first);
+    (shared, thaws(second))
 }
 
 #[test]
@@ -43,7 +58,7 @@ fn offsets_thaw_where_nothing_shares_them(rt: HostRuntime) {
 fn stay_frozen(offsets: OffsetsBuffer<i32>) -> bool {
     let mut offsets = offsets;
     let are_cut = cuts(&mut offsets, 0, 2, [0, 2].as_slice());
-    are_cut & offsets.into_mut().is_left()
+    are_cut & !thaws(offsets)
 }
 
 /// A slice doesn't show the whole vector.

@@ -1,25 +1,26 @@
 //! Offsets of one width as those of the other.
 use arrow_memory::offset::OffsetsBuffer;
 use arrow_testing::{are_offsets, frozen_offsets, tells};
-use arrow_types::error::Error;
 use arrow_types::offset::Offset;
 use std::alloc::Global;
 use std::process::Abort;
 
-/// Wide offsets of these numbers as narrow ones.
-fn narrowed(
-    alloc: Global,
-    rt: &impl Abort,
-    numbers: &[usize],
-) -> Result<OffsetsBuffer<i32>, Error> {
+/// What is told of wide offsets of these numbers as narrow ones.
+fn narrowing(alloc: Global, rt: &impl Abort, numbers: &[usize]) -> &'static str {
     let offsets = frozen_offsets::<i64>(alloc, numbers).expect(rt, "offsets");
-    OffsetsBuffer::narrow(alloc, &offsets)
+    let told = tells(OffsetsBuffer::narrow(alloc, &offsets));
+    drop(offsets);
+    told
 }
 
-/// Narrow offsets of these numbers as wide ones.
-fn widened(alloc: Global, rt: &impl Abort, numbers: &[usize]) -> OffsetsBuffer<i64> {
-    let offsets = frozen_offsets::<i32>(alloc, numbers).expect(rt, "offsets");
-    OffsetsBuffer::widen(alloc, &offsets).expect(rt, "memory")
+/// Offsets that end past the narrow width.
+const PAST: &[&[usize]] = &[&[0, 2147483648], &[4294967296]];
+
+#[test]
+fn narrow_offsets_end_with_their_width(rt: HostRuntime) {
+    for numbers in PAST {
+        assert!(rt; narrowing(rt.alloc(), &rt, *numbers) == "overflow");
+    }
 }
 
 /// Whether offsets are these numbers.
@@ -29,14 +30,20 @@ fn are<O: Offset>(offsets: OffsetsBuffer<O>, numbers: &[usize]) -> bool {
     are
 }
 
-/// Offsets that end past the narrow width.
-const PAST: &[&[usize]] = &[&[0, 2147483648], &[4294967296]];
+/// Whether wide offsets of these numbers have them as narrow ones.
+fn narrow(alloc: Global, rt: &impl Abort, numbers: &[usize]) -> bool {
+    let offsets = frozen_offsets::<i64>(alloc, numbers).expect(rt, "offsets");
+    let narrow = OffsetsBuffer::narrow(alloc, &offsets).expect(rt, "numbers that fit");
+    drop(offsets);
+    are(narrow, numbers)
+}
 
-#[test]
-fn narrow_offsets_end_with_their_width(rt: HostRuntime) {
-    for numbers in PAST {
-        assert!(rt; tells(narrowed(rt.alloc(), &rt, *numbers)) == "overflow");
-    }
+/// Whether narrow offsets of these numbers have them as wide ones.
+fn widen(alloc: Global, rt: &impl Abort, numbers: &[usize]) -> bool {
+    let offsets = frozen_offsets::<i32>(alloc, numbers).expect(rt, "offsets");
+    let wide = OffsetsBuffer::widen(alloc, &offsets).expect(rt, "memory");
+    drop(offsets);
+    are(wide, numbers)
 }
 
 /// Offsets of either width.
@@ -49,8 +56,6 @@ const EITHER: &[&[usize]] = &[
 #[test]
 fn numbers_stay(rt: HostRuntime) {
     for numbers in EITHER {
-        let narrow = narrowed(rt.alloc(), &rt, *numbers).expect(&rt, "numbers that fit");
-        let is_narrow = are(narrow, *numbers);
-        assert!(rt; is_narrow & are(widened(rt.alloc(), &rt, *numbers), *numbers));
+        assert!(rt; narrow(rt.alloc(), &rt, *numbers) & widen(rt.alloc(), &rt, *numbers));
     }
 }
