@@ -115,6 +115,29 @@ pub extern "C" fn rattle_flat_prim_push_null(alloc: Global, count: usize, rounds
 }
 
 #[inline(always)]
+fn extend_nulls_once(alloc: Global, count: usize, round: usize) -> Option<u64> {
+    let mut out = MutablePrimitiveArray::<i64>::new(alloc);
+    match out.extend_constant(count, None) {
+        Ok(()) => Some(probe(&out, round)),
+        Err(_) => None,
+    }
+}
+
+fn extend_nulls(alloc: Global, count: usize, rounds: usize) -> Option<u64> {
+    let mut sum = 0u64;
+    for round in 0..rounds {
+        sum = sum.wrapping_add(extend_nulls_once(alloc, count, round)?);
+    }
+    Some(sum)
+}
+
+// new, one extend_constant of so many nulls
+#[unsafe(no_mangle)]
+pub extern "C" fn rattle_flat_prim_extend_null(alloc: Global, count: usize, rounds: usize) -> u64 {
+    told(extend_nulls(alloc, count, rounds))
+}
+
+#[inline(always)]
 fn pop_all(out: &mut MutablePrimitiveArray<i64>, count: usize, start: u64) -> u64 {
     let mut sum = start;
     for _ in 0..count {
