@@ -1,9 +1,11 @@
-/* Times the calls that crates/arrow_bench offers and prints nanoseconds an item, at three sizes: inputs that stay in the
-   processor's first cache, in its last, and in memory. `bench` builds and runs it. Each call does so many rounds of its
-   operation; it is timed with one round and with more, and the difference counts, so what is made once does not. Of nine
-   such times the least is told. A name that is given as an argument is the beginning of the lines to time. */
+/* Times the calls that crates/arrow_bench offers, at three sizes, and memcpy beside them. `bench` builds and runs it,
+   and docs/PERFORMANCE.md says what is printed. Each call does its operation in as many rounds as its last argument
+   says. It is timed with one round and with more, and the difference of the least such times counts, so what is made
+   once does not. An argument is the beginning of the names of lines to time. */
 #define _POSIX_C_SOURCE 199309L
 #include <inttypes.h>
+#include <limits.h>
+#include <malloc.h>
 #include <stdio.h>
 #include <stdlib.h>
 #include <string.h>
@@ -19,6 +21,7 @@ typedef const int32_t *ends;
 uint64_t rattle_flat_prim_push(numbers, size_t, bytes, size_t, size_t rounds);
 uint64_t rattle_flat_prim_push_reserved(numbers, size_t, size_t rounds);
 uint64_t rattle_flat_prim_push_null(size_t count, size_t rounds);
+uint64_t rattle_flat_prim_extend_null(size_t count, size_t rounds);
 uint64_t rattle_flat_prim_push_pop(numbers, size_t, bytes, size_t, size_t rounds);
 uint64_t rattle_flat_prim_push_freeze(numbers, size_t, bytes, size_t, size_t rounds);
 uint64_t rattle_flat_prim_extend(numbers, size_t, bytes, size_t, size_t rounds);
@@ -58,7 +61,11 @@ uint64_t rattle_flat_utf8_iter(bytes, size_t, ends, size_t, size_t rounds);
 uint64_t rattle_flat_utf8_push(bytes, size_t, size_t item, size_t times, bytes, size_t, size_t rounds);
 uint64_t rattle_flat_utf8_extend_self(bytes, size_t, size_t item, bytes, size_t, size_t rounds);
 uint64_t rattle_flat_utf8_extend_array(bytes, size_t, size_t item, bytes, size_t, size_t rounds);
-/* kernels: a concatenation of one array in two parts */
+/* kernels: a filter by marks, the slots at keys, and a concatenation of one array in two parts */
+uint64_t rattle_flat_filter_prim(numbers, size_t, bytes, size_t, bytes marks, size_t, size_t rounds);
+uint64_t rattle_flat_filter_utf8(bytes, size_t, ends, size_t, bytes, size_t, bytes marks, size_t, size_t rounds);
+uint64_t rattle_flat_take_prim(numbers, size_t, bytes, size_t, numbers keys, size_t, size_t rounds);
+uint64_t rattle_flat_take_utf8(bytes, size_t, ends, size_t, bytes, size_t, numbers keys, size_t, size_t rounds);
 uint64_t rattle_flat_concat_prim(numbers, size_t, bytes, size_t, size_t rounds);
 uint64_t rattle_flat_concat_utf8(bytes, size_t, ends, size_t, bytes, size_t, size_t rounds);
 /* whole arrays, whose cost hangs on their masks alone, if on anything */
@@ -67,15 +74,25 @@ uint64_t rattle_flat_prim_freeze_thaw(numbers, size_t, bytes, size_t, size_t rou
 uint64_t rattle_flat_prim_thaw_push(numbers, size_t, bytes, size_t, size_t rounds);
 uint64_t rattle_flat_bin_freeze_thaw(bytes, size_t, size_t item, bytes, size_t, size_t rounds);
 
-enum { ITEM = 12, TIMES = 9 };
+enum { ITEM = 12, TIMES = 9, SIZES = 3 };
 
-/* What calls are given: n numbers; for each a mark, of which one in ten is clear, and a bit; n items of ASCII, and of
-   other text of as many bytes, and their ends. */
+static const size_t sizes[SIZES] = {1 << 10, 1 << 16, 1 << 22};
+
+/* One mark a byte, 0 or 1, and the number of those that are set. */
+struct marks {
+    uint8_t *of;
+    size_t set;
+};
+
+/* What calls are given: n numbers; keys below n; n items of ASCII, and of other text of as many bytes, and their ends;
+   and n marks each: valid slots, of which one in ten is clear, truth values at random, which are a filter too, and
+   filters that keep most slots, 99 of 100, or runs of them. */
 struct input {
     size_t n;
-    int64_t *values;
-    uint8_t *valid, *bits, *ascii, *mixed;
+    int64_t *values, *keys;
+    uint8_t *ascii, *mixed;
     int32_t *ends;
+    struct marks valid, bits, most, runs;
 };
 
 static uint64_t random_word(void) {
@@ -95,12 +112,35 @@ static void *room(size_t size) {
     return memory;
 }
 
-static struct input made(size_t n) {
-    struct input in = {n, room(n * 8), room(n), room(n), room(n * ITEM), room(n * ITEM), room((n + 1) * 4)};
+/* Marks of which `clear` in `of` are clear, at random. */
+static struct marks make_marks(size_t n, unsigned clear, unsigned of) {
+    struct marks marks = {room(n), 0};
+    for (size_t i = 0; i < n; i++) {
+        marks.of[i] = random_word() % of >= clear;
+        marks.set += marks.of[i];
+    }
+    return marks;
+}
+
+/* Marks in runs of 1 to 128 that are equal. */
+static struct marks make_runs(size_t n) {
+    struct marks marks = {room(n), 0};
+    uint8_t mark = 0;
+    for (size_t i = 0; i < n; mark = !mark) {
+        for (size_t left = 1 + random_word() % 128; left && i < n; left--) {
+            marks.of[i++] = mark;
+            marks.set += mark;
+        }
+    }
+    return marks;
+}
+
+static struct input make_input(size_t n) {
+    struct input in = {n, room(n * 8), room(n * 8), room(n * ITEM), room(n * ITEM), room((n + 1) * 4),
+                       make_marks(n, 1, 10), make_marks(n, 1, 2), make_marks(n, 1, 100), make_runs(n)};
     for (size_t i = 0; i < n; i++) {
         in.values[i] = (int64_t)random_word();
-        in.valid[i] = random_word() % 10 != 0;
-        in.bits[i] = random_word() & 1;
+        in.keys[i] = (int64_t)(random_word() % n);
         in.ends[i] = (int32_t)(i * ITEM);
         for (size_t j = 0; j < ITEM; j++) {
             in.ascii[i * ITEM + j] = (uint8_t)('a' + random_word() % 26);
@@ -112,88 +152,139 @@ static struct input made(size_t n) {
     return in;
 }
 
-static void dropped(struct input in) {
-    free(in.values), free(in.valid), free(in.bits), free(in.ascii), free(in.mixed), free(in.ends);
+static void drop_input(struct input in) {
+    free(in.values), free(in.keys), free(in.ascii), free(in.mixed), free(in.ends);
+    free(in.valid.of), free(in.bits.of), free(in.most.of), free(in.runs.of);
 }
 
-#define VALUES in->values, in->n
+/* The memory that a round of a line goes through: so many bytes that are there before it, which it reads or writes in
+   place, and those of the vectors that it makes. */
+struct traffic {
+    size_t there, made;
+};
+
+#define VALUES in->values, n
 #define ALL_VALID (bytes)"", 0
-#define NULLS in->valid, in->n
-#define ONES ones, in->n
-#define BITS in->bits, in->n
-#define ITEMS in->ascii, in->n * ITEM
-#define ENDS in->ends, in->n + 1
+#define NULLS in->valid.of, n
+#define ONES ones, n
+#define BITS in->bits.of, n
+#define MOST in->most.of, n
+#define RUNS in->runs.of, n
+#define KEYS in->keys, n
+#define ITEMS in->ascii, n * ITEM
+#define ENDS in->ends, n + 1
 
 static uint8_t *ones;
 
-/* A line: a name, and its call. */
-#define LINES(LINE)                                                                                                    \
-    LINE(prim_push, rattle_flat_prim_push(VALUES, ONES, rounds))                                                       \
-    LINE(prim_push_null10, rattle_flat_prim_push(VALUES, NULLS, rounds))                                               \
-    LINE(prim_push_reserved, rattle_flat_prim_push_reserved(VALUES, rounds))                                           \
-    LINE(prim_push_null, rattle_flat_prim_push_null(in->n, rounds))                                                    \
-    LINE(prim_push_pop_null10, rattle_flat_prim_push_pop(VALUES, NULLS, rounds))                                       \
-    LINE(prim_push_freeze_null10, rattle_flat_prim_push_freeze(VALUES, NULLS, rounds))                                 \
-    LINE(prim_extend_null10, rattle_flat_prim_extend(VALUES, NULLS, rounds))                                           \
-    LINE(prim_extend_slice_all, rattle_flat_prim_extend_slice(VALUES, in->n, rounds))                                  \
-    LINE(prim_extend_slice_1000, rattle_flat_prim_extend_slice(VALUES, 1000, rounds))                                  \
-    LINE(prim_extend_self_null10, rattle_flat_prim_extend_self(VALUES, NULLS, rounds))                                 \
-    LINE(prim_extend_array_null10, rattle_flat_prim_extend_array(VALUES, NULLS, rounds))                               \
-    LINE(prim_iter_sum, rattle_flat_prim_iter_sum(VALUES, ALL_VALID, rounds))                                          \
-    LINE(prim_iter_sum_null10, rattle_flat_prim_iter_sum(VALUES, NULLS, rounds))                                       \
-    LINE(prim_range_sum_null10, rattle_flat_prim_range_sum(VALUES, NULLS, 100, rounds))                                \
-    LINE(prim_builder_iter_sum_null10, rattle_flat_prim_builder_iter_sum(VALUES, NULLS, rounds))                       \
-    LINE(prim_values_sum, rattle_flat_prim_values_sum(VALUES, rounds))                                                 \
-    LINE(prim_value_sum, rattle_flat_prim_value_sum(VALUES, rounds))                                                   \
-    LINE(prim_get_sum_null10, rattle_flat_prim_get_sum(VALUES, NULLS, rounds))                                         \
-    LINE(prim_slice_sum_null10, rattle_flat_prim_slice_sum(VALUES, NULLS, 100, rounds))                                \
-    LINE(bits_push, rattle_flat_bits_push(BITS, 1, rounds))                                                            \
-    LINE(bits_extend_constant_13, rattle_flat_bits_extend_constant(13, in->n / 13, rounds))                            \
-    LINE(bits_unset, rattle_flat_bits_unset(BITS, 1, rounds))                                                          \
-    LINE(bits_freeze_unset, rattle_flat_bits_freeze_unset(BITS, 1, rounds))                                            \
-    LINE(bits_and, rattle_flat_bits_and(BITS, 1, rounds))                                                              \
-    LINE(bits_or, rattle_flat_bits_or(BITS, 1, rounds))                                                                \
-    LINE(bits_not, rattle_flat_bits_not(BITS, 1, rounds))                                                              \
-    LINE(bits_iter, rattle_flat_bits_iter(BITS, 1, rounds))                                                            \
-    LINE(bits_get_bit, rattle_flat_bits_get_bit(BITS, 1, rounds))                                                      \
-    LINE(bits_get, rattle_flat_bits_get(BITS, 1, rounds))                                                              \
-    LINE(bits_set, rattle_flat_bits_set(BITS, rounds))                                                                 \
-    LINE(bool_push_null10, rattle_flat_bool_push(BITS, NULLS, rounds))                                                 \
-    LINE(bool_iter_null10, rattle_flat_bool_iter(BITS, NULLS, rounds))                                                 \
-    LINE(bool_extend_array_null10, rattle_flat_bool_extend_array(BITS, NULLS, rounds))                                 \
-    LINE(bool_true_count_null10, rattle_flat_bool_true_count(BITS, NULLS, rounds))                                     \
-    LINE(bin_push_12, rattle_flat_bin_push(ITEMS, ITEM, 1, ALL_VALID, rounds))                                         \
-    LINE(bin_push_12_null10, rattle_flat_bin_push(ITEMS, ITEM, 1, NULLS, rounds))                                      \
-    LINE(vbin_push_12, rattle_flat_vbin_push(ITEMS, ITEM, 1, rounds))                                                  \
-    LINE(bin_extend_12, rattle_flat_bin_extend(ITEMS, ITEM, 1, rounds))                                                \
-    LINE(bin_extend_values_12, rattle_flat_bin_extend_values(ITEMS, ITEM, 1, rounds))                                  \
-    LINE(bin_extend_self_12, rattle_flat_bin_extend_self(ITEMS, ITEM, NULLS, rounds))                                  \
-    LINE(bin_extend_array_12, rattle_flat_bin_extend_array(ITEMS, ITEM, NULLS, rounds))                                \
-    LINE(utf8_try_new_ascii_12, rattle_flat_utf8_try_new(ITEMS, ENDS, rounds))                                         \
-    LINE(utf8_try_new_mixed_12, rattle_flat_utf8_try_new(in->mixed, in->n * ITEM, ENDS, rounds))                       \
-    LINE(utf8_iter_12, rattle_flat_utf8_iter(ITEMS, ENDS, rounds))                                                     \
-    LINE(utf8_push_12, rattle_flat_utf8_push(ITEMS, ITEM, 1, ALL_VALID, rounds))                                       \
-    LINE(utf8_push_12_null10, rattle_flat_utf8_push(ITEMS, ITEM, 1, NULLS, rounds))                                    \
-    LINE(utf8_extend_self_12, rattle_flat_utf8_extend_self(ITEMS, ITEM, NULLS, rounds))                                \
-    LINE(utf8_extend_array_12, rattle_flat_utf8_extend_array(ITEMS, ITEM, NULLS, rounds))                              \
-    LINE(concat_prim, rattle_flat_concat_prim(VALUES, ALL_VALID, rounds))                                              \
-    LINE(concat_prim_null10, rattle_flat_concat_prim(VALUES, NULLS, rounds))                                           \
-    LINE(concat_utf8_12, rattle_flat_concat_utf8(ITEMS, ENDS, ALL_VALID, rounds))                                      \
-    LINE(concat_utf8_12_null10, rattle_flat_concat_utf8(ITEMS, ENDS, NULLS, rounds))                                   \
-    LINE(prim_null_count, rattle_flat_prim_null_count(VALUES, NULLS, rounds))                                          \
-    LINE(prim_freeze_thaw, rattle_flat_prim_freeze_thaw(VALUES, NULLS, rounds))                                        \
-    LINE(prim_thaw_push, rattle_flat_prim_thaw_push(VALUES, NULLS, rounds))                                            \
-    LINE(bin_freeze_thaw_12, rattle_flat_bin_freeze_thaw(ITEMS, ITEM, NULLS, rounds))
+/* bytes of so many marks, and of so many texts with their offsets */
+#define MARKS(rows) (((rows) + 7) / 8)
+#define TEXTS(rows) (ITEM * (rows) + 4 * ((rows) + 1))
+#define MASK MARKS(n)
+#define TEXT TEXTS(n)
 
-#define FUNCTION(name, call)                                                                                           \
-    static uint64_t run_##name(const struct input *in, size_t rounds) { return call; }
-LINES(FUNCTION)
+/* A line: its name, its traffic (bytes that are there, and bytes that are made), and its call behind `rattle_flat_`. A
+   MOVE does little but move or count bytes, and is compared with memcpy. */
+#define LINES(LINE, MOVE)                                                                                              \
+    LINE(prim_push, 9 * n, 8 * n, prim_push(VALUES, ONES, rounds))                                                     \
+    LINE(prim_push_null10, 9 * n, 8 * n + MASK, prim_push(VALUES, NULLS, rounds))                                      \
+    LINE(prim_push_reserved, 8 * n, 8 * n, prim_push_reserved(VALUES, rounds))                                         \
+    LINE(prim_push_null, 0, 8 * n + MASK, prim_push_null(n, rounds))                                                   \
+    MOVE(prim_extend_null_all, 0, 8 * n + MASK, prim_extend_null(n, rounds))                                           \
+    LINE(prim_push_pop_null10, 9 * n + 8 * n + MASK, 0, prim_push_pop(VALUES, NULLS, rounds))                          \
+    LINE(prim_push_freeze_null10, 9 * n, 8 * n + MASK, prim_push_freeze(VALUES, NULLS, rounds))                        \
+    LINE(prim_extend_null10, 16 * n, 8 * n + MASK, prim_extend(VALUES, NULLS, rounds))                                 \
+    MOVE(prim_extend_slice_all, 8 * n, 8 * n, prim_extend_slice(VALUES, n, rounds))                                    \
+    LINE(prim_extend_slice_1000, 8 * n, 8 * n, prim_extend_slice(VALUES, 1000, rounds))                                \
+    MOVE(prim_extend_self_null10, 8 * n + MASK, 16 * n + MARKS(2 * n), prim_extend_self(VALUES, NULLS, rounds))        \
+    MOVE(prim_extend_array_null10, 8 * n + MASK, 16 * (n - 3) + MARKS(2 * (n - 3)),                                    \
+         prim_extend_array(VALUES, NULLS, rounds))                                                                     \
+    LINE(prim_iter_sum, 8 * n, 0, prim_iter_sum(VALUES, ALL_VALID, rounds))                                            \
+    LINE(prim_iter_sum_null10, 8 * n + MASK, 0, prim_iter_sum(VALUES, NULLS, rounds))                                  \
+    LINE(prim_range_sum_null10, 8 * n + MASK, 0, prim_range_sum(VALUES, NULLS, 128, rounds))                           \
+    LINE(prim_builder_iter_sum_null10, 8 * n + MASK, 0, prim_builder_iter_sum(VALUES, NULLS, rounds))                  \
+    LINE(prim_values_sum, 8 * n, 0, prim_values_sum(VALUES, rounds))                                                   \
+    LINE(prim_value_sum, 8 * n, 0, prim_value_sum(VALUES, rounds))                                                     \
+    LINE(prim_get_sum_null10, 8 * n + MASK, 0, prim_get_sum(VALUES, NULLS, rounds))                                    \
+    LINE(prim_slice_sum_null10, 8 * n + MASK, 0, prim_slice_sum(VALUES, NULLS, 128, rounds))                           \
+    LINE(bits_push, n, MASK, bits_push(BITS, 1, rounds))                                                               \
+    LINE(bits_extend_constant_13, 0, MASK, bits_extend_constant(13, n / 13, rounds))                                   \
+    MOVE(bits_extend_constant_all, 0, MASK, bits_extend_constant(n, 1, rounds))                                        \
+    MOVE(bits_unset, MASK, 0, bits_unset(BITS, 1, rounds))                                                             \
+    LINE(bits_freeze_unset, MASK, 0, bits_freeze_unset(BITS, 1, rounds))                                               \
+    MOVE(bits_and, MASK, MASK, bits_and(BITS, 1, rounds))                                                              \
+    MOVE(bits_or, MASK, MASK, bits_or(BITS, 1, rounds))                                                                \
+    MOVE(bits_not, MASK, MASK, bits_not(BITS, 1, rounds))                                                              \
+    LINE(bits_iter, MASK, 0, bits_iter(BITS, 1, rounds))                                                               \
+    LINE(bits_get_bit, MASK, 0, bits_get_bit(BITS, 1, rounds))                                                         \
+    LINE(bits_get, MASK, 0, bits_get(BITS, 1, rounds))                                                                 \
+    LINE(bits_set, n + MASK, 0, bits_set(BITS, rounds))                                                                \
+    LINE(bool_push_null10, 2 * n, 2 * MASK, bool_push(BITS, NULLS, rounds))                                            \
+    LINE(bool_iter_null10, 2 * MASK, 0, bool_iter(BITS, NULLS, rounds))                                                \
+    MOVE(bool_extend_array_null10, 2 * MASK, 2 * MARKS(2 * (n - 3)), bool_extend_array(BITS, NULLS, rounds))           \
+    MOVE(bool_true_count_null10, 2 * MASK, 0, bool_true_count(BITS, NULLS, rounds))                                    \
+    LINE(bin_push_12, ITEM * n, TEXT, bin_push(ITEMS, ITEM, 1, ALL_VALID, rounds))                                     \
+    LINE(bin_push_12_null10, ITEM * n + n, ITEM * in->valid.set + 4 * (n + 1) + MASK,                                  \
+         bin_push(ITEMS, ITEM, 1, NULLS, rounds))                                                                      \
+    LINE(vbin_push_12, ITEM * n, TEXT, vbin_push(ITEMS, ITEM, 1, rounds))                                              \
+    LINE(bin_extend_12, ITEM * n, TEXT, bin_extend(ITEMS, ITEM, 1, rounds))                                            \
+    LINE(bin_extend_values_12, ITEM * n, TEXT, bin_extend_values(ITEMS, ITEM, 1, rounds))                              \
+    MOVE(bin_extend_self_12, TEXT + MASK, TEXTS(2 * n) + MARKS(2 * n), bin_extend_self(ITEMS, ITEM, NULLS, rounds))    \
+    MOVE(bin_extend_array_12, TEXT + MASK, TEXTS(2 * (n - 3)) + MARKS(2 * (n - 3)),                                    \
+         bin_extend_array(ITEMS, ITEM, NULLS, rounds))                                                                 \
+    MOVE(utf8_try_new_ascii_12, TEXT, 0, utf8_try_new(ITEMS, ENDS, rounds))                                            \
+    LINE(utf8_try_new_mixed_12, TEXT, 0, utf8_try_new(in->mixed, n * ITEM, ENDS, rounds))                              \
+    LINE(utf8_iter_12, 4 * (n + 1), 0, utf8_iter(ITEMS, ENDS, rounds))                                                 \
+    LINE(utf8_push_12, ITEM * n, TEXT, utf8_push(ITEMS, ITEM, 1, ALL_VALID, rounds))                                   \
+    LINE(utf8_push_12_null10, ITEM * n + n, ITEM * in->valid.set + 4 * (n + 1) + MASK,                                 \
+         utf8_push(ITEMS, ITEM, 1, NULLS, rounds))                                                                     \
+    MOVE(utf8_extend_self_12, TEXT + MASK, TEXTS(2 * n) + MARKS(2 * n), utf8_extend_self(ITEMS, ITEM, NULLS, rounds))  \
+    MOVE(utf8_extend_array_12, TEXT + MASK, TEXTS(2 * (n - 3)) + MARKS(2 * (n - 3)),                                   \
+         utf8_extend_array(ITEMS, ITEM, NULLS, rounds))                                                                \
+    LINE(filter_prim_half, 8 * n + MASK, 8 * in->bits.set, filter_prim(VALUES, ALL_VALID, BITS, rounds))               \
+    MOVE(filter_prim_most, 8 * n + MASK, 8 * in->most.set, filter_prim(VALUES, ALL_VALID, MOST, rounds))               \
+    MOVE(filter_prim_most_null10, 8 * n + 2 * MASK, 8 * in->most.set + MARKS(in->most.set),                            \
+         filter_prim(VALUES, NULLS, MOST, rounds))                                                                     \
+    MOVE(filter_prim_runs, 8 * n + MASK, 8 * in->runs.set, filter_prim(VALUES, ALL_VALID, RUNS, rounds))               \
+    LINE(filter_utf8_half, TEXT + MASK, TEXTS(in->bits.set), filter_utf8(ITEMS, ENDS, ALL_VALID, BITS, rounds))        \
+    MOVE(filter_utf8_most, TEXT + MASK, TEXTS(in->most.set), filter_utf8(ITEMS, ENDS, ALL_VALID, MOST, rounds))        \
+    MOVE(filter_utf8_most_null10, TEXT + 2 * MASK, TEXTS(in->most.set) + MARKS(in->most.set),                          \
+         filter_utf8(ITEMS, ENDS, NULLS, MOST, rounds))                                                                \
+    MOVE(filter_utf8_runs, TEXT + MASK, TEXTS(in->runs.set), filter_utf8(ITEMS, ENDS, ALL_VALID, RUNS, rounds))        \
+    LINE(take_prim, 16 * n, 8 * n, take_prim(VALUES, ALL_VALID, KEYS, rounds))                                         \
+    LINE(take_prim_null10, 16 * n + MASK, 8 * n + MASK, take_prim(VALUES, NULLS, KEYS, rounds))                        \
+    LINE(take_utf8, 8 * n + TEXT, TEXT, take_utf8(ITEMS, ENDS, ALL_VALID, KEYS, rounds))                               \
+    LINE(take_utf8_null10, 8 * n + TEXT + MASK, TEXT + MASK, take_utf8(ITEMS, ENDS, NULLS, KEYS, rounds))              \
+    MOVE(concat_prim, 8 * n, 8 * n, concat_prim(VALUES, ALL_VALID, rounds))                                            \
+    MOVE(concat_prim_null10, 8 * n + MASK, 8 * n + MASK, concat_prim(VALUES, NULLS, rounds))                           \
+    MOVE(concat_utf8_12, TEXT, TEXT, concat_utf8(ITEMS, ENDS, ALL_VALID, rounds))                                      \
+    MOVE(concat_utf8_12_null10, TEXT + MASK, TEXT + MASK, concat_utf8(ITEMS, ENDS, NULLS, rounds))                     \
+    LINE(prim_null_count, 0, 0, prim_null_count(VALUES, NULLS, rounds))                                                \
+    LINE(prim_freeze_thaw, MASK, 0, prim_freeze_thaw(VALUES, NULLS, rounds))                                           \
+    LINE(prim_thaw_push, MASK, 0, prim_thaw_push(VALUES, NULLS, rounds))                                               \
+    LINE(bin_freeze_thaw_12, MASK, 0, bin_freeze_thaw(ITEMS, ITEM, NULLS, rounds))
 
-#define ROW(name, call) {#name, run_##name},
+#define FUNCTIONS(name, there, made, call)                                                                             \
+    static uint64_t run_##name(const struct input *in, size_t rounds) {                                                \
+        const size_t n = in->n;                                                                                        \
+        return rattle_flat_##call;                                                                                     \
+    }                                                                                                                  \
+    static struct traffic traffic_##name(const struct input *in) {                                                     \
+        const size_t n = in->n;                                                                                        \
+        (void)n;                                                                                                       \
+        return (struct traffic){there, made};                                                                          \
+    }
+LINES(FUNCTIONS, FUNCTIONS)
+
+#define LINE_ROW(name, there, made, call) {#name, 0, run_##name, traffic_##name},
+#define MOVE_ROW(name, there, made, call) {#name, 1, run_##name, traffic_##name},
 static const struct line {
     const char *name;
+    int moves;
     uint64_t (*run)(const struct input *, size_t rounds);
-} lines[] = {LINES(ROW)};
+    struct traffic (*traffic)(const struct input *);
+} lines[] = {LINES(LINE_ROW, MOVE_ROW)};
+
+enum { LINES_COUNT = sizeof lines / sizeof *lines };
 
 static double seconds(void) {
     struct timespec now;
@@ -201,49 +292,246 @@ static double seconds(void) {
     return (double)now.tv_sec + (double)now.tv_nsec * 1e-9;
 }
 
-static double timed(const struct line *line, const struct input *in, size_t rounds) {
+/* What is timed: a function that does something in so many rounds and returns the seconds that it took; how many rounds
+   more than one it is given; and the least seconds with one round, and with more. */
+struct task {
+    double (*time_rounds)(const void *what, size_t rounds);
+    const void *what;
+    size_t more;
+    double with_one, with_more;
+};
+
+static double least(double a, double b) {
+    return a < b ? a : b;
+}
+
+static void time_task(struct task *task) {
+    task->with_one = least(task->with_one, task->time_rounds(task->what, 1));
+    task->with_more = least(task->with_more, task->time_rounds(task->what, 1 + task->more));
+}
+
+/* Finds how many rounds take long enough to be timed, beside what is done once too. */
+static void find_rounds(struct task *task) {
+    task->with_one = 1e9;
+    for (task->more = 1; task->more < (size_t)1 << 24; task->more *= 2) {
+        task->with_more = 1e9;
+        time_task(task), time_task(task);
+        double took = task->with_more - task->with_one;
+        if (took > 0.02 && took > task->with_one / 2) {
+            return;
+        }
+    }
+}
+
+/* Times tasks in turns, so that a disturbance of the machine meets all of them. */
+static void take_turns(struct task *tasks, int count) {
+    for (int at = 0; at < count; at++) {
+        find_rounds(&tasks[at]);
+    }
+    for (int time = 0; time < TIMES; time++) {
+        for (int at = 0; at < count; at++) {
+            time_task(&tasks[at]);
+        }
+    }
+}
+
+static double round_seconds(const struct task *task) {
+    return (task->with_more - task->with_one) / (double)task->more;
+}
+
+struct line_task {
+    const struct line *line;
+    const struct input *in;
+};
+
+static double time_line(const void *what, size_t rounds) {
+    const struct line_task *task = what;
     double start = seconds();
-    if (line->run(in, rounds) == UINT64_MAX) {
-        fprintf(stderr, "bench: %s was refused memory\n", line->name);
+    if (task->line->run(task->in, rounds) == UINT64_MAX) {
+        fprintf(stderr, "bench: %s was refused memory\n", task->line->name);
         exit(1);
     }
     return seconds() - start;
 }
 
-/* The nanoseconds that an item of a round takes: the least of several times. */
-static double nanoseconds(const struct line *line, const struct input *in) {
-    size_t more = 1;
-    while (timed(line, in, 1 + more) - timed(line, in, 1) < 0.02 && more < (size_t)1 << 24) {
-        more *= 2;
+/* What memcpy does in a round: it copies `size` bytes of a source, over and over if that has fewer, into a target that
+   is allocated in the round and freed at its end, as what a line makes is, or into one that stays. */
+struct copy {
+    int anew;
+    size_t source_size, size;
+    uint8_t *source, *target;
+};
+
+/* through a pointer, so that no compiler leaves a copy out */
+static void *(*volatile copy_bytes)(void *, const void *, size_t) = memcpy;
+
+static void copy_round(const struct copy *copy) {
+    uint8_t *target = copy->anew ? room(copy->size) : copy->target;
+    for (size_t at = 0; at < copy->size; at += copy->source_size) {
+        size_t left = copy->size - at;
+        copy_bytes(target + at, copy->source, left < copy->source_size ? left : copy->source_size);
     }
-    double least = 1e9;
-    for (int time = 0; time < TIMES; time++) {
-        double took = timed(line, in, 1 + more) - timed(line, in, 1);
-        least = took < least ? took : least;
+    if (copy->anew) {
+        free(target);
     }
-    return least * 1e9 / ((double)more * (double)in->n);
+}
+
+static double time_copy(const void *what, size_t rounds) {
+    double start = seconds();
+    for (size_t round = 0; round < rounds; round++) {
+        copy_round(what);
+    }
+    return seconds() - start;
+}
+
+/* As many bytes as a line moves: those that it makes, or, if it makes nothing, those that it reads. memcpy reads and
+   writes each of them once, which is the least that a copy, a filter or a concatenation can do. A fill reads nothing
+   and a count writes nothing, so these can be faster. */
+static size_t bytes_moved(struct traffic of) {
+    return of.made ? of.made : of.there;
+}
+
+static struct copy make_copy(int anew, size_t source_size, size_t size) {
+    uint8_t *source = memset(room(source_size), 1, source_size);
+    return (struct copy){anew, source_size, size, source, anew ? NULL : memset(room(size), 1, size)};
+}
+
+static void drop_copy(struct copy copy) {
+    free(copy.source), free(copy.target);
+}
+
+/* The copy of as many bytes as a line moves: from a source as large as what is there, so that it lies in the same level
+   of cache, into memory that is obtained in the same way. */
+static struct copy copy_of_moved(struct traffic of) {
+    return make_copy(of.made != 0, of.there ? of.there : of.made, bytes_moved(of));
+}
+
+/* The copy whose source and target together are as large as all that a line goes through, and so lie in the same level
+   of cache. */
+static struct copy copy_of_traffic(struct traffic of) {
+    size_t half = (of.there + of.made) / 2;
+    return make_copy(0, half, half);
+}
+
+/* What was measured of a line at each size, in seconds a round; 0 if it was not. */
+struct figures {
+    int asked;
+    size_t moved[SIZES];
+    double line[SIZES], moved_copy[SIZES], traffic_copy[SIZES];
+};
+
+static void measure(const struct line *line, const struct input *in, int size, struct figures *figures) {
+    struct traffic traffic = line->traffic(in);
+    struct copy moved = copy_of_moved(traffic), all = copy_of_traffic(traffic);
+    struct task tasks[3] = {{.time_rounds = time_line, .what = &(struct line_task){line, in}}};
+    double *figure[3] = {&figures->line[size]};
+    int count = 1;
+    if (line->moves) {
+        figures->moved[size] = bytes_moved(traffic);
+        figure[count] = &figures->moved_copy[size];
+        tasks[count++] = (struct task){.time_rounds = time_copy, .what = &moved};
+    }
+    if ((size == 0 || size == SIZES - 1) && bytes_moved(traffic)) {
+        figure[count] = &figures->traffic_copy[size];
+        tasks[count++] = (struct task){.time_rounds = time_copy, .what = &all};
+    }
+    take_turns(tasks, count);
+    for (int at = 0; at < count; at++) {
+        *figure[at] = round_seconds(&tasks[at]);
+    }
+    drop_copy(moved), drop_copy(all);
+}
+
+/* What grows less counts as flat. memcpy's figure can be below 1, since a copy of a few bytes is mostly a call. */
+#define LEAST_GROWTH 1.1
+
+/* The time an item at the last size by that at the first. */
+static double growth(const double *times) {
+    return times[SIZES - 1] / (double)sizes[SIZES - 1] / (times[0] / (double)sizes[0]);
+}
+
+static void print_times(const struct figures *all) {
+    printf("%-32s %10s %10s %10s %9s %9s\n", "nanoseconds an item of", "1,024", "65,536", "4,194,304", "growth",
+           "memcpy's");
+    for (int at = 0; at < LINES_COUNT; at++) {
+        const struct figures *it = &all[at];
+        if (!it->asked) {
+            continue;
+        }
+        printf("%-32s", lines[at].name);
+        for (int size = 0; size < SIZES; size++) {
+            printf(" %10.3f", it->line[size] * 1e9 / (double)sizes[size]);
+        }
+        printf(" %9.2f", growth(it->line));
+        if (it->traffic_copy[0] > 0) {
+            double of_copy = growth(it->traffic_copy);
+            printf(" %9.2f%s", of_copy, growth(it->line) > of_copy && growth(it->line) > LEAST_GROWTH ? " *" : "");
+        }
+        puts("");
+    }
+    puts("\ngrowth: the time an item at 4,194,304 items divided by that at 1,024, beside that of memcpy through as");
+    puts("much memory; *: above 1.1 and above memcpy's");
+}
+
+static void print_rates(const struct figures *all) {
+    printf("\n%-26s%28s%28s%28s\n", "GB/s, beside memcpy", "1,024 items", "65,536 items", "4,194,304 items");
+    printf("%-26s", "of as many bytes");
+    for (int size = 0; size < SIZES; size++) {
+        printf("%10s %8s %8s", "ours", "memcpy", "quotient");
+    }
+    puts("");
+    for (int at = 0; at < LINES_COUNT; at++) {
+        const struct figures *it = &all[at];
+        if (!it->asked || !lines[at].moves) {
+            continue;
+        }
+        printf("%-26s", lines[at].name);
+        for (int size = 0; size < SIZES; size++) {
+            double bytes = (double)it->moved[size] * 1e-9, ours = it->line[size], copy = it->moved_copy[size];
+            printf("%10.2f %8.2f %8.2f", bytes / ours, bytes / copy, copy / ours);
+        }
+        puts("");
+    }
+}
+
+/* Marks the lines that are asked for: all, or those whose names begin with one of the words. */
+static void ask(struct figures *all, int count, char **words) {
+    for (int at = 0; at < LINES_COUNT; at++) {
+        all[at].asked = count == 0;
+        for (int word = 0; word < count; word++) {
+            all[at].asked |= !strncmp(lines[at].name, words[word], strlen(words[word]));
+        }
+    }
+}
+
+/* Keeps freed memory in the process, as tools/compare does, so that the rounds after the first meet no new pages: what
+   is measured is the code and not the kernel. With BENCH_FRESH set malloc stays as it is. */
+static void keep_memory(void) {
+    if (!getenv("BENCH_FRESH")) {
+        mallopt(M_MMAP_MAX, 0);
+        mallopt(M_TRIM_THRESHOLD, INT_MAX);
+    }
 }
 
 int main(int count, char **words) {
-    static const size_t sizes[] = {1000, 100000, 10000000};
-    const size_t names = sizeof lines / sizeof *lines;
-    double (*told)[3] = room(names * sizeof *told);
-    ones = memset(room(sizes[2]), 1, sizes[2]);
-    for (int size = 0; size < 3; size++) {
-        struct input in = made(sizes[size]);
-        for (size_t at = 0; at < names; at++) {
-            int asked = count < 2;
-            for (int word = 1; word < count; word++) {
-                asked |= !strncmp(lines[at].name, words[word], strlen(words[word]));
+    static struct figures all[LINES_COUNT];
+    keep_memory();
+    ask(all, count - 1, words + 1);
+    ones = memset(room(sizes[SIZES - 1]), 1, sizes[SIZES - 1]);
+    for (int size = 0; size < SIZES; size++) {
+        struct input in = make_input(sizes[size]);
+        for (int at = 0; at < LINES_COUNT; at++) {
+            if (all[at].asked) {
+                measure(&lines[at], &in, size, &all[at]);
             }
-            told[at][size] = asked ? nanoseconds(&lines[at], &in) : -1;
         }
-        dropped(in);
+        drop_input(in);
     }
-    printf("%-32s %10s %10s %10s\n", "nanoseconds an item of", "1,000", "100,000", "10,000,000");
-    for (size_t at = 0; at < names; at++) {
-        if (told[at][0] >= 0) {
-            printf("%-32s %10.3f %10.3f %10.3f\n", lines[at].name, told[at][0], told[at][1], told[at][2]);
+    print_times(all);
+    for (int at = 0; at < LINES_COUNT; at++) {
+        if (all[at].asked && lines[at].moves) {
+            print_rates(all);
+            break;
         }
     }
     return 0;
