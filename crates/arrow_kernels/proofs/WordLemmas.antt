@@ -7,7 +7,7 @@ use Rattle.std.proofs.lemmas.Bool.{cases_eq, cases_lt}
 use Rattle.std.specs.Int.Count.{trailing_of_zero}
 use Rattle.std.proofs.lemmas.List.Sums.{sum_by-cons}
 use Rattle.std.proofs.lemmas.Nat.{and_le_r, trailing_le}
-use Rattle.std.proofs.lemmas.Nat.Bits.{bit_at_and, bit_at_lowest, bit_at_ones, bit_at-suc, bit_at-trailing_zeros}
+use Rattle.std.proofs.lemmas.Nat.Bits.{bit_at_and, bit_at_lowest, bit_at-suc, bit_at-trailing_zeros}
 use Rattle.std.proofs.lemmas.Nat.Bits.{bit_at-zero}
 use Rattle.arrow_bytes.specs.Selection.{where_set}
 use Rattle.arrow_kernels.proofs.ChoiceLemmas.{count-le, where-gap, where-grown}
@@ -166,16 +166,6 @@ module _ (rows : List Bool) (start left : ℕ) (fits : left < 2 ^ 64) where
     word-grown xs old new x read was pushed =
         where-grown rows xs (start + trailing_zeros w64 left) (start + trailing_zeros w64 (bit_and left (left - 1)))
         x old new lowest-set read (omega (arith, later)) gap-next was pushed
-
--- where all bits are set, all 64 rows are asked for
-pub full-word : (rows : List Bool) (start word i : ℕ) → word ≡ 18446744073709551615
-    → ((k : ℕ) → k < 64 → slice_get rows (start + k) ≡ Some (bit_at word k == 1)) → start ≤ i → i < start + 64
-    → slice_get rows i ≡ Some true
-full-word rows start word i full bits low high =
-    ap (slice_get rows) (let e : i ≡ start + (i - start) = omega arith in e)
-    ∙ bits (i - start) (omega arith)
-    ∙ ap (λ n. Some (bit_at n (i - start) == 1)) full
-    ∙ ap (λ b. Some (b == 1)) (bit_at_ones 64 (i - start) (omega arith))
 
 -- ---- room for what is asked for
 

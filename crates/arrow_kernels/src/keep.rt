@@ -28,30 +28,78 @@ use arrow_types::native_type::NativeType;
 use arrow_types::offset::Offset;
 use std::alloc::Global;
 
-/// Appends the selected values of 64 rows, from row `64 * at` on. If all are selected they are
-/// copied at once; otherwise the set bits are visited.
-#[inline(always)]
-fn keep_word<T: NativeType>(kept: &mut Vec<T>, values: &[T], asked: &Asked, at: usize)
+/// Appends the selected values of 64 rows or more, from `row` on, run by run. A run that reaches the last of the 64
+/// rows is followed to its end, so that it is copied whole. Returns the row up to which values are appended.
+#[inline(never)]
+fn keep_value_runs<T: NativeType>(
+    kept: &mut Vec<T>,
+    values: &[T],
+    asked: &Asked,
+    row: usize,
+) -> Result<usize, Error>
     requires same { length asked.now ≡ length values.now }
-    requires within { 64 * at + 64 ≤ length asked.now }
+    requires within { row + 64 ≤ length asked.now }
     requires fits { length asked.now < 2 ^ 64 }
-    requires so_far { kept.old.items ≡ where_set (take (64 * at) asked.now) (take (64 * at) values.now) }
+    requires so_far { kept.old.items ≡ where_set (take row asked.now) (take row values.now) }
     requires room { length asked.now ≤ vec_capacity kept.old + count_by not asked.now }
-    ensures so_far { kept.new.items ≡ where_set (take (64 * at + 64) asked.now) (take (64 * at + 64) values.now) }
+    ensures next { IfOk result (λ next. (row + 64 ≤ next) × (next ≤ length asked.now)) }
+    ensures so_far { IfOk result (λ next. kept.new.items ≡ where_set (take next asked.now) (take next values.now)) }
+    ensures room { OnOk result (length asked.now ≤ vec_capacity kept.new + count_by not asked.now) }
+    ensures err { OnlyOutOfMemory result }
+{
+    let past = row + 64;
+    let mut first = asked.next(row);
+    while first < past {
+        let end = asked.next_clear(first);
+        kept.extend_from_slice(&values[first..end])?;
+        first = asked.next(end);
+    }
+    Ok(first)
+}
+
+/// Appends the selected values of 64 rows, from `row` on, value by value.
+#[inline(always)]
+fn keep_each_of_word<T: NativeType>(kept: &mut Vec<T>, values: &[T], asked: &Asked, row: usize)
+    requires same { length asked.now ≡ length values.now }
+    requires within { row + 64 ≤ length asked.now }
+    requires fits { length asked.now < 2 ^ 64 }
+    requires so_far { kept.old.items ≡ where_set (take row asked.now) (take row values.now) }
+    requires room { length asked.now ≤ vec_capacity kept.old + count_by not asked.now }
+    ensures so_far { kept.new.items ≡ where_set (take (row + 64) asked.now) (take (row + 64) values.now) }
     ensures room { length asked.now ≤ vec_capacity kept.new + count_by not asked.now }
 {
-    let mut left = asked.word(64 * at);
-    if left == u64::MAX {
-        for row in 64 * at..64 * at + 64 {
-            kept.push_reserved(values[row]);
-        }
-        return;
-    }
+    let mut left = asked.word(row);
     while left != 0 {
-        let i = 64 * at + left.trailing_zeros() as usize;
+        let i = row + left.trailing_zeros() as usize;
         kept.push_reserved(values[i]);
         left &= left - 1;
     }
+}
+
+/// Appends the selected values of 64 rows or more, from `row` on, in the way that suits the selection. Returns the row
+/// up to which they are appended.
+#[inline(always)]
+fn keep_word<T: NativeType>(
+    kept: &mut Vec<T>,
+    values: &[T],
+    asked: &Asked,
+    row: usize,
+) -> Result<usize, Error>
+    requires same { length asked.now ≡ length values.now }
+    requires within { row + 64 ≤ length asked.now }
+    requires fits { length asked.now < 2 ^ 64 }
+    requires so_far { kept.old.items ≡ where_set (take row asked.now) (take row values.now) }
+    requires room { length asked.now ≤ vec_capacity kept.old + count_by not asked.now }
+    ensures next { IfOk result (λ next. (row + 64 ≤ next) × (next ≤ length asked.now)) }
+    ensures so_far { IfOk result (λ next. kept.new.items ≡ where_set (take next asked.now) (take next values.now)) }
+    ensures room { OnOk result (length asked.now ≤ vec_capacity kept.new + count_by not asked.now) }
+    ensures err { OnlyOutOfMemory result }
+{
+    if has_few_runs(asked.word(row)) {
+        return keep_value_runs(kept, values, asked, row);
+    }
+    keep_each_of_word(kept, values, asked, row);
+    Ok(row + 64)
 }
 
 /// Appends the selected values from row `start` on.
@@ -69,7 +117,7 @@ fn keep_last<T: NativeType>(kept: &mut Vec<T>, values: &[T], asked: &Asked, star
     }
 }
 
-/// Returns the selected values, 64 rows at a time. Room is reserved once.
+/// Returns the selected values, 64 rows or more at a time. Room is reserved once.
 fn keep_each_value<T: NativeType>(
     alloc: Global,
     values: &[T],
@@ -80,11 +128,11 @@ fn keep_each_value<T: NativeType>(
     ensures err { OnlyOutOfMemory result }
 {
     let mut kept = Vec::with_capacity(alloc, asked.len() - asked.unset_bits())?;
-    let words = asked.len() / 64;
-    for at in 0..words {
-        keep_word(&mut kept, values, asked, at);
+    let mut row = 0;
+    while asked.len() - row >= 64 {
+        row = keep_word(&mut kept, values, asked, row)?;
     }
-    keep_last(&mut kept, values, asked, 64 * words);
+    keep_last(&mut kept, values, asked, row);
     Ok(kept)
 }
 

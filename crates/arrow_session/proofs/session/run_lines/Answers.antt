@@ -1,4 +1,4 @@
-use Rattle.std.proofs.Common.{◌≡◌, ◌∙◌, length, ap, subst, string_bytes, true, false, arith}
+use Rattle.std.proofs.Common.{◌≡◌, ◌∙◌, length, ap, subst, string_bytes, false, not, arith}
 use Rattle.std.specs.Prelude.{IsTrue}
 use Rattle.std.specs.List.{list_all}
 use Rattle.arrow_syntax.specs.Lines.{is_bad}
@@ -35,12 +35,12 @@ loop-rest-preserved c =
     let table = c.loop-rest.interpreter.tables in
     let text = string_bytes c.loop-rest.interpreter.text in
     let here = ap lines_after c.in-Some.is ∙ lines_cut c.in-Some.lines.now line after c.split_line.ensures.pieces in
-    let good : is_bad line ≡ false = c.run_line.ensures.test in
+    let good : is_bad line ≡ false = c.in-Ok-true.ensures.test ∙ ap not c.in-Ok-true.field-0-test in
     record {
       read = read_good input line (lines_after after) n good
           (subst (λ rest. IsReadTo input n rest) here c.loop-rest.invariant.read);
       run = run_good input line (lines_after after) table text c.run_line.new.interpreter.tables
-          (string_bytes c.run_line.new.interpreter.text) good c.run_line.ensures.run
+          (string_bytes c.run_line.new.interpreter.text) good (c.in-Ok-true.ensures.run c.in-Ok-true.field-0-test)
           (subst (λ rest. IsRunTo input rest table text) here c.loop-rest.invariant.run);
       known = λ met. (all_printable_cut line (lines_after after)
           (subst (λ rest. IsTrue (list_all is_printable rest)) here (c.loop-rest.invariant.known met))).1;
@@ -59,3 +59,13 @@ returns-clause-ok c =
     let text = string_bytes c.loop-rest.interpreter.text in
     run_to_end input table text
     (subst (λ rest. IsRunTo input rest table text) (ap lines_after c.in_default.is) c.loop-rest.invariant.run)
+
+pub returns-in-Ok-false-clause-err : goal.returns-in-Ok-false-clause-err
+returns-in-Ok-false-clause-err c =
+    let input = c.args.input.now in
+    let n = c.loop-rest.number in
+    let line = c.split_line.result.0.now in
+    let after = c.split_line.result.1 in
+    let here = ap lines_after c.in-Some.is ∙ lines_cut c.in-Some.lines.now line after c.split_line.ensures.pieces in
+    read_bad input line (lines_after after) n (c.in-Ok-false.ensures.test ∙ ap not c.in-Ok-false.field-0-test)
+    (subst (λ rest. IsReadTo input n rest) here c.loop-rest.invariant.read)
