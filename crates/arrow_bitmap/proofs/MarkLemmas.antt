@@ -11,9 +11,9 @@ use Rattle.std.specs.List.{range_with_len}
 use Rattle.std.specs.Simd.{first_chunks}
 use Rattle.std.proofs.Math.Seq.{take-length}
 use Rattle.std.proofs.Math.Nat.{pow-suc, suc-mul, mul-le-mul_right}
-use Rattle.std.proofs.lemmas.Bool.{cases_eq, cases_lt}
+use Rattle.std.proofs.lemmas.Bool.{cases_eq, cases_lt, ne_eqb}
 use Rattle.std.proofs.lemmas.Nat.{one_shl, pow_pos, pow-add}
-use Rattle.std.proofs.lemmas.Nat.Bits.{bit_at_cat_low, bit_at_cat_high, bit_at_lowest, bit_at-suc}
+use Rattle.std.proofs.lemmas.Nat.Bits.{and_pow, bit_at_cat_low, bit_at_cat_high, bit_at_lowest, bit_at-suc}
 use Rattle.std.proofs.lemmas.Nat.Bits.{bit_at-lt, bit_at_not, bit_at_or, bit_at_and, bit_at-zero, bit_at-pow_same}
 use Rattle.std.proofs.lemmas.Nat.Bits.{bit_at-pow_other, bit_at_clear_same, bit_at_clear_other, bit_at_mask_below}
 use Rattle.std.proofs.lemmas.Nat.Bits.{bit_at_mask_inside, ones_shl}
@@ -29,6 +29,16 @@ use Rattle.arrow_bitmap.specs.MarkWrites.{FillsMarks}
 pub mark-bit_of : (v : Bool) (b : ℕ) → b ≡ (if v then 1 else 0) → (b == 1) ≡ v
 mark-bit_of true b e = ap (λ x. x == 1) e
 mark-bit_of false b e = ap (λ x. x == 1) e
+
+-- a mark, read by a mask of one bit
+mark_by_mask-bit : (b p : ℕ) → b < 2 → 0 < p → not (b * p == 0) ≡ (b == 1)
+mark_by_mask-bit zero p low some = let none : 0 * p ≡ 0 = omega arith in ap (λ x. not (x == 0)) none
+mark_by_mask-bit (suc zero) p low some = ap not (ne_eqb (1 * p) 0 (λ e. absurd (omega arith)))
+mark_by_mask-bit (suc (suc b)) p low some = absurd (omega arith)
+
+pub mark_by_mask : (n k : ℕ) → k < 8 → not (bit_and n (1 * 2 ^ k % 256) == 0) ≡ (bit_at n k == 1)
+mark_by_mask n k within = ap (λ m. not (bit_and n m == 0)) (one_shl k 8 within)
+    ∙ ap (λ m. not (m == 0)) (and_pow n k) ∙ mark_by_mask-bit (bit_at n k) (2 ^ k) (bit_at-lt n k) (pow_pos k)
 
 -- ---- a byte that is written
 
