@@ -30,8 +30,8 @@ pub(crate) fn mark_of(bytes: &[u8], index: usize) -> bool
     bytes[index / 8] & (1 << (index % 8)) != 0
 }
 
-/// Returns the mark at `index`, as [`mark_of`]. It is shifted out of a number of 32 bits: where a loop reads mark by mark
-/// from a place of its own, the compiler makes vector code of this for x86-64-v3 that takes a third less time.
+/// Returns the mark at `index`, as [`mark_of`]. A shift of 32 bits, since for x86-64-v3 the compiler makes slow vector
+/// code of one of eight bits in a loop over indexes.
 #[inline(always)]
 pub(crate) fn shifted_mark_of(bytes: &[u8], index: usize) -> bool
     requires { index < 8 * length bytes.now }

@@ -52,7 +52,7 @@ fn marked<K: ByteKind, O: Offset>(
     builder.expect(rt, "parts that fit")
 }
 
-/// Returns whether a builder of text that is given away has these slots, and so many nulls.
+/// Returns whether a builder of text has these slots and this number of nulls. Drops it.
 fn reads_texts<O: Offset>(
     builder: MutableUtf8Array<O>,
     slots: &[Option<&str>],

@@ -12,7 +12,7 @@ const ELSEWHERE: &str = "the last offset must equal the values length";
 /// Offsets, the number of values, and what is told of them.
 type Case = (&'static [usize], usize, &'static str);
 
-/// What is told of such offsets where their last has to lie within so many values.
+/// Returns the answer of `check_bounds` for these offsets and this number of values, as text.
 fn bounds<O: Offset>(
     alloc: Global,
     rt: &impl Abort,
@@ -49,7 +49,7 @@ fn the_last_offset_lies_within_the_values(rt: HostRuntime) {
     }
 }
 
-/// What is told of such offsets where their last has to be the number of values.
+/// Returns the answer of `check_last` for these offsets and this number of values, as text.
 fn last(alloc: Global, rt: &impl Abort, offsets: &[usize], values_len: usize) -> &'static str {
     let offsets = offsets_of::<i64>(alloc, offsets).expect(rt, "offsets");
     let told = tells(check_last(offsets.as_slice(), values_len));

@@ -153,7 +153,7 @@ fn is_choice_right(alloc: Global, rt: &impl Abort, row: &[(u8, u8)], choice: usi
     is_right
 }
 
-/// Whether they are behind so many ASCII bytes.
+/// Whether they are judged right after `before` bytes of ASCII.
 fn is_choice_right_behind(
     alloc: Global,
     rt: &impl Abort,

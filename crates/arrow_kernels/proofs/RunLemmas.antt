@@ -180,8 +180,8 @@ rows-more rows xs first end same order within set =
     long = length-take-le (end - first) (drop first xs) (omega (arith, length-drop first xs, same, within))
 
 -- a run of set marks that ends before a clear one, if not at the end, has a mark where its first is set
-pub run-longer : (rows : List Bool) (first end : ℕ) → first ≤ end → first < length rows → slice_get rows first ≡ Some true
-    → (end < length rows → slice_get rows end ≡ Some false) → first < end
+pub run-longer : (rows : List Bool) (first end : ℕ) → first ≤ end → first < length rows
+    → slice_get rows first ≡ Some true → (end < length rows → slice_get rows end ≡ Some false) → first < end
 run-longer rows first end order within set clear = elim (cases_lt first end) [
   | inl less ↦ less
   | inr up ↦

@@ -198,7 +198,3 @@ room-left rows xs kept i len room x e f was long enough = omega (
   long,
   enough,
 )
-
--- no row lies between a row and the next
-pub none-between : (rows : List Bool) (i : ℕ) → (k : ℕ) → i + 1 ≤ k → k < i + 1 → slice_get rows k ≡ Some false
-none-between rows i k low high = absurd (omega (arith, low, high))

@@ -307,8 +307,7 @@ pub(crate) fn keep_mask(
     }
 }
 
-/// Appends the items of a run of selected rows: their bytes are copied at once. Whatever stood before it was selected
-/// from the rows up to `first`.
+/// Appends the items of a run of selected rows, from `first` up to `end`. Their bytes are copied at once.
 #[inline(always)]
 fn keep_run<O: Offset>(
     kept: &mut Offsets<O>,
@@ -416,8 +415,8 @@ fn keep_each_item<O: Offset>(
     Ok(())
 }
 
-/// Appends the selected items of 64 rows or more, from `row` on, in the way that suits the selection. Returns the row up
-/// to which they are appended.
+/// Appends the selected items of 64 rows or more, from `row` on, in the way that suits the selection. Returns the row
+/// up to which they are appended.
 #[inline(always)]
 fn keep_word_items<O: Offset>(
     kept: &mut Offsets<O>,

@@ -1,8 +1,8 @@
 //! What kernels make was worked out by hand. Slots of a filter are written as a text: 't', 'f', and '_' for a null, which
 //! stores true; masks as texts of '1' and '0', or as `none` where none is held.
 //!
-//! What is asked of kernels is asked here once, of arrays of any kind. Values are taken by `expect` and let go by `drop`,
-//! which is cheaper to prove than to leave that to the end of a function.
+//! Kernels are tested here once, for arrays of any kind. Results are unwrapped by `expect` and values dropped
+//! explicitly, which is cheaper to prove than a drop at the end of a function.
 mod bytes;
 mod numbers;
 mod truths;
@@ -143,7 +143,7 @@ fn all_take<A: Chosen>(
     true
 }
 
-/// What is told of keys into an array.
+/// Returns the answer of a take by these keys, as text.
 fn told_of_keys<A: Chosen>(
     alloc: Global,
     rt: &impl Abort,

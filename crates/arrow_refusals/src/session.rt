@@ -53,8 +53,8 @@ fn replies(alloc: Global) -> Result<bool, Error> {
 const BAD_AT_ITS_END: &str =
     "new 0 mprim\nextend 0 v1 v2 v3\nnull 1 prim 1000\nitems 2 utf8 t6869\nlist 2\nlen";
 
-/// Whether the first bad line is named and nothing is written, also if memory is refused to a line before it: only while the
-/// input is read does the session end for want of memory.
+/// Whether the first bad line is named and nothing is written, even if an allocation fails on a line before it. Only a
+/// failed allocation while the input is read may end the session with `Memory`.
 fn names_line(alloc: Global) -> Result<bool, Error> {
     let mut room = [0; 1];
     match session_into(alloc, BAD_AT_ITS_END, room.as_mut_slice()) {

@@ -1,5 +1,5 @@
 -- What a session reads, runs and writes.
-use Rattle.std.specs.Prelude.{◌≡◌, ⊤, ℕ, ◌⊎◌, List, [], ◌++◌, ℤ, codes, decimal, Option, Some}
+use Rattle.std.specs.Prelude.{◌≡◌, ℕ, ◌⊎◌, List, [], ◌++◌, ℤ, codes, decimal, Option, Some}
 use Rattle.std.specs.Io.{StartsWith}
 use Rattle.arrow_session.specs.declared.outcome.Outcome.{Outcome}
 use Rattle.arrow_session.specs.declared.outcome.Outcome.TheVariants as outcome
@@ -22,12 +22,12 @@ IsAnswer input text =
 abbrev pub AreCommands : List ℕ → Type 0
 AreCommands input = (commands : List (BothRequest ℤ)) × (commands_of input ≡ requests commands)
 
--- why an input has no answer: a line is no command, or memory was refused
+-- why an input has no answer: a line is no command, or each is one and memory was refused
 abbrev pub IsStop : List ℕ → Outcome → Type 0
 IsStop input outcome.Done = ⊥
 IsStop input (outcome.BadLine n) = commands_of input ≡ bad_line n
 IsStop input outcome.Device = ⊥
-IsStop input outcome.Memory = ⊤
+IsStop input outcome.Memory = AreCommands input
 
 -- Of a session: the input, what is left of it, what the writer held, and what it holds.
 module _ (input : List ℕ) (left : Option (List ℕ)) (old : List ℕ) (new : Option (List ℕ)) where

@@ -37,8 +37,8 @@ fn first_bad_line(input: &[u8]) -> Option<usize>
     None
 }
 
-/// Returns how a session ends that is refused memory while its lines are run: with its first line that is not a command,
-/// which the session may not have come to, or else for want of memory.
+/// Returns the outcome if memory was refused while lines were run: the first line that is not a command, which may not
+/// have been reached, or `Memory` if there is none.
 #[cold]
 #[inline(never)]
 fn end_without_memory(input: &[u8]) -> Outcome

@@ -32,7 +32,7 @@ fn cut_marks_do_not_come_back(rt: HostRuntime) {
     assert!(rt; pushes_behind_cut(rt.alloc(), &rt));
 }
 
-/// Whether so many marks are there, all of which are clear.
+/// Whether a bitmap has `count` marks and all are clear. Drops it.
 fn are_clear(marks: Bitmap, count: usize) -> bool {
     let are_clear = (marks.len() == count) & (marks.unset_bits() == count);
     drop(marks);

@@ -53,7 +53,7 @@ fn stays<K: Resized>(
     is_wide & is_narrow
 }
 
-/// Whether the slots from a place on of the array of such parts have them.
+/// Whether the array of these parts, cut before `place`, keeps its slots when its offsets change their width.
 fn rest_stays<K: Resized>(
     alloc: Global,
     rt: &impl Abort,

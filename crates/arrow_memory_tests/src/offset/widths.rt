@@ -5,7 +5,7 @@ use arrow_types::offset::Offset;
 use std::alloc::Global;
 use std::process::Abort;
 
-/// What is told of wide offsets of these numbers as narrow ones.
+/// Returns the answer of `OffsetsBuffer::narrow` for these numbers, as text.
 fn narrowing(alloc: Global, rt: &impl Abort, numbers: &[usize]) -> &'static str {
     let offsets = frozen_offsets::<i64>(alloc, numbers).expect(rt, "offsets");
     let told = tells(OffsetsBuffer::narrow(alloc, &offsets));

@@ -44,8 +44,8 @@ fn extend_each<T: NativeType>(
     builder.pop();
 }
 
-/// Whether the array of a builder of a slot has the eight that are appended in each way, of which four are null, where a
-/// null and a value are given.
+/// Whether a builder of one slot, after eight more are appended in each way, four of them null, freezes to an array of
+/// these slots.
 fn grows<T: NativeType>(
     alloc: Global,
     rt: &impl Abort,
