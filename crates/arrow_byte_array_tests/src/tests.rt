@@ -2,8 +2,8 @@
 //! each check is run for both kinds at both widths. What a kind has of its own stands in `bytes` and `text`. Offsets and
 //! bytes are written as numbers, items as texts, and masks as texts of '1' and '0', or as `none` where none is held.
 //!
-//! A case tells how a value is made, what it then has, and steps that read or change it. Results are unwrapped by `expect`
-//! and values dropped explicitly, which is cheaper to prove than a drop at the end of a function.
+//! A case tells how a value is made, what it then has, and steps that read or change it. Results are unwrapped by
+//! `expect` and values dropped explicitly, which is cheaper to prove than a drop at the end of a function.
 mod arrays;
 mod builders;
 mod bytes;
