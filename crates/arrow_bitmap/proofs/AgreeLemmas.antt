@@ -8,7 +8,7 @@ use Rattle.std.proofs.lemmas.Nat.{one_shl}
 use Rattle.std.proofs.lemmas.Nat.Bits.{bit_at_and, bit_at-lt, bit_at_above, bit_at_ones, bit_at_ones_above}
 use Rattle.std.proofs.lemmas.Nat.Bits.{same_from_bits}
 use Rattle.arrow_bitmap.specs.Marks.{mark_at, marks}
-use Rattle.arrow_bitmap.specs.Masks.{AgreeWhere, IsValidAt}
+use Rattle.arrow_bitmap.specs.Masks.{IsValidAt}
 use Rattle.arrow_bitmap.proofs.MarkLemmas.{slice_get-marks}
 
 -- ---- bytes

@@ -30,14 +30,14 @@ pub(crate) fn mark_of(bytes: &[u8], index: usize) -> bool
     bytes[index / 8] & (1 << (index % 8)) != 0
 }
 
-/// Returns the mark at `index`, as [`mark_of`]. A shift of 32 bits, since for x86-64-v3 the compiler makes slow vector
-/// code of one of eight bits in a loop over indexes.
+/// Returns the mark at `index`, as [`mark_of`]. The mask of its bit is looked up, which is faster than a shift where the
+/// compiler makes no vector code of a loop, and slower where it does.
 #[inline(always)]
-pub(crate) fn shifted_mark_of(bytes: &[u8], index: usize) -> bool
+pub(crate) fn masked_mark_of(bytes: &[u8], index: usize) -> bool
     requires { index < 8 * length bytes.now }
     ensures { result ≡ mark_at bytes.now index }
 {
-    (u32::from(bytes[index / 8]) >> (index % 8)) % 2 == 1
+    bytes[index / 8] & bit_by_itself(index % 8) != 0
 }
 
 /// Returns `mask` if `value` is true, else 0.

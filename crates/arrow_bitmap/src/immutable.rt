@@ -7,7 +7,7 @@ ghost use Rattle.arrow_types.specs.Failures.{OnlyOutOfMemory, OutOfMemoryKeeps};
 ghost use Rattle.arrow_bitmap.specs.Marks.{marks, packed_refusal};
 ghost use Rattle.arrow_types.specs.Types.{refusal};
 
-use crate::bits::{count_clear, fits_bytes, shifted_mark_of};
+use crate::bits::{count_clear, fits_bytes, masked_mark_of};
 use crate::copy::own_bytes;
 use crate::words::word_at;
 use crate::{BitmapIter, MutableBitmap};
@@ -239,7 +239,7 @@ impl Bitmap {
         requires { index < length self.now }
         ensures { slice_get self.now index ≡ Some result }
     {
-        shifted_mark_of(self.bytes.as_slice(), self.offset + index)
+        masked_mark_of(self.bytes.as_slice(), self.offset + index)
     }
 
     /// Returns the 64 marks from `place` on as the bits of a word, the least significant first.

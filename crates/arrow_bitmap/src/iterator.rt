@@ -6,7 +6,7 @@ ghost use Rattle.arrow_bitmap.specs.Marks.{marks};
 ghost use Rattle.arrow_bitmap.specs.Items.{SkipsThenFirstBy};
 
 use crate::Bitmap;
-use crate::bits::mark_of;
+use crate::bits::{mark_of, masked_mark_of};
 use crate::mark_iter::MarkIter;
 use std::marker::Model;
 use std::rc::Rc;
@@ -87,7 +87,9 @@ impl<'a> Iterator for BitmapIter<'a> {
         if self.index == self.end {
             return None;
         }
-        Some(self.pass())
+        let mark = masked_mark_of(self.bytes, self.index);
+        self.index += 1;
+        Some(mark)
     }
 
     /// Returns the number of marks left, in both parts.

@@ -1,5 +1,5 @@
 //! Operations on the marks of bitmaps, a byte of marks at a time.
-ghost use Rattle.std.specs.Prelude.{◌≡◌, ℕ, ◌+◌, ◌*◌, ◌^◌, ◌<◌, ◌==◌, ◌&&◌, ◌||◌, Bool, length, map, not, IfOk};
+ghost use Rattle.std.specs.Prelude.{◌≡◌, ℕ, ◌+◌, ◌*◌, ◌^◌, ◌<◌, ◌≤◌, ◌==◌, ◌&&◌, ◌||◌, Bool, length, map, not, IfOk};
 ghost use Rattle.std.specs.List.{zip};
 ghost use Rattle.std.specs.Int.{bit_at};
 ghost use Rattle.arrow_types.specs.Failures.{OnlyOutOfMemory};
@@ -56,6 +56,20 @@ impl MarkOp for Negation {
     }
 }
 
+/// Writes the combined marks of two lists of packed bytes, from byte `left` of the first and byte `right` of the
+/// second on. No byte is shifted, so the compiler combines as many at once as the processor can.
+fn write_whole<O: MarkOp>(target: &mut [u8], first: &[u8], left: usize, second: &[u8], right: usize)
+    requires first { left + length target.old ≤ length first.now }
+    requires second { right + length target.old ≤ length second.now }
+    ensures marks { CombinesMarks O.op target.new first.now (8 * left) second.now (8 * right)
+        (8 * length target.old) }
+    ensures len { length target.new ≡ length target.old }
+{
+    for index in 0..target.len() {
+        target[index] = O::on_bytes(first[left + index], second[right + index]);
+    }
+}
+
 /// Writes the combined marks of two lists of packed bytes, from a place on in each.
 fn write_combined<O: MarkOp>(
     target: &mut [u8],
@@ -75,6 +89,9 @@ fn write_combined<O: MarkOp>(
         return;
     }
     let (left, right) = (place / 8, other / 8);
+    if place % 8 == 0 && other % 8 == 0 {
+        return write_whole::<O>(target, first, left, second, right);
+    }
     let last = target.len() - 1;
     for index in 0..last {
         target[index] = O::on_bytes(
