@@ -294,7 +294,11 @@ impl<T: NativeType> MutableValues for Vec<T> {
 
     #[inline(always)]
     fn drop_last(&mut self) {
-        let _last = self.pop();
+        let last = self.len() - 1;
+        // Cleared, so that the value is read before. Otherwise the compiler reads it where its mark is set alone, by a
+        // branch, of which the processor guesses every null wrong.
+        self[last] = T::default();
+        self.truncate(last);
     }
 
     ghost join_overflows = { λ _ _ _. false };
