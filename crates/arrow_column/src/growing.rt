@@ -19,12 +19,11 @@ use std::marker::Model;
 
 /// A data type, stored values, and an optional mask with a mark for each of them. Without a mask
 /// every slot is valid.
-// What each push changes stands first: a processor reaches the first bytes of a value by shorter instructions.
 #[derive(Drop)]
 pub struct GrowingColumn<V: MutableValues> {
+    pub(super) data_type: DataType,
     pub(super) values: V,
     pub(super) validity: Option<MutableBitmap>,
-    pub(super) data_type: DataType,
 }
 
 // Contracts see the column: the type, a row for each slot, and whether a mask is held.
