@@ -30,8 +30,8 @@ pub(crate) fn mark_of(bytes: &[u8], index: usize) -> bool
     bytes[index / 8] & (1 << (index % 8)) != 0
 }
 
-/// Returns the mark at `index`, as [`mark_of`]. The mask of its bit is looked up, which is faster than a shift where the
-/// compiler makes no vector code of a loop, and slower where it does.
+/// Returns the mark at `index`, as [`mark_of`]. The mask of its bit is looked up, which is faster than a shift unless
+/// the compiler vectorizes a loop of shifts.
 #[inline(always)]
 pub(crate) fn masked_mark_of(bytes: &[u8], index: usize) -> bool
     requires { index < 8 * length bytes.now }

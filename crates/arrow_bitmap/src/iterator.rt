@@ -87,6 +87,7 @@ impl<'a> Iterator for BitmapIter<'a> {
         if self.index == self.end {
             return None;
         }
+        // Not by `pass`, which shifts: a loop over marks alone is not vectorized.
         let mark = masked_mark_of(self.bytes, self.index);
         self.index += 1;
         Some(mark)

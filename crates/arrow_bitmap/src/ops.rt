@@ -57,8 +57,14 @@ impl MarkOp for Negation {
 }
 
 /// Writes the combined marks of two lists of packed bytes, from byte `left` of the first and byte `right` of the
-/// second on. No byte is shifted, so the compiler combines as many at once as the processor can.
-fn write_whole<O: MarkOp>(target: &mut [u8], first: &[u8], left: usize, second: &[u8], right: usize)
+/// second on. As no byte is shifted, the compiler combines many at once.
+fn write_aligned<O: MarkOp>(
+    target: &mut [u8],
+    first: &[u8],
+    left: usize,
+    second: &[u8],
+    right: usize,
+)
     requires first { left + length target.old ≤ length first.now }
     requires second { right + length target.old ≤ length second.now }
     ensures marks { CombinesMarks O.op target.new first.now (8 * left) second.now (8 * right)
@@ -90,7 +96,7 @@ fn write_combined<O: MarkOp>(
     }
     let (left, right) = (place / 8, other / 8);
     if place % 8 == 0 && other % 8 == 0 {
-        return write_whole::<O>(target, first, left, second, right);
+        return write_aligned::<O>(target, first, left, second, right);
     }
     let last = target.len() - 1;
     for index in 0..last {

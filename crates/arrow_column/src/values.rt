@@ -295,8 +295,8 @@ impl<T: NativeType> MutableValues for Vec<T> {
     #[inline(always)]
     fn drop_last(&mut self) {
         let last = self.len() - 1;
-        // Cleared, so that the value is read before. Otherwise the compiler reads it where its mark is set alone, by a
-        // branch, of which the processor guesses every null wrong.
+        // A store to the slot keeps the compiler from loading a popped value behind a branch on its mark, which would
+        // mispredict at nulls.
         self[last] = T::default();
         self.truncate(last);
     }

@@ -1,7 +1,7 @@
 use Rattle.std.proofs.Common.{◌+◌, ◌*◌, ◌∙◌, ap₂, get_or, refl, arith}
 use Rattle.arrow_bitmap.proofs.ByteWords.{bit-mark}
 use Rattle.arrow_bitmap.proofs.OpLemmas.{combines_step}
-use Rattle.arrow_bitmap.proofs.ops.write_whole.Goals as goal
+use Rattle.arrow_bitmap.proofs.ops.write_aligned.Goals as goal
 
 pub loop-index-preserved : goal.loop-index-preserved
 loop-index-preserved g c =
