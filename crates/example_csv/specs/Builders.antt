@@ -74,7 +74,7 @@ IsOutOfMemory _ = ⊥
 
 -- why a field is not appended: it is not of the declared type, the text is too long, or an allocation failed
 abbrev pub CannotPush : Builder → List ℕ → ℕ → Error → Type 0
-CannotPush old field place (error.Field line column wanted) =
+CannotPush old field place (error.Field byte column wanted) =
     (column ≡ place) × (declared_of old ≡ Some wanted) × (reads wanted field ≡ None)
 CannotPush old field place (error.Arrow arrow.Overflow) = 2 ^ 31 ≤ text_length old + length field
 CannotPush old field place e = IsOutOfMemory e

@@ -68,7 +68,7 @@ IsLongColumn rows = (i : ℕ) × (2 ^ 31 ≤ length (concat (column_fields rows 
 abbrev pub IsRefused : List ℕ → Error → Type 0
 IsRefused text (error.Csv e) = IsCsvError text (error_kind e)
 IsRefused text error.NoHeader = AreRecordsOf text []
-IsRefused text (error.Field line column wanted) = (names : List (List ℕ)) × (rows : List (List (List ℕ)))
+IsRefused text (error.Field byte column wanted) = (names : List (List ℕ)) × (rows : List (List (List ℕ)))
     × (row : List (List ℕ)) × BeginsWith text ((names ∷ rows) ++ row ∷ []) × IsBadField names row column wanted
 IsRefused text (error.Arrow arrow.Overflow) = (names : List (List ℕ)) × (rows : List (List (List ℕ)))
     × BeginsWith text (names ∷ rows) × IsLongColumn rows

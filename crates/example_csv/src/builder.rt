@@ -44,23 +44,23 @@ impl Builder {
         })
     }
 
-    /// Appends a field. `line` and `column` tell where it stands, for the error.
+    /// Appends a field. `byte` and `column` are where it stands, for the error.
     ///
     /// # Errors
     /// `Field` if the field is not of the declared type; `Overflow` if the text of a column is longer than offsets
     /// of `i32` can count; `OutOfMemory` if an allocation fails.
-    pub fn push(&mut self, field: &str, line: u64, column: usize) -> Result<(), Error>
+    pub fn push(&mut self, field: &str, byte: u64, column: usize) -> Result<(), Error>
         ensures ok { OnOk result (GrowsBy self.old self.new field.now) }
         ensures err { IfErr result (CannotPush self.old field.now column) }
     {
         match self {
             Builder::Int64(builder) => match number_slot(text(field)) {
                 Some(slot) => Ok(builder.push(slot)?),
-                None => Err(not_of(Kind::Int64, line, column)),
+                None => Err(not_of(Kind::Int64, byte, column)),
             },
             Builder::Boolean(builder) => match truth_slot(text(field)) {
                 Some(slot) => Ok(builder.push(slot)?),
-                None => Err(not_of(Kind::Boolean, line, column)),
+                None => Err(not_of(Kind::Boolean, byte, column)),
             },
             Builder::Utf8(builder) => Ok(builder.push(text(field))?),
             Builder::Undeclared(builder) => Ok(builder.push(text(field))?),
@@ -86,11 +86,11 @@ impl Builder {
 }
 
 /// Returns the error of a field that is not of the type of its column.
-fn not_of(wanted: Kind, line: u64, column: usize) -> Error
-    ensures { result ≡ Error.Field line column wanted }
+fn not_of(wanted: Kind, byte: u64, column: usize) -> Error
+    ensures { result ≡ Error.Field byte column wanted }
 {
     Error::Field {
-        line,
+        byte,
         column,
         wanted,
     }

@@ -2,6 +2,7 @@
 ghost use Rattle.std.specs.Prelude.{◌≡◌};
 
 use crate::kind::Kind;
+use csv::{ErrorKind, Position};
 use std::alloc::{AllocError, AllocFailed};
 use std::{fmt, io};
 
@@ -18,11 +19,11 @@ pub enum Error {
     OutOfMemory,
     /// The input has no header row.
     NoHeader,
-    /// A field of a declared column is not of the column's type. Lines and columns count from 1.
+    /// A field of a declared column is not of the column's type.
     Field {
-        /// The line on which the record begins.
-        line: u64,
-        /// The column.
+        /// How many bytes of the text come before the record, or before ends of lines that are skipped before it.
+        byte: u64,
+        /// The column, from 1.
         column: usize,
         /// The type of the column.
         wanted: Kind,
@@ -33,25 +34,60 @@ pub enum Error {
     NotTruth(String),
 }
 
+impl Error {
+    /// Returns how many bytes of the text come before the record that is refused, or before ends of lines that are
+    /// skipped before it. `None` if the error is of no record.
+    pub fn byte(&self) -> Option<u64> {
+        match self {
+            Error::Field { byte, .. } => Some(*byte),
+            Error::Csv(error) => match error.kind() {
+                ErrorKind::Utf8 { pos, .. } => byte_of(pos),
+                ErrorKind::UnequalLengths { pos, .. } => byte_of(pos),
+                _ => None,
+            },
+            _ => None,
+        }
+    }
+}
+
+/// Returns how many bytes come before a position.
+fn byte_of(position: &Option<Position>) -> Option<u64> {
+    match position {
+        Some(position) => Some(position.byte()),
+        None => None,
+    }
+}
+
+/// Writes the reason, and the column if there is one; the line is not known here.
 impl fmt::Display for Error {
     fn fmt<W: fmt::Write>(&self, f: &mut fmt::Formatter<W>) -> fmt::Result {
         match self {
-            Error::Csv(error) => write!(f, "{error}"),
+            Error::Csv(error) => match error.kind() {
+                ErrorKind::Utf8 { err, .. } => {
+                    let column = err.field().saturating_add(1);
+                    write!(f, "column {column}: not UTF-8")
+                }
+                ErrorKind::UnequalLengths {
+                    expected_len,
+                    len,
+                    ..
+                } => {
+                    let plural = if *expected_len == 1 { "" } else { "s" };
+                    write!(f, "expected {expected_len} field{plural}, found {len}")
+                }
+                _ => write!(f, "{error}"),
+            },
             Error::Arrow(error) => write!(f, "{error}"),
             Error::Io(error) => write!(f, "{error}"),
             Error::OutOfMemory => write!(f, "out of memory"),
             Error::NoHeader => write!(f, "no header row"),
-            Error::Field {
-                line,
-                column,
-                wanted,
-            } => {
+            Error::Field { column, wanted, .. } => {
                 let wanted = match wanted {
                     Kind::Int64 => "number",
                     Kind::Boolean => "truth value",
                     Kind::Utf8 => "text",
                 };
-                write!(f, "line {line}, column {column}: not a {wanted}")
+                write!(f, "column {column}: not a {wanted}")
             }
             Error::UnknownColumn(name) => write!(f, "no column '{name}'"),
             Error::NotTruth(name) => write!(f, "column '{name}' does not hold truth values"),

@@ -7,6 +7,7 @@ mod error;
 mod field;
 mod kind;
 mod options;
+mod position;
 mod read;
 mod select;
 mod summary;
@@ -17,14 +18,15 @@ mod write_csv;
 use crate::answer::answer;
 use crate::error::Error;
 use crate::options::{Options, command};
+use crate::position::line_of;
 use std::env;
-use std::io::{BufWriter, Write};
+use std::io::{BufWriter, Read, Write};
 use std::process::ExitCode;
 
-/// Prints what the options ask of the table of standard input.
-fn run(rt: &HostRuntime, options: &Options) -> Result<(), Error> {
+/// Prints what the options ask of the table of a text.
+fn run(rt: &HostRuntime, options: &Options, text: &[u8]) -> Result<(), Error> {
     let output = BufWriter::new(rt.alloc(), rt.stdout())?;
-    answer(rt.alloc(), options, rt.stdin(), output)?.flush()?;
+    answer(rt.alloc(), options, text, output)?.flush()?;
     Ok(())
 }
 
@@ -38,10 +40,21 @@ fn main(rt: HostRuntime) -> anyhow::Result<ExitCode> {
         }
     };
     let options = Options::from_matches(rt.alloc(), &matches)?;
-    match run(&rt, &options) {
+    let mut text = Vec::new(rt.alloc());
+    if let Err(error) = rt.stdin().read_to_end(&mut text) {
+        eprintln!(rt; "example_csv: {error}")?;
+        return Ok(ExitCode::from(2));
+    }
+    match run(&rt, &options, text.as_slice()) {
         Ok(()) => Ok(ExitCode::SUCCESS),
         Err(error) => {
-            eprintln!(rt; "example_csv: {error}")?;
+            match error.byte() {
+                Some(byte) => {
+                    let line = line_of(text.as_slice(), byte);
+                    eprintln!(rt; "example_csv: line {line}: {error}")?
+                }
+                None => eprintln!(rt; "example_csv: {error}")?,
+            }
             Ok(ExitCode::from(2))
         }
     }

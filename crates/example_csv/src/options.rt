@@ -18,7 +18,7 @@ pub struct Options {
     pub table: bool,
 }
 
-/// Creates the command, whose `--help` tells its options.
+/// Creates the command, whose `--help` lists its options.
 pub fn command<'a>(alloc: Global) -> Result<Command<'a>, clap::Error> {
     let filter = Arg::new(alloc, "where")
         .long("where")
@@ -41,7 +41,7 @@ pub fn command<'a>(alloc: Global) -> Result<Command<'a>, clap::Error> {
     let table = Arg::new(alloc, "table")
         .long("table")
         .action(ArgAction::SetTrue)
-        .help("Print aligned columns instead of CSV");
+        .help("Print aligned columns instead of CSV, with a space for each control character");
     Ok(
         Command::new(alloc, "example_csv")
             .about(

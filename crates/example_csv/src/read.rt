@@ -79,12 +79,12 @@ fn push_record(columns: &mut Vec<NamedBuilder>, row: &StringRecord) -> Result<()
         → AreBuiltOf headers (rows ++ fields_of row.now ∷ []) columns.new.items) }
     ensures err { IfErr result (CannotPushRow columns.old.items (fields_of row.now)) }
 {
-    let line = match row.position() {
-        Some(position) => position.line(),
+    let byte = match row.position() {
+        Some(position) => position.byte(),
         None => 0,
     };
     for (i, column) in columns.iter_mut().enumerate() {
-        column.builder.push(row.get(i).unwrap_or(""), line, i + 1)?;
+        column.builder.push(row.get(i).unwrap_or(""), byte, i + 1)?;
     }
     Ok(())
 }
