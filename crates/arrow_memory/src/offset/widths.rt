@@ -74,7 +74,8 @@ impl OffsetsBuffer<i64> {
     /// - `OutOfMemory` if an allocation fails.
     pub fn narrow(&self) -> Result<OffsetsBuffer<i32>, Error>
         ensures ok { IfOk result (λ narrow. (last_of self.now ≤ 2147483647) × (narrow ≡ self.now)) }
-        ensures err { IfErr result (λ e. MatchGrowth e (2147483647 < last_of self.now) (last_of self.now ≤ 2147483647)) }
+        ensures err { IfErr result (λ e.
+            MatchGrowth e (2147483647 < last_of self.now) (last_of self.now ≤ 2147483647)) }
     {
         self.as_offsets()
     }
