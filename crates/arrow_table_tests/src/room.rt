@@ -46,9 +46,15 @@ fn slots_and_bytes_are_reserved_each_by_its_number(rt: HostRuntime) {
     for (name, kind) in KINDS {
         let (slots, bytes) = reserved(rt.alloc(), &rt, *kind, 1000, 10);
         assert!(rt; slots >= 1000, "{name}: room for {slots} slots of 1000");
-        assert!(rt; bytes >= 10 && bytes < 1000, "{name}: room for {bytes} bytes of 10");
+        assert!(rt;
+            bytes >= 10 && bytes < 1000,
+            "{name}: room for {bytes} bytes of 10"
+        );
         let (slots, bytes) = reserved(rt.alloc(), &rt, *kind, 10, 1000);
-        assert!(rt; slots >= 10 && slots < 1000, "{name}: room for {slots} slots of 10");
+        assert!(rt;
+            slots >= 10 && slots < 1000,
+            "{name}: room for {slots} slots of 10"
+        );
         assert!(rt; bytes >= 1000, "{name}: room for {bytes} bytes of 1000");
     }
 }

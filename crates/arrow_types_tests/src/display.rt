@@ -114,6 +114,9 @@ fn names_and_metadata_beyond_ascii_are_printed(rt: HostRuntime) {
     let made = extension(rt.alloc(), &rt, "名前", DataType::Utf8, Some("Übersicht 😀"));
     let printed = made.to_string(rt.alloc()).expect(&rt, "memory");
     drop(made);
-    assert_eq!(rt; printed.as_str(), "Extension(\"名前\", Utf8, Some(\"Übersicht 😀\"))");
+    assert_eq!(rt;
+        printed.as_str(),
+        "Extension(\"名前\", Utf8, Some(\"Übersicht 😀\"))"
+    );
     drop(printed);
 }
