@@ -186,7 +186,7 @@ pub(crate) fn push_mark(bytes: &mut Vec<u8>, length: usize, value: bool) -> Resu
     Ok(())
 }
 
-/// Appends bytes of equal marks until there are `count` bytes.
+/// Appends bytes of equal marks until there are `needed` bytes.
 #[tactic(auto, using(crate::proofs::MarkLemmas::mark_steps))]
 fn grow_bytes(
     bytes: &mut Vec<u8>,

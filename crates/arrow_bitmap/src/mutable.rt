@@ -252,7 +252,7 @@ impl MutableBitmap {
         self.length = len;
     }
 
-    /// Returns the allocator of the bytes.
+    /// Returns the allocator of the bytes, which contracts do not see.
     pub fn allocator(&self) -> Global {
         *self.bytes.allocator()
     }

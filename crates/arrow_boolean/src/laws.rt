@@ -1,5 +1,5 @@
-//! Laws of primitive arrays and builders, stated over the definitions for all values. Each is the
-//! contract of a function with an empty body.
+//! Laws of arrays and builders of truth values, stated over the definitions for all values. Each is
+//! the contract of a function with an empty body.
 ghost use Rattle.std.specs.Prelude.{◌≡◌, Bool};
 ghost use Rattle.arrow_types.specs.Types.{IsRightType};
 ghost use Rattle.arrow_types.specs.declared.physical_type.PhysicalType.TheVariants.{Boolean};

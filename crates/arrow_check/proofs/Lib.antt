@@ -5,3 +5,4 @@ mod CountLemmas
 mod InnerLemmas
 mod KeyLemmas
 mod AsciiLemmas
+pub mod CallerLemmas

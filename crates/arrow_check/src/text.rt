@@ -6,6 +6,7 @@ ghost use Rattle.arrow_memory.specs.Offsets.{last_of, numbers_of};
 ghost use Rattle.arrow_check.specs.Bounds.{AreLegal};
 ghost use Rattle.arrow_check.specs.Reading.{LooksAtMost, ReadsAtMost, after_ascii, after_looks, after_whole_test};
 ghost use Rattle.arrow_check.specs.Texts.{CutTexts, text_refusal};
+ghost use Rattle.arrow_check.specs.Utf8.{IsWellFormed};
 ghost use Rattle.arrow_check.specs.Windows.{window_of, inner_before_end, AllBegin, InnerCutBetween, IsContinuation};
 ghost use Rattle.arrow_check.specs.Windows.{LieAt, LieBefore, PassesWhole, ReadsOnce};
 
@@ -142,6 +143,8 @@ fn is_cut_text<O: Offset, J: Judge>(offsets: &[O], text: &mut J) -> bool
     ensures looks { IsTrue result
         → J.reading text.new ≡ after_looks (inner_before_end (numbers_of O.number offsets.now))
         (after_whole_test (J.reading text.old)) }
+    ensures rejected { ¬ J.accepts (window_of (numbers_of O.number offsets.now) (J.reading text.old).bytes)
+        → J.reading text.new ≡ after_whole_test (J.reading text.old) }
 {
     is_text_window(offsets, text) && is_cut_between(offsets, text)
 }
@@ -169,6 +172,9 @@ pub fn check_text<O: Offset, J: Judge>(offsets: &[O], text: &mut J) -> Result<()
     ensures counted { ReadsAtMost 1 1 (length offsets.now - 2) (J.reading text.old) (J.reading text.new) }
     ensures exact { ReadsOnce (PassesWhole J.accepts (numbers_of O.number offsets.now) (J.reading text.old).bytes)
         (numbers_of O.number offsets.now) (J.reading text.old) (J.reading text.new) }
+    ensures rejected { last_of (numbers_of O.number offsets.now) ≤ length (J.reading text.old).bytes
+        → ¬ J.accepts (window_of (numbers_of O.number offsets.now) (J.reading text.old).bytes)
+        → J.reading text.new ≡ after_whole_test (after_ascii (J.reading text.old)) }
 {
     check_bounds(offsets, text.len())?;
     if is_ascii_window(offsets, text) {
@@ -196,6 +202,9 @@ pub fn check_utf8<O: Offset>(offsets: &[O], text: &mut TextBytes<'_>) -> Result<
     ensures counted { ReadsAtMost 1 1 (length offsets.now - 2) text.old text.new }
     ensures exact { ReadsOnce (CutTexts (numbers_of O.number offsets.now) text.old.bytes)
         (numbers_of O.number offsets.now) text.old text.new }
+    ensures rejected { last_of (numbers_of O.number offsets.now) ≤ length text.old.bytes
+        → ¬ IsWellFormed (window_of (numbers_of O.number offsets.now) text.old.bytes)
+        → text.new ≡ after_whole_test (after_ascii text.old) }
 {
     check_text(offsets, text)
 }

@@ -85,6 +85,7 @@ type Case = (&'static [usize], &'static [u8], &'static str, [u64; 3]);
 const TEXTS: &[Case] = &[
     (&[0, 2, 4], &[0xC3, 0xA9, 0xC3, 0xA8], "made", [1, 1, 1]),
     (&[0, 1, 4], &[0xC3, 0xA9, 0xC3, 0xA8], NO_TEXT, [1, 1, 1]),
+    (&[0, 1, 2], &[0xFF, 0x61], NO_TEXT, [1, 1, 0]),
     (&[0, 1, 2, 3], &[0x61, 0x62, 0x63], "made", [1, 0, 0]),
     (&[0, 4, 4], &[0xF0, 0x9F, 0x98, 0x80], "made", [1, 1, 0]),
     (&[1, 2], &[0xC3, 0xA9], NO_TEXT, [1, 1, 0]),

@@ -130,7 +130,7 @@ pub trait MutableValues: Drop {
     fn count(&self) -> usize
         ensures { result ≡ length (stored self.now) };
 
-    /// Returns the allocator of the values.
+    /// Returns the allocator of the values, which contracts do not see.
     fn allocated_by(&self) -> Global;
 
     /// Appends the value that a null stores.

@@ -1,5 +1,5 @@
 //! The stored values, marks and items that a selection keeps.
-ghost use Rattle.std.specs.Prelude.{◌≡◌, ℕ, ◌+◌, ◌*◌, ◌^◌, ◌<◌, ◌≤◌, true, count_by, length, not, option_map, take};
+ghost use Rattle.std.specs.Prelude.{◌≡◌, ℕ, ◌+◌, ◌-◌, ◌*◌, ◌^◌, ◌<◌, ◌≤◌, true, count_by, length, not, option_map, take};
 ghost use Rattle.std.specs.Prelude.{slice_get, Some, IfErr, IfOk, IfSome, OnOk};
 ghost use Rattle.std.specs.List.{concat};
 ghost use Rattle.std.specs.Option.{option_copied};
@@ -8,7 +8,7 @@ ghost use Rattle.arrow_types.specs.Failures.{OnlyOutOfMemory};
 ghost use Rattle.arrow_column.specs.Masks.{mask_with_nulls};
 ghost use Rattle.arrow_column.specs.Column.{stored_values};
 ghost use Rattle.arrow_memory.specs.Marks.{bits_of};
-ghost use Rattle.arrow_memory.specs.Offsets.{last_of};
+ghost use Rattle.arrow_memory.specs.Offsets.{first_of, last_of};
 ghost use Rattle.arrow_check.specs.Pieces.{items_of, offsets_of};
 ghost use Rattle.arrow_bytes.specs.Kinds.{CutItems};
 ghost use Rattle.arrow_bytes.specs.Pieces.{around_of, nothing_around};
@@ -484,7 +484,9 @@ fn keep_last_items<O: Offset>(
 }
 
 /// Returns the number of bytes of `count` items of average length, and of a word more.
-fn room_for<O: Offset>(offsets: &OffsetsBuffer<O>, count: usize) -> usize {
+fn room_for<O: Offset>(offsets: &OffsetsBuffer<O>, count: usize) -> usize
+    ensures { result ≤ last_of offsets.now - first_of offsets.now + 16 }
+{
     let all = offsets.last().to_usize() - offsets.first().to_usize();
     let slots = offsets.len_proxy();
     if slots == 0 {

@@ -1,5 +1,6 @@
 //! The marks and masks of arrays, one array after the other.
 ghost use Rattle.std.specs.Prelude.{◌≡◌, ◌++◌, List, Bool, Some, length, not, count_by, replicate, true, flat_map};
+ghost use Rattle.std.specs.Prelude.{◌-◌, ◌^◌, min};
 ghost use Rattle.std.specs.Prelude.{IfOk, IfErr, IfSome, MatchOption, OnOk};
 ghost use Rattle.std.specs.List.{list_all};
 ghost use Rattle.std.specs.Option.{option_copied};
@@ -132,7 +133,9 @@ fn has_nulls<A: HasMarks>(arrays: &[A]) -> bool
 }
 
 /// Returns the number of slots, or the greatest `usize` if it is above that.
-pub(crate) fn count_slots<A: HasMarks>(arrays: &[A]) -> usize {
+pub(crate) fn count_slots<A: HasMarks>(arrays: &[A]) -> usize
+    ensures { result ≡ min (length (flat_map A.marks arrays.now)) (2 ^ 64 - 1) }
+{
     let mut count = 0_usize;
     for array in arrays {
         count = count.saturating_add(array.slots());

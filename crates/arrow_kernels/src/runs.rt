@@ -34,7 +34,7 @@ pub(crate) fn run_end(word: u64, first: usize) -> usize
 }
 
 /// Returns whether the set bits stand in so few runs that taking them run by run is faster than one
-/// by one.
+/// by one. Only speed depends on the answer, so a contract has nothing to say.
 #[inline(always)]
 pub(crate) fn has_few_runs(word: u64) -> bool {
     (word & !(word << 1)).count_ones() <= 8

@@ -33,35 +33,37 @@ fn over_offsets<K: ByteKind, O: Offset, P: Offset>(
     Ok(ByteArray::new(K::default_type(P::IS_LARGE), offsets, values, validity))
 }
 
-/// Returns the same slots over offsets of 64 bits.
+/// Returns the same slots over offsets of 64 bits. As every kernel it takes the allocator first; the
+/// offsets are allocated by that of the array.
 ///
 /// # Errors
 /// `OutOfMemory` if an allocation fails.
 pub fn widen_items<K: ByteKind>(
-    alloc: Global,
+    _alloc: Global,
     array: &ByteArray<K, i32>,
 ) -> Result<ByteArray<K, i64>, Error>
     ensures ok { IfOk result (λ wide. wide ≡ with_type array.now (K.default_type true)) }
     ensures err { OnlyOutOfMemory result }
 {
-    over_offsets(array, OffsetsBuffer::widen(alloc, array.offsets())?)
+    over_offsets(array, array.offsets().widen()?)
 }
 
-/// Returns the same slots over offsets of 32 bits.
+/// Returns the same slots over offsets of 32 bits. As every kernel it takes the allocator first; the
+/// offsets are allocated by that of the array.
 ///
 /// # Errors
 /// - `Overflow` if the last offset is above 2147483647, however many bytes lie after it; this is
 ///   checked before memory is allocated.
 /// - `OutOfMemory` if an allocation fails.
 pub fn narrow_items<K: ByteKind>(
-    alloc: Global,
+    _alloc: Global,
     array: &ByteArray<K, i64>,
 ) -> Result<ByteArray<K, i32>, Error>
     ensures ok { IfOk result (λ narrow. (narrowing_overflows array.now ≡ false)
         × (narrow ≡ with_type array.now (K.default_type false))) }
     ensures err { IfErr result (λ e. e ≡ refused_growth (narrowing_overflows array.now)) }
 {
-    over_offsets(array, OffsetsBuffer::narrow(alloc, array.offsets())?)
+    over_offsets(array, array.offsets().narrow()?)
 }
 
 /// Returns the same slots over offsets of 64 bits.

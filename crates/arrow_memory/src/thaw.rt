@@ -11,7 +11,7 @@ use either::{Either, Left, Right};
 use std::mem;
 use std::rc::Rc;
 
-/// Takes two vectors out of their shared owners if `wanted` and neither is shared. Both are
+/// Takes two vectors out of their shared owners if `asked` and neither is shared. Both are
 /// borrowed for writing before either is taken, and empty vectors, which need no memory, are left.
 fn take_two<S, T>(
     asked: bool,
@@ -169,8 +169,9 @@ fn thaw_slots<O: Offset>(
     let OffsetsBuffer { offsets } = offsets;
     let (mut ends, offset, count) = offsets.into_parts();
     let (mut bytes, start, length) = values.into_parts();
-    let is_whole = (offset == 0) & (count == ends.len()) & (start == 0);
-    match take_two(is_whole, &mut ends, &mut bytes) {
+    let ends_whole = (offset == 0) & (count == ends.len());
+    let bytes_whole = (start == 0) & (length == bytes.len());
+    match take_two(ends_whole & bytes_whole, &mut ends, &mut bytes) {
         Some((offsets, mut bytes)) => {
             bytes.truncate(end);
             Right((Offsets { offsets }, bytes))
@@ -200,7 +201,9 @@ fn thaw_slots_with_mask<O: Offset>(
     let (mut ends, offset, count) = offsets.into_parts();
     let (mut bytes, start, length) = values.into_parts();
     let (mut bits, first, marks, unset) = mask.into_parts();
-    let is_whole = (offset == 0) & (count == ends.len()) & (start == 0) & (first == 0);
+    let ends_whole = (offset == 0) & (count == ends.len());
+    let bytes_whole = (start == 0) & (length == bytes.len());
+    let is_whole = ends_whole & bytes_whole & (first == 0);
     match take_three(is_whole, &mut ends, &mut bytes, &mut bits) {
         Some((offsets, mut bytes, bits)) => {
             bytes.truncate(end);
@@ -219,7 +222,7 @@ fn thaw_slots_with_mask<O: Offset>(
 }
 
 /// Converts offsets, bytes and a mask into growing ones, without copying them, if none is shared,
-/// the offsets show all of their vector, and bytes and mask begin at the first place. Bytes after
+/// offsets and bytes show all of their vectors, and the mask begins at its first bit. Bytes after
 /// the last offset are cut off. Otherwise returns all unchanged.
 pub fn into_mut_bytes<O: Offset>(
     offsets: OffsetsBuffer<O>,

@@ -128,3 +128,15 @@ fn slots_thaw_with_their_mask(rt: HostRuntime) {
     let bare = thaws_to_one(rt.alloc(), &rt, bare, None);
     assert!(rt; shared.is_none() & (alone == Some(true)) & (bare == Some(true)));
 }
+
+/// Bytes that show only the beginning of their vector are not thawed, with a mask or without one.
+#[test]
+fn slots_over_the_beginning_of_a_vector_stay_frozen(rt: HostRuntime) {
+    let mut first = bytes(rt.alloc(), &rt, [0x61, 0xff].as_slice());
+    first.slice(0, 1);
+    let masked = thaws_to_one(rt.alloc(), &rt, first, Some(cut(rt.alloc(), &rt)));
+    let mut second = bytes(rt.alloc(), &rt, [0x61, 0xff].as_slice());
+    second.slice(0, 1);
+    let bare = thaws_to_one(rt.alloc(), &rt, second, None);
+    assert_eq!(rt; [masked, bare], [None, None]);
+}

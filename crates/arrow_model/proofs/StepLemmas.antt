@@ -30,7 +30,7 @@ use Rattle.arrow_model.specs.Request as ask
 use Rattle.arrow_model.specs.Row.{gives, leaves, or_else_keep, memory, answers, unmet, require_some, where_true}
 use Rattle.arrow_model.specs.Row.{provided, of_kind, by_test}
 use Rattle.arrow_model.specs.Row as rows
-use Rattle.arrow_model.specs.Run.{IsRun}
+use Rattle.arrow_model.specs.Run.{IsRun, Runs}
 use Rattle.arrow_model.specs.Step.{AtEntry, Changes, Clones, Compares, Compares_to, Does, Extends, Filled, Filtered}
 use Rattle.arrow_model.specs.Step.{Filters, Joins, Joins_to, Makes, IntoEmpty, Taken, Takes, copied, effect, entry_at}
 use Rattle.arrow_model.specs.Step.{other_at, unless_over}
@@ -588,3 +588,19 @@ module _ {T : Type 0} where
               (fine-narrows c d (entry_at old.wide.entries e) (entry-is c old.wide.entries e large))) h.0,
           subst (λ (held : Held T). AreValues c held.entries) (sym h.2) large,
         )
+
+    pub fine-both-run : (old : Both T) (requests : List (BothRequest T)) (replies : List (Answer T)) (new : Both T)
+        → All IsBothRequest requests → AreValues (narrow_types zero primitive) old.narrow.entries
+        → AreValues (wide_types zero primitive) old.wide.entries
+        → Runs (IsBothStep zero primitive) old requests replies new
+        → AreValues (narrow_types zero primitive) new.narrow.entries
+        × AreValues (wide_types zero primitive) new.wide.entries
+    fine-both-run old [] [] new named small large run = (
+      subst (λ (both : Both T). AreValues (narrow_types zero primitive) both.narrow.entries) (sym run) small,
+      subst (λ (both : Both T). AreValues (wide_types zero primitive) both.wide.entries) (sym run) large,
+    )
+    fine-both-run old [] (reply ∷ replies) new named small large run = absurd run
+    fine-both-run old (asks ∷ requests) [] new named small large run = absurd run
+    fine-both-run old (asks ∷ requests) (reply ∷ replies) new named small large run =
+        let next = fine-both old asks reply run.0 (All-head IsBothRequest asks requests named) small large run.1 in
+        fine-both-run run.0 requests replies new (All-tail IsBothRequest asks requests named) next.0 next.1 run.2

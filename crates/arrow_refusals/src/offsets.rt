@@ -266,23 +266,17 @@ pub(crate) enum Frozen {
 }
 
 /// Others over wide offsets.
-fn widened(
-    alloc: Global,
-    offsets: Result<OffsetsBuffer<i32>, Error>,
-) -> Result<OffsetsBuffer<i64>, Error> {
+fn widened(offsets: Result<OffsetsBuffer<i32>, Error>) -> Result<OffsetsBuffer<i64>, Error> {
     match offsets {
-        Ok(offsets) => OffsetsBuffer::widen(alloc, &offsets),
+        Ok(offsets) => offsets.widen(),
         Err(refused) => Err(refused),
     }
 }
 
 /// Others over narrow offsets.
-fn narrowed(
-    alloc: Global,
-    offsets: Result<OffsetsBuffer<i64>, Error>,
-) -> Result<OffsetsBuffer<i32>, Error> {
+fn narrowed(offsets: Result<OffsetsBuffer<i64>, Error>) -> Result<OffsetsBuffer<i32>, Error> {
     match offsets {
-        Ok(offsets) => OffsetsBuffer::narrow(alloc, &offsets),
+        Ok(offsets) => offsets.narrow(),
         Err(refused) => Err(refused),
     }
 }
@@ -303,8 +297,8 @@ impl Making for OffsetsBuffer<i32> {
             Frozen::New => OffsetsBuffer::new(alloc),
             Frozen::Freeze => freeze(narrow(alloc, [0].as_slice())),
             Frozen::Clone => copy_of(OffsetsBuffer::new(alloc)),
-            Frozen::Widen => narrowed(alloc, widened(alloc, OffsetsBuffer::new(alloc))),
-            Frozen::Narrow => narrowed(alloc, OffsetsBuffer::new(alloc)),
+            Frozen::Widen => narrowed(widened(OffsetsBuffer::new(alloc))),
+            Frozen::Narrow => narrowed(OffsetsBuffer::new(alloc)),
         }
     }
 }

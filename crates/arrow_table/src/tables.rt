@@ -1,6 +1,6 @@
 //! Two tables, one of each width of offsets, and the run of a list of commands on them.
 ghost use Rattle.std.specs.Prelude.{◌≡◌, ◌<◌, ◌≤◌, ◌∷◌, [], length, map, option_copied, option_map, replicate, take};
-ghost use Rattle.std.specs.Prelude.{vec_capacity, vec_len, IfErr, IfOk, None};
+ghost use Rattle.std.specs.Prelude.{vec_capacity, vec_len, IfErr, IfOk, IfSome, None};
 ghost use Rattle.arrow_check.specs.Reading.{no_cost};
 ghost use Rattle.arrow_model.specs.Answer.{answer_of};
 ghost use Rattle.arrow_model.specs.Both.{AppendsBothRun, IsBothStep, both_asked, narrow, narrow_of, narrow_to, wide};
@@ -10,6 +10,8 @@ ghost use Rattle.arrow_model.specs.Item.{stored_slot};
 ghost use Rattle.arrow_model.specs.Request.{all_slots, asked, at, parts_asked, push};
 ghost use Rattle.arrow_model.specs.Run.{CostsAtMost};
 ghost use Rattle.arrow_model.specs.Step.{entry_at};
+ghost use Rattle.arrow_model.specs.Value.{types};
+ghost use Rattle.arrow_model.specs.Values.{IsValue};
 ghost use Rattle.arrow_table.specs.Listed.{listed};
 ghost use Rattle.arrow_table.specs.Width.{half, on_width};
 
@@ -136,12 +138,14 @@ impl<T: NativeType> Executor<T> for Tables<T> {
 
 /// A width of offsets. Its calls are about the table of this width.
 pub trait Width: Offset {
-    /// Returns what an entry of the table of this width holds, or `None` if it is empty or out of bounds. Its slots are
-    /// those that the command `Slots` copies.
+    /// Returns what an entry of the table of this width holds, or `None` if it is empty or out of bounds. It is a valid
+    /// value, and its slots are those that the command `Slots` copies.
     fn get<T: NativeType>(tables: &Tables<T>, e: usize) -> Option<&Entry<T, Self>>
         ensures held { entry_at (half Self.IS_LARGE tables.now).entries e ≡ option_map value_of (option_copied result) }
         ensures step { let slots = on_width Self.IS_LARGE (at e all_slots) in
-            IsBothStep T.zero T.PRIMITIVE tables.now slots (listed (option_copied result)) tables.now };
+            IsBothStep T.zero T.PRIMITIVE tables.now slots (listed (option_copied result)) tables.now }
+        ensures value { IfSome (option_copied result)
+            (λ held. IsValue (types T.zero T.PRIMITIVE Self.most Self.IS_LARGE) (value_of held)) };
 
     /// Runs a command on the table of this width, and returns its reply, which is allocated by `alloc`.
     fn step<T: NativeType>(

@@ -133,6 +133,29 @@ freeze 6 -> ok
 held 6 -> false
 ";
 
+/// Room that no memory holds. Slots and bytes are told apart by builders of native values and of truth values, for which
+/// bytes mean nothing; the other builders need both.
+const UNRESERVED: &str = "
+new 0 mprim -> ok
+new 1 mbool -> ok
+new 2 mbin -> ok
+new 3 mutf8 -> ok
+new 4 vbin -> ok
+new 5 vutf8 -> ok
+reserve 0 18446744073709551615 0 -> refused: out of memory
+reserve 0 0 18446744073709551615 -> ok
+reserve 1 18446744073709551615 0 -> refused: out of memory
+reserve 1 0 18446744073709551615 -> ok
+reserve 2 18446744073709551615 0 -> refused: out of memory
+reserve 2 0 18446744073709551615 -> refused: out of memory
+reserve 3 18446744073709551615 0 -> refused: out of memory
+reserve 3 0 18446744073709551615 -> refused: out of memory
+reserve 4 18446744073709551615 0 -> refused: out of memory
+reserve 4 0 18446744073709551615 -> refused: out of memory
+reserve 5 18446744073709551615 0 -> refused: out of memory
+reserve 5 0 18446744073709551615 -> refused: out of memory
+";
+
 /// Rows of another builder that are appended: of its window of bytes alone, with marks where either has a mask; the type
 /// stays.
 const JOINED: &str = "
@@ -319,7 +342,7 @@ fn builders_answer(rt: HostRuntime) -> Result<(), Fail> {
     both_answer(
         rt.alloc(),
         &rt,
-        &[PUSHED, EXTENDED, JOINED, CHANGED, FROZEN, EQUAL],
+        &[PUSHED, EXTENDED, UNRESERVED, JOINED, CHANGED, FROZEN, EQUAL],
     )
 }
 

@@ -15,6 +15,8 @@ mod narrow;
 #[cfg(test)]
 mod parts;
 #[cfg(test)]
+mod room;
+#[cfg(test)]
 mod runs;
 #[cfg(test)]
 mod script;

@@ -82,11 +82,13 @@ fn made_prints(alloc: Global, rt: &impl Abort, made: DataType, text: &str) -> bo
     is_printed
 }
 
-/// The texts of times with no zone, with one, and with one that has to be escaped.
+/// The texts of times with no zone, with one, with one that has to be escaped, and with one that is
+/// not ASCII, of which the contract says nothing.
 const TIMES: &[(Option<&str>, &str)] = &[
     (None, "Timestamp(Microsecond, None)"),
     (Some("UTC"), "Timestamp(Microsecond, Some(\"UTC\"))"),
     (Some("\"\\"), "Timestamp(Microsecond, Some(\"\\\"\\\\\"))"),
+    (Some("Zürich"), "Timestamp(Microsecond, Some(\"Zürich\"))"),
 ];
 
 #[test]
@@ -105,4 +107,16 @@ fn extensions_print_what_they_extend(rt: HostRuntime) {
         "Extension(\"ages\", Extension(\"months\", Interval(YearMonth), None), Some(\"whole\"))";
     let two = two_extensions(rt.alloc(), &rt);
     assert!(rt; is_bare & made_prints(rt.alloc(), &rt, two, nested));
+}
+
+#[test]
+fn names_and_metadata_beyond_ascii_are_printed(rt: HostRuntime) {
+    let made = extension(rt.alloc(), &rt, "名前", DataType::Utf8, Some("Übersicht 😀"));
+    let printed = made.to_string(rt.alloc()).expect(&rt, "memory");
+    drop(made);
+    assert_eq!(rt;
+        printed.as_str(),
+        "Extension(\"名前\", Utf8, Some(\"Übersicht 😀\"))"
+    );
+    drop(printed);
 }

@@ -43,6 +43,20 @@ fn a_null_stores_false_under_a_clear_mark(rt: HostRuntime) {
     assert!(rt; is_read);
 }
 
+/// A null that is overwritten leaves a mask of one set mark, which `freeze` keeps, and no null.
+#[test]
+fn an_overwritten_null_leaves_a_mask_and_no_null(rt: HostRuntime) {
+    let mut builder = MutableBooleanArray::new(rt.alloc());
+    builder.push(None).expect(&rt, "memory");
+    assert_eq!(rt; builder.len(), 1);
+    builder.set(0, Some(true)).expect(&rt, "memory");
+    let array = builder.freeze().expect(&rt, "memory");
+    let nulls = array.null_count();
+    let is_shown = stores(array, "1", "1");
+    assert_eq!(rt; nulls, 0);
+    assert!(rt; is_shown, "the value is true, under a mask of one set mark");
+}
+
 const UNFIT: &str = "validity mask length must match the number of values";
 
 const OTHER_TYPE: &str =

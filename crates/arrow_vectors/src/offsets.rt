@@ -150,3 +150,21 @@ fn slots_of_other_offsets_end_there_too(rt: HostRuntime) {
         assert!(rt; all_end(rt.alloc(), &rt, *case, true));
     }
 }
+
+/// Behind 0 and 2147483647, another slot of one byte overflows, and one without bytes is appended.
+#[test]
+fn empty_slot_is_joined_behind_the_greatest_offset(rt: HostRuntime) {
+    let (alloc, ends) = (rt.alloc(), [0, 2147483647].as_slice());
+    let mut offsets = offsets_of::<i32>(alloc, ends).expect(&rt, "offsets");
+    let byte = offsets_of::<i32>(alloc, [5, 6].as_slice()).expect(&rt, "offsets");
+    let of_byte = tells(offsets.try_extend_from_self(&byte));
+    drop(byte);
+    let is_unchanged = are_offsets(offsets.as_slice(), ends);
+    let empty = offsets_of::<i32>(alloc, [7, 7].as_slice()).expect(&rt, "offsets");
+    let of_empty = tells(offsets.try_extend_from_self(&empty));
+    drop(empty);
+    let is_appended = are_offsets(offsets.as_slice(), [0, 2147483647, 2147483647].as_slice());
+    drop(offsets);
+    assert_eq!(rt; [of_byte, of_empty], ["overflow", "made"]);
+    assert_eq!(rt; [is_unchanged, is_appended], [true, true]);
+}

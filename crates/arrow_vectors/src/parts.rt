@@ -146,6 +146,8 @@ const BUILDERS: &[Case] = &[
     ("kind", (&[0, 3], b"\x09\x09\x09", "11"), TYPE),
     ("width", (&[1, 3], b"\x09\x09\x09", "11"), TYPE),
     ("kind", (&[1, 3], b"\x09\x09\x09", "none"), TYPE),
+    ("kind", (&[1, 3], b"\x09\x09\x09", "11"), TYPE),
+    ("own", (&[1, 3], b"\x09\x09\x09", "11"), BUILDER_MASK),
     ("own", (&[0, 3], b"\x09\x09\x09", "11"), BUILDER_MASK),
     ("own", (&[1, 3], b"\x09\x09\x09", ""), BUILDER_MASK),
     ("own", (&[1, 3], b"\x09\x09\x09", "1"), MADE),

@@ -8,7 +8,6 @@ use crate::offset::OffsetsBuffer;
 use crate::offset::numbers::number_at;
 use arrow_types::error::Error;
 use arrow_types::offset::Offset;
-use std::alloc::Global;
 
 /// Writes the numbers of offsets over as many offsets of another type, whose greatest number is at
 /// least each of them.
@@ -34,7 +33,7 @@ impl<O: Offset> OffsetsBuffer<O> {
     /// - `Overflow` if the last offset is above that type's greatest number; this is checked before
     ///   memory is allocated.
     /// - `OutOfMemory` if an allocation fails.
-    fn as_offsets<P: Offset>(&self, alloc: Global) -> Result<OffsetsBuffer<P>, Error>
+    fn as_offsets<P: Offset>(&self) -> Result<OffsetsBuffer<P>, Error>
         ensures ok { IfOk result (λ offsets. (last_of self.now ≤ P.most) × (offsets ≡ self.now)) }
         ensures err { IfErr result (λ e. MatchGrowth e (P.most < last_of self.now) (last_of self.now ≤ P.most)) }
     {
@@ -42,7 +41,7 @@ impl<O: Offset> OffsetsBuffer<O> {
             return Err(Error::Overflow);
         }
         let offsets = self.offsets.as_slice();
-        let mut written = Vec::new(alloc);
+        let mut written = Vec::new(self.offsets.allocator());
         written.resize(offsets.len(), P::from_as_usize(0))?;
         write_numbers(offsets, written.as_mut_slice());
         Ok(OffsetsBuffer {
@@ -51,33 +50,33 @@ impl<O: Offset> OffsetsBuffer<O> {
     }
 }
 
-impl OffsetsBuffer<i64> {
-    /// Creates offsets of 64 bits with the same numbers.
+impl OffsetsBuffer<i32> {
+    /// Returns the same numbers as offsets of 64 bits.
     ///
     /// # Errors
     /// `OutOfMemory` if an allocation fails.
-    pub fn widen(alloc: Global, offsets: &OffsetsBuffer<i32>) -> Result<Self, Error>
-        ensures ok { IfOk result (λ wide. wide ≡ offsets.now) }
+    pub fn widen(&self) -> Result<OffsetsBuffer<i64>, Error>
+        ensures ok { IfOk result (λ wide. wide ≡ self.now) }
         ensures err { OnlyOutOfMemory result }
     {
         // The last offset is below every number that needs more than 32 bits.
-        offsets.last();
-        offsets.as_offsets(alloc)
+        self.last();
+        self.as_offsets()
     }
 }
 
-impl OffsetsBuffer<i32> {
-    /// Creates offsets of 32 bits with the same numbers.
+impl OffsetsBuffer<i64> {
+    /// Returns the same numbers as offsets of 32 bits.
     ///
     /// # Errors
     /// - `Overflow` if the last offset is above 2147483647; this is checked before memory is
     ///   allocated.
     /// - `OutOfMemory` if an allocation fails.
-    pub fn narrow(alloc: Global, offsets: &OffsetsBuffer<i64>) -> Result<Self, Error>
-        ensures ok { IfOk result (λ narrow. (last_of offsets.now ≤ 2147483647) × (narrow ≡ offsets.now)) }
+    pub fn narrow(&self) -> Result<OffsetsBuffer<i32>, Error>
+        ensures ok { IfOk result (λ narrow. (last_of self.now ≤ 2147483647) × (narrow ≡ self.now)) }
         ensures err { IfErr result (λ e.
-            MatchGrowth e (2147483647 < last_of offsets.now) (last_of offsets.now ≤ 2147483647)) }
+            MatchGrowth e (2147483647 < last_of self.now) (last_of self.now ≤ 2147483647)) }
     {
-        offsets.as_offsets(alloc)
+        self.as_offsets()
     }
 }

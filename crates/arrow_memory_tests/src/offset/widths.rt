@@ -5,10 +5,10 @@ use arrow_types::offset::Offset;
 use std::alloc::Global;
 use std::process::Abort;
 
-/// Returns the answer of `OffsetsBuffer::narrow` for these numbers, as text.
+/// Returns the answer of `narrow` for these numbers, as text.
 fn narrowing(alloc: Global, rt: &impl Abort, numbers: &[usize]) -> &'static str {
     let offsets = frozen_offsets::<i64>(alloc, numbers).expect(rt, "offsets");
-    let told = tells(OffsetsBuffer::narrow(alloc, &offsets));
+    let told = tells(offsets.narrow());
     drop(offsets);
     told
 }
@@ -33,7 +33,7 @@ fn are<O: Offset>(offsets: OffsetsBuffer<O>, numbers: &[usize]) -> bool {
 /// Whether wide offsets of these numbers have them as narrow ones.
 fn narrow(alloc: Global, rt: &impl Abort, numbers: &[usize]) -> bool {
     let offsets = frozen_offsets::<i64>(alloc, numbers).expect(rt, "offsets");
-    let narrow = OffsetsBuffer::narrow(alloc, &offsets).expect(rt, "numbers that fit");
+    let narrow = offsets.narrow().expect(rt, "numbers that fit");
     drop(offsets);
     are(narrow, numbers)
 }
@@ -41,7 +41,7 @@ fn narrow(alloc: Global, rt: &impl Abort, numbers: &[usize]) -> bool {
 /// Whether narrow offsets of these numbers have them as wide ones.
 fn widen(alloc: Global, rt: &impl Abort, numbers: &[usize]) -> bool {
     let offsets = frozen_offsets::<i32>(alloc, numbers).expect(rt, "offsets");
-    let wide = OffsetsBuffer::widen(alloc, &offsets).expect(rt, "memory");
+    let wide = offsets.widen().expect(rt, "memory");
     drop(offsets);
     are(wide, numbers)
 }

@@ -34,6 +34,10 @@ returns-then-is_ascii_window-clause-exact g c =
       passed = λ _ none. absurd (none c.if-is_ascii_window.ensures.answer);
     }
 
+pub returns-then-is_ascii_window-clause-rejected : goal.returns-then-is_ascii_window-clause-rejected
+returns-then-is_ascii_window-clause-rejected g c = λ _ none. absurd
+    (none (g.met.J.Judge.takes_ascii _ c.if-is_ascii_window.ensures.answer))
+
 pub returns-then-not-is_cut_text-clause-counted : goal.returns-then-not-is_cut_text-clause-counted
 returns-then-not-is_cut_text-clause-counted g c =
     let looked = subst (λ r. LooksAtMost (length c.args.offsets.now - 2) (after_whole_test r)
@@ -99,3 +103,15 @@ pub returns-clause-ok : goal.returns-clause-ok
 returns-clause-ok g c =
     subst (PassesWhole g.J.Judge.accepts (numbers_of g.O.Offset.number c.args.offsets.now))
     (ap (λ r. r.bytes) c.is_ascii_window.ensures.counted) (c.if-not-is_cut_text.ensures.answer.0 refl)
+
+pub returns-then-not-is_cut_text-clause-rejected : goal.returns-then-not-is_cut_text-clause-rejected
+returns-then-not-is_cut_text-clause-rejected g c = λ _ none.
+    c.if-not-is_cut_text.ensures.rejected (subst (λ r.
+    ¬ g.J.Judge.accepts (window_of (numbers_of g.O.Offset.number c.args.offsets.now) r.bytes))
+    (sym c.is_ascii_window.ensures.counted) none) ∙ ap after_whole_test c.is_ascii_window.ensures.counted
+
+pub returns-clause-rejected : goal.returns-clause-rejected
+returns-clause-rejected g c = λ _ none.
+    c.if-not-is_cut_text.ensures.rejected (subst (λ r.
+    ¬ g.J.Judge.accepts (window_of (numbers_of g.O.Offset.number c.args.offsets.now) r.bytes))
+    (sym c.is_ascii_window.ensures.counted) none) ∙ ap after_whole_test c.is_ascii_window.ensures.counted
