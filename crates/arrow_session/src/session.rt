@@ -1,6 +1,6 @@
 //! A session: the input is read, every line is tested, the commands are run, and then the replies are written.
 ghost use Rattle.std.specs.Prelude.{◌≡◌, IfErr, IfOk, IfSome, MatchOption, ◌⊎◌, string_bytes};
-ghost use Rattle.arrow_session.specs.Counted.{inside, fault_count, Rose};
+ghost use Rattle.arrow_session.specs.Counted.{inside, fault_count, found_end, Rose};
 ghost use Rattle.arrow_syntax.specs.Lines.{bad_line, commands_of};
 ghost use Rattle.arrow_session.specs.Session.{AreCommands, Ends, IsAnswer, IsStop};
 
@@ -83,6 +83,9 @@ pub fn session<R: Read, W: Write>(
         Ends bytes (R.remaining (inside input.new)) held (W.contents (inside output.new)) result)) }
     ensures device { result ≡ Outcome.Device →
         Rose (fault_count input.old) (fault_count input.new) ⊎ Rose (fault_count output.old) (fault_count output.new) }
+    // Only a refusal before the end of the input was found hides a line that is not a command.
+    ensures memory { result ≡ Outcome.Memory → (found_end input.new ≡ found_end input.old)
+        ⊎ IfSome (R.remaining (inside input.old)) AreCommands }
 {
     let bytes = match read_all(alloc, input) {
         Ok(bytes) => bytes,
