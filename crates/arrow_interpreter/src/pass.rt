@@ -1,4 +1,4 @@
-//! What is done with the lines of an input: they are run, or only tested.
+//! The two passes over the lines of an input: all lines are tested, and then they are run.
 ghost use Rattle.std.specs.Prelude.{◌≡◌, Bool, IfOk, None, Ok, Option, Result, is_some, option_map, ℤ};
 ghost use Rattle.std.specs.declared.alloc.AllocError.{AllocError};
 ghost use Rattle.arrow_model.specs.Both.{BothRequest};
@@ -49,7 +49,7 @@ pub(crate) trait Pass {
         ensures { Comes (narrow_in (words_of words.now)) self.old self.new result };
 }
 
-/// Lines are tested, and nothing is made of their words or run. No call fails.
+/// The first pass: lines are tested, and nothing is made of their words or run. No call fails.
 #[derive(Drop)]
 pub(crate) struct Tested;
 
@@ -93,7 +93,7 @@ impl Pass for Tested {
 /// The words of `widen` and of `narrow`.
 type TwoNumbers = (usize, Last<usize>);
 
-// Lines are run, and their replies appended to the text.
+// The second pass: lines are run, and their replies appended to the text.
 impl Pass for Interpreter {
     ghost Comes = { λ request old new result. IfOk result (RunsLine request old new) };
 

@@ -1,5 +1,5 @@
 //! The test and the run of one line.
-ghost use Rattle.std.specs.Prelude.{◌≡◌, IfOk, IsTrue, not};
+ghost use Rattle.std.specs.Prelude.{◌≡◌, IsFalse, IsTrue, OnOk, not};
 ghost use Rattle.std.specs.Option.{option_to_list};
 ghost use Rattle.arrow_interpreter.specs.Replies.{RunsRequests};
 ghost use Rattle.arrow_syntax.specs.Lines.{asked_in, is_bad};
@@ -30,24 +30,14 @@ pub fn is_line(line: &[u8], printable: bool) -> bool
     }
 }
 
-/// Runs the command that a line is, unless it is passed over, and appends its reply to the text. Returns whether the
-/// line is passed over or a command. A line that is known to be printable is not tested for that.
+/// Runs the command that a line is, unless it is passed over, and appends its reply to the text.
 #[inline(always)]
-pub fn run_line(
-    interpreter: &mut Interpreter,
-    line: &[u8],
-    printable: bool,
-) -> Result<bool, AllocError>
-    requires { IsTrue printable → IsTrue (is_printable line.now) }
-    ensures test { IfOk result (λ is_line. is_bad line.now ≡ not is_line) }
-    ensures run { IfOk result (λ is_line.
-        IsTrue is_line → RunsRequests (option_to_list (asked_in line.now)) interpreter.old interpreter.new) }
+pub fn run_line(interpreter: &mut Interpreter, line: &[u8]) -> Result<(), AllocError>
+    requires { IsFalse (is_bad line.now) }
+    ensures { OnOk result (RunsRequests (option_to_list (asked_in line.now)) interpreter.old interpreter.new) }
 {
-    if is_passed_over(line) {
-        return Ok(true);
+    if !is_passed_over(line) {
+        dispatch_words(interpreter, line)?;
     }
-    if !printable && !is_printable(line) {
-        return Ok(false);
-    }
-    dispatch_words(interpreter, line)
+    Ok(())
 }

@@ -5,33 +5,13 @@ use arrow_session::session::session;
 use arrow_testing::all_told;
 use arrow_types::error::Error;
 use std::alloc::Global;
-use std::io;
-use std::io::Read;
 use std::test::Fail;
-
-/// Gives the bytes of lines, and notes that it was asked behind the last of them.
-#[derive(Drop)]
-struct Input<'a> {
-    bytes: &'a [u8],
-    is_ended: &'a mut bool,
-}
-
-impl Read for Input<'_> {
-    fn read(&mut self, buf: &mut [u8]) -> io::Result<usize> {
-        *self.is_ended |= self.bytes.is_empty();
-        self.bytes.read(buf)
-    }
-}
 
 /// How a session over these lines ends, which writes into this room, and whether it has read them to their end.
 fn session_into(alloc: Global, lines: &str, room: &mut [u8]) -> (Outcome, bool) {
-    let mut is_ended = false;
-    let input = Input {
-        bytes: lines.as_bytes(),
-        is_ended: &mut is_ended,
-    };
-    let outcome = session(alloc, &mut Counted::new(input), &mut Counted::new(room));
-    (outcome, is_ended)
+    let mut input = Counted::new(lines.as_bytes());
+    let outcome = session(alloc, &mut input, &mut Counted::new(room));
+    (outcome, input.has_ended())
 }
 
 /// Whether a session says that memory was refused and has written nothing, or a reply says it of its own command. Where it has
@@ -49,12 +29,12 @@ fn replies(alloc: Global) -> Result<bool, Error> {
     }
 }
 
-/// Lines of which the last is no command. Those before it need memory.
+/// Lines of which the last is no command. Those before it would need memory.
 const BAD_AT_ITS_END: &str =
     "new 0 mprim\nextend 0 v1 v2 v3\nnull 1 prim 1000\nitems 2 utf8 t6869\nlist 2\nlen";
 
-/// Whether the first bad line is named and nothing is written, even if an allocation fails on a line before it. Only a
-/// failed allocation while the input is read may end the session with `Memory`.
+/// Whether the first bad line is named and nothing is written. Only a failed allocation while the input is read may end
+/// the session with `Memory`, since no line before the bad one is run.
 fn names_line(alloc: Global) -> Result<bool, Error> {
     let mut room = [0; 1];
     match session_into(alloc, BAD_AT_ITS_END, room.as_mut_slice()) {

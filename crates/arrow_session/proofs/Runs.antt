@@ -63,6 +63,15 @@ module _ (input : List ℕ) where
     read_bad n e h = h.1 ∙ reads_bad n h.0 line rest e
 
     module _ (table : Both ℤ) (text : List ℕ) where
+      -- where each line is a command, so is the next
+      pub run_next : AreCommands input → IsRunTo input (line ∷ rest) table text → is_bad line ≡ false
+      unfolding IsRunTo
+      run_next all h = by_test (is_bad line) refl
+        where
+          by_test : (b : Bool) → is_bad line ≡ b → b ≡ false
+          by_test true e = absurd (cc (all.1, h.3 ∙ reads_bad h.0 h.1 line rest e))
+          by_test false e = refl
+
       pub run_good : (later : Both ℤ) (grown : List ℕ) → is_bad line ≡ false
           → AppendsRun (option_to_list (asked_in line)) table later text grown
           → IsRunTo input (line ∷ rest) table text → IsRunTo input rest later grown

@@ -52,7 +52,7 @@ module _ (input : List ℕ) (left : Option (List ℕ)) (old : List ℕ) (new : O
   Ends outcome.Done = IsAnswered
   Ends (outcome.BadLine n) = IsRead × (commands_of input ≡ bad_line n) × IsSilent
   Ends outcome.Device = IsSilent ⊎ IsBegun
-  Ends outcome.Memory = IsSilent ⊎ IsBegun
+  Ends outcome.Memory = IsSilent
 
 -- the exit status of the program
 abbrev pub status_of : Outcome → ℕ

@@ -1,18 +1,20 @@
 //! Readers and writers that count their faults.
-ghost use Rattle.std.specs.Prelude.{◌≡◌, ◌≤◌, is_err};
+ghost use Rattle.std.specs.Prelude.{◌≡◌, ◌≤◌, false, is_err};
 ghost use Rattle.std.specs.Io.{ReadsAtMost, WritesAtMost};
 ghost use Rattle.std.specs.Io.KnownBytes.{Keeps, ReadConsumes, WriteAppends};
-ghost use Rattle.arrow_session.specs.Counted.{fault_count, inside, count_after, is_write_fault};
+ghost use Rattle.arrow_session.specs.Counted.{fault_count, found_end, inside, count_after, found_after};
+ghost use Rattle.arrow_session.specs.Counted.{is_write_fault};
 
 use std::io;
 use std::io::{Read, Write};
 
 /// A reader or a writer that counts its faults: reads, writes and flushes that failed, and writes
-/// of a non-empty slice that took nothing.
+/// of a non-empty slice that took nothing. A reader also remembers whether it found the end of its input.
 #[derive(Drop)]
 pub struct Counted<R> {
     inner: R,
     faults: u64,
+    has_ended: bool,
 }
 
 impl<R> Counted<R> {
@@ -20,8 +22,13 @@ impl<R> Counted<R> {
     pub fn new(inner: R) -> Self
         ensures count { fault_count result ≡ 0 }
         ensures inside { inside result ≡ inner }
+        ensures end { found_end result ≡ false }
     {
-        Counted { inner, faults: 0 }
+        Counted {
+            inner,
+            faults: 0,
+            has_ended: false,
+        }
     }
 
     /// Returns the number of faults, or `u64::MAX` if there were more.
@@ -31,11 +38,19 @@ impl<R> Counted<R> {
         self.faults
     }
 
+    /// Returns whether a read found the end of the input.
+    pub fn has_ended(&self) -> bool
+        ensures { result ≡ found_end self.now }
+    {
+        self.has_ended
+    }
+
     /// Counts a fault if there was one.
     fn note(&mut self, is_fault: bool)
         ensures count { fault_count self.new ≡ count_after is_fault (fault_count self.old) }
         ensures never_less { fault_count self.old ≤ fault_count self.new }
         ensures inside { inside self.new ≡ inside self.old }
+        ensures end { found_end self.new ≡ found_end self.old }
     {
         if is_fault {
             self.faults = self.faults.saturating_add(1);
@@ -51,9 +66,15 @@ impl<R: Read> Read for Counted<R> {
         ensures bytes { ReadConsumes (R.remaining (inside self.old)) (R.remaining (inside self.new)) result buf.new }
         ensures count { fault_count self.new ≡ count_after (is_err result) (fault_count self.old) }
         ensures never_less { fault_count self.old ≤ fault_count self.new }
+        ensures end { found_end self.new ≡ found_after result buf.new (found_end self.old) }
     {
         let result = self.inner.read(buf);
         self.note(result.is_err());
+        let is_end = match &result {
+            Ok(count) => *count == 0 && !buf.is_empty(),
+            Err(_) => false,
+        };
+        self.has_ended = is_end || self.has_ended;
         result
     }
 }

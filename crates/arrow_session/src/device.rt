@@ -2,7 +2,7 @@
 ghost use Rattle.std.specs.Prelude.{◌≡◌, ◌-◌, ◌^◌, ◌<◌, ◌≤◌, IfOk, OnErr, IsErrOf, length, vec_len, OnOk};
 ghost use Rattle.std.specs.Prelude.{IsFalse, take};
 ghost use Rattle.std.specs.Io.KnownBytes.{Appends, Keeps};
-ghost use Rattle.arrow_session.specs.Counted.{inside, fault_count, Rose};
+ghost use Rattle.arrow_session.specs.Counted.{inside, fault_count, found_end, Rose};
 ghost use Rattle.arrow_session.specs.Device.{Takes, IsWhole, PutsFront};
 
 use crate::counted::Counted;
@@ -47,7 +47,9 @@ fn read_piece<R: Read>(
     ensures more { IfOk result (λ is_end. IsFalse is_end → fault_count input.old < 2 ^ 64 - 1
         → fault_count input.new ≡ fault_count input.old → vec_len bytes.old < vec_len bytes.new) }
     ensures never_less { fault_count input.old ≤ fault_count input.new }
+    ensures before_end { IfOk result (λ is_end. IsFalse is_end → found_end input.new ≡ found_end input.old) }
     ensures device { IsErrOf result Fault.Device → Rose (fault_count input.old) (fault_count input.new) }
+    ensures memory { IsErrOf result Fault.Memory → found_end input.new ≡ found_end input.old }
 {
     match input.read(piece) {
         Ok(0) => Ok(true),
@@ -70,11 +72,12 @@ fn room(alloc: Global, len: usize) -> Result<Vec<u8>, AllocError>
 /// Reads an input to its end.
 ///
 /// # Errors
-/// Returns `Fault::Device` if a read fails, and `Fault::Memory` if an allocation fails.
+/// Returns `Fault::Device` if a read fails, and `Fault::Memory` if an allocation fails before the end is found.
 pub(crate) fn read_all<R: Read>(alloc: Global, input: &mut Counted<R>) -> Result<Vec<u8>, Fault>
     ensures whole { let before = R.remaining (inside input.old) in let after = R.remaining (inside input.new) in
         IfOk result (λ bytes. IsWhole before after bytes.items) }
     ensures device { IsErrOf result Fault.Device → Rose (fault_count input.old) (fault_count input.new) }
+    ensures memory { IsErrOf result Fault.Memory → found_end input.new ≡ found_end input.old }
 {
     let mut piece = room(alloc, PIECE)?;
     let mut bytes = Vec::new(alloc);

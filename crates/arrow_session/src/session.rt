@@ -1,8 +1,7 @@
-//! A session: the input is read, its lines are run, and then, if each line was a command, the replies are written.
-ghost use Rattle.std.specs.Prelude.{◌≡◌, [], IfErr, IfOk, IfSome, MatchOption, OnOk, ◌⊎◌, string_bytes};
-ghost use Rattle.arrow_session.specs.Counted.{inside, fault_count, Rose};
+//! A session: the input is read, every line is tested, the commands are run, and then the replies are written.
+ghost use Rattle.std.specs.Prelude.{◌≡◌, IfErr, IfOk, IfSome, MatchOption, ◌⊎◌, string_bytes};
+ghost use Rattle.arrow_session.specs.Counted.{inside, fault_count, found_end, Rose};
 ghost use Rattle.arrow_syntax.specs.Lines.{bad_line, commands_of};
-ghost use Rattle.arrow_interpreter.specs.Replies.{at_first};
 ghost use Rattle.arrow_session.specs.Session.{AreCommands, Ends, IsAnswer, IsStop};
 
 use crate::counted::Counted;
@@ -12,7 +11,7 @@ use arrow_interpreter::interpreter::Interpreter;
 use arrow_interpreter::run::{is_line, run_line};
 use arrow_syntax::lines::{all_printable, split_line};
 use arrow_table::Tables;
-use std::alloc::Global;
+use std::alloc::{AllocError, Global};
 use std::io::{Read, Write};
 
 /// The number of entries of each table of a session.
@@ -37,59 +36,43 @@ fn first_bad_line(input: &[u8]) -> Option<usize>
     None
 }
 
-/// Returns the outcome if memory was refused while lines were run: the first line that is not a command, which may not
-/// have been reached, or `Memory` if there is none.
-#[cold]
-#[inline(never)]
-fn end_without_memory(input: &[u8]) -> Outcome
-    ensures { IsStop input.now result }
+/// Runs an input of commands on tables of empty entries and returns the replies. No list of commands or replies is kept.
+fn run_lines(alloc: Global, input: &[u8]) -> Result<String, AllocError>
+    requires { AreCommands input.now }
+    ensures { IfOk result (λ text. IsAnswer input.now (string_bytes text)) }
 {
-    match first_bad_line(input) {
-        Some(number) => Outcome::BadLine(number),
-        None => Outcome::Memory,
-    }
-}
-
-/// Runs an input of commands on the tables that a session begins with. Each line is run as soon as it is read, so that
-/// it is read once and no list of commands or replies is kept.
-fn run_lines(interpreter: &mut Interpreter, input: &[u8]) -> Result<(), Outcome>
-    requires tables { interpreter.old.tables ≡ at_first }
-    requires text { string_bytes interpreter.old.text ≡ [] }
-    ensures ok { OnOk result (IsAnswer input.now (string_bytes interpreter.new.text)) }
-    ensures err { IfErr result (IsStop input.now) }
-{
-    let printable = all_printable(input);
-    let mut number = 1;
+    let tables = Tables::new(alloc, ENTRIES).map_err(|_| AllocError)?;
+    let text = String::new(alloc);
+    let mut interpreter = Interpreter { tables, text };
     let mut rest = Some(input);
     while let Some(lines) = rest {
         let (line, after) = split_line(lines);
-        match run_line(interpreter, line, printable) {
-            Ok(true) => {}
-            Ok(false) => return Err(Outcome::BadLine(number)),
-            Err(_) => return Err(end_without_memory(input)),
-        }
-        number += 1;
+        run_line(&mut interpreter, line)?;
         rest = after;
     }
-    Ok(())
-}
-
-/// Returns the replies of an input of commands, which are run on tables of empty entries.
-fn replies_of(alloc: Global, input: &[u8]) -> Result<String, Outcome>
-    ensures ok { IfOk result (λ text. IsAnswer input.now (string_bytes text)) }
-    ensures err { IfErr result (IsStop input.now) }
-{
-    let Ok(tables) = Tables::new(alloc, ENTRIES) else {
-        return Err(end_without_memory(input));
-    };
-    let text = String::new(alloc);
-    let mut interpreter = Interpreter { tables, text };
-    run_lines(&mut interpreter, input)?;
     Ok(interpreter.text)
 }
 
-/// Reads every line of the input, runs every command on 16 empty entries of each width, and writes
-/// a reply for each. If a line is not a command, nothing is written, and the tables are dropped.
+/// Returns the text of the replies of an input. Every line is tested before the first is run.
+///
+/// # Errors
+/// Returns `Outcome::BadLine` if a line is not a command; then nothing was run. Returns `Outcome::Memory` if every line
+/// is a command and an allocation fails.
+pub fn replies_of(alloc: Global, input: &[u8]) -> Result<String, Outcome>
+    ensures ok { IfOk result (λ text. IsAnswer input.now (string_bytes text)) }
+    ensures err { IfErr result (IsStop input.now) }
+{
+    if let Some(number) = first_bad_line(input) {
+        return Err(Outcome::BadLine(number));
+    }
+    match run_lines(alloc, input) {
+        Ok(text) => Ok(text),
+        Err(_) => Err(Outcome::Memory),
+    }
+}
+
+/// Reads the whole input, runs every command on 16 empty entries of each width, and writes a reply for each. If a line
+/// is not a command, nothing is run or written.
 pub fn session<R: Read, W: Write>(
     alloc: Global,
     input: &mut Counted<R>,
@@ -100,6 +83,9 @@ pub fn session<R: Read, W: Write>(
         Ends bytes (R.remaining (inside input.new)) held (W.contents (inside output.new)) result)) }
     ensures device { result ≡ Outcome.Device →
         Rose (fault_count input.old) (fault_count input.new) ⊎ Rose (fault_count output.old) (fault_count output.new) }
+    // Only a refusal before the end of the input was found hides a line that is not a command.
+    ensures memory { result ≡ Outcome.Memory → (found_end input.new ≡ found_end input.old)
+        ⊎ IfSome (R.remaining (inside input.old)) AreCommands }
 {
     let bytes = match read_all(alloc, input) {
         Ok(bytes) => bytes,

@@ -321,3 +321,20 @@ fn faults_of(piece: &str) -> u64 {
 fn empty_piece_is_no_fault(rt: HostRuntime) {
     assert!(rt; faults_of("") == 0 && faults_of("a") == 1);
 }
+
+/// Whether a reader has found the end of one byte after a read of it, a read into no room, and one more read.
+fn ends_found() -> [bool; 3] {
+    let mut input = Counted::new("a".as_bytes());
+    let mut room = [0; 1];
+    let _ = input.read(&mut room);
+    let behind_it = input.has_ended();
+    let _ = input.read(&mut room[..0]);
+    let no_room = input.has_ended();
+    let _ = input.read(&mut room);
+    [behind_it, no_room, input.has_ended()]
+}
+
+#[test]
+fn end_is_found_by_a_read(rt: HostRuntime) {
+    assert!(rt; ends_found() == [false, false, true]);
+}

@@ -1,6 +1,6 @@
 use Rattle.std.proofs.Common.{◌≡◌, ◌-◌, ◌^◌, ◌<◌, ◌≤◌, vec_len}
 use Rattle.std.specs.Io.KnownBytes.{Consumes}
-use Rattle.arrow_session.specs.Counted.{inside, fault_count}
+use Rattle.arrow_session.specs.Counted.{inside, fault_count, found_end}
 use Rattle.arrow_session.proofs.device.read_all.Given as goal
 
 abbrev pub invariant-loop : goal.invariant-loop
@@ -10,4 +10,5 @@ invariant-loop g l = record {
   rising : fault_count l.fn.input ≤ fault_count l.input;
   turns : fault_count l.fn.input < 2 ^ 64 - 1 → fault_count l.input ≡ fault_count l.fn.input
       → l.counter ≤ vec_len l.bytes;
+  unended : found_end l.input ≡ found_end l.fn.input;
 }

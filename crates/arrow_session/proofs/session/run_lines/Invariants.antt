@@ -1,19 +1,11 @@
-use Rattle.std.proofs.Common.{◌+◌, ◌≤◌, length, string_bytes}
-use Rattle.std.specs.Prelude.{IsTrue}
-use Rattle.std.specs.List.{list_all}
+use Rattle.std.proofs.Common.{string_bytes}
 use Rattle.arrow_syntax.proofs.CallerLemmas.{length_after}
-use Rattle.arrow_syntax.specs.Words.{is_printable}
 use Rattle.arrow_session.proofs.Reading.{lines_after}
-use Rattle.arrow_session.proofs.Runs.{IsReadTo, IsRunTo}
+use Rattle.arrow_session.proofs.Runs.{IsRunTo}
 use Rattle.arrow_session.proofs.session.run_lines.Given as goal
 
 abbrev pub invariant-loop-rest : goal.invariant-loop-rest
-invariant-loop-rest l = record {
-  read : IsReadTo l.fn.input l.number (lines_after l.rest);
-  run : IsRunTo l.fn.input (lines_after l.rest) l.interpreter.tables (string_bytes l.interpreter.text);
-  known : IsTrue l.printable → IsTrue (list_all is_printable (lines_after l.rest));
-  room : l.number + length_after l.rest ≤ length l.fn.input + 2;
-}
+invariant-loop-rest l = IsRunTo l.fn.input (lines_after l.rest) l.interpreter.tables (string_bytes l.interpreter.text)
 
 abbrev pub decreases-loop-rest : goal.decreases-loop-rest
 decreases-loop-rest l = length_after l.rest
