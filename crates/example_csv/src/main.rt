@@ -17,6 +17,7 @@ mod write_csv;
 use crate::answer::answer;
 use crate::error::Error;
 use crate::options::{Options, command};
+use clap::ArgMatches;
 use std::env;
 use std::io::{BufWriter, Write};
 use std::process::ExitCode;
@@ -28,21 +29,25 @@ fn run(rt: &HostRuntime, options: &Options) -> Result<(), Error> {
     Ok(())
 }
 
-fn main(rt: HostRuntime) -> anyhow::Result<ExitCode> {
-    let words: Vec<String> = env::args(&rt)?.collect(rt.alloc())?;
-    let matches = match command(rt.alloc())?.try_get_matches_from(words.as_slice()) {
-        Ok(matches) => matches,
-        Err(error) => {
-            error.print(&rt)?;
-            return Ok(ExitCode::from(error.exit_code() as u8));
-        }
-    };
-    let options = Options::from_matches(rt.alloc(), &matches)?;
-    match run(&rt, &options) {
+/// Does what the matches of a command line ask, and returns the program's status.
+fn run_matches(rt: &HostRuntime, matches: &ArgMatches<'_>) -> anyhow::Result<ExitCode> {
+    let options = Options::from_matches(rt.alloc(), matches)?;
+    match run(rt, &options) {
         Ok(()) => Ok(ExitCode::SUCCESS),
         Err(error) => {
             eprintln!(rt; "example_csv: {error}")?;
             Ok(ExitCode::from(2))
+        }
+    }
+}
+
+fn main(rt: HostRuntime) -> anyhow::Result<ExitCode> {
+    let words: Vec<String> = env::args(&rt)?.collect(rt.alloc())?;
+    match command(rt.alloc())?.try_get_matches_from(words.as_slice()) {
+        Ok(matches) => run_matches(&rt, &matches),
+        Err(error) => {
+            error.print(&rt)?;
+            Ok(ExitCode::from(error.exit_code() as u8))
         }
     }
 }
