@@ -235,7 +235,7 @@ impl<'a, T: NativeType, O: Offset> ChangesEntry<T, O> for ApplyMask<'a, T> {
 
     ghost asks = { λ command. apply_mask (change_of command.0.now) };
 
-    fn run(self, alloc: Global, entry: &mut Option<Entry<T, O>>) -> Result<Reply<T>, Error> {
+    fn run(&self, alloc: Global, entry: &mut Option<Entry<T, O>>) -> Result<Reply<T>, Error> {
         let Some(held) = entry else {
             return Ok(Reply::NotMet);
         };

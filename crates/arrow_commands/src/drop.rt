@@ -16,7 +16,7 @@ impl<T: NativeType, O: Offset> ChangesEntry<T, O> for Empty {
 
     ghost asks = { λ command. empty };
 
-    fn run(self, _alloc: Global, entry: &mut Option<Entry<T, O>>) -> Result<Reply<T>, Error> {
+    fn run(&self, _alloc: Global, entry: &mut Option<Entry<T, O>>) -> Result<Reply<T>, Error> {
         if entry.is_none() {
             return Ok(Reply::NotMet);
         }

@@ -192,7 +192,7 @@ impl<'a, T: NativeType, O: Offset> ChangesEntry<T, O> for SetValues<'a, T> {
 
     ghost asks = { λ command. set_values (map stored_item command.0.now) };
 
-    fn run(self, alloc: Global, entry: &mut Option<Entry<T, O>>) -> Result<Reply<T>, Error> {
+    fn run(&self, alloc: Global, entry: &mut Option<Entry<T, O>>) -> Result<Reply<T>, Error> {
         match entry {
             Some(Entry::Primitive(array)) => set_array::<T, O>(alloc, array, self.0),
             Some(Entry::MutablePrimitive(builder)) => set_builder::<T, O>(alloc, builder, self.0),

@@ -58,7 +58,7 @@ impl<'a, T: NativeType, O: Offset> MakesEntry<T, O> for FromItems<'a, T> {
         (items (map stored_item command.1.now)) };
 
     fn make(
-        self,
+        &self,
         alloc: Global,
         _entries: &Vec<Option<Entry<T, O>>>,
     ) -> Result<Option<Entry<T, O>>, Error> {

@@ -59,7 +59,7 @@ impl<'a, T: NativeType, O: Offset> MakesEntry<T, O> for FromSlots<'a, T> {
         (slots (map stored_slot command.1.now)) };
 
     fn make(
-        self,
+        &self,
         alloc: Global,
         _entries: &Vec<Option<Entry<T, O>>>,
     ) -> Result<Option<Entry<T, O>>, Error> {

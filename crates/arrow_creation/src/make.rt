@@ -24,11 +24,11 @@ pub trait MakesEntry<T: NativeType, O: Offset>: Drop {
     /// # Errors
     /// The refusal that the command is answered with.
     fn make(
-        self,
+        &self,
         alloc: Global,
         entries: &Vec<Option<Entry<T, O>>>,
     ) -> Result<Option<Entry<T, O>>, Error>
-        ensures { MadeBy result (makes self (state_of entries.now.items)) };
+        ensures { MadeBy result (makes self.now (state_of entries.now.items)) };
 }
 
 /// Puts what a command makes into the entry of a number; the command's condition fails if that is not empty or
