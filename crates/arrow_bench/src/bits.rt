@@ -1,7 +1,9 @@
 //! Bit maps.
 ghost use Rattle.std.specs.Prelude.{◌≡◌, length};
 
-use crate::rounds::{convert_rounds, make_rounds, make_rounds_of, place, read_rounds};
+use crate::rounds::{
+    convert_rounds, filled_builder, make_rounds, make_rounds_of, place, read_rounds,
+};
 use arrow_memory::bitmap::{Bitmap, MutableBitmap, and, not, or};
 use std::alloc::Global;
 
@@ -18,8 +20,8 @@ fn push_all(out: &mut MutableBitmap, pattern: &[u8], times: usize) -> Option<()>
 /// Creates a bitmap of the marks of a pattern, one byte each, so many times over.
 fn marks(alloc: Global, pattern: &[u8], times: usize) -> Option<MutableBitmap> {
     let mut out = MutableBitmap::new(alloc);
-    push_all(&mut out, pattern, times)?;
-    Some(out)
+    let filled = push_all(&mut out, pattern, times);
+    filled_builder(out, filled)
 }
 
 /// Creates the frozen bitmap of the same.
@@ -55,8 +57,8 @@ fn extend_all(out: &mut MutableBitmap, piece: usize, times: usize) -> Option<()>
 #[inline(always)]
 fn extend(alloc: Global, piece: usize, times: usize) -> Option<MutableBitmap> {
     let mut out = MutableBitmap::new(alloc);
-    extend_all(&mut out, piece, times)?;
-    Some(out)
+    let filled = extend_all(&mut out, piece, times);
+    filled_builder(out, filled)
 }
 
 // new, then so many extend_constant of `piece` marks, set and clear in turn

@@ -1,5 +1,5 @@
 //! The builder and the array of truth values.
-use crate::rounds::{make_rounds, place, read_rounds};
+use crate::rounds::{filled_builder, make_rounds, place, read_rounds};
 use arrow_boolean::{BooleanArray, MutableBooleanArray};
 use std::alloc::Global;
 
@@ -24,15 +24,12 @@ fn push_marked(out: &mut MutableBooleanArray, bits: &[u8], valid: &[u8]) -> Opti
 /// Creates a builder of truth values with their marks, one byte each; without marks there is no null.
 fn builder(alloc: Global, bits: &[u8], valid: &[u8]) -> Option<MutableBooleanArray> {
     let mut out = MutableBooleanArray::new(alloc);
-    let pushed = if valid.is_empty() {
+    let filled = if valid.is_empty() {
         push_all(&mut out, bits)
     } else {
         push_marked(&mut out, bits, valid)
     };
-    match pushed {
-        Some(()) => Some(out),
-        None => None,
-    }
+    filled_builder(out, filled)
 }
 
 /// Returns the number of rows and the truth value that is stored in one of them.

@@ -1,5 +1,7 @@
 //! Builders and arrays of bytes, and what those of text have in common with them.
-use crate::rounds::{convert_rounds, make_rounds, make_rounds_of, place};
+use crate::rounds::{
+    convert_rounds, extend_twice, filled_builder, make_rounds, make_rounds_of, place,
+};
 use arrow_binary::{MutableBinaryArray, MutableBinaryValuesArray};
 use arrow_byte_array::{ByteArray, MutableByteArray};
 use arrow_bytes::{Binary, ByteKind};
@@ -46,8 +48,8 @@ pub(crate) fn marks(alloc: Global, valid: &[u8]) -> Option<Option<MutableBitmap>
         return Some(None);
     }
     let mut marks = MutableBitmap::new(alloc);
-    push_marks(&mut marks, valid)?;
-    Some(Some(marks))
+    let filled = push_marks(&mut marks, valid);
+    Some(Some(filled_builder(marks, filled)?))
 }
 
 fn push_lengths(offsets: &mut Offsets<i32>, bytes: usize, item: usize) -> Option<()> {
@@ -60,8 +62,8 @@ fn push_lengths(offsets: &mut Offsets<i32>, bytes: usize, item: usize) -> Option
 /// Returns the offsets of items of so many bytes.
 fn even_offsets(alloc: Global, bytes: usize, item: usize) -> Option<Offsets<i32>> {
     let mut offsets = Offsets::new(alloc).ok()?;
-    push_lengths(&mut offsets, bytes, item)?;
-    Some(offsets)
+    let filled = push_lengths(&mut offsets, bytes, item);
+    filled_builder(offsets, filled)
 }
 
 /// Creates a builder of items of so many bytes and marks from its parts; a null stores its item too.
@@ -132,8 +134,8 @@ fn builder(
     times: usize,
 ) -> Option<MutableBinaryArray<i32>> {
     let mut out = MutableBinaryArray::new(alloc).ok()?;
-    push_all(&mut out, data, item, times)?;
-    Some(out)
+    let filled = push_all(&mut out, data, item, times);
+    filled_builder(out, filled)
 }
 
 #[inline(always)]
@@ -145,8 +147,8 @@ fn builder_with_nulls(
     valid: &[u8],
 ) -> Option<MutableBinaryArray<i32>> {
     let mut out = MutableBinaryArray::new(alloc).ok()?;
-    push_marked(&mut out, data, item, times, valid)?;
-    Some(out)
+    let filled = push_marked(&mut out, data, item, times, valid);
+    filled_builder(out, filled)
 }
 
 #[unsafe(no_mangle)]
@@ -195,8 +197,8 @@ fn push_values(
     times: usize,
 ) -> Option<MutableBinaryValuesArray<i32>> {
     let mut out = MutableBinaryValuesArray::new(alloc).ok()?;
-    push_values_all(&mut out, data, item, times)?;
-    Some(out)
+    let filled = push_values_all(&mut out, data, item, times);
+    filled_builder(out, filled)
 }
 
 fn probe_values(out: &MutableBinaryValuesArray<i32>, round: usize) -> u64 {
@@ -243,8 +245,8 @@ fn extend(
     times: usize,
 ) -> Option<MutableBinaryArray<i32>> {
     let mut out = MutableBinaryArray::new(alloc).ok()?;
-    extend_all(&mut out, data, item, times)?;
-    Some(out)
+    let filled = extend_all(&mut out, data, item, times);
+    filled_builder(out, filled)
 }
 
 #[unsafe(no_mangle)]
@@ -282,8 +284,8 @@ fn extend_values(
     times: usize,
 ) -> Option<MutableBinaryArray<i32>> {
     let mut out = MutableBinaryArray::new(alloc).ok()?;
-    extend_values_all(&mut out, data, item, times)?;
-    Some(out)
+    let filled = extend_values_all(&mut out, data, item, times);
+    filled_builder(out, filled)
 }
 
 #[unsafe(no_mangle)]
@@ -301,14 +303,13 @@ pub extern "C" fn rattle_flat_bin_extend_values(
     )
 }
 
-fn extend_twice<K: ByteKind>(
+fn extend_by<K: ByteKind>(
     alloc: Global,
     big: &MutableByteArray<K, i32>,
 ) -> Option<MutableByteArray<K, i32>> {
-    let mut out = MutableByteArray::new(alloc).ok()?;
-    out.try_extend_from_self(big).ok()?;
-    out.try_extend_from_self(big).ok()?;
-    Some(out)
+    extend_twice(MutableByteArray::new(alloc).ok()?, |out| {
+        out.try_extend_from_self(big).ok()
+    })
 }
 
 pub(crate) fn extend_self<K: ByteKind>(
@@ -321,7 +322,7 @@ pub(crate) fn extend_self<K: ByteKind>(
     make_rounds_of(
         of_parts::<K>(alloc, data, item, valid),
         rounds,
-        |big| extend_twice(alloc, big),
+        |big| extend_by(alloc, big),
         probe_builder,
     )
 }

@@ -1,5 +1,5 @@
 //! The builder of primitive values.
-use crate::rounds::{make_rounds, place};
+use crate::rounds::{filled_builder, make_rounds, place};
 use arrow_primitive::{MutablePrimitiveArray, PrimitiveArray};
 use std::alloc::Global;
 
@@ -29,15 +29,12 @@ pub(crate) fn builder(
     valid: &[u8],
 ) -> Option<MutablePrimitiveArray<i64>> {
     let mut out = MutablePrimitiveArray::new(alloc);
-    let pushed = if valid.is_empty() {
+    let filled = if valid.is_empty() {
         push_all(&mut out, values)
     } else {
         push_marked(&mut out, values, valid)
     };
-    match pushed {
-        Some(()) => Some(out),
-        None => None,
-    }
+    filled_builder(out, filled)
 }
 
 /// Creates the frozen array of the same.
@@ -76,8 +73,8 @@ fn push_all_null(out: &mut MutablePrimitiveArray<i64>, count: usize) -> Option<(
 #[inline(always)]
 fn push_nulls(alloc: Global, count: usize) -> Option<MutablePrimitiveArray<i64>> {
     let mut out = MutablePrimitiveArray::new(alloc);
-    push_all_null(&mut out, count)?;
-    Some(out)
+    let filled = push_all_null(&mut out, count);
+    filled_builder(out, filled)
 }
 
 // new, so many push_null
@@ -89,8 +86,8 @@ pub extern "C" fn rattle_flat_prim_push_null(alloc: Global, count: usize, rounds
 #[inline(always)]
 fn extend_nulls(alloc: Global, count: usize) -> Option<MutablePrimitiveArray<i64>> {
     let mut out = MutablePrimitiveArray::new(alloc);
-    out.extend_constant(count, None).ok()?;
-    Some(out)
+    let filled = out.extend_constant(count, None).ok();
+    filled_builder(out, filled)
 }
 
 // new, one extend_constant of so many nulls

@@ -1,6 +1,6 @@
 //! Builders that take a range of an array: the slots from the fourth on, twice, so that marks move
 //! within their bytes.
-use crate::rounds::make_rounds_of;
+use crate::rounds::{extend_twice, make_rounds_of};
 use crate::{boolean, bytes, primitive};
 use arrow_boolean::{BooleanArray, MutableBooleanArray};
 use arrow_byte_array::{ByteArray, MutableByteArray};
@@ -11,10 +11,9 @@ use std::alloc::Global;
 #[inline(always)]
 fn take_numbers(alloc: Global, array: &PrimitiveArray<i64>) -> Option<MutablePrimitiveArray<i64>> {
     let len = array.len().checked_sub(3)?;
-    let mut out = MutablePrimitiveArray::new(alloc);
-    out.extend_from_array(array, 3, len).ok()?;
-    out.extend_from_array(array, 3, len).ok()?;
-    Some(out)
+    extend_twice(MutablePrimitiveArray::new(alloc), |out| {
+        out.extend_from_array(array, 3, len).ok()
+    })
 }
 
 #[unsafe(no_mangle)]
@@ -35,10 +34,9 @@ pub extern "C" fn rattle_flat_prim_extend_array(
 #[inline(always)]
 fn take_bits(alloc: Global, array: &BooleanArray) -> Option<MutableBooleanArray> {
     let len = array.len().checked_sub(3)?;
-    let mut out = MutableBooleanArray::new(alloc);
-    out.extend_from_array(array, 3, len).ok()?;
-    out.extend_from_array(array, 3, len).ok()?;
-    Some(out)
+    extend_twice(MutableBooleanArray::new(alloc), |out| {
+        out.extend_from_array(array, 3, len).ok()
+    })
 }
 
 #[unsafe(no_mangle)]
@@ -62,10 +60,9 @@ fn take_items<K: ByteKind>(
     array: &ByteArray<K, i32>,
 ) -> Option<MutableByteArray<K, i32>> {
     let len = array.len().checked_sub(3)?;
-    let mut out = MutableByteArray::new(alloc).ok()?;
-    out.extend_from_array(array, 3, len).ok()?;
-    out.extend_from_array(array, 3, len).ok()?;
-    Some(out)
+    extend_twice(MutableByteArray::new(alloc).ok()?, |out| {
+        out.extend_from_array(array, 3, len).ok()
+    })
 }
 
 /// Creates an array of items of `item` bytes each, with these marks.

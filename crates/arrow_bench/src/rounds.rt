@@ -94,6 +94,28 @@ pub(crate) fn convert_rounds<A: Drop, C: Fn(A, usize) -> Option<(u64, A)>>(
     sum
 }
 
+/// Returns a builder that was filled; `None` if it was not.
+#[inline(always)]
+pub(crate) fn filled_builder<B: Drop>(builder: B, filled: Option<()>) -> Option<B> {
+    match filled {
+        Some(()) => Some(builder),
+        None => None,
+    }
+}
+
+/// Extends a builder twice, and returns it.
+#[inline(always)]
+pub(crate) fn extend_twice<B: Drop, E: Fn(&mut B) -> Option<()>>(
+    mut builder: B,
+    extend: E,
+) -> Option<B>
+    requires { E.IsAlwaysCallable extend }
+{
+    extend(&mut builder)?;
+    extend(&mut builder)?;
+    Some(builder)
+}
+
 /// Returns the place that is looked at after a round.
 pub(crate) fn place(round: usize, rows: usize) -> usize {
     if rows == 0 {

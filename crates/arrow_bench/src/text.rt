@@ -1,6 +1,6 @@
 //! Builders and arrays of text.
 use crate::bytes::{extend_self, marks_of, probe_array, probe_builder};
-use crate::rounds::{make_rounds, make_rounds_of, read_rounds};
+use crate::rounds::{filled_builder, make_rounds, make_rounds_of, read_rounds};
 use arrow_bytes::Utf8;
 use arrow_memory::bitmap::Bitmap;
 use arrow_memory::buffer::Buffer;
@@ -108,8 +108,8 @@ fn push_marked(
 #[inline(always)]
 fn builder(alloc: Global, text: &str, item: usize, times: usize) -> Option<MutableUtf8Array<i32>> {
     let mut out = MutableUtf8Array::new(alloc).ok()?;
-    push_all(&mut out, text, item, times)?;
-    Some(out)
+    let filled = push_all(&mut out, text, item, times);
+    filled_builder(out, filled)
 }
 
 #[inline(always)]
@@ -121,8 +121,8 @@ fn builder_with_nulls(
     valid: &[u8],
 ) -> Option<MutableUtf8Array<i32>> {
     let mut out = MutableUtf8Array::new(alloc).ok()?;
-    push_marked(&mut out, text, item, times, valid)?;
-    Some(out)
+    let filled = push_marked(&mut out, text, item, times, valid);
+    filled_builder(out, filled)
 }
 
 #[unsafe(no_mangle)]

@@ -1,7 +1,9 @@
 //! Builders that grow by many values, and arrays that are cloned, cut and thawed.
 use crate::bytes::marks;
 use crate::primitive::{array, probe, push_all};
-use crate::rounds::{convert_rounds, make_rounds, make_rounds_of, place};
+use crate::rounds::{
+    convert_rounds, extend_twice, filled_builder, make_rounds, make_rounds_of, place,
+};
 use arrow_primitive::{MutablePrimitiveArray, PrimitiveArray};
 use arrow_types::data_type::DataType;
 use either::{Left, Right};
@@ -21,8 +23,8 @@ pub(crate) fn of_parts(
 #[inline(always)]
 fn push_reserved(alloc: Global, values: &[i64]) -> Option<MutablePrimitiveArray<i64>> {
     let mut out = MutablePrimitiveArray::with_capacity(alloc, values.len()).ok()?;
-    push_all(&mut out, values)?;
-    Some(out)
+    let filled = push_all(&mut out, values);
+    filled_builder(out, filled)
 }
 
 #[unsafe(no_mangle)]
@@ -52,8 +54,8 @@ fn extend_slices(
     piece: usize,
 ) -> Option<MutablePrimitiveArray<i64>> {
     let mut out = MutablePrimitiveArray::new(alloc);
-    extend_all(&mut out, values, piece)?;
-    Some(out)
+    let filled = extend_all(&mut out, values, piece);
+    filled_builder(out, filled)
 }
 
 #[unsafe(no_mangle)]
@@ -66,14 +68,13 @@ pub extern "C" fn rattle_flat_prim_extend_slice(
     make_rounds(rounds, || extend_slices(alloc, values, piece), probe)
 }
 
-fn extend_twice(
+fn extend_by(
     alloc: Global,
     big: &MutablePrimitiveArray<i64>,
 ) -> Option<MutablePrimitiveArray<i64>> {
-    let mut out = MutablePrimitiveArray::new(alloc);
-    out.try_extend_from_self(big).ok()?;
-    out.try_extend_from_self(big).ok()?;
-    Some(out)
+    extend_twice(MutablePrimitiveArray::new(alloc), |out| {
+        out.try_extend_from_self(big).ok()
+    })
 }
 
 #[unsafe(no_mangle)]
@@ -86,7 +87,7 @@ pub extern "C" fn rattle_flat_prim_extend_self(
     make_rounds_of(
         of_parts(alloc, values, valid),
         rounds,
-        |big| extend_twice(alloc, big),
+        |big| extend_by(alloc, big),
         probe,
     )
 }
@@ -103,15 +104,15 @@ fn push_slots(slots: &mut Vec<Option<i64>>, values: &[i64], valid: &[u8]) -> Opt
 /// Returns the slots of values with their marks, one byte each.
 fn slots(alloc: Global, values: &[i64], valid: &[u8]) -> Option<Vec<Option<i64>>> {
     let mut slots = Vec::new(alloc);
-    push_slots(&mut slots, values, valid)?;
-    Some(slots)
+    let filled = push_slots(&mut slots, values, valid);
+    filled_builder(slots, filled)
 }
 
 #[inline(always)]
 fn extend(alloc: Global, slots: &[Option<i64>]) -> Option<MutablePrimitiveArray<i64>> {
     let mut out = MutablePrimitiveArray::new(alloc);
-    out.extend(slots.iter().copied()).ok()?;
-    Some(out)
+    let filled = out.extend(slots.iter().copied()).ok();
+    filled_builder(out, filled)
 }
 
 #[unsafe(no_mangle)]
