@@ -1,9 +1,10 @@
 //! Bit maps.
 ghost use Rattle.std.specs.Prelude.{◌≡◌, length};
 
-use crate::{place, told};
+use crate::rounds::{
+    convert_rounds, filled_builder, make_rounds, make_rounds_of, place, read_rounds,
+};
 use arrow_memory::bitmap::{Bitmap, MutableBitmap, and, not, or};
-use arrow_types::error::Error;
 use std::alloc::Global;
 
 #[inline(always)]
@@ -16,44 +17,23 @@ fn push_all(out: &mut MutableBitmap, pattern: &[u8], times: usize) -> Option<()>
     Some(())
 }
 
-/// The marks of a pattern, one byte each, so many times over.
+/// Creates a bitmap of the marks of a pattern, one byte each, so many times over.
 fn marks(alloc: Global, pattern: &[u8], times: usize) -> Option<MutableBitmap> {
     let mut out = MutableBitmap::new(alloc);
-    match push_all(&mut out, pattern, times) {
-        Some(()) => Some(out),
-        None => None,
-    }
+    let filled = push_all(&mut out, pattern, times);
+    filled_builder(out, filled)
 }
 
-/// The frozen ones.
-fn frozen(alloc: Global, pattern: &[u8], times: usize) -> Option<Bitmap> {
-    match marks(alloc, pattern, times) {
-        Some(marks) => marks.freeze().ok(),
-        None => None,
-    }
+/// Creates the frozen bitmap of the same.
+fn frozen_marks(alloc: Global, pattern: &[u8], times: usize) -> Option<Bitmap> {
+    marks(alloc, pattern, times)?.freeze().ok()
 }
 
-/// The number of marks, and one of them.
+/// Returns the number of marks, and one of them.
 fn probe(out: &MutableBitmap, round: usize) -> u64 {
     let rows = out.len();
     let at = place(round, rows);
     (rows as u64).wrapping_add(if at < rows { u64::from(out.get(at)) } else { 0 })
-}
-
-#[inline(always)]
-fn push_once(alloc: Global, pattern: &[u8], times: usize, round: usize) -> Option<u64> {
-    match marks(alloc, pattern, times) {
-        Some(out) => Some(probe(&out, round)),
-        None => None,
-    }
-}
-
-fn push(alloc: Global, pattern: &[u8], times: usize, rounds: usize) -> Option<u64> {
-    let mut sum = 0u64;
-    for round in 0..rounds {
-        sum = sum.wrapping_add(push_once(alloc, pattern, times, round)?);
-    }
-    Some(sum)
 }
 
 #[unsafe(no_mangle)]
@@ -63,7 +43,7 @@ pub extern "C" fn rattle_flat_bits_push(
     times: usize,
     rounds: usize,
 ) -> u64 {
-    told(push(alloc, pattern, times, rounds))
+    make_rounds(rounds, || marks(alloc, pattern, times), probe)
 }
 
 #[inline(always)]
@@ -75,20 +55,10 @@ fn extend_all(out: &mut MutableBitmap, piece: usize, times: usize) -> Option<()>
 }
 
 #[inline(always)]
-fn extend_once(alloc: Global, piece: usize, times: usize, round: usize) -> Option<u64> {
+fn extend(alloc: Global, piece: usize, times: usize) -> Option<MutableBitmap> {
     let mut out = MutableBitmap::new(alloc);
-    match extend_all(&mut out, piece, times) {
-        Some(()) => Some(probe(&out, round)),
-        None => None,
-    }
-}
-
-fn extend(alloc: Global, piece: usize, times: usize, rounds: usize) -> Option<u64> {
-    let mut sum = 0u64;
-    for round in 0..rounds {
-        sum = sum.wrapping_add(extend_once(alloc, piece, times, round)?);
-    }
-    Some(sum)
+    let filled = extend_all(&mut out, piece, times);
+    filled_builder(out, filled)
 }
 
 // new, then so many extend_constant of `piece` marks, set and clear in turn
@@ -99,27 +69,12 @@ pub extern "C" fn rattle_flat_bits_extend_constant(
     times: usize,
     rounds: usize,
 ) -> u64 {
-    told(extend(alloc, piece, times, rounds))
+    make_rounds(rounds, || extend(alloc, piece, times), probe)
 }
 
 #[inline(never)]
-fn unset_of(bitmap: &MutableBitmap, start: usize) -> usize {
-    start.wrapping_add(bitmap.unset_bits())
-}
-
-fn unset_all(bitmap: &MutableBitmap, rounds: usize) -> u64 {
-    let mut sum = 0usize;
-    for _ in 0..rounds {
-        sum = unset_of(bitmap, sum);
-    }
-    sum as u64
-}
-
-fn unset(alloc: Global, pattern: &[u8], times: usize, rounds: usize) -> Option<u64> {
-    match marks(alloc, pattern, times) {
-        Some(bitmap) => Some(unset_all(&bitmap, rounds)),
-        None => None,
-    }
+fn unset_of(bitmap: &MutableBitmap, start: u64) -> u64 {
+    start.wrapping_add(bitmap.unset_bits() as u64)
 }
 
 #[unsafe(no_mangle)]
@@ -129,38 +84,14 @@ pub extern "C" fn rattle_flat_bits_unset(
     times: usize,
     rounds: usize,
 ) -> u64 {
-    told(unset(alloc, pattern, times, rounds))
+    read_rounds(marks(alloc, pattern, times), rounds, unset_of)
 }
 
 #[inline(always)]
-fn thawed(frozen: Bitmap) -> (usize, Option<MutableBitmap>) {
-    let unset = frozen.unset_bits();
-    (unset, frozen.into_mut().right())
-}
-
-#[inline(always)]
-fn freeze_once(bitmap: MutableBitmap) -> (usize, Option<MutableBitmap>) {
-    match bitmap.freeze() {
-        Ok(frozen) => thawed(frozen),
-        Err(_) => (0, None),
-    }
-}
-
-fn freeze_all(bitmap: MutableBitmap, rounds: usize) -> Option<u64> {
-    let (mut kept, mut sum) = (bitmap, 0usize);
-    for _ in 0..rounds {
-        let (unset, thawed) = freeze_once(kept);
-        sum = sum.wrapping_add(unset);
-        kept = thawed?;
-    }
-    Some(sum as u64)
-}
-
-fn freeze_unset(alloc: Global, pattern: &[u8], times: usize, rounds: usize) -> Option<u64> {
-    match marks(alloc, pattern, times) {
-        Some(bitmap) => freeze_all(bitmap, rounds),
-        None => None,
-    }
+fn freeze_thaw(bitmap: MutableBitmap, _round: usize) -> Option<(u64, MutableBitmap)> {
+    let frozen = bitmap.freeze().ok()?;
+    let unset = frozen.unset_bits() as u64;
+    Some((unset, frozen.into_mut().right()?))
 }
 
 // sum: unset_bits after freeze; then into_mut, which gives the bits of the next round
@@ -171,7 +102,7 @@ pub extern "C" fn rattle_flat_bits_freeze_unset(
     times: usize,
     rounds: usize,
 ) -> u64 {
-    told(freeze_unset(alloc, pattern, times, rounds))
+    convert_rounds(marks(alloc, pattern, times), rounds, freeze_thaw)
 }
 
 #[inline(never)]
@@ -183,21 +114,6 @@ fn set_by_iter(bitmap: &Bitmap, start: u64) -> u64 {
     sum
 }
 
-fn iter_all(bitmap: &Bitmap, rounds: usize) -> u64 {
-    let mut sum = 0u64;
-    for _ in 0..rounds {
-        sum = set_by_iter(bitmap, sum);
-    }
-    sum
-}
-
-fn iter(alloc: Global, pattern: &[u8], times: usize, rounds: usize) -> Option<u64> {
-    match frozen(alloc, pattern, times) {
-        Some(bitmap) => Some(iter_all(&bitmap, rounds)),
-        None => None,
-    }
-}
-
 #[unsafe(no_mangle)]
 pub extern "C" fn rattle_flat_bits_iter(
     alloc: Global,
@@ -205,7 +121,7 @@ pub extern "C" fn rattle_flat_bits_iter(
     times: usize,
     rounds: usize,
 ) -> u64 {
-    told(iter(alloc, pattern, times, rounds))
+    read_rounds(frozen_marks(alloc, pattern, times), rounds, set_by_iter)
 }
 
 #[inline(never)]
@@ -217,21 +133,6 @@ fn set_by_get_bit(bitmap: &Bitmap, start: u64) -> u64 {
     sum
 }
 
-fn get_bit_all(bitmap: &Bitmap, rounds: usize) -> u64 {
-    let mut sum = 0u64;
-    for _ in 0..rounds {
-        sum = set_by_get_bit(bitmap, sum);
-    }
-    sum
-}
-
-fn get_bit(alloc: Global, pattern: &[u8], times: usize, rounds: usize) -> Option<u64> {
-    match frozen(alloc, pattern, times) {
-        Some(bitmap) => Some(get_bit_all(&bitmap, rounds)),
-        None => None,
-    }
-}
-
 // sum: the set bits of the frozen bitmap (made once), by get_bit(i)
 #[unsafe(no_mangle)]
 pub extern "C" fn rattle_flat_bits_get_bit(
@@ -240,7 +141,7 @@ pub extern "C" fn rattle_flat_bits_get_bit(
     times: usize,
     rounds: usize,
 ) -> u64 {
-    told(get_bit(alloc, pattern, times, rounds))
+    read_rounds(frozen_marks(alloc, pattern, times), rounds, set_by_get_bit)
 }
 
 #[inline(never)]
@@ -252,21 +153,6 @@ fn set_by_get(bitmap: &MutableBitmap, start: u64) -> u64 {
     sum
 }
 
-fn get_all(bitmap: &MutableBitmap, rounds: usize) -> u64 {
-    let mut sum = 0u64;
-    for _ in 0..rounds {
-        sum = set_by_get(bitmap, sum);
-    }
-    sum
-}
-
-fn get(alloc: Global, pattern: &[u8], times: usize, rounds: usize) -> Option<u64> {
-    match marks(alloc, pattern, times) {
-        Some(bitmap) => Some(get_all(&bitmap, rounds)),
-        None => None,
-    }
-}
-
 // the same of the builder, by get(i)
 #[unsafe(no_mangle)]
 pub extern "C" fn rattle_flat_bits_get(
@@ -275,7 +161,7 @@ pub extern "C" fn rattle_flat_bits_get(
     times: usize,
     rounds: usize,
 ) -> u64 {
-    told(get(alloc, pattern, times, rounds))
+    read_rounds(marks(alloc, pattern, times), rounds, set_by_get)
 }
 
 #[inline(never)]
@@ -299,50 +185,18 @@ fn set_each(bitmap: &mut MutableBitmap, pattern: &[u8], rounds: usize) -> u64 {
     sum
 }
 
-fn set(alloc: Global, pattern: &[u8], rounds: usize) -> Option<u64> {
-    let mut bitmap = MutableBitmap::new(alloc);
-    match bitmap.extend_constant(pattern.len(), false) {
-        Ok(()) => Some(set_each(&mut bitmap, pattern, rounds)),
-        Err(_) => None,
-    }
-}
-
 // a bitmap of the pattern (made once): set(i, pattern[i] != round % 2) for each; the probe
 #[unsafe(no_mangle)]
 pub extern "C" fn rattle_flat_bits_set(alloc: Global, pattern: &[u8], rounds: usize) -> u64 {
-    told(set(alloc, pattern, rounds))
-}
-
-/// Returns the number of clear marks of a bitmap that a call returned.
-fn clear_marks(made: Result<Bitmap, Error>) -> Option<u64> {
-    match made {
-        Ok(made) => Some(made.unset_bits() as u64),
-        Err(_) => None,
+    let mut bitmap = MutableBitmap::new(alloc);
+    match bitmap.extend_constant(pattern.len(), false) {
+        Ok(()) => set_each(&mut bitmap, pattern, rounds),
+        Err(_) => u64::MAX,
     }
 }
 
-fn and_all(alloc: Global, marks: &Bitmap, rounds: usize) -> Option<u64> {
-    let mut sum = 0u64;
-    for _ in 0..rounds {
-        sum = sum.wrapping_add(clear_marks(and(alloc, marks, marks))?);
-    }
-    Some(sum)
-}
-
-fn or_all(alloc: Global, marks: &Bitmap, rounds: usize) -> Option<u64> {
-    let mut sum = 0u64;
-    for _ in 0..rounds {
-        sum = sum.wrapping_add(clear_marks(or(alloc, marks, marks))?);
-    }
-    Some(sum)
-}
-
-fn not_all(alloc: Global, marks: &Bitmap, rounds: usize) -> Option<u64> {
-    let mut sum = 0u64;
-    for _ in 0..rounds {
-        sum = sum.wrapping_add(clear_marks(not(alloc, marks))?);
-    }
-    Some(sum)
+fn count_clear(bitmap: &Bitmap, _round: usize) -> u64 {
+    bitmap.unset_bits() as u64
 }
 
 // sum: the clear marks of the bits combined with themselves by `and`
@@ -353,10 +207,12 @@ pub extern "C" fn rattle_flat_bits_and(
     times: usize,
     rounds: usize,
 ) -> u64 {
-    match frozen(alloc, pattern, times) {
-        Some(marks) => told(and_all(alloc, &marks, rounds)),
-        None => u64::MAX,
-    }
+    make_rounds_of(
+        frozen_marks(alloc, pattern, times),
+        rounds,
+        |marks| and(alloc, marks, marks).ok(),
+        count_clear,
+    )
 }
 
 // sum: the clear marks of the bits combined with themselves by `or`
@@ -367,10 +223,12 @@ pub extern "C" fn rattle_flat_bits_or(
     times: usize,
     rounds: usize,
 ) -> u64 {
-    match frozen(alloc, pattern, times) {
-        Some(marks) => told(or_all(alloc, &marks, rounds)),
-        None => u64::MAX,
-    }
+    make_rounds_of(
+        frozen_marks(alloc, pattern, times),
+        rounds,
+        |marks| or(alloc, marks, marks).ok(),
+        count_clear,
+    )
 }
 
 // sum: the clear marks of the opposite bits
@@ -381,8 +239,10 @@ pub extern "C" fn rattle_flat_bits_not(
     times: usize,
     rounds: usize,
 ) -> u64 {
-    match frozen(alloc, pattern, times) {
-        Some(marks) => told(not_all(alloc, &marks, rounds)),
-        None => u64::MAX,
-    }
+    make_rounds_of(
+        frozen_marks(alloc, pattern, times),
+        rounds,
+        |marks| not(alloc, marks).ok(),
+        count_clear,
+    )
 }

@@ -1,5 +1,5 @@
 //! The builder and the array of truth values.
-use crate::{place, told};
+use crate::rounds::{filled_builder, make_rounds, place, read_rounds};
 use arrow_boolean::{BooleanArray, MutableBooleanArray};
 use std::alloc::Global;
 
@@ -21,21 +21,18 @@ fn push_marked(out: &mut MutableBooleanArray, bits: &[u8], valid: &[u8]) -> Opti
     Some(())
 }
 
-/// A builder of truth values with their marks, one byte each; no marks: no null.
+/// Creates a builder of truth values with their marks, one byte each; without marks there is no null.
 fn builder(alloc: Global, bits: &[u8], valid: &[u8]) -> Option<MutableBooleanArray> {
     let mut out = MutableBooleanArray::new(alloc);
-    let pushed = if valid.is_empty() {
+    let filled = if valid.is_empty() {
         push_all(&mut out, bits)
     } else {
         push_marked(&mut out, bits, valid)
     };
-    match pushed {
-        Some(()) => Some(out),
-        None => None,
-    }
+    filled_builder(out, filled)
 }
 
-/// The number of rows and the truth value that is stored in one of them.
+/// Returns the number of rows and the truth value that is stored in one of them.
 pub(crate) fn probe(out: &MutableBooleanArray, round: usize) -> u64 {
     let rows = out.values().len();
     let at = place(round, rows);
@@ -46,22 +43,6 @@ pub(crate) fn probe(out: &MutableBooleanArray, round: usize) -> u64 {
     })
 }
 
-#[inline(always)]
-fn push_once(alloc: Global, bits: &[u8], valid: &[u8], round: usize) -> Option<u64> {
-    match builder(alloc, bits, valid) {
-        Some(out) => Some(probe(&out, round)),
-        None => None,
-    }
-}
-
-fn push(alloc: Global, bits: &[u8], valid: &[u8], rounds: usize) -> Option<u64> {
-    let mut sum = 0u64;
-    for round in 0..rounds {
-        sum = sum.wrapping_add(push_once(alloc, bits, valid, round)?);
-    }
-    Some(sum)
-}
-
 #[unsafe(no_mangle)]
 pub extern "C" fn rattle_flat_bool_push(
     alloc: Global,
@@ -69,10 +50,9 @@ pub extern "C" fn rattle_flat_bool_push(
     valid: &[u8],
     rounds: usize,
 ) -> u64 {
-    told(push(alloc, bits, valid, rounds))
+    make_rounds(rounds, || builder(alloc, bits, valid), probe)
 }
 
-// The sum begins at a number that is another in every round, so that no compiler does one round's work for all.
 #[inline(never)]
 fn true_slots(array: &BooleanArray, start: u64) -> u64 {
     let mut sum = start;
@@ -84,27 +64,9 @@ fn true_slots(array: &BooleanArray, start: u64) -> u64 {
     sum
 }
 
-fn iter_all(array: &BooleanArray, rounds: usize) -> u64 {
-    let mut sum = 0u64;
-    for _ in 0..rounds {
-        sum = true_slots(array, sum);
-    }
-    sum
-}
-
-/// The frozen array of the same as `builder`.
+/// Creates the frozen array of the same as `builder`.
 pub(crate) fn array(alloc: Global, bits: &[u8], valid: &[u8]) -> Option<BooleanArray> {
-    match builder(alloc, bits, valid) {
-        Some(out) => out.freeze().ok(),
-        None => None,
-    }
-}
-
-fn iter(alloc: Global, bits: &[u8], valid: &[u8], rounds: usize) -> Option<u64> {
-    match array(alloc, bits, valid) {
-        Some(array) => Some(iter_all(&array, rounds)),
-        None => None,
-    }
+    builder(alloc, bits, valid)?.freeze().ok()
 }
 
 #[unsafe(no_mangle)]
@@ -114,5 +76,5 @@ pub extern "C" fn rattle_flat_bool_iter(
     valid: &[u8],
     rounds: usize,
 ) -> u64 {
-    told(iter(alloc, bits, valid, rounds))
+    read_rounds(array(alloc, bits, valid), rounds, true_slots)
 }

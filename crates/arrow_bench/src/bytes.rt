@@ -1,13 +1,16 @@
-//! Builders and arrays of bytes.
-use crate::{place, told};
-use arrow_binary::{BinaryArray, MutableBinaryArray, MutableBinaryValuesArray};
+//! Builders and arrays of bytes, and what those of text have in common with them.
+use crate::rounds::{
+    convert_rounds, extend_twice, filled_builder, make_rounds, make_rounds_of, place,
+};
+use arrow_binary::{MutableBinaryArray, MutableBinaryValuesArray};
+use arrow_byte_array::{ByteArray, MutableByteArray};
+use arrow_bytes::{Binary, ByteKind};
 use arrow_memory::bitmap::MutableBitmap;
 use arrow_memory::offset::Offsets;
-use arrow_types::data_type::DataType;
 use either::{Left, Right};
 use std::alloc::Global;
 
-/// The number of rows and the first byte of the item between the offsets at one of them.
+/// Returns the number of rows and the first byte of the item between the offsets at one of them.
 pub(crate) fn probe(offsets: &[i32], bytes: &[u8], round: usize) -> u64 {
     let rows = offsets.len().saturating_sub(1);
     let at = place(round, rows);
@@ -23,20 +26,13 @@ pub(crate) fn probe(offsets: &[i32], bytes: &[u8], round: usize) -> u64 {
     }
 }
 
-fn probe_builder(out: &MutableBinaryArray<i32>, round: usize) -> u64 {
+pub(crate) fn probe_builder<K: ByteKind>(out: &MutableByteArray<K, i32>, round: usize) -> u64 {
     probe(out.offsets().as_slice(), out.values(), round)
 }
 
-/// The marks of bytes that are 0 or 1; none where there are none.
-pub(crate) fn marks(alloc: Global, valid: &[u8]) -> Option<Option<MutableBitmap>> {
-    if valid.is_empty() {
-        return Some(None);
-    }
-    let mut marks = MutableBitmap::new(alloc);
-    match push_marks(&mut marks, valid) {
-        Some(()) => Some(Some(marks)),
-        None => None,
-    }
+pub(crate) fn probe_array<K: ByteKind>(array: &ByteArray<K, i32>, round: usize) -> u64 {
+    let offsets = array.offsets().buffer().as_slice();
+    probe(offsets, array.values().as_slice(), round)
 }
 
 fn push_marks(marks: &mut MutableBitmap, valid: &[u8]) -> Option<()> {
@@ -46,6 +42,16 @@ fn push_marks(marks: &mut MutableBitmap, valid: &[u8]) -> Option<()> {
     Some(())
 }
 
+/// Returns the marks of bytes that are 0 or 1; none where there are none.
+pub(crate) fn marks(alloc: Global, valid: &[u8]) -> Option<Option<MutableBitmap>> {
+    if valid.is_empty() {
+        return Some(None);
+    }
+    let mut marks = MutableBitmap::new(alloc);
+    let filled = push_marks(&mut marks, valid);
+    Some(Some(filled_builder(marks, filled)?))
+}
+
 fn push_lengths(offsets: &mut Offsets<i32>, bytes: usize, item: usize) -> Option<()> {
     for _ in 0..bytes.checked_div(item)? {
         offsets.try_push_usize(item).ok()?;
@@ -53,43 +59,27 @@ fn push_lengths(offsets: &mut Offsets<i32>, bytes: usize, item: usize) -> Option
     Some(())
 }
 
-/// The offsets of items of so many bytes.
-pub(crate) fn even_offsets(alloc: Global, bytes: usize, item: usize) -> Option<Offsets<i32>> {
-    match Offsets::new(alloc) {
-        Ok(mut offsets) => match push_lengths(&mut offsets, bytes, item) {
-            Some(()) => Some(offsets),
-            None => None,
-        },
-        Err(_) => None,
-    }
+/// Returns the offsets of items of so many bytes.
+fn even_offsets(alloc: Global, bytes: usize, item: usize) -> Option<Offsets<i32>> {
+    let mut offsets = Offsets::new(alloc).ok()?;
+    let filled = push_lengths(&mut offsets, bytes, item);
+    filled_builder(offsets, filled)
 }
 
-/// A builder of such items, as parts, under marks that were made.
-fn of_marks(
-    alloc: Global,
-    data: &[u8],
-    item: usize,
-    marks: Option<MutableBitmap>,
-) -> Option<MutableBinaryArray<i32>> {
-    let offsets = even_offsets(alloc, data.len(), item)?;
-    let all = data.to_vec(alloc).ok()?;
-    MutableBinaryArray::try_new(DataType::Binary, offsets, all, marks).ok()
-}
-
-/// A builder of items of so many bytes and marks, as parts; a null stores its item too.
-pub(crate) fn of_parts(
+/// Creates a builder of items of so many bytes and marks from its parts; a null stores its item too.
+pub(crate) fn of_parts<K: ByteKind>(
     alloc: Global,
     data: &[u8],
     item: usize,
     valid: &[u8],
-) -> Option<MutableBinaryArray<i32>> {
-    match marks(alloc, valid) {
-        Some(marks) => of_marks(alloc, data, item, marks),
-        None => None,
-    }
+) -> Option<MutableByteArray<K, i32>> {
+    let offsets = even_offsets(alloc, data.len(), item)?;
+    let all = data.to_vec(alloc).ok()?;
+    let mask = marks(alloc, valid)?;
+    MutableByteArray::try_new(K::default_type(false), offsets, all, mask).ok()
 }
 
-/// The marks of one time over the data.
+/// Returns the marks of one time over the data.
 pub(crate) fn marks_of(valid: &[u8], time: usize, rows: usize) -> &[u8] {
     if valid.is_empty() {
         return valid;
@@ -135,81 +125,30 @@ fn push_marked(
     Some(())
 }
 
-pub(crate) fn probe_pushed(
-    out: &MutableBinaryArray<i32>,
-    pushed: Option<()>,
-    round: usize,
-) -> Option<u64> {
-    match pushed {
-        Some(()) => Some(probe_builder(out, round)),
-        None => None,
-    }
-}
-
 // Of the two each has a builder of its own, so that its loop is small enough for the compiler to follow.
 #[inline(always)]
-fn push_all_once(
+fn builder(
     alloc: Global,
     data: &[u8],
     item: usize,
     times: usize,
-    round: usize,
-) -> Option<u64> {
-    match MutableBinaryArray::<i32>::new(alloc) {
-        Ok(mut out) => {
-            let pushed = push_all(&mut out, data, item, times);
-            probe_pushed(&out, pushed, round)
-        }
-        Err(_) => None,
-    }
+) -> Option<MutableBinaryArray<i32>> {
+    let mut out = MutableBinaryArray::new(alloc).ok()?;
+    let filled = push_all(&mut out, data, item, times);
+    filled_builder(out, filled)
 }
 
 #[inline(always)]
-fn push_marked_once(
+fn builder_with_nulls(
     alloc: Global,
     data: &[u8],
     item: usize,
     times: usize,
     valid: &[u8],
-    round: usize,
-) -> Option<u64> {
-    match MutableBinaryArray::<i32>::new(alloc) {
-        Ok(mut out) => {
-            let pushed = push_marked(&mut out, data, item, times, valid);
-            probe_pushed(&out, pushed, round)
-        }
-        Err(_) => None,
-    }
-}
-
-fn push_once(
-    alloc: Global,
-    data: &[u8],
-    item: usize,
-    times: usize,
-    valid: &[u8],
-    round: usize,
-) -> Option<u64> {
-    if valid.is_empty() {
-        push_all_once(alloc, data, item, times, round)
-    } else {
-        push_marked_once(alloc, data, item, times, valid, round)
-    }
-}
-
-fn push(
-    alloc: Global,
-    data: &[u8],
-    item: usize,
-    times: usize,
-    valid: &[u8],
-    rounds: usize,
-) -> Option<u64> {
-    let mut sum = 0u64;
-    for round in 0..rounds {
-        sum = sum.wrapping_add(push_once(alloc, data, item, times, valid, round)?);
-    }
-    Some(sum)
+) -> Option<MutableBinaryArray<i32>> {
+    let mut out = MutableBinaryArray::new(alloc).ok()?;
+    let filled = push_marked(&mut out, data, item, times, valid);
+    filled_builder(out, filled)
 }
 
 #[unsafe(no_mangle)]
@@ -221,7 +160,15 @@ pub extern "C" fn rattle_flat_bin_push(
     valid: &[u8],
     rounds: usize,
 ) -> u64 {
-    told(push(alloc, data, item, times, valid, rounds))
+    if valid.is_empty() {
+        make_rounds(rounds, || builder(alloc, data, item, times), probe_builder)
+    } else {
+        make_rounds(
+            rounds,
+            || builder_with_nulls(alloc, data, item, times, valid),
+            probe_builder,
+        )
+    }
 }
 
 #[inline(always)]
@@ -243,34 +190,19 @@ fn push_values_all(
 }
 
 #[inline(always)]
-fn push_values_once(
-    alloc: Global,
-    data: &[u8],
-    item: usize,
-    times: usize,
-    round: usize,
-) -> Option<u64> {
-    match MutableBinaryValuesArray::<i32>::new(alloc) {
-        Ok(mut out) => match push_values_all(&mut out, data, item, times) {
-            Some(()) => Some(probe(out.offsets().as_slice(), out.values(), round)),
-            None => None,
-        },
-        Err(_) => None,
-    }
-}
-
 fn push_values(
     alloc: Global,
     data: &[u8],
     item: usize,
     times: usize,
-    rounds: usize,
-) -> Option<u64> {
-    let mut sum = 0u64;
-    for round in 0..rounds {
-        sum = sum.wrapping_add(push_values_once(alloc, data, item, times, round)?);
-    }
-    Some(sum)
+) -> Option<MutableBinaryValuesArray<i32>> {
+    let mut out = MutableBinaryValuesArray::new(alloc).ok()?;
+    let filled = push_values_all(&mut out, data, item, times);
+    filled_builder(out, filled)
+}
+
+fn probe_values(out: &MutableBinaryValuesArray<i32>, round: usize) -> u64 {
+    probe(out.offsets().as_slice(), out.values(), round)
 }
 
 #[unsafe(no_mangle)]
@@ -281,7 +213,11 @@ pub extern "C" fn rattle_flat_vbin_push(
     times: usize,
     rounds: usize,
 ) -> u64 {
-    told(push_values(alloc, data, item, times, rounds))
+    make_rounds(
+        rounds,
+        || push_values(alloc, data, item, times),
+        probe_values,
+    )
 }
 
 #[inline(always)]
@@ -302,22 +238,15 @@ fn extend_all(
 }
 
 #[inline(always)]
-fn extend_once(alloc: Global, data: &[u8], item: usize, times: usize, round: usize) -> Option<u64> {
-    match MutableBinaryArray::<i32>::new(alloc) {
-        Ok(mut out) => {
-            let extended = extend_all(&mut out, data, item, times);
-            probe_pushed(&out, extended, round)
-        }
-        Err(_) => None,
-    }
-}
-
-fn extend(alloc: Global, data: &[u8], item: usize, times: usize, rounds: usize) -> Option<u64> {
-    let mut sum = 0u64;
-    for round in 0..rounds {
-        sum = sum.wrapping_add(extend_once(alloc, data, item, times, round)?);
-    }
-    Some(sum)
+fn extend(
+    alloc: Global,
+    data: &[u8],
+    item: usize,
+    times: usize,
+) -> Option<MutableBinaryArray<i32>> {
+    let mut out = MutableBinaryArray::new(alloc).ok()?;
+    let filled = extend_all(&mut out, data, item, times);
+    filled_builder(out, filled)
 }
 
 #[unsafe(no_mangle)]
@@ -328,7 +257,7 @@ pub extern "C" fn rattle_flat_bin_extend(
     times: usize,
     rounds: usize,
 ) -> u64 {
-    told(extend(alloc, data, item, times, rounds))
+    make_rounds(rounds, || extend(alloc, data, item, times), probe_builder)
 }
 
 #[inline(always)]
@@ -348,34 +277,15 @@ fn extend_values_all(
 }
 
 #[inline(always)]
-fn extend_values_once(
-    alloc: Global,
-    data: &[u8],
-    item: usize,
-    times: usize,
-    round: usize,
-) -> Option<u64> {
-    match MutableBinaryArray::<i32>::new(alloc) {
-        Ok(mut out) => {
-            let extended = extend_values_all(&mut out, data, item, times);
-            probe_pushed(&out, extended, round)
-        }
-        Err(_) => None,
-    }
-}
-
 fn extend_values(
     alloc: Global,
     data: &[u8],
     item: usize,
     times: usize,
-    rounds: usize,
-) -> Option<u64> {
-    let mut sum = 0u64;
-    for round in 0..rounds {
-        sum = sum.wrapping_add(extend_values_once(alloc, data, item, times, round)?);
-    }
-    Some(sum)
+) -> Option<MutableBinaryArray<i32>> {
+    let mut out = MutableBinaryArray::new(alloc).ok()?;
+    let filled = extend_values_all(&mut out, data, item, times);
+    filled_builder(out, filled)
 }
 
 #[unsafe(no_mangle)]
@@ -386,43 +296,35 @@ pub extern "C" fn rattle_flat_bin_extend_values(
     times: usize,
     rounds: usize,
 ) -> u64 {
-    told(extend_values(alloc, data, item, times, rounds))
+    make_rounds(
+        rounds,
+        || extend_values(alloc, data, item, times),
+        probe_builder,
+    )
 }
 
-fn extend_twice(out: &mut MutableBinaryArray<i32>, big: &MutableBinaryArray<i32>) -> Option<()> {
-    out.try_extend_from_self(big).ok()?;
-    out.try_extend_from_self(big).ok()
+fn extend_by<K: ByteKind>(
+    alloc: Global,
+    big: &MutableByteArray<K, i32>,
+) -> Option<MutableByteArray<K, i32>> {
+    extend_twice(MutableByteArray::new(alloc).ok()?, |out| {
+        out.try_extend_from_self(big).ok()
+    })
 }
 
-fn extend_self_once(alloc: Global, big: &MutableBinaryArray<i32>, round: usize) -> Option<u64> {
-    match MutableBinaryArray::<i32>::new(alloc) {
-        Ok(mut out) => {
-            let extended = extend_twice(&mut out, big);
-            probe_pushed(&out, extended, round)
-        }
-        Err(_) => None,
-    }
-}
-
-fn extend_self_each(alloc: Global, big: &MutableBinaryArray<i32>, rounds: usize) -> Option<u64> {
-    let mut sum = 0u64;
-    for round in 0..rounds {
-        sum = sum.wrapping_add(extend_self_once(alloc, big, round)?);
-    }
-    Some(sum)
-}
-
-fn extend_self(
+pub(crate) fn extend_self<K: ByteKind>(
     alloc: Global,
     data: &[u8],
     item: usize,
     valid: &[u8],
     rounds: usize,
-) -> Option<u64> {
-    match of_parts(alloc, data, item, valid) {
-        Some(big) => extend_self_each(alloc, &big, rounds),
-        None => None,
-    }
+) -> u64 {
+    make_rounds_of(
+        of_parts::<K>(alloc, data, item, valid),
+        rounds,
+        |big| extend_by(alloc, big),
+        probe_builder,
+    )
 }
 
 #[unsafe(no_mangle)]
@@ -433,54 +335,19 @@ pub extern "C" fn rattle_flat_bin_extend_self(
     valid: &[u8],
     rounds: usize,
 ) -> u64 {
-    told(extend_self(alloc, data, item, valid, rounds))
-}
-
-fn probe_array(array: &BinaryArray<i32>, round: usize) -> u64 {
-    let offsets = array.offsets().buffer().as_slice();
-    probe(offsets, array.values().as_slice(), round)
+    extend_self::<Binary>(alloc, data, item, valid, rounds)
 }
 
 #[inline(always)]
-fn thaw(array: BinaryArray<i32>, round: usize) -> (u64, Option<MutableBinaryArray<i32>>) {
-    let probed = probe_array(&array, round);
-    match array.into_mut() {
-        Right(thawed) => (probed, Some(thawed)),
-        Left(_) => (probed, None),
-    }
-}
-
-#[inline(always)]
-fn freeze_thaw_once(
+fn freeze_thaw(
     builder: MutableBinaryArray<i32>,
     round: usize,
-) -> (u64, Option<MutableBinaryArray<i32>>) {
-    match builder.freeze() {
-        Ok(array) => thaw(array, round),
-        Err(_) => (0, None),
-    }
-}
-
-fn freeze_thaw_each(builder: MutableBinaryArray<i32>, rounds: usize) -> Option<u64> {
-    let (mut kept, mut sum) = (builder, 0u64);
-    for round in 0..rounds {
-        let (probed, thawed) = freeze_thaw_once(kept, round);
-        sum = sum.wrapping_add(probed);
-        kept = thawed?;
-    }
-    Some(sum)
-}
-
-fn freeze_thaw(
-    alloc: Global,
-    data: &[u8],
-    item: usize,
-    valid: &[u8],
-    rounds: usize,
-) -> Option<u64> {
-    match of_parts(alloc, data, item, valid) {
-        Some(builder) => freeze_thaw_each(builder, rounds),
-        None => None,
+) -> Option<(u64, MutableBinaryArray<i32>)> {
+    let array = builder.freeze().ok()?;
+    let probed = probe_array(&array, round);
+    match array.into_mut() {
+        Right(thawed) => Some((probed, thawed)),
+        Left(_) => None,
     }
 }
 
@@ -492,5 +359,5 @@ pub extern "C" fn rattle_flat_bin_freeze_thaw(
     valid: &[u8],
     rounds: usize,
 ) -> u64 {
-    told(freeze_thaw(alloc, data, item, valid, rounds))
+    convert_rounds(of_parts(alloc, data, item, valid), rounds, freeze_thaw)
 }

@@ -1,7 +1,8 @@
 //! Kernels over arrays, which are made once.
-use crate::bytes::marks;
+use crate::bytes::{self, marks};
+use crate::rounds::{make_rounds_of, read_rounds};
+use crate::text;
 use crate::whole::{array_of_parts, probe_array};
-use crate::{text, told};
 use arrow_boolean::BooleanArray;
 use arrow_kernels::{
     concat_primitive, concat_utf8, filter_primitive, filter_utf8, take_primitive, take_utf8,
@@ -13,91 +14,47 @@ use arrow_types::data_type::DataType;
 use arrow_utf8::Utf8Array;
 use std::alloc::Global;
 
-/// The mask of marks, one byte each; none where there are none.
+/// Returns the mask of marks, one byte each; none where there are none.
 fn mask(alloc: Global, valid: &[u8]) -> Option<Option<Bitmap>> {
-    match marks(alloc, valid) {
-        Some(Some(marks)) => match marks.freeze() {
-            Ok(mask) => Some(Some(mask)),
-            Err(_) => None,
-        },
-        Some(None) => Some(None),
-        None => None,
+    match marks(alloc, valid)? {
+        Some(marks) => Some(Some(marks.freeze().ok()?)),
+        None => Some(None),
     }
 }
 
-/// The filter of marks, one byte each. It has no mask.
-fn filter(alloc: Global, bits: &[u8]) -> Option<BooleanArray> {
-    match mask(alloc, bits)? {
-        Some(values) => BooleanArray::try_new(DataType::Boolean, values, None).ok(),
-        None => None,
-    }
+/// Creates an array of truth values and their marks, each given as one byte.
+fn truths_array(alloc: Global, bits: &[u8], valid: &[u8]) -> Option<BooleanArray> {
+    let values = mask(alloc, bits)??;
+    BooleanArray::try_new(DataType::Boolean, values, mask(alloc, valid)?).ok()
 }
 
-/// The array of texts with their marks, one byte each; a null stores its text too.
+/// Creates the array of texts with their marks, one byte each; a null stores its text too.
 fn texts_array(
     alloc: Global,
     data: &[u8],
     offsets: &[i32],
     valid: &[u8],
 ) -> Option<Utf8Array<i32>> {
-    match mask(alloc, valid) {
-        Some(mask) => text::array(alloc, data, offsets, mask),
-        None => None,
-    }
+    text::array(alloc, data, offsets, mask(alloc, valid)?)
+}
+
+/// Returns an array and the filter of marks, one byte each, which has no mask.
+fn with_filter<A: Drop>(alloc: Global, array: Option<A>, bits: &[u8]) -> Option<(A, BooleanArray)> {
+    let array = array?;
+    let filter = truths_array(alloc, bits, &[])?;
+    Some((array, filter))
 }
 
 #[inline(always)]
-fn filter_values_once(
+fn filter_values(
     alloc: Global,
     array: &PrimitiveArray<i64>,
     filter: &BooleanArray,
-    round: usize,
-) -> Option<u64> {
+) -> Option<PrimitiveArray<i64>> {
     if filter.len() != array.len() {
         return None;
     }
-    match filter_primitive(alloc, array, filter) {
-        Ok(kept) => Some(probe_array(&kept, round)),
-        Err(_) => None,
-    }
-}
-
-fn filter_values_each(
-    alloc: Global,
-    array: &PrimitiveArray<i64>,
-    filter: &BooleanArray,
-    rounds: usize,
-) -> Option<u64> {
-    let mut sum = 0u64;
-    for round in 0..rounds {
-        sum = sum.wrapping_add(filter_values_once(alloc, array, filter, round)?);
-    }
-    Some(sum)
-}
-
-fn filter_values_of(
-    alloc: Global,
-    array: &PrimitiveArray<i64>,
-    bits: &[u8],
-    rounds: usize,
-) -> Option<u64> {
-    match filter(alloc, bits) {
-        Some(filter) => filter_values_each(alloc, array, &filter, rounds),
-        None => None,
-    }
-}
-
-fn filter_values(
-    alloc: Global,
-    values: &[i64],
-    valid: &[u8],
-    bits: &[u8],
-    rounds: usize,
-) -> Option<u64> {
-    match array_of_parts(alloc, values, valid) {
-        Some(array) => filter_values_of(alloc, &array, bits, rounds),
-        None => None,
-    }
+    filter_primitive(alloc, array, filter).ok()
 }
 
 // filter by the frozen boolean array of `marks`, which has no mask
@@ -109,43 +66,24 @@ pub extern "C" fn rattle_flat_filter_prim(
     marks: &[u8],
     rounds: usize,
 ) -> u64 {
-    told(filter_values(alloc, values, valid, marks, rounds))
+    make_rounds_of(
+        with_filter(alloc, array_of_parts(alloc, values, valid), marks),
+        rounds,
+        |(array, filter)| filter_values(alloc, array, filter),
+        probe_array,
+    )
 }
 
 #[inline(always)]
-fn filter_texts_once(
+fn filter_texts(
     alloc: Global,
     array: &Utf8Array<i32>,
     filter: &BooleanArray,
-    round: usize,
-) -> Option<u64> {
+) -> Option<Utf8Array<i32>> {
     if filter.len() != array.len() {
         return None;
     }
-    match filter_utf8(alloc, array, filter) {
-        Ok(kept) => Some(text::probe_array(&kept, round)),
-        Err(_) => None,
-    }
-}
-
-fn filter_texts_each(
-    alloc: Global,
-    array: &Utf8Array<i32>,
-    filter: &BooleanArray,
-    rounds: usize,
-) -> Option<u64> {
-    let mut sum = 0u64;
-    for round in 0..rounds {
-        sum = sum.wrapping_add(filter_texts_once(alloc, array, filter, round)?);
-    }
-    Some(sum)
-}
-
-fn filter_texts(alloc: Global, array: &Utf8Array<i32>, bits: &[u8], rounds: usize) -> Option<u64> {
-    match filter(alloc, bits) {
-        Some(filter) => filter_texts_each(alloc, array, &filter, rounds),
-        None => None,
-    }
+    filter_utf8(alloc, array, filter).ok()
 }
 
 #[unsafe(no_mangle)]
@@ -157,49 +95,12 @@ pub extern "C" fn rattle_flat_filter_utf8(
     marks: &[u8],
     rounds: usize,
 ) -> u64 {
-    match texts_array(alloc, data, offsets, valid) {
-        Some(array) => told(filter_texts(alloc, &array, marks, rounds)),
-        None => u64::MAX,
-    }
-}
-
-#[inline(always)]
-fn take_values_once(
-    alloc: Global,
-    array: &PrimitiveArray<i64>,
-    keys: &[i64],
-    round: usize,
-) -> Option<u64> {
-    match take_primitive(alloc, array, keys) {
-        Ok(taken) => Some(probe_array(&taken, round)),
-        Err(_) => None,
-    }
-}
-
-fn take_values_each(
-    alloc: Global,
-    array: &PrimitiveArray<i64>,
-    keys: &[i64],
-    rounds: usize,
-) -> Option<u64> {
-    let mut sum = 0u64;
-    for round in 0..rounds {
-        sum = sum.wrapping_add(take_values_once(alloc, array, keys, round)?);
-    }
-    Some(sum)
-}
-
-fn take_values(
-    alloc: Global,
-    values: &[i64],
-    valid: &[u8],
-    keys: &[i64],
-    rounds: usize,
-) -> Option<u64> {
-    match array_of_parts(alloc, values, valid) {
-        Some(array) => take_values_each(alloc, &array, keys, rounds),
-        None => None,
-    }
+    make_rounds_of(
+        with_filter(alloc, texts_array(alloc, data, offsets, valid), marks),
+        rounds,
+        |(array, filter)| filter_texts(alloc, array, filter),
+        bytes::probe_array,
+    )
 }
 
 // take; every key is below the number of rows
@@ -211,28 +112,12 @@ pub extern "C" fn rattle_flat_take_prim(
     keys: &[i64],
     rounds: usize,
 ) -> u64 {
-    told(take_values(alloc, values, valid, keys, rounds))
-}
-
-#[inline(always)]
-fn take_texts_once(
-    alloc: Global,
-    array: &Utf8Array<i32>,
-    keys: &[i64],
-    round: usize,
-) -> Option<u64> {
-    match take_utf8(alloc, array, keys) {
-        Ok(taken) => Some(text::probe_array(&taken, round)),
-        Err(_) => None,
-    }
-}
-
-fn take_texts(alloc: Global, array: &Utf8Array<i32>, keys: &[i64], rounds: usize) -> Option<u64> {
-    let mut sum = 0u64;
-    for round in 0..rounds {
-        sum = sum.wrapping_add(take_texts_once(alloc, array, keys, round)?);
-    }
-    Some(sum)
+    make_rounds_of(
+        array_of_parts(alloc, values, valid),
+        rounds,
+        |array| take_primitive(alloc, array, keys).ok(),
+        probe_array,
+    )
 }
 
 #[unsafe(no_mangle)]
@@ -244,10 +129,12 @@ pub extern "C" fn rattle_flat_take_utf8(
     keys: &[i64],
     rounds: usize,
 ) -> u64 {
-    match texts_array(alloc, data, offsets, valid) {
-        Some(array) => told(take_texts(alloc, &array, keys, rounds)),
-        None => u64::MAX,
-    }
+    make_rounds_of(
+        texts_array(alloc, data, offsets, valid),
+        rounds,
+        |array| take_utf8(alloc, array, keys).ok(),
+        bytes::probe_array,
+    )
 }
 
 /// Returns an array in two parts. The second begins at a third of its slots, so that its marks do not
@@ -256,36 +143,15 @@ fn values_parts(alloc: Global, array: PrimitiveArray<i64>) -> Option<Vec<Primiti
     let len = array.len();
     let cut = len / 3;
     let rest = array.clone().ok()?.sliced(cut, len - cut);
-    let mut parts = Vec::new(alloc);
-    parts.push(array.sliced(0, cut)).ok()?;
-    parts.push(rest).ok()?;
-    Some(parts)
+    Vec::from_array(alloc, [array.sliced(0, cut), rest]).ok()
 }
 
 #[inline(always)]
-fn concat_values_once(alloc: Global, parts: &[PrimitiveArray<i64>], round: usize) -> Option<u64> {
+fn concat_values(alloc: Global, parts: &[PrimitiveArray<i64>]) -> Option<PrimitiveArray<i64>> {
     if parts.is_empty() {
         return None;
     }
-    match concat_primitive(alloc, parts) {
-        Ok(made) => Some(probe_array(&made, round)),
-        Err(_) => None,
-    }
-}
-
-fn concat_values_each(alloc: Global, parts: &[PrimitiveArray<i64>], rounds: usize) -> Option<u64> {
-    let mut sum = 0u64;
-    for round in 0..rounds {
-        sum = sum.wrapping_add(concat_values_once(alloc, parts, round)?);
-    }
-    Some(sum)
-}
-
-fn concat_values_of(alloc: Global, array: PrimitiveArray<i64>, rounds: usize) -> Option<u64> {
-    match values_parts(alloc, array) {
-        Some(parts) => concat_values_each(alloc, &parts, rounds),
-        None => None,
-    }
+    concat_primitive(alloc, parts).ok()
 }
 
 // concatenation of an array in two parts
@@ -296,10 +162,16 @@ pub extern "C" fn rattle_flat_concat_prim(
     valid: &[u8],
     rounds: usize,
 ) -> u64 {
-    match array_of_parts(alloc, values, valid) {
-        Some(array) => told(concat_values_of(alloc, array, rounds)),
-        None => u64::MAX,
-    }
+    let parts = match array_of_parts(alloc, values, valid) {
+        Some(array) => values_parts(alloc, array),
+        None => None,
+    };
+    make_rounds_of(
+        parts,
+        rounds,
+        |parts| concat_values(alloc, parts),
+        probe_array,
+    )
 }
 
 /// Returns an array of texts in two parts, as `values_parts`.
@@ -307,36 +179,15 @@ fn texts_parts(alloc: Global, array: Utf8Array<i32>) -> Option<Vec<Utf8Array<i32
     let len = array.len();
     let cut = len / 3;
     let rest = array.clone().ok()?.sliced(cut, len - cut);
-    let mut parts = Vec::new(alloc);
-    parts.push(array.sliced(0, cut)).ok()?;
-    parts.push(rest).ok()?;
-    Some(parts)
+    Vec::from_array(alloc, [array.sliced(0, cut), rest]).ok()
 }
 
 #[inline(always)]
-fn concat_texts_once(alloc: Global, parts: &[Utf8Array<i32>], round: usize) -> Option<u64> {
+fn concat_texts(alloc: Global, parts: &[Utf8Array<i32>]) -> Option<Utf8Array<i32>> {
     if parts.is_empty() {
         return None;
     }
-    match concat_utf8(alloc, parts) {
-        Ok(made) => Some(text::probe_array(&made, round)),
-        Err(_) => None,
-    }
-}
-
-fn concat_texts_each(alloc: Global, parts: &[Utf8Array<i32>], rounds: usize) -> Option<u64> {
-    let mut sum = 0u64;
-    for round in 0..rounds {
-        sum = sum.wrapping_add(concat_texts_once(alloc, parts, round)?);
-    }
-    Some(sum)
-}
-
-fn concat_texts(alloc: Global, array: Utf8Array<i32>, rounds: usize) -> Option<u64> {
-    match texts_parts(alloc, array) {
-        Some(parts) => concat_texts_each(alloc, &parts, rounds),
-        None => None,
-    }
+    concat_utf8(alloc, parts).ok()
 }
 
 #[unsafe(no_mangle)]
@@ -347,28 +198,20 @@ pub extern "C" fn rattle_flat_concat_utf8(
     valid: &[u8],
     rounds: usize,
 ) -> u64 {
-    match texts_array(alloc, data, offsets, valid) {
-        Some(array) => told(concat_texts(alloc, array, rounds)),
-        None => u64::MAX,
-    }
-}
-
-/// Creates an array of truth values and their marks, each given as one byte.
-fn truths_array(alloc: Global, bits: &[u8], valid: &[u8]) -> Option<BooleanArray> {
-    match mask(alloc, bits)? {
-        Some(values) => {
-            BooleanArray::try_new(DataType::Boolean, values, mask(alloc, valid)?).ok()
-        }
+    let parts = match texts_array(alloc, data, offsets, valid) {
+        Some(array) => texts_parts(alloc, array),
         None => None,
-    }
+    };
+    make_rounds_of(
+        parts,
+        rounds,
+        |parts| concat_texts(alloc, parts),
+        bytes::probe_array,
+    )
 }
 
-fn true_counts(array: &BooleanArray, rounds: usize) -> u64 {
-    let mut sum = 0u64;
-    for _ in 0..rounds {
-        sum = sum.wrapping_add(true_count(array) as u64);
-    }
-    sum
+fn count_true(array: &BooleanArray, start: u64) -> u64 {
+    start.wrapping_add(true_count(array) as u64)
 }
 
 // the number of slots that are valid and true
@@ -379,8 +222,5 @@ pub extern "C" fn rattle_flat_bool_true_count(
     valid: &[u8],
     rounds: usize,
 ) -> u64 {
-    match truths_array(alloc, bits, valid) {
-        Some(array) => true_counts(&array, rounds),
-        None => u64::MAX,
-    }
+    read_rounds(truths_array(alloc, bits, valid), rounds, count_true)
 }

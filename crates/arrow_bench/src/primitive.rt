@@ -1,5 +1,5 @@
 //! The builder of primitive values.
-use crate::{place, told};
+use crate::rounds::{filled_builder, make_rounds, place};
 use arrow_primitive::{MutablePrimitiveArray, PrimitiveArray};
 use std::alloc::Global;
 
@@ -22,55 +22,34 @@ fn push_marked(out: &mut MutablePrimitiveArray<i64>, values: &[i64], valid: &[u8
     Some(())
 }
 
-/// A builder of values with their marks, one byte each; no marks: no null.
+/// Creates a builder of values with their marks, one byte each; without marks there is no null.
 pub(crate) fn builder(
     alloc: Global,
     values: &[i64],
     valid: &[u8],
 ) -> Option<MutablePrimitiveArray<i64>> {
     let mut out = MutablePrimitiveArray::new(alloc);
-    let pushed = if valid.is_empty() {
+    let filled = if valid.is_empty() {
         push_all(&mut out, values)
     } else {
         push_marked(&mut out, values, valid)
     };
-    match pushed {
-        Some(()) => Some(out),
-        None => None,
-    }
+    filled_builder(out, filled)
 }
 
-/// The frozen array of the same.
+/// Creates the frozen array of the same.
 pub(crate) fn array(alloc: Global, values: &[i64], valid: &[u8]) -> Option<PrimitiveArray<i64>> {
-    match builder(alloc, values, valid) {
-        Some(out) => out.freeze().ok(),
-        None => None,
-    }
+    builder(alloc, values, valid)?.freeze().ok()
 }
 
-/// The number of rows and the value that is stored in one of them.
+/// Returns the number of rows and the value that is stored in one of them.
+#[inline(always)]
 pub(crate) fn probe(out: &MutablePrimitiveArray<i64>, round: usize) -> u64 {
     let rows = out.len() as u64;
     match out.values().get(place(round, out.len())) {
         Some(value) => rows.wrapping_add(value.cast_unsigned()),
         None => rows,
     }
-}
-
-#[inline(always)]
-fn push_once(alloc: Global, values: &[i64], valid: &[u8], round: usize) -> Option<u64> {
-    match builder(alloc, values, valid) {
-        Some(out) => Some(probe(&out, round)),
-        None => None,
-    }
-}
-
-fn push(alloc: Global, values: &[i64], valid: &[u8], rounds: usize) -> Option<u64> {
-    let mut sum = 0u64;
-    for round in 0..rounds {
-        sum = sum.wrapping_add(push_once(alloc, values, valid, round)?);
-    }
-    Some(sum)
 }
 
 #[unsafe(no_mangle)]
@@ -80,7 +59,7 @@ pub extern "C" fn rattle_flat_prim_push(
     valid: &[u8],
     rounds: usize,
 ) -> u64 {
-    told(push(alloc, values, valid, rounds))
+    make_rounds(rounds, || builder(alloc, values, valid), probe)
 }
 
 #[inline(always)]
@@ -92,49 +71,29 @@ fn push_all_null(out: &mut MutablePrimitiveArray<i64>, count: usize) -> Option<(
 }
 
 #[inline(always)]
-fn push_nulls_once(alloc: Global, count: usize, round: usize) -> Option<u64> {
-    let mut out = MutablePrimitiveArray::<i64>::new(alloc);
-    match push_all_null(&mut out, count) {
-        Some(()) => Some(probe(&out, round)),
-        None => None,
-    }
-}
-
-fn push_nulls(alloc: Global, count: usize, rounds: usize) -> Option<u64> {
-    let mut sum = 0u64;
-    for round in 0..rounds {
-        sum = sum.wrapping_add(push_nulls_once(alloc, count, round)?);
-    }
-    Some(sum)
+fn push_nulls(alloc: Global, count: usize) -> Option<MutablePrimitiveArray<i64>> {
+    let mut out = MutablePrimitiveArray::new(alloc);
+    let filled = push_all_null(&mut out, count);
+    filled_builder(out, filled)
 }
 
 // new, so many push_null
 #[unsafe(no_mangle)]
 pub extern "C" fn rattle_flat_prim_push_null(alloc: Global, count: usize, rounds: usize) -> u64 {
-    told(push_nulls(alloc, count, rounds))
+    make_rounds(rounds, || push_nulls(alloc, count), probe)
 }
 
 #[inline(always)]
-fn extend_nulls_once(alloc: Global, count: usize, round: usize) -> Option<u64> {
-    let mut out = MutablePrimitiveArray::<i64>::new(alloc);
-    match out.extend_constant(count, None) {
-        Ok(()) => Some(probe(&out, round)),
-        Err(_) => None,
-    }
-}
-
-fn extend_nulls(alloc: Global, count: usize, rounds: usize) -> Option<u64> {
-    let mut sum = 0u64;
-    for round in 0..rounds {
-        sum = sum.wrapping_add(extend_nulls_once(alloc, count, round)?);
-    }
-    Some(sum)
+fn extend_nulls(alloc: Global, count: usize) -> Option<MutablePrimitiveArray<i64>> {
+    let mut out = MutablePrimitiveArray::new(alloc);
+    let filled = out.extend_constant(count, None).ok();
+    filled_builder(out, filled)
 }
 
 // new, one extend_constant of so many nulls
 #[unsafe(no_mangle)]
 pub extern "C" fn rattle_flat_prim_extend_null(alloc: Global, count: usize, rounds: usize) -> u64 {
-    told(extend_nulls(alloc, count, rounds))
+    make_rounds(rounds, || extend_nulls(alloc, count), probe)
 }
 
 #[inline(always)]
@@ -154,19 +113,16 @@ fn push_pop_all(
     values: &[i64],
     valid: &[u8],
     rounds: usize,
-) -> Option<u64> {
+) -> u64 {
     let mut sum = 0u64;
     for round in 0..rounds {
-        push_marked(out, values, valid)?;
+        if push_marked(out, values, valid).is_none() {
+            return u64::MAX;
+        }
         sum = pop_all(out, values.len(), sum);
         sum = sum.wrapping_add((out.len() as u64).wrapping_add(round as u64));
     }
-    Some(sum)
-}
-
-fn push_pop(alloc: Global, values: &[i64], valid: &[u8], rounds: usize) -> Option<u64> {
-    let mut out = MutablePrimitiveArray::<i64>::new(alloc);
-    push_pop_all(&mut out, values, valid, rounds)
+    sum
 }
 
 // one builder: a push of each and then a pop of each. sum: what the pops gave and the round
@@ -177,23 +133,12 @@ pub extern "C" fn rattle_flat_prim_push_pop(
     valid: &[u8],
     rounds: usize,
 ) -> u64 {
-    told(push_pop(alloc, values, valid, rounds))
+    let mut out = MutablePrimitiveArray::new(alloc);
+    push_pop_all(&mut out, values, valid, rounds)
 }
 
-#[inline(always)]
-fn push_freeze_once(alloc: Global, values: &[i64], valid: &[u8]) -> Option<u64> {
-    match array(alloc, values, valid) {
-        Some(out) => Some(out.null_count() as u64),
-        None => None,
-    }
-}
-
-fn push_freeze(alloc: Global, values: &[i64], valid: &[u8], rounds: usize) -> Option<u64> {
-    let mut sum = 0u64;
-    for _ in 0..rounds {
-        sum = sum.wrapping_add(push_freeze_once(alloc, values, valid)?);
-    }
-    Some(sum)
+fn count_nulls(array: &PrimitiveArray<i64>, _round: usize) -> u64 {
+    array.null_count() as u64
 }
 
 // as prim_push, then freeze. sum: null_count
@@ -204,5 +149,5 @@ pub extern "C" fn rattle_flat_prim_push_freeze(
     valid: &[u8],
     rounds: usize,
 ) -> u64 {
-    told(push_freeze(alloc, values, valid, rounds))
+    make_rounds(rounds, || array(alloc, values, valid), count_nulls)
 }

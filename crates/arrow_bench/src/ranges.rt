@@ -1,109 +1,19 @@
 //! Builders that take a range of an array: the slots from the fourth on, twice, so that marks move
 //! within their bytes.
-use crate::{boolean, bytes, primitive, text, told, whole};
-use arrow_binary::{BinaryArray, MutableBinaryArray};
+use crate::rounds::{extend_twice, make_rounds_of};
+use crate::{boolean, bytes, primitive};
 use arrow_boolean::{BooleanArray, MutableBooleanArray};
+use arrow_byte_array::{ByteArray, MutableByteArray};
+use arrow_bytes::{Binary, ByteKind, Utf8};
 use arrow_primitive::{MutablePrimitiveArray, PrimitiveArray};
-use arrow_utf8::{MutableUtf8Array, Utf8Array};
 use std::alloc::Global;
 
-/// An array whose slots a builder takes a range of.
-trait RangeSource: Drop {
-    /// Returns a value read from a builder that took the range twice.
-    fn taken(&self, alloc: Global, round: usize) -> Option<u64>;
-}
-
-fn each<A: RangeSource>(alloc: Global, array: &A, rounds: usize) -> Option<u64> {
-    let mut sum = 0u64;
-    for round in 0..rounds {
-        sum = sum.wrapping_add(array.taken(alloc, round)?);
-    }
-    Some(sum)
-}
-
-fn all<A: RangeSource>(alloc: Global, array: Option<A>, rounds: usize) -> u64 {
-    match array {
-        Some(array) => told(each(alloc, &array, rounds)),
-        None => told(None),
-    }
-}
-
 #[inline(always)]
-fn take_numbers(out: &mut MutablePrimitiveArray<i64>, array: &PrimitiveArray<i64>) -> Option<()> {
-    if array.len() < 3 {
-        return None;
-    }
-    out.extend_from_array(array, 3, array.len() - 3).ok()?;
-    out.extend_from_array(array, 3, array.len() - 3).ok()
-}
-
-impl RangeSource for PrimitiveArray<i64> {
-    fn taken(&self, alloc: Global, round: usize) -> Option<u64> {
-        let mut out = MutablePrimitiveArray::<i64>::new(alloc);
-        let taken = take_numbers(&mut out, self);
-        whole::probe_filled(&out, taken, round)
-    }
-}
-
-#[inline(always)]
-fn take_bits(out: &mut MutableBooleanArray, array: &BooleanArray) -> Option<()> {
-    if array.len() < 3 {
-        return None;
-    }
-    out.extend_from_array(array, 3, array.len() - 3).ok()?;
-    out.extend_from_array(array, 3, array.len() - 3).ok()
-}
-
-impl RangeSource for BooleanArray {
-    fn taken(&self, alloc: Global, round: usize) -> Option<u64> {
-        let mut out = MutableBooleanArray::new(alloc);
-        match take_bits(&mut out, self) {
-            Some(()) => Some(boolean::probe(&out, round)),
-            None => None,
-        }
-    }
-}
-
-#[inline(always)]
-fn take_bytes(out: &mut MutableBinaryArray<i32>, array: &BinaryArray<i32>) -> Option<()> {
-    if array.len() < 3 {
-        return None;
-    }
-    out.extend_from_array(array, 3, array.len() - 3).ok()?;
-    out.extend_from_array(array, 3, array.len() - 3).ok()
-}
-
-impl RangeSource for BinaryArray<i32> {
-    fn taken(&self, alloc: Global, round: usize) -> Option<u64> {
-        match MutableBinaryArray::<i32>::new(alloc) {
-            Ok(mut out) => {
-                let taken = take_bytes(&mut out, self);
-                bytes::probe_pushed(&out, taken, round)
-            }
-            Err(_) => None,
-        }
-    }
-}
-
-#[inline(always)]
-fn take_texts(out: &mut MutableUtf8Array<i32>, array: &Utf8Array<i32>) -> Option<()> {
-    if array.len() < 3 {
-        return None;
-    }
-    out.extend_from_array(array, 3, array.len() - 3).ok()?;
-    out.extend_from_array(array, 3, array.len() - 3).ok()
-}
-
-impl RangeSource for Utf8Array<i32> {
-    fn taken(&self, alloc: Global, round: usize) -> Option<u64> {
-        match MutableUtf8Array::<i32>::new(alloc) {
-            Ok(mut out) => {
-                let taken = take_texts(&mut out, self);
-                text::probe_pushed(&out, taken, round)
-            }
-            Err(_) => None,
-        }
-    }
+fn take_numbers(alloc: Global, array: &PrimitiveArray<i64>) -> Option<MutablePrimitiveArray<i64>> {
+    let len = array.len().checked_sub(3)?;
+    extend_twice(MutablePrimitiveArray::new(alloc), |out| {
+        out.extend_from_array(array, 3, len).ok()
+    })
 }
 
 #[unsafe(no_mangle)]
@@ -113,7 +23,20 @@ pub extern "C" fn rattle_flat_prim_extend_array(
     valid: &[u8],
     rounds: usize,
 ) -> u64 {
-    all(alloc, primitive::array(alloc, values, valid), rounds)
+    make_rounds_of(
+        primitive::array(alloc, values, valid),
+        rounds,
+        |array| take_numbers(alloc, array),
+        primitive::probe,
+    )
+}
+
+#[inline(always)]
+fn take_bits(alloc: Global, array: &BooleanArray) -> Option<MutableBooleanArray> {
+    let len = array.len().checked_sub(3)?;
+    extend_twice(MutableBooleanArray::new(alloc), |out| {
+        out.extend_from_array(array, 3, len).ok()
+    })
 }
 
 #[unsafe(no_mangle)]
@@ -123,20 +46,48 @@ pub extern "C" fn rattle_flat_bool_extend_array(
     valid: &[u8],
     rounds: usize,
 ) -> u64 {
-    all(alloc, boolean::array(alloc, bits, valid), rounds)
+    make_rounds_of(
+        boolean::array(alloc, bits, valid),
+        rounds,
+        |array| take_bits(alloc, array),
+        boolean::probe,
+    )
+}
+
+#[inline(always)]
+fn take_items<K: ByteKind>(
+    alloc: Global,
+    array: &ByteArray<K, i32>,
+) -> Option<MutableByteArray<K, i32>> {
+    let len = array.len().checked_sub(3)?;
+    extend_twice(MutableByteArray::new(alloc).ok()?, |out| {
+        out.extend_from_array(array, 3, len).ok()
+    })
 }
 
 /// Creates an array of items of `item` bytes each, with these marks.
-fn array_of_bytes(
+fn array_of_items<K: ByteKind>(
     alloc: Global,
     data: &[u8],
     item: usize,
     valid: &[u8],
-) -> Option<BinaryArray<i32>> {
-    match bytes::of_parts(alloc, data, item, valid) {
-        Some(builder) => builder.freeze().ok(),
-        None => None,
-    }
+) -> Option<ByteArray<K, i32>> {
+    bytes::of_parts(alloc, data, item, valid)?.freeze().ok()
+}
+
+fn extend_array<K: ByteKind>(
+    alloc: Global,
+    data: &[u8],
+    item: usize,
+    valid: &[u8],
+    rounds: usize,
+) -> u64 {
+    make_rounds_of(
+        array_of_items::<K>(alloc, data, item, valid),
+        rounds,
+        |array| take_items(alloc, array),
+        bytes::probe_builder,
+    )
 }
 
 #[unsafe(no_mangle)]
@@ -147,15 +98,7 @@ pub extern "C" fn rattle_flat_bin_extend_array(
     valid: &[u8],
     rounds: usize,
 ) -> u64 {
-    all(alloc, array_of_bytes(alloc, data, item, valid), rounds)
-}
-
-/// Creates an array of texts of `item` bytes each, with these marks.
-fn array_of_texts(alloc: Global, data: &[u8], item: usize, valid: &[u8]) -> Option<Utf8Array<i32>> {
-    match text::of_parts(alloc, data, item, valid) {
-        Some(builder) => builder.freeze().ok(),
-        None => None,
-    }
+    extend_array::<Binary>(alloc, data, item, valid, rounds)
 }
 
 #[unsafe(no_mangle)]
@@ -166,5 +109,5 @@ pub extern "C" fn rattle_flat_utf8_extend_array(
     valid: &[u8],
     rounds: usize,
 ) -> u64 {
-    all(alloc, array_of_texts(alloc, data, item, valid), rounds)
+    extend_array::<Utf8>(alloc, data, item, valid, rounds)
 }

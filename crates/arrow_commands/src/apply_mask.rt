@@ -1,5 +1,6 @@
 //! A changed mask.
-ghost use Rattle.std.specs.Prelude.{◌≡◌, ◌&&◌, ◌||◌, IfErr, IfOk, IsTrue, OnOk, Some, length, replicate, reverse, true};
+ghost use Rattle.std.specs.Prelude.{◌≡◌, ◌&&◌, ◌||◌, IfErr, IfOk, IsTrue, OnOk, Some, length, option_copied};
+ghost use Rattle.std.specs.Prelude.{replicate, reverse, true};
 ghost use Rattle.arrow_types.specs.Failures.{OnlyOutOfMemory};
 ghost use Rattle.arrow_column.specs.Column.{mask_of, with_mask};
 ghost use Rattle.arrow_entry.specs.Entry.{boolean_value, native_value, bytes_value, value_of};
@@ -11,7 +12,7 @@ use arrow_boolean::BooleanArray;
 use arrow_byte_array::{ByteArray, MutableByteArray};
 use arrow_bytes::{Binary, ByteKind, Utf8};
 use arrow_entry::Entry;
-use arrow_memory::bitmap::{BitmapIter, MutableBitmap};
+use arrow_memory::bitmap::{Bitmap, BitmapIter, MutableBitmap};
 use arrow_model::{Change, Item, Reply};
 use arrow_primitive::PrimitiveArray;
 use arrow_types::error::Error;
@@ -64,6 +65,26 @@ fn reversed(alloc: Global, marks: BitmapIter<'_>) -> Result<MutableBitmap, Error
     Ok(reversed)
 }
 
+/// Returns the marks of an array's mask, if there is one.
+fn array_marks(mask: Option<&Bitmap>) -> Option<BitmapIter<'_>>
+    ensures { result ≡ option_copied mask.entry }
+{
+    match mask {
+        Some(mask) => Some(mask.iter()),
+        None => None,
+    }
+}
+
+/// Returns the marks of a builder's mask, if there is one.
+fn builder_marks(mask: Option<&MutableBitmap>) -> Option<BitmapIter<'_>>
+    ensures { result ≡ option_copied mask.entry }
+{
+    match mask {
+        Some(mask) => Some(mask.iter()),
+        None => None,
+    }
+}
+
 /// Returns the marks, if a mask is held.
 #[tactic(auto, using(arrow_entry::proofs::CallerLemmas::seen_reads, arrow_entry::proofs::CallerLemmas::seen_masks))]
 fn marks_of<T: NativeType, O: Offset>(held: &Entry<T, O>) -> Option<BitmapIter<'_>>
@@ -71,30 +92,12 @@ fn marks_of<T: NativeType, O: Offset>(held: &Entry<T, O>) -> Option<BitmapIter<'
     ensures { result ≡ mask_of (value_of held.now).column }
 {
     match held {
-        Entry::Primitive(held) => match held.validity() {
-            Some(mask) => Some(mask.iter()),
-            None => None,
-        },
-        Entry::Boolean(held) => match held.validity() {
-            Some(mask) => Some(mask.iter()),
-            None => None,
-        },
-        Entry::Binary(held) => match held.validity() {
-            Some(mask) => Some(mask.iter()),
-            None => None,
-        },
-        Entry::Utf8(held) => match held.validity() {
-            Some(mask) => Some(mask.iter()),
-            None => None,
-        },
-        Entry::MutableBinary(held) => match held.validity() {
-            Some(mask) => Some(mask.iter()),
-            None => None,
-        },
-        Entry::MutableUtf8(held) => match held.validity() {
-            Some(mask) => Some(mask.iter()),
-            None => None,
-        },
+        Entry::Primitive(array) => array_marks(array.validity()),
+        Entry::Boolean(array) => array_marks(array.validity()),
+        Entry::Binary(array) => array_marks(array.validity()),
+        Entry::Utf8(array) => array_marks(array.validity()),
+        Entry::MutableBinary(builder) => builder_marks(builder.validity()),
+        Entry::MutableUtf8(builder) => builder_marks(builder.validity()),
         _ => unreachable!(),
     }
 }
@@ -235,7 +238,7 @@ impl<'a, T: NativeType, O: Offset> ChangesEntry<T, O> for ApplyMask<'a, T> {
 
     ghost asks = { λ command. apply_mask (change_of command.0.now) };
 
-    fn run(self, alloc: Global, entry: &mut Option<Entry<T, O>>) -> Result<Reply<T>, Error> {
+    fn run(&self, alloc: Global, entry: &mut Option<Entry<T, O>>) -> Result<Reply<T>, Error> {
         let Some(held) = entry else {
             return Ok(Reply::NotMet);
         };

@@ -152,7 +152,7 @@ impl<'a, T: NativeType, O: Offset> ChangesEntry<T, O> for ApplyValues<'a, T> {
 
     ghost asks = { λ command. apply_values (change_of command.0.now) };
 
-    fn run(self, _alloc: Global, entry: &mut Option<Entry<T, O>>) -> Result<Reply<T>, Error> {
+    fn run(&self, _alloc: Global, entry: &mut Option<Entry<T, O>>) -> Result<Reply<T>, Error> {
         match entry {
             Some(Entry::MutablePrimitive(builder)) => change_builder::<T, O>(builder, self.0),
             Some(Entry::Boolean(array)) => change_bits::<T, O>(array, self.0),

@@ -38,7 +38,7 @@ impl<T: NativeType, O: Offset> ReadsEntry<T, O> for Bytes {
 
     ghost asks = { λ command. bytes };
 
-    fn read(self, alloc: Global, held: &Entry<T, O>) -> Result<Reply<T>, Error> {
+    fn read(&self, alloc: Global, held: &Entry<T, O>) -> Result<Reply<T>, Error> {
         match bytes_of(held) {
             Some(bytes) => Ok(Reply::Slot(Some(Item::Bytes(Vec::from_slice(alloc, bytes)?)))),
             None => Ok(Reply::NotMet),

@@ -22,8 +22,8 @@ pub trait ReadsEntry<T: NativeType, O: Offset>: Drop {
     ///
     /// # Errors
     /// `OutOfMemory` if an allocation fails.
-    fn read(self, alloc: Global, held: &Entry<T, O>) -> Result<Reply<T>, Error>
-        ensures { Does (types T.zero T.PRIMITIVE O.most O.IS_LARGE) (Some (value_of held.now)) (asks self)
+    fn read(&self, alloc: Global, held: &Entry<T, O>) -> Result<Reply<T>, Error>
+        ensures { Does (types T.zero T.PRIMITIVE O.most O.IS_LARGE) (Some (value_of held.now)) (asks self.now)
             (outcome result) (Some (value_of held.now)) };
 }
 
@@ -36,8 +36,8 @@ pub trait ChangesEntry<T: NativeType, O: Offset>: Drop {
     ///
     /// # Errors
     /// The refusal that the command is answered with.
-    fn run(self, alloc: Global, entry: &mut Option<Entry<T, O>>) -> Result<Reply<T>, Error>
-        ensures { Does (types T.zero T.PRIMITIVE O.most O.IS_LARGE) (option_map value_of entry.old) (asks self)
+    fn run(&self, alloc: Global, entry: &mut Option<Entry<T, O>>) -> Result<Reply<T>, Error>
+        ensures { Does (types T.zero T.PRIMITIVE O.most O.IS_LARGE) (option_map value_of entry.old) (asks self.now)
             (outcome result) (option_map value_of entry.new) };
 }
 

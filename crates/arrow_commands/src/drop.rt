@@ -1,6 +1,6 @@
 //! An emptied entry.
 use crate::command::ChangesEntry;
-use arrow_entry::Entry;
+use arrow_entry::{Entry, replace};
 use arrow_model::Reply;
 use arrow_types::error::Error;
 use arrow_types::native_type::NativeType;
@@ -16,11 +16,11 @@ impl<T: NativeType, O: Offset> ChangesEntry<T, O> for Empty {
 
     ghost asks = { λ command. empty };
 
-    fn run(self, _alloc: Global, entry: &mut Option<Entry<T, O>>) -> Result<Reply<T>, Error> {
+    fn run(&self, _alloc: Global, entry: &mut Option<Entry<T, O>>) -> Result<Reply<T>, Error> {
         if entry.is_none() {
             return Ok(Reply::NotMet);
         }
-        *entry = None;
+        replace(entry, None);
         Ok(Reply::Done)
     }
 }

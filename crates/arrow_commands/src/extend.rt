@@ -18,7 +18,7 @@ impl<'a, T: NativeType, O: Offset> ChangesEntry<T, O> for Extend<'a, T> {
 
     ghost asks = { λ command. extend (map stored_slot command.0.now) };
 
-    fn run(self, _alloc: Global, entry: &mut Option<Entry<T, O>>) -> Result<Reply<T>, Error> {
+    fn run(&self, _alloc: Global, entry: &mut Option<Entry<T, O>>) -> Result<Reply<T>, Error> {
         let Some(held) = entry else {
             return Ok(Reply::NotMet);
         };

@@ -48,7 +48,7 @@ impl<'a, T: NativeType, O: Offset> ChangesEntry<T, O> for ExtendConstant<'a, T> 
 
     ghost asks = { λ command. extend_constant command.0 (stored_slot command.1.now) };
 
-    fn run(self, _alloc: Global, entry: &mut Option<Entry<T, O>>) -> Result<Reply<T>, Error> {
+    fn run(&self, _alloc: Global, entry: &mut Option<Entry<T, O>>) -> Result<Reply<T>, Error> {
         match entry {
             Some(Entry::MutablePrimitive(builder)) => extend_natives::<T, O>(
                 builder, self.0, self.1,

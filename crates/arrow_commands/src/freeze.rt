@@ -42,7 +42,7 @@ impl<T: NativeType, O: Offset> ChangesEntry<T, O> for Freeze {
 
     ghost asks = { λ command. freeze };
 
-    fn run(self, _alloc: Global, entry: &mut Option<Entry<T, O>>) -> Result<Reply<T>, Error> {
+    fn run(&self, _alloc: Global, entry: &mut Option<Entry<T, O>>) -> Result<Reply<T>, Error> {
         let (held, result) = freeze_held(entry.take());
         replace(entry, held);
         result

@@ -16,7 +16,7 @@ impl<T: NativeType, O: Offset> ReadsEntry<T, O> for Get {
 
     ghost asks = { λ command. get command.0 };
 
-    fn read(self, alloc: Global, held: &Entry<T, O>) -> Result<Reply<T>, Error> {
+    fn read(&self, alloc: Global, held: &Entry<T, O>) -> Result<Reply<T>, Error> {
         if !held.is_array() {
             return Ok(Reply::NotMet);
         }

@@ -16,7 +16,7 @@ impl<T: NativeType, O: Offset> ReadsEntry<T, O> for Held {
 
     ghost asks = { λ command. held };
 
-    fn read(self, _alloc: Global, held: &Entry<T, O>) -> Result<Reply<T>, Error> {
+    fn read(&self, _alloc: Global, held: &Entry<T, O>) -> Result<Reply<T>, Error> {
         Ok(Reply::Flag(held.is_masked()))
     }
 }

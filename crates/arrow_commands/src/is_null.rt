@@ -16,7 +16,7 @@ impl<T: NativeType, O: Offset> ReadsEntry<T, O> for IsNull {
 
     ghost asks = { λ command. is_null command.0 };
 
-    fn read(self, _alloc: Global, held: &Entry<T, O>) -> Result<Reply<T>, Error> {
+    fn read(&self, _alloc: Global, held: &Entry<T, O>) -> Result<Reply<T>, Error> {
         if !held.is_array() {
             return Ok(Reply::NotMet);
         }

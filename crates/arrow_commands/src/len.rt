@@ -16,7 +16,7 @@ impl<T: NativeType, O: Offset> ReadsEntry<T, O> for Len {
 
     ghost asks = { λ command. len };
 
-    fn read(self, _alloc: Global, held: &Entry<T, O>) -> Result<Reply<T>, Error> {
+    fn read(&self, _alloc: Global, held: &Entry<T, O>) -> Result<Reply<T>, Error> {
         Ok(Reply::Number(held.len()))
     }
 }

@@ -17,7 +17,7 @@ impl<T: NativeType, O: Offset> ReadsEntry<T, O> for NullCount {
 
     ghost asks = { λ command. null_count };
 
-    fn read(self, _alloc: Global, held: &Entry<T, O>) -> Result<Reply<T>, Error> {
+    fn read(&self, _alloc: Global, held: &Entry<T, O>) -> Result<Reply<T>, Error> {
         match held {
             Entry::Primitive(array) => Ok(Reply::Number(array.null_count())),
             Entry::Boolean(array) => Ok(Reply::Number(array.null_count())),

@@ -40,7 +40,7 @@ impl<T: NativeType, O: Offset> ChangesEntry<T, O> for Nullable {
 
     ghost asks = { λ command. nullable };
 
-    fn run(self, _alloc: Global, entry: &mut Option<Entry<T, O>>) -> Result<Reply<T>, Error> {
+    fn run(&self, _alloc: Global, entry: &mut Option<Entry<T, O>>) -> Result<Reply<T>, Error> {
         let (held, reply) = with_nulls(entry.take());
         replace(entry, held);
         Ok(reply)

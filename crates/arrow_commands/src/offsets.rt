@@ -56,7 +56,7 @@ impl<T: NativeType, O: Offset> ReadsEntry<T, O> for Offsets {
 
     ghost asks = { λ command. offsets };
 
-    fn read(self, alloc: Global, held: &Entry<T, O>) -> Result<Reply<T>, Error> {
+    fn read(&self, alloc: Global, held: &Entry<T, O>) -> Result<Reply<T>, Error> {
         match offsets_of(held) {
             Some(offsets) => Ok(Reply::Numbers(to_numbers(alloc, offsets)?)),
             None => Ok(Reply::NotMet),

@@ -88,7 +88,7 @@ impl<T: NativeType, O: Offset> ChangesEntry<T, O> for Pop {
 
     ghost asks = { λ command. pop };
 
-    fn run(self, _alloc: Global, entry: &mut Option<Entry<T, O>>) -> Result<Reply<T>, Error> {
+    fn run(&self, _alloc: Global, entry: &mut Option<Entry<T, O>>) -> Result<Reply<T>, Error> {
         let Some(held) = entry else {
             return Ok(Reply::NotMet);
         };

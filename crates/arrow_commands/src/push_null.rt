@@ -16,7 +16,7 @@ impl<T: NativeType, O: Offset> ChangesEntry<T, O> for PushNull {
 
     ghost asks = { λ command. push_null };
 
-    fn run(self, _alloc: Global, entry: &mut Option<Entry<T, O>>) -> Result<Reply<T>, Error> {
+    fn run(&self, _alloc: Global, entry: &mut Option<Entry<T, O>>) -> Result<Reply<T>, Error> {
         let Some(held) = entry else {
             return Ok(Reply::NotMet);
         };

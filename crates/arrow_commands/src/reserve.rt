@@ -45,7 +45,7 @@ impl<T: NativeType, O: Offset> ChangesEntry<T, O> for Reserve {
 
     ghost asks = { λ command. reserve };
 
-    fn run(self, _alloc: Global, entry: &mut Option<Entry<T, O>>) -> Result<Reply<T>, Error> {
+    fn run(&self, _alloc: Global, entry: &mut Option<Entry<T, O>>) -> Result<Reply<T>, Error> {
         let Some(held) = entry else {
             return Ok(Reply::NotMet);
         };

@@ -94,7 +94,7 @@ impl<'a, T: NativeType, O: Offset> ChangesEntry<T, O> for Set<'a, T> {
 
     ghost asks = { λ command. set command.0 (stored_slot command.1.now) };
 
-    fn run(self, _alloc: Global, entry: &mut Option<Entry<T, O>>) -> Result<Reply<T>, Error> {
+    fn run(&self, _alloc: Global, entry: &mut Option<Entry<T, O>>) -> Result<Reply<T>, Error> {
         match entry {
             Some(Entry::MutablePrimitive(builder)) => set_native::<T, O>(builder, self.0, self.1),
             Some(Entry::MutableBoolean(builder)) => set_bit::<T, O>(builder, self.0, self.1),

@@ -79,7 +79,7 @@ impl<'a, T: NativeType, O: Offset> ChangesEntry<T, O> for SetMask<'a> {
 
     ghost asks = { λ command. set_mask (option_map (λ marks. marks.items) command.0.now) };
 
-    fn run(self, alloc: Global, entry: &mut Option<Entry<T, O>>) -> Result<Reply<T>, Error> {
+    fn run(&self, alloc: Global, entry: &mut Option<Entry<T, O>>) -> Result<Reply<T>, Error> {
         let Some(held) = entry else {
             return Ok(Reply::NotMet);
         };

@@ -3,7 +3,7 @@ ghost use Rattle.std.specs.Prelude.{◌≡◌, ◌&&◌, IfOk, IsTrue, Some, len
 ghost use Rattle.std.specs.List.{list_all};
 ghost use Rattle.arrow_types.specs.Failures.{OnlyOutOfMemory};
 ghost use Rattle.arrow_model.specs.Item.{bit, fits, stored_item, value};
-ghost use Rattle.arrow_model.specs.Kind.{boolean, frozen, native, with_nulls};
+ghost use Rattle.arrow_model.specs.Kind.{boolean, frozen, native, shape, with_nulls};
 ghost use Rattle.arrow_entry.specs.Entry.{boolean_value, native_value};
 ghost use Rattle.arrow_model.specs.Answer.{outcome};
 ghost use Rattle.arrow_model.specs.Request as ask;
@@ -12,50 +12,25 @@ ghost use Rattle.arrow_model.specs.Value.{types};
 
 use crate::command::ChangesEntry;
 use arrow_boolean::BooleanArray;
-use arrow_entry::Entry;
+use arrow_entry::{Entry, items_fit};
 use arrow_memory::bitmap::{Bitmap, MutableBitmap};
 use arrow_memory::buffer::Buffer;
-use arrow_model::{Item, Reply};
+use arrow_model::{Item, Kind, Reply};
 use arrow_primitive::{MutablePrimitiveArray, PrimitiveArray};
 use arrow_types::error::Error;
 use arrow_types::native_type::NativeType;
 use arrow_types::offset::Offset;
 use std::alloc::Global;
 
-/// Returns whether there are `count` items, all of them native values.
-fn are_natives<T>(items: &[Item<T>], count: usize) -> bool
+/// Returns whether there are `count` items, all of which fit a kind.
+fn all_fit<T: NativeType>(kind: Kind, items: &[Item<T>], count: usize) -> bool
     ensures { result ≡ (nat_eq (length (map stored_item items.now)) count
-        && list_all (fits native) (map stored_item items.now)) }
+        && list_all (fits (shape kind).value_kind) (map stored_item items.now)) }
 {
     if items.len() != count {
         return false;
     }
-    let mut rest = items;
-    while let Some((item, others)) = rest.split_first() {
-        if !matches!(item, Item::Value(_)) {
-            return false;
-        }
-        rest = others;
-    }
-    true
-}
-
-/// Returns whether there are `count` items, all of them truth values.
-fn are_bits<T>(items: &[Item<T>], count: usize) -> bool
-    ensures { result ≡ (nat_eq (length (map stored_item items.now)) count
-        && list_all (fits boolean) (map stored_item items.now)) }
-{
-    if items.len() != count {
-        return false;
-    }
-    let mut rest = items;
-    while let Some((item, others)) = rest.split_first() {
-        if !matches!(item, Item::Bit(_)) {
-            return false;
-        }
-        rest = others;
-    }
-    true
+    items_fit(kind, items)
 }
 
 /// Returns the native values that items are.
@@ -135,7 +110,7 @@ fn set_array<T: NativeType, O: Offset>(
         (ask.set_values (map stored_item items.now)) (outcome result)
         (Some (native_value frozen array.new)) }
 {
-    if !are_natives(items, array.len()) {
+    if !all_fit(Kind::Primitive, items, array.len()) {
         return Ok(Reply::NotMet);
     }
     let values = shared_natives(alloc, items)?;
@@ -154,7 +129,7 @@ fn set_builder<T: NativeType, O: Offset>(
         (ask.set_values (map stored_item items.now)) (outcome result)
         (Some (native_value with_nulls builder.new)) }
 {
-    if !are_natives(items, builder.len()) {
+    if !all_fit(Kind::MutablePrimitive, items, builder.len()) {
         return Ok(Reply::NotMet);
     }
     let values = natives(alloc, items)?;
@@ -173,7 +148,7 @@ fn set_bits<T: NativeType, O: Offset>(
         (ask.set_values (map stored_item items.now)) (outcome result)
         (Some (boolean_value frozen array.new)) }
 {
-    if !are_bits(items, array.len()) {
+    if !all_fit(Kind::Boolean, items, array.len()) {
         return Ok(Reply::NotMet);
     }
     let values = shared_bits(alloc, items)?;
@@ -192,7 +167,7 @@ impl<'a, T: NativeType, O: Offset> ChangesEntry<T, O> for SetValues<'a, T> {
 
     ghost asks = { λ command. set_values (map stored_item command.0.now) };
 
-    fn run(self, alloc: Global, entry: &mut Option<Entry<T, O>>) -> Result<Reply<T>, Error> {
+    fn run(&self, alloc: Global, entry: &mut Option<Entry<T, O>>) -> Result<Reply<T>, Error> {
         match entry {
             Some(Entry::Primitive(array)) => set_array::<T, O>(alloc, array, self.0),
             Some(Entry::MutablePrimitive(builder)) => set_builder::<T, O>(alloc, builder, self.0),

@@ -38,7 +38,7 @@ impl<T: NativeType, O: Offset> ChangesEntry<T, O> for Slice {
 
     ghost asks = { λ command. slice command.0 command.1 };
 
-    fn run(self, _alloc: Global, entry: &mut Option<Entry<T, O>>) -> Result<Reply<T>, Error> {
+    fn run(&self, _alloc: Global, entry: &mut Option<Entry<T, O>>) -> Result<Reply<T>, Error> {
         let Some(held) = entry else {
             return Ok(Reply::NotMet);
         };

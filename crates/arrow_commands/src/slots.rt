@@ -40,7 +40,7 @@ impl<T: NativeType, O: Offset> ReadsEntry<T, O> for Slots {
 
     ghost asks = { λ command. all_slots };
 
-    fn read(self, alloc: Global, held: &Entry<T, O>) -> Result<Reply<T>, Error> {
+    fn read(&self, alloc: Global, held: &Entry<T, O>) -> Result<Reply<T>, Error> {
         Ok(Reply::Slots(all_slots(alloc, held)?))
     }
 }

@@ -52,7 +52,7 @@ impl<T: NativeType, O: Offset> ChangesEntry<T, O> for Thaw {
 
     ghost asks = { λ command. thaw };
 
-    fn run(self, _alloc: Global, entry: &mut Option<Entry<T, O>>) -> Result<Reply<T>, Error> {
+    fn run(&self, _alloc: Global, entry: &mut Option<Entry<T, O>>) -> Result<Reply<T>, Error> {
         let (held, reply) = thawed(entry.take());
         replace(entry, held);
         Ok(reply)

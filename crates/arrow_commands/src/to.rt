@@ -50,7 +50,7 @@ impl<'a, T: NativeType, O: Offset> ChangesEntry<T, O> for To<'a> {
 
     ghost asks = { λ command. to (logical_type command.0.now) };
 
-    fn run(self, _alloc: Global, entry: &mut Option<Entry<T, O>>) -> Result<Reply<T>, Error> {
+    fn run(&self, _alloc: Global, entry: &mut Option<Entry<T, O>>) -> Result<Reply<T>, Error> {
         match entry {
             Some(Entry::Primitive(_)) | Some(Entry::MutablePrimitive(_)) => {}
             _ => return Ok(Reply::NotMet),

@@ -16,7 +16,7 @@ impl<'a, T: NativeType, O: Offset> ReadsEntry<T, O> for Turns<'a> {
 
     ghost asks = { λ command. turns command.0.now };
 
-    fn read(self, alloc: Global, held: &Entry<T, O>) -> Result<Reply<T>, Error> {
+    fn read(&self, alloc: Global, held: &Entry<T, O>) -> Result<Reply<T>, Error> {
         Ok(Reply::Slots(held.turns(alloc, self.0)?))
     }
 }

@@ -16,7 +16,7 @@ impl<T: NativeType, O: Offset> ReadsEntry<T, O> for TypeOf {
 
     ghost asks = { λ command. type_of };
 
-    fn read(self, _alloc: Global, held: &Entry<T, O>) -> Result<Reply<T>, Error> {
+    fn read(&self, _alloc: Global, held: &Entry<T, O>) -> Result<Reply<T>, Error> {
         Ok(Reply::Typed(held.data_type().clone()?))
     }
 }

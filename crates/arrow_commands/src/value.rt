@@ -31,7 +31,7 @@ impl<T: NativeType, O: Offset> ReadsEntry<T, O> for Value {
 
     ghost asks = { λ command. value command.0 };
 
-    fn read(self, alloc: Global, held: &Entry<T, O>) -> Result<Reply<T>, Error> {
+    fn read(&self, alloc: Global, held: &Entry<T, O>) -> Result<Reply<T>, Error> {
         if !tells_values(held) {
             return Ok(Reply::NotMet);
         }

@@ -96,7 +96,7 @@ impl<'a, T: NativeType, O: Offset> ChangesEntry<T, O> for Write<'a, T> {
 
     ghost asks = { λ command. write command.0 (stored_item command.1.now) };
 
-    fn run(self, _alloc: Global, entry: &mut Option<Entry<T, O>>) -> Result<Reply<T>, Error> {
+    fn run(&self, _alloc: Global, entry: &mut Option<Entry<T, O>>) -> Result<Reply<T>, Error> {
         match entry {
             Some(Entry::Primitive(array)) => write_array::<T, O>(array, self.0, self.1),
             Some(Entry::MutablePrimitive(builder)) => write_builder::<T, O>(

@@ -42,7 +42,7 @@ impl<T: NativeType, O: Offset> MakesEntry<T, O> for Clone {
     ghost makes = { λ command state. Clones (entry_at state command.0) };
 
     fn make(
-        self,
+        &self,
         _alloc: Global,
         entries: &Vec<Option<Entry<T, O>>>,
     ) -> Result<Option<Entry<T, O>>, Error> {

@@ -61,7 +61,7 @@ impl<T: NativeType, O: Offset> MakesEntry<T, O> for Filter {
     ghost makes = { λ command state. Filters (entry_at state command.0) (entry_at state command.1) };
 
     fn make(
-        self,
+        &self,
         alloc: Global,
         entries: &Vec<Option<Entry<T, O>>>,
     ) -> Result<Option<Entry<T, O>>, Error> {

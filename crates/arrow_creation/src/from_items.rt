@@ -38,11 +38,19 @@ fn entry_from_items<T: NativeType, O: Offset>(
         (λ v. v)) }
 {
     let mut made = empty_entry(alloc, builder_kind(kind))?;
-    push_items(&mut made, items)?;
-    if is_array(kind) {
-        frozen(made)
-    } else {
-        Ok(made)
+    match push_items(&mut made, items) {
+        Ok(()) => {
+            if is_array(kind) {
+                frozen(made)
+            } else {
+                Ok(made)
+            }
+        }
+        Err(refused) => {
+            // By a call: without one, what each of the ten kinds drops would be proved again here.
+            drop(made);
+            Err(refused)
+        }
     }
 }
 
@@ -58,7 +66,7 @@ impl<'a, T: NativeType, O: Offset> MakesEntry<T, O> for FromItems<'a, T> {
         (items (map stored_item command.1.now)) };
 
     fn make(
-        self,
+        &self,
         alloc: Global,
         _entries: &Vec<Option<Entry<T, O>>>,
     ) -> Result<Option<Entry<T, O>>, Error> {

@@ -39,11 +39,19 @@ fn entry_from_slots<T: NativeType, O: Offset>(
         (λ v. if is_frozen (shape kind) then frozen_value v else v)) }
 {
     let mut made = slots_builder(alloc, kind)?;
-    push_slots(&mut made, slots)?;
-    if is_array(kind) {
-        frozen(made)
-    } else {
-        Ok(made)
+    match push_slots(&mut made, slots) {
+        Ok(()) => {
+            if is_array(kind) {
+                frozen(made)
+            } else {
+                Ok(made)
+            }
+        }
+        Err(refused) => {
+            // By a call: without one, what each of the ten kinds drops would be proved again here.
+            drop(made);
+            Err(refused)
+        }
     }
 }
 
@@ -59,7 +67,7 @@ impl<'a, T: NativeType, O: Offset> MakesEntry<T, O> for FromSlots<'a, T> {
         (slots (map stored_slot command.1.now)) };
 
     fn make(
-        self,
+        &self,
         alloc: Global,
         _entries: &Vec<Option<Entry<T, O>>>,
     ) -> Result<Option<Entry<T, O>>, Error> {

@@ -7,7 +7,7 @@ ghost use Rattle.arrow_model.specs.Row.{Row};
 ghost use Rattle.arrow_model.specs.Step.{AtEntry, IntoEmpty};
 ghost use Rattle.arrow_model.specs.Value.{State};
 
-use arrow_entry::Entry;
+use arrow_entry::{Entry, replace};
 use arrow_model::Reply;
 use arrow_types::error::Error;
 use arrow_types::native_type::NativeType;
@@ -24,11 +24,11 @@ pub trait MakesEntry<T: NativeType, O: Offset>: Drop {
     /// # Errors
     /// The refusal that the command is answered with.
     fn make(
-        self,
+        &self,
         alloc: Global,
         entries: &Vec<Option<Entry<T, O>>>,
     ) -> Result<Option<Entry<T, O>>, Error>
-        ensures { MadeBy result (makes self (state_of entries.now.items)) };
+        ensures { MadeBy result (makes self.now (state_of entries.now.items)) };
 }
 
 /// Puts what a command makes into the entry of a number; the command's condition fails if that is not empty or
@@ -53,7 +53,7 @@ pub fn put_at<T: NativeType, O: Offset, R: MakesEntry<T, O>>(
     }
     match command.make(alloc, entries)? {
         Some(made) => {
-            entries[e] = Some(made);
+            replace(&mut entries[e], Some(made));
             Ok(Reply::Done)
         }
         None => Ok(Reply::NotMet),

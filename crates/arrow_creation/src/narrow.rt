@@ -42,7 +42,7 @@ impl<'a, T: NativeType> MakesEntry<T, i32> for Narrow<'a, T> {
         (entry_at (state_of command.0.now.items) command.1) };
 
     fn make(
-        self,
+        &self,
         alloc: Global,
         _entries: &Vec<Option<Entry<T, i32>>>,
     ) -> Result<Option<Entry<T, i32>>, Error> {

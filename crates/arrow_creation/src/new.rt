@@ -21,7 +21,7 @@ impl<T: NativeType, O: Offset> MakesEntry<T, O> for New {
     ghost makes = { λ command state. Makes (types T.zero T.PRIMITIVE O.most O.IS_LARGE) (shape command.0) nothing };
 
     fn make(
-        self,
+        &self,
         alloc: Global,
         _entries: &Vec<Option<Entry<T, O>>>,
     ) -> Result<Option<Entry<T, O>>, Error> {

@@ -102,7 +102,7 @@ impl<'a, T: NativeType, O: Offset> MakesEntry<T, O> for NewNull<'a> {
         (nulls (logical_type command.data_type.now) command.length) };
 
     fn make(
-        self,
+        &self,
         alloc: Global,
         _entries: &Vec<Option<Entry<T, O>>>,
     ) -> Result<Option<Entry<T, O>>, Error> {

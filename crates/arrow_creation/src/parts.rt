@@ -16,7 +16,7 @@ mod native;
 mod raw;
 
 use arrow_check::cost::TextCost;
-use arrow_entry::Entry;
+use arrow_entry::{Entry, replace};
 use arrow_model::{Parts, Raw, Reply};
 use arrow_types::error::Error;
 use arrow_types::native_type::NativeType;
@@ -74,7 +74,7 @@ fn put_parts<T: NativeType, O: Offset>(
     }
     match entry_from_parts(given, cost)? {
         Some(made) => {
-            *entry = Some(made);
+            replace(entry, Some(made));
             Ok(Reply::Done)
         }
         None => Ok(Reply::NotMet),

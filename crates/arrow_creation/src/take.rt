@@ -46,7 +46,7 @@ impl<'a, T: NativeType, O: Offset> MakesEntry<T, O> for Take<'a> {
     ghost makes = { λ command state. Takes O.most command.1.now.items (entry_at state command.0) };
 
     fn make(
-        self,
+        &self,
         alloc: Global,
         entries: &Vec<Option<Entry<T, O>>>,
     ) -> Result<Option<Entry<T, O>>, Error> {

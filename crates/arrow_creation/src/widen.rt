@@ -42,7 +42,7 @@ impl<'a, T: NativeType> MakesEntry<T, i64> for Widen<'a, T> {
         (entry_at (state_of command.0.now.items) command.1) };
 
     fn make(
-        self,
+        &self,
         alloc: Global,
         _entries: &Vec<Option<Entry<T, i64>>>,
     ) -> Result<Option<Entry<T, i64>>, Error> {

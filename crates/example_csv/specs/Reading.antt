@@ -1,14 +1,17 @@
 -- Tables of CSV.
-use Rattle.std.specs.Prelude.{◌≡◌, ◌≢◌, ℕ, ◌+◌, ◌^◌, ◌<◌, ◌≤◌, ⊤, List, [], ◌∷◌, ◌++◌, Option, Some, None, length, map}
+use Rattle.std.specs.Prelude.{◌≡◌, ◌≢◌, ℕ, ◌+◌, ◌^◌, ◌<◌, ◌≤◌, ⊤, false, List, [], ◌∷◌, ◌++◌, Option, Some, None, length, map}
 use Rattle.std.specs.Prelude.{slice_get, slice_index_or, string_bytes}
 use Rattle.std.specs.List.{concat}
 use Rattle.csv.specs.Machine.{next_record}
-use Rattle.csv.specs.Reading.{AreRecords, Reached, default_config, error_kind, strip_bom}
+use Rattle.csv.specs.Reading.{AreRecords, Reached, Ready, default_config, error_kind, expected_len, is_flexible}
+use Rattle.csv.specs.Reading.{reader_config, reader_state, reader_trim, strip_bom}
 use Rattle.csv.specs.Records.{AllText}
 use Rattle.csv.specs.declared.error.ErrorKind.{ErrorKind}
 use Rattle.csv.specs.declared.error.ErrorKind.TheVariants as csv_error
 use Rattle.csv.specs.declared.parser.State.{State}
 use Rattle.csv.specs.declared.parser.State.TheVariants as state
+use Rattle.csv.specs.declared.reader.Reader.{Reader}
+use Rattle.csv.specs.declared.reader.Trim.TheVariants as trim
 use Rattle.dethrugn.specs.Error.TheVariants as arrow
 use Rattle.example_record_batch.specs.Batches.{Batch, Named}
 use Rattle.example_csv.specs.declared.error.Error.{Error}
@@ -21,6 +24,15 @@ use Rattle.example_csv.specs.Fields.{header_of, reads}
 -- the records of a CSV text, the header row among them
 abbrev pub AreRecordsOf : List ℕ → List (List (List ℕ)) → Type 0
 AreRecordsOf text records = AreRecords default_config state.StartRecord (strip_bom text) records
+
+-- a reader of CSV without a header row of its own, which has read nothing
+pub record HasReadNothing {R : Type 0} (reader : Reader R) : Type 0 where
+  pub trim : reader_trim reader ≡ trim.None
+  pub ready : Ready reader
+  pub config : reader_config reader ≡ default_config
+  pub flexible : is_flexible reader ≡ false
+  pub expected : expected_len reader ≡ None
+  pub state : reader_state reader ≡ state.StartRecord
 
 -- the field at a place of each row
 abbrev pub column_fields : List (List (List ℕ)) → ℕ → List (List ℕ)

@@ -19,6 +19,7 @@ use crate::answer::answer;
 use crate::error::Error;
 use crate::options::{Options, command};
 use crate::position::line_of;
+use clap::ArgMatches;
 use std::env;
 use std::io::{BufWriter, Read, Write};
 use std::process::ExitCode;
@@ -30,22 +31,15 @@ fn run(rt: &HostRuntime, options: &Options, text: &[u8]) -> Result<(), Error> {
     Ok(())
 }
 
-fn main(rt: HostRuntime) -> anyhow::Result<ExitCode> {
-    let words: Vec<String> = env::args(&rt)?.collect(rt.alloc())?;
-    let matches = match command(rt.alloc())?.try_get_matches_from(words.as_slice()) {
-        Ok(matches) => matches,
-        Err(error) => {
-            error.print(&rt)?;
-            return Ok(ExitCode::from(error.exit_code() as u8));
-        }
-    };
-    let options = Options::from_matches(rt.alloc(), &matches)?;
+/// Does what the matches of a command line ask, and returns the program's status.
+fn run_matches(rt: &HostRuntime, matches: &ArgMatches<'_>) -> anyhow::Result<ExitCode> {
+    let options = Options::from_matches(rt.alloc(), matches)?;
     let mut text = Vec::new(rt.alloc());
     if let Err(error) = rt.stdin().read_to_end(&mut text) {
         eprintln!(rt; "example_csv: {error}")?;
         return Ok(ExitCode::from(2));
     }
-    match run(&rt, &options, text.as_slice()) {
+    match run(rt, &options, text.as_slice()) {
         Ok(()) => Ok(ExitCode::SUCCESS),
         Err(error) => {
             match error.byte() {
@@ -56,6 +50,17 @@ fn main(rt: HostRuntime) -> anyhow::Result<ExitCode> {
                 None => eprintln!(rt; "example_csv: {error}")?,
             }
             Ok(ExitCode::from(2))
+        }
+    }
+}
+
+fn main(rt: HostRuntime) -> anyhow::Result<ExitCode> {
+    let words: Vec<String> = env::args(&rt)?.collect(rt.alloc())?;
+    match command(rt.alloc())?.try_get_matches_from(words.as_slice()) {
+        Ok(matches) => run_matches(&rt, &matches),
+        Err(error) => {
+            error.print(&rt)?;
+            Ok(ExitCode::from(error.exit_code() as u8))
         }
     }
 }

@@ -20,38 +20,45 @@ pub struct Options {
 
 /// Creates the command, whose `--help` lists its options.
 pub fn command<'a>(alloc: Global) -> Result<Command<'a>, clap::Error> {
-    let filter = Arg::new(alloc, "where")
-        .long("where")
-        .value_name("COLUMN")
-        .help("Keep only the rows where this column is true");
-    let columns = Arg::new(alloc, "columns")
-        .long("columns")
-        .value_name("NAMES")
-        .value_delimiter(',')
-        .help("Print only these columns, separated by commas");
-    let head = Arg::new(alloc, "head")
-        .long("head")
-        .value_name("N")
-        .value_parser(clap::value_parser!(usize))
-        .help("Print at most this number of rows");
-    let summary = Arg::new(alloc, "summary")
-        .long("summary")
-        .action(ArgAction::SetTrue)
-        .help("Print a summary of each column instead of the rows");
-    let table = Arg::new(alloc, "table")
-        .long("table")
-        .action(ArgAction::SetTrue)
-        .help("Print aligned columns instead of CSV, with a space for each control character");
     Ok(
         Command::new(alloc, "example_csv")
             .about(
                 "Reads a CSV table from standard input and prints the rows and columns that the options select",
             )
-            .arg(filter)?
-            .arg(columns)?
-            .arg(head)?
-            .arg(summary)?
-            .arg(table)?,
+            .arg(
+                Arg::new(alloc, "where")
+                    .long("where")
+                    .value_name("COLUMN")
+                    .help("Keep only the rows where this column is true"),
+            )?
+            .arg(
+                Arg::new(alloc, "columns")
+                    .long("columns")
+                    .value_name("NAMES")
+                    .value_delimiter(',')
+                    .help("Print only these columns, separated by commas"),
+            )?
+            .arg(
+                Arg::new(alloc, "head")
+                    .long("head")
+                    .value_name("N")
+                    .value_parser(clap::value_parser!(usize))
+                    .help("Print at most this number of rows"),
+            )?
+            .arg(
+                Arg::new(alloc, "summary")
+                    .long("summary")
+                    .action(ArgAction::SetTrue)
+                    .help("Print a summary of each column instead of the rows"),
+            )?
+            .arg(
+                Arg::new(alloc, "table")
+                    .long("table")
+                    .action(ArgAction::SetTrue)
+                    .help(
+                        "Print aligned columns instead of CSV, with a space for each control character",
+                    ),
+            )?,
     )
 }
 

@@ -1,15 +1,16 @@
 //! Reads a table of CSV.
-ghost use Rattle.std.specs.Prelude.{◌≡◌, ◌∷◌, ◌++◌, ℕ, List, [], IfErr, IfOk, IfSome, OnOk, length};
+ghost use Rattle.std.specs.Prelude.{◌≡◌, ◌∷◌, ◌++◌, ℕ, List, [], IfErr, IfOk, IfSome, OnOk, Some, length};
+ghost use Rattle.csv.specs.Reading.{source_of, strip_bom};
 ghost use Rattle.csv.specs.Records.{fields_of};
 ghost use Rattle.example_record_batch.specs.Batches.{named};
 ghost use Rattle.example_csv.specs.Builders.{IsOutOfMemory};
 ghost use Rattle.example_csv.specs.Reading.{AreBuiltOf, AreRecordsOf, CannotPushRow, IsBuiltOf, IsColumnOf, IsRefused};
-ghost use Rattle.example_csv.specs.Reading.{IsTableOf};
+ghost use Rattle.example_csv.specs.Reading.{HasReadNothing, IsTableOf};
 
 use crate::builder::Builder;
 use crate::error::Error;
 use crate::field::split_header;
-use csv::{ReaderBuilder, StringRecord};
+use csv::{Reader, ReaderBuilder, StringRecord};
 use example_record_batch::batch::{Field, RecordBatch};
 use std::alloc::Global;
 use std::io::Read;
@@ -36,15 +37,31 @@ pub fn read_table<R: Read + Drop>(alloc: Global, input: R) -> Result<RecordBatch
         .has_headers(false)
         .from_reader(alloc, input);
     let mut record = StringRecord::new(alloc);
-    if !reader.read_record(&mut record)? {
+    read_records(alloc, &mut reader, &mut record)
+}
+
+/// Reads the records of a table. `record` is memory that is used again for each.
+fn read_records<R: Read + Drop>(
+    alloc: Global,
+    reader: &mut Reader<R>,
+    record: &mut StringRecord,
+) -> Result<RecordBatch, Error>
+    requires { HasReadNothing reader.old }
+    ensures ok { IfOk result (λ table. (text : List ℕ) → source_of R.remaining reader.old ≡ Some (strip_bom text)
+        → (headers : List (List ℕ)) × (rows : List (List (List ℕ)))
+        × AreRecordsOf text (headers ∷ rows) × IsTableOf headers rows table) }
+    ensures err { IfErr result (λ e. (text : List ℕ) → source_of R.remaining reader.old ≡ Some (strip_bom text)
+        → IsRefused text e) }
+{
+    if !reader.read_record(record)? {
         return Err(Error::NoHeader);
     }
-    let mut columns = builders_of(alloc, &record)?;
+    let mut columns = builders_of(alloc, record)?;
     for height in 0..usize::MAX {
-        if !reader.read_record(&mut record)? {
+        if !reader.read_record(record)? {
             return freeze(alloc, columns, height);
         }
-        push_record(&mut columns, &record)?;
+        push_record(&mut columns, record)?;
     }
     Err(Error::OutOfMemory)
 }

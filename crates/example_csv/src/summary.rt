@@ -2,7 +2,7 @@
 ghost use Rattle.std.specs.Prelude.{◌≡◌, ◌∷◌, ◌++◌, [], List, Option, Some, ℕ, length, map, option_map};
 ghost use Rattle.std.specs.Prelude.{string_bytes, IfOk, IfErr, OnOk};
 ghost use Rattle.example_record_batch.specs.AnyArrays.{cells_of, nulls_of, number, slot_count, text};
-ghost use Rattle.example_record_batch.specs.Batches.{HaveRows, IsBatch, named};
+ghost use Rattle.example_record_batch.specs.Batches.{HaveRows, IsBatch, batch_of, named};
 ghost use Rattle.example_csv.specs.Summary.{AreGreatest, AreLeast, CannotSummarize, IsGreatestOf, IsLeastOf, IsSummary};
 ghost use Rattle.example_csv.specs.Summary.{contents_of, count_number, type_name};
 
@@ -193,6 +193,22 @@ fn push_column(
     Ok(())
 }
 
+/// Appends the columns of a summary of a table.
+fn push_columns(alloc: Global, table: &RecordBatch, columns: &mut Vec<Field>) -> Result<(), Error>
+    requires { columns.old.items ≡ [] }
+    ensures ok { OnOk result (IsSummary table.now (batch_of columns.new.items (length table.now.columns))) }
+    ensures rows { OnOk result (HaveRows columns.new.items (length table.now.columns)) }
+    ensures err { IfErr result (λ e. CannotSummarize e) }
+{
+    push_column(alloc, columns, "column", names(alloc, table)?)?;
+    push_column(alloc, columns, "type", types(alloc, table)?)?;
+    push_column(alloc, columns, "rows", row_counts(alloc, table)?)?;
+    push_column(alloc, columns, "nulls", null_counts(alloc, table)?)?;
+    push_column(alloc, columns, "least", least_texts(alloc, table)?)?;
+    push_column(alloc, columns, "greatest", greatest_texts(alloc, table)?)?;
+    Ok(())
+}
+
 /// Returns a summary of a table: a row for each column, with its name, the name of its type, how
 /// many rows and nulls it has, and the text of its least and greatest value.
 ///
@@ -203,18 +219,7 @@ pub fn summary(alloc: Global, table: &RecordBatch) -> Result<RecordBatch, Error>
     ensures ok { IfOk result (λ summary. IsSummary table.now summary) }
     ensures err { IfErr result (λ e. CannotSummarize e) }
 {
-    let rows = column_count(table);
     let mut columns = Vec::new(alloc);
-    push_column(alloc, &mut columns, "column", names(alloc, table)?)?;
-    push_column(alloc, &mut columns, "type", types(alloc, table)?)?;
-    push_column(alloc, &mut columns, "rows", row_counts(alloc, table)?)?;
-    push_column(alloc, &mut columns, "nulls", null_counts(alloc, table)?)?;
-    push_column(alloc, &mut columns, "least", least_texts(alloc, table)?)?;
-    push_column(
-        alloc,
-        &mut columns,
-        "greatest",
-        greatest_texts(alloc, table)?,
-    )?;
-    Ok(RecordBatch::try_new(columns, rows)?)
+    push_columns(alloc, table, &mut columns)?;
+    Ok(RecordBatch::try_new(columns, column_count(table))?)
 }

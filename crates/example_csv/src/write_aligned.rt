@@ -181,6 +181,27 @@ fn write_row<W: Write>(
     write_line(line, to)
 }
 
+/// Writes the names of the columns, a line of dashes and the rows. `scratch` and `line` are memory that is used again for
+/// each cell and line.
+fn write_lines<W: Write>(
+    alloc: Global,
+    table: &RecordBatch,
+    scratch: &mut String,
+    line: &mut Line,
+    to: &mut W,
+) -> Result<(), Error>
+    ensures ok { OnOk result (Appends (W.contents to.old) (W.contents to.new) (aligned_text table.now)) }
+    ensures err { IfErr result (λ e. CannotWrite e) }
+{
+    let widths = column_widths(alloc, table, scratch, &mut line.cell)?;
+    write_names(table, widths.as_slice(), line, to)?;
+    write_dashes(widths.as_slice(), line, to)?;
+    for row in 0..table.num_rows() {
+        write_row(table, row, widths.as_slice(), scratch, line, to)?;
+    }
+    Ok(())
+}
+
 /// Writes a table as aligned columns: numbers to the right and anything else to the left, under
 /// the names and a line of dashes. Returns the writer.
 ///
@@ -199,18 +220,6 @@ pub fn write_aligned<W: Write + Drop>(
         text: String::new(alloc),
         cell: String::new(alloc),
     };
-    let widths = column_widths(alloc, table, &mut scratch, &mut line.cell)?;
-    write_names(table, widths.as_slice(), &mut line, &mut to)?;
-    write_dashes(widths.as_slice(), &mut line, &mut to)?;
-    for row in 0..table.num_rows() {
-        write_row(
-            table,
-            row,
-            widths.as_slice(),
-            &mut scratch,
-            &mut line,
-            &mut to,
-        )?;
-    }
+    write_lines(alloc, table, &mut scratch, &mut line, &mut to)?;
     Ok(to)
 }

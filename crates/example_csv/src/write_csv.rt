@@ -1,7 +1,8 @@
 //! Tables as CSV.
-ghost use Rattle.std.specs.Prelude.{◌≡◌, ◌<◌, IfOk, IfErr, OnOk, OnErr};
+ghost use Rattle.std.specs.Prelude.{◌≡◌, ◌<◌, IfOk, IfErr, OnOk, false};
 ghost use Rattle.std.specs.Io.KnownBytes.{Appends};
 ghost use Rattle.csv.specs.Records.{fields_of};
+ghost use Rattle.csv.specs.Writing.{default_writer, fields_written, has_written, text_written, writer_setup};
 ghost use Rattle.example_csv.specs.Text.{CannotWriteCsv, csv_text, names_of, record_at};
 
 use crate::error::Error;
@@ -40,6 +41,30 @@ fn fill_row(
     Ok(())
 }
 
+/// Writes a record of the names, and then a record for each row. `record` and `scratch` are memory that is used again for
+/// each record and cell.
+fn write_records<W: Write + Drop>(
+    table: &RecordBatch,
+    record: &mut ByteRecord,
+    scratch: &mut String,
+    writer: &mut Writer<W>,
+) -> Result<(), Error>
+    requires setup { writer_setup writer.old ≡ default_writer }
+    requires ended { fields_written writer.old ≡ 0 }
+    requires clean { has_written writer.old ≡ false }
+    ensures ok { OnOk result (Appends (text_written W.contents writer.old) (text_written W.contents writer.new)
+        (csv_text table.now)) }
+    ensures err { IfErr result (λ e. CannotWriteCsv e) }
+{
+    fill_names(table, record)?;
+    writer.write_byte_record(record)?;
+    for row in 0..table.num_rows() {
+        fill_row(table, row, scratch, record)?;
+        writer.write_byte_record(record)?;
+    }
+    Ok(())
+}
+
 /// Writes a table as CSV: a record of the names, and then a record for each row. Returns the
 /// writer.
 ///
@@ -52,12 +77,7 @@ pub fn write_csv<W: Write + Drop>(alloc: Global, table: &RecordBatch, to: W) -> 
     let mut writer = Writer::from_writer(to);
     let mut record = ByteRecord::new(alloc);
     let mut scratch = String::new(alloc);
-    fill_names(table, &mut record)?;
-    writer.write_byte_record(&record)?;
-    for row in 0..table.num_rows() {
-        fill_row(table, row, &mut scratch, &mut record)?;
-        writer.write_byte_record(&record)?;
-    }
+    write_records(table, &mut record, &mut scratch, &mut writer)?;
     match writer.into_inner() {
         Ok(to) => Ok(to),
         Err(refused) => Err(Error::Csv(refused.into_error())),

@@ -1,5 +1,4 @@
 use Rattle.std.proofs.Common.{if◌then◌else◌, map, refl, subst, sym, Some, ◌∙◌}
-use Rattle.std.proofs.lemmas.Result.{err_from_is_err_and}
 use Rattle.arrow_entry.specs.Entry.{value_of}
 use Rattle.arrow_model.specs.Answer.{done}
 use Rattle.arrow_model.specs.Change.{frozen_value, slots_start}
@@ -10,13 +9,12 @@ use Rattle.arrow_model.specs.Value.{types}
 use Rattle.arrow_creation.proofs.FilledLemmas.{frozen-built, slots-done, slots-refused}
 use Rattle.arrow_creation.proofs.from_slots.entry_from_slots.Goals as goal
 
-pub returns-in_err-push_slots : goal.returns-in_err-push_slots
-returns-in_err-push_slots g c =
+pub returns-in-Err : goal.returns-in-Err
+returns-in-Err g c =
     let known = types g.T.NativeType.zero g.T.NativeType.PRIMITIVE g.O.Offset.most g.O.Offset.IS_LARGE in
     let s = shape c.args.kind in
-    let p = err_from_is_err_and c.from_residual-in_err-push_slots.result c.from_residual-in_err-push_slots.ensures.1 in
-    let why = c.in_err-push_slots.ensures.err in
-    rw (p.1, p.2, why.1) (
+    let why = c.in-Err.ensures.err in
+    rw (why.1) (
     slots-refused known s.value_kind s.group (map stored_slot c.args.slots.now) (value_of c.in_ok-made.made) why.0
     (Some (value_of c.push_slots.new.held)) c.in_ok-made.ensures.ok (rw (why.1) at why.2)
     )
@@ -28,7 +26,7 @@ returns-then-is_array g c =
     let w = value_of c.push_slots.new.held in
     let done-so = slots-done known s.value_kind s.group (map stored_slot c.args.slots.now)
     (value_of c.in_ok-made.made) w
-    c.in_ok-made.ensures.ok c.in_ok-push_slots.ensures.ok in
+    c.in_ok-made.ensures.ok c.in-Ok.ensures.ok in
     let row = Filled known (slots_start known s) (map stored_slot c.args.slots.now)
     (λ v. if is_frozen s then frozen_value v else v) in
     frozen-built row w c.frozen.result c.frozen.ensures.ok c.frozen.ensures.err
@@ -42,7 +40,7 @@ returns-else-is_array g c =
     let w = value_of c.push_slots.new.held in
     let done-so = slots-done known s.value_kind s.group (map stored_slot c.args.slots.now)
     (value_of c.in_ok-made.made) w
-    c.in_ok-made.ensures.ok c.in_ok-push_slots.ensures.ok in
+    c.in_ok-made.ensures.ok c.in-Ok.ensures.ok in
     let row = Filled known (slots_start known s) (map stored_slot c.args.slots.now)
     (λ v. if is_frozen s then frozen_value v else v) in
     subst (λ b. row done (Some (if b then frozen_value w else w))) (sym c.is_array.ensures ∙ c.if-is_array.false)

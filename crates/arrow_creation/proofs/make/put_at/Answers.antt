@@ -38,6 +38,8 @@ returns-in-Some g c =
     let entries = c.args.entries.now.items in
     let within : c.args.e < length entries = omega arith in
     let row = g.R.MakesEntry.makes c.args.command (state_of entries) in
+    rw c.replace.ensures (
     empty-filled row entries c.args.e c.index.result.now
     (got entries c.args.e c.index.result.now c.index.result.now within c.index.ensures)
     (Some c.in-Some.made) done (search rules) (rw (c.in-Some.is) at c.in_ok-made.ensures)
+    )

@@ -1,132 +1,30 @@
-use Rattle.std.proofs.Common.{◌≡◌, ◌∙◌, ◌∷◌, ◌++◌, ◌+◌, [], ap, arith, false, inl, inr, length, refl, rules, sym, true}
+use Rattle.std.proofs.Common.{◌∙◌, ap, inr}
 use Rattle.std.specs.Prelude.{option_map}
-use Rattle.std.proofs.lemmas.List.{length-append}
-use Rattle.std.proofs.lemmas.Result.{IfOk-weaker}
-use Rattle.csv.specs.Reading.{Reached, default_config, error_kind, strip_bom}
-use Rattle.csv.specs.Records.{fields_of}
-use Rattle.csv.specs.declared.parser.State.TheVariants as st
-use Rattle.csv.proofs.ReadFacts.{rows-end, rows-more}
-use Rattle.example_csv.proofs.ReadLemmas.{first-error, if-some, next-error, row-refused, weaken-err}
+use Rattle.std.proofs.lemmas.Result.{IfErr-weaker, IfOk-weaker}
+use Rattle.csv.specs.Reading.{strip_bom}
+use Rattle.example_csv.proofs.ReadLemmas.{if-some}
 use Rattle.example_csv.proofs.read.read_table.Goals as goal
 
-pub returns-in_err-read_record-clause-err : goal.returns-in_err-read_record-clause-err
-unfolding Reached
-returns-in_err-read_record-clause-err g c =
+pub read_records-requires : goal.read_records-requires
+read_records-requires g c =
     let fr = c.from_reader-reader.ensures in
-    let e = c.has_headers.ensures in
-    let trim = rw e at fr.trim ∙ c.new.ensures.trim in
-    let config = rw e at fr.config ∙ c.new.ensures.config in
-    let why = c.in_err-read_record.ensures.why trim (inr (inr (rw e at fr.has_headers, fr.headers))) in
-    weaken-err c.from_residual.result _ _ c.from_residual.ensures.1 (λ f is. if-some _ _ (λ text known.
-    let source = fr.source ∙ ap (option_map strip_bom) known in
-    rw is (first-error g.R.Read.remaining c.from_reader-reader.result c.read_record.new.self text (strip_bom text) config
-    source (error_kind c.in_err-read_record.field-0.0) fr.expected (sym fr.state, refl) why)))
+    let e = c.has_headers.ensures in record {
+      trim = rw e at fr.trim ∙ c.new.ensures.trim;
+      ready = inr (inr (rw e at fr.has_headers, fr.headers));
+      config = rw e at fr.config ∙ c.new.ensures.config;
+      flexible = rw e at fr.flexible ∙ c.new.ensures.flexible;
+      expected = fr.expected;
+      state = fr.state;
+    }
 
-pub returns-then-not-branch-clause-err : goal.returns-then-not-branch-clause-err
-unfolding Reached
-returns-then-not-branch-clause-err g c =
+pub returns-clause-ok : goal.returns-clause-ok
+returns-clause-ok g c =
     let fr = c.from_reader-reader.ensures in
-    let e = c.has_headers.ensures in
-    let trim = rw e at fr.trim ∙ c.new.ensures.trim in
-    let config = rw e at fr.config ∙ c.new.ensures.config in
-    let gone : c.in_ok-read_record.field-0 ≡ false = search rules in
-    let reads = rw gone at (c.in_ok-read_record.ensures.reads trim (inr (inr (rw e at fr.has_headers, fr.headers)))) in
-    if-some _ _ (λ text known.
-    let source = fr.source ∙ ap (option_map strip_bom) known in (
-      c.from_reader-reader.result.state,
-      strip_bom text,
-      (sym fr.state, refl),
-      rows-end g.R.Read.remaining
-          c.from_reader-reader.result c.read_record.new.self (fields_of c.read_record.new.row) default_config (strip_bom text)
-          config source reads,
-    ))
+    IfOk-weaker c.read_records.result _ _ (λ table is. if-some _ _ (λ text known.
+    is text (fr.source ∙ ap (option_map strip_bom) known))) c.read_records.ensures.ok
 
-pub loop-height-init : goal.loop-height-init
-unfolding Reached
-loop-height-init g c =
+pub returns-clause-err : goal.returns-clause-err
+returns-clause-err g c =
     let fr = c.from_reader-reader.ensures in
-    let e = c.has_headers.ensures in
-    let trim = rw e at fr.trim ∙ c.new.ensures.trim in
-    let config = rw e at fr.config ∙ c.new.ensures.config in
-    let flexible = rw e at fr.flexible ∙ c.new.ensures.flexible in
-    let found : c.in_ok-read_record.field-0 ≡ true = search rules in
-    let reads = rw found at (c.in_ok-read_record.ensures.reads trim (inr (inr (rw e at fr.has_headers, fr.headers)))) in (
-      reads.3 ∙ trim,
-      inl (c.in_ok-read_record.ensures.ready trim),
-      reads.2 ∙ config,
-      c.in_ok-read_record.ensures.flexible ∙ flexible,
-      fields_of c.read_record.new.row,
-      [],
-      refl,
-      (reads.5 refl flexible).1,
-      c.in_ok-columns.ensures.ok,
-      λ text known. rows-more g.R.Read.remaining c.from_reader-reader.result c.read_record.new.self
-          (fields_of c.read_record.new.row) default_config st.StartRecord (strip_bom text) (strip_bom text) [] config
-          (fr.source ∙ ap (option_map strip_bom) known) (sym fr.state, refl) reads,
-    )
-
-pub returns-in_err-read_record-2-clause-err : goal.returns-in_err-read_record-2-clause-err
-returns-in_err-read_record-2-clause-err g c =
-    let (trim, ready, config, flexible, headers, rows, height, expected, built, reached) = c.loop-height.invariant in
-    let why = c.in_err-read_record-2.ensures.why trim ready in
-    weaken-err c.from_residual-in_err-read_record-2.result _ _ c.from_residual-in_err-read_record-2.ensures.1 (λ f is.
-    if-some _ _ (λ text known.
-    let (rest, source, before) = reached text known in
-    rw is (next-error g.R.Read.remaining c.loop-height.reader c.read_record-in-loop-height.new.self text rest config
-    source headers rows (error_kind c.in_err-read_record-2.field-0.0) expected before why)))
-
-pub returns-then-not-branch-2-clause-ok : goal.returns-then-not-branch-2-clause-ok
-returns-then-not-branch-2-clause-ok g c =
-    let (trim, ready, config, flexible, headers, rows, height, expected, built, reached) = c.loop-height.invariant in
-    let gone : c.in_ok-read_record-2.field-0 ≡ false = search rules in
-    let reads = rw gone at (c.in_ok-read_record-2.ensures.reads trim ready) in
-    IfOk-weaker c.freeze.result _ _ (λ table is. if-some _ _ (λ text known.
-    let (rest, source, before) = reached text known in (
-      headers,
-      rows,
-      (
-        c.loop-height.reader.state,
-        rest,
-        before,
-        rows-end g.R.Read.remaining c.loop-height.reader
-            c.read_record-in-loop-height.new.self (fields_of c.read_record-in-loop-height.new.row) default_config rest config
-            source reads,
-      ),
-      is,
-    ))) (c.freeze.ensures.ok headers rows built (sym height))
-
-pub returns-in_err-push_record-clause-err : goal.returns-in_err-push_record-clause-err
-returns-in_err-push_record-clause-err g c =
-    let (trim, ready, config, flexible, headers, rows, height, expected, built, reached) = c.loop-height.invariant in
-    let found : c.in_ok-read_record-2.field-0 ≡ true = search rules in
-    let reads = rw found at (c.in_ok-read_record-2.ensures.reads trim ready) in
-    let row = fields_of c.read_record-in-loop-height.new.row in
-    weaken-err c.from_residual-in_err-push_record.result _ _ c.from_residual-in_err-push_record.ensures.1 (λ f is.
-    if-some _ _ (λ text known.
-    let (rest, source, before) = reached text known in
-    let (z, at, after) = rows-more g.R.Read.remaining c.loop-height.reader c.read_record-in-loop-height.new.self row
-    default_config st.StartRecord (strip_bom text) rest (headers ∷ rows) config source before reads in
-    rw is (row-refused text headers rows c.loop-height.columns.items row built
-    (c.read_record-in-loop-height.new.self.state, z, after) c.in_err-push_record.field-0.0
-    c.in_err-push_record.ensures.err)))
-
-pub loop-height-preserved : goal.loop-height-preserved
-loop-height-preserved g c =
-    let (trim, ready, config, flexible, headers, rows, height, expected, built, reached) = c.loop-height.invariant in
-    let found : c.in_ok-read_record-2.field-0 ≡ true = search rules in
-    let reads = rw found at (c.in_ok-read_record-2.ensures.reads trim ready) in
-    let row = fields_of c.read_record-in-loop-height.new.row in (
-      reads.3 ∙ trim,
-      inl (c.in_ok-read_record-2.ensures.ready trim),
-      reads.2 ∙ config,
-      c.in_ok-read_record-2.ensures.flexible ∙ flexible,
-      headers,
-      rows ++ row ∷ [],
-      length-append rows (row ∷ []) ∙ ap (λ n. n + 1) height,
-      rw expected at ((reads.5 refl flexible).0),
-      c.in_ok-push_record.ensures.ok headers rows built,
-      λ text known.
-          let (rest, source, before) = reached text known in
-          rows-more g.R.Read.remaining c.loop-height.reader c.read_record-in-loop-height.new.self row default_config
-          st.StartRecord (strip_bom text) rest (headers ∷ rows) config source before reads,
-    )
+    IfErr-weaker c.read_records.result _ _ (λ e is. if-some _ _ (λ text known.
+    is text (fr.source ∙ ap (option_map strip_bom) known))) c.read_records.ensures.err

@@ -11,7 +11,7 @@ use Rattle.arrow_commands.proofs.extend.ExtendChangesEntry.run.Goals as goal
 
 pub returns-then-not-slots_fit : goal.returns-then-not-slots_fit
 returns-then-not-slots_fit g c =
-    let xs = map stored_slot c.args.self.0.now in
+    let xs = map stored_slot c.args.self.now.0.now in
     unfit (types g.T.NativeType.zero g.T.NativeType.PRIMITIVE g.O.Offset.most g.O.Offset.IS_LARGE)
     (option_map value_of c.args.entry.now) (value_of c.in-Some.held) xs
     (ap (option_map value_of) c.in-Some.is) (sym c.if-not-has_nulls.ensures)
@@ -20,7 +20,7 @@ returns-then-not-slots_fit g c =
 
 pub returns-in-Ok : goal.returns-in-Ok
 returns-in-Ok g c =
-    let xs = map stored_slot c.args.self.0.now in
+    let xs = map stored_slot c.args.self.now.0.now in
     extended (types g.T.NativeType.zero g.T.NativeType.PRIMITIVE g.O.Offset.most g.O.Offset.IS_LARGE)
     (option_map value_of c.args.entry.now) (value_of c.in-Some.held) xs
     (ap (option_map value_of) c.in-Some.is) (sym c.if-not-has_nulls.ensures)
@@ -29,7 +29,7 @@ returns-in-Ok g c =
 
 pub returns-in-Err : goal.returns-in-Err
 returns-in-Err g c =
-    let xs = map stored_slot c.args.self.0.now in
+    let xs = map stored_slot c.args.self.now.0.now in
     extended (types g.T.NativeType.zero g.T.NativeType.PRIMITIVE g.O.Offset.most g.O.Offset.IS_LARGE)
     (option_map value_of c.args.entry.now) (value_of c.in-Some.held) xs
     (ap (option_map value_of) c.in-Some.is) (sym c.if-not-has_nulls.ensures)

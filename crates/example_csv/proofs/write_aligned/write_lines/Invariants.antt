@@ -2,7 +2,7 @@ use Rattle.std.proofs.Common.{◌≡◌, ◌++◌}
 use Rattle.std.specs.Io.KnownBytes.{Appends}
 use Rattle.std.specs.List.{flat_map, range_with_len}
 use Rattle.example_csv.specs.Aligned.{column_widths, dashes_line, names_line, row_line}
-use Rattle.example_csv.proofs.write_aligned.write_aligned.Given as goal
+use Rattle.example_csv.proofs.write_aligned.write_lines.Given as goal
 
 abbrev pub invariant-loop-row : goal.invariant-loop-row
 invariant-loop-row g l =

@@ -2,7 +2,7 @@ use Rattle.std.proofs.Common.{◌++◌}
 use Rattle.csv.proofs.WriteFacts.{appends-more}
 use Rattle.example_csv.specs.Aligned.{column_widths, dashes_line, names_line, row_line}
 use Rattle.example_csv.proofs.TableLemmas.{rows-more}
-use Rattle.example_csv.proofs.write_aligned.write_aligned.Goals as goal
+use Rattle.example_csv.proofs.write_aligned.write_lines.Goals as goal
 
 pub loop-row-preserved : goal.loop-row-preserved
 loop-row-preserved g c =

@@ -7,7 +7,7 @@ use Rattle.csv.specs.Writing.{default_writer, row_text, text_written, writer_set
 use Rattle.csv.specs.declared.writer.QuoteStyle.TheVariants as style
 use Rattle.csv.proofs.WriteFacts.{appends-more}
 use Rattle.example_csv.specs.Text.{names_of, record_at}
-use Rattle.example_csv.proofs.write_csv.write_csv.Goals as goal
+use Rattle.example_csv.proofs.write_csv.write_records.Goals as goal
 
 -- the text of one row more
 one_more : (first : List (List ℕ)) (row : ℕ → List (List ℕ)) (n : ℕ)
