@@ -133,9 +133,11 @@ fn slots_thaw_with_their_mask(rt: HostRuntime) {
 #[test]
 fn slots_over_the_beginning_of_a_vector_stay_frozen(rt: HostRuntime) {
     let mut first = bytes(rt.alloc(), &rt, [0x61, 0xff].as_slice());
+    assert!(rt; 1 <= first.len());
     first.slice(0, 1);
     let masked = thaws_to_one(rt.alloc(), &rt, first, Some(cut(rt.alloc(), &rt)));
     let mut second = bytes(rt.alloc(), &rt, [0x61, 0xff].as_slice());
+    assert!(rt; 1 <= second.len());
     second.slice(0, 1);
     let bare = thaws_to_one(rt.alloc(), &rt, second, None);
     assert_eq!(rt; [masked, bare], [None, None]);
