@@ -48,10 +48,12 @@ impl Word for usize {
 
     ghost parse = { number_of };
 
+    #[inline(always)]
     fn of_word(_alloc: Global, word: &[u8]) -> Result<Option<Self>, AllocError> {
         Ok(number_of(word))
     }
 
+    #[inline(always)]
     fn is_word(word: &[u8]) -> bool {
         number_of(word).is_some()
     }

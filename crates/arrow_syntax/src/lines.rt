@@ -8,6 +8,7 @@ ghost use Rattle.arrow_syntax.specs.Words.{pieces, space};
 use memchr::memchr;
 
 /// Returns the place of the first line feed.
+#[inline(always)]
 fn line_end(text: &[u8]) -> Option<usize>
     ensures { result ≡ position (λ b. b == line_feed) text.now }
 {
@@ -15,6 +16,7 @@ fn line_end(text: &[u8]) -> Option<usize>
 }
 
 /// Splits a text at its first line feed. Returns the first line, and what follows the line feed if there is one.
+#[inline(always)]
 pub fn split_line(text: &[u8]) -> (&[u8], Option<&[u8]>)
     ensures pieces { MatchOption result.1 (pieces line_feed text.now ≡ result.0.now ∷ [])
         (λ after. pieces line_feed text.now ≡ result.0.now ∷ pieces line_feed after.now) }
@@ -26,6 +28,7 @@ pub fn split_line(text: &[u8]) -> (&[u8], Option<&[u8]>)
     }
 }
 
+#[inline(always)]
 fn is_comment(line: &[u8]) -> bool
     ensures { result ≡ is_comment line.now }
 {
@@ -35,6 +38,7 @@ fn is_comment(line: &[u8]) -> bool
     }
 }
 
+#[inline(always)]
 fn is_blank(line: &[u8]) -> bool
     ensures { result ≡ list_all (λ b. b == space) line.now }
 {
@@ -42,6 +46,7 @@ fn is_blank(line: &[u8]) -> bool
 }
 
 /// Returns whether a line has no reply: it is a comment, or nothing but spaces.
+#[inline(always)]
 pub fn is_passed_over(line: &[u8]) -> bool
     ensures { result ≡ is_passed_over line.now }
 {

@@ -19,6 +19,7 @@ pub(crate) fn with_digit(number: usize, byte: u8) -> Option<usize>
 }
 
 /// Returns the number that one or more digits write, or `None` if it does not fit. Leading zeros are allowed.
+#[inline(always)]
 pub fn number_of(word: &[u8]) -> Option<usize>
     ensures { result ≡ number_of word.now }
 {

@@ -72,16 +72,19 @@ impl Words for () {
 
     ghost reader = { end };
 
+    #[inline(always)]
     fn of_words(_alloc: Global, words: &[u8]) -> Result<Option<Self>, AllocError> {
         Ok(end(words))
     }
 
+    #[inline(always)]
     fn are_words(words: &[u8]) -> bool {
         next_word(words).is_none()
     }
 }
 
 /// Returns `Some` if no word follows.
+#[inline(always)]
 fn end(text: &[u8]) -> Option<()>
     ensures { result ≡ end (words_of text.now) }
 {

@@ -20,6 +20,7 @@ pub fn word_eq(word: &[u8], name: &[u8]) -> bool
 }
 
 /// Returns the place of the first occurrence of a byte. Words are short, so a plain loop is faster than `memchr`.
+#[inline(always)]
 fn position_of(byte: u8, text: &[u8]) -> Option<usize>
     ensures { result ≡ position (λ b. b == byte) text.now }
 {
@@ -32,6 +33,7 @@ fn position_of(byte: u8, text: &[u8]) -> Option<usize>
 }
 
 /// Splits a text at the first occurrence of a byte. Returns what precedes it, and what follows it if it occurs.
+#[inline(always)]
 fn split_at(byte: u8, text: &[u8]) -> (&[u8], Option<&[u8]>)
     ensures pieces { MatchOption result.1 (pieces byte text.now ≡ result.0.now ∷ [])
         (λ after. pieces byte text.now ≡ result.0.now ∷ pieces byte after.now) }
@@ -44,6 +46,7 @@ fn split_at(byte: u8, text: &[u8]) -> (&[u8], Option<&[u8]>)
 }
 
 /// Returns the first word of a text and what follows it, or `None` if the text has no word.
+#[inline(always)]
 pub fn next_word(text: &[u8]) -> Option<(&[u8], &[u8])>
     ensures { MatchOption result (words_of text.now ≡ [])
         (λ word. words_of text.now ≡ word.0.now ∷ words_of word.1.now) }

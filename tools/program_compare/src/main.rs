@@ -1,7 +1,7 @@
 //! Lines to lines, over a table of arrow2's arrays and builders.
 //!
+//!     oracle list    all lines are parsed into a list of commands before the first is run; replies go out by and by
 //!     oracle         each line is run as soon as it is parsed, and the replies are kept until the last line is a command
-//!     oracle list    all lines are parsed into a list of commands first; replies go out by and by
 mod change;
 mod command;
 mod entry;
