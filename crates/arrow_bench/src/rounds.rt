@@ -3,10 +3,10 @@
 
 /// Makes a value in each round, and sums up what `probe` reads from it.
 #[inline(always)]
-pub(crate) fn make_rounds<A: Drop, M: Fn() -> Option<A>, P: Fn(&A, usize) -> u64>(
+pub(crate) fn make_rounds<A: Drop, M: FnMut() -> Option<A>, P: FnMut(&A, usize) -> u64>(
     rounds: usize,
-    make: M,
-    probe: P,
+    mut make: M,
+    mut probe: P,
 ) -> u64
     requires make { M.IsAlwaysCallable make }
     requires probe { P.IsAlwaysCallable probe }
@@ -23,12 +23,12 @@ pub(crate) fn make_rounds<A: Drop, M: Fn() -> Option<A>, P: Fn(&A, usize) -> u64
 
 /// Makes a value of what was made once in each round, and sums up what `probe` reads from it.
 #[inline(always)]
-pub(crate) fn make_rounds_of<S: Drop, A: Drop, M: Fn(&S) -> Option<A>, P: Fn(&A, usize) -> u64>(
-    source: Option<S>,
-    rounds: usize,
-    make: M,
-    probe: P,
-) -> u64
+pub(crate) fn make_rounds_of<
+    S: Drop,
+    A: Drop,
+    M: FnMut(&S) -> Option<A>,
+    P: FnMut(&A, usize) -> u64,
+>(source: Option<S>, rounds: usize, mut make: M, mut probe: P) -> u64
     requires make { M.IsAlwaysCallable make }
     requires probe { P.IsAlwaysCallable probe }
 {
@@ -50,10 +50,10 @@ pub(crate) fn make_rounds_of<S: Drop, A: Drop, M: Fn(&S) -> Option<A>, P: Fn(&A,
 /// Reads a value in each round. `read` is passed the sum so far and returns it with what it read: the sum is another in
 /// each round, so that no compiler does one round's work for all.
 #[inline(always)]
-pub(crate) fn read_rounds<A: Drop, R: Fn(&A, u64) -> u64>(
+pub(crate) fn read_rounds<A: Drop, R: FnMut(&A, u64) -> u64>(
     value: Option<A>,
     rounds: usize,
-    read: R,
+    mut read: R,
 ) -> u64
     requires { R.IsAlwaysCallable read }
 {
@@ -71,10 +71,10 @@ pub(crate) fn read_rounds<A: Drop, R: Fn(&A, u64) -> u64>(
 
 /// Converts a value in each round into the one of the next, and sums up what `convert` returns beside it.
 #[inline(always)]
-pub(crate) fn convert_rounds<A: Drop, C: Fn(A, usize) -> Option<(u64, A)>>(
+pub(crate) fn convert_rounds<A: Drop, C: FnMut(A, usize) -> Option<(u64, A)>>(
     value: Option<A>,
     rounds: usize,
-    convert: C,
+    mut convert: C,
 ) -> u64
     requires { C.IsAlwaysCallable convert }
 {
@@ -105,9 +105,9 @@ pub(crate) fn filled_builder<B: Drop>(builder: B, filled: Option<()>) -> Option<
 
 /// Extends a builder twice, and returns it.
 #[inline(always)]
-pub(crate) fn extend_twice<B: Drop, E: Fn(&mut B) -> Option<()>>(
+pub(crate) fn extend_twice<B: Drop, E: FnMut(&mut B) -> Option<()>>(
     mut builder: B,
-    extend: E,
+    mut extend: E,
 ) -> Option<B>
     requires { E.IsAlwaysCallable extend }
 {
