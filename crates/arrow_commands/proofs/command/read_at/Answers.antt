@@ -17,8 +17,8 @@ returns-in-Some g c =
     (got entries c.args.e c.index.result.now c.index.result.now within c.index.ensures
     ∙ ap Some c.in-Some.is) c.read.ensures
 
-pub returns-in-None : goal.returns-in-None
-returns-in-None g c =
+pub returns : goal.returns
+returns g c =
     let known = types g.T.NativeType.zero g.T.NativeType.PRIMITIVE g.O.Offset.most g.O.Offset.IS_LARGE in
     let entries = c.args.entries.now.items in
     let within : c.args.e < length entries = omega arith in

@@ -25,8 +25,8 @@ returns-in_err-made g c =
     (refused (refusal c.in_err-made.field-0.0)) (search rules) c.in_err-made.ensures
     )
 
-pub returns-in-None : goal.returns-in-None
-returns-in-None g c =
+pub returns : goal.returns
+returns g c =
     let entries = c.args.entries.now.items in
     let within : c.args.e < length entries = omega arith in
     empty-stays (g.R.MakesEntry.makes c.args.command (state_of entries)) entries c.args.e c.index.result.now
