@@ -1,62 +1,73 @@
 //! Iterators over a range of slots.
 use arrow_boolean::BooleanArray;
-use arrow_memory::bitmap::BitmapIter;
-use arrow_memory::zip_validity::ZipValidity;
+use arrow_testing::{same, same_bools};
 use std::process::Abort;
 
-/// The slots of a range.
-type Range<'a> = ZipValidity<BitmapIter<'a>, BitmapIter<'a>>;
+const SLOTS: &[Option<bool>] = &[
+    Some(true),
+    None,
+    Some(false),
+    Some(true),
+    Some(true),
+    None,
+    None,
+    Some(false),
+    Some(true),
+    None,
+    Some(false),
+];
 
-/// Returns whether these come, and no more.
-fn come(range: Range<'_>, slots: &[Option<bool>]) -> bool {
-    let (mut range, mut are_slots) = (range, true);
-    for slot in slots {
-        are_slots &= range.next() == Some(*slot);
-    }
-    are_slots & range.next().is_none()
-}
+const VALID: &[Option<bool>] = &[Some(true), Some(false), Some(false), Some(true), Some(true)];
 
-/// Returns whether they do from the back.
-fn come_back(range: Range<'_>, slots: &[Option<bool>]) -> bool {
-    let (mut range, mut are_slots) = (range, true);
-    for slot in slots.iter().rev() {
-        are_slots &= range.next_back() == Some(*slot);
-    }
-    are_slots & range.next_back().is_none()
-}
+/// A name, the slots of an array, where a slice of it and a range of that slice begin, and the
+/// slots of that range from the front and from the back.
+type Case = (
+    &'static str,
+    &'static [Option<bool>],
+    usize,
+    usize,
+    &'static str,
+    &'static str,
+);
 
-/// Returns whether a range of an array has these slots, from both ends.
-fn has(array: &BooleanArray, offset: usize, slots: &[Option<bool>]) -> bool {
-    let len = slots.len();
-    if array.len() < offset || array.len() - offset < len {
-        return false;
-    }
-    let is_sized = array.iter_range(offset, len).size_hint() == (len, Some(len));
-    let are_slots = come(array.iter_range(offset, len), slots);
-    is_sized & are_slots & come_back(array.iter_range(offset, len), slots)
-}
+const CASES: &[Case] = &[
+    ("all", SLOTS, 0, 0, "t_ftt__ft_f", "f_tf__ttf_t"),
+    ("in the middle", SLOTS, 0, 1, "_ft", "tf_"),
+    ("at the end", SLOTS, 0, 7, "ft_f", "f_tf"),
+    ("none", SLOTS, 0, 0, "", ""),
+    ("none at the end", SLOTS, 0, 11, "", ""),
+    ("all of a slice", SLOTS, 1, 0, "_ftt__ft_f", "f_tf__ttf_"),
+    ("in a slice", SLOTS, 1, 6, "ft_", "_tf"),
+    ("all, without a mask", VALID, 0, 0, "tfftt", "ttfft"),
+    ("in the middle, without a mask", VALID, 0, 1, "fft", "tff"),
+    ("none, without a mask", VALID, 0, 5, "", ""),
+    ("in a slice, without a mask", VALID, 1, 2, "tt", "tt"),
+];
 
-/// Returns whether ranges of an array of eleven slots, and of its last ten, have the right slots.
-fn are_parts(rt: &impl Abort, mut array: BooleanArray, slots: &[Option<bool>; 11]) -> bool {
-    assert!(rt; array.len() == 11);
-    let are_whole = has(&array, 0, slots.as_slice()) & has(&array, 1, &slots[1..4]);
-    let are_ends = has(&array, 7, &slots[7..]) & has(&array, 0, &[]) & has(&array, 11, &[]);
-    array.slice(1, 10);
-    let are_cut = has(&array, 0, &slots[1..]) & has(&array, 6, &slots[7..10]);
-    drop(array);
-    are_whole & are_ends & are_cut
+/// Compares a range of an array from both ends.
+fn check(
+    rt: &impl Abort,
+    case: &str,
+    array: &BooleanArray,
+    offset: usize,
+    expected: &str,
+    reversed: &str,
+) {
+    let len = expected.len();
+    assert!(rt; offset <= array.len() && len <= array.len() - offset);
+    let range = array.iter_range(offset, len);
+    same(range.size_hint(), (len, Some(len))).expect(rt, case);
+    same_bools(range, expected).expect(rt, case);
+    same_bools(array.iter_range(offset, len).rev(), reversed).expect(rt, case);
 }
 
 #[test]
-fn parts_of_arrays(rt: HostRuntime) {
-    let (yes, no) = (Some(true), Some(false));
-    let slots = [yes, None, no, yes, yes, None, None, no, yes, None, no];
-    let array = BooleanArray::from(rt.alloc(), slots.as_slice()).expect(&rt, "memory");
-    let are_slots = are_parts(&rt, array, &slots);
-    let values = [
-        true, false, false, true, true, false, true, false, true, false, false,
-    ];
-    let array = BooleanArray::from_slice(rt.alloc(), values.as_slice()).expect(&rt, "memory");
-    let valid = [yes, no, no, yes, yes, no, yes, no, yes, no, no];
-    assert!(rt; are_slots & are_parts(&rt, array, &valid));
+fn ranges_are_read_from_both_ends(rt: HostRuntime) {
+    for (case, slots, start, offset, expected, reversed) in CASES {
+        let mut array = BooleanArray::from(rt.alloc(), *slots).expect(&rt, "memory");
+        assert!(rt; *start <= array.len());
+        array.slice(*start, array.len() - *start);
+        check(&rt, *case, &array, *offset, *expected, *reversed);
+        drop(array);
+    }
 }

@@ -1,60 +1,84 @@
-// Slots are written as texts: 't', 'f', and '_' for a null. Stored values and marks are texts of '1' and '0'.
+//! Arrays and builders of truth values. Slots are written as texts of `t`, `f`, and `_` for a null; stored values and
+//! marks as texts of `1` and `0`.
 mod extend_from_array;
 
 ghost use Rattle.std.specs.Prelude.{◌≡◌, length};
 
 use arrow_boolean::{BooleanArray, MutableBooleanArray};
-use arrow_memory::bitmap::{Bitmap, BitmapIter, MutableBitmap};
-use arrow_memory::zip_validity::ZipValidity;
+use arrow_memory::bitmap::{Bitmap, MutableBitmap};
+use arrow_testing::{same, same_bools, same_growing_mask, same_marks, same_mask};
 use arrow_types::data_type::DataType;
-use either::{Left, Right};
-use std::alloc::Global;
 use std::process::Abort;
 
-/// The slot that a letter writes.
-fn slot(letter: u8) -> Option<bool> {
-    match letter {
-        b't' => Some(true),
-        b'f' => Some(false),
-        _ => None,
-    }
+/// Compares the slots, stored values and mask of an array with these texts, and drops it.
+fn check(rt: &impl Abort, case: &str, array: BooleanArray, slots: &str, values: &str, mask: &str) {
+    same_bools(array.iter(), slots).expect(rt, case);
+    same_bools((&array).into_iter(), slots).expect(rt, case);
+    same_marks(array.values_iter(), values).expect(rt, case);
+    same_mask(array.validity(), mask).expect(rt, case);
+    drop(array);
 }
 
-/// Whether these are the slots that a text writes, and no more.
-fn shows(mut slots: ZipValidity<BitmapIter<'_>, BitmapIter<'_>>, text: &str) -> bool {
-    for letter in text.as_bytes() {
-        if slots.next() != Some(slot(*letter)) {
-            return false;
-        }
-    }
-    slots.next().is_none()
+/// Compares the slots, stored values and mask of a builder with these texts.
+fn check_builder(
+    rt: &impl Abort,
+    case: &str,
+    builder: &MutableBooleanArray,
+    slots: &str,
+    values: &str,
+    mask: &str,
+) {
+    same_bools(builder.iter(), slots).expect(rt, case);
+    same_bools(builder.into_iter(), slots).expect(rt, case);
+    same_marks(builder.values_iter(), values).expect(rt, case);
+    same_growing_mask(builder.validity(), mask).expect(rt, case);
 }
 
-/// Whether these are the bits that a text writes, and no more.
-fn gives(mut bits: BitmapIter<'_>, text: &str) -> bool {
-    for bit in text.as_bytes() {
-        if bits.next() != Some(*bit == b'1') {
-            return false;
-        }
-    }
-    bits.next().is_none()
+/// True, null, false.
+const THREE: [Option<bool>; 3] = [Some(true), None, Some(false)];
+
+#[test]
+fn arrays_have_a_mask_only_for_nulls(rt: HostRuntime) {
+    let (alloc, valid) = (rt.alloc(), [Some(true), Some(false)].as_slice());
+    let nulls = BooleanArray::new_null(alloc, DataType::Boolean, 3).expect(&rt, "memory");
+    check(&rt, "new_null", nulls, "___", "000", "000");
+    let slots = BooleanArray::from(alloc, valid).expect(&rt, "memory");
+    check(&rt, "from, no null", slots, "tf", "10", "none");
+    let values = BooleanArray::from_slice(alloc, [true, false].as_slice());
+    check(
+        &rt,
+        "from_slice",
+        values.expect(&rt, "memory"),
+        "tf",
+        "10",
+        "none",
+    );
+    let empty = BooleanArray::new_empty(alloc, DataType::Boolean).expect(&rt, "memory");
+    check(&rt, "new_empty", empty, "", "", "none");
 }
 
-/// Whether an array has these slots, stores these values, and holds a mask or none.
-fn is(array: &BooleanArray, slots: &str, values: &str, held: bool) -> bool {
-    let is_held = array.validity().is_some() == held;
-    let are_slots = shows(array.iter(), slots) & shows(array.into_iter(), slots);
-    are_slots & gives(array.values_iter(), values) & is_held
+#[test]
+fn a_null_that_is_overwritten_leaves_its_mask(rt: HostRuntime) {
+    let mut builder = MutableBooleanArray::new(rt.alloc());
+    builder.push(None).expect(&rt, "memory");
+    assert!(rt; builder.len() == 1);
+    builder.set(0, Some(true)).expect(&rt, "memory");
+    let array = builder.freeze().expect(&rt, "memory");
+    check(&rt, "overwritten", array, "t", "1", "1");
 }
 
-/// Whether a builder has these slots, stores these values, and holds a mask or none.
-fn is_built(builder: &MutableBooleanArray, slots: &str, values: &str, held: bool) -> bool {
-    let is_held = builder.validity().is_some() == held;
-    let are_slots = shows(builder.iter(), slots) & shows(builder.into_iter(), slots);
-    are_slots & gives(builder.values_iter(), values) & is_held
+#[test]
+fn the_mask_stays_if_values_are_replaced(rt: HostRuntime) {
+    let array = BooleanArray::from(rt.alloc(), THREE.as_slice()).expect(&rt, "memory");
+    let values = Bitmap::from_slice(rt.alloc(), [false, true, true].as_slice());
+    let values = values.expect(&rt, "memory");
+    assert!(rt; array.len() == values.len());
+    let replaced = array.with_values(values).expect(&rt, "memory");
+    drop(array);
+    check(&rt, "with_values", replaced, "f_t", "011", "101");
 }
 
-/// Three marks the other way round; others as they are.
+/// Reverses three marks; leaves others as they are.
 fn reversed(marks: MutableBitmap) -> MutableBitmap
     ensures { length result ≡ length marks }
 {
@@ -67,151 +91,96 @@ fn reversed(marks: MutableBitmap) -> MutableBitmap
     marks
 }
 
-/// True, null, false.
-fn three(alloc: Global, rt: &impl Abort) -> BooleanArray {
-    BooleanArray::from(alloc, [Some(true), None, Some(false)].as_slice()).expect(rt, "memory")
-}
-
-/// Whether an array that is given away has these slots, stores these values, and holds a mask or none.
-fn made(array: BooleanArray, slots: &str, values: &str, held: bool) -> bool {
-    let is = is(&array, slots, values, held);
-    drop(array);
-    is
-}
-
-/// The array of a null that was overwritten, whose mask is held, though no slot is null.
-fn overwritten(alloc: Global, rt: &impl Abort) -> BooleanArray {
-    let mut builder = MutableBooleanArray::new(alloc);
-    builder.push(None).expect(rt, "memory");
-    assert!(rt; builder.len() == 1);
-    builder.set(0, Some(true)).expect(rt, "memory");
-    builder.freeze().expect(rt, "memory")
-}
-
-/// An array's slots under other values.
-fn replaced(alloc: Global, rt: &impl Abort) -> BooleanArray {
-    let array = three(alloc, rt);
-    let values = Bitmap::from_slice(alloc, [false, true, true].as_slice()).expect(rt, "memory");
-    assert!(rt; array.len() == values.len());
-    array.with_values(values).expect(rt, "memory")
-}
-
-/// Nulls have a mask; what is made without one, or packed, or empty, has none; a mask is held that comes to have no null, and
-/// stays where values are replaced.
 #[test]
-fn arrays_have_a_mask_for_nulls(rt: HostRuntime) {
-    let (alloc, slots) = (rt.alloc(), [Some(true), Some(false)].as_slice());
-    let overwritten = made(overwritten(alloc, &rt), "t", "1", true);
-    let replaced = made(replaced(alloc, &rt), "f_t", "011", true);
-    let array = BooleanArray::new_null(alloc, DataType::Boolean, 3).expect(&rt, "memory");
-    let nulls = made(array, "___", "000", true);
-    let array = BooleanArray::from(alloc, slots).expect(&rt, "memory");
-    let valid = made(array, "tf", "10", false);
-    let array = BooleanArray::from_slice(alloc, [true, false].as_slice()).expect(&rt, "memory");
-    let packed = made(array, "tf", "10", false);
-    let array = BooleanArray::new_empty(alloc, DataType::Boolean).expect(&rt, "memory");
-    let empty = made(array, "", "", false);
-    assert!(rt; overwritten & replaced & nulls & valid & packed & empty);
+fn changes_of_a_clone_leave_the_first(rt: HostRuntime) {
+    let first = BooleanArray::from(rt.alloc(), THREE.as_slice()).expect(&rt, "memory");
+    let mut second = first.clone().expect(&rt, "memory");
+    second.apply_values_mut(reversed).expect(&rt, "memory");
+    check(&rt, "the clone", second, "f_t", "001", "101");
+    check(&rt, "the first", first, "t_f", "100", "101");
 }
 
-/// Whether the values of a clone are reversed, and the first keeps its own.
-fn reverses(alloc: Global, rt: &impl Abort) -> bool {
-    let first = three(alloc, rt);
-    let mut second = first.clone().expect(rt, "memory");
-    second.apply_values_mut(reversed).expect(rt, "memory");
-    made(second, "f_t", "001", true) & made(first, "t_f", "100", true)
+#[test]
+fn an_array_thaws_once_no_clone_shares_it(rt: HostRuntime) {
+    let first = BooleanArray::from(rt.alloc(), THREE.as_slice()).expect(&rt, "memory");
+    let second = first.clone().expect(&rt, "memory");
+    let second = second
+        .into_mut()
+        .left()
+        .expect(&rt, "a shared array stays frozen");
+    drop(second);
+    let builder = first.into_mut().right().expect(&rt, "an array alone thaws");
+    drop(builder);
 }
 
-/// Whether an array is thawed.
-fn thaws(array: BooleanArray) -> bool {
-    match array.into_mut() {
-        Left(array) => {
-            drop(array);
-            false
-        }
-        Right(builder) => {
-            drop(builder);
-            true
-        }
+#[test]
+fn builders_grow_slot_by_slot(rt: HostRuntime) {
+    let mut builder = MutableBooleanArray::with_capacity(rt.alloc(), 1).expect(&rt, "memory");
+    builder.reserve(100).expect(&rt, "memory");
+    builder.try_push(Some(true)).expect(&rt, "memory");
+    builder.push_null().expect(&rt, "memory");
+    builder.shrink_to_fit().expect(&rt, "memory");
+    check_builder(&rt, "pushed", &builder, "t_", "10", "10");
+    let popped = [builder.pop(), builder.pop()];
+    drop(builder);
+    same(popped, [None, Some(true)]).expect(&rt, "pop");
+}
+
+#[test]
+fn builders_grow_by_iterators(rt: HostRuntime) {
+    let mut builder = MutableBooleanArray::default(rt.alloc());
+    let (values, slots) = ([true, false], [None]);
+    builder
+        .extend_values(values.into_iter())
+        .expect(&rt, "memory");
+    builder.try_extend(slots.into_iter()).expect(&rt, "memory");
+    let copy = builder.clone().expect(&rt, "memory");
+    drop(builder);
+    check_builder(&rt, "the clone", &copy, "tf_", "100", "110");
+    drop(copy);
+}
+
+/// A name, the slots of two builders, and those of the first after it took the second's.
+type Joined = (
+    &'static str,
+    &'static [Option<bool>],
+    &'static [Option<bool>],
+    &'static str,
+);
+
+const JOINED: &[Joined] = &[
+    (
+        "a null in the second",
+        &[Some(true), Some(false)],
+        &[None, Some(true)],
+        "tf_t",
+    ),
+    (
+        "a null in the first",
+        &[None, Some(true)],
+        &[Some(true), Some(false)],
+        "_ttf",
+    ),
+];
+
+#[test]
+fn builders_grow_by_builders(rt: HostRuntime) {
+    for (case, first, second, joined) in JOINED {
+        let mut builder = MutableBooleanArray::from(rt.alloc(), *first).expect(&rt, "memory");
+        let other = MutableBooleanArray::from(rt.alloc(), *second).expect(&rt, "memory");
+        builder.try_extend_from_self(&other).expect(&rt, "memory");
+        drop(other);
+        same_bools(builder.iter(), *joined).expect(&rt, *case);
+        drop(builder);
     }
 }
 
-/// Whether an array is thawed while its clone lives, and once none does.
-fn sides(alloc: Global, rt: &impl Abort) -> (bool, bool) {
-    let first = three(alloc, rt);
-    let second = first.clone().expect(rt, "memory");
-    let shared = thaws(second);
-    (shared, thaws(first))
-}
-
-/// Changes leave other owners, and arrays thaw where nothing shares them.
 #[test]
-fn arrays_share_their_memory(rt: HostRuntime) {
-    let is_reversed = reverses(rt.alloc(), &rt);
-    assert!(rt; is_reversed & (sides(rt.alloc(), &rt) == (false, true)));
-}
-
-/// Whether a builder with room grows slot by slot, and gives its last slots back.
-fn grows(alloc: Global, rt: &impl Abort) -> bool {
-    let mut builder = MutableBooleanArray::with_capacity(alloc, 1).expect(rt, "memory");
-    builder.reserve(100).expect(rt, "memory");
-    builder.try_push(Some(true)).expect(rt, "memory");
-    builder.push_null().expect(rt, "memory");
-    builder.shrink_to_fit().expect(rt, "memory");
-    let are_there = is_built(&builder, "t_", "10", true);
-    let (last, first) = (builder.pop(), builder.pop());
-    drop(builder);
-    are_there & last.is_none() & (first == Some(true))
-}
-
-/// Whether the copy of a builder has the slots that this was extended by.
-fn extends(alloc: Global, rt: &impl Abort) -> bool {
-    let mut builder = MutableBooleanArray::default(alloc);
-    builder
-        .extend_values([true, false].into_iter())
-        .expect(rt, "memory");
-    builder.try_extend([None].into_iter()).expect(rt, "memory");
-    let copy = builder.clone().expect(rt, "memory");
-    drop(builder);
-    let is_copied = is_built(&copy, "tf_", "100", true);
-    drop(copy);
-    is_copied
-}
-
-/// Whether the slots of one builder behind those of another are these.
-fn joined(
-    alloc: Global,
-    rt: &impl Abort,
-    first: &[Option<bool>],
-    second: &[Option<bool>],
-    slots: &str,
-) -> bool {
-    let mut builder = MutableBooleanArray::from(alloc, first).expect(rt, "memory");
-    let other = MutableBooleanArray::from(alloc, second).expect(rt, "memory");
-    builder.try_extend_from_self(&other).expect(rt, "memory");
-    drop(other);
-    let are_joined = shows(builder.iter(), slots);
-    drop(builder);
-    are_joined
-}
-
-#[test]
-fn builders_grow(rt: HostRuntime) {
-    let no_null = [Some(true), Some(false)].as_slice();
-    let null = [None, Some(true)].as_slice();
-    let grow = grows(rt.alloc(), &rt) & extends(rt.alloc(), &rt);
-    let is_masked = joined(rt.alloc(), &rt, no_null, null, "tf_t");
-    assert!(rt; grow & is_masked & joined(rt.alloc(), &rt, null, no_null, "_ttf"));
-}
-
-/// The last two slots of three are given by value, from both ends.
-#[test]
-fn slots_come_by_value(rt: HostRuntime) {
-    let slots = [Some(true), None, Some(false)];
-    let array = BooleanArray::from_iter(rt.alloc(), slots.into_iter()).expect(&rt, "memory");
+fn owned_slots_of_a_slice_come_from_both_ends(rt: HostRuntime) {
+    let array = BooleanArray::from_iter(rt.alloc(), THREE.into_iter()).expect(&rt, "memory");
     assert!(rt; array.len() == 3);
     let mut slots = array.sliced(1, 2).into_iter();
-    let ends = (slots.next_back(), slots.next(), slots.next());
+    let ends = [slots.next_back(), slots.next(), slots.next()];
     drop(slots);
-    assert!(rt; ends == (Some(Some(false)), Some(None), None));
+    same(ends, [Some(Some(false)), Some(None), None]).expect(&rt, "from both ends");
 }

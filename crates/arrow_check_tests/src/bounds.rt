@@ -1,76 +1,75 @@
 //! Offsets over values of some length.
 use arrow_check::bounds::{check_bounds, check_last};
-use arrow_testing::{frozen_offsets, offsets_of, tells};
+use arrow_testing::{offsets_of, same, tells};
 use arrow_types::offset::Offset;
-use std::alloc::Global;
 use std::process::Abort;
 
 const PAST: &str = "offsets must not exceed the values length";
 
 const ELSEWHERE: &str = "the last offset must equal the values length";
 
-/// Offsets, the number of values, and what is told of them.
-type Case = (&'static [usize], usize, &'static str);
+/// A name, offsets, the number of values, and the expected answers of `check_bounds` and of `check_last`.
+type Case = (&'static str, &'static [usize], usize, [&'static str; 2]);
 
-/// Returns the answer of `check_bounds` for these offsets and this number of values, as text.
-fn bounds<O: Offset>(
-    alloc: Global,
-    rt: &impl Abort,
-    offsets: &[usize],
-    values_len: usize,
-) -> &'static str {
-    let offsets = offsets_of::<O>(alloc, offsets).expect(rt, "offsets");
-    let told = tells(check_bounds(offsets.as_slice(), values_len));
-    drop(offsets);
-    told
+/// Compares the answers for offsets of a width.
+fn check<O: Offset>(rt: &(impl Abort + AllocGlobal), cases: &[Case]) {
+    for (case, numbers, values_len, expected) in cases {
+        let offsets = offsets_of::<O>(rt.alloc(), *numbers).expect(rt, "offsets");
+        let came = [
+            tells(check_bounds(offsets.as_slice(), *values_len)),
+            tells(check_last(offsets.as_slice(), *values_len)),
+        ];
+        drop(offsets);
+        same(came, *expected).expect(rt, *case);
+    }
 }
 
-const WITHIN: &[Case] = &[
-    (&[0, 4], 4, "made"),
-    (&[0, 4], 3, PAST),
-    (&[0, 4], 5, "made"),
-    (&[5], 0, PAST),
-    (&[0], 0, "made"),
-    (&[1, 1, 2147483647], 2147483646, PAST),
+const NARROW: &[Case] = &[
+    ("up to the values' end", &[0, 4], 4, ["made", "made"]),
+    ("one past the values", &[0, 4], 3, [PAST, ELSEWHERE]),
+    (
+        "one before the values' end",
+        &[0, 4],
+        5,
+        ["made", ELSEWHERE],
+    ),
+    ("past no value", &[5], 0, [PAST, ELSEWHERE]),
+    ("no slot, no value", &[0], 0, ["made", "made"]),
+    ("not from zero", &[1, 4], 4, ["made", "made"]),
+    (
+        "the greatest offset",
+        &[1, 1, 2147483647],
+        2147483646,
+        [PAST, ELSEWHERE],
+    ),
 ];
 
-const WITHIN_MANY: &[Case] = &[
-    (&[0, 9223372036854775807], usize::MAX, "made"),
-    (&[0, 9223372036854775807], 4294967295, PAST),
+const WIDE: &[Case] = &[
+    (
+        "the greatest offset",
+        &[0, 9223372036854775807],
+        usize::MAX,
+        ["made", ELSEWHERE],
+    ),
+    (
+        "past 32 bits",
+        &[0, 9223372036854775807],
+        4294967295,
+        [PAST, ELSEWHERE],
+    ),
+    (
+        "one before the values' end",
+        &[0, 3],
+        4,
+        ["made", ELSEWHERE],
+    ),
+    ("up to the values' end", &[0, 4], 4, ["made", "made"]),
+    ("one past the values", &[0, 4], 3, [PAST, ELSEWHERE]),
+    ("no slot, no value", &[0], 0, ["made", "made"]),
 ];
 
 #[test]
-fn the_last_offset_lies_within_the_values(rt: HostRuntime) {
-    for (offsets, values_len, wanted) in WITHIN {
-        assert!(rt; bounds::<i32>(rt.alloc(), &rt, *offsets, *values_len) == *wanted);
-    }
-    for (offsets, values_len, wanted) in WITHIN_MANY {
-        assert!(rt; bounds::<i64>(rt.alloc(), &rt, *offsets, *values_len) == *wanted);
-    }
-}
-
-/// Returns the answer of `check_last` for these offsets and this number of values, as text.
-fn last(alloc: Global, rt: &impl Abort, offsets: &[usize], values_len: usize) -> &'static str {
-    let offsets = offsets_of::<i64>(alloc, offsets).expect(rt, "offsets");
-    let told = tells(check_last(offsets.as_slice(), values_len));
-    drop(offsets);
-    told
-}
-
-const AT_THE_END: &[Case] = &[
-    (&[0, 3], 4, ELSEWHERE),
-    (&[0, 4], 4, "made"),
-    (&[0, 4], 3, ELSEWHERE),
-    (&[0], 0, "made"),
-];
-
-#[test]
-fn the_last_offset_is_where_the_values_end(rt: HostRuntime) {
-    for (offsets, values_len, wanted) in AT_THE_END {
-        assert!(rt; last(rt.alloc(), &rt, *offsets, *values_len) == *wanted);
-    }
-    let frozen = frozen_offsets::<i32>(rt.alloc(), [1, 4].as_slice()).expect(&rt, "offsets");
-    let told = tells(check_last(frozen.buffer().as_slice(), 4));
-    drop(frozen);
-    assert!(rt; told == "made");
+fn the_last_offset_lies_within_the_values_or_at_their_end(rt: HostRuntime) {
+    check::<i32>(&rt, NARROW);
+    check::<i64>(&rt, WIDE);
 }

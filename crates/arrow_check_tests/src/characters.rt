@@ -1,7 +1,7 @@
-//! Every boundary of Unicode's table of characters (Unicode Standard, Table 3-7), in every place of a window.
+//! Every boundary of Unicode's table of characters (Unicode Standard, Table 3-7), at every index of a window.
 use arrow_check::cost::{TextBytes, TextCost};
 use arrow_check::text::check_utf8;
-use arrow_testing::offsets_of;
+use arrow_testing::{offsets_of, same};
 use std::alloc::Global;
 use std::process::Abort;
 
@@ -18,7 +18,7 @@ const ROWS: [&[(u8, u8)]; 9] = [
     &[(0xF4, 0xF4), (0x80, 0x8F), (0x80, 0xBF), (0x80, 0xBF)],
 ];
 
-/// Whether bytes begin with a character of a row.
+/// Returns whether bytes begin with a character of a row.
 fn begins_with(bytes: &[u8], row: &[(u8, u8)]) -> bool {
     if bytes.len() < row.len() {
         return false;
@@ -31,8 +31,8 @@ fn begins_with(bytes: &[u8], row: &[(u8, u8)]) -> bool {
     true
 }
 
-/// The bytes behind the first character; none where no character begins them.
-fn behind_character(bytes: &[u8]) -> Option<&[u8]> {
+/// Returns the bytes after the first character, or `None` if no character begins them.
+fn after_character(bytes: &[u8]) -> Option<&[u8]> {
     for row in ROWS {
         if begins_with(bytes, row) {
             return bytes.get(row.len()..);
@@ -41,19 +41,19 @@ fn behind_character(bytes: &[u8]) -> Option<&[u8]> {
     None
 }
 
-/// Whether bytes are characters, one behind the other.
+/// Returns whether bytes are characters, one after the other.
 fn are_characters(bytes: &[u8]) -> bool {
     let mut rest = bytes;
     for _ in 0..bytes.len() {
-        match behind_character(rest) {
-            Some(behind) => rest = behind,
+        match after_character(rest) {
+            Some(after) => rest = after,
             None => return rest.is_empty(),
         }
     }
     rest.is_empty()
 }
 
-/// Whether the bytes between two places are characters, one behind the other.
+/// Returns whether the bytes between two indexes are characters, one after the other.
 fn is_text_between(bytes: &[u8], start: usize, end: usize) -> bool {
     match bytes.get(start..end) {
         Some(item) => are_characters(item),
@@ -61,7 +61,7 @@ fn is_text_between(bytes: &[u8], start: usize, end: usize) -> bool {
     }
 }
 
-/// One below the least, the least, the greatest, or one above the greatest of a range.
+/// Returns one below the least, the least, the greatest, or one above the greatest of a range.
 fn boundary(range: (u8, u8), which: usize) -> u8 {
     match which {
         0 => range.0.saturating_sub(1),
@@ -71,8 +71,8 @@ fn boundary(range: (u8, u8), which: usize) -> u8 {
     }
 }
 
-/// Bytes at the boundaries of a row, each of which is chosen by two bits of a number, between ASCII neighbours, with
-/// bytes before and behind that are no text.
+/// Creates bytes at the boundaries of a row, each of which is chosen by two bits of a number, between ASCII
+/// neighbours, with bytes before and after that are no text.
 fn around(
     alloc: Global,
     rt: &impl Abort,
@@ -97,74 +97,53 @@ fn around(
     bytes
 }
 
-/// Whether two items, one behind the other, are accepted exactly if each is text by itself.
-fn are_cut_right(
-    alloc: Global,
-    rt: &impl Abort,
-    bytes: &[u8],
-    [start, cut, end]: [usize; 3],
-) -> bool {
-    let offsets = offsets_of::<i32>(alloc, [start, cut, end].as_slice()).expect(rt, "offsets");
+/// Compares whether two items, one after the other, are accepted with whether each is text by itself.
+fn check_cut(rt: &(impl Abort + AllocGlobal), bytes: &[u8], [start, cut, end]: [usize; 3]) {
+    let offsets = offsets_of::<i32>(rt.alloc(), [start, cut, end].as_slice());
+    let offsets = offsets.expect(rt, "offsets");
     let mut text = TextBytes::new(bytes, TextCost::new());
-    let is_accepted = check_utf8(offsets.as_slice(), &mut text).is_ok();
+    let came = check_utf8(offsets.as_slice(), &mut text).is_ok();
     drop(offsets);
-    let is_first = is_text_between(bytes, start, cut);
-    is_accepted == (is_first & is_text_between(bytes, cut, end))
+    let expected = is_text_between(bytes, start, cut) & is_text_between(bytes, cut, end);
+    // Texts are made of a failure alone, since there are many windows.
+    if came != expected {
+        let (first, second) = (bytes.get(start..cut), bytes.get(cut..end));
+        same((first, second, came), (first, second, expected)).expect(rt, "two items");
+    }
 }
 
-/// Whether windows that begin before so many ASCII bytes are judged right, cut at and ended at each place behind these.
-fn are_long_windows_right(alloc: Global, rt: &impl Abort, bytes: &[u8], before: usize) -> bool {
+/// Checks windows that begin before `before` ASCII bytes, cut at and ended at each byte after these.
+fn check_long_windows(rt: &(impl Abort + AllocGlobal), bytes: &[u8], before: usize) {
     for cut in before..bytes.len() {
         for end in cut..bytes.len() {
-            if !are_cut_right(alloc, rt, bytes, [1, cut, end]) {
-                return false;
-            }
+            check_cut(rt, bytes, [1, cut, end]);
         }
     }
-    true
 }
 
-/// Whether windows that begin at each place are, cut at and ended at each place.
-fn are_windows_right(alloc: Global, rt: &impl Abort, bytes: &[u8]) -> bool {
+/// Checks windows that begin at each byte, cut at and ended at each byte.
+fn check_windows(rt: &(impl Abort + AllocGlobal), bytes: &[u8]) {
     for cut in 1..bytes.len() {
         for start in 1..cut + 1 {
             for end in cut..bytes.len() {
-                if !are_cut_right(alloc, rt, bytes, [start, cut, end]) {
-                    return false;
-                }
+                check_cut(rt, bytes, [start, cut, end]);
             }
         }
     }
-    true
 }
 
-/// Whether at most one of the bytes that a number chooses isn't the least of its range.
+/// Returns whether at most one of the bytes that a number chooses isn't the least of its range.
 fn is_simple(choice: usize) -> bool {
     let others = choice ^ 0b01_01_01_01;
     let differing = (others | others >> 1) & 0b01_01_01_01;
     differing & differing.saturating_sub(1) == 0
 }
 
-/// Whether the boundaries of a row that a number chooses are judged right, in every place.
-fn is_choice_right(alloc: Global, rt: &impl Abort, row: &[(u8, u8)], choice: usize) -> bool {
-    let bytes = around(alloc, rt, row, choice, 1);
-    let is_right = are_windows_right(alloc, rt, bytes.as_slice());
+/// Checks the boundaries of a row that a number chooses after `before` bytes of ASCII.
+fn check_after(rt: &(impl Abort + AllocGlobal), row: &[(u8, u8)], choice: usize, before: usize) {
+    let bytes = around(rt.alloc(), rt, row, choice, before);
+    check_long_windows(rt, bytes.as_slice(), before);
     drop(bytes);
-    is_right
-}
-
-/// Whether they are judged right after `before` bytes of ASCII.
-fn is_choice_right_behind(
-    alloc: Global,
-    rt: &impl Abort,
-    row: &[(u8, u8)],
-    choice: usize,
-    before: usize,
-) -> bool {
-    let bytes = around(alloc, rt, row, choice, before);
-    let is_right = are_long_windows_right(alloc, rt, bytes.as_slice(), before);
-    drop(bytes);
-    is_right
 }
 
 #[test]
@@ -172,7 +151,9 @@ fn each_boundary_of_the_table(rt: HostRuntime) {
     for row in ROWS.iter() {
         for choice in 0..256_usize {
             if choice >> (2 * row.len()).min(63) == 0 {
-                assert!(rt; is_choice_right(rt.alloc(), &rt, *row, choice));
+                let bytes = around(rt.alloc(), &rt, *row, choice, 1);
+                check_windows(&rt, bytes.as_slice());
+                drop(bytes);
             }
         }
     }
@@ -185,7 +166,7 @@ fn characters_across_blocks_of_64_bytes(rt: HostRuntime) {
         for row in ROWS.iter() {
             for choice in 0..256_usize {
                 if is_simple(choice) {
-                    assert!(rt; is_choice_right_behind(rt.alloc(), &rt, *row, choice, before));
+                    check_after(&rt, *row, choice, before);
                 }
             }
         }
@@ -195,8 +176,7 @@ fn characters_across_blocks_of_64_bytes(rt: HostRuntime) {
 #[test]
 fn characters_across_long_parts(rt: HostRuntime) {
     for before in 8189..8192_usize {
-        let choice = 0b01_01_01_01;
-        let is_short = is_choice_right_behind(rt.alloc(), &rt, ROWS[1], choice, before);
-        assert!(rt; is_short & is_choice_right_behind(rt.alloc(), &rt, ROWS[7], choice, before));
+        check_after(&rt, ROWS[1], 0b01_01_01_01, before);
+        check_after(&rt, ROWS[7], 0b01_01_01_01, before);
     }
 }

@@ -1,7 +1,8 @@
 //! The acts by which bytes are read, and their counts.
 use arrow_check::cost::{TextBytes, TextCost};
+use arrow_testing::same;
 
-/// The counts of a cost.
+/// Returns the counts of a cost.
 fn counts(cost: TextCost) -> [u64; 3] {
     [cost.ascii_tests(), cost.whole_tests(), cost.bytes_looked()]
 }
@@ -10,11 +11,13 @@ fn counts(cost: TextCost) -> [u64; 3] {
 fn each_act_is_counted_once(rt: HostRuntime) {
     let bytes = [0x61, 0xC3, 0xA9, 0x7F];
     let mut text = TextBytes::new(bytes.as_slice(), TextCost::new());
-    let are_ascii = text.ascii(0, 1) & !text.ascii(0, 4) & text.ascii(3, 1);
-    let are_texts = text.whole_test(0, 3) & !text.whole_test(0, 2);
-    let is_seen = text.look(1) == 0xC3;
-    let is_counted = counts(text.cost()) == [3, 2, 1];
-    assert!(rt; are_ascii & are_texts & is_seen & is_counted & (text.len() == 4));
+    let are_ascii = [text.ascii(0, 1), text.ascii(0, 4), text.ascii(3, 1)];
+    let are_texts = [text.whole_test(0, 3), text.whole_test(0, 2)];
+    let byte = text.look(1);
+    same(counts(text.cost()), [3, 2, 1]).expect(&rt, "the counts");
+    same(are_ascii, [true, false, true]).expect(&rt, "ascii");
+    same(are_texts, [true, false]).expect(&rt, "whole_test");
+    same((byte, text.len()), (0xC3, 4)).expect(&rt, "look and len");
 }
 
 #[test]
@@ -24,6 +27,6 @@ fn counts_go_on_from_those_before(rt: HostRuntime) {
     let first = text.whole_test(0, 1);
     let mut again = TextBytes::new(bytes.as_slice(), text.cost());
     let second = again.whole_test(0, 0);
-    let is_counted = counts(again.cost()) == [0, 2, 0];
-    assert!(rt; first & second & is_counted);
+    same(counts(again.cost()), [0, 2, 0]).expect(&rt, "the counts");
+    same([first, second], [true, true]).expect(&rt, "a letter, and nothing");
 }

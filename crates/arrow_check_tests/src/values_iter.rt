@@ -1,9 +1,10 @@
 //! The iterator over an array's items, and an array of the tests' own.
 use arrow_check::accessor::ArrayAccessor;
 use arrow_check::values_iter::ArrayValuesIter;
-use arrow_memory::bitmap::{BitmapIter, MutableBitmap};
+use arrow_memory::bitmap::MutableBitmap;
 use arrow_memory::list_iter::ListIter;
 use arrow_memory::zip_validity::ZipValidity;
+use arrow_testing::same;
 
 /// An array of numbers.
 #[derive(Drop)]
@@ -36,82 +37,52 @@ impl<'a> ArrayAccessor<'a> for Numbers {
     }
 }
 
-/// The numbers 10, 20 and 30.
-fn tens() -> Numbers {
-    Numbers {
-        numbers: [10, 20, 30],
-    }
-}
+const TENS: Numbers = Numbers {
+    numbers: [10, 20, 30],
+};
 
-/// Whether this number was lent.
-fn is(item: Option<&u64>, wanted: u64) -> bool {
-    match item {
-        Some(number) => *number == wanted,
-        None => false,
-    }
-}
-
-/// Whether three items come from both ends.
-fn turns(array: &Numbers) -> bool {
-    let mut items = ArrayValuesIter::new(array);
-    let ends = (items.len() == 3) & is(items.next(), 10) & is(items.next_back(), 30);
-    let is_sized = items.size_hint() == (1, Some(1));
-    let is_left = (items.len() == 1) & is(items.nth(0), 20);
-    let is_ended = items.next().is_none() & items.next_back().is_none();
-    ends & is_sized & is_left & is_ended & (items.len() == 0)
+#[test]
+fn items_come_from_both_ends(rt: HostRuntime) {
+    let mut items = ArrayValuesIter::new(&TENS);
+    same(items.len(), 3).expect(&rt, "items at first");
+    same([items.next(), items.next_back()], [Some(&10), Some(&30)]).expect(&rt, "both ends");
+    same((items.len(), items.size_hint()), (1, (1, Some(1)))).expect(&rt, "items left");
+    let came = [items.nth(0), items.next(), items.next_back()];
+    same(came, [Some(&20), None, None]).expect(&rt, "the last item");
+    same(items.len(), 0).expect(&rt, "items at the end");
 }
 
 #[test]
-fn turns_from_both_ends(rt: HostRuntime) {
-    assert!(rt; turns(&tens()));
-}
-
-/// Returns whether ranges of three items give the right items, from both ends.
-fn has_parts(array: &Numbers) -> bool {
-    if array.len() != 3 {
-        return false;
-    }
-    let mut last = ArrayValuesIter::new_range(array, 1, 2);
-    let is_sized = last.len() == 2;
-    let are_last = is(last.next_back(), 30) & is(last.next(), 20) & last.next().is_none();
-    let mut first = ArrayValuesIter::new_range(array, 0, 1);
-    let is_first = is(first.next(), 10) & first.next().is_none();
-    let mut none = ArrayValuesIter::new_range(array, 3, 0);
-    is_sized & are_last & is_first & none.next().is_none()
+fn ranges_have_their_items(rt: HostRuntime) {
+    assert!(rt; TENS.len() == 3);
+    let mut last = ArrayValuesIter::new_range(&TENS, 1, 2);
+    same(last.len(), 2).expect(&rt, "the last two");
+    let came = [last.next_back(), last.next(), last.next()];
+    same(came, [Some(&30), Some(&20), None]).expect(&rt, "the last two");
+    let mut first = ArrayValuesIter::new_range(&TENS, 0, 1);
+    same([first.next(), first.next()], [Some(&10), None]).expect(&rt, "the first");
+    let mut none = ArrayValuesIter::new_range(&TENS, 3, 0);
+    same(none.next(), None).expect(&rt, "none at the end");
 }
 
 #[test]
-fn parts_have_their_items(rt: HostRuntime) {
-    assert!(rt; has_parts(&tens()));
-}
-
-/// Whether items are passed over, and none comes after the last.
-fn passes(array: &Numbers) -> bool {
-    let mut items = ArrayValuesIter::new(array);
-    let is_last = is(items.nth(2), 30) & items.next().is_none();
-    let mut items = ArrayValuesIter::new(array);
-    let is_past = items.nth(3).is_none() & items.next_back().is_none();
-    let mut items = ArrayValuesIter::new(array);
-    let is_far = is(items.next(), 10) & items.nth(usize::MAX).is_none();
-    is_last & is_past & is_far & (items.len() == 0)
+fn items_are_skipped_up_to_the_end(rt: HostRuntime) {
+    let mut items = ArrayValuesIter::new(&TENS);
+    same([items.nth(2), items.next()], [Some(&30), None]).expect(&rt, "two of three");
+    let mut items = ArrayValuesIter::new(&TENS);
+    same([items.nth(3), items.next_back()], [None, None]).expect(&rt, "three of three");
+    let mut items = ArrayValuesIter::new(&TENS);
+    same([items.next(), items.nth(usize::MAX)], [Some(&10), None]).expect(&rt, "more than all");
+    same(items.len(), 0).expect(&rt, "items at the end");
 }
 
 #[test]
-fn items_are_passed_over(rt: HostRuntime) {
-    assert!(rt; passes(&tens()));
-}
-
-/// Whether a clone goes on from where the first is.
-fn clones(array: &Numbers) -> bool {
-    let mut items = ArrayValuesIter::new(array);
-    let is_first = is(items.next(), 10);
+fn a_clone_goes_on_alone(rt: HostRuntime) {
+    let mut items = ArrayValuesIter::new(&TENS);
+    same(items.next(), Some(&10)).expect(&rt, "the first");
     let mut others = items.clone();
-    is_first & is(items.nth(1), 30) & (others.len() == 2) & is(others.next(), 20)
-}
-
-#[test]
-fn a_clone_goes_its_own_way(rt: HostRuntime) {
-    assert!(rt; clones(&tens()));
+    same(items.nth(1), Some(&30)).expect(&rt, "the third");
+    same((others.len(), others.next()), (2, Some(&20))).expect(&rt, "the clone");
 }
 
 /// The numbers as values under marks: another crate's trait is not given to another crate's iterator,
@@ -147,33 +118,17 @@ impl<'a> ListIter for NumberValues<'a> {
     }
 }
 
-/// Whether this slot was given.
-fn shows(slot: Option<Option<&u64>>, wanted: Option<u64>) -> bool {
-    match (slot, wanted) {
-        (Some(Some(number)), Some(wanted)) => *number == wanted,
-        (Some(None), None) => true,
-        _ => false,
-    }
-}
-
-/// Whether three items come under marks, of which the second is clear, from both ends.
-fn stand_under(array: &Numbers, marks: BitmapIter<'_>) -> bool {
-    let items = ArrayValuesIter::new(array);
-    if marks.len() != items.len() {
-        return false;
-    }
-    let mut slots = ZipValidity::new(NumberValues { items }, Some(marks));
-    let ends = shows(slots.next_back(), Some(30)) & shows(slots.next(), Some(10));
-    let is_sized = slots.size_hint() == (1, Some(1));
-    let is_null = shows(slots.next_back(), None);
-    ends & is_sized & is_null & slots.next().is_none() & slots.next_back().is_none()
-}
-
 #[test]
 fn items_stand_under_marks(rt: HostRuntime) {
     let marks = MutableBitmap::from_slice(rt.alloc(), [true, false, true].as_slice());
     let marks = marks.expect(&rt, "memory");
-    let are_under = stand_under(&tens(), marks.iter());
+    let items = ArrayValuesIter::new(&TENS);
+    assert!(rt; marks.len() == items.len());
+    let mut slots = ZipValidity::new(NumberValues { items }, Some(marks.iter()));
+    let ends = [slots.next_back(), slots.next()];
+    same(ends, [Some(Some(&30)), Some(Some(&10))]).expect(&rt, "both ends");
+    same(slots.size_hint(), (1, Some(1))).expect(&rt, "slots left");
+    let came = [slots.next_back(), slots.next(), slots.next_back()];
+    same(came, [Some(None), None, None]).expect(&rt, "the null between");
     drop(marks);
-    assert!(rt; are_under);
 }

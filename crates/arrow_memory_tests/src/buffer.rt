@@ -1,125 +1,96 @@
+//! Shared buffers of values.
 use arrow_memory::buffer::Buffer;
-use either::{Left, Right};
-use std::alloc::Global;
+use arrow_testing::same;
 use std::process::Abort;
 
-/// Three values.
-fn three(alloc: Global, rt: &impl Abort) -> Buffer<i64> {
-    let values = [7, 8, 9].to_vec(alloc).expect(rt, "memory");
+/// Creates a buffer of three values.
+fn three(rt: &(impl Abort + AllocGlobal)) -> Buffer<i64> {
+    let values = [7, 8, 9].to_vec(rt.alloc()).expect(rt, "memory");
     Buffer::from_vec(values).expect(rt, "memory")
 }
 
-/// Cuts a buffer, where the cut is there, and tells whether these values are left.
-fn cuts(buffer: &mut Buffer<i64>, offset: usize, len: usize, values: &[i64]) -> bool {
-    if offset <= buffer.len() && len <= buffer.len() - offset {
-        buffer.slice(offset, len);
-    }
-    buffer.as_slice() == values
-}
+/// A name, the slice of what the row before left, and its values.
+const CUTS: &[(&str, usize, usize, &[i64])] = &[
+    ("all", 0, 3, &[7, 8, 9]),
+    ("two", 1, 2, &[8, 9]),
+    ("the last", 1, 1, &[9]),
+    ("none", 1, 0, &[]),
+];
 
 #[test]
-fn slices_of_slices_add_their_places(rt: HostRuntime) {
-    let mut buffer = three(rt.alloc(), &rt);
-    let first = cuts(&mut buffer, 1, 2, [8, 9].as_slice());
-    let second = cuts(&mut buffer, 1, 1, [9].as_slice());
-    let third = cuts(&mut buffer, 1, 0, [].as_slice());
+fn slices_of_slices_add_their_offsets(rt: HostRuntime) {
+    let mut buffer = three(&rt);
+    for (case, offset, len, expected) in CUTS {
+        assert!(rt; *offset <= buffer.len() && *len <= buffer.len() - *offset);
+        buffer.slice(*offset, *len);
+        same(buffer.as_slice(), *expected).expect(&rt, *case);
+        same(buffer.is_empty(), expected.is_empty()).expect(&rt, *case);
+    }
     drop(buffer);
-    assert!(rt; first & second & third);
 }
 
 #[test]
 fn new_buffers_are_empty(rt: HostRuntime) {
     let wide = Buffer::<i64>::new(rt.alloc()).expect(&rt, "memory");
-    let is_wide = wide.len() == 0;
+    let len = wide.len();
     drop(wide);
     let narrow = Buffer::<u8>::new(rt.alloc()).expect(&rt, "memory");
-    let is_narrow = narrow.is_empty();
+    let is_empty = narrow.is_empty();
     drop(narrow);
-    assert!(rt; is_wide & is_narrow);
+    same((len, is_empty), (0, true)).expect(&rt, "len and is_empty");
 }
 
 #[test]
-fn slices_of_no_value_are_empty(rt: HostRuntime) {
-    let mut buffer = three(rt.alloc(), &rt);
-    let is_empty = buffer.is_empty();
-    let is_cut = cuts(&mut buffer, 3, 0, [].as_slice());
-    let is_cut_empty = buffer.is_empty();
+fn values_thaw_once_no_clone_shares_them(rt: HostRuntime) {
+    let first = three(&rt);
+    let second = first.clone().expect(&rt, "memory");
+    let first = first
+        .into_mut()
+        .left()
+        .expect(&rt, "shared values stay frozen");
+    drop(first);
+    let values = second.into_mut().right().expect(&rt, "values alone thaw");
+    drop(values);
+}
+
+/// A slice does not show the whole vector.
+#[test]
+fn slices_stay_frozen(rt: HostRuntime) {
+    let mut buffer = three(&rt);
+    assert!(rt; buffer.len() == 3);
+    buffer.slice(0, 2);
+    let buffer = buffer.into_mut().left().expect(&rt, "a slice stays frozen");
+    same(buffer.as_slice(), [7, 8].as_slice()).expect(&rt, "the slice");
     drop(buffer);
-    assert!(rt; !is_empty & is_cut & is_cut_empty);
 }
 
-/// Whether a buffer is thawed.
-fn thaws(frozen: Buffer<i64>) -> bool {
-    match frozen.into_mut() {
-        Left(frozen) => {
-            drop(frozen);
-            false
-        }
-        Right(thawed) => {
-            drop(thawed);
-            true
-        }
-    }
-}
-
-/// Whether it is thawed while a clone lives, and once it doesn't.
-fn sides(rt: &impl Abort, first: Buffer<i64>) -> (bool, bool) {
-    let second = first.clone().expect(rt, "memory");
-    let shared = thaws(first);
-    (shared, thaws(second))
-}
-
-#[test]
-fn values_thaw_where_nothing_shares_them(rt: HostRuntime) {
-    assert!(rt; sides(&rt, three(rt.alloc(), &rt)) == (false, true));
-}
-
-/// Whether the first two of three values are cut off, and are not thawed.
-fn stay_frozen(buffer: Buffer<i64>) -> bool {
-    let mut buffer = buffer;
-    let are_cut = cuts(&mut buffer, 0, 2, [7, 8].as_slice());
-    are_cut & !thaws(buffer)
-}
-
-/// A slice doesn't show the whole vector.
-#[test]
-fn slices_are_not_thawed(rt: HostRuntime) {
-    assert!(rt; stay_frozen(three(rt.alloc(), &rt)));
-}
-
-/// Writes at the first place, where there is one.
+/// Writes at the first index, if there is one.
 fn write_first(values: &mut [i64]) {
     if let Some(first) = values.first_mut() {
         *first = 5;
     }
 }
 
-/// Whether values are lent for writing while a clone lives, and once it doesn't.
-fn lends(rt: &impl Abort, first: &mut Buffer<i64>) -> (bool, bool) {
-    let second = first.clone().expect(rt, "memory");
-    let shared = first.get_mut_slice(write_first);
-    drop(second);
-    (shared, first.get_mut_slice(write_first))
-}
-
 #[test]
-fn values_are_lent_to_one_owner(rt: HostRuntime) {
-    let mut first = three(rt.alloc(), &rt);
-    let lent = lends(&rt, &mut first);
+fn values_are_lent_once_no_clone_shares_them(rt: HostRuntime) {
+    let mut first = three(&rt);
+    let second = first.clone().expect(&rt, "memory");
+    let is_lent = first.get_mut_slice(write_first);
+    drop(second);
+    let is_lent_alone = first.get_mut_slice(write_first);
     drop(first);
-    assert!(rt; lent == (false, true));
-}
-
-/// Whether three owned values are given from both ends.
-fn gives_owned(buffer: Buffer<i64>) -> bool {
-    let mut values = buffer.into_iter();
-    let ends = (values.next_back(), values.next(), values.next_back());
-    let is_over = values.next().is_none();
-    drop(values);
-    is_over & (ends == (Some(9), Some(7), Some(8)))
+    same([is_lent, is_lent_alone], [false, true]).expect(&rt, "beside a clone, and alone");
 }
 
 #[test]
 fn owned_values_come_from_both_ends(rt: HostRuntime) {
-    assert!(rt; gives_owned(three(rt.alloc(), &rt)));
+    let mut values = three(&rt).into_iter();
+    let came = [
+        values.next_back(),
+        values.next(),
+        values.next_back(),
+        values.next(),
+    ];
+    drop(values);
+    same(came, [Some(9), Some(7), Some(8), None]).expect(&rt, "7, 8, 9");
 }

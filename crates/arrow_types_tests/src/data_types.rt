@@ -3,6 +3,7 @@ ghost use Rattle.std.specs.Prelude.{IsTrue, ◌↔◌};
 ghost use Rattle.arrow_types.specs.Types.{logical_type, IsRightType};
 
 use crate::made::{timestamp, two_extensions};
+use arrow_testing::same;
 use arrow_types::data_type::DataType;
 use arrow_types::native_type::NativeType;
 use arrow_types::physical_type::PhysicalType;
@@ -11,7 +12,7 @@ use arrow_types::units::{IntervalUnit, TimeUnit};
 use std::process::Abort;
 
 #[test]
-fn types_lie_as_native_values(rt: HostRuntime) {
+fn types_of_native_values_have_their_layout(rt: HostRuntime) {
     let types = [
         (DataType::Int8, PrimitiveType::Int8),
         (DataType::Int16, PrimitiveType::Int16),
@@ -48,16 +49,15 @@ fn types_lie_as_native_values(rt: HostRuntime) {
             PrimitiveType::MonthDayNano,
         ),
     ];
-    let mut are_right = true;
     for (data_type, primitive) in types.iter() {
-        are_right &= data_type.to_physical_type() == PhysicalType::Primitive(*primitive);
+        let expected = PhysicalType::Primitive(*primitive);
+        same(data_type.to_physical_type(), expected).expect(&rt, "a type of native values");
     }
     drop(types);
-    assert!(rt; are_right);
 }
 
 #[test]
-fn types_of_bytes_and_marks_lie_as_the_format_says(rt: HostRuntime) {
+fn types_of_bytes_and_marks_have_the_layout_of_the_format(rt: HostRuntime) {
     let types = [
         (DataType::Boolean, PhysicalType::Boolean),
         (DataType::Binary, PhysicalType::Binary),
@@ -65,15 +65,13 @@ fn types_of_bytes_and_marks_lie_as_the_format_says(rt: HostRuntime) {
         (DataType::Utf8, PhysicalType::Utf8),
         (DataType::LargeUtf8, PhysicalType::LargeUtf8),
     ];
-    let mut are_right = true;
-    for (data_type, physical) in types.iter() {
-        are_right &= data_type.to_physical_type() == *physical;
+    for (data_type, expected) in types.iter() {
+        same(data_type.to_physical_type(), *expected).expect(&rt, "a type of bytes or marks");
     }
     drop(types);
-    assert!(rt; are_right);
 }
 
-/// Do the values of this type lie as these native values?
+/// Returns whether the values of this type have the layout of these native values.
 fn lies_as<T: NativeType>(data_type: &DataType) -> bool
     ensures { IsTrue result ↔ IsRightType (PhysicalType.Primitive T.PRIMITIVE) (logical_type data_type.now) }
 {
@@ -83,14 +81,18 @@ fn lies_as<T: NativeType>(data_type: &DataType) -> bool
 #[test]
 fn types_are_right_by_their_layout(rt: HostRuntime) {
     let (date, months) = (DataType::Date64, two_extensions(rt.alloc(), &rt));
-    let is_right = lies_as::<i64>(&date) & !lies_as::<i32>(&date) & lies_as::<i32>(&months);
+    let came = [
+        lies_as::<i64>(&date),
+        lies_as::<i32>(&date),
+        lies_as::<i32>(&months),
+    ];
     drop(months);
     drop(date);
-    assert!(rt; is_right);
+    same(came, [true, false, true]).expect(&rt, "i64 and i32 of Date64, i32 of extended months");
 }
 
 #[test]
-fn default_types(rt: HostRuntime) {
+fn native_types_have_default_types(rt: HostRuntime) {
     let types = [
         (PrimitiveType::Int8, DataType::Int8),
         (PrimitiveType::Int16, DataType::Int16),
@@ -111,38 +113,37 @@ fn default_types(rt: HostRuntime) {
             DataType::Interval(IntervalUnit::MonthDayNano),
         ),
     ];
-    let mut are_right = true;
-    for (primitive, logical) in types.iter() {
-        are_right &= is_default(*primitive, logical);
+    for (primitive, expected) in types.iter() {
+        let came = primitive.default_data_type();
+        let is_default = came == *expected;
+        drop(came);
+        same((*primitive, is_default), (*primitive, true)).expect(&rt, "a default type");
     }
     drop(types);
-    assert!(rt; are_right);
 }
 
-/// Is this the type that a primitive type's values have by default?
-fn is_default(primitive: PrimitiveType, logical: &DataType) -> bool {
-    primitive.default_data_type() == *logical
-}
-
-/// Is the clone of this type equal to it?
-fn is_cloned(rt: &impl Abort, original: DataType) -> bool {
+/// Compares a type with its clone, and drops both.
+fn check_clone(rt: &impl Abort, case: &str, original: DataType) {
     let copy = original.clone().expect(rt, "memory");
-    let is_equal = copy == original;
+    let are_equal = copy == original;
     drop(copy);
     drop(original);
-    is_equal
+    same(are_equal, true).expect(rt, case);
 }
 
 #[test]
 fn clones_are_equal(rt: HostRuntime) {
-    let time = timestamp(rt.alloc(), &rt, TimeUnit::Millisecond, None);
-    let zoned = timestamp(rt.alloc(), &rt, TimeUnit::Second, Some("UTC"));
-    let extension = two_extensions(rt.alloc(), &rt);
-    let are_plain = is_cloned(&rt, DataType::UInt16)
-        & is_cloned(&rt, DataType::Time64(TimeUnit::Microsecond))
-        & is_cloned(&rt, DataType::Interval(IntervalUnit::DayTime))
-        & is_cloned(&rt, DataType::Decimal(5, 2));
-    assert!(rt;
-        are_plain & is_cloned(&rt, time) & is_cloned(&rt, zoned) & is_cloned(&rt, extension)
+    check_clone(&rt, "a number", DataType::UInt16);
+    check_clone(&rt, "a time", DataType::Time64(TimeUnit::Microsecond));
+    check_clone(
+        &rt,
+        "an interval",
+        DataType::Interval(IntervalUnit::DayTime),
     );
+    check_clone(&rt, "a decimal", DataType::Decimal(5, 2));
+    let time = timestamp(rt.alloc(), &rt, TimeUnit::Millisecond, None);
+    check_clone(&rt, "a timestamp", time);
+    let time = timestamp(rt.alloc(), &rt, TimeUnit::Second, Some("UTC"));
+    check_clone(&rt, "a timestamp of a zone", time);
+    check_clone(&rt, "two extensions", two_extensions(rt.alloc(), &rt));
 }

@@ -1,4 +1,5 @@
 //! What errors print, and what refused memory becomes.
+use arrow_testing::same;
 use arrow_types::error::Error;
 use std::alloc::AllocFailed;
 
@@ -16,24 +17,23 @@ const TEXTS: &[(Error, &str)] = &[
 fn errors_print_their_texts(rt: HostRuntime) {
     for (error, text) in TEXTS {
         let printed = error.to_string(rt.alloc()).expect(&rt, "memory");
-        let is_text = printed.as_str() == *text;
+        same(printed.as_str(), *text).expect(&rt, *text);
         drop(printed);
-        assert!(rt; is_text);
     }
 }
 
-/// Errors, and whether they equal that of a rule.
-const COMPARED: &[(Error, bool)] = &[
-    (Error::OutOfSpec("a rule"), true),
-    (Error::OutOfSpec("a role"), false),
-    (Error::Overflow, false),
-    (Error::OutOfMemory, false),
+/// A name, an error, and whether it equals that of a rule.
+const COMPARED: &[(&str, Error, bool)] = &[
+    ("the same text", Error::OutOfSpec("a rule"), true),
+    ("another text", Error::OutOfSpec("a role"), false),
+    ("an overflow", Error::Overflow, false),
+    ("refused memory", Error::OutOfMemory, false),
 ];
 
 #[test]
 fn errors_are_compared_by_their_texts(rt: HostRuntime) {
-    for (other, same) in COMPARED {
-        assert!(rt; (*other == Error::OutOfSpec("a rule")) == *same);
+    for (case, other, expected) in COMPARED {
+        same(*other == Error::OutOfSpec("a rule"), *expected).expect(&rt, *case);
     }
 }
 
@@ -42,7 +42,8 @@ fn refused_memory_is_out_of_memory(rt: HostRuntime) {
     let mut items = Vec::<i64>::new(rt.alloc());
     let answer = items.reserve(usize::MAX);
     drop(items);
-    let refused = answer.err().map(Error::from);
-    let of_value = Error::from(AllocFailed { value: 7_i32 });
-    assert!(rt; (refused == Some(Error::OutOfMemory)) & (of_value == Error::OutOfMemory));
+    let refused = answer.expect_err(&rt, "room for all");
+    same(Error::from(refused), Error::OutOfMemory).expect(&rt, "a reservation");
+    let failed = AllocFailed { value: 7_i32 };
+    same(Error::from(failed), Error::OutOfMemory).expect(&rt, "a value");
 }

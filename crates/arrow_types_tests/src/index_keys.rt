@@ -2,52 +2,40 @@
 ghost use Rattle.std.specs.Prelude.{◌≡◌};
 ghost use Rattle.arrow_types.specs.IndexKey.{index_of};
 
+use arrow_testing::same;
 use arrow_types::index_key::IndexKey;
+use std::process::Abort;
 
-/// The index of a key of any type, by its bound.
+/// Returns the index of a key of any type, by its bound.
 fn index_by_bound<K: IndexKey>(key: &K) -> Option<usize>
     ensures { result ≡ index_of (K.number key.now) }
 {
     key.to_index()
 }
 
-/// Keys, and their indexes.
-const SIGNED: &[(i64, Option<usize>)] = &[
-    (i64::MIN, None),
-    (-1, None),
-    (7, Some(7)),
-    (i64::MAX, Some(9223372036854775807)),
-];
-
-#[test]
-fn signed_keys_give_indexes(rt: HostRuntime) {
-    for (key, index) in SIGNED {
-        assert!(rt; index_by_bound(key) == *index);
-    }
+/// Compares the index of a key with this.
+fn check<K: IndexKey>(rt: &impl Abort, case: &str, key: &K, expected: Option<usize>) {
+    same(index_by_bound(key), expected).expect(rt, case);
 }
 
 #[test]
-fn negative_keys_of_every_type_give_none(rt: HostRuntime) {
-    let is_any = index_by_bound(&-128_i8).is_some()
-        | index_by_bound(&i16::MIN).is_some()
-        | index_by_bound(&i32::MIN).is_some();
-    assert!(rt; !is_any);
-}
-
-/// Does a key give this index?
-fn gives<K: IndexKey>(key: &K, index: usize) -> bool {
-    match index_by_bound(key) {
-        Some(given) => given == index,
-        None => false,
-    }
+fn negative_keys_give_no_index(rt: HostRuntime) {
+    check(&rt, "i8", &-128_i8, None);
+    check(&rt, "i16", &i16::MIN, None);
+    check(&rt, "i32", &i32::MIN, None);
+    check(&rt, "i64", &i64::MIN, None);
+    check(&rt, "i64, one below zero", &-1_i64, None);
 }
 
 #[test]
-fn greatest_keys_of_every_type_give_indexes(rt: HostRuntime) {
-    let are_signed = gives(&127_i8, 127) & gives(&32767_i16, 32767) & gives(&i32::MAX, 2147483647);
-    let are_unsigned = gives(&255_u8, 255)
-        & gives(&65535_u16, 65535)
-        & gives(&u32::MAX, 4294967295)
-        & gives(&u64::MAX, 18446744073709551615);
-    assert!(rt; are_signed & are_unsigned);
+fn other_keys_of_every_type_give_their_index(rt: HostRuntime) {
+    check(&rt, "seven", &7_i64, Some(7));
+    check(&rt, "i8", &127_i8, Some(127));
+    check(&rt, "i16", &32767_i16, Some(32767));
+    check(&rt, "i32", &i32::MAX, Some(2147483647));
+    check(&rt, "i64", &i64::MAX, Some(9223372036854775807));
+    check(&rt, "u8", &255_u8, Some(255));
+    check(&rt, "u16", &65535_u16, Some(65535));
+    check(&rt, "u32", &u32::MAX, Some(4294967295));
+    check(&rt, "u64", &u64::MAX, Some(18446744073709551615));
 }

@@ -1,45 +1,48 @@
 //! Offsets of both widths, and of a narrow type of the tests.
 ghost use Rattle.std.specs.Prelude.{◌≡◌, ◌≤◌};
 
-use arrow_testing::Tiny;
+use arrow_testing::{Tiny, same};
 use arrow_types::offset::Offset;
 
-/// The greatest number of an offset type, by its bound.
-fn greatest<O: Offset>() -> Option<usize> {
-    O::max().try_to_usize()
-}
-
-/// The number of the offset that is made of a number, by the bound.
+/// Returns the number of the offset that is made of a number, by the bound.
 fn through<O: Offset>(value: usize) -> Option<usize> {
     let offset = O::from_usize(value)?;
     Some(offset.to_usize())
 }
 
-#[test]
-fn offsets_know_their_greatest(rt: HostRuntime) {
-    let is_tiny = greatest::<Tiny>() == Some(100);
-    let is_narrow = greatest::<i32>() == Some(2147483647);
-    assert!(rt; is_tiny & is_narrow & (greatest::<i64>() == Some(9223372036854775807)));
-}
-
-/// Numbers, and those of the offsets of 32 and of 64 bits that are made of them.
-const NUMBERS: &[(usize, Option<usize>, Option<usize>)] = &[
-    (0, Some(0), Some(0)),
-    (2147483647, Some(2147483647), Some(2147483647)),
-    (2147483648, None, Some(2147483648)),
-    (9223372036854775807, None, Some(9223372036854775807)),
-    (9223372036854775808, None, None),
+/// A number, and those of the offsets that are made of it: `Tiny`, of 32 bits, and of 64.
+const NUMBERS: &[(usize, Option<usize>, Option<usize>, Option<usize>)] = &[
+    (0, Some(0), Some(0), Some(0)),
+    (100, Some(100), Some(100), Some(100)),
+    (101, None, Some(101), Some(101)),
+    (2147483647, None, Some(2147483647), Some(2147483647)),
+    (2147483648, None, None, Some(2147483648)),
+    (9223372036854775807, None, None, Some(9223372036854775807)),
+    (9223372036854775808, None, None, None),
 ];
 
 #[test]
 fn offsets_hold_numbers_up_to_their_greatest(rt: HostRuntime) {
-    for (value, narrow, wide) in NUMBERS {
-        assert!(rt; (through::<i32>(*value) == *narrow) & (through::<i64>(*value) == *wide));
+    for (value, tiny, narrow, wide) in NUMBERS {
+        same(through::<Tiny>(*value), *tiny).expect(&rt, "Tiny");
+        same(through::<i32>(*value), *narrow).expect(&rt, "i32");
+        same(through::<i64>(*value), *wide).expect(&rt, "i64");
     }
-    assert!(rt; (through::<Tiny>(100) == Some(100)) & through::<Tiny>(101).is_none());
 }
 
-/// The same without a test, for a number that is at most the greatest one.
+/// Returns the greatest number of an offset type, by its bound.
+fn greatest<O: Offset>() -> Option<usize> {
+    O::max().try_to_usize()
+}
+
+#[test]
+fn offsets_know_their_greatest(rt: HostRuntime) {
+    let came = [greatest::<Tiny>(), greatest::<i32>(), greatest::<i64>()];
+    let expected = [Some(100), Some(2147483647), Some(9223372036854775807)];
+    same(came, expected).expect(&rt, "Tiny, i32, i64");
+}
+
+/// Makes an offset without a test, of a number that is at most the greatest one.
 fn through_untested<O: Offset>(value: usize) -> usize
     requires { value ≤ O.most }
     ensures { result ≡ value }
@@ -49,23 +52,32 @@ fn through_untested<O: Offset>(value: usize) -> usize
 
 #[test]
 fn numbers_known_to_fit_need_no_test(rt: HostRuntime) {
-    let is_narrow = through_untested::<i32>(2147483647) == 2147483647;
-    let is_wide = through_untested::<i64>(9223372036854775807) == 9223372036854775807;
-    assert!(rt; is_narrow & is_wide & (through_untested::<Tiny>(100) == 100));
+    let came = [
+        through_untested::<Tiny>(100),
+        through_untested::<i32>(2147483647),
+        through_untested::<i64>(9223372036854775807),
+    ];
+    same(came, [100, 2147483647, 9223372036854775807]).expect(&rt, "Tiny, i32, i64");
 }
 
 #[test]
-fn negative_values_have_no_place(rt: HostRuntime) {
-    let is_any = i32::MIN.try_to_usize().is_some() | (-1_i64).try_to_usize().is_some();
-    assert!(rt; !is_any & (7_i32.try_to_usize() == Some(7)) & (7_i64.to_usize() == 7));
+fn negative_offsets_have_no_number(rt: HostRuntime) {
+    let came = [
+        i32::MIN.try_to_usize(),
+        (-1_i64).try_to_usize(),
+        7_i32.try_to_usize(),
+    ];
+    same(came, [None, None, Some(7)]).expect(&rt, "the least i32, -1, 7");
+    same(7_i64.to_usize(), 7).expect(&rt, "7 of 64 bits");
 }
 
 #[test]
 fn wide_offsets_are_large(rt: HostRuntime) {
-    assert!(rt; i64::IS_LARGE & !i32::IS_LARGE & !Tiny::IS_LARGE);
+    let came = [Tiny::IS_LARGE, i32::IS_LARGE, i64::IS_LARGE];
+    same(came, [false, false, true]).expect(&rt, "Tiny, i32, i64");
 }
 
-/// How far the second number lies behind the first, by the bound; `None` where it is below, or one does not fit.
+/// Returns the distance from the first number to the second, by the bound; `None` if it is below, or one does not fit.
 fn between<O: Offset>(start: usize, end: usize) -> Option<usize> {
     let start = O::from_usize(start)?;
     let end = O::from_usize(end)?;
@@ -76,7 +88,7 @@ fn between<O: Offset>(start: usize, end: usize) -> Option<usize> {
     }
 }
 
-/// Two numbers, and how far the second lies behind the first.
+/// Two numbers, and the distance from the first to the second.
 const DISTANCES: &[(usize, usize, usize)] = &[
     (0, 0, 0),
     (3, 100, 97),
@@ -87,8 +99,8 @@ const DISTANCES: &[(usize, usize, usize)] = &[
 #[test]
 fn distances_are_differences(rt: HostRuntime) {
     for (start, end, distance) in DISTANCES {
-        let is_narrow = between::<i32>(*start, *end) == Some(*distance);
-        assert!(rt; is_narrow & (between::<i64>(*start, *end) == Some(*distance)));
+        let came = [between::<i32>(*start, *end), between::<i64>(*start, *end)];
+        same(came, [Some(*distance); 2]).expect(&rt, "i32, i64");
     }
-    assert!(rt; between::<Tiny>(3, 100) == Some(97));
+    same(between::<Tiny>(3, 100), Some(97)).expect(&rt, "Tiny");
 }

@@ -1,25 +1,15 @@
-// The bytes below were packed by hand: mark i is bit i mod 8, the least significant first, of byte i / 8.
-use crate::tests::{gives, pushed};
+//! Growing bitmaps. Bytes were packed by hand: mark i is bit i mod 8, the least significant first, of byte i / 8.
+use crate::tests::{check, pushed};
 use arrow_bitmap::MutableBitmap;
-use std::alloc::Global;
+use arrow_testing::same;
 use std::process::Abort;
 
-/// Runs of equal marks, one after the other.
-fn extended(alloc: Global, rt: &impl Abort, runs: &[(usize, bool)]) -> MutableBitmap {
-    let mut marks = MutableBitmap::new(alloc);
-    for (count, value) in runs {
-        marks.extend_constant(*count, *value).expect(rt, "memory");
-    }
-    marks
-}
-
-/// Whether so many marks lie in these bytes.
-fn lies(marks: MutableBitmap, length: usize, bytes: &[u8]) -> bool {
-    let is_length = marks.len() == length;
+/// Compares the length and the bytes of marks, and drops them.
+fn check_bytes(rt: &impl Abort, case: &str, marks: MutableBitmap, length: usize, bytes: &[u8]) {
+    same(marks.len(), length).expect(rt, case);
     let packed = marks.into_vec();
-    let are_bytes = packed.as_slice() == bytes;
+    same(packed.as_slice(), bytes).expect(rt, case);
     drop(packed);
-    is_length & are_bytes
 }
 
 /// Marks, and their bytes.
@@ -31,22 +21,22 @@ const PACKED: &[(&str, &[u8])] = &[
 ];
 
 #[test]
-fn packs_the_first_mark_lowest(rt: HostRuntime) {
+fn the_first_mark_is_packed_lowest(rt: HostRuntime) {
     for (text, bytes) in PACKED {
-        assert!(rt; lies(pushed(rt.alloc(), &rt, *text), text.len(), *bytes));
+        check_bytes(&rt, *text, pushed(&rt, *text), text.len(), *bytes);
     }
 }
 
-/// Runs of equal marks, how many marks they are, and their bytes.
-const RUNS: &[(&[(usize, bool)], usize, &[u8])] = &[
-    // marks 3 to 12 and 18 to 31 are set
+/// A name, runs of equal marks, how many marks they are, and their bytes.
+const RUNS: &[(&str, &[(usize, bool)], usize, &[u8])] = &[
     (
+        "marks 3 to 12 and 18 to 31",
         &[(3, false), (10, true), (5, false), (14, true)],
         32,
         &[0xf8, 0x1f, 0xfc, 0xff],
     ),
-    // marks 0, 8 to 15 and 32 to 39 are set
     (
+        "marks 0, 8 to 15 and 32 to 39",
         &[
             (1, true),
             (7, false),
@@ -61,13 +51,17 @@ const RUNS: &[(&[(usize, bool)], usize, &[u8])] = &[
 ];
 
 #[test]
-fn packs_runs_over_the_borders_of_bytes(rt: HostRuntime) {
-    for (runs, length, bytes) in RUNS {
-        assert!(rt; lies(extended(rt.alloc(), &rt, *runs), *length, *bytes));
+fn runs_are_packed_over_the_borders_of_bytes(rt: HostRuntime) {
+    for (case, runs, length, bytes) in RUNS {
+        let mut marks = MutableBitmap::new(rt.alloc());
+        for (count, value) in *runs {
+            marks.extend_constant(*count, *value).expect(&rt, "memory");
+        }
+        check_bytes(&rt, *case, marks, *length, *bytes);
     }
 }
 
-/// For how many marks in bytes there is room.
+/// Returns the bytes that marks have room for, and drops them.
 fn room(marks: MutableBitmap) -> usize {
     let bytes = marks.into_vec();
     let room = bytes.capacity();
@@ -75,45 +69,25 @@ fn room(marks: MutableBitmap) -> usize {
     room
 }
 
-/// Marks with room for a thousand.
-fn roomy(alloc: Global, rt: &impl Abort) -> MutableBitmap {
-    MutableBitmap::with_capacity(alloc, 1000).expect(rt, "memory")
-}
-
-/// The same, once more room is asked for.
-fn reserved(alloc: Global, rt: &impl Abort) -> MutableBitmap {
-    let mut marks = roomy(alloc, rt);
-    marks.reserve(8000).expect(rt, "memory");
-    marks
-}
-
-/// The same, once what isn't needed is given back.
-fn shrunk(alloc: Global, rt: &impl Abort) -> MutableBitmap {
-    let mut marks = roomy(alloc, rt);
-    marks.shrink_to_fit().expect(rt, "memory");
-    marks
+#[test]
+fn room_is_reserved_and_given_back(rt: HostRuntime) {
+    let first = MutableBitmap::with_capacity(rt.alloc(), 1000).expect(&rt, "memory");
+    same(room(first).min(125), 125).expect(&rt, "at least 125 bytes by with_capacity");
+    let mut more = MutableBitmap::with_capacity(rt.alloc(), 1000).expect(&rt, "memory");
+    more.reserve(8000).expect(&rt, "memory");
+    same(room(more).min(1000), 1000).expect(&rt, "at least 1000 bytes by reserve");
+    let mut less = MutableBitmap::with_capacity(rt.alloc(), 1000).expect(&rt, "memory");
+    less.shrink_to_fit().expect(&rt, "memory");
+    same(room(less).max(124), 124).expect(&rt, "at most 124 bytes by shrink_to_fit");
 }
 
 #[test]
-fn room_is_made_and_given_back(rt: HostRuntime) {
-    let first = room(roomy(rt.alloc(), &rt));
-    let more = room(reserved(rt.alloc(), &rt));
-    assert!(rt; first >= 125 && more >= 1000 && room(shrunk(rt.alloc(), &rt)) < 125);
-}
-
-/// Whether a clone grows, and the marks that it was made of stay.
-fn goes_its_own_way(rt: &impl Abort, first: &MutableBitmap) -> bool {
-    let mut second = first.clone().expect(rt, "memory");
-    second.push(false).expect(rt, "memory");
-    let is_grown = gives(second.iter(), "1010");
+fn a_clone_grows_alone(rt: HostRuntime) {
+    let first = pushed(&rt, "101");
+    let mut second = first.clone().expect(&rt, "memory");
+    second.push(false).expect(&rt, "memory");
+    check(&rt, "the clone", second.iter(), "1010");
     drop(second);
-    is_grown & gives(first.iter(), "101")
-}
-
-#[test]
-fn clones_go_their_own_way(rt: HostRuntime) {
-    let first = pushed(rt.alloc(), &rt, "101");
-    let is_apart = goes_its_own_way(&rt, &first);
+    check(&rt, "the first", first.iter(), "101");
     drop(first);
-    assert!(rt; is_apart);
 }

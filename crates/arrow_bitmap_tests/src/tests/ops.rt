@@ -1,38 +1,35 @@
-// Operations on the marks of bitmaps. Marks are written as texts, in which '1' is a set mark; expected answers were
-// worked out by hand.
-use crate::tests::{cut, gives};
+//! Operations on the marks of bitmaps. Expected answers were worked out by hand.
+use crate::tests::{check, cut, pushed};
 use arrow_bitmap::{Bitmap, MutableBitmap, and, not, or};
-use std::alloc::Global;
+use arrow_testing::same;
 use std::process::Abort;
 
-/// Creates the bitmap that a text writes, as a slice with set marks before and after it.
-fn sliced(alloc: Global, rt: &impl Abort, offset: usize, text: &str) -> Bitmap {
-    let mut marks = MutableBitmap::new(alloc);
+/// Creates the bitmap of a text as a slice, with set marks before and after it.
+fn sliced(rt: &(impl Abort + AllocGlobal), offset: usize, text: &str) -> Bitmap {
+    let mut marks = MutableBitmap::new(rt.alloc());
     marks.extend_constant(offset, true).expect(rt, "memory");
-    for mark in text.as_bytes() {
-        marks.push(*mark == b'1').expect(rt, "memory");
-    }
+    let inner = pushed(rt, text);
+    marks.extend_from_bitmap(&inner).expect(rt, "memory");
+    drop(inner);
     marks.push(true).expect(rt, "memory");
     let mut bitmap = marks.freeze().expect(rt, "memory");
-    assert!(rt; cut(&mut bitmap, offset, text.len()));
+    cut(rt, &mut bitmap, offset, text.len());
     bitmap
 }
 
-/// Returns whether a bitmap has the marks that a text writes, and counts its clear marks right.
-fn has(bitmap: Bitmap, text: &str) -> bool {
+/// Compares the marks of a bitmap, and the number of clear ones, with a text, and drops it.
+fn check_answer(rt: &impl Abort, case: &str, bitmap: Bitmap, expected: &str) {
+    check(rt, case, bitmap.iter(), expected);
     let mut clear = 0_usize;
-    for mark in text.as_bytes() {
+    for mark in expected.as_bytes() {
         clear = clear.saturating_add(usize::from(*mark == b'0'));
     }
-    let is_right = gives(bitmap.iter(), text) & (bitmap.unset_bits() == clear);
+    same(bitmap.unset_bits(), clear).expect(rt, case);
     drop(bitmap);
-    is_right
 }
 
 /// Two lists of marks, and the expected answers of `and`, `or`, and `not` of the first.
-type Combined = [&'static str; 5];
-
-const COMBINED: &[Combined] = &[
+const COMBINED: &[[&str; 5]] = &[
     ["", "", "", "", ""],
     ["1100", "1010", "1000", "1110", "0011"],
     ["11110000", "10101010", "10100000", "11111010", "00001111"],
@@ -52,43 +49,28 @@ const COMBINED: &[Combined] = &[
     ],
 ];
 
-/// Returns whether the operations on two bitmaps give the expected answers.
-fn are_combined(
-    alloc: Global,
-    rt: &impl Abort,
-    first: &Bitmap,
-    second: &Bitmap,
-    texts: &Combined,
-) -> bool {
-    if first.len() != second.len() {
-        return false;
-    }
-    let is_and = has(and(alloc, first, second).expect(rt, "memory"), texts[2]);
-    let is_or = has(or(alloc, first, second).expect(rt, "memory"), texts[3]);
-    is_and & is_or & has(not(alloc, first).expect(rt, "memory"), texts[4])
-}
-
-/// Returns whether they do for slices that begin at these indexes.
-fn are_combined_from(
-    alloc: Global,
-    rt: &impl Abort,
-    offset: usize,
-    other: usize,
-    texts: &Combined,
-) -> bool {
-    let first = sliced(alloc, rt, offset, texts[0]);
-    let second = sliced(alloc, rt, other, texts[1]);
-    let are_combined = are_combined(alloc, rt, &first, &second, texts);
+/// Compares the answers of the operations on slices that begin at these indexes.
+fn check_from(rt: &(impl Abort + AllocGlobal), offset: usize, other: usize, texts: &[&str; 5]) {
+    let first = sliced(rt, offset, texts[0]);
+    let second = sliced(rt, other, texts[1]);
+    assert!(rt; first.len() == second.len());
+    let both = and(rt.alloc(), &first, &second).expect(rt, "memory");
+    let either = or(rt.alloc(), &first, &second).expect(rt, "memory");
     drop(second);
+    let none = not(rt.alloc(), &first).expect(rt, "memory");
     drop(first);
-    are_combined
+    check_answer(rt, "and", both, texts[2]);
+    check_answer(rt, "or", either, texts[3]);
+    check_answer(rt, "not", none, texts[4]);
 }
 
 #[test]
-fn marks_are_combined_from_any_place(rt: HostRuntime) {
-    for (offset, other) in [(0, 0), (3, 0), (0, 5), (3, 5), (8, 13)] {
-        for texts in COMBINED {
-            assert!(rt; are_combined_from(rt.alloc(), &rt, offset, other, texts));
-        }
+fn marks_are_combined_from_any_index(rt: HostRuntime) {
+    for texts in COMBINED {
+        check_from(&rt, 0, 0, texts);
+        check_from(&rt, 3, 0, texts);
+        check_from(&rt, 0, 5, texts);
+        check_from(&rt, 3, 5, texts);
+        check_from(&rt, 8, 13, texts);
     }
 }

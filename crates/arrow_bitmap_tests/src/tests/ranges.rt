@@ -1,95 +1,70 @@
-// Ranges of marks that are read and appended. Marks are written as texts, in which '1' is a set mark.
-ghost use Rattle.std.specs.Prelude.{◌≤◌, ◌+◌, IsTrue, length};
-
-use crate::tests::{cut, frozen, gives, pushed};
+//! Ranges of marks that are read and appended.
+use crate::tests::{check, cut, frozen, pushed};
 use arrow_bitmap::{Bitmap, MutableBitmap};
-use std::alloc::Global;
 use std::process::Abort;
 
-/// Returns whether a range lies within a bitmap.
-fn has(bitmap: &Bitmap, offset: usize, len: usize) -> bool
-    ensures { IsTrue result → offset + len ≤ length bitmap.now }
-{
-    offset <= bitmap.len() && len <= bitmap.len() - offset
-}
+const MARKS: &str = "00011111111110000011111111111111";
 
-/// Where a range begins, and its marks.
-const RANGES: &[(usize, &str)] = &[
-    (0, "00011111111110000011111111111111"),
-    (2, "01111111111000001111"),
-    (8, "111110000011"),
-    (11, "1100000111"),
-    (31, "1"),
-    (32, ""),
+/// A name, the slice of the marks, where a range of that begins, and the marks of the range.
+const RANGES: &[(&str, usize, usize, usize, &str)] = &[
+    ("whole", 0, 32, 0, "00011111111110000011111111111111"),
+    ("inside a byte", 0, 32, 2, "01111111111000001111"),
+    ("at a byte", 0, 32, 8, "111110000011"),
+    ("in the second byte", 0, 32, 11, "1100000111"),
+    ("the last mark", 0, 32, 31, "1"),
+    ("no mark at the end", 0, 32, 32, ""),
+    ("whole slice", 5, 13, 0, "1111111100000"),
+    ("in a slice", 5, 13, 3, "1111100000"),
+    ("no mark at the end of a slice", 5, 13, 13, ""),
 ];
-
-/// Returns whether an iterator over each range gives its marks.
-fn are_given(bitmap: &Bitmap, ranges: &[(usize, &str)]) -> bool {
-    for (offset, text) in ranges {
-        let len = text.len();
-        if !(has(bitmap, *offset, len) && gives(bitmap.iter_range(*offset, len), *text)) {
-            return false;
-        }
-    }
-    true
-}
-
-/// The marks of a slice that begins inside a byte.
-const SLICED: &[(usize, &str)] = &[(0, "1111111100000"), (3, "1111100000"), (13, "")];
 
 #[test]
 fn ranges_are_read_from_any_mark(rt: HostRuntime) {
-    let mut bitmap = frozen(rt.alloc(), &rt, "00011111111110000011111111111111");
-    let are_whole = are_given(&bitmap, RANGES);
-    let is_cut = cut(&mut bitmap, 5, 13);
-    let are_sliced = are_given(&bitmap, SLICED);
-    drop(bitmap);
-    assert!(rt; are_whole & is_cut & are_sliced);
+    for (case, start, len, offset, expected) in RANGES {
+        let mut bitmap = frozen(&rt, MARKS);
+        cut(&rt, &mut bitmap, *start, *len);
+        let len = expected.len();
+        assert!(rt; *offset <= bitmap.len() && len <= bitmap.len() - *offset);
+        check(&rt, *case, bitmap.iter_range(*offset, len), *expected);
+        drop(bitmap);
+    }
 }
 
-/// Marks, the offset and length of the range that is appended to them, and the expected marks.
-const APPENDED: &[(&str, usize, usize, &str)] = &[
-    ("", 0, 0, ""),
-    ("", 2, 12, "011111111110"),
-    ("101", 11, 10, "1011100000111"),
-    ("10110100", 8, 12, "10110100111110000011"),
-    ("1011010", 32, 0, "1011010"),
-    ("1", 0, 32, "100011111111110000011111111111111"),
+/// A name, marks, the offset and length of the range that is appended to them, and the expected marks.
+const APPENDED: &[(&str, &str, usize, usize, &str)] = &[
+    ("none to none", "", 0, 0, ""),
+    ("to none", "", 2, 12, "011111111110"),
+    ("inside a byte", "101", 11, 10, "1011100000111"),
+    ("after a byte", "10110100", 8, 12, "10110100111110000011"),
+    ("none", "1011010", 32, 0, "1011010"),
+    ("all", "1", 0, 32, "100011111111110000011111111111111"),
 ];
 
-/// Appends a range of a bitmap, if it lies within.
-fn extend(marks: &mut MutableBitmap, other: &Bitmap, offset: usize, len: usize) -> bool {
-    has(other, offset, len) && marks.extend_from_range(other, offset, len).is_ok()
-}
-
-/// Returns whether each range is appended after the marks.
-fn are_appended(alloc: Global, rt: &impl Abort, other: &Bitmap) -> bool {
-    for (first, offset, len, text) in APPENDED {
-        let mut marks = pushed(alloc, rt, *first);
-        let is_appended = extend(&mut marks, other, *offset, *len) && gives(marks.iter(), *text);
-        drop(marks);
-        if !is_appended {
-            return false;
-        }
-    }
-    true
+/// Appends a range of a bitmap, in which it has to lie.
+fn extend(rt: &impl Abort, marks: &mut MutableBitmap, other: &Bitmap, offset: usize, len: usize) {
+    assert!(rt; offset <= other.len() && len <= other.len() - offset);
+    marks
+        .extend_from_range(other, offset, len)
+        .expect(rt, "memory");
 }
 
 #[test]
-fn ranges_are_appended_behind_any_mark(rt: HostRuntime) {
-    let other = frozen(rt.alloc(), &rt, "00011111111110000011111111111111");
-    let are_appended = are_appended(rt.alloc(), &rt, &other);
-    drop(other);
-    assert!(rt; are_appended);
+fn ranges_are_appended_after_any_mark(rt: HostRuntime) {
+    for (case, first, offset, len, expected) in APPENDED {
+        let (other, mut marks) = (frozen(&rt, MARKS), pushed(&rt, *first));
+        extend(&rt, &mut marks, &other, *offset, *len);
+        drop(other);
+        check(&rt, *case, marks.iter(), *expected);
+        drop(marks);
+    }
 }
 
 #[test]
 fn ranges_of_a_slice_are_appended(rt: HostRuntime) {
-    let mut other = frozen(rt.alloc(), &rt, "00011111111110000011111111111111");
-    let is_cut = cut(&mut other, 5, 20);
-    let mut marks = pushed(rt.alloc(), &rt, "01");
-    let is_appended = extend(&mut marks, &other, 6, 9) && gives(marks.iter(), "01110000011");
-    drop(marks);
+    let (mut other, mut marks) = (frozen(&rt, MARKS), pushed(&rt, "01"));
+    cut(&rt, &mut other, 5, 20);
+    extend(&rt, &mut marks, &other, 6, 9);
     drop(other);
-    assert!(rt; is_cut & is_appended);
+    check(&rt, "of a slice", marks.iter(), "01110000011");
+    drop(marks);
 }

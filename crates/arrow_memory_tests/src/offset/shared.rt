@@ -1,77 +1,63 @@
-use arrow_memory::offset::{Offsets, OffsetsBuffer};
-use either::{Left, Right};
-use std::alloc::Global;
+//! Frozen offsets.
+use arrow_memory::offset::OffsetsBuffer;
+use arrow_testing::{frozen_offsets, same};
 use std::process::Abort;
 
-/// Offsets of 32 bits.
-fn narrow(alloc: Global, rt: &impl Abort, list: &[i32]) -> OffsetsBuffer<i32> {
-    let offsets = Offsets::try_from_vec(list.to_vec(alloc).expect(rt, "memory"));
-    offsets.expect(rt, "offsets").freeze().expect(rt, "memory")
-}
-
-/// Cuts offsets, where the cut is there, and tells whether these are left, one more than there are slots.
-fn cuts(offsets: &mut OffsetsBuffer<i32>, offset: usize, len: usize, list: &[i32]) -> bool {
+/// Slices offsets, and compares those that are left, and the number of slots, with these.
+fn check_slice(
+    rt: &impl Abort,
+    offsets: &mut OffsetsBuffer<i32>,
+    offset: usize,
+    len: usize,
+    expected: &[i32],
+) {
     let slots = offsets.len_proxy();
-    if 1 <= len && offset <= slots && len - 1 <= slots - offset {
-        offsets.slice(offset, len);
-    }
-    offsets.buffer().as_slice() == list && len == offsets.len_proxy().saturating_add(1)
+    assert!(rt; 1 <= len && offset <= slots && len - 1 <= slots - offset);
+    offsets.slice(offset, len);
+    same(offsets.buffer().as_slice(), expected).expect(rt, "the offsets of a slice");
+    same(offsets.len_proxy(), len - 1).expect(rt, "the slots of a slice");
 }
 
 #[test]
 fn slices_count_offsets(rt: HostRuntime) {
-    let mut offsets = narrow(rt.alloc(), &rt, [2, 3, 3, 5].as_slice());
-    let first = cuts(&mut offsets, 1, 3, [3, 3, 5].as_slice()) & !offsets.is_empty();
-    let second = cuts(&mut offsets, 2, 1, [5].as_slice()) & offsets.is_empty();
+    let offsets = frozen_offsets::<i32>(rt.alloc(), [2, 3, 3, 5].as_slice());
+    let mut offsets = offsets.expect(&rt, "offsets");
+    check_slice(&rt, &mut offsets, 1, 3, [3, 3, 5].as_slice());
+    same(offsets.is_empty(), false).expect(&rt, "two slots");
+    check_slice(&rt, &mut offsets, 2, 1, [5].as_slice());
+    same(offsets.is_empty(), true).expect(&rt, "no slot");
     drop(offsets);
-    assert!(rt; first & second);
-}
-
-/// Whether offsets are thawed.
-fn thaws(frozen: OffsetsBuffer<i32>) -> bool {
-    match frozen.into_mut() {
-        Left(frozen) => {
-            drop(frozen);
-            false
-        }
-        Right(thawed) => {
-            drop(thawed);
-            true
-        }
-    }
-}
-
-/// Whether they are thawed while a clone lives, and once it doesn't.
-fn sides(rt: &impl Abort, first: OffsetsBuffer<i32>) -> (bool, bool) {
-    let second = first.clone().expect(rt, "memory");
-    let shared = thaws(first);
-    (shared, thaws(second))
 }
 
 #[test]
-fn offsets_thaw_where_nothing_shares_them(rt: HostRuntime) {
-    let offsets = narrow(rt.alloc(), &rt, [0, 2, 7].as_slice());
-    assert!(rt; sides(&rt, offsets) == (false, true));
+fn offsets_thaw_once_no_clone_shares_them(rt: HostRuntime) {
+    let first = frozen_offsets::<i32>(rt.alloc(), [0, 2, 7].as_slice()).expect(&rt, "offsets");
+    let second = first.clone().expect(&rt, "memory");
+    let first = first
+        .into_mut()
+        .left()
+        .expect(&rt, "shared offsets stay frozen");
+    drop(first);
+    let offsets = second.into_mut().right().expect(&rt, "offsets alone thaw");
+    drop(offsets);
 }
 
-/// Whether the first two of three offsets are cut off, and are not thawed.
-fn stay_frozen(offsets: OffsetsBuffer<i32>) -> bool {
-    let mut offsets = offsets;
-    let are_cut = cuts(&mut offsets, 0, 2, [0, 2].as_slice());
-    are_cut & !thaws(offsets)
-}
-
-/// A slice doesn't show the whole vector.
+/// A slice does not show the whole vector.
 #[test]
-fn slices_are_not_thawed(rt: HostRuntime) {
-    let offsets = narrow(rt.alloc(), &rt, [0, 2, 7].as_slice());
-    assert!(rt; stay_frozen(offsets));
+fn slices_stay_frozen(rt: HostRuntime) {
+    let offsets = frozen_offsets::<i32>(rt.alloc(), [0, 2, 7].as_slice());
+    let mut offsets = offsets.expect(&rt, "offsets");
+    check_slice(&rt, &mut offsets, 0, 2, [0, 2].as_slice());
+    let offsets = offsets
+        .into_mut()
+        .left()
+        .expect(&rt, "a slice stays frozen");
+    drop(offsets);
 }
 
 #[test]
 fn new_offsets_are_one_zero(rt: HostRuntime) {
-    let mut narrow = OffsetsBuffer::<i32>::new(rt.alloc()).expect(&rt, "memory");
-    let is_zero = cuts(&mut narrow, 0, 1, [0].as_slice());
-    drop(narrow);
-    assert!(rt; is_zero);
+    let mut offsets = OffsetsBuffer::<i32>::new(rt.alloc()).expect(&rt, "memory");
+    check_slice(&rt, &mut offsets, 0, 1, [0].as_slice());
+    drop(offsets);
 }
