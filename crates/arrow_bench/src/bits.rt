@@ -17,7 +17,7 @@ fn push_all(out: &mut MutableBitmap, pattern: &[u8], times: usize) -> Option<()>
     Some(())
 }
 
-/// Creates a bitmap of the marks of a pattern, one byte each, so many times over.
+/// Creates a bitmap that repeats the marks of a pattern, one byte each.
 fn marks(alloc: Global, pattern: &[u8], times: usize) -> Option<MutableBitmap> {
     let mut out = MutableBitmap::new(alloc);
     let filled = push_all(&mut out, pattern, times);

@@ -21,7 +21,7 @@ fn push_marked(out: &mut MutableBooleanArray, bits: &[u8], valid: &[u8]) -> Opti
     Some(())
 }
 
-/// Creates a builder of truth values with their marks, one byte each; without marks there is no null.
+/// Creates a builder of booleans with their marks, one byte each. Without marks every slot is valid.
 fn builder(alloc: Global, bits: &[u8], valid: &[u8]) -> Option<MutableBooleanArray> {
     let mut out = MutableBooleanArray::new(alloc);
     let filled = if valid.is_empty() {
@@ -32,7 +32,7 @@ fn builder(alloc: Global, bits: &[u8], valid: &[u8]) -> Option<MutableBooleanArr
     filled_builder(out, filled)
 }
 
-/// Returns the number of rows and the truth value that is stored in one of them.
+/// Returns the number of rows, and the boolean that one of them stores.
 pub(crate) fn probe(out: &MutableBooleanArray, round: usize) -> u64 {
     let rows = out.values().len();
     let at = place(round, rows);

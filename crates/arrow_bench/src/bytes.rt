@@ -59,14 +59,14 @@ fn push_lengths(offsets: &mut Offsets<i32>, bytes: usize, item: usize) -> Option
     Some(())
 }
 
-/// Returns the offsets of items of so many bytes.
+/// Returns the offsets that cut `bytes` bytes into items of `item` bytes.
 fn even_offsets(alloc: Global, bytes: usize, item: usize) -> Option<Offsets<i32>> {
     let mut offsets = Offsets::new(alloc).ok()?;
     let filled = push_lengths(&mut offsets, bytes, item);
     filled_builder(offsets, filled)
 }
 
-/// Creates a builder of items of so many bytes and marks from its parts; a null stores its item too.
+/// Creates a builder of items of `item` bytes, with marks, from its parts. A null stores its item, too.
 pub(crate) fn of_parts<K: ByteKind>(
     alloc: Global,
     data: &[u8],

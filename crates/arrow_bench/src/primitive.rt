@@ -22,7 +22,7 @@ fn push_marked(out: &mut MutablePrimitiveArray<i64>, values: &[i64], valid: &[u8
     Some(())
 }
 
-/// Creates a builder of values with their marks, one byte each; without marks there is no null.
+/// Creates a builder of values with their marks, one byte each. Without marks every slot is valid.
 pub(crate) fn builder(
     alloc: Global,
     values: &[i64],

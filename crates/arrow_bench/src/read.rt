@@ -1,4 +1,4 @@
-//! Reads of a frozen array, which is made once. Each sum stands in a function of its own, which begins at the sum so far.
+//! Reads of a frozen array, which is made once. Each sum stands in a function of its own, and begins at the sum so far.
 use crate::primitive::{array, builder};
 use crate::rounds::read_rounds;
 use arrow_primitive::{MutablePrimitiveArray, PrimitiveArray};

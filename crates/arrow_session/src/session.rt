@@ -36,7 +36,7 @@ fn first_bad_line(input: &[u8]) -> Option<usize>
     None
 }
 
-/// Runs an input of commands on tables of empty entries and returns the replies. No list of commands or replies is kept.
+/// Runs an input of commands on tables of empty entries, and returns the text of the replies.
 fn run_lines(alloc: Global, input: &[u8]) -> Result<String, AllocError>
     requires { AreCommands input.now }
     ensures { IfOk result (λ text. IsAnswer input.now (string_bytes text)) }

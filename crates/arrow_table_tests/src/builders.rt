@@ -133,8 +133,8 @@ freeze 6 -> ok
 held 6 -> false
 ";
 
-/// Room that no memory holds. Slots and bytes are told apart by builders of native values and of truth values, for which
-/// bytes mean nothing; the other builders need both.
+/// Room that no memory holds. Builders of native values and of booleans tell slots from bytes, since they take no room for
+/// bytes; the other builders need both.
 const UNRESERVED: &str = "
 new 0 mprim -> ok
 new 1 mbool -> ok

@@ -181,8 +181,7 @@ fn write_row<W: Write>(
     write_line(line, to)
 }
 
-/// Writes the names of the columns, a line of dashes and the rows. `scratch` and `line` are memory that is used again for
-/// each cell and line.
+/// Writes the names of the columns, a line of dashes and the rows. `scratch` and `line` are reused for each cell and line.
 fn write_lines<W: Write>(
     alloc: Global,
     table: &RecordBatch,

@@ -41,8 +41,8 @@ fn fill_row(
     Ok(())
 }
 
-/// Writes a record of the names, and then a record for each row. `record` and `scratch` are memory that is used again for
-/// each record and cell.
+/// Writes a record of the names, and then a record for each row. `record` and `scratch` are reused for each record and
+/// cell.
 fn write_records<W: Write + Drop>(
     table: &RecordBatch,
     record: &mut ByteRecord,

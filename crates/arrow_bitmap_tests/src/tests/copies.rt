@@ -3,7 +3,7 @@ use crate::tests::check;
 use arrow_bitmap::{Bitmap, MutableBitmap};
 use arrow_testing::same;
 
-/// A name, truth values, their bytes, and their marks.
+/// A name, booleans, their bytes, and their marks.
 const PACKED: &[(&str, &[bool], &[u8], &str)] = &[
     ("none", &[], &[], ""),
     ("three", &[true, false, true], &[0x05], "101"),

@@ -6,5 +6,5 @@ returns-clause-step g c = λ zero primitive old new asks reply named small large
     reply new named small large step
 
 pub returns-clause-run : goal.returns-clause-run
-returns-clause-run g c = λ zero primitive old new requests answers named small large run. fine-both-run zero primitive old
-    requests answers new named small large run
+returns-clause-run g c = λ zero primitive old new requests answers named small large run. fine-both-run zero primitive
+    old requests answers new named small large run

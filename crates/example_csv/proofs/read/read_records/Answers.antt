@@ -75,8 +75,8 @@ returns-then-not-branch-2-clause-ok g c =
         rest,
         before,
         rows-end g.R.Read.remaining c.loop-height.reader
-            c.read_record-in-loop-height.new.self (fields_of c.read_record-in-loop-height.new.row) default_config rest config
-            source reads,
+            c.read_record-in-loop-height.new.self (fields_of c.read_record-in-loop-height.new.row) default_config rest
+            config source reads,
       ),
       is,
     )) (c.freeze.ensures.ok headers rows built (sym height))

@@ -45,11 +45,13 @@ returns-clause-rows c =
     (count_of _ (λ column. text (Some (type_name column.array))) columns n c.in_ok-types.ensures.ok refl) in
     let three =
     c.in_ok-push_column-3.ensures.rows n two
-    (count_of _ (λ column. number (Some (count_number (slot_count column.array)))) columns n c.in_ok-row_counts.ensures.ok refl)
+    (count_of _ (λ column. number (Some (count_number (slot_count column.array)))) columns n
+    c.in_ok-row_counts.ensures.ok refl)
     in
     let four =
     c.in_ok-push_column-4.ensures.rows n three
-    (count_of _ (λ column. number (Some (count_number (nulls_of column.array)))) columns n c.in_ok-null_counts.ensures.ok refl)
+    (count_of _ (λ column. number (Some (count_number (nulls_of column.array)))) columns n
+    c.in_ok-null_counts.ensures.ok refl)
     in
     let five =
     c.in_ok-push_column-5.ensures.rows n four
