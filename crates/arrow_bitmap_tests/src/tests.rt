@@ -7,7 +7,7 @@ mod shared;
 mod words;
 
 use arrow_bitmap::{Bitmap, BitmapIter, MutableBitmap};
-use arrow_testing::{same, same_marks};
+use arrow_testing::assert_text;
 use std::process::Abort;
 
 /// Pushes the marks of a text one by one.
@@ -33,8 +33,8 @@ fn cut(rt: &impl Abort, bitmap: &mut Bitmap, offset: usize, len: usize) {
 /// Compares the marks that are left, and their number, with a text.
 fn check(rt: &impl Abort, case: &str, marks: BitmapIter<'_>, expected: &str) {
     let len = expected.len();
-    same(marks.size_hint(), (len, Some(len))).expect(rt, case);
-    same_marks(marks, expected).expect(rt, case);
+    assert_text::value(marks.size_hint(), (len, Some(len))).expect(rt, case);
+    assert_text::marks(marks, expected).expect(rt, case);
 }
 
 /// A name, the slice of what the row before left, its marks, the third of these, and how many are clear.
@@ -74,7 +74,7 @@ fn check_by_index(rt: &impl Abort, case: &str, bitmap: &Bitmap, expected: &str) 
     assert!(rt; bitmap.len() == expected.len());
     for (index, mark) in expected.as_bytes().iter().enumerate() {
         assert!(rt; index < bitmap.len());
-        same(bitmap.get_bit(index), *mark == b'1').expect(rt, case);
+        assert_text::value(bitmap.get_bit(index), *mark == b'1').expect(rt, case);
     }
 }
 
@@ -86,9 +86,9 @@ fn slices_of_slices_add_their_offsets(rt: HostRuntime) {
         check(&rt, *case, bitmap.iter(), *expected);
         check_by_index(&rt, *case, &bitmap, *expected);
         let (mut near, mut far) = (bitmap.iter(), bitmap.iter());
-        same([near.nth(2), far.nth(usize::MAX)], [*third, None]).expect(&rt, *case);
+        assert_text::value([near.nth(2), far.nth(usize::MAX)], [*third, None]).expect(&rt, *case);
         let left = [near.len(), far.len(), bitmap.unset_bits()];
-        same(left, [len.saturating_sub(3), 0, *clear]).expect(&rt, *case);
+        assert_text::value(left, [len.saturating_sub(3), 0, *clear]).expect(&rt, *case);
     }
     drop(bitmap);
 }
@@ -98,8 +98,8 @@ fn size_hints_count_down(rt: HostRuntime) {
     let bitmap = frozen(&rt, "101");
     let mut marks = bitmap.iter();
     for left in [3, 2, 1, 0] {
-        same(marks.size_hint(), (left, Some(left))).expect(&rt, "before a mark");
-        same(marks.next().is_some(), left > 0).expect(&rt, "a mark is left");
+        assert_text::value(marks.size_hint(), (left, Some(left))).expect(&rt, "before a mark");
+        assert_text::value(marks.next().is_some(), left > 0).expect(&rt, "a mark is left");
     }
     drop(bitmap);
 }

@@ -1,6 +1,6 @@
 //! Equality of builders.
 use arrow_boolean::MutableBooleanArray;
-use arrow_testing::{growing_mask, same};
+use arrow_testing::{assert_text, growing_mask};
 use arrow_types::data_type::DataType;
 use std::process::Abort;
 
@@ -16,7 +16,10 @@ fn stored_values_of_nulls_are_not_compared(rt: HostRuntime) {
     let are_equal = stores_false == stores_true;
     drop(stores_true);
     drop(stores_false);
-    same(are_equal, true).expect(&rt, "a null that stores false, and one that stores true");
+    assert_text::value(are_equal, true).expect(
+        &rt,
+        "a null that stores false, and one that stores true",
+    );
 }
 
 /// A name, the ninth slots of two builders of valid slots, and whether the builders are equal.
@@ -43,6 +46,6 @@ fn slots_of_a_second_byte_are_compared(rt: HostRuntime) {
         let are_equal = left == right;
         drop(right);
         drop(left);
-        same(are_equal, *expected).expect(&rt, *case);
+        assert_text::value(are_equal, *expected).expect(&rt, *case);
     }
 }

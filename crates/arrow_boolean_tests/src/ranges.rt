@@ -1,6 +1,6 @@
 //! Iterators over a range of slots.
 use arrow_boolean::BooleanArray;
-use arrow_testing::{same, same_bools};
+use arrow_testing::assert_text;
 use std::process::Abort;
 
 const SLOTS: &[Option<bool>] = &[
@@ -56,9 +56,9 @@ fn check(
     let len = expected.len();
     assert!(rt; offset <= array.len() && len <= array.len() - offset);
     let range = array.iter_range(offset, len);
-    same(range.size_hint(), (len, Some(len))).expect(rt, case);
-    same_bools(range, expected).expect(rt, case);
-    same_bools(array.iter_range(offset, len).rev(), reversed).expect(rt, case);
+    assert_text::value(range.size_hint(), (len, Some(len))).expect(rt, case);
+    assert_text::bools(range, expected).expect(rt, case);
+    assert_text::bools(array.iter_range(offset, len).rev(), reversed).expect(rt, case);
 }
 
 #[test]

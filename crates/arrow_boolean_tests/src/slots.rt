@@ -1,6 +1,6 @@
 //! Reads of builders by index, and empty arrays and builders.
 use arrow_boolean::{BooleanArray, MutableBooleanArray};
-use arrow_testing::same;
+use arrow_testing::assert_text;
 use arrow_types::data_type::DataType;
 use std::process::Abort;
 
@@ -15,11 +15,11 @@ fn check(
     assert!(rt; builder.len() == slots.len());
     for i in 0..slots.len() {
         let came = (builder.get(i), builder.is_null(i));
-        same(came, (slots[i], slots[i].is_none())).expect(rt, case);
+        assert_text::value(came, (slots[i], slots[i].is_none())).expect(rt, case);
     }
     let counts = (builder.is_empty(), builder.null_count());
     drop(builder);
-    same(counts, (slots.is_empty(), nulls)).expect(rt, case);
+    assert_text::value(counts, (slots.is_empty(), nulls)).expect(rt, case);
 }
 
 #[test]
@@ -48,5 +48,5 @@ fn arrays_without_a_slot_are_empty(rt: HostRuntime) {
     let null = BooleanArray::new_null(rt.alloc(), DataType::Boolean, 1).expect(&rt, "memory");
     let null_is_empty = null.is_empty();
     drop(null);
-    same([is_empty, null_is_empty], [true, false]).expect(&rt, "no slot, one null");
+    assert_text::value([is_empty, null_is_empty], [true, false]).expect(&rt, "no slot, one null");
 }

@@ -6,16 +6,16 @@ ghost use Rattle.std.specs.Prelude.{◌≡◌, length};
 
 use arrow_boolean::{BooleanArray, MutableBooleanArray};
 use arrow_memory::bitmap::{Bitmap, MutableBitmap};
-use arrow_testing::{same, same_bools, same_growing_mask, same_marks, same_mask};
+use arrow_testing::assert_text;
 use arrow_types::data_type::DataType;
 use std::process::Abort;
 
 /// Compares the slots, stored values and mask of an array with these texts, and drops it.
 fn check(rt: &impl Abort, case: &str, array: BooleanArray, slots: &str, values: &str, mask: &str) {
-    same_bools(array.iter(), slots).expect(rt, case);
-    same_bools((&array).into_iter(), slots).expect(rt, case);
-    same_marks(array.values_iter(), values).expect(rt, case);
-    same_mask(array.validity(), mask).expect(rt, case);
+    assert_text::bools(array.iter(), slots).expect(rt, case);
+    assert_text::bools((&array).into_iter(), slots).expect(rt, case);
+    assert_text::marks(array.values_iter(), values).expect(rt, case);
+    assert_text::mask(array.validity(), mask).expect(rt, case);
     drop(array);
 }
 
@@ -28,10 +28,10 @@ fn check_builder(
     values: &str,
     mask: &str,
 ) {
-    same_bools(builder.iter(), slots).expect(rt, case);
-    same_bools(builder.into_iter(), slots).expect(rt, case);
-    same_marks(builder.values_iter(), values).expect(rt, case);
-    same_growing_mask(builder.validity(), mask).expect(rt, case);
+    assert_text::bools(builder.iter(), slots).expect(rt, case);
+    assert_text::bools(builder.into_iter(), slots).expect(rt, case);
+    assert_text::marks(builder.values_iter(), values).expect(rt, case);
+    assert_text::growing_mask(builder.validity(), mask).expect(rt, case);
 }
 
 /// True, null, false.
@@ -123,7 +123,7 @@ fn builders_grow_slot_by_slot(rt: HostRuntime) {
     check_builder(&rt, "pushed", &builder, "t_", "10", "10");
     let popped = [builder.pop(), builder.pop()];
     drop(builder);
-    same(popped, [None, Some(true)]).expect(&rt, "pop");
+    assert_text::value(popped, [None, Some(true)]).expect(&rt, "pop");
 }
 
 #[test]
@@ -170,7 +170,7 @@ fn builders_grow_by_builders(rt: HostRuntime) {
         let other = MutableBooleanArray::from(rt.alloc(), *second).expect(&rt, "memory");
         builder.try_extend_from_self(&other).expect(&rt, "memory");
         drop(other);
-        same_bools(builder.iter(), *joined).expect(&rt, *case);
+        assert_text::bools(builder.iter(), *joined).expect(&rt, *case);
         drop(builder);
     }
 }
@@ -182,5 +182,5 @@ fn owned_slots_of_a_slice_come_from_both_ends(rt: HostRuntime) {
     let mut slots = array.sliced(1, 2).into_iter();
     let ends = [slots.next_back(), slots.next(), slots.next()];
     drop(slots);
-    same(ends, [Some(Some(false)), Some(None), None]).expect(&rt, "from both ends");
+    assert_text::value(ends, [Some(Some(false)), Some(None), None]).expect(&rt, "from both ends");
 }

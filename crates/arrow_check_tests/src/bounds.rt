@@ -1,6 +1,6 @@
 //! Offsets over values of some length.
 use arrow_check::bounds::{check_bounds, check_last};
-use arrow_testing::{offsets_of, same, tells};
+use arrow_testing::{assert_text, offsets_of, tells};
 use arrow_types::offset::Offset;
 use std::process::Abort;
 
@@ -20,7 +20,7 @@ fn check<O: Offset>(rt: &(impl Abort + AllocGlobal), cases: &[Case]) {
             tells(check_last(offsets.as_slice(), *values_len)),
         ];
         drop(offsets);
-        same(came, *expected).expect(rt, *case);
+        assert_text::value(came, *expected).expect(rt, *case);
     }
 }
 

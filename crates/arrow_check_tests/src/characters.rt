@@ -1,7 +1,7 @@
 //! Every boundary of Unicode's table of characters (Unicode Standard, Table 3-7), at every index of a window.
 use arrow_check::cost::{TextBytes, TextCost};
 use arrow_check::text::check_utf8;
-use arrow_testing::{offsets_of, same};
+use arrow_testing::{assert_text, offsets_of};
 use std::alloc::Global;
 use std::process::Abort;
 
@@ -108,7 +108,7 @@ fn check_cut(rt: &(impl Abort + AllocGlobal), bytes: &[u8], [start, cut, end]: [
     // Texts are made of a failure alone, since there are many windows.
     if came != expected {
         let (first, second) = (bytes.get(start..cut), bytes.get(cut..end));
-        same((first, second, came), (first, second, expected)).expect(rt, "two items");
+        assert_text::value((first, second, came), (first, second, expected)).expect(rt, "two items");
     }
 }
 

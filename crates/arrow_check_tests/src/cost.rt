@@ -1,6 +1,6 @@
 //! The acts by which bytes are read, and their counts.
 use arrow_check::cost::{TextBytes, TextCost};
-use arrow_testing::same;
+use arrow_testing::assert_text;
 
 /// Returns the counts of a cost.
 fn counts(cost: TextCost) -> [u64; 3] {
@@ -14,10 +14,10 @@ fn each_act_is_counted_once(rt: HostRuntime) {
     let are_ascii = [text.ascii(0, 1), text.ascii(0, 4), text.ascii(3, 1)];
     let are_texts = [text.whole_test(0, 3), text.whole_test(0, 2)];
     let byte = text.look(1);
-    same(counts(text.cost()), [3, 2, 1]).expect(&rt, "the counts");
-    same(are_ascii, [true, false, true]).expect(&rt, "ascii");
-    same(are_texts, [true, false]).expect(&rt, "whole_test");
-    same((byte, text.len()), (0xC3, 4)).expect(&rt, "look and len");
+    assert_text::value(counts(text.cost()), [3, 2, 1]).expect(&rt, "the counts");
+    assert_text::value(are_ascii, [true, false, true]).expect(&rt, "ascii");
+    assert_text::value(are_texts, [true, false]).expect(&rt, "whole_test");
+    assert_text::value((byte, text.len()), (0xC3, 4)).expect(&rt, "look and len");
 }
 
 #[test]
@@ -27,6 +27,6 @@ fn counts_go_on_from_those_before(rt: HostRuntime) {
     let first = text.whole_test(0, 1);
     let mut again = TextBytes::new(bytes.as_slice(), text.cost());
     let second = again.whole_test(0, 0);
-    same(counts(again.cost()), [0, 2, 0]).expect(&rt, "the counts");
-    same([first, second], [true, true]).expect(&rt, "a letter, and nothing");
+    assert_text::value(counts(again.cost()), [0, 2, 0]).expect(&rt, "the counts");
+    assert_text::value([first, second], [true, true]).expect(&rt, "a letter, and nothing");
 }

@@ -1,7 +1,7 @@
 //! Keys that point at items.
 use arrow_check::indexes::{check_indexes, check_slots};
 use arrow_memory::bitmap::Bitmap;
-use arrow_testing::{same, tells};
+use arrow_testing::{assert_text, tells};
 use arrow_types::index_key::IndexKey;
 use std::process::Abort;
 
@@ -11,7 +11,7 @@ const PAST: &str = "a dictionary key must be below the length of the dictionary 
 
 /// Compares the answer of `check_indexes` for keys into a number of items.
 fn check<K: IndexKey>(rt: &impl Abort, case: &str, keys: &[K], items: usize, expected: &str) {
-    same(tells(check_indexes(keys, items)), expected).expect(rt, case);
+    assert_text::value(tells(check_indexes(keys, items)), expected).expect(rt, case);
 }
 
 #[test]
@@ -74,7 +74,7 @@ fn keys_of_nulls_are_not_checked(rt: HostRuntime) {
         assert!(rt; validity.len() == 4);
         let came = tells(check_slots(keys.as_slice(), Some(&validity), 3));
         drop(validity);
-        same(came, *expected).expect(&rt, *case);
+        assert_text::value(came, *expected).expect(&rt, *case);
     }
 }
 
@@ -84,5 +84,5 @@ fn keys_without_a_mask_are_checked(rt: HostRuntime) {
         tells(check_slots([0_u8, 3].as_slice(), None, 3)),
         tells(check_slots([0_u8, 2].as_slice(), None, 3)),
     ];
-    same(came, [PAST, "made"]).expect(&rt, "one past the items, the last item");
+    assert_text::value(came, [PAST, "made"]).expect(&rt, "one past the items, the last item");
 }

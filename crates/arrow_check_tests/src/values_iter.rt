@@ -4,7 +4,7 @@ use arrow_check::values_iter::ArrayValuesIter;
 use arrow_memory::bitmap::MutableBitmap;
 use arrow_memory::list_iter::ListIter;
 use arrow_memory::zip_validity::ZipValidity;
-use arrow_testing::same;
+use arrow_testing::assert_text;
 
 /// An array of numbers.
 #[derive(Drop)]
@@ -44,45 +44,45 @@ const TENS: Numbers = Numbers {
 #[test]
 fn items_come_from_both_ends(rt: HostRuntime) {
     let mut items = ArrayValuesIter::new(&TENS);
-    same(items.len(), 3).expect(&rt, "items at first");
-    same([items.next(), items.next_back()], [Some(&10), Some(&30)]).expect(&rt, "both ends");
-    same((items.len(), items.size_hint()), (1, (1, Some(1)))).expect(&rt, "items left");
+    assert_text::value(items.len(), 3).expect(&rt, "items at first");
+    assert_text::value([items.next(), items.next_back()], [Some(&10), Some(&30)]).expect(&rt, "both ends");
+    assert_text::value((items.len(), items.size_hint()), (1, (1, Some(1)))).expect(&rt, "items left");
     let came = [items.nth(0), items.next(), items.next_back()];
-    same(came, [Some(&20), None, None]).expect(&rt, "the last item");
-    same(items.len(), 0).expect(&rt, "items at the end");
+    assert_text::value(came, [Some(&20), None, None]).expect(&rt, "the last item");
+    assert_text::value(items.len(), 0).expect(&rt, "items at the end");
 }
 
 #[test]
 fn ranges_have_their_items(rt: HostRuntime) {
     assert!(rt; TENS.len() == 3);
     let mut last = ArrayValuesIter::new_range(&TENS, 1, 2);
-    same(last.len(), 2).expect(&rt, "the last two");
+    assert_text::value(last.len(), 2).expect(&rt, "the last two");
     let came = [last.next_back(), last.next(), last.next()];
-    same(came, [Some(&30), Some(&20), None]).expect(&rt, "the last two");
+    assert_text::value(came, [Some(&30), Some(&20), None]).expect(&rt, "the last two");
     let mut first = ArrayValuesIter::new_range(&TENS, 0, 1);
-    same([first.next(), first.next()], [Some(&10), None]).expect(&rt, "the first");
+    assert_text::value([first.next(), first.next()], [Some(&10), None]).expect(&rt, "the first");
     let mut none = ArrayValuesIter::new_range(&TENS, 3, 0);
-    same(none.next(), None).expect(&rt, "none at the end");
+    assert_text::value(none.next(), None).expect(&rt, "none at the end");
 }
 
 #[test]
 fn items_are_skipped_up_to_the_end(rt: HostRuntime) {
     let mut items = ArrayValuesIter::new(&TENS);
-    same([items.nth(2), items.next()], [Some(&30), None]).expect(&rt, "two of three");
+    assert_text::value([items.nth(2), items.next()], [Some(&30), None]).expect(&rt, "two of three");
     let mut items = ArrayValuesIter::new(&TENS);
-    same([items.nth(3), items.next_back()], [None, None]).expect(&rt, "three of three");
+    assert_text::value([items.nth(3), items.next_back()], [None, None]).expect(&rt, "three of three");
     let mut items = ArrayValuesIter::new(&TENS);
-    same([items.next(), items.nth(usize::MAX)], [Some(&10), None]).expect(&rt, "more than all");
-    same(items.len(), 0).expect(&rt, "items at the end");
+    assert_text::value([items.next(), items.nth(usize::MAX)], [Some(&10), None]).expect(&rt, "more than all");
+    assert_text::value(items.len(), 0).expect(&rt, "items at the end");
 }
 
 #[test]
 fn a_clone_goes_on_alone(rt: HostRuntime) {
     let mut items = ArrayValuesIter::new(&TENS);
-    same(items.next(), Some(&10)).expect(&rt, "the first");
+    assert_text::value(items.next(), Some(&10)).expect(&rt, "the first");
     let mut others = items.clone();
-    same(items.nth(1), Some(&30)).expect(&rt, "the third");
-    same((others.len(), others.next()), (2, Some(&20))).expect(&rt, "the clone");
+    assert_text::value(items.nth(1), Some(&30)).expect(&rt, "the third");
+    assert_text::value((others.len(), others.next()), (2, Some(&20))).expect(&rt, "the clone");
 }
 
 /// The numbers as values under marks: another crate's trait is not given to another crate's iterator,
@@ -126,9 +126,9 @@ fn items_stand_under_marks(rt: HostRuntime) {
     assert!(rt; marks.len() == items.len());
     let mut slots = ZipValidity::new(NumberValues { items }, Some(marks.iter()));
     let ends = [slots.next_back(), slots.next()];
-    same(ends, [Some(Some(&30)), Some(Some(&10))]).expect(&rt, "both ends");
-    same(slots.size_hint(), (1, Some(1))).expect(&rt, "slots left");
+    assert_text::value(ends, [Some(Some(&30)), Some(Some(&10))]).expect(&rt, "both ends");
+    assert_text::value(slots.size_hint(), (1, Some(1))).expect(&rt, "slots left");
     let came = [slots.next_back(), slots.next(), slots.next_back()];
-    same(came, [Some(None), None, None]).expect(&rt, "the null between");
+    assert_text::value(came, [Some(None), None, None]).expect(&rt, "the null between");
     drop(marks);
 }

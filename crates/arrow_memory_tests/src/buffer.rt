@@ -1,6 +1,6 @@
 //! Shared buffers of values.
 use arrow_memory::buffer::Buffer;
-use arrow_testing::same;
+use arrow_testing::assert_text;
 use std::process::Abort;
 
 /// Creates a buffer of three values.
@@ -23,8 +23,8 @@ fn slices_of_slices_add_their_offsets(rt: HostRuntime) {
     for (case, offset, len, expected) in CUTS {
         assert!(rt; *offset <= buffer.len() && *len <= buffer.len() - *offset);
         buffer.slice(*offset, *len);
-        same(buffer.as_slice(), *expected).expect(&rt, *case);
-        same(buffer.is_empty(), expected.is_empty()).expect(&rt, *case);
+        assert_text::value(buffer.as_slice(), *expected).expect(&rt, *case);
+        assert_text::value(buffer.is_empty(), expected.is_empty()).expect(&rt, *case);
     }
     drop(buffer);
 }
@@ -37,7 +37,7 @@ fn new_buffers_are_empty(rt: HostRuntime) {
     let narrow = Buffer::<u8>::new(rt.alloc()).expect(&rt, "memory");
     let is_empty = narrow.is_empty();
     drop(narrow);
-    same((len, is_empty), (0, true)).expect(&rt, "len and is_empty");
+    assert_text::value((len, is_empty), (0, true)).expect(&rt, "len and is_empty");
 }
 
 #[test]
@@ -60,7 +60,7 @@ fn slices_stay_frozen(rt: HostRuntime) {
     assert!(rt; buffer.len() == 3);
     buffer.slice(0, 2);
     let buffer = buffer.into_mut().left().expect(&rt, "a slice stays frozen");
-    same(buffer.as_slice(), [7, 8].as_slice()).expect(&rt, "the slice");
+    assert_text::value(buffer.as_slice(), [7, 8].as_slice()).expect(&rt, "the slice");
     drop(buffer);
 }
 
@@ -79,7 +79,7 @@ fn values_are_lent_once_no_clone_shares_them(rt: HostRuntime) {
     drop(second);
     let is_lent_alone = first.get_mut_slice(write_first);
     drop(first);
-    same([is_lent, is_lent_alone], [false, true]).expect(&rt, "beside a clone, and alone");
+    assert_text::value([is_lent, is_lent_alone], [false, true]).expect(&rt, "beside a clone, and alone");
 }
 
 #[test]
@@ -92,5 +92,5 @@ fn owned_values_come_from_both_ends(rt: HostRuntime) {
         values.next(),
     ];
     drop(values);
-    same(came, [Some(9), Some(7), Some(8), None]).expect(&rt, "7, 8, 9");
+    assert_text::value(came, [Some(9), Some(7), Some(8), None]).expect(&rt, "7, 8, 9");
 }

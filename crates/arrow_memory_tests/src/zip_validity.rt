@@ -1,7 +1,7 @@
 //! Values under marks.
 use arrow_memory::bitmap::MutableBitmap;
 use arrow_memory::zip_validity::ZipValidity;
-use arrow_testing::{same, same_slots};
+use arrow_testing::assert_text;
 
 #[test]
 fn clear_marks_are_null(rt: HostRuntime) {
@@ -9,14 +9,14 @@ fn clear_marks_are_null(rt: HostRuntime) {
     let marks = marks.expect(&rt, "memory");
     assert!(rt; marks.len() == 3);
     let slots = ZipValidity::new([1, 2, 4].iter(), Some(marks.iter()));
-    same_slots(slots, "[1 _ 4]").expect(&rt, "101");
+    assert_text::slots(slots, "[1 _ 4]").expect(&rt, "101");
     drop(marks);
 }
 
 #[test]
 fn all_slots_are_valid_without_marks(rt: HostRuntime) {
     let slots = ZipValidity::<_, arrow_memory::bitmap::BitmapIter<'_>>::new([3, -1].iter(), None);
-    same_slots(slots, "[3 -1]").expect(&rt, "no marks");
+    assert_text::slots(slots, "[3 -1]").expect(&rt, "no marks");
 }
 
 #[test]
@@ -26,7 +26,7 @@ fn slots_come_from_both_ends(rt: HostRuntime) {
     assert!(rt; marks.len() == 3);
     let mut slots = ZipValidity::new([1, 2, 4].iter(), Some(marks.iter()));
     let ends = [slots.next_back(), slots.next()];
-    same(ends, [Some(None), Some(None)]).expect(&rt, "both ends of 010");
-    same_slots(slots, "[2]").expect(&rt, "between the ends");
+    assert_text::value(ends, [Some(None), Some(None)]).expect(&rt, "both ends of 010");
+    assert_text::slots(slots, "[2]").expect(&rt, "between the ends");
     drop(marks);
 }

@@ -1,19 +1,16 @@
 //! What the tests of several crates use.
 #![tactic(auto)]
 
-mod text;
+pub mod assert_text;
 mod tiny;
 
 use arrow_memory::bitmap::{Bitmap, BitmapIter, MutableBitmap};
 use arrow_memory::offset::{Offsets, OffsetsBuffer};
 use arrow_types::error::Error;
 use arrow_types::offset::Offset;
+pub use assert_text::{Mismatch, Text};
 use std::alloc::Global;
 use std::test::Fail;
-pub use text::{
-    Mismatch, Text, same, same_bools, same_growing_mask, same_marks, same_mask, same_slots,
-    same_text,
-};
 pub use tiny::Tiny;
 
 /// How a test ends whose calls gave what they should, or something else, or were refused. One that met a refusal of

@@ -3,7 +3,7 @@ ghost use Rattle.std.specs.Prelude.{IsTrue, ◌↔◌};
 ghost use Rattle.arrow_types.specs.Types.{logical_type, IsRightType};
 
 use crate::made::{timestamp, two_extensions};
-use arrow_testing::same;
+use arrow_testing::assert_text;
 use arrow_types::data_type::DataType;
 use arrow_types::native_type::NativeType;
 use arrow_types::physical_type::PhysicalType;
@@ -51,7 +51,7 @@ fn types_of_native_values_have_their_layout(rt: HostRuntime) {
     ];
     for (data_type, primitive) in types.iter() {
         let expected = PhysicalType::Primitive(*primitive);
-        same(data_type.to_physical_type(), expected).expect(&rt, "a type of native values");
+        assert_text::value(data_type.to_physical_type(), expected).expect(&rt, "a type of native values");
     }
     drop(types);
 }
@@ -66,7 +66,7 @@ fn types_of_bytes_and_marks_have_the_layout_of_the_format(rt: HostRuntime) {
         (DataType::LargeUtf8, PhysicalType::LargeUtf8),
     ];
     for (data_type, expected) in types.iter() {
-        same(data_type.to_physical_type(), *expected).expect(&rt, "a type of bytes or marks");
+        assert_text::value(data_type.to_physical_type(), *expected).expect(&rt, "a type of bytes or marks");
     }
     drop(types);
 }
@@ -88,7 +88,7 @@ fn types_are_right_by_their_layout(rt: HostRuntime) {
     ];
     drop(months);
     drop(date);
-    same(came, [true, false, true]).expect(&rt, "i64 and i32 of Date64, i32 of extended months");
+    assert_text::value(came, [true, false, true]).expect(&rt, "i64 and i32 of Date64, i32 of extended months");
 }
 
 #[test]
@@ -117,7 +117,7 @@ fn native_types_have_default_types(rt: HostRuntime) {
         let came = primitive.default_data_type();
         let is_default = came == *expected;
         drop(came);
-        same((*primitive, is_default), (*primitive, true)).expect(&rt, "a default type");
+        assert_text::value((*primitive, is_default), (*primitive, true)).expect(&rt, "a default type");
     }
     drop(types);
 }
@@ -128,7 +128,7 @@ fn check_clone(rt: &impl Abort, case: &str, original: DataType) {
     let are_equal = copy == original;
     drop(copy);
     drop(original);
-    same(are_equal, true).expect(rt, case);
+    assert_text::value(are_equal, true).expect(rt, case);
 }
 
 #[test]

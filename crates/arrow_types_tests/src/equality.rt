@@ -1,6 +1,6 @@
 //! Equality of data types, part by part.
 use crate::made::{extension, timestamp};
-use arrow_testing::same;
+use arrow_testing::assert_text;
 use arrow_types::data_type::DataType;
 use arrow_types::units::{IntervalUnit, TimeUnit};
 use std::alloc::Global;
@@ -59,7 +59,7 @@ fn equality_sees_units_and_digits(rt: HostRuntime) {
         ),
     ];
     for (case, first, second) in types.iter() {
-        same(*first == *second, false).expect(&rt, *case);
+        assert_text::value(*first == *second, false).expect(&rt, *case);
     }
     drop(types);
 }
@@ -69,7 +69,7 @@ fn check(rt: &impl Abort, case: &str, first: DataType, second: DataType, expecte
     let are_equal = first == second;
     drop(second);
     drop(first);
-    same(are_equal, expected).expect(rt, case);
+    assert_text::value(are_equal, expected).expect(rt, case);
 }
 
 /// A name, the unit and the zone of a time, and whether it equals a time of seconds in UTC.

@@ -1,5 +1,5 @@
 //! What errors print, and what refused memory becomes.
-use arrow_testing::same;
+use arrow_testing::assert_text;
 use arrow_types::error::Error;
 use std::alloc::AllocFailed;
 
@@ -17,7 +17,7 @@ const TEXTS: &[(Error, &str)] = &[
 fn errors_print_their_texts(rt: HostRuntime) {
     for (error, text) in TEXTS {
         let printed = error.to_string(rt.alloc()).expect(&rt, "memory");
-        same(printed.as_str(), *text).expect(&rt, *text);
+        assert_text::value(printed.as_str(), *text).expect(&rt, *text);
         drop(printed);
     }
 }
@@ -33,7 +33,7 @@ const COMPARED: &[(&str, Error, bool)] = &[
 #[test]
 fn errors_are_compared_by_their_texts(rt: HostRuntime) {
     for (case, other, expected) in COMPARED {
-        same(*other == Error::OutOfSpec("a rule"), *expected).expect(&rt, *case);
+        assert_text::value(*other == Error::OutOfSpec("a rule"), *expected).expect(&rt, *case);
     }
 }
 
@@ -43,7 +43,7 @@ fn refused_memory_is_out_of_memory(rt: HostRuntime) {
     let answer = items.reserve(usize::MAX);
     drop(items);
     let refused = answer.expect_err(&rt, "room for all");
-    same(Error::from(refused), Error::OutOfMemory).expect(&rt, "a reservation");
+    assert_text::value(Error::from(refused), Error::OutOfMemory).expect(&rt, "a reservation");
     let failed = AllocFailed { value: 7_i32 };
-    same(Error::from(failed), Error::OutOfMemory).expect(&rt, "a value");
+    assert_text::value(Error::from(failed), Error::OutOfMemory).expect(&rt, "a value");
 }

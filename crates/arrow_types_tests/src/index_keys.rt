@@ -2,7 +2,7 @@
 ghost use Rattle.std.specs.Prelude.{◌≡◌};
 ghost use Rattle.arrow_types.specs.IndexKey.{index_of};
 
-use arrow_testing::same;
+use arrow_testing::assert_text;
 use arrow_types::index_key::IndexKey;
 use std::process::Abort;
 
@@ -15,7 +15,7 @@ fn index_by_bound<K: IndexKey>(key: &K) -> Option<usize>
 
 /// Compares the index of a key with this.
 fn check<K: IndexKey>(rt: &impl Abort, case: &str, key: &K, expected: Option<usize>) {
-    same(index_by_bound(key), expected).expect(rt, case);
+    assert_text::value(index_by_bound(key), expected).expect(rt, case);
 }
 
 #[test]

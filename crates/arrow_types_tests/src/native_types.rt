@@ -1,7 +1,7 @@
 //! Names, defaults and equality of the native types.
 ghost use Rattle.std.specs.Prelude.{◌≡◌, IsTrue, ◌↔◌};
 
-use arrow_testing::same;
+use arrow_testing::assert_text;
 use arrow_types::native_type::{NativeType, days_ms, i256, months_days_ns};
 use arrow_types::primitive_type::PrimitiveType;
 use std::process::Abort;
@@ -22,10 +22,10 @@ fn is_default<T: NativeType>(value: T) -> bool
 
 /// Compares the name of a type with this, and asks that zero in each part is what a null stores, and no other value.
 fn check<T: NativeType>(rt: &impl Abort, case: &str, name: PrimitiveType, zero: T, others: &[T]) {
-    same(name_of::<T>(), name).expect(rt, case);
-    same(is_default(zero), true).expect(rt, case);
+    assert_text::value(name_of::<T>(), name).expect(rt, case);
+    assert_text::value(is_default(zero), true).expect(rt, case);
     for other in others {
-        same(is_default(*other), false).expect(rt, case);
+        assert_text::value(is_default(*other), false).expect(rt, case);
     }
 }
 

@@ -1,7 +1,7 @@
 //! Offsets of both widths, and of a narrow type of the tests.
 ghost use Rattle.std.specs.Prelude.{◌≡◌, ◌≤◌};
 
-use arrow_testing::{Tiny, same};
+use arrow_testing::{Tiny, assert_text};
 use arrow_types::offset::Offset;
 
 /// Returns the number of the offset that is made of a number, by the bound.
@@ -24,9 +24,9 @@ const NUMBERS: &[(usize, Option<usize>, Option<usize>, Option<usize>)] = &[
 #[test]
 fn offsets_hold_numbers_up_to_their_greatest(rt: HostRuntime) {
     for (value, tiny, narrow, wide) in NUMBERS {
-        same(through::<Tiny>(*value), *tiny).expect(&rt, "Tiny");
-        same(through::<i32>(*value), *narrow).expect(&rt, "i32");
-        same(through::<i64>(*value), *wide).expect(&rt, "i64");
+        assert_text::value(through::<Tiny>(*value), *tiny).expect(&rt, "Tiny");
+        assert_text::value(through::<i32>(*value), *narrow).expect(&rt, "i32");
+        assert_text::value(through::<i64>(*value), *wide).expect(&rt, "i64");
     }
 }
 
@@ -39,7 +39,7 @@ fn greatest<O: Offset>() -> Option<usize> {
 fn offsets_know_their_greatest(rt: HostRuntime) {
     let came = [greatest::<Tiny>(), greatest::<i32>(), greatest::<i64>()];
     let expected = [Some(100), Some(2147483647), Some(9223372036854775807)];
-    same(came, expected).expect(&rt, "Tiny, i32, i64");
+    assert_text::value(came, expected).expect(&rt, "Tiny, i32, i64");
 }
 
 /// Makes an offset without a test, of a number that is at most the greatest one.
@@ -57,7 +57,7 @@ fn numbers_known_to_fit_need_no_test(rt: HostRuntime) {
         through_untested::<i32>(2147483647),
         through_untested::<i64>(9223372036854775807),
     ];
-    same(came, [100, 2147483647, 9223372036854775807]).expect(&rt, "Tiny, i32, i64");
+    assert_text::value(came, [100, 2147483647, 9223372036854775807]).expect(&rt, "Tiny, i32, i64");
 }
 
 #[test]
@@ -67,14 +67,14 @@ fn negative_offsets_have_no_number(rt: HostRuntime) {
         (-1_i64).try_to_usize(),
         7_i32.try_to_usize(),
     ];
-    same(came, [None, None, Some(7)]).expect(&rt, "the least i32, -1, 7");
-    same(7_i64.to_usize(), 7).expect(&rt, "7 of 64 bits");
+    assert_text::value(came, [None, None, Some(7)]).expect(&rt, "the least i32, -1, 7");
+    assert_text::value(7_i64.to_usize(), 7).expect(&rt, "7 of 64 bits");
 }
 
 #[test]
 fn wide_offsets_are_large(rt: HostRuntime) {
     let came = [Tiny::IS_LARGE, i32::IS_LARGE, i64::IS_LARGE];
-    same(came, [false, false, true]).expect(&rt, "Tiny, i32, i64");
+    assert_text::value(came, [false, false, true]).expect(&rt, "Tiny, i32, i64");
 }
 
 /// Returns the distance from the first number to the second, by the bound; `None` if it is below, or one does not fit.
@@ -100,7 +100,7 @@ const DISTANCES: &[(usize, usize, usize)] = &[
 fn distances_are_differences(rt: HostRuntime) {
     for (start, end, distance) in DISTANCES {
         let came = [between::<i32>(*start, *end), between::<i64>(*start, *end)];
-        same(came, [Some(*distance); 2]).expect(&rt, "i32, i64");
+        assert_text::value(came, [Some(*distance); 2]).expect(&rt, "i32, i64");
     }
-    same(between::<Tiny>(3, 100), Some(97)).expect(&rt, "Tiny");
+    assert_text::value(between::<Tiny>(3, 100), Some(97)).expect(&rt, "Tiny");
 }

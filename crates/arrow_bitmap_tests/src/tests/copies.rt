@@ -1,7 +1,7 @@
 //! Truth values that are packed by whole bytes. Bytes were packed by hand.
 use crate::tests::check;
 use arrow_bitmap::{Bitmap, MutableBitmap};
-use arrow_testing::same;
+use arrow_testing::assert_text;
 
 /// A name, booleans, their bytes, and their marks.
 const PACKED: &[(&str, &[bool], &[u8], &str)] = &[
@@ -26,7 +26,7 @@ fn truth_values_are_packed(rt: HostRuntime) {
         let growing = MutableBitmap::from_slice(rt.alloc(), *values).expect(&rt, "memory");
         check(&rt, *case, growing.iter(), *expected);
         let packed = growing.into_vec();
-        same(packed.as_slice(), *bytes).expect(&rt, *case);
+        assert_text::value(packed.as_slice(), *bytes).expect(&rt, *case);
         drop(packed);
     }
 }

@@ -1,14 +1,14 @@
 //! Growing bitmaps. Bytes were packed by hand: mark i is bit i mod 8, the least significant first, of byte i / 8.
 use crate::tests::{check, pushed};
 use arrow_bitmap::MutableBitmap;
-use arrow_testing::same;
+use arrow_testing::assert_text;
 use std::process::Abort;
 
 /// Compares the length and the bytes of marks, and drops them.
 fn check_bytes(rt: &impl Abort, case: &str, marks: MutableBitmap, length: usize, bytes: &[u8]) {
-    same(marks.len(), length).expect(rt, case);
+    assert_text::value(marks.len(), length).expect(rt, case);
     let packed = marks.into_vec();
-    same(packed.as_slice(), bytes).expect(rt, case);
+    assert_text::value(packed.as_slice(), bytes).expect(rt, case);
     drop(packed);
 }
 
@@ -72,13 +72,13 @@ fn room(marks: MutableBitmap) -> usize {
 #[test]
 fn room_is_reserved_and_given_back(rt: HostRuntime) {
     let first = MutableBitmap::with_capacity(rt.alloc(), 1000).expect(&rt, "memory");
-    same(room(first).min(125), 125).expect(&rt, "at least 125 bytes by with_capacity");
+    assert_text::value(room(first).min(125), 125).expect(&rt, "at least 125 bytes by with_capacity");
     let mut more = MutableBitmap::with_capacity(rt.alloc(), 1000).expect(&rt, "memory");
     more.reserve(8000).expect(&rt, "memory");
-    same(room(more).min(1000), 1000).expect(&rt, "at least 1000 bytes by reserve");
+    assert_text::value(room(more).min(1000), 1000).expect(&rt, "at least 1000 bytes by reserve");
     let mut less = MutableBitmap::with_capacity(rt.alloc(), 1000).expect(&rt, "memory");
     less.shrink_to_fit().expect(&rt, "memory");
-    same(room(less).max(124), 124).expect(&rt, "at most 124 bytes by shrink_to_fit");
+    assert_text::value(room(less).max(124), 124).expect(&rt, "at most 124 bytes by shrink_to_fit");
 }
 
 #[test]

@@ -1,7 +1,7 @@
 //! Operations on the marks of bitmaps. Expected answers were worked out by hand.
 use crate::tests::{check, cut, pushed};
 use arrow_bitmap::{Bitmap, MutableBitmap, and, not, or};
-use arrow_testing::same;
+use arrow_testing::assert_text;
 use std::process::Abort;
 
 /// Creates the bitmap of a text as a slice, with set marks before and after it.
@@ -24,7 +24,7 @@ fn check_answer(rt: &impl Abort, case: &str, bitmap: Bitmap, expected: &str) {
     for mark in expected.as_bytes() {
         clear = clear.saturating_add(usize::from(*mark == b'0'));
     }
-    same(bitmap.unset_bits(), clear).expect(rt, case);
+    assert_text::value(bitmap.unset_bits(), clear).expect(rt, case);
     drop(bitmap);
 }
 

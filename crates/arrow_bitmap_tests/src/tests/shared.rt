@@ -3,7 +3,7 @@ ghost use Rattle.std.specs.Prelude.{◌≡◌, length};
 
 use crate::tests::{check, cut, frozen};
 use arrow_bitmap::{Bitmap, MutableBitmap};
-use arrow_testing::same;
+use arrow_testing::assert_text;
 
 #[test]
 fn marks_that_were_cut_off_do_not_come_back(rt: HostRuntime) {
@@ -21,11 +21,11 @@ fn zeroed_marks_are_clear(rt: HostRuntime) {
     let zeroed = Bitmap::new_zeroed(rt.alloc(), 70).expect(&rt, "memory");
     let counts = [zeroed.len(), zeroed.unset_bits()];
     drop(zeroed);
-    same(counts, [70, 70]).expect(&rt, "new_zeroed");
+    assert_text::value(counts, [70, 70]).expect(&rt, "new_zeroed");
     let none = Bitmap::new(rt.alloc()).expect(&rt, "memory");
     let counts = [none.len(), none.unset_bits()];
     drop(none);
-    same(counts, [0, 0]).expect(&rt, "new");
+    assert_text::value(counts, [0, 0]).expect(&rt, "new");
 }
 
 #[test]
@@ -59,7 +59,7 @@ fn changes_of_a_sliced_clone_leave_the_first(rt: HostRuntime) {
     cut(&rt, &mut second, 3, 6);
     second.apply_mut(set_second).expect(&rt, "memory");
     check(&rt, "the clone", second.iter(), "110011");
-    same(second.unset_bits(), 2).expect(&rt, "clear marks of the clone");
+    assert_text::value(second.unset_bits(), 2).expect(&rt, "clear marks of the clone");
     drop(second);
     check(&rt, "the first", first.iter(), "1011000111");
     drop(first);
@@ -77,7 +77,7 @@ fn owned_marks_come_from_both_ends(rt: HostRuntime) {
         marks.next(),
     ];
     drop(marks);
-    same(came, [Some(true), Some(false), Some(true), None]).expect(&rt, "011");
+    assert_text::value(came, [Some(true), Some(false), Some(true), None]).expect(&rt, "011");
 }
 
 /// Marks, and whether they are empty.
@@ -91,6 +91,6 @@ fn bitmaps_of_no_mark_are_empty(rt: HostRuntime) {
         let thawed = bitmap.into_mut().right().expect(&rt, "marks alone thaw");
         let came = [is_empty, thawed.is_empty()];
         drop(thawed);
-        same(came, [*expected; 2]).expect(&rt, *text);
+        assert_text::value(came, [*expected; 2]).expect(&rt, *text);
     }
 }

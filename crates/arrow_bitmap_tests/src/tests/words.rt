@@ -2,7 +2,7 @@
 //! 64 bits above the lowest p.
 use crate::tests::{check, cut};
 use arrow_bitmap::{Bitmap, MutableBitmap};
-use arrow_testing::same;
+use arrow_testing::assert_text;
 
 /// A name, the slice of the 72 marks, and the index and the bits of a word of it.
 const WORDS: &[(&str, usize, usize, usize, u64)] = &[
@@ -24,7 +24,7 @@ fn words_are_read_from_any_index(rt: HostRuntime) {
         assert!(rt; marks.len() >= 64 && *index <= marks.len() - 64);
         let came = marks.word(*index);
         drop(marks);
-        same(came, *word).expect(&rt, *case);
+        assert_text::value(came, *word).expect(&rt, *case);
     }
 }
 

@@ -1,6 +1,6 @@
 //! Ranges of arrays that builders take: stored values, those of null slots included, and marks.
 use arrow_boolean::{BooleanArray, MutableBooleanArray};
-use arrow_testing::{frozen_mask, same_growing_mask, same_marks};
+use arrow_testing::{assert_text, frozen_mask};
 use arrow_types::data_type::DataType;
 use std::process::Abort;
 
@@ -130,8 +130,8 @@ fn a_mask_is_held_if_either_side_holds_one(rt: HostRuntime) {
         let mut builder = builder.expect(&rt, "an array alone thaws");
         extend(&rt, &mut builder, &array, *range);
         drop(array);
-        same_marks(builder.values_iter(), joined.0).expect(&rt, *case);
-        same_growing_mask(builder.validity(), joined.1).expect(&rt, *case);
+        assert_text::marks(builder.values_iter(), joined.0).expect(&rt, *case);
+        assert_text::growing_mask(builder.validity(), joined.1).expect(&rt, *case);
         drop(builder);
     }
 }

@@ -88,7 +88,7 @@ fn set_mask<K: ByteKind, O: Offset>(rt: &impl Abort, array: &mut ByteArray<K, O>
 }
 
 /// Marks as they are.
-fn same(marks: Bitmap) -> Bitmap
+fn assert_text::value(marks: Bitmap) -> Bitmap
     ensures { length result ≡ length marks }
 {
     marks

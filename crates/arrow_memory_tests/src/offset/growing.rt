@@ -1,17 +1,17 @@
 //! Growing offsets, of each type.
 use arrow_memory::offset::Offsets;
-use arrow_testing::{Tiny, same};
+use arrow_testing::{Tiny, assert_text};
 use arrow_types::offset::Offset;
 use std::process::Abort;
 
 #[test]
 fn room_is_reserved_and_given_back(rt: HostRuntime) {
     let mut offsets = Offsets::<i32>::with_capacity(rt.alloc(), 40).expect(&rt, "memory");
-    same(offsets.capacity().min(40), 40).expect(&rt, "at least 40 by with_capacity");
+    assert_text::value(offsets.capacity().min(40), 40).expect(&rt, "at least 40 by with_capacity");
     offsets.reserve(100).expect(&rt, "memory");
-    same(offsets.capacity().min(100), 100).expect(&rt, "at least 100 by reserve");
+    assert_text::value(offsets.capacity().min(100), 100).expect(&rt, "at least 100 by reserve");
     offsets.shrink_to_fit().expect(&rt, "memory");
-    same(offsets.capacity().max(39), 39).expect(&rt, "at most 39 by shrink_to_fit");
+    assert_text::value(offsets.capacity().max(39), 39).expect(&rt, "at most 39 by shrink_to_fit");
     drop(offsets);
 }
 
@@ -22,7 +22,7 @@ fn offsets_of_no_slot_are_empty(rt: HostRuntime) {
     offsets.try_push_usize(0).expect(&rt, "room");
     let is_still_empty = offsets.is_empty();
     drop(offsets);
-    same([is_empty, is_still_empty], [true, false]).expect(&rt, "no slot, one of no byte");
+    assert_text::value([is_empty, is_still_empty], [true, false]).expect(&rt, "no slot, one of no byte");
 }
 
 /// Creates offsets of two empty slots and one of 20 bytes.
@@ -42,7 +42,7 @@ fn join<O: Offset>(rt: &(impl Abort + AllocGlobal)) {
     drop(copy);
     let end = offsets.last().to_usize();
     drop(offsets);
-    same(end, 40).expect(rt, "the end after try_extend_from_self");
+    assert_text::value(end, 40).expect(rt, "the end after try_extend_from_self");
 }
 
 /// Freezes offsets, and clones them.
@@ -52,7 +52,7 @@ fn freeze<O: Offset>(rt: &(impl Abort + AllocGlobal)) {
     drop(offsets);
     let count = copy.len_proxy();
     drop(copy);
-    same(count, 3).expect(rt, "the slots of a clone");
+    assert_text::value(count, 3).expect(rt, "the slots of a clone");
 }
 
 /// Appends the last two slots, and their bytes.
@@ -66,7 +66,7 @@ fn extend<O: Offset>(rt: &(impl Abort + AllocGlobal)) {
     let came = [offsets.last().to_usize(), values.len()];
     drop(values);
     drop(offsets);
-    same(came, [40, 20]).expect(rt, "the end, and the bytes, after try_extend_slots");
+    assert_text::value(came, [40, 20]).expect(rt, "the end, and the bytes, after try_extend_slots");
 }
 
 /// Asks offsets of a type.

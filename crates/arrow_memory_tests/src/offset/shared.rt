@@ -1,6 +1,6 @@
 //! Frozen offsets.
 use arrow_memory::offset::OffsetsBuffer;
-use arrow_testing::{frozen_offsets, same};
+use arrow_testing::{assert_text, frozen_offsets};
 use std::process::Abort;
 
 /// Slices offsets, and compares those that are left, and the number of slots, with these.
@@ -14,8 +14,8 @@ fn check_slice(
     let slots = offsets.len_proxy();
     assert!(rt; 1 <= len && offset <= slots && len - 1 <= slots - offset);
     offsets.slice(offset, len);
-    same(offsets.buffer().as_slice(), expected).expect(rt, "the offsets of a slice");
-    same(offsets.len_proxy(), len - 1).expect(rt, "the slots of a slice");
+    assert_text::value(offsets.buffer().as_slice(), expected).expect(rt, "the offsets of a slice");
+    assert_text::value(offsets.len_proxy(), len - 1).expect(rt, "the slots of a slice");
 }
 
 #[test]
@@ -23,9 +23,9 @@ fn slices_count_offsets(rt: HostRuntime) {
     let offsets = frozen_offsets::<i32>(rt.alloc(), [2, 3, 3, 5].as_slice());
     let mut offsets = offsets.expect(&rt, "offsets");
     check_slice(&rt, &mut offsets, 1, 3, [3, 3, 5].as_slice());
-    same(offsets.is_empty(), false).expect(&rt, "two slots");
+    assert_text::value(offsets.is_empty(), false).expect(&rt, "two slots");
     check_slice(&rt, &mut offsets, 2, 1, [5].as_slice());
-    same(offsets.is_empty(), true).expect(&rt, "no slot");
+    assert_text::value(offsets.is_empty(), true).expect(&rt, "no slot");
     drop(offsets);
 }
 

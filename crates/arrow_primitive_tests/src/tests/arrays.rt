@@ -35,7 +35,7 @@ fn is_pair<T: NativeType>(array: &PrimitiveArray<T>, value: T, zero: T) -> bool 
 }
 
 /// The marks as they are.
-fn same_mask(marks: Bitmap) -> Bitmap
+fn assert_text::mask(marks: Bitmap) -> Bitmap
     ensures { length result ≡ length marks }
 {
     marks
