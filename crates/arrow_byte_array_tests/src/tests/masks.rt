@@ -1,0 +1,121 @@
+//! Masks that are replaced, changed and dropped, and reads by index under them.
+ghost use Rattle.std.specs.Prelude.{◌≡◌, length};
+
+use super::*;
+use arrow_memory::bitmap::{Bitmap, MutableBitmap};
+
+/// Returns marks unchanged.
+fn same(marks: Bitmap) -> Bitmap
+    ensures { length result ≡ length marks }
+{
+    marks
+}
+
+/// Returns marks with the first inverted.
+fn inverted(marks: MutableBitmap) -> MutableBitmap
+    ensures { length result ≡ length marks }
+{
+    let mut marks = marks;
+    if marks.len() > 0 {
+        let first = marks.get(0);
+        marks.set(0, !first);
+    }
+    marks
+}
+
+/// `AROUND` under other masks.
+const UNMASKED: Stored = ("[2 3 3 5]", b"\xFF\xFF\x01\x04\x04\xC3", "none");
+
+const REMASKED: Stored = ("[2 3 3 5]", b"\xFF\xFF\x01\x04\x04\xC3", "011");
+
+/// Compares what an array of three slots answers by index with slots, stored items and marks.
+macro_rules! check_reads {
+    ($rt:ident, $case:expr, $array:ident, $slots:expr, $items:expr, $valid:expr, $null:expr) => {{
+        assert!($rt; $array.len() == 3);
+        let slots = [$array.get(0), $array.get(1), $array.get(2)];
+        assert_text::value(slots, $slots).expect($rt, $case);
+        let items = [$array.value(0), $array.value(1), $array.value(2)];
+        assert_text::value(items, $items).expect($rt, $case);
+        let valid = [$array.is_valid(0), $array.is_valid(1), $array.is_valid(2)];
+        assert_text::marks(valid.into_iter(), $valid).expect($rt, $case);
+        let null = [$array.is_null(0), $array.is_null(1), $array.is_null(2)];
+        assert_text::marks(null.into_iter(), $null).expect($rt, $case);
+    }};
+}
+
+/// Replaces and drops the mask of arrays of a slot `$one`, a null that stores `$none`, and a slot `$two`.
+macro_rules! check_masks {
+    ($kind:ty, $offset:ty, $rt:ident, $one:expr, $none:expr, $two:expr) => {{
+        let (slots, items) = ([Some($one), None, Some($two)], [$one, $none, $two]);
+        let mut array = array_of::<$kind, $offset>($rt, AROUND);
+        check_reads!($rt, "a mask", array, slots, items, "101", "010");
+        assert_text::value(array.null_count(), 1).expect($rt, "null_count");
+        let marks = Bitmap::from_slice($rt.alloc(), [false, true, true].as_slice());
+        let marks = marks.expect($rt, "memory");
+        assert!($rt; array.len() == marks.len());
+        array.set_validity(Some(marks));
+        array.apply_validity(same);
+        check_array($rt, "another mask", &array, REMASKED);
+        let slots = [None, Some($none), Some($two)];
+        check_reads!($rt, "another mask", array, slots, items, "011", "100");
+        let array = array.with_validity(None);
+        check_array($rt, "with_validity of none", &array, UNMASKED);
+        drop(array);
+
+        let mut array = array_of::<$kind, $offset>($rt, AROUND);
+        array.set_validity(None);
+        check_array($rt, "set_validity of none", &array, UNMASKED);
+        let slots = [Some($one), Some($none), Some($two)];
+        check_reads!($rt, "no mask", array, slots, items, "111", "000");
+        array.apply_validity(same);
+        check_array($rt, "apply_validity without a mask", &array, UNMASKED);
+        drop(array);
+    }};
+}
+
+fn check_masks_of_bytes<O: Offset>(rt: &(impl Abort + AllocGlobal)) {
+    let (one, none, two) = (b"\x01".as_slice(), b"".as_slice(), b"\x04\x04".as_slice());
+    check_masks!(Binary, O, rt, one, none, two);
+}
+
+fn check_masks_of_texts<O: Offset>(rt: &(impl Abort + AllocGlobal)) {
+    check_masks!(Utf8, O, rt, "\x01", "", "\x04\x04");
+}
+
+#[test]
+fn nulls_of_arrays_store_items_that_another_mask_shows(rt: HostRuntime) {
+    check_masks_of_bytes::<i32>(&rt);
+    check_masks_of_bytes::<i64>(&rt);
+    check_masks_of_texts::<i32>(&rt);
+    check_masks_of_texts::<i64>(&rt);
+}
+
+/// Changes, replaces and drops the mask of builders.
+fn check_masks_of_builders<K: ByteKind, O: Offset>(rt: &(impl Abort + AllocGlobal)) {
+    let mut builder = builder_of::<K, O>(rt, SLOTS_PARTS);
+    builder.apply_validity(inverted);
+    check_builder(rt, "apply_validity", &builder, (SLOTS.0, SLOTS.1, "001"));
+    builder.set_validity(None);
+    builder.apply_validity(inverted);
+    check_builder(rt, "apply_validity without a mask", &builder, ITEMS);
+    let marks = MutableBitmap::from_slice(rt.alloc(), [false, true, true].as_slice());
+    let marks = marks.expect(rt, "memory");
+    assert!(rt; builder.len() == marks.len());
+    builder.set_validity(Some(marks));
+    check_builder(rt, "set_validity", &builder, (SLOTS.0, SLOTS.1, "011"));
+    builder.apply_validity(inverted);
+    check_builder(
+        rt,
+        "the mask that was set",
+        &builder,
+        (SLOTS.0, SLOTS.1, "111"),
+    );
+    let builder = builder.with_validity(None);
+    check_builder(rt, "with_validity of none", &builder, ITEMS);
+    drop(builder);
+}
+
+#[test]
+fn masks_of_builders_are_replaced_changed_and_dropped(rt: HostRuntime) {
+    for_all_kinds!(check_masks_of_builders, &rt);
+}
