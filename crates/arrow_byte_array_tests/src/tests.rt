@@ -1,6 +1,15 @@
 //! Arrays and builders of bytes and of text. What both kinds have in common is asked by functions over a kind and a width
 //! of offsets, which tests call for both kinds at both widths. Offsets are written as numbers where a value is made, and as
 //! a text where they are compared; masks as texts of `1` and `0`, or `none`.
+
+/// Calls a function of a width of offsets for both widths.
+macro_rules! for_both_widths {
+    ($check:ident, $($argument:expr),+) => {{
+        $check::<i32>($($argument),+);
+        $check::<i64>($($argument),+);
+    }};
+}
+
 /// Calls a function of a kind and a width of offsets for both kinds at both widths.
 macro_rules! for_all_kinds {
     ($check:ident, $rt:expr) => {{
@@ -67,24 +76,26 @@ fn name_of<K: ByteKind, O: Offset>(case: &str) -> Text {
     name
 }
 
-/// Compares a data type with the default, and offsets and bytes with those that are expected.
+/// Compares a data type with the default, offsets and bytes with those that are expected, and the length and whether it
+/// is zero with the offsets.
 fn check_stored<K: ByteKind, O: Offset>(
     rt: &impl Abort,
     name: &Text,
-    data_type: &DataType,
-    offsets: &[O],
-    bytes: &[u8],
+    (data_type, size): (&DataType, (usize, bool)),
+    (offsets, bytes): (&[O], &[u8]),
     expected: Stored,
 ) {
     let default_type = K::default_type(O::IS_LARGE);
     assert_text::value(data_type, &default_type).expect(rt, name.as_str());
     drop(default_type);
-    let offsets = offsets.iter().map(|offset| offset.try_to_usize());
-    assert_text::slots(offsets, expected.0).expect(rt, name.as_str());
+    let numbers = offsets.iter().map(|offset| offset.try_to_usize());
+    assert_text::slots(numbers, expected.0).expect(rt, name.as_str());
     assert_text::value(bytes, expected.1).expect(rt, name.as_str());
+    let len = offsets.len().saturating_sub(1);
+    assert_text::value(size, (len, len == 0)).expect(rt, name.as_str());
 }
 
-/// Compares the type, the parts and the length of an array.
+/// Compares the type, the length and the parts of an array.
 fn check_array<K: ByteKind, O: Offset>(
     rt: &impl Abort,
     case: &str,
@@ -92,18 +103,13 @@ fn check_array<K: ByteKind, O: Offset>(
     expected: Stored,
 ) {
     let name = name_of::<K, O>(case);
-    let (offsets, bytes) = (
-        array.offsets().buffer().as_slice(),
-        array.values().as_slice(),
-    );
-    check_stored::<K, O>(rt, &name, array.data_type(), offsets, bytes, expected);
+    let parts = (array.offsets().buffer().as_slice(), array.values().as_slice());
+    let size = (array.len(), array.is_empty());
+    check_stored::<K, O>(rt, &name, (array.data_type(), size), parts, expected);
     assert_text::mask(array.validity(), expected.2).expect(rt, name.as_str());
-    let len = offsets.len().saturating_sub(1);
-    let sizes = (array.len(), array.is_empty());
-    assert_text::value(sizes, (len, len == 0)).expect(rt, name.as_str());
 }
 
-/// Compares the type, the parts and the length of a builder.
+/// Compares the type, the length and the parts of a builder.
 fn check_builder<K: ByteKind, O: Offset>(
     rt: &impl Abort,
     case: &str,
@@ -111,15 +117,13 @@ fn check_builder<K: ByteKind, O: Offset>(
     expected: Stored,
 ) {
     let name = name_of::<K, O>(case);
-    let (offsets, bytes) = (builder.offsets().as_slice(), builder.values().as_slice());
-    check_stored::<K, O>(rt, &name, builder.data_type(), offsets, bytes, expected);
+    let parts = (builder.offsets().as_slice(), builder.values().as_slice());
+    let size = (builder.len(), builder.is_empty());
+    check_stored::<K, O>(rt, &name, (builder.data_type(), size), parts, expected);
     assert_text::growing_mask(builder.validity(), expected.2).expect(rt, name.as_str());
-    let len = offsets.len().saturating_sub(1);
-    let sizes = (builder.len(), builder.is_empty());
-    assert_text::value(sizes, (len, len == 0)).expect(rt, name.as_str());
 }
 
-/// Compares the type, the parts and the length of a builder without nulls.
+/// Compares the type, the length and the parts of a builder without nulls.
 fn check_values<K: ByteKind, O: Offset>(
     rt: &impl Abort,
     case: &str,
@@ -127,11 +131,9 @@ fn check_values<K: ByteKind, O: Offset>(
     expected: Stored,
 ) {
     let name = name_of::<K, O>(case);
-    let (offsets, bytes) = (builder.offsets().as_slice(), builder.values().as_slice());
-    check_stored::<K, O>(rt, &name, builder.data_type(), offsets, bytes, expected);
-    let len = offsets.len().saturating_sub(1);
-    let sizes = (builder.len(), builder.is_empty());
-    assert_text::value(sizes, (len, len == 0)).expect(rt, name.as_str());
+    let parts = (builder.offsets().as_slice(), builder.values().as_slice());
+    let size = (builder.len(), builder.is_empty());
+    check_stored::<K, O>(rt, &name, (builder.data_type(), size), parts, expected);
 }
 
 /// Creates a buffer of these bytes.
@@ -159,12 +161,8 @@ fn builder_of<K: ByteKind, O: Offset>(
     let offsets = offsets_of(rt.alloc(), offsets).expect(rt, "offsets");
     let values = bytes.to_vec(rt.alloc()).expect(rt, "memory");
     let validity = growing_mask(rt.alloc(), marks).expect(rt, "memory");
-    let builder = MutableByteArray::try_new(
-        K::default_type(O::IS_LARGE),
-        offsets,
-        values,
-        validity,
-    );
+    let data_type = K::default_type(O::IS_LARGE);
+    let builder = MutableByteArray::try_new(data_type, offsets, values, validity);
     builder.expect(rt, "parts that fit")
 }
 
