@@ -12,11 +12,11 @@ macro_rules! for_both_widths {
 
 /// Calls a function of a kind and a width of offsets for both kinds at both widths.
 macro_rules! for_all_kinds {
-    ($check:ident, $rt:expr) => {{
-        $check::<Binary, i32>($rt);
-        $check::<Binary, i64>($rt);
-        $check::<Utf8, i32>($rt);
-        $check::<Utf8, i64>($rt);
+    ($check:ident, $($argument:expr),+) => {{
+        $check::<Binary, i32>($($argument),+);
+        $check::<Binary, i64>($($argument),+);
+        $check::<Utf8, i32>($($argument),+);
+        $check::<Utf8, i64>($($argument),+);
     }};
 }
 
@@ -103,7 +103,10 @@ fn check_array<K: ByteKind, O: Offset>(
     expected: Stored,
 ) {
     let name = name_of::<K, O>(case);
-    let parts = (array.offsets().buffer().as_slice(), array.values().as_slice());
+    let parts = (
+        array.offsets().buffer().as_slice(),
+        array.values().as_slice(),
+    );
     let size = (array.len(), array.is_empty());
     check_stored::<K, O>(rt, &name, (array.data_type(), size), parts, expected);
     assert_text::mask(array.validity(), expected.2).expect(rt, name.as_str());

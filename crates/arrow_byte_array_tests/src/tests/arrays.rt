@@ -30,7 +30,7 @@ fn freeze_drops_a_mask_without_nulls(rt: HostRuntime) {
     for_all_kinds!(check_freeze, &rt);
 }
 
-/// Slices an array, and the slice again.
+/// Slices an array, and the slice again, and makes an array of the parts of another, without its mask.
 fn check_slices<K: ByteKind, O: Offset>(rt: &(impl Abort + AllocGlobal)) {
     let array = array_of::<K, O>(rt, AROUND);
     assert!(rt; array.len() == 3);
@@ -40,25 +40,21 @@ fn check_slices<K: ByteKind, O: Offset>(rt: &(impl Abort + AllocGlobal)) {
     let slice = slice.sliced(1, 0);
     check_array(rt, "no slot of it", &slice, ("[5]", AROUND.1, ""));
     drop(slice);
-}
-
-#[test]
-fn slices_keep_all_bytes(rt: HostRuntime) {
-    for_all_kinds!(check_slices, &rt);
-}
-
-/// Makes an array of the parts of another, without its mask.
-fn check_parts<K: ByteKind, O: Offset>(rt: &(impl Abort + AllocGlobal)) {
     let (data_type, offsets, values, validity) = array_of::<K, O>(rt, AROUND).into_inner();
     drop(validity);
     let array = ByteArray::<K, O>::new(data_type, offsets, values, None);
-    check_array(rt, "new", &array, ("[2 3 3 5]", AROUND.1, "none"));
+    check_array(
+        rt,
+        "parts without the mask",
+        &array,
+        ("[2 3 3 5]", AROUND.1, "none"),
+    );
     drop(array);
 }
 
 #[test]
-fn parts_that_are_known_to_fit_are_not_checked(rt: HostRuntime) {
-    for_all_kinds!(check_parts, &rt);
+fn slices_and_parts_keep_all_bytes(rt: HostRuntime) {
+    for_all_kinds!(check_slices, &rt);
 }
 
 /// Thaws an array only once no clone shares it, and no slice hides a slot.
@@ -110,6 +106,5 @@ fn check_bytes<O: Offset>(rt: &(impl Abort + AllocGlobal)) {
 
 #[test]
 fn any_bytes_are_an_item_and_may_lie_outside_of_items(rt: HostRuntime) {
-    check_bytes::<i32>(&rt);
-    check_bytes::<i64>(&rt);
+    for_both_widths!(check_bytes, &rt);
 }

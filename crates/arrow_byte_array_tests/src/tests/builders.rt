@@ -1,8 +1,8 @@
-//! Builders with nulls: how they grow and shrink, and are copied and compared.
+//! Builders: how they grow and shrink; how those with nulls are copied and compared.
 use super::*;
-use arrow_binary::MutableBinaryArray;
+use arrow_binary::{MutableBinaryArray, MutableBinaryValuesArray};
 use arrow_types::error::Error;
-use arrow_utf8::MutableUtf8Array;
+use arrow_utf8::{MutableUtf8Array, MutableUtf8ValuesArray};
 use std::fmt::Debug;
 
 /// Compares what `pop` returned with a text.
@@ -18,89 +18,75 @@ pub(super) fn check_popped<T: Debug + Drop>(
     assert_text::text(came, expected).expect(rt, case);
 }
 
-/// Pushes slots of `é` and `c` and nulls, and reads them by index.
-macro_rules! check_pushes {
-    ($kind:ty, $offset:ty, $rt:ident, $e_acute:expr, $c:expr, $none:expr) => {{
-        let mut builder = MutableByteArray::<$kind, $offset>::new($rt.alloc()).expect($rt, "memory");
-        builder.push(Some($e_acute)).expect($rt, "memory");
-        builder.push(None).expect($rt, "memory");
-        builder.try_push(Some($c)).expect($rt, "memory");
-        builder.try_push(None).expect($rt, "memory");
-        builder.push_null().expect($rt, "memory");
-        check_builder($rt, "pushed", &builder, ("[0 2 2 3 3 3]", b"\xC3\xA9c", "10100"));
-        assert!($rt; builder.len() == 5);
-        let items = [
-            builder.value(0),
-            builder.value(1),
-            builder.value(2),
-            builder.value(3),
-            builder.value(4),
-        ];
-        assert_text::value(items, [$e_acute, $none, $c, $none, $none]).expect($rt, "value");
-        drop(builder);
-    }};
-}
-
-fn check_pushes_of_bytes<O: Offset>(rt: &(impl Abort + AllocGlobal)) {
-    let (e_acute, c, none) = (b"\xC3\xA9".as_slice(), b"c".as_slice(), b"".as_slice());
-    check_pushes!(Binary, O, rt, e_acute, c, none);
-}
-
-fn check_pushes_of_texts<O: Offset>(rt: &(impl Abort + AllocGlobal)) {
-    check_pushes!(Utf8, O, rt, "é", "c", "");
+/// Pushes slots and nulls, and reads their items by index.
+fn check_pushes<O: Offset>(rt: &(impl Abort + AllocGlobal)) {
+    macro_rules! check {
+        ($kind:ty, $e_acute:expr, $c:expr, $none:expr) => {{
+            let builder = MutableByteArray::<$kind, O>::new(rt.alloc());
+            let mut builder = builder.expect(rt, "memory");
+            builder.push(Some($e_acute)).expect(rt, "memory");
+            builder.push(None).expect(rt, "memory");
+            builder.try_push(Some($c)).expect(rt, "memory");
+            builder.try_push(None).expect(rt, "memory");
+            builder.push_null().expect(rt, "memory");
+            check_builder(rt, "pushed", &builder, ("[0 2 2 3 3 3]", b"\xC3\xA9c", "10100"));
+            assert!(rt; builder.len() == 5);
+            let items = [builder.value(0), builder.value(1), builder.value(2)];
+            assert_text::value(items, [$e_acute, $none, $c]).expect(rt, "value");
+            let items = [builder.value(3), builder.value(4)];
+            assert_text::value(items, [$none, $none]).expect(rt, "value of nulls");
+            drop(builder);
+        }};
+    }
+    check!(
+        Binary,
+        b"\xC3\xA9".as_slice(),
+        b"c".as_slice(),
+        b"".as_slice()
+    );
+    check!(Utf8, "é", "c", "");
 }
 
 #[test]
 fn nulls_that_are_pushed_store_no_byte(rt: HostRuntime) {
-    check_pushes_of_bytes::<i32>(&rt);
-    check_pushes_of_bytes::<i64>(&rt);
-    check_pushes_of_texts::<i32>(&rt);
-    check_pushes_of_texts::<i64>(&rt);
+    for_both_widths!(check_pushes, &rt);
 }
 
 /// Pops slots, whose items print as `$there` and `$e_acute`.
-macro_rules! check_pops {
-    ($kind:ty, $offset:ty, $rt:ident, $there:expr, $e_acute:expr) => {{
-        let mut builder = builder_of::<$kind, $offset>($rt, SLOTS_PARTS);
-        check_popped($rt, "the last slot", builder.pop(), $there);
-        check_popped($rt, "a null", builder.pop(), "None");
-        check_builder($rt, "one slot", &builder, ("[0 2]", b"\xC3\xA9", "1"));
-        check_popped($rt, "the first slot", builder.pop(), $e_acute);
-        check_popped($rt, "no slot", builder.pop(), "None");
-        check_builder($rt, "no slots", &builder, ("[0]", b"", ""));
-        drop(builder);
-        let mut builder = builder_of::<$kind, $offset>($rt, (&[1, 2, 3], b"\xFFyz", "10"));
-        check_popped($rt, "a null that stores a byte", builder.pop(), "None");
-        check_builder($rt, "its byte goes with it", &builder, ("[1 2]", b"\xFFy", "1"));
-        drop(builder);
-    }};
-}
-
-fn check_pops_of_bytes<O: Offset>(rt: &(impl Abort + AllocGlobal)) {
-    check_pops!(
+fn check_pops<O: Offset>(rt: &(impl Abort + AllocGlobal)) {
+    macro_rules! check {
+        ($kind:ty, $there:expr, $e_acute:expr) => {{
+            let mut builder = builder_of::<$kind, O>(rt, SLOTS_PARTS);
+            check_popped(rt, "the last slot", builder.pop(), $there);
+            check_popped(rt, "a null", builder.pop(), "None");
+            check_builder(rt, "one slot", &builder, ("[0 2]", b"\xC3\xA9", "1"));
+            check_popped(rt, "the first slot", builder.pop(), $e_acute);
+            check_popped(rt, "no slot", builder.pop(), "None");
+            check_builder(rt, "no slots", &builder, ("[0]", b"", ""));
+            drop(builder);
+            let mut builder = builder_of::<$kind, O>(rt, (&[1, 2, 3], b"\xFFyz", "10"));
+            check_popped(rt, "a null that stores a byte", builder.pop(), "None");
+            check_builder(rt, "its byte goes with it", &builder, ("[1 2]", b"\xFFy", "1"));
+            drop(builder);
+        }};
+    }
+    check!(
         Binary,
-        O,
-        rt,
         "Some([116, 104, 101, 114, 101])",
         "Some([195, 169])"
     );
-}
-
-fn check_pops_of_texts<O: Offset>(rt: &(impl Abort + AllocGlobal)) {
-    check_pops!(Utf8, O, rt, r#"Some("there")"#, r#"Some("é")"#);
+    check!(Utf8, r#"Some("there")"#, r#"Some("é")"#);
 }
 
 #[test]
 fn slots_are_popped_with_their_bytes(rt: HostRuntime) {
-    check_pops_of_bytes::<i32>(&rt);
-    check_pops_of_bytes::<i64>(&rt);
-    check_pops_of_texts::<i32>(&rt);
-    check_pops_of_texts::<i64>(&rt);
+    for_both_widths!(check_pops, &rt);
 }
 
-/// Extends a builder by the items `a` and `é`, by the slots `d` and a null, and by slots of no byte and `é`.
+/// Extends a builder by items, by slots of which one is null, and by slots of which none is, and one without nulls by the
+/// items, and by others.
 macro_rules! check_growth {
-    ($builder:ty, $rt:ident, $items:ident, $first:ident, $second:ident) => {{
+    ($builder:ty, $values:ty, $rt:ident, $items:ident, $others:ident, $first:ident, $second:ident) => {{
         let mut builder = <$builder>::default($rt.alloc()).expect($rt, "memory");
         builder.extend_values($items.iter().copied()).expect($rt, "memory");
         check_builder($rt, "extend_values", &builder, ("[0 1 3]", b"a\xC3\xA9", "none"));
@@ -109,38 +95,54 @@ macro_rules! check_growth {
         let expected = ("[0 1 3 4 4 4 6]", b"a\xC3\xA9d\xC3\xA9".as_slice(), "111011");
         check_builder($rt, "extend and try_extend", &builder, expected);
         drop(builder);
+        let mut builder = <$values>::default($rt.alloc()).expect($rt, "memory");
+        builder.extend($items.iter().copied()).expect($rt, "memory");
+        builder.try_extend($others.iter().copied()).expect($rt, "memory");
+        check_values($rt, "without nulls", &builder, ("[0 1 3 3 4]", b"a\xC3\xA9d", "none"));
+        drop(builder);
     }};
 }
 
 fn check_growth_by_bytes<O: Offset>(
     rt: &(impl Abort + AllocGlobal),
-    items: &[&[u8]],
-    first: &[Option<&[u8]>],
-    second: &[Option<&[u8]>],
+    [items, others]: [&[&[u8]]; 2],
+    [first, second]: [&[Option<&[u8]>]; 2],
 ) {
-    check_growth!(MutableBinaryArray<O>, rt, items, first, second);
+    check_growth!(
+        MutableBinaryArray<O>,
+        MutableBinaryValuesArray<O>,
+        rt,
+        items,
+        others,
+        first,
+        second
+    );
 }
 
 fn check_growth_by_texts<O: Offset>(
     rt: &(impl Abort + AllocGlobal),
-    items: &[&str],
-    first: &[Option<&str>],
-    second: &[Option<&str>],
+    [items, others]: [&[&str]; 2],
+    [first, second]: [&[Option<&str>]; 2],
 ) {
-    check_growth!(MutableUtf8Array<O>, rt, items, first, second);
+    check_growth!(
+        MutableUtf8Array<O>,
+        MutableUtf8ValuesArray<O>,
+        rt,
+        items,
+        others,
+        first,
+        second
+    );
 }
 
 #[test]
 fn builders_grow_by_items_and_slots_that_are_borrowed(rt: HostRuntime) {
-    let items: &[&[u8]] = &[b"a", b"\xC3\xA9"];
-    let first: &[Option<&[u8]>] = &[Some(b"d"), None];
-    let second: &[Option<&[u8]>] = &[Some(b""), Some(b"\xC3\xA9")];
-    check_growth_by_bytes::<i32>(&rt, items, first, second);
-    check_growth_by_bytes::<i64>(&rt, items, first, second);
-    let (items, first, second) = (["a", "é"], [Some("d"), None], [Some(""), Some("é")]);
-    let (items, first, second) = (items.as_slice(), first.as_slice(), second.as_slice());
-    check_growth_by_texts::<i32>(&rt, items, first, second);
-    check_growth_by_texts::<i64>(&rt, items, first, second);
+    let items: [&[&[u8]]; 2] = [&[b"a", b"\xC3\xA9"], &[b"", b"d"]];
+    let slots: [&[Option<&[u8]>]; 2] = [&[Some(b"d"), None], &[Some(b""), Some(b"\xC3\xA9")]];
+    for_both_widths!(check_growth_by_bytes, &rt, items, slots);
+    let items: [&[&str]; 2] = [&["a", "é"], &["", "d"]];
+    let slots: [&[Option<&str>]; 2] = [&[Some("d"), None], &[Some(""), Some("é")]];
+    for_both_widths!(check_growth_by_texts, &rt, items, slots);
 }
 
 /// Compares the room for slots, for offsets and for bytes, of which more than expected is not counted.

@@ -26,7 +26,13 @@ fn check_new_arrays<K: ByteKind, O: Offset>(rt: &(impl Abort + AllocGlobal)) {
     let array = ByteArray::<K, O>::new_null(alloc, ByteArray::<K, O>::default_data_type(), 0);
     check_made!(check_array, rt, "new_null of none", array, ("[0]", b"", ""));
     let array = ByteArray::<K, O>::new_null(alloc, ByteArray::<K, O>::default_data_type(), 3);
-    check_made!(check_array, rt, "new_null of three", array, ("[0 0 0 0]", b"", "000"));
+    check_made!(
+        check_array,
+        rt,
+        "new_null of three",
+        array,
+        ("[0 0 0 0]", b"", "000")
+    );
 }
 
 /// Compares new builders with and without nulls, which have no slot.
@@ -112,11 +118,7 @@ fn check_bytes<O: Offset>(
     );
 }
 
-fn check_texts<O: Offset>(
-    rt: &(impl Abort + AllocGlobal),
-    slots: &[Option<&str>],
-    items: &[&str],
-) {
+fn check_texts<O: Offset>(rt: &(impl Abort + AllocGlobal), slots: &[Option<&str>], items: &[&str]) {
     check_arrays!(ByteArray<Utf8, O>, rt, slots, items);
     check_builders!(
         MutableByteArray<Utf8, O>,

@@ -3,17 +3,9 @@
 use super::*;
 use arrow_testing::{Tiny, tells};
 
-/// A name, a builder, an array, the slice of the array, the range of that slice, the expected answer and the expected
-/// builder.
-type Case = (
-    &'static str,
-    Parts,
-    Parts,
-    [usize; 2],
-    [usize; 2],
-    &'static str,
-    Stored,
-);
+/// A name, a builder, an array, the offset and length of a slice of the array, those of a range of that slice, and the
+/// expected builder.
+type Case = (&'static str, Parts, Parts, [usize; 4], Stored);
 
 /// Eleven items of a byte.
 const BARE: Parts = (
@@ -36,63 +28,49 @@ const CASES: &[Case] = &[
         "a mask and bytes around, after nothing",
         (&[0], b"", "none"),
         AROUND,
-        [0, 3],
-        [0, 3],
-        "made",
+        [0, 3, 0, 3],
         ("[0 1 1 3]", b"\x01\x04\x04", "101"),
     ),
     (
         "one slot of a slice, after masked slots and another byte",
         (&[1, 2, 3], b"\xFFyz", "10"),
         AROUND,
-        [1, 2],
-        [1, 1],
-        "made",
+        [1, 2, 1, 1],
         ("[1 2 3 5]", b"\xFFyz\x04\x04", "101"),
     ),
     (
         "nothing of a masked array",
         (&[1, 2, 3], b"\xFFyz", "none"),
         AROUND,
-        [0, 3],
-        [3, 0],
-        "made",
+        [0, 3, 3, 0],
         ("[1 2 3]", b"\xFFyz", "11"),
     ),
     (
         "no mask on either side",
         (&[0, 2, 2, 7], b"\xC3\xA9there", "none"),
         BARE,
-        [0, 11],
-        [3, 4],
-        "made",
+        [0, 11, 3, 4],
         ("[0 2 2 7 8 9 10 11]", b"\xC3\xA9theredefg", "none"),
     ),
     (
         "a mask in the builder",
         SLOTS_PARTS,
         BARE,
-        [0, 11],
-        [3, 4],
-        "made",
+        [0, 11, 3, 4],
         ("[0 2 2 7 8 9 10 11]", b"\xC3\xA9theredefg", "1011111"),
     ),
     (
         "a mask in the array",
         (&[0, 2, 2, 7], b"\xC3\xA9there", "none"),
         MASKED,
-        [1, 9],
-        [4, 5],
-        "made",
+        [1, 9, 4, 5],
         ("[0 2 2 7 8 9 10 11 12]", b"\xC3\xA9therefghij", "11101110"),
     ),
     (
         "masks on both sides, past a byte",
         SLOTS_PARTS,
         MASKED,
-        [0, 11],
-        [2, 9],
-        "made",
+        [0, 11, 2, 9],
         (
             "[0 2 2 7 8 9 10 11 12 13 14 15 16]",
             b"\xC3\xA9therecdefghijk",
@@ -103,9 +81,7 @@ const CASES: &[Case] = &[
         "nothing of a bare array, after nothing",
         (&[0], b"", "none"),
         BARE,
-        [4, 0],
-        [0, 0],
-        "made",
+        [4, 0, 0, 0],
         NOTHING,
     ),
 ];
@@ -121,71 +97,55 @@ const HUNDRED: &[u8] = &[7; 100];
 /// Items of forty bytes, one byte and thirty, between ten bytes that do not count.
 const LONG: Parts = (&[5, 45, 46, 76], EIGHTY_ONE, "101");
 
-/// A range that ends one past the greatest offset is an `Overflow`, and the builder is unchanged. Other slots of the
-/// array do not count.
-const CASES_THAT_END: &[Case] = &[
-    (
-        "one past the greatest",
-        (&[0, 60], SIXTY, "none"),
-        LONG,
-        [0, 3],
-        [0, 2],
-        "overflow",
-        ("[0 60]", SIXTY, "none"),
-    ),
+/// Ranges that end at the greatest offset, or before it. Other slots of the array do not count.
+const CASES_THAT_FIT: &[Case] = &[
     (
         "at the greatest",
         (&[0, 60], SIXTY, "none"),
         LONG,
-        [0, 3],
-        [0, 1],
-        "made",
+        [0, 3, 0, 1],
         ("[0 60 100]", HUNDRED, "11"),
     ),
     (
         "the last slot of a slice",
         (&[30, 60], SIXTY, "0"),
         LONG,
-        [1, 2],
-        [1, 1],
-        "made",
+        [1, 2, 1, 1],
         ("[30 60 90]", NINETY, "01"),
-    ),
-    (
-        "a byte after the greatest",
-        (&[100], HUNDRED, "none"),
-        LONG,
-        [0, 3],
-        [1, 1],
-        "overflow",
-        ("[100]", HUNDRED, "none"),
     ),
     (
         "nothing after the greatest",
         (&[100], HUNDRED, "none"),
         LONG,
-        [0, 3],
-        [2, 0],
-        "made",
+        [0, 3, 2, 0],
         ("[100]", HUNDRED, ""),
     ),
 ];
 
-/// Creates an array and slices it.
-fn sliced<K: ByteKind, O: Offset>(
-    rt: &(impl Abort + AllocGlobal),
-    parts: Parts,
-    [offset, len]: [usize; 2],
-) -> ByteArray<K, O> {
-    let array = array_of::<K, O>(rt, parts);
-    assert!(rt; offset <= array.len() && len <= array.len() - offset);
-    array.sliced(offset, len)
-}
+/// Ranges that end past the greatest offset, which leave the builder unchanged.
+const CASES_THAT_OVERFLOW: &[Case] = &[
+    (
+        "one past the greatest",
+        (&[0, 60], SIXTY, "none"),
+        LONG,
+        [0, 3, 0, 2],
+        ("[0 60]", SIXTY, "none"),
+    ),
+    (
+        "a byte after the greatest",
+        (&[100], HUNDRED, "none"),
+        LONG,
+        [0, 3, 1, 1],
+        ("[100]", HUNDRED, "none"),
+    ),
+];
 
 /// Appends a range of an array, and compares what was answered and the builder.
-fn check_case<K: ByteKind, O: Offset>(rt: &(impl Abort + AllocGlobal), case: &Case) {
-    let (name, first, second, slice, [offset, len], answer, joined) = *case;
-    let array = sliced::<K, O>(rt, second, slice);
+fn check_case<K: ByteKind, O: Offset>(rt: &(impl Abort + AllocGlobal), case: &Case, answer: &str) {
+    let (name, first, second, [start, count, offset, len], joined) = *case;
+    let array = array_of::<K, O>(rt, second);
+    assert!(rt; start <= array.len() && count <= array.len() - start);
+    let array = array.sliced(start, count);
     let mut builder = builder_of::<K, O>(rt, first);
     assert!(rt; offset <= array.len() && len <= array.len() - offset);
     let came = tells(builder.extend_from_array(&array, offset, len));
@@ -198,17 +158,18 @@ fn check_case<K: ByteKind, O: Offset>(rt: &(impl Abort + AllocGlobal), case: &Ca
 #[test]
 fn ranges_of_arrays_are_appended(rt: HostRuntime) {
     for case in CASES {
-        check_case::<Binary, i32>(&rt, case);
-        check_case::<Binary, i64>(&rt, case);
-        check_case::<Utf8, i32>(&rt, case);
-        check_case::<Utf8, i64>(&rt, case);
+        for_all_kinds!(check_case, &rt, case, "made");
     }
 }
 
 #[test]
 fn ranges_end_at_the_greatest_offset(rt: HostRuntime) {
-    for case in CASES_THAT_END {
-        check_case::<Binary, Tiny>(&rt, case);
-        check_case::<Utf8, Tiny>(&rt, case);
+    for case in CASES_THAT_FIT {
+        check_case::<Binary, Tiny>(&rt, case, "made");
+        check_case::<Utf8, Tiny>(&rt, case, "made");
+    }
+    for case in CASES_THAT_OVERFLOW {
+        check_case::<Binary, Tiny>(&rt, case, "overflow");
+        check_case::<Utf8, Tiny>(&rt, case, "overflow");
     }
 }

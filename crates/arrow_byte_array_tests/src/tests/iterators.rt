@@ -149,7 +149,13 @@ const FOUR: (&[usize], &[u8]) = (&[1, 3, 3, 4, 7], b"-abcdef-");
 
 fn check_ranges_of_texts<O: Offset>(rt: &(impl Abort + AllocGlobal)) {
     let array = array_of::<Utf8, O>(rt, (FOUR.0, FOUR.1, "1101"));
-    check_texts(rt, "all", &array, 0, &[Some("ab"), Some(""), None, Some("def")]);
+    check_texts(
+        rt,
+        "all",
+        &array,
+        0,
+        &[Some("ab"), Some(""), None, Some("def")],
+    );
     check_texts(rt, "the last two", &array, 2, &[None, Some("def")]);
     check_texts(rt, "none in the middle", &array, 1, &[]);
     check_texts(rt, "none at the end", &array, 4, &[]);
@@ -163,14 +169,34 @@ fn check_ranges_of_texts<O: Offset>(rt: &(impl Abort + AllocGlobal)) {
 
 fn check_ranges_of_bytes<O: Offset>(rt: &(impl Abort + AllocGlobal)) {
     let array = array_of::<Binary, O>(rt, (FOUR.0, FOUR.1, "none"));
-    check_bytes(rt, "the first three", &array, 0, &[Some(b"ab"), Some(b""), Some(b"c")]);
+    check_bytes(
+        rt,
+        "the first three",
+        &array,
+        0,
+        &[Some(b"ab"), Some(b""), Some(b"c")],
+    );
     check_bytes(rt, "the third", &array, 2, &[Some(b"c")]);
     check_bytes(rt, "none at the end", &array, 4, &[]);
-    check_items!(rt, "items in the middle", array, 1, b"".as_slice(), b"c".as_slice());
+    check_items!(
+        rt,
+        "items in the middle",
+        array,
+        1,
+        b"".as_slice(),
+        b"c".as_slice()
+    );
     assert!(rt; array.len() == 4);
     let slice = array.sliced(1, 3);
     check_bytes(rt, "a slot of a slice", &slice, 1, &[Some(b"c")]);
-    check_items!(rt, "items of a slice", slice, 1, b"c".as_slice(), b"def".as_slice());
+    check_items!(
+        rt,
+        "items of a slice",
+        slice,
+        1,
+        b"c".as_slice(),
+        b"def".as_slice()
+    );
     drop(slice);
 }
 

@@ -23,12 +23,10 @@ fn inverted(marks: MutableBitmap) -> MutableBitmap
     marks
 }
 
-/// `AROUND` under other masks.
-const UNMASKED: Stored = ("[2 3 3 5]", b"\xFF\xFF\x01\x04\x04\xC3", "none");
+/// `AROUND` without its mask.
+const BARE: Stored = ("[2 3 3 5]", b"\xFF\xFF\x01\x04\x04\xC3", "none");
 
-const REMASKED: Stored = ("[2 3 3 5]", b"\xFF\xFF\x01\x04\x04\xC3", "011");
-
-/// Compares what an array of three slots answers by index with slots, stored items and marks.
+/// Compares what an array of three slots answers by index with slots, items, and marks of valid slots and of nulls.
 macro_rules! check_reads {
     ($rt:ident, $case:expr, $array:ident, $slots:expr, $items:expr, $valid:expr, $null:expr) => {{
         assert!($rt; $array.len() == 3);
@@ -43,51 +41,63 @@ macro_rules! check_reads {
     }};
 }
 
-/// Replaces and drops the mask of arrays of a slot `$one`, a null that stores `$none`, and a slot `$two`.
-macro_rules! check_masks {
-    ($kind:ty, $offset:ty, $rt:ident, $one:expr, $none:expr, $two:expr) => {{
-        let (slots, items) = ([Some($one), None, Some($two)], [$one, $none, $two]);
-        let mut array = array_of::<$kind, $offset>($rt, AROUND);
-        check_reads!($rt, "a mask", array, slots, items, "101", "010");
-        assert_text::value(array.null_count(), 1).expect($rt, "null_count");
-        let marks = Bitmap::from_slice($rt.alloc(), [false, true, true].as_slice());
-        let marks = marks.expect($rt, "memory");
-        assert!($rt; array.len() == marks.len());
-        array.set_validity(Some(marks));
-        array.apply_validity(same);
-        check_array($rt, "another mask", &array, REMASKED);
-        let slots = [None, Some($none), Some($two)];
-        check_reads!($rt, "another mask", array, slots, items, "011", "100");
-        let array = array.with_validity(None);
-        check_array($rt, "with_validity of none", &array, UNMASKED);
-        drop(array);
-
-        let mut array = array_of::<$kind, $offset>($rt, AROUND);
-        array.set_validity(None);
-        check_array($rt, "set_validity of none", &array, UNMASKED);
-        let slots = [Some($one), Some($none), Some($two)];
-        check_reads!($rt, "no mask", array, slots, items, "111", "000");
-        array.apply_validity(same);
-        check_array($rt, "apply_validity without a mask", &array, UNMASKED);
-        drop(array);
-    }};
+/// Replaces the mask of arrays of a slot `$one`, a null that stores `$none`, and a slot `$two`.
+fn check_replaced_masks<O: Offset>(rt: &(impl Abort + AllocGlobal)) {
+    macro_rules! check {
+        ($kind:ty, $one:expr, $none:expr, $two:expr) => {{
+            let (slots, items) = ([Some($one), None, Some($two)], [$one, $none, $two]);
+            let mut array = array_of::<$kind, O>(rt, AROUND);
+            check_reads!(rt, "a mask", array, slots, items, "101", "010");
+            assert_text::value(array.null_count(), 1).expect(rt, "null_count");
+            let marks = Bitmap::from_slice(rt.alloc(), [false, true, true].as_slice());
+            let marks = marks.expect(rt, "memory");
+            assert!(rt; array.len() == marks.len());
+            array.set_validity(Some(marks));
+            array.apply_validity(same);
+            check_array(rt, "another mask", &array, (BARE.0, BARE.1, "011"));
+            let slots = [None, Some($none), Some($two)];
+            check_reads!(rt, "another mask", array, slots, items, "011", "100");
+            let array = array.with_validity(None);
+            check_array(rt, "with_validity of none", &array, BARE);
+            drop(array);
+        }};
+    }
+    check!(
+        Binary,
+        b"\x01".as_slice(),
+        b"".as_slice(),
+        b"\x04\x04".as_slice()
+    );
+    check!(Utf8, "\x01", "", "\x04\x04");
 }
 
-fn check_masks_of_bytes<O: Offset>(rt: &(impl Abort + AllocGlobal)) {
-    let (one, none, two) = (b"\x01".as_slice(), b"".as_slice(), b"\x04\x04".as_slice());
-    check_masks!(Binary, O, rt, one, none, two);
-}
-
-fn check_masks_of_texts<O: Offset>(rt: &(impl Abort + AllocGlobal)) {
-    check_masks!(Utf8, O, rt, "\x01", "", "\x04\x04");
+/// Drops the mask of such arrays.
+fn check_dropped_masks<O: Offset>(rt: &(impl Abort + AllocGlobal)) {
+    macro_rules! check {
+        ($kind:ty, $one:expr, $none:expr, $two:expr) => {{
+            let (slots, items) = ([Some($one), Some($none), Some($two)], [$one, $none, $two]);
+            let mut array = array_of::<$kind, O>(rt, AROUND);
+            array.set_validity(None);
+            check_array(rt, "set_validity of none", &array, BARE);
+            check_reads!(rt, "no mask", array, slots, items, "111", "000");
+            array.apply_validity(same);
+            check_array(rt, "apply_validity without a mask", &array, BARE);
+            drop(array);
+        }};
+    }
+    check!(
+        Binary,
+        b"\x01".as_slice(),
+        b"".as_slice(),
+        b"\x04\x04".as_slice()
+    );
+    check!(Utf8, "\x01", "", "\x04\x04");
 }
 
 #[test]
-fn nulls_of_arrays_store_items_that_another_mask_shows(rt: HostRuntime) {
-    check_masks_of_bytes::<i32>(&rt);
-    check_masks_of_bytes::<i64>(&rt);
-    check_masks_of_texts::<i32>(&rt);
-    check_masks_of_texts::<i64>(&rt);
+fn nulls_of_arrays_store_items_that_other_masks_show(rt: HostRuntime) {
+    for_both_widths!(check_replaced_masks, &rt);
+    for_both_widths!(check_dropped_masks, &rt);
 }
 
 /// Changes, replaces and drops the mask of builders.

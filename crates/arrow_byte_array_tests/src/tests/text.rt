@@ -11,11 +11,7 @@ const NO_TEXT: &str = "every text between two offsets must be UTF-8";
 const CHARACTERS: &[(&str, &[u8], &[usize])] = &[
     ("one byte each", &[0x61, 0x62, 0x63], &[0, 1, 2, 3]),
     ("two bytes each", &[0xC3, 0xA9, 0xC3, 0xA8], &[0, 2, 4]),
-    (
-        "three bytes, then one",
-        &[0xE2, 0x82, 0xAC, 0x61],
-        &[0, 3, 4],
-    ),
+    ("three bytes and one", &[0xE2, 0x82, 0xAC, 0x61], &[0, 3, 4]),
     ("four bytes", &[0xF0, 0x9F, 0x98, 0x80], &[0, 4]),
     ("a first byte alone", &[0x61, 0xC3], &[]),
     ("a byte of no character", &[0xFF, 0x61], &[]),
@@ -64,86 +60,65 @@ fn check_cuts<O: Offset>(
 #[test]
 fn each_slot_is_text_by_itself(rt: HostRuntime) {
     for (case, bytes, accepted) in CHARACTERS {
-        check_cuts::<i32>(&rt, *case, *bytes, *accepted);
-        check_cuts::<i64>(&rt, *case, *bytes, *accepted);
+        for_both_widths!(check_cuts, &rt, *case, *bytes, *accepted);
     }
 }
 
 /// A name, offsets and bytes, and the tests for ASCII, tests for UTF-8, and bytes looked at for an array and for a
 /// builder.
-const COSTS: &[(&str, &[usize], &[u8], [u64; 3], [u64; 3])] = &[
-    (
-        "a cut between characters",
-        &[0, 2, 4],
-        b"\xC3\xA9\xC3\xA8",
-        [1, 1, 1],
-        [1, 1, 1],
-    ),
-    ("ASCII", &[0, 1, 2, 3], b"abc", [1, 0, 0], [1, 0, 0]),
-    (
-        "an empty text at the end",
-        &[0, 4, 4],
-        b"\xF0\x9F\x98\x80",
-        [1, 1, 0],
-        [1, 1, 0],
-    ),
-    (
-        "half a character",
-        &[1, 2],
-        b"\xC3\xA9",
-        [1, 1, 0],
-        [1, 1, 0],
-    ),
-    (
-        "bytes around an empty text",
-        &[1, 1],
-        b"\xC3\xA9",
-        [1, 0, 0],
-        [0, 0, 0],
-    ),
-    ("offsets past no byte", &[5], b"", [0, 0, 0], [0, 0, 0]),
+const COSTS: &[(&str, &[usize], &[u8], &str, &str)] = &[
+    ("é, è", &[0, 2, 4], b"\xC3\xA9\xC3\xA8", "1 1 1", "1 1 1"),
+    ("a, b, c", &[0, 1, 2, 3], b"abc", "1 0 0", "1 0 0"),
+    ("😀, none", &[0, 4, 4], b"\xF0\x9F\x98\x80", "1 1 0", "1 1 0"),
+    ("half of é", &[1, 2], b"\xC3\xA9", "1 1 0", "1 1 0"),
+    ("none in é", &[1, 1], b"\xC3\xA9", "1 0 0", "0 0 0"),
+    ("no item, no byte", &[5], b"", "0 0 0", "0 0 0"),
 ];
 
-/// Returns the counts of tests for ASCII, of tests for UTF-8, and of bytes that were looked at.
-fn counts(cost: &TextCost) -> [u64; 3] {
-    [cost.ascii_tests(), cost.whole_tests(), cost.bytes_looked()]
+/// Compares the counts of tests for ASCII, of tests for UTF-8, and of bytes that were looked at with a text.
+fn check_cost(rt: &impl Abort, case: &str, cost: &TextCost, expected: &str) {
+    let (ascii, whole, looks) = (cost.ascii_tests(), cost.whole_tests(), cost.bytes_looked());
+    let came = Text::of(format_args!("{ascii} {whole} {looks}"));
+    assert_text::text(came, expected).expect(rt, case);
 }
 
 /// Compares the costs of an array and of builders with and without nulls, also if their parts are refused.
 fn check_costs<O: Offset>(
     rt: &(impl Abort + AllocGlobal),
     case: &str,
-    numbers: &[usize],
-    bytes: &[u8],
-    [of_array, of_builders]: [[u64; 3]; 2],
+    (numbers, bytes): (&[usize], &[u8]),
+    of_array: &str,
+    of_builders: &str,
 ) {
     let mut cost = TextCost::new();
     let _answer = tells(counted::<O>(rt, numbers, bytes, &mut cost));
-    assert_text::value(counts(&cost), of_array).expect(rt, case);
+    check_cost(rt, case, &cost, of_array);
 
-    let mut cost = TextCost::new();
-    let offsets = offsets_of(rt.alloc(), numbers).expect(rt, "offsets");
+    let (mut cost, data_type) = (TextCost::new(), Utf8::default_type(O::IS_LARGE));
+    let offsets = offsets_of::<O>(rt.alloc(), numbers).expect(rt, "offsets");
     let values = bytes.to_vec(rt.alloc()).expect(rt, "memory");
-    let data_type = Utf8::default_type(O::IS_LARGE);
-    let _answer = tells(MutableUtf8Array::<O>::try_new_counted(
-        data_type, offsets, values, None, &mut cost,
-    ));
-    assert_text::value(counts(&cost), of_builders).expect(rt, case);
+    let made = MutableUtf8Array::try_new_counted(data_type, offsets, values, None, &mut cost);
+    let _answer = tells(made);
+    check_cost(rt, case, &cost, of_builders);
 
-    let mut cost = TextCost::new();
-    let offsets = offsets_of(rt.alloc(), numbers).expect(rt, "offsets");
+    let (mut cost, data_type) = (TextCost::new(), Utf8::default_type(O::IS_LARGE));
+    let offsets = offsets_of::<O>(rt.alloc(), numbers).expect(rt, "offsets");
     let values = bytes.to_vec(rt.alloc()).expect(rt, "memory");
-    let data_type = Utf8::default_type(O::IS_LARGE);
-    let _answer = tells(MutableUtf8ValuesArray::<O>::try_new_counted(
-        data_type, offsets, values, &mut cost,
-    ));
-    assert_text::value(counts(&cost), of_builders).expect(rt, case);
+    let made = MutableUtf8ValuesArray::try_new_counted(data_type, offsets, values, &mut cost);
+    let _answer = tells(made);
+    check_cost(rt, case, &cost, of_builders);
 }
 
 #[test]
 fn tests_of_text_are_counted(rt: HostRuntime) {
-    for (case, numbers, bytes, of_array, of_builders) in COSTS {
-        check_costs::<i32>(&rt, *case, *numbers, *bytes, [*of_array, *of_builders]);
-        check_costs::<i64>(&rt, *case, *numbers, *bytes, [*of_array, *of_builders]);
+    for (case, numbers, bytes, array, builders) in COSTS {
+        for_both_widths!(
+            check_costs,
+            &rt,
+            *case,
+            (*numbers, *bytes),
+            *array,
+            *builders
+        );
     }
 }

@@ -1,81 +1,35 @@
 //! Builders without nulls.
 use super::builders::check_popped;
 use super::*;
-use arrow_binary::MutableBinaryValuesArray;
-use arrow_utf8::MutableUtf8ValuesArray;
 
 /// Pushes an item of the byte 1, `é` and a null, and pops two of them, which print as `$popped` and `$empty`.
-macro_rules! check_items {
-    ($kind:ty, $offset:ty, $rt:ident, $one:expr, $e_acute:expr, $popped:expr, $empty:expr) => {{
-        let builder = MutableByteValuesArray::<$kind, $offset>::new($rt.alloc());
-        let mut builder = builder.expect($rt, "memory");
-        builder.push($one).expect($rt, "memory");
-        builder.try_push($e_acute).expect($rt, "memory");
-        check_values($rt, "items", &builder, ("[0 1 3]", b"\x01\xC3\xA9", "none"));
-        assert!($rt; builder.len() == 2);
-        let items = [builder.value(0), builder.value(1)];
-        assert_text::value(items, [$one, $e_acute]).expect($rt, "value");
-        builder.push_null().expect($rt, "memory");
-        check_values($rt, "a null", &builder, ("[0 1 3 3]", b"\x01\xC3\xA9", "none"));
-        check_popped($rt, "pop of a null", builder.pop(), $empty);
-        check_popped($rt, "pop", builder.pop(), $popped);
-        check_values($rt, "popped", &builder, ("[0 1]", b"\x01", "none"));
-        drop(builder);
-    }};
-}
-
-fn check_items_of_bytes<O: Offset>(rt: &(impl Abort + AllocGlobal)) {
+fn check_items<O: Offset>(rt: &(impl Abort + AllocGlobal)) {
+    macro_rules! check {
+        ($kind:ty, $one:expr, $e_acute:expr, $popped:expr, $empty:expr) => {{
+            let builder = MutableByteValuesArray::<$kind, O>::new(rt.alloc());
+            let mut builder = builder.expect(rt, "memory");
+            builder.push($one).expect(rt, "memory");
+            builder.try_push($e_acute).expect(rt, "memory");
+            check_values(rt, "items", &builder, ("[0 1 3]", b"\x01\xC3\xA9", "none"));
+            assert!(rt; builder.len() == 2);
+            let items = [builder.value(0), builder.value(1)];
+            assert_text::value(items, [$one, $e_acute]).expect(rt, "value");
+            builder.push_null().expect(rt, "memory");
+            check_values(rt, "a null", &builder, ("[0 1 3 3]", b"\x01\xC3\xA9", "none"));
+            check_popped(rt, "pop of a null", builder.pop(), $empty);
+            check_popped(rt, "pop", builder.pop(), $popped);
+            check_values(rt, "popped", &builder, ("[0 1]", b"\x01", "none"));
+            drop(builder);
+        }};
+    }
     let (one, e_acute) = (b"\x01".as_slice(), b"\xC3\xA9".as_slice());
-    check_items!(Binary, O, rt, one, e_acute, "Some([195, 169])", "Some([])");
-}
-
-fn check_items_of_texts<O: Offset>(rt: &(impl Abort + AllocGlobal)) {
-    check_items!(Utf8, O, rt, "\x01", "é", r#"Some("é")"#, r#"Some("")"#);
+    check!(Binary, one, e_acute, "Some([195, 169])", "Some([])");
+    check!(Utf8, "\x01", "é", r#"Some("é")"#, r#"Some("")"#);
 }
 
 #[test]
 fn a_null_is_an_empty_item(rt: HostRuntime) {
-    check_items_of_bytes::<i32>(&rt);
-    check_items_of_bytes::<i64>(&rt);
-    check_items_of_texts::<i32>(&rt);
-    check_items_of_texts::<i64>(&rt);
-}
-
-/// Extends a builder by the items `a` and `é`, and by an empty one and `d`.
-macro_rules! check_growth {
-    ($builder:ty, $rt:ident, $first:ident, $second:ident) => {{
-        let mut builder = <$builder>::default($rt.alloc()).expect($rt, "memory");
-        builder.extend($first.iter().copied()).expect($rt, "memory");
-        builder.try_extend($second.iter().copied()).expect($rt, "memory");
-        check_values($rt, "extended", &builder, ("[0 1 3 3 4]", b"a\xC3\xA9d", "none"));
-        drop(builder);
-    }};
-}
-
-fn check_growth_by_bytes<O: Offset>(
-    rt: &(impl Abort + AllocGlobal),
-    first: &[&[u8]],
-    second: &[&[u8]],
-) {
-    check_growth!(MutableBinaryValuesArray<O>, rt, first, second);
-}
-
-fn check_growth_by_texts<O: Offset>(
-    rt: &(impl Abort + AllocGlobal),
-    first: &[&str],
-    second: &[&str],
-) {
-    check_growth!(MutableUtf8ValuesArray<O>, rt, first, second);
-}
-
-#[test]
-fn builders_grow_by_items_that_are_borrowed(rt: HostRuntime) {
-    let (first, second): (&[&[u8]], &[&[u8]]) = (&[b"a", b"\xC3\xA9"], &[b"", b"d"]);
-    check_growth_by_bytes::<i32>(&rt, first, second);
-    check_growth_by_bytes::<i64>(&rt, first, second);
-    let (first, second) = (["a", "é"], ["", "d"]);
-    check_growth_by_texts::<i32>(&rt, first.as_slice(), second.as_slice());
-    check_growth_by_texts::<i64>(&rt, first.as_slice(), second.as_slice());
+    for_both_widths!(check_items, &rt);
 }
 
 /// Extends a builder by another, and copies it.
