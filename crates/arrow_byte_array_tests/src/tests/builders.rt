@@ -1,8 +1,6 @@
 //! Builders: how they grow and shrink; how those with nulls are copied and compared.
 use super::*;
-use arrow_binary::{MutableBinaryArray, MutableBinaryValuesArray};
 use arrow_types::error::Error;
-use arrow_utf8::{MutableUtf8Array, MutableUtf8ValuesArray};
 use std::fmt::Debug;
 
 /// Compares what `pop` returned with a text.
@@ -86,18 +84,19 @@ fn slots_are_popped_with_their_bytes(rt: HostRuntime) {
 /// Extends a builder by items, by slots of which one is null, and by slots of which none is, and one without nulls by the
 /// items, and by others.
 macro_rules! check_growth {
-    ($builder:ty, $values:ty, $rt:ident, $items:ident, $others:ident, $first:ident, $second:ident) => {{
-        let mut builder = <$builder>::default($rt.alloc()).expect($rt, "memory");
-        builder.extend_values($items.iter().copied()).expect($rt, "memory");
+    ($kind:ty, $rt:ident, $items:ident, $slots:ident) => {{
+        let mut builder = MutableByteArray::<$kind, O>::default($rt.alloc()).expect($rt, "memory");
+        builder.extend_values($items[0].iter().copied()).expect($rt, "memory");
         check_builder($rt, "extend_values", &builder, ("[0 1 3]", b"a\xC3\xA9", "none"));
-        builder.extend($first.iter().copied()).expect($rt, "memory");
-        builder.try_extend($second.iter().copied()).expect($rt, "memory");
+        builder.extend($slots[0].iter().copied()).expect($rt, "memory");
+        builder.try_extend($slots[1].iter().copied()).expect($rt, "memory");
         let expected = ("[0 1 3 4 4 4 6]", b"a\xC3\xA9d\xC3\xA9".as_slice(), "111011");
         check_builder($rt, "extend and try_extend", &builder, expected);
         drop(builder);
-        let mut builder = <$values>::default($rt.alloc()).expect($rt, "memory");
-        builder.extend($items.iter().copied()).expect($rt, "memory");
-        builder.try_extend($others.iter().copied()).expect($rt, "memory");
+        let builder = MutableByteValuesArray::<$kind, O>::default($rt.alloc());
+        let mut builder = builder.expect($rt, "memory");
+        builder.extend($items[0].iter().copied()).expect($rt, "memory");
+        builder.try_extend($items[1].iter().copied()).expect($rt, "memory");
         check_values($rt, "without nulls", &builder, ("[0 1 3 3 4]", b"a\xC3\xA9d", "none"));
         drop(builder);
     }};
@@ -105,34 +104,18 @@ macro_rules! check_growth {
 
 fn check_growth_by_bytes<O: Offset>(
     rt: &(impl Abort + AllocGlobal),
-    [items, others]: [&[&[u8]]; 2],
-    [first, second]: [&[Option<&[u8]>]; 2],
+    items: [&[&[u8]]; 2],
+    slots: [&[Option<&[u8]>]; 2],
 ) {
-    check_growth!(
-        MutableBinaryArray<O>,
-        MutableBinaryValuesArray<O>,
-        rt,
-        items,
-        others,
-        first,
-        second
-    );
+    check_growth!(Binary, rt, items, slots);
 }
 
 fn check_growth_by_texts<O: Offset>(
     rt: &(impl Abort + AllocGlobal),
-    [items, others]: [&[&str]; 2],
-    [first, second]: [&[Option<&str>]; 2],
+    items: [&[&str]; 2],
+    slots: [&[Option<&str>]; 2],
 ) {
-    check_growth!(
-        MutableUtf8Array<O>,
-        MutableUtf8ValuesArray<O>,
-        rt,
-        items,
-        others,
-        first,
-        second
-    );
+    check_growth!(Utf8, rt, items, slots);
 }
 
 #[test]
@@ -145,46 +128,41 @@ fn builders_grow_by_items_and_slots_that_are_borrowed(rt: HostRuntime) {
     for_both_widths!(check_growth_by_texts, &rt, items, slots);
 }
 
-/// Compares the room for slots, for offsets and for bytes, of which more than expected is not counted.
-fn check_room<K: ByteKind, O: Offset>(
-    rt: &impl Abort,
-    case: &str,
-    builder: &MutableByteArray<K, O>,
-    slots: usize,
-    bytes: usize,
-) {
-    let offsets = builder.offsets().capacity().min(slots);
-    let room = [
-        builder.capacity().min(slots),
-        offsets,
-        builder.values().capacity().min(bytes),
-    ];
-    assert_text::value(room, [slots, slots, bytes]).expect(rt, case);
-}
-
-/// Reserves room, and gives it back.
+/// Reserves room in builders of these slots with and without nulls, and gives it back.
 fn check_reserve<K: ByteKind, O: Offset>(rt: &(impl Abort + AllocGlobal)) {
-    let builder = MutableByteArray::<K, O>::with_capacity(rt.alloc(), 40).expect(rt, "memory");
-    check_room(rt, "with_capacity", &builder, 40, 0);
-    drop(builder);
-    let builder = MutableByteArray::<K, O>::with_capacities(rt.alloc(), 40, 400);
-    let mut builder = builder.expect(rt, "memory");
-    check_room(rt, "with_capacities", &builder, 40, 400);
+    macro_rules! check {
+        ($builder:ty, $other:expr, $check:ident, $expected:expr) => {{
+            let builder = <$builder>::with_capacity(rt.alloc(), 40).expect(rt, "memory");
+            let room = [builder.capacity().min(40), builder.offsets().capacity().min(40)];
+            assert_text::value(room, [40, 40]).expect(rt, "at least, with_capacity");
+            drop(builder);
+            let builder = <$builder>::with_capacities(rt.alloc(), 40, 400);
+            let mut builder = builder.expect(rt, "memory");
+            let room = [builder.capacity().min(40), builder.offsets().capacity().min(40)];
+            assert_text::value(room, [40, 40]).expect(rt, "at least, with_capacities");
+            let bytes = builder.values().capacity().min(400);
+            assert_text::value(bytes, 400).expect(rt, "at least, with_capacities");
+            let other = $other;
+            builder.try_extend_from_self(&other).expect(rt, "memory");
+            drop(other);
+            builder.reserve(100, 1000).expect(rt, "memory");
+            let room = [builder.capacity().min(102), builder.offsets().capacity().min(102)];
+            assert_text::value(room, [102, 102]).expect(rt, "at least, reserve");
+            let bytes = builder.values().capacity().min(1002);
+            assert_text::value(bytes, 1002).expect(rt, "at least, reserve");
+            builder.shrink_to_fit().expect(rt, "memory");
+            let room = [builder.capacity().max(39), builder.offsets().capacity().max(39)];
+            assert_text::value(room, [39, 39]).expect(rt, "at most, shrink_to_fit");
+            let bytes = builder.values().capacity().max(399);
+            assert_text::value(bytes, 399).expect(rt, "at most, shrink_to_fit");
+            $check(rt, "slots stay", &builder, $expected);
+            drop(builder);
+        }};
+    }
     let other = builder_of::<K, O>(rt, (&[0, 2, 2], b"ab", "10"));
-    builder.try_extend_from_self(&other).expect(rt, "memory");
-    drop(other);
-    builder.reserve(100, 1000).expect(rt, "memory");
-    check_room(rt, "reserve", &builder, 102, 1002);
-    builder.shrink_to_fit().expect(rt, "memory");
-    let offsets = builder.offsets().capacity().max(39);
-    let room = [
-        builder.capacity().max(39),
-        offsets,
-        builder.values().capacity().max(399),
-    ];
-    assert_text::value(room, [39, 39, 399]).expect(rt, "at most, after shrink_to_fit");
-    check_builder(rt, "slots stay", &builder, ("[0 2 2]", b"ab", "10"));
-    drop(builder);
+    check!(MutableByteArray<K, O>, other, check_builder, ("[0 2 2]", b"ab", "10"));
+    let other = values_of::<K, O>(rt, &[0, 2, 2], b"ab");
+    check!(MutableByteValuesArray<K, O>, other, check_values, ("[0 2 2]", b"ab", "none"));
 }
 
 #[test]
@@ -215,41 +193,30 @@ fn a_copy_shares_nothing(rt: HostRuntime) {
     for_all_kinds!(check_copy, &rt);
 }
 
-/// A name, the parts of two builders, and whether the builders are equal.
-const COMPARED: &[(&str, Parts, Parts, bool)] = &[
+/// A name, the parts of a builder, the marks of another, and whether the builders are equal.
+const COMPARED: &[(&str, Parts, &str, bool)] = &[
+    ("other bytes around and in a null", SLOTS_PARTS, "101", true),
+    ("a null and an item", SLOTS_PARTS, "111", false),
     (
-        "other bytes before the slots and in a null",
+        "a null and an item without a mask",
         SLOTS_PARTS,
-        (&[1, 3, 4, 9], b"\xFF\xC3\xA9xthere", "101"),
-        true,
-    ),
-    (
-        "a null and an item",
-        SLOTS_PARTS,
-        (&[1, 3, 4, 9], b"\xFF\xC3\xA9xthere", "111"),
-        false,
-    ),
-    (
-        "a null and an item, without a mask",
-        SLOTS_PARTS,
-        (&[1, 3, 4, 9], b"\xFF\xC3\xA9xthere", "none"),
+        "none",
         false,
     ),
     (
         "nulls that store bytes",
         (&[0, 0, 0, 0], b"", "000"),
-        (&[1, 3, 4, 9], b"\xFF\xC3\xA9xthere", "000"),
+        "000",
         true,
     ),
 ];
 
-/// Compares builders with one another.
+/// Compares builders with others that have another byte before the slots, and one in the second.
 fn check_equality<K: ByteKind, O: Offset>(rt: &(impl Abort + AllocGlobal)) {
-    for (case, first, second, is_equal) in COMPARED {
-        let (first, second) = (
-            builder_of::<K, O>(rt, *first),
-            builder_of::<K, O>(rt, *second),
-        );
+    for (case, parts, marks, is_equal) in COMPARED {
+        let first = builder_of::<K, O>(rt, *parts);
+        let bytes = b"\xFF\xC3\xA9xthere";
+        let second = builder_of::<K, O>(rt, (&[1, 3, 4, 9], bytes, *marks));
         let came = [first == second, first != second];
         drop(second);
         drop(first);

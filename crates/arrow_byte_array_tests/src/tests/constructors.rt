@@ -68,34 +68,38 @@ fn data_types_may_be_written_out(rt: HostRuntime) {
 
 /// Compares arrays of these slots and items, which are those of `SLOTS` and `ITEMS`.
 macro_rules! check_arrays {
-    ($array:ty, $rt:ident, $slots:ident, $items:ident) => {{
+    ($kind:ty, $rt:ident, $slots:ident, $items:ident) => {{
         let alloc = $rt.alloc();
-        check_made!(check_array, $rt, "from", <$array>::from(alloc, $slots), SLOTS);
-        let array = <$array>::from_iter(alloc, $slots.iter().copied());
+        let array = ByteArray::<$kind, O>::from(alloc, $slots);
+        check_made!(check_array, $rt, "from", array, SLOTS);
+        let array = ByteArray::<$kind, O>::from_iter(alloc, $slots.iter().copied());
         check_made!(check_array, $rt, "from_iter", array, SLOTS);
-        check_made!(check_array, $rt, "from_slice", <$array>::from_slice(alloc, $items), ITEMS);
-        let array = <$array>::from_iter_values(alloc, $items.iter().copied());
+        let array = ByteArray::<$kind, O>::from_slice(alloc, $items);
+        check_made!(check_array, $rt, "from_slice", array, ITEMS);
+        let array = ByteArray::<$kind, O>::from_iter_values(alloc, $items.iter().copied());
         check_made!(check_array, $rt, "from_iter_values", array, ITEMS);
         assert!($rt; $slots.len() == 3);
-        let valid = <$array>::from(alloc, &$slots[..1]);
+        let valid = ByteArray::<$kind, O>::from(alloc, &$slots[..1]);
         check_made!(check_array, $rt, "from, no null", valid, ("[0 2]", b"\xC3\xA9", "none"));
     }};
 }
 
 /// Compares builders of these slots and items with and without nulls.
 macro_rules! check_builders {
-    ($builder:ty, $values:ty, $rt:ident, $slots:ident, $items:ident) => {{
+    ($kind:ty, $rt:ident, $slots:ident, $items:ident) => {{
         let alloc = $rt.alloc();
-        check_made!(check_builder, $rt, "from", <$builder>::from(alloc, $slots), SLOTS);
-        let builder = <$builder>::from_iter(alloc, $slots.iter().copied());
+        let builder = MutableByteArray::<$kind, O>::from(alloc, $slots);
+        check_made!(check_builder, $rt, "from", builder, SLOTS);
+        let builder = MutableByteArray::<$kind, O>::from_iter(alloc, $slots.iter().copied());
         check_made!(check_builder, $rt, "from_iter", builder, SLOTS);
-        let builder = <$builder>::from_iter_values(alloc, $items.iter().copied());
+        let builder = MutableByteArray::<$kind, O>::from_iter_values(alloc, $items.iter().copied());
         check_made!(check_builder, $rt, "from_iter_values", builder, ITEMS);
-        let values = <$values>::try_from_iter(alloc, $items.iter().copied());
+        let values = MutableByteValuesArray::<$kind, O>::try_from_iter(alloc, $items.iter().copied());
         check_made!(check_values, $rt, "try_from_iter without nulls", values, ITEMS);
-        let values = <$values>::from_iter(alloc, $items.iter().copied()).expect($rt, "memory");
+        let values = MutableByteValuesArray::<$kind, O>::from_iter(alloc, $items.iter().copied());
+        let values = values.expect($rt, "memory");
         check_values($rt, "from_iter without nulls", &values, ITEMS);
-        let mut builder: $builder = values.into();
+        let mut builder: MutableByteArray<$kind, O> = values.into();
         check_builder($rt, "into", &builder, ITEMS);
         builder.push(None).expect($rt, "memory");
         check_builder($rt, "a null after items", &builder, ("[0 2 2 7 7]", ITEMS.1, "1110"));
@@ -108,25 +112,13 @@ fn check_bytes<O: Offset>(
     slots: &[Option<&[u8]>],
     items: &[&[u8]],
 ) {
-    check_arrays!(ByteArray<Binary, O>, rt, slots, items);
-    check_builders!(
-        MutableByteArray<Binary, O>,
-        MutableByteValuesArray<Binary, O>,
-        rt,
-        slots,
-        items
-    );
+    check_arrays!(Binary, rt, slots, items);
+    check_builders!(Binary, rt, slots, items);
 }
 
 fn check_texts<O: Offset>(rt: &(impl Abort + AllocGlobal), slots: &[Option<&str>], items: &[&str]) {
-    check_arrays!(ByteArray<Utf8, O>, rt, slots, items);
-    check_builders!(
-        MutableByteArray<Utf8, O>,
-        MutableByteValuesArray<Utf8, O>,
-        rt,
-        slots,
-        items
-    );
+    check_arrays!(Utf8, rt, slots, items);
+    check_builders!(Utf8, rt, slots, items);
 }
 
 #[test]

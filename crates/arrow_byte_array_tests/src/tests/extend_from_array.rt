@@ -86,39 +86,31 @@ const CASES: &[Case] = &[
     ),
 ];
 
-const SIXTY: &[u8] = &[7; 60];
-
-const EIGHTY_ONE: &[u8] = &[7; 81];
-
-const NINETY: &[u8] = &[7; 90];
-
-const HUNDRED: &[u8] = &[7; 100];
-
 /// Items of forty bytes, one byte and thirty, between ten bytes that do not count.
-const LONG: Parts = (&[5, 45, 46, 76], EIGHTY_ONE, "101");
+const LONG: Parts = (&[5, 45, 46, 76], &[7; 81], "101");
 
 /// Ranges that end at the greatest offset, or before it. Other slots of the array do not count.
 const CASES_THAT_FIT: &[Case] = &[
     (
         "at the greatest",
-        (&[0, 60], SIXTY, "none"),
+        (&[0, 60], &[7; 60], "none"),
         LONG,
         [0, 3, 0, 1],
-        ("[0 60 100]", HUNDRED, "11"),
+        ("[0 60 100]", &[7; 100], "11"),
     ),
     (
         "the last slot of a slice",
-        (&[30, 60], SIXTY, "0"),
+        (&[30, 60], &[7; 60], "0"),
         LONG,
         [1, 2, 1, 1],
-        ("[30 60 90]", NINETY, "01"),
+        ("[30 60 90]", &[7; 90], "01"),
     ),
     (
         "nothing after the greatest",
-        (&[100], HUNDRED, "none"),
+        (&[100], &[7; 100], "none"),
         LONG,
         [0, 3, 2, 0],
-        ("[100]", HUNDRED, ""),
+        ("[100]", &[7; 100], ""),
     ),
 ];
 
@@ -126,17 +118,17 @@ const CASES_THAT_FIT: &[Case] = &[
 const CASES_THAT_OVERFLOW: &[Case] = &[
     (
         "one past the greatest",
-        (&[0, 60], SIXTY, "none"),
+        (&[0, 60], &[7; 60], "none"),
         LONG,
         [0, 3, 0, 2],
-        ("[0 60]", SIXTY, "none"),
+        ("[0 60]", &[7; 60], "none"),
     ),
     (
         "a byte after the greatest",
-        (&[100], HUNDRED, "none"),
+        (&[100], &[7; 100], "none"),
         LONG,
         [0, 3, 1, 1],
-        ("[100]", HUNDRED, "none"),
+        ("[100]", &[7; 100], "none"),
     ),
 ];
 

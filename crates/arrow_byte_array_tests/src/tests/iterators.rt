@@ -1,8 +1,6 @@
 //! Iterators over slots, over stored items, and over ranges of both.
 use super::*;
-use arrow_binary::BinaryArray;
 use arrow_check::accessor::ArrayAccessor;
-use arrow_utf8::Utf8Array;
 
 /// Reads from both ends arrays of a slot `$one`, a null that stores `$none`, and a slot `$two`.
 fn check_arrays<O: Offset>(rt: &(impl Abort + AllocGlobal)) {
@@ -94,49 +92,20 @@ fn builders_are_read_from_both_ends(rt: HostRuntime) {
     for_both_widths!(check_values_builders, &rt);
 }
 
-/// Compares a range of an array with slots, from both ends.
+/// Compares an iterator over a range of slots from both ends.
 macro_rules! check_range {
-    ($rt:ident, $case:ident, $array:ident, $offset:ident, $slots:ident) => {{
-        let len = $slots.len();
-        assert!($rt; $offset <= $array.len() && len <= $array.len() - $offset);
-        let (mut part, mut back) = (
-            $array.iter_range($offset, len),
-            $array.iter_range($offset, len),
-        );
-        assert_text::value(part.size_hint(), (len, Some(len))).expect($rt, $case);
-        for i in 0..len {
-            let came = [part.next(), back.next_back()];
-            let expected = [Some($slots[i]), Some($slots[len - 1 - i])];
-            assert_text::value(came, expected).expect($rt, $case);
-        }
-        assert_text::value([part.next(), back.next_back()], [None, None]).expect($rt, $case);
+    ($rt:ident, $case:expr, $array:ident, $offset:expr, $len:expr, $slots:expr, $reversed:expr) => {{
+        let range = $array.iter_range($offset, $len);
+        assert_text::value(range.size_hint(), ($len, Some($len))).expect($rt, $case);
+        assert_text::slots(range, $slots).expect($rt, $case);
+        let range = $array.iter_range($offset, $len);
+        assert_text::slots(range.rev(), $reversed).expect($rt, $case);
     }};
 }
 
-fn check_texts<O: Offset>(
-    rt: &impl Abort,
-    case: &str,
-    array: &Utf8Array<O>,
-    offset: usize,
-    slots: &[Option<&str>],
-) {
-    check_range!(rt, case, array, offset, slots);
-}
-
-fn check_bytes<O: Offset>(
-    rt: &impl Abort,
-    case: &str,
-    array: &BinaryArray<O>,
-    offset: usize,
-    slots: &[Option<&[u8]>],
-) {
-    check_range!(rt, case, array, offset, slots);
-}
-
-/// Compares the stored items of a range of two slots, from both ends.
+/// Compares an iterator over the stored items of a range of two slots from both ends.
 macro_rules! check_items {
     ($rt:ident, $case:expr, $array:ident, $offset:expr, $first:expr, $last:expr) => {{
-        assert!($rt; $offset <= $array.len() && 2 <= $array.len() - $offset);
         let mut items = $array.values_iter_range($offset, 2);
         assert_text::value(items.len(), 2).expect($rt, $case);
         let came = [items.next_back(), items.next(), items.next()];
@@ -149,35 +118,35 @@ const FOUR: (&[usize], &[u8]) = (&[1, 3, 3, 4, 7], b"-abcdef-");
 
 fn check_ranges_of_texts<O: Offset>(rt: &(impl Abort + AllocGlobal)) {
     let array = array_of::<Utf8, O>(rt, (FOUR.0, FOUR.1, "1101"));
-    check_texts(
-        rt,
-        "all",
-        &array,
-        0,
-        &[Some("ab"), Some(""), None, Some("def")],
-    );
-    check_texts(rt, "the last two", &array, 2, &[None, Some("def")]);
-    check_texts(rt, "none in the middle", &array, 1, &[]);
-    check_texts(rt, "none at the end", &array, 4, &[]);
-    check_items!(rt, "a null that stores text", array, 2, "c", "def");
     assert!(rt; array.len() == 4);
+    let (all, reversed) = (r#"["ab" "" _ "def"]"#, r#"["def" _ "" "ab"]"#);
+    check_range!(rt, "all", array, 0, 4, all, reversed);
+    check_range!(
+        rt,
+        "the last two",
+        array,
+        2,
+        2,
+        r#"[_ "def"]"#,
+        r#"["def" _]"#
+    );
+    check_range!(rt, "none in the middle", array, 1, 0, "[]", "[]");
+    check_range!(rt, "none at the end", array, 4, 0, "[]", "[]");
+    check_items!(rt, "a null that stores text", array, 2, "c", "def");
     let slice = array.sliced(1, 3);
-    check_texts(rt, "a null of a slice", &slice, 1, &[None]);
+    assert!(rt; slice.len() == 3);
+    check_range!(rt, "a null of a slice", slice, 1, 1, "[_]", "[_]");
     check_items!(rt, "items of a slice", slice, 0, "", "c");
     drop(slice);
 }
 
 fn check_ranges_of_bytes<O: Offset>(rt: &(impl Abort + AllocGlobal)) {
     let array = array_of::<Binary, O>(rt, (FOUR.0, FOUR.1, "none"));
-    check_bytes(
-        rt,
-        "the first three",
-        &array,
-        0,
-        &[Some(b"ab"), Some(b""), Some(b"c")],
-    );
-    check_bytes(rt, "the third", &array, 2, &[Some(b"c")]);
-    check_bytes(rt, "none at the end", &array, 4, &[]);
+    assert!(rt; array.len() == 4);
+    let (first, reversed) = ("[[97, 98] [] [99]]", "[[99] [] [97, 98]]");
+    check_range!(rt, "the first three", array, 0, 3, first, reversed);
+    check_range!(rt, "the third", array, 2, 1, "[[99]]", "[[99]]");
+    check_range!(rt, "none at the end", array, 4, 0, "[]", "[]");
     check_items!(
         rt,
         "items in the middle",
@@ -186,9 +155,9 @@ fn check_ranges_of_bytes<O: Offset>(rt: &(impl Abort + AllocGlobal)) {
         b"".as_slice(),
         b"c".as_slice()
     );
-    assert!(rt; array.len() == 4);
     let slice = array.sliced(1, 3);
-    check_bytes(rt, "a slot of a slice", &slice, 1, &[Some(b"c")]);
+    assert!(rt; slice.len() == 3);
+    check_range!(rt, "a slot of a slice", slice, 1, 1, "[[99]]", "[[99]]");
     check_items!(
         rt,
         "items of a slice",
