@@ -68,6 +68,9 @@ const SLOTS_PARTS: Parts = (&[0, 2, 2, 7], b"\xC3\xA9there", "101");
 /// Items of one, no and two bytes, the second of which is null, with bytes around them that are not text.
 const AROUND: Parts = (&[2, 3, 3, 5], b"\xFF\xFF\x01\x04\x04\xC3", "101");
 
+/// What `AROUND` stores, without a mask.
+const BARE: Stored = ("[2 3 3 5]", b"\xFF\xFF\x01\x04\x04\xC3", "none");
+
 /// Returns the name of a case of a kind and a width of offsets.
 fn name_of<K: ByteKind, O: Offset>(case: &str) -> Text {
     let data_type = K::default_type(O::IS_LARGE);

@@ -12,14 +12,8 @@ const FROZEN: &[(&str, &str, &str)] = &[
 /// Freezes builders with and without a null.
 fn check_freeze<K: ByteKind, O: Offset>(rt: &(impl Abort + AllocGlobal)) {
     for (case, before, after) in FROZEN {
-        let builder = builder_of::<K, O>(rt, (&[0, 1, 1], b"x", *before));
-        check_made!(
-            check_array,
-            rt,
-            *case,
-            builder.freeze(),
-            ("[0 1 1]", b"x", *after)
-        );
+        let frozen = builder_of::<K, O>(rt, (&[0, 1, 1], b"x", *before)).freeze();
+        check_made!(check_array, rt, *case, frozen, ("[0 1 1]", b"x", *after));
     }
     let values = values_of::<K, O>(rt, &[0, 2, 2, 7], ITEMS.1);
     check_made!(check_array, rt, "without nulls", values.freeze(), ITEMS);
@@ -43,12 +37,7 @@ fn check_slices<K: ByteKind, O: Offset>(rt: &(impl Abort + AllocGlobal)) {
     let (data_type, offsets, values, validity) = array_of::<K, O>(rt, AROUND).into_inner();
     drop(validity);
     let array = ByteArray::<K, O>::new(data_type, offsets, values, None);
-    check_array(
-        rt,
-        "parts without the mask",
-        &array,
-        ("[2 3 3 5]", AROUND.1, "none"),
-    );
+    check_array(rt, "parts without the mask", &array, BARE);
     drop(array);
 }
 
@@ -59,9 +48,8 @@ fn slices_and_parts_keep_all_bytes(rt: HostRuntime) {
 
 /// Thaws an array only once no clone shares it, and no slice hides a slot.
 fn check_thawing<K: ByteKind, O: Offset>(rt: &(impl Abort + AllocGlobal)) {
-    let array = builder_of::<K, O>(rt, SLOTS_PARTS)
-        .freeze()
-        .expect(rt, "memory");
+    let builder = builder_of::<K, O>(rt, SLOTS_PARTS);
+    let array = builder.freeze().expect(rt, "memory");
     let clone = array.clone().expect(rt, "memory").into_mut().left();
     let clone = clone.expect(rt, "a shared array stays frozen");
     check_array(rt, "a clone that is not thawed", &clone, SLOTS);
@@ -76,12 +64,7 @@ fn check_thawing<K: ByteKind, O: Offset>(rt: &(impl Abort + AllocGlobal)) {
     assert!(rt; array.len() == 3);
     let slice = array.sliced(1, 1).into_mut().left();
     let slice = slice.expect(rt, "a slice stays frozen");
-    check_array(
-        rt,
-        "a slice that is not thawed",
-        &slice,
-        ("[2 2]", ITEMS.1, "none"),
-    );
+    check_array(rt, "a frozen slice", &slice, ("[2 2]", ITEMS.1, "none"));
     drop(slice);
 }
 
@@ -94,7 +77,9 @@ fn arrays_thaw_if_they_are_neither_shared_nor_sliced(rt: HostRuntime) {
 fn check_bytes<O: Offset>(rt: &(impl Abort + AllocGlobal)) {
     let array = array_of::<Binary, O>(rt, (&[0, 1, 2], b"\xC3\xA9", "none"));
     check_array(rt, "halves", &array, ("[0 1 2]", b"\xC3\xA9", "none"));
-    assert_text::slots(array.iter(), "[[195] [169]]").expect(rt, "halves");
+    assert!(rt; array.len() == 2);
+    let halves = [array.get(0), array.get(1)];
+    assert_text::slots(halves.into_iter(), "[[195] [169]]").expect(rt, "halves");
     drop(array);
 
     let offsets = OffsetsBuffer::<O>::new(rt.alloc()).expect(rt, "memory");

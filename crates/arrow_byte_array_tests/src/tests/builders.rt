@@ -197,18 +197,8 @@ fn a_copy_shares_nothing(rt: HostRuntime) {
 const COMPARED: &[(&str, Parts, &str, bool)] = &[
     ("other bytes around and in a null", SLOTS_PARTS, "101", true),
     ("a null and an item", SLOTS_PARTS, "111", false),
-    (
-        "a null and an item without a mask",
-        SLOTS_PARTS,
-        "none",
-        false,
-    ),
-    (
-        "nulls that store bytes",
-        (&[0, 0, 0, 0], b"", "000"),
-        "000",
-        true,
-    ),
+    ("a null, and no mask", SLOTS_PARTS, "none", false),
+    ("bytes of nulls", (&[0, 0, 0, 0], b"", "000"), "000", true),
 ];
 
 /// Compares builders with others that have another byte before the slots, and one in the second.
@@ -247,23 +237,11 @@ macro_rules! check_slots {
 fn slots_are_read_by_index(rt: HostRuntime) {
     let (rt, offsets): (&HostRuntime, &[usize]) = (&rt, &[0, 0, 2, 3]);
     let some = builder_of::<Utf8, i32>(rt, (offsets, b"abc", "101"));
-    check_slots!(
-        rt,
-        "a null that stores text",
-        some,
-        [Some(""), None, Some("c")],
-        "010",
-        1
-    );
+    let slots = [Some(""), None, Some("c")];
+    check_slots!(rt, "a null that stores text", some, slots, "010", 1);
     let all = builder_of::<Utf8, i64>(rt, (offsets, b"abc", "none"));
-    check_slots!(
-        rt,
-        "no mask",
-        all,
-        [Some(""), Some("ab"), Some("c")],
-        "000",
-        0
-    );
+    let slots = [Some(""), Some("ab"), Some("c")];
+    check_slots!(rt, "no mask", all, slots, "000", 0);
     let bytes = builder_of::<Binary, i64>(rt, (offsets, b"abc", "010"));
     let slots = [None, Some(b"ab".as_slice()), None];
     check_slots!(rt, "nulls that store bytes", bytes, slots, "101", 2);

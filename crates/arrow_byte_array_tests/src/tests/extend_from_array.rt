@@ -7,19 +7,13 @@ use arrow_testing::{Tiny, tells};
 /// expected builder.
 type Case = (&'static str, Parts, Parts, [usize; 4], Stored);
 
-/// Eleven items of a byte.
-const BARE: Parts = (
-    &[0, 1, 2, 3, 4, 5, 6, 7, 8, 9, 10, 11],
-    b"abcdefghijk",
-    "none",
-);
+/// The offsets of eleven items of a byte.
+const ELEVEN: &[usize] = &[0, 1, 2, 3, 4, 5, 6, 7, 8, 9, 10, 11];
 
-/// The same; the nulls store `b`, `f` and `j`.
-const MASKED: Parts = (
-    &[0, 1, 2, 3, 4, 5, 6, 7, 8, 9, 10, 11],
-    b"abcdefghijk",
-    "10111011101",
-);
+const UNMASKED: Parts = (ELEVEN, b"abcdefghijk", "none");
+
+/// The nulls store `b`, `f` and `j`.
+const MASKED: Parts = (ELEVEN, b"abcdefghijk", "10111011101");
 
 /// Only the bytes of the range are appended. A mask is held if either side holds one, also if no slot of the range is
 /// null or the range is empty.
@@ -48,14 +42,14 @@ const CASES: &[Case] = &[
     (
         "no mask on either side",
         (&[0, 2, 2, 7], b"\xC3\xA9there", "none"),
-        BARE,
+        UNMASKED,
         [0, 11, 3, 4],
         ("[0 2 2 7 8 9 10 11]", b"\xC3\xA9theredefg", "none"),
     ),
     (
         "a mask in the builder",
         SLOTS_PARTS,
-        BARE,
+        UNMASKED,
         [0, 11, 3, 4],
         ("[0 2 2 7 8 9 10 11]", b"\xC3\xA9theredefg", "1011111"),
     ),
@@ -78,9 +72,9 @@ const CASES: &[Case] = &[
         ),
     ),
     (
-        "nothing of a bare array, after nothing",
+        "nothing of an array without a mask, after nothing",
         (&[0], b"", "none"),
-        BARE,
+        UNMASKED,
         [4, 0, 0, 0],
         NOTHING,
     ),

@@ -23,9 +23,6 @@ fn inverted(marks: MutableBitmap) -> MutableBitmap
     marks
 }
 
-/// `AROUND` without its mask.
-const BARE: Stored = ("[2 3 3 5]", b"\xFF\xFF\x01\x04\x04\xC3", "none");
-
 /// Compares what an array of three slots answers by index with slots, items, and marks of valid slots and of nulls.
 macro_rules! check_reads {
     ($rt:ident, $case:expr, $array:ident, $slots:expr, $items:expr, $valid:expr, $null:expr) => {{
@@ -62,12 +59,8 @@ fn check_replaced_masks<O: Offset>(rt: &(impl Abort + AllocGlobal)) {
             drop(array);
         }};
     }
-    check!(
-        Binary,
-        b"\x01".as_slice(),
-        b"".as_slice(),
-        b"\x04\x04".as_slice()
-    );
+    let (one, none, two) = (b"\x01".as_slice(), b"".as_slice(), b"\x04\x04".as_slice());
+    check!(Binary, one, none, two);
     check!(Utf8, "\x01", "", "\x04\x04");
 }
 
@@ -85,12 +78,8 @@ fn check_dropped_masks<O: Offset>(rt: &(impl Abort + AllocGlobal)) {
             drop(array);
         }};
     }
-    check!(
-        Binary,
-        b"\x01".as_slice(),
-        b"".as_slice(),
-        b"\x04\x04".as_slice()
-    );
+    let (one, none, two) = (b"\x01".as_slice(), b"".as_slice(), b"\x04\x04".as_slice());
+    check!(Binary, one, none, two);
     check!(Utf8, "\x01", "", "\x04\x04");
 }
 

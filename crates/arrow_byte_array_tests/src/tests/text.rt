@@ -8,7 +8,9 @@ use arrow_utf8::{MutableUtf8Array, MutableUtf8ValuesArray, Utf8Array};
 const NO_TEXT: &str = "every text between two offsets must be UTF-8";
 
 /// A name, bytes, and the places at which they can be cut into two texts.
-const CHARACTERS: &[(&str, &[u8], &[usize])] = &[
+type Characters = (&'static str, &'static [u8], &'static [usize]);
+
+const CHARACTERS: &[Characters] = &[
     ("one byte each", &[0x61, 0x62, 0x63], &[0, 1, 2, 3]),
     ("two bytes each", &[0xC3, 0xA9, 0xC3, 0xA8], &[0, 2, 4]),
     ("three bytes and one", &[0xE2, 0x82, 0xAC, 0x61], &[0, 3, 4]),
@@ -32,41 +34,39 @@ fn counted<O: Offset>(
 }
 
 /// Cuts bytes at each place, and compares what is returned; all bytes are tested once at most, and one is looked at.
-fn check_cuts<O: Offset>(
-    rt: &(impl Abort + AllocGlobal),
-    case: &str,
-    bytes: &[u8],
-    accepted: &[usize],
-) {
+fn check_cuts<O: Offset>(rt: &(impl Abort + AllocGlobal), characters: &Characters) {
+    let (case, bytes, accepted) = *characters;
     for k in 0..bytes.len() + 1 {
         let mut cost = TextCost::new();
         let came = tells(counted::<O>(rt, [0, k, bytes.len()].as_slice(), bytes, &mut cost));
-        let expected = if accepted.contains(&k) {
-            "made"
-        } else {
-            NO_TEXT
-        };
+        let is_text = accepted.contains(&k);
+        let expected = if is_text { "made" } else { NO_TEXT };
         let name = Text::of(format_args!("{case}, cut at {k}"));
         assert_text::value(came, expected).expect(rt, name.as_str());
-        let most = [
-            cost.ascii_tests().max(1),
-            cost.whole_tests().max(1),
-            cost.bytes_looked().max(1),
-        ];
+        let (ascii, whole, looks) = (cost.ascii_tests(), cost.whole_tests(), cost.bytes_looked());
+        let most = [ascii.max(1), whole.max(1), looks.max(1)];
         assert_text::value(most, [1, 1, 1]).expect(rt, name.as_str());
     }
 }
 
 #[test]
 fn each_slot_is_text_by_itself(rt: HostRuntime) {
-    for (case, bytes, accepted) in CHARACTERS {
-        for_both_widths!(check_cuts, &rt, *case, *bytes, *accepted);
+    for characters in CHARACTERS {
+        for_both_widths!(check_cuts, &rt, characters);
     }
 }
 
 /// A name, offsets and bytes, and the tests for ASCII, tests for UTF-8, and bytes looked at for an array and for a
 /// builder.
-const COSTS: &[(&str, &[usize], &[u8], &str, &str)] = &[
+type Cost = (
+    &'static str,
+    &'static [usize],
+    &'static [u8],
+    &'static str,
+    &'static str,
+);
+
+const COSTS: &[Cost] = &[
     ("é, è", &[0, 2, 4], b"\xC3\xA9\xC3\xA8", "1 1 1", "1 1 1"),
     ("a, b, c", &[0, 1, 2, 3], b"abc", "1 0 0", "1 0 0"),
     ("😀, none", &[0, 4, 4], b"\xF0\x9F\x98\x80", "1 1 0", "1 1 0"),
@@ -83,13 +83,8 @@ fn check_cost(rt: &impl Abort, case: &str, cost: &TextCost, expected: &str) {
 }
 
 /// Compares the costs of an array and of builders with and without nulls, also if their parts are refused.
-fn check_costs<O: Offset>(
-    rt: &(impl Abort + AllocGlobal),
-    case: &str,
-    (numbers, bytes): (&[usize], &[u8]),
-    of_array: &str,
-    of_builders: &str,
-) {
+fn check_costs<O: Offset>(rt: &(impl Abort + AllocGlobal), expected: &Cost) {
+    let (case, numbers, bytes, of_array, of_builders) = *expected;
     let mut cost = TextCost::new();
     let _answer = tells(counted::<O>(rt, numbers, bytes, &mut cost));
     check_cost(rt, case, &cost, of_array);
@@ -111,14 +106,7 @@ fn check_costs<O: Offset>(
 
 #[test]
 fn tests_of_text_are_counted(rt: HostRuntime) {
-    for (case, numbers, bytes, array, builders) in COSTS {
-        for_both_widths!(
-            check_costs,
-            &rt,
-            *case,
-            (*numbers, *bytes),
-            *array,
-            *builders
-        );
+    for expected in COSTS {
+        for_both_widths!(check_costs, &rt, expected);
     }
 }

@@ -43,19 +43,9 @@ fn check_joins<K: ByteKind, O: Offset>(rt: &(impl Abort + AllocGlobal)) {
     builder.try_extend_from_self(&second).expect(rt, "memory");
     check_values(rt, "the other stays", &second, ("[1 2]", b"\xFFz", "none"));
     drop(second);
-    check_values(
-        rt,
-        "only the item is appended",
-        &builder,
-        ("[0 1 2]", b"xz", "none"),
-    );
-    check_made!(
-        check_values,
-        rt,
-        "a copy",
-        builder.clone(),
-        ("[0 1 2]", b"xz", "none")
-    );
+    let joined = ("[0 1 2]", b"xz".as_slice(), "none");
+    check_values(rt, "only the item is appended", &builder, joined);
+    check_made!(check_values, rt, "a copy", builder.clone(), joined);
     drop(builder);
 }
 
