@@ -58,7 +58,6 @@ fn check_thawing<K: ByteKind, O: Offset>(rt: &(impl Abort + AllocGlobal)) {
     let builder = array.into_mut().right().expect(rt, "an array alone thaws");
     check_builder(rt, "an array alone", &builder, SLOTS);
     drop(builder);
-
     let builder = builder_of::<K, O>(rt, (&[0, 2, 2, 7], ITEMS.1, "none"));
     let array = builder.freeze().expect(rt, "memory");
     assert!(rt; array.len() == 3);
@@ -81,7 +80,6 @@ fn check_bytes<O: Offset>(rt: &(impl Abort + AllocGlobal)) {
     let halves = [array.get(0), array.get(1)];
     assert_text::slots(halves.into_iter(), "[[195] [169]]").expect(rt, "halves");
     drop(array);
-
     let offsets = OffsetsBuffer::<O>::new(rt.alloc()).expect(rt, "memory");
     let data_type = ByteArray::<Binary, O>::default_data_type();
     let array = ByteArray::<Binary, O>::new(data_type, offsets, buffer_of(rt, b"xy"), None);

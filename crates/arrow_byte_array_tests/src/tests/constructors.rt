@@ -94,6 +94,9 @@ macro_rules! check_builders {
         check_made!(check_builder, $rt, "from_iter", builder, SLOTS);
         let builder = MutableByteArray::<$kind, O>::from_iter_values(alloc, $items.iter().copied());
         check_made!(check_builder, $rt, "from_iter_values", builder, ITEMS);
+        assert!($rt; $slots.len() == 3);
+        let null = MutableByteArray::<$kind, O>::from(alloc, &$slots[1..2]);
+        check_made!(check_builder, $rt, "from, a null alone", null, ("[0 0]", b"", "0"));
         let values = MutableByteValuesArray::<$kind, O>::try_from_iter(alloc, $items.iter().copied());
         check_made!(check_values, $rt, "try_from_iter without nulls", values, ITEMS);
         let values = MutableByteValuesArray::<$kind, O>::from_iter(alloc, $items.iter().copied());

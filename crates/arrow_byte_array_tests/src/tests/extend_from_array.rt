@@ -7,6 +7,8 @@ use arrow_testing::{Tiny, tells};
 /// expected builder.
 type Case = (&'static str, Parts, Parts, [usize; 4], Stored);
 
+const EMPTY: Parts = (&[0], b"", "none");
+
 /// The offsets of eleven items of a byte.
 const ELEVEN: &[usize] = &[0, 1, 2, 3, 4, 5, 6, 7, 8, 9, 10, 11];
 
@@ -20,7 +22,7 @@ const MASKED: Parts = (ELEVEN, b"abcdefghijk", "10111011101");
 const CASES: &[Case] = &[
     (
         "a mask and bytes around, after nothing",
-        (&[0], b"", "none"),
+        EMPTY,
         AROUND,
         [0, 3, 0, 3],
         ("[0 1 1 3]", b"\x01\x04\x04", "101"),
@@ -71,13 +73,7 @@ const CASES: &[Case] = &[
             "101111011101",
         ),
     ),
-    (
-        "nothing of an array without a mask, after nothing",
-        (&[0], b"", "none"),
-        UNMASKED,
-        [4, 0, 0, 0],
-        NOTHING,
-    ),
+    ("nothing, no mask", EMPTY, UNMASKED, [4, 0, 0, 0], NOTHING),
 ];
 
 /// Items of forty bytes, one byte and thirty, between ten bytes that do not count.

@@ -58,18 +58,12 @@ fn each_slot_is_text_by_itself(rt: HostRuntime) {
 
 /// A name, offsets and bytes, and the tests for ASCII, tests for UTF-8, and bytes looked at for an array and for a
 /// builder.
-type Cost = (
-    &'static str,
-    &'static [usize],
-    &'static [u8],
-    &'static str,
-    &'static str,
-);
+type Cost<'a> = (&'a str, &'a [usize], &'a [u8], &'a str, &'a str);
 
-const COSTS: &[Cost] = &[
+const COSTS: &[Cost<'static>] = &[
     ("é, è", &[0, 2, 4], b"\xC3\xA9\xC3\xA8", "1 1 1", "1 1 1"),
     ("a, b, c", &[0, 1, 2, 3], b"abc", "1 0 0", "1 0 0"),
-    ("😀, none", &[0, 4, 4], b"\xF0\x9F\x98\x80", "1 1 0", "1 1 0"),
+    ("U+1F600", &[0, 4, 4], b"\xF0\x9F\x98\x80", "1 1 0", "1 1 0"),
     ("half of é", &[1, 2], b"\xC3\xA9", "1 1 0", "1 1 0"),
     ("none in é", &[1, 1], b"\xC3\xA9", "1 0 0", "0 0 0"),
     ("no item, no byte", &[5], b"", "0 0 0", "0 0 0"),
@@ -83,19 +77,17 @@ fn check_cost(rt: &impl Abort, case: &str, cost: &TextCost, expected: &str) {
 }
 
 /// Compares the costs of an array and of builders with and without nulls, also if their parts are refused.
-fn check_costs<O: Offset>(rt: &(impl Abort + AllocGlobal), expected: &Cost) {
+fn check_costs<O: Offset>(rt: &(impl Abort + AllocGlobal), expected: &Cost<'static>) {
     let (case, numbers, bytes, of_array, of_builders) = *expected;
     let mut cost = TextCost::new();
     let _answer = tells(counted::<O>(rt, numbers, bytes, &mut cost));
     check_cost(rt, case, &cost, of_array);
-
     let (mut cost, data_type) = (TextCost::new(), Utf8::default_type(O::IS_LARGE));
     let offsets = offsets_of::<O>(rt.alloc(), numbers).expect(rt, "offsets");
     let values = bytes.to_vec(rt.alloc()).expect(rt, "memory");
     let made = MutableUtf8Array::try_new_counted(data_type, offsets, values, None, &mut cost);
     let _answer = tells(made);
     check_cost(rt, case, &cost, of_builders);
-
     let (mut cost, data_type) = (TextCost::new(), Utf8::default_type(O::IS_LARGE));
     let offsets = offsets_of::<O>(rt.alloc(), numbers).expect(rt, "offsets");
     let values = bytes.to_vec(rt.alloc()).expect(rt, "memory");
