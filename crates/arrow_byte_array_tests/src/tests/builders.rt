@@ -20,8 +20,7 @@ pub(super) fn check_popped<T: Debug + Drop>(
 fn check_pushes<O: Offset>(rt: &(impl Abort + AllocGlobal)) {
     macro_rules! check {
         ($kind:ty, $e_acute:expr, $c:expr, $none:expr) => {{
-            let builder = MutableByteArray::<$kind, O>::new(rt.alloc());
-            let mut builder = builder.expect(rt, "memory");
+            let mut builder = MutableByteArray::<$kind, O>::new(rt.alloc()).expect(rt, "memory");
             builder.push(Some($e_acute)).expect(rt, "memory");
             builder.push(None).expect(rt, "memory");
             builder.try_push(Some($c)).expect(rt, "memory");
