@@ -11,15 +11,13 @@ fn day(number: i32) -> Item<days_ms> {
     Item::Value(days_ms(number, number))
 }
 
-/// Returns the type of intervals by default.
-fn intervals() -> DataType {
-    DataType::Interval(IntervalUnit::DayTime)
-}
+/// The type of intervals by default.
+const INTERVALS: DataType = DataType::Interval(IntervalUnit::DayTime);
 
 /// Returns an extension of that type.
 fn shifts(rt: &(impl Abort + AllocGlobal)) -> DataType {
     let name = String::from_str(rt.alloc(), "shifts").expect(rt, "memory");
-    let inner = Box::new(rt.alloc(), intervals()).expect(rt, "memory");
+    let inner = Box::new(rt.alloc(), INTERVALS).expect(rt, "memory");
     DataType::Extension(name, inner, None)
 }
 
@@ -27,7 +25,7 @@ fn shifts(rt: &(impl Abort + AllocGlobal)) -> DataType {
 fn clones_of_arrays_share_no_changes(rt: HostRuntime) {
     let mut table = Table::<days_ms, i64>::new(rt.alloc(), 4).expect(&rt, "memory");
     let three = Raw::Values(list(&rt, [days_ms(1, 1), days_ms(2, 2), days_ms(3, 3)]));
-    let made = parts(Kind::Primitive, intervals(), Some(bits(&rt, &[5], 3)), three);
+    let made = parts(Kind::Primitive, INTERVALS, Some(bits(&rt, &[5], 3)), three);
     replies! { &rt, &mut table;
         Parts(0, made) => "ok",
         Clone(0, 1) => "ok",
@@ -50,7 +48,7 @@ fn clones_of_arrays_share_no_changes(rt: HostRuntime) {
         Slots(0) => "[days_ms(6, 6) days_ms(2, 2) days_ms(3, 3)]",
         To(0, shifts(&rt)) => "ok",
         Clone(0, 3) => "ok",
-        To(3, intervals()) => "ok",
+        To(3, INTERVALS) => "ok",
         TypeOf(0) => "Extension(\"shifts\", Interval(DayTime), None)",
         TypeOf(3) => "Interval(DayTime)",
         Drop(3) => "ok",

@@ -17,6 +17,15 @@ macro_rules! replies {
     };
 }
 
+/// Compares the reply of each call with a text.
+macro_rules! calls {
+    ($rt:expr; $($call:expr => $expected:expr,)*) => {
+        $(
+            $crate::replies::check($rt, stringify!($call), $call, $expected);
+        )*
+    };
+}
+
 #[cfg(test)]
 mod intervals;
 #[cfg(test)]

@@ -1,7 +1,8 @@
 //! Offsets whose maximum is 100: what would exceed it is refused, and what was before it stays.
-use crate::values::{bytes_type, list, parts, pieces, text, zeros};
+use crate::values::{list, parts, pieces, text, zeros};
 use arrow_table::{Item, Kind, Table};
 use arrow_testing::Tiny;
+use arrow_types::data_type::DataType;
 
 #[test]
 fn push_beyond_the_maximum_leaves_a_builder_of_bytes(rt: HostRuntime) {
@@ -75,11 +76,12 @@ fn extend_keeps_the_slots_before_the_maximum(rt: HostRuntime) {
     drop(table);
 }
 
-/// The bytes before the first offset of the appended builder do not count.
+/// Bytes before the first slot count in the builder that is appended to, and not in the other.
 #[test]
 fn slots_of_a_builder_beyond_the_maximum_are_not_appended(rt: HostRuntime) {
-    let mut table = Table::<i64, Tiny>::new(rt.alloc(), 3).expect(&rt, "memory");
+    let mut table = Table::<i64, Tiny>::new(rt.alloc(), 4).expect(&rt, "memory");
     let around = pieces(&rt, &[0; 70], &[30, 70]);
+    let before = pieces(&rt, &[0; 40], &[40]);
     replies! { &rt, &mut table;
         New(0, Kind::MutableBinary) => "ok",
         Push(0, Some(zeros(&rt, 60))) => "ok",
@@ -89,26 +91,17 @@ fn slots_of_a_builder_beyond_the_maximum_are_not_appended(rt: HostRuntime) {
         ExtendFromSelf(0, 1) => "refused: overflow",
         Len(0) => "1",
         Held(0) => "false",
-        Parts(2, parts(Kind::MutableBinary, bytes_type::<Tiny>(), None, around)) => "ok",
+        Parts(2, parts(Kind::MutableBinary, DataType::Binary, None, around)) => "ok",
         ExtendFromSelf(0, 2) => "ok",
         Offsets(0) => "[0, 60, 100]",
-    }
-    drop(table);
-}
-
-#[test]
-fn bytes_before_the_first_slot_count(rt: HostRuntime) {
-    let mut table = Table::<i64, Tiny>::new(rt.alloc(), 1).expect(&rt, "memory");
-    let before = pieces(&rt, &[0; 40], &[40]);
-    replies! { &rt, &mut table;
-        Parts(0, parts(Kind::MutableBinary, bytes_type::<Tiny>(), None, before)) => "ok",
-        Push(0, Some(zeros(&rt, 61))) => "refused: overflow",
-        Push(0, Some(zeros(&rt, 60))) => "ok",
-        Offsets(0) => "[40, 100]",
-        Freeze(0) => "ok",
-        Thaw(0) => "right",
-        Push(0, Some(zeros(&rt, 1))) => "refused: overflow",
-        Len(0) => "1",
+        Parts(3, parts(Kind::MutableBinary, DataType::Binary, None, before)) => "ok",
+        Push(3, Some(zeros(&rt, 61))) => "refused: overflow",
+        Push(3, Some(zeros(&rt, 60))) => "ok",
+        Offsets(3) => "[40, 100]",
+        Freeze(3) => "ok",
+        Thaw(3) => "right",
+        Push(3, Some(zeros(&rt, 1))) => "refused: overflow",
+        Len(3) => "1",
     }
     drop(table);
 }
@@ -116,9 +109,23 @@ fn bytes_before_the_first_slot_count(rt: HostRuntime) {
 #[test]
 fn values_beyond_the_maximum_leave_the_entry_empty(rt: HostRuntime) {
     let mut table = Table::<i64, Tiny>::new(rt.alloc(), 1).expect(&rt, "memory");
-    let slots = list(&rt, [Some(zeros(&rt, 50)), Some(zeros(&rt, 50)), None, Some(zeros(&rt, 1))]);
-    let words = list(&rt, [None, Some(text(&rt, "a", 99)), Some(text(&rt, "é", 1))]);
-    let fitting = list(&rt, [None, Some(text(&rt, "a", 99)), Some(text(&rt, "a", 1))]);
+    let slots = list(
+        &rt,
+        [
+            Some(zeros(&rt, 50)),
+            Some(zeros(&rt, 50)),
+            None,
+            Some(zeros(&rt, 1)),
+        ],
+    );
+    let words = list(
+        &rt,
+        [None, Some(text(&rt, "a", 99)), Some(text(&rt, "é", 1))],
+    );
+    let fitting = list(
+        &rt,
+        [None, Some(text(&rt, "a", 99)), Some(text(&rt, "a", 1))],
+    );
     replies! { &rt, &mut table;
         FromSlots(0, Kind::Binary, slots) => "refused: overflow",
         Len(0) => "not met",

@@ -17,16 +17,7 @@ fn and_slot<T: Debug>(text: Text, slot: &Option<Item<T>>) -> Text {
     }
 }
 
-/// Returns slots as a text, as `[1 _ 2]`.
-fn slots_text<T: Debug>(slots: &[Option<Item<T>>]) -> Text {
-    let mut text = Text::of("[");
-    for (index, slot) in slots.iter().enumerate() {
-        text = and_slot(text.and(if index == 0 { "" } else { " " }, 1), slot);
-    }
-    text.and("]", 1)
-}
-
-/// Returns a reply as a text.
+/// Returns a reply as a text, as `[1 _ 2]` for slots.
 pub(crate) fn reply_text<T: Debug>(reply: &Reply<T>) -> Text {
     match reply {
         Reply::Done => Text::of("ok"),
@@ -37,11 +28,24 @@ pub(crate) fn reply_text<T: Debug>(reply: &Reply<T>) -> Text {
         Reply::Number(number) => Text::of(format_args!("{number}")),
         Reply::Flag(flag) => Text::of(format_args!("{flag:?}")),
         Reply::Slot(slot) => and_slot(Text::new(), slot),
-        Reply::Slots(slots) => slots_text(slots),
+        Reply::Slots(slots) => {
+            let mut text = Text::of("[");
+            for (index, slot) in slots.iter().enumerate() {
+                text = and_slot(text.and(if index == 0 { "" } else { " " }, 1), slot);
+            }
+            text.and("]", 1)
+        }
         Reply::Numbers(numbers) => Text::of(format_args!("{:?}", numbers.as_slice())),
         Reply::Typed(data_type) => Text::of(format_args!("{data_type:?}")),
         Reply::Refused(error) => Text::of(format_args!("refused: {error}")),
     }
+}
+
+/// Compares a reply with a text.
+pub(crate) fn check<T: Debug + Drop>(rt: &impl Abort, case: &str, reply: Reply<T>, expected: &str) {
+    let came = reply_text(&reply);
+    drop(reply);
+    assert_text::text(came, expected).expect(rt, case);
 }
 
 /// Runs a command on a table, and compares its reply with a text.
@@ -56,10 +60,7 @@ pub(crate) fn ask<T: NativeType + Debug, O: Offset>(
     let mut replies = Vec::new(rt.alloc());
     run(table, &commands, &mut replies);
     drop(commands);
-    let came = match replies.first() {
-        Some(reply) => reply_text(reply),
-        None => Text::of("no reply"),
-    };
+    let reply = replies.pop().expect(rt, "a reply");
     drop(replies);
-    assert_text::text(came, expected).expect(rt, case);
+    check(rt, case, reply, expected);
 }

@@ -2,13 +2,16 @@
 use crate::replies::reply_text;
 use arrow_table::{Command, Entry, Kind, Reply, Table, run};
 use arrow_testing::assert_text;
+use arrow_types::data_type::DataType;
 
 /// Replies that a list holds before and after a run, by the commands.
 const REPLIES: &[(&str, &str)] = &[
     ("before the run", "7"),
-    ("new", "ok"),
-    ("push", "not met"),
-    ("len", "0"),
+    ("null", "ok"),
+    ("type", "Date64"),
+    ("pushnull", "not met"),
+    ("list", "[_ _]"),
+    ("value", "0"),
 ];
 
 #[test]
@@ -17,14 +20,16 @@ fn replies_of_all_commands_are_appended(rt: HostRuntime) {
     let mut replies = Vec::with_capacity(rt.alloc(), 1).expect(&rt, "memory");
     replies.push(Reply::Number(7)).expect(&rt, "memory");
     let commands = [
-        Command::New(0, Kind::Primitive),
+        Command::NewNull(0, Kind::Primitive, DataType::Date64, 2),
+        Command::TypeOf(0),
         Command::PushNull(0),
-        Command::Len(0),
+        Command::Slots(0),
+        Command::Value(0, 1),
     ];
     let count = run(&mut table, &commands, &mut replies);
     drop(commands);
     drop(table);
-    assert_text::value((count, replies.len()), (3, 4)).expect(&rt, "all commands");
+    assert_text::value((count, replies.len()), (5, 6)).expect(&rt, "all commands");
     for ((case, expected), reply) in REPLIES.iter().zip(replies.iter()) {
         assert_text::text(reply_text(reply), *expected).expect(&rt, *case);
     }
@@ -75,7 +80,10 @@ fn entries_have_the_kinds_that_they_were_made_of(rt: HostRuntime) {
         assert_text::value(names_of(&table, index), [*name, *name]).expect(&rt, *name);
     }
     for index in [10, 11, usize::MAX] {
-        assert_text::value(names_of(&table, index), ["none", "none"]).expect(&rt, "an empty entry and beyond");
+        assert_text::value(names_of(&table, index), ["none", "none"]).expect(
+            &rt,
+            "an empty entry and beyond",
+        );
     }
     assert_text::value(table.len(), 11).expect(&rt, "the number of entries");
     drop(table);
@@ -97,17 +105,6 @@ fn tables_without_entries_only_check_indexes(rt: HostRuntime) {
     drop(table);
 }
 
-/// Returns the numbers of slots and of bytes that a builder of bytes or texts has capacity for.
-fn capacities(table: &Table<i64, i32>) -> (usize, usize) {
-    match table.get(0) {
-        Some(Entry::MutableBinary(builder)) => (builder.capacity(), builder.values().capacity()),
-        Some(Entry::MutableUtf8(builder)) => (builder.capacity(), builder.values().capacity()),
-        Some(Entry::BinaryValues(builder)) => (builder.capacity(), builder.values().capacity()),
-        Some(Entry::Utf8Values(builder)) => (builder.capacity(), builder.values().capacity()),
-        _ => (0, 0),
-    }
-}
-
 #[test]
 fn slots_and_bytes_are_reserved_each_by_its_number(rt: HostRuntime) {
     for (name, kind) in &KINDS[6..] {
@@ -117,10 +114,20 @@ fn slots_and_bytes_are_reserved_each_by_its_number(rt: HostRuntime) {
                 New(0, *kind) => "ok",
                 Reserve(0, slots, bytes) => "ok",
             }
-            let came = capacities(&table);
+            let (room, bytes_room) = match table.get(0) {
+                Some(Entry::MutableBinary(it)) => (it.capacity(), it.values().capacity()),
+                Some(Entry::MutableUtf8(it)) => (it.capacity(), it.values().capacity()),
+                Some(Entry::BinaryValues(it)) => (it.capacity(), it.values().capacity()),
+                Some(Entry::Utf8Values(it)) => (it.capacity(), it.values().capacity()),
+                _ => (0, 0),
+            };
             drop(table);
-            let is_right = came.0 >= slots && came.1 >= bytes && (came.0 >= 1000) != (came.1 >= 1000);
-            assert!(rt; is_right, "{name}: capacities {came:?} after a reservation of {slots} and {bytes}");
+            let is_enough = room >= slots && bytes_room >= bytes;
+            let are_apart = (room >= 1000) != (bytes_room >= 1000);
+            assert!(rt;
+                is_enough && are_apart,
+                "{name}: expected {slots} slots and {bytes} bytes, got {room} and {bytes_room}"
+            );
         }
     }
 }

@@ -1,7 +1,8 @@
 //! What the tests of texts cost, by the counts of a table.
-use crate::values::{bits, bytes_type, parts, pieces, text, text_type};
+use crate::values::{bits, by_width, parts, pieces, text};
 use arrow_table::{Kind, Parts, Table};
 use arrow_testing::assert_text;
+use arrow_types::data_type::DataType;
 use arrow_types::offset::Offset;
 use std::process::Abort;
 
@@ -18,7 +19,8 @@ fn texts<O: Offset>(
     bytes: &[u8],
     ends: &[usize],
 ) -> Parts<i64, O> {
-    parts(Kind::Utf8, text_type::<O>(), None, pieces(rt, bytes, ends))
+    let data_type = by_width::<O>(DataType::Utf8, DataType::LargeUtf8);
+    parts(Kind::Utf8, data_type, None, pieces(rt, bytes, ends))
 }
 
 const NOT_UTF8: &str = "refused: every text between two offsets must be UTF-8";
@@ -44,12 +46,6 @@ fn check_few<O: Offset>(rt: &(impl Abort + AllocGlobal)) {
     drop(table);
 }
 
-#[test]
-fn few_texts_are_counted(rt: HostRuntime) {
-    check_few::<i32>(&rt);
-    check_few::<i64>(&rt);
-}
-
 /// Returns the parts of a hundred texts of one character of two bytes.
 fn hundred<O: Offset>(rt: &(impl Abort + AllocGlobal)) -> Parts<i64, O> {
     let mut ends = [0; 101];
@@ -71,15 +67,16 @@ fn check_hundred<O: Offset>(rt: &(impl Abort + AllocGlobal)) {
     replies! { rt, &mut table; Parts(1, hundred(rt)) => "ok", }
     check(rt, "the same again", &table, [2, 2, 198]);
     let accent = "é".as_bytes();
-    let cut = parts(Kind::Binary, bytes_type::<O>(), None, pieces(rt, "éè".as_bytes(), &[0, 1, 4]));
-    let unfit = parts(Kind::Utf8, text_type::<O>(), Some(bits(rt, &[1], 9)), pieces(rt, b"a", &[0, 1]));
-    let masked = parts(Kind::Utf8Values, text_type::<O>(), Some(bits(rt, &[1], 1)), pieces(rt, accent, &[0, 2]));
+    let bytes = || by_width::<O>(DataType::Binary, DataType::LargeBinary);
+    let words = || by_width::<O>(DataType::Utf8, DataType::LargeUtf8);
+    let nine = Some(bits(rt, &[1], 9));
+    let one = Some(bits(rt, &[1], 1));
     replies! { rt, &mut table;
-        Parts(2, cut) => "ok",
+        Parts(2, parts(Kind::Binary, bytes(), None, pieces(rt, "éè".as_bytes(), &[0, 1, 4]))) => "ok",
         Parts(3, texts(rt, b"a", &[1, 0])) => "refused: offsets must never fall",
-        Parts(3, unfit) => "refused: the bits must fit in the bytes",
+        Parts(3, parts(Kind::Utf8, words(), nine, pieces(rt, b"a", &[0, 1]))) => "refused: the bits must fit in the bytes",
         Parts(0, texts(rt, accent, &[0, 2])) => "not met",
-        Parts(3, masked) => "not met",
+        Parts(3, parts(Kind::Utf8Values, words(), one, pieces(rt, accent, &[0, 2]))) => "not met",
         Clone(1, 3) => "ok",
         Drop(0) => "ok",
         Thaw(3) => "left",
@@ -88,12 +85,14 @@ fn check_hundred<O: Offset>(rt: &(impl Abort + AllocGlobal)) {
         Push(3, Some(text(rt, "é", 1))) => "ok",
         Freeze(3) => "ok",
     }
-    check(rt, "bytes, refused parts and tested texts", &table, [2, 2, 198]);
+    check(rt, "bytes and tested texts", &table, [2, 2, 198]);
     drop(table);
 }
 
 #[test]
 fn texts_are_tested_once(rt: HostRuntime) {
+    check_few::<i32>(&rt);
+    check_few::<i64>(&rt);
     check_hundred::<i32>(&rt);
     check_hundred::<i64>(&rt);
 }

@@ -18,11 +18,7 @@ pub(crate) fn zeros<T: Drop>(rt: &(impl Abort + AllocGlobal), len: usize) -> Ite
 }
 
 /// Returns an item of a text that is repeated.
-pub(crate) fn text<T: Drop>(
-    rt: &(impl Abort + AllocGlobal),
-    text: &str,
-    times: usize,
-) -> Item<T> {
+pub(crate) fn text<T: Drop>(rt: &(impl Abort + AllocGlobal), text: &str, times: usize) -> Item<T> {
     Item::Text(text.repeat(rt.alloc(), times).expect(rt, "memory"))
 }
 
@@ -47,21 +43,14 @@ pub(crate) fn pieces<T, O: Offset>(
     Raw::Pieces(offsets, bytes)
 }
 
-/// Returns the type of bytes over these offsets.
-pub(crate) fn bytes_type<O: Offset>() -> DataType {
+/// Returns the first type for narrow offsets, and the second for wide ones.
+pub(crate) fn by_width<O: Offset>(narrow: DataType, wide: DataType) -> DataType {
     if O::IS_LARGE {
-        DataType::LargeBinary
+        drop(narrow);
+        wide
     } else {
-        DataType::Binary
-    }
-}
-
-/// Returns the type of texts over these offsets.
-pub(crate) fn text_type<O: Offset>() -> DataType {
-    if O::IS_LARGE {
-        DataType::LargeUtf8
-    } else {
-        DataType::Utf8
+        drop(wide);
+        narrow
     }
 }
 

@@ -1,18 +1,11 @@
 //! Tables of both widths.
 use crate::replies::reply_text;
 use crate::values::{list, parts, text};
-use arrow_table::{BothCommand, Command, Item, Kind, Parts, Raw, Reply, Tables, Width, run_both};
+use arrow_table::{BothCommand, Command, Item, Kind, Parts, Raw, Tables, Width, run_both};
 use arrow_testing::assert_text;
 use arrow_types::data_type::DataType;
 use arrow_types::offset::Offset;
 use std::process::Abort;
-
-/// Compares a reply with a text.
-fn check(rt: &impl Abort, case: &str, reply: Reply<i64>, expected: &str) {
-    let came = reply_text(&reply);
-    drop(reply);
-    assert_text::text(came, expected).expect(rt, case);
-}
 
 /// Replies to the commands below.
 const REPLIES: &[(&str, &str)] = &[
@@ -31,8 +24,11 @@ const REPLIES: &[(&str, &str)] = &[
 
 #[test]
 fn texts_are_widened_and_narrowed_without_a_test(rt: HostRuntime) {
-    let mut tables = Tables::new(rt.alloc(), 4).expect(&rt, "memory");
-    let slots = list(&rt, [Some(text(&rt, "hi", 1)), None, Some(text(&rt, "there", 1))]);
+    let mut tables = Tables::<i64>::new(rt.alloc(), 4).expect(&rt, "memory");
+    let slots = list(
+        &rt,
+        [Some(text(&rt, "hi", 1)), None, Some(text(&rt, "there", 1))],
+    );
     let commands = [
         BothCommand::Narrow(Command::FromSlots(0, Kind::Utf8, slots)),
         BothCommand::Widen(0, 0),
@@ -54,77 +50,67 @@ fn texts_are_widened_and_narrowed_without_a_test(rt: HostRuntime) {
         assert_text::text(reply_text(reply), *expected).expect(&rt, *case);
     }
     drop(replies);
-    check_entries(&rt, &tables);
-    drop(tables);
-}
-
-/// Compares the entries that the commands above leave, and the numbers of tests of texts.
-fn check_entries(rt: &impl Abort, tables: &Tables<i64>) {
     let (narrow, wide) = (tables.narrow(), tables.wide());
-    let tests = [narrow.text_cost().whole_tests(), wide.text_cost().whole_tests()];
-    assert_text::value(tests, [0, 0]).expect(rt, "tests of the narrow and the wide table");
-    let kept = [
-        narrow.kind(1) == Some(Kind::Utf8),
-        wide.kind(0) == Some(Kind::Utf8),
-        narrow.kind(0).is_none(),
+    let tests = [
+        narrow.text_cost().whole_tests(),
+        wide.text_cost().whole_tests(),
     ];
-    assert_text::value(kept, [true; 3]).expect(rt, "narrow 1 and wide 0 are texts, narrow 0 is empty");
-    assert_text::value(narrow.len(), 4).expect(rt, "the number of entries");
+    assert_text::value(tests, [0, 0]).expect(&rt, "tests of texts on both tables");
+    let are_kept = [narrow.kind(1), wide.kind(0)] == [Some(Kind::Utf8); 2];
+    assert_text::value(are_kept, true).expect(&rt, "both entries hold texts");
+    let is_empty = narrow.kind(0).is_none();
+    assert_text::value((is_empty, narrow.len()), (true, 4)).expect(
+        &rt,
+        "the first of four entries",
+    );
+    drop(tables);
 }
 
 #[test]
 fn builders_are_frozen_before_they_are_widened_or_narrowed(rt: HostRuntime) {
     let mut tables = Tables::<i64>::new(rt.alloc(), 2).expect(&rt, "memory");
     let alloc = rt.alloc();
-    let builder = Command::New(0, Kind::MutableBinary);
-    check(&rt, "narrow new", tables.on_narrow(alloc, &builder), "ok");
-    drop(builder);
-    let builder = Command::New(1, Kind::MutableBinary);
-    check(&rt, "wide new", tables.on_wide(alloc, &builder), "ok");
-    drop(builder);
-    check(&rt, "widen a builder", tables.widen(0, 0), "not met");
-    check(&rt, "narrow freeze", tables.on_narrow(alloc, &Command::Freeze(0)), "ok");
-    check(&rt, "wide freeze", tables.on_wide(alloc, &Command::Freeze(1)), "ok");
-    check(&rt, "widen", tables.widen(0, 0), "ok");
-    check(&rt, "narrow", tables.narrow_to(1, 1), "ok");
-    check(&rt, "wide len", tables.on_wide(alloc, &Command::Len(0)), "0");
-    check(&rt, "narrow type", tables.on_narrow(alloc, &Command::TypeOf(1)), "Binary");
-    drop(tables);
-}
-
-#[test]
-fn slots_are_pushed_without_a_command(rt: HostRuntime) {
-    let mut tables = Tables::<i64>::new(rt.alloc(), 1).expect(&rt, "memory");
-    let alloc = rt.alloc();
-    let value = Some(Item::Value(7));
-    check(&rt, "narrow, an empty entry", i32::push(&mut tables, 0, &None), "not met");
-    check(&rt, "wide, an empty entry", i64::push(&mut tables, 0, &None), "not met");
-    let builder = Command::New(0, Kind::MutablePrimitive);
-    check(&rt, "wide new", tables.on_wide(alloc, &builder), "ok");
-    drop(builder);
-    check(&rt, "narrow, a value", i32::push(&mut tables, 0, &value), "not met");
-    check(&rt, "wide, a value", i64::push(&mut tables, 0, &value), "ok");
-    drop(value);
-    check(&rt, "narrow, a null", i32::push(&mut tables, 0, &None), "not met");
-    check(&rt, "wide, a null", i64::push(&mut tables, 0, &None), "ok");
-    check(&rt, "wide len", tables.on_wide(alloc, &Command::Len(0)), "2");
+    calls! { &rt;
+        tables.on_narrow(alloc, &Command::New(0, Kind::MutableBinary)) => "ok",
+        tables.on_wide(alloc, &Command::New(1, Kind::MutableBinary)) => "ok",
+        tables.widen(0, 0) => "not met",
+        tables.on_narrow(alloc, &Command::Freeze(0)) => "ok",
+        tables.on_wide(alloc, &Command::Freeze(1)) => "ok",
+        tables.widen(0, 0) => "ok",
+        tables.narrow_to(1, 1) => "ok",
+        tables.on_wide(alloc, &Command::Len(0)) => "0",
+        tables.on_narrow(alloc, &Command::TypeOf(1)) => "Binary",
+    }
     drop(tables);
 }
 
 /// Returns the raw parts of an array of two numbers.
 fn two<O: Offset>(rt: &(impl Abort + AllocGlobal)) -> Parts<i64, O> {
-    parts(Kind::Primitive, DataType::Int64, None, Raw::Values(list(rt, [3, 4])))
+    let values = Raw::Values(list(rt, [3, 4]));
+    parts(Kind::Primitive, DataType::Int64, None, values)
 }
 
 #[test]
-fn parts_are_moved_without_a_command(rt: HostRuntime) {
-    let mut tables = Tables::<i64>::new(rt.alloc(), 1).expect(&rt, "memory");
+fn slots_and_parts_need_no_command(rt: HostRuntime) {
+    let mut tables = Tables::<i64>::new(rt.alloc(), 2).expect(&rt, "memory");
     let alloc = rt.alloc();
-    check(&rt, "narrow", i32::parts(&mut tables, 0, two(&rt)), "ok");
-    check(&rt, "wide", i64::parts(&mut tables, 0, two(&rt)), "ok");
-    check(&rt, "narrow, again", i32::parts(&mut tables, 0, two(&rt)), "not met");
-    check(&rt, "wide, again", i64::parts(&mut tables, 0, two(&rt)), "not met");
-    check(&rt, "narrow len", tables.on_narrow(alloc, &Command::Len(0)), "2");
-    check(&rt, "wide len", tables.on_wide(alloc, &Command::Len(0)), "2");
+    let value = Some(Item::Value(7));
+    calls! { &rt;
+        i32::push(&mut tables, 0, &None) => "not met",
+        i64::push(&mut tables, 0, &None) => "not met",
+        tables.on_wide(alloc, &Command::New(0, Kind::MutablePrimitive)) => "ok",
+        i32::push(&mut tables, 0, &value) => "not met",
+        i64::push(&mut tables, 0, &value) => "ok",
+        i32::push(&mut tables, 0, &None) => "not met",
+        i64::push(&mut tables, 0, &None) => "ok",
+        tables.on_wide(alloc, &Command::Len(0)) => "2",
+        i32::parts(&mut tables, 1, two(&rt)) => "ok",
+        i64::parts(&mut tables, 1, two(&rt)) => "ok",
+        i32::parts(&mut tables, 1, two(&rt)) => "not met",
+        i64::parts(&mut tables, 1, two(&rt)) => "not met",
+        tables.on_narrow(alloc, &Command::Len(1)) => "2",
+        tables.on_wide(alloc, &Command::Len(1)) => "2",
+    }
+    drop(value);
     drop(tables);
 }
