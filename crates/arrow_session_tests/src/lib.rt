@@ -1,5 +1,4 @@
-//! What lines, devices and outcomes do, by example, in a crate of their own, since the gate proves a crate with tests
-//! twice.
+//! Tests of sessions, in a crate of their own, since the gate proves a crate with tests twice.
 #![tactic(auto)]
 
 #[cfg(test)]

@@ -1,28 +1,44 @@
-//! What a table does, by example, with ample memory. What it is asked and has to answer is written as scripts, which are
-//! run over two native types and two widths of offsets, and over offsets that end early.
+//! Tests of tables by their public calls: native types and offsets that the program's lines do not have, raw parts that
+//! its lines can't write, and how commands are run. The lines in `examples/` test the commands.
 #![tactic(auto)]
 
+/// Runs commands on a table, and compares the reply of each with a text.
+macro_rules! replies {
+    ($rt:expr, $table:expr; $($name:ident ( $($argument:tt)* ) => $expected:expr,)*) => {
+        $(
+            $crate::replies::ask(
+                $rt,
+                $table,
+                stringify!($name($($argument)*)),
+                arrow_table::Command::$name($($argument)*),
+                $expected,
+            );
+        )*
+    };
+}
+
+/// Compares the reply of each call with a text.
+macro_rules! calls {
+    ($rt:expr; $($call:expr => $expected:expr,)*) => {
+        $(
+            $crate::replies::check($rt, stringify!($call), $call, $expected);
+        )*
+    };
+}
+
 #[cfg(test)]
-mod apart;
+mod intervals;
 #[cfg(test)]
-mod arrays;
-#[cfg(test)]
-mod builders;
-#[cfg(test)]
-mod chosen;
-#[cfg(test)]
-mod narrow;
+mod overflow;
 #[cfg(test)]
 mod parts;
 #[cfg(test)]
-mod room;
+mod replies;
 #[cfg(test)]
 mod runs;
 #[cfg(test)]
-mod script;
+mod text_cost;
 #[cfg(test)]
-mod texts;
-#[cfg(test)]
-mod unmet;
+mod values;
 #[cfg(test)]
 mod widths;
