@@ -1,6 +1,6 @@
 //! Growing bitmaps. Bytes were packed by hand: mark i is bit i mod 8, the least significant first, of byte i / 8.
 use crate::tests::{check, pushed};
-use arrow_bitmap::MutableBitmap;
+use arrow_bitmap::{Bitmap, MutableBitmap};
 use arrow_testing::assert_text;
 use std::process::Abort;
 
@@ -12,18 +12,41 @@ fn check_bytes(rt: &impl Abort, case: &str, marks: MutableBitmap, length: usize,
     drop(packed);
 }
 
-/// Marks, and their bytes.
-const PACKED: &[(&str, &[u8])] = &[
-    ("", &[]),
-    ("101", &[0x05]),
-    ("00000001", &[0x80]),
-    ("1010000101", &[0x85, 0x02]),
+/// Marks as a text and as booleans, and their bytes.
+const PACKED: &[(&str, &[bool], &[u8])] = &[
+    ("", &[], &[]),
+    ("101", &[true, false, true], &[0x05]),
+    (
+        "00000001",
+        &[false, false, false, false, false, false, false, true],
+        &[0x80],
+    ),
+    (
+        "1010000101",
+        &[
+            true, false, true, false, false, false, false, true, false, true,
+        ],
+        &[0x85, 0x02],
+    ),
+    (
+        "0110000101",
+        &[
+            false, true, true, false, false, false, false, true, false, true,
+        ],
+        &[0x86, 0x02],
+    ),
 ];
 
 #[test]
 fn the_first_mark_is_packed_lowest(rt: HostRuntime) {
-    for (text, bytes) in PACKED {
+    for (text, values, bytes) in PACKED {
         check_bytes(&rt, *text, pushed(&rt, *text), text.len(), *bytes);
+        let frozen = Bitmap::from_slice(rt.alloc(), *values).expect(&rt, "memory");
+        check(&rt, *text, frozen.iter(), *text);
+        drop(frozen);
+        let growing = MutableBitmap::from_slice(rt.alloc(), *values).expect(&rt, "memory");
+        check(&rt, *text, growing.iter(), *text);
+        check_bytes(&rt, *text, growing, text.len(), *bytes);
     }
 }
 
@@ -72,7 +95,10 @@ fn room(marks: MutableBitmap) -> usize {
 #[test]
 fn room_is_reserved_and_given_back(rt: HostRuntime) {
     let first = MutableBitmap::with_capacity(rt.alloc(), 1000).expect(&rt, "memory");
-    assert_text::value(room(first).min(125), 125).expect(&rt, "at least 125 bytes by with_capacity");
+    assert_text::value(room(first).min(125), 125).expect(
+        &rt,
+        "at least 125 bytes by with_capacity",
+    );
     let mut more = MutableBitmap::with_capacity(rt.alloc(), 1000).expect(&rt, "memory");
     more.reserve(8000).expect(&rt, "memory");
     assert_text::value(room(more).min(1000), 1000).expect(&rt, "at least 1000 bytes by reserve");
@@ -90,4 +116,81 @@ fn a_clone_grows_alone(rt: HostRuntime) {
     drop(second);
     check(&rt, "the first", first.iter(), "101");
     drop(first);
+}
+
+#[test]
+fn marks_that_were_truncated_do_not_come_back(rt: HostRuntime) {
+    let bytes = [0xff, 0x01].to_vec(rt.alloc()).expect(&rt, "memory");
+    let mut marks = MutableBitmap::from_bytes(bytes, 9);
+    marks.truncate(8);
+    marks.push(false).expect(&rt, "memory");
+    check(&rt, "a mark after eight", marks.iter(), "111111110");
+    marks.truncate(0);
+    assert_text::value(marks.is_empty(), true).expect(&rt, "no mark");
+    drop(marks);
+}
+
+/// A name, two lists of marks, a mask, and whether they agree, everywhere and where the mask is set.
+const COMPARED: &[(&str, &str, &str, &str, [bool; 2])] = &[
+    ("none", "", "", "", [true, true]),
+    ("equal", "101", "101", "111", [true, true]),
+    (
+        "other under a clear mark",
+        "101",
+        "111",
+        "101",
+        [false, true],
+    ),
+    (
+        "other under a set mark",
+        "101",
+        "111",
+        "010",
+        [false, false],
+    ),
+    (
+        "other in a second byte",
+        "000000001",
+        "000000000",
+        "000000001",
+        [false, false],
+    ),
+    (
+        "other under a ninth clear mark",
+        "000000001",
+        "000000000",
+        "111111110",
+        [false, true],
+    ),
+];
+
+#[test]
+fn marks_are_compared_where_a_mask_is_set(rt: HostRuntime) {
+    for (case, first, second, mask, expected) in COMPARED {
+        let (first, second) = (pushed(&rt, *first), pushed(&rt, *second));
+        let mask = pushed(&rt, *mask);
+        assert!(rt; first.len() == second.len() && mask.len() == first.len());
+        let mask = Some(mask);
+        let came = [
+            first.has_marks_of(&second),
+            first.agrees_where(&second, &mask),
+        ];
+        drop(mask);
+        let bare = first.agrees_where(&second, &None);
+        drop(second);
+        drop(first);
+        assert_text::value((came, bare), (*expected, expected[0])).expect(&rt, *case);
+    }
+}
+
+#[test]
+fn marks_of_other_lengths_differ(rt: HostRuntime) {
+    let mut none = MutableBitmap::default(rt.alloc());
+    let one = pushed(&rt, "0");
+    let (is_empty, is_equal) = (none.is_empty(), none.has_marks_of(&one));
+    none.push(false).expect(&rt, "memory");
+    let came = [is_equal, none.has_marks_of(&one), is_empty, none.is_empty()];
+    drop(one);
+    drop(none);
+    assert_text::value(came, [false, true, true, false]).expect(&rt, "none and one, one and one");
 }
