@@ -79,8 +79,8 @@ fn size_hints_count_down(rt: HostRuntime) {
     let bitmap = frozen(&rt, "101");
     let mut marks = bitmap.iter();
     for left in [3, 2, 1, 0] {
-        assert_text::value(marks.size_hint(), (left, Some(left))).expect(&rt, "before a mark");
-        assert_text::value(marks.next().is_some(), left > 0).expect(&rt, "a mark is left");
+        let came = (marks.size_hint(), marks.next().is_some());
+        assert_text::value(came, ((left, Some(left)), left > 0)).expect(&rt, "before a mark");
     }
     drop(bitmap);
 }

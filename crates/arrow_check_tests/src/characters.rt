@@ -108,7 +108,10 @@ fn check_cut(rt: &(impl Abort + AllocGlobal), bytes: &[u8], [start, cut, end]: [
     // Texts are made of a failure alone, since there are many windows.
     if came != expected {
         let (first, second) = (bytes.get(start..cut), bytes.get(cut..end));
-        assert_text::value((first, second, came), (first, second, expected)).expect(rt, "two items");
+        assert_text::value((first, second, came), (first, second, expected)).expect(
+            rt,
+            "two items",
+        );
     }
 }
 

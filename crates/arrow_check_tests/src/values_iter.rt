@@ -45,8 +45,14 @@ const TENS: Numbers = Numbers {
 fn items_come_from_both_ends(rt: HostRuntime) {
     let mut items = ArrayValuesIter::new(&TENS);
     assert_text::value(items.len(), 3).expect(&rt, "items at first");
-    assert_text::value([items.next(), items.next_back()], [Some(&10), Some(&30)]).expect(&rt, "both ends");
-    assert_text::value((items.len(), items.size_hint()), (1, (1, Some(1)))).expect(&rt, "items left");
+    assert_text::value([items.next(), items.next_back()], [Some(&10), Some(&30)]).expect(
+        &rt,
+        "both ends",
+    );
+    assert_text::value((items.len(), items.size_hint()), (1, (1, Some(1)))).expect(
+        &rt,
+        "items left",
+    );
     let came = [items.nth(0), items.next(), items.next_back()];
     assert_text::value(came, [Some(&20), None, None]).expect(&rt, "the last item");
     assert_text::value(items.len(), 0).expect(&rt, "items at the end");
@@ -70,9 +76,15 @@ fn items_are_skipped_up_to_the_end(rt: HostRuntime) {
     let mut items = ArrayValuesIter::new(&TENS);
     assert_text::value([items.nth(2), items.next()], [Some(&30), None]).expect(&rt, "two of three");
     let mut items = ArrayValuesIter::new(&TENS);
-    assert_text::value([items.nth(3), items.next_back()], [None, None]).expect(&rt, "three of three");
+    assert_text::value([items.nth(3), items.next_back()], [None, None]).expect(
+        &rt,
+        "three of three",
+    );
     let mut items = ArrayValuesIter::new(&TENS);
-    assert_text::value([items.next(), items.nth(usize::MAX)], [Some(&10), None]).expect(&rt, "more than all");
+    assert_text::value([items.next(), items.nth(usize::MAX)], [Some(&10), None]).expect(
+        &rt,
+        "more than all",
+    );
     assert_text::value(items.len(), 0).expect(&rt, "items at the end");
 }
 

@@ -12,41 +12,36 @@ fn check_bytes(rt: &impl Abort, case: &str, marks: MutableBitmap, length: usize,
     drop(packed);
 }
 
-/// Marks as a text and as booleans, and their bytes.
-const PACKED: &[(&str, &[bool], &[u8])] = &[
-    ("", &[], &[]),
-    ("101", &[true, false, true], &[0x05]),
-    (
-        "00000001",
-        &[false, false, false, false, false, false, false, true],
-        &[0x80],
-    ),
-    (
-        "1010000101",
-        &[
-            true, false, true, false, false, false, false, true, false, true,
-        ],
-        &[0x85, 0x02],
-    ),
-    (
-        "0110000101",
-        &[
-            false, true, true, false, false, false, false, true, false, true,
-        ],
-        &[0x86, 0x02],
-    ),
+/// Marks, and their bytes.
+const PACKED: &[(&str, &[u8])] = &[
+    ("", &[]),
+    ("101", &[0x05]),
+    ("00000001", &[0x80]),
+    ("1010000101", &[0x85, 0x02]),
+    ("0110000101", &[0x86, 0x02]),
 ];
 
 #[test]
 fn the_first_mark_is_packed_lowest(rt: HostRuntime) {
-    for (text, values, bytes) in PACKED {
+    for (text, bytes) in PACKED {
         check_bytes(&rt, *text, pushed(&rt, *text), text.len(), *bytes);
-        let frozen = Bitmap::from_slice(rt.alloc(), *values).expect(&rt, "memory");
+        let mut values = Vec::new(rt.alloc());
+        for mark in text.as_bytes() {
+            values.push(*mark == b'1').expect(&rt, "memory");
+        }
+        let growing = MutableBitmap::from_slice(rt.alloc(), values.as_slice());
+        let frozen = Bitmap::from_slice(rt.alloc(), values.as_slice());
+        drop(values);
+        let frozen = frozen.expect(&rt, "memory");
         check(&rt, *text, frozen.iter(), *text);
         drop(frozen);
-        let growing = MutableBitmap::from_slice(rt.alloc(), *values).expect(&rt, "memory");
-        check(&rt, *text, growing.iter(), *text);
-        check_bytes(&rt, *text, growing, text.len(), *bytes);
+        check_bytes(
+            &rt,
+            *text,
+            growing.expect(&rt, "memory"),
+            text.len(),
+            *bytes,
+        );
     }
 }
 
@@ -130,56 +125,37 @@ fn marks_that_were_truncated_do_not_come_back(rt: HostRuntime) {
     drop(marks);
 }
 
-/// A name, two lists of marks, a mask, and whether they agree, everywhere and where the mask is set.
-const COMPARED: &[(&str, &str, &str, &str, [bool; 2])] = &[
-    ("none", "", "", "", [true, true]),
-    ("equal", "101", "101", "111", [true, true]),
-    (
-        "other under a clear mark",
-        "101",
-        "111",
-        "101",
-        [false, true],
-    ),
-    (
-        "other under a set mark",
-        "101",
-        "111",
-        "010",
-        [false, false],
-    ),
-    (
-        "other in a second byte",
-        "000000001",
-        "000000000",
-        "000000001",
-        [false, false],
-    ),
-    (
-        "other under a ninth clear mark",
-        "000000001",
-        "000000000",
-        "111111110",
-        [false, true],
-    ),
+/// Two lists of marks, a mask, and whether they are equal, and agree where the mask is set.
+const COMPARED: &[(&str, &str, &str, [bool; 2])] = &[
+    ("", "", "", [true, true]),
+    ("101", "101", "111", [true, true]),
+    ("101", "111", "101", [false, true]),
+    ("101", "111", "010", [false, false]),
+    ("000000001", "000000000", "000000001", [false, false]),
+    ("000000001", "000000000", "111111110", [false, true]),
 ];
 
 #[test]
 fn marks_are_compared_where_a_mask_is_set(rt: HostRuntime) {
-    for (case, first, second, mask, expected) in COMPARED {
-        let (first, second) = (pushed(&rt, *first), pushed(&rt, *second));
-        let mask = pushed(&rt, *mask);
-        assert!(rt; first.len() == second.len() && mask.len() == first.len());
-        let mask = Some(mask);
+    for (first, second, mask, [equal, agree]) in COMPARED {
+        let (left, right) = (pushed(&rt, *first), pushed(&rt, *second));
+        let marks = pushed(&rt, *mask);
+        assert!(rt; left.len() == right.len() && marks.len() == left.len());
+        let marks = Some(marks);
+        let masked = left.agrees_where(&right, &marks);
+        drop(marks);
         let came = [
-            first.has_marks_of(&second),
-            first.agrees_where(&second, &mask),
+            left.has_marks_of(&right),
+            left.agrees_where(&right, &None),
+            masked,
         ];
-        drop(mask);
-        let bare = first.agrees_where(&second, &None);
-        drop(second);
-        drop(first);
-        assert_text::value((came, bare), (*expected, expected[0])).expect(&rt, *case);
+        drop(right);
+        drop(left);
+        assert_text::value(
+            (*first, *second, came),
+            (*first, *second, [*equal, *equal, *agree]),
+        )
+        .expect(&rt, *mask);
     }
 }
 
