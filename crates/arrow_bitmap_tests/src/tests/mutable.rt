@@ -117,6 +117,7 @@ fn a_clone_grows_alone(rt: HostRuntime) {
 fn marks_that_were_truncated_do_not_come_back(rt: HostRuntime) {
     let bytes = [0xff, 0x01].to_vec(rt.alloc()).expect(&rt, "memory");
     let mut marks = MutableBitmap::from_bytes(bytes, 9);
+    assert!(rt; 8 <= marks.len());
     marks.truncate(8);
     marks.push(false).expect(&rt, "memory");
     check(&rt, "a mark after eight", marks.iter(), "111111110");
@@ -126,18 +127,18 @@ fn marks_that_were_truncated_do_not_come_back(rt: HostRuntime) {
 }
 
 /// Two lists of marks, a mask, and whether they are equal, and agree where the mask is set.
-const COMPARED: &[(&str, &str, &str, [bool; 2])] = &[
-    ("", "", "", [true, true]),
-    ("101", "101", "111", [true, true]),
-    ("101", "111", "101", [false, true]),
-    ("101", "111", "010", [false, false]),
-    ("000000001", "000000000", "000000001", [false, false]),
-    ("000000001", "000000000", "111111110", [false, true]),
+const COMPARED: &[(&str, &str, &str, bool, bool)] = &[
+    ("", "", "", true, true),
+    ("101", "101", "111", true, true),
+    ("101", "111", "101", false, true),
+    ("101", "111", "010", false, false),
+    ("000000001", "000000000", "000000001", false, false),
+    ("000000001", "000000000", "111111110", false, true),
 ];
 
 #[test]
 fn marks_are_compared_where_a_mask_is_set(rt: HostRuntime) {
-    for (first, second, mask, [equal, agree]) in COMPARED {
+    for (first, second, mask, equal, agree) in COMPARED {
         let (left, right) = (pushed(&rt, *first), pushed(&rt, *second));
         let marks = pushed(&rt, *mask);
         assert!(rt; left.len() == right.len() && marks.len() == left.len());

@@ -26,44 +26,29 @@ fn ranges_are_read_from_any_mark(rt: HostRuntime) {
     }
 }
 
-/// A name, marks, a slice, the range of it that is appended to them, and the expected marks.
-type Appended = (
-    &'static str,
-    &'static str,
-    [usize; 2],
-    [usize; 2],
-    &'static str,
-);
+/// An offset and a length.
+type Range = (usize, usize);
 
-const APPENDED: &[Appended] = &[
-    ("none to none", "", [0, 32], [0, 0], ""),
-    ("to none", "", [0, 32], [2, 12], "011111111110"),
-    ("inside a byte", "101", [0, 32], [11, 10], "1011100000111"),
-    (
-        "after a byte",
-        "10110100",
-        [0, 32],
-        [8, 12],
-        "10110100111110000011",
-    ),
-    ("none", "1011010", [0, 32], [32, 0], "1011010"),
-    (
-        "all",
-        "1",
-        [0, 32],
-        [0, 32],
-        "100011111111110000011111111111111",
-    ),
-    ("of a slice", "01", [5, 20], [6, 9], "01110000011"),
+const ALL: Range = (0, 32);
+
+/// A name, marks, a slice, the range of it that is appended to them, and the expected marks.
+const APPENDED: &[(&str, &str, Range, Range, &str)] = &[
+    ("none to none", "", ALL, (0, 0), ""),
+    ("to none", "", ALL, (2, 12), "011111111110"),
+    ("in a byte", "101", ALL, (11, 10), "1011100000111"),
+    ("past it", "10110100", ALL, (8, 12), "10110100111110000011"),
+    ("none", "1011010", ALL, (32, 0), "1011010"),
+    ("all", "1", ALL, ALL, "100011111111110000011111111111111"),
+    ("of a slice", "01", (5, 20), (6, 9), "01110000011"),
 ];
 
 #[test]
 fn ranges_are_appended_after_any_mark(rt: HostRuntime) {
-    for (case, first, [start, end], [offset, len], expected) in APPENDED {
+    for (case, first, slice, range, expected) in APPENDED {
         let (mut other, mut marks) = (frozen(&rt, MARKS), pushed(&rt, *first));
-        cut(&rt, &mut other, *start, *end);
-        assert!(rt; *offset <= other.len() && *len <= other.len() - *offset);
-        let answer = marks.extend_from_range(&other, *offset, *len);
+        cut(&rt, &mut other, slice.0, slice.1);
+        assert!(rt; range.0 <= other.len() && range.1 <= other.len() - range.0);
+        let answer = marks.extend_from_range(&other, range.0, range.1);
         drop(other);
         answer.expect(&rt, "memory");
         check(&rt, *case, marks.iter(), *expected);
