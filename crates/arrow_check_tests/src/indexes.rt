@@ -44,6 +44,10 @@ fn keys_of_nulls_are_not_checked(rt: HostRuntime) {
         drop(validity);
         assert_text::value(came, *expected).expect(&rt, *case);
     }
+}
+
+#[test]
+fn keys_without_a_mask_are_checked(rt: HostRuntime) {
     let came = [
         tells(check_slots([0_u8, 3].as_slice(), None, 3)),
         tells(check_slots([0_u8, 2].as_slice(), None, 3)),
