@@ -43,7 +43,7 @@ fn check_replaced_masks<O: Offset>(rt: &(impl Abort + AllocGlobal)) {
     macro_rules! check {
         ($kind:ty, $one:expr, $none:expr, $two:expr) => {{
             let (slots, items) = ([Some($one), None, Some($two)], [$one, $none, $two]);
-            let mut array = array_of::<$kind, O>(rt, AROUND);
+            let mut array: ByteArray<$kind, O> = array_of(rt, AROUND);
             check_reads!(rt, "a mask", array, slots, items, "101", "010");
             assert_text::value(array.null_count(), 1).expect(rt, "null_count");
             let marks = Bitmap::from_slice(rt.alloc(), [false, true, true].as_slice());
@@ -69,7 +69,7 @@ fn check_dropped_masks<O: Offset>(rt: &(impl Abort + AllocGlobal)) {
     macro_rules! check {
         ($kind:ty, $one:expr, $none:expr, $two:expr) => {{
             let (slots, items) = ([Some($one), Some($none), Some($two)], [$one, $none, $two]);
-            let mut array = array_of::<$kind, O>(rt, AROUND);
+            let mut array: ByteArray<$kind, O> = array_of(rt, AROUND);
             array.set_validity(None);
             check_array(rt, "set_validity of none", &array, BARE);
             check_reads!(rt, "no mask", array, slots, items, "111", "000");
@@ -91,7 +91,7 @@ fn nulls_of_arrays_store_items_that_other_masks_show(rt: HostRuntime) {
 
 /// Changes, replaces and drops the mask of builders.
 fn check_masks_of_builders<K: ByteKind, O: Offset>(rt: &(impl Abort + AllocGlobal)) {
-    let mut builder = builder_of::<K, O>(rt, SLOTS_PARTS);
+    let mut builder: MutableByteArray<K, O> = builder_of(rt, SLOTS_PARTS);
     builder.apply_validity(inverted);
     check_builder(rt, "apply_validity", &builder, (SLOTS.0, SLOTS.1, "001"));
     builder.set_validity(None);
