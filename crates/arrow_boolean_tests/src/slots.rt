@@ -16,22 +16,20 @@ fn slots_are_read_by_index(rt: HostRuntime) {
         let builder = MutableBooleanArray::from(rt.alloc(), *slots).expect(&rt, "memory");
         assert!(rt; array.len() == slots.len() && builder.len() == slots.len());
         for i in 0..slots.len() {
-            let came = [
-                (array.get(i), array.is_null(i)),
-                (builder.get(i), builder.is_null(i)),
-            ];
-            assert_text::value(came, [(slots[i], slots[i].is_none()); 2]).expect(&rt, *case);
-            let came = (array.is_valid(i), array.value(i));
-            assert_text::value(came, (slots[i].is_some(), slots[i] == Some(true))).expect(
-                &rt, *case,
-            );
+            let slot = slots[i];
+            let came = (i, array.get(i), array.is_null(i));
+            assert_text::value(came, (i, slot, slot.is_none())).expect(&rt, *case);
+            let came = (i, array.value(i), array.is_valid(i));
+            let expected = (i, slot == Some(true), slot.is_some());
+            assert_text::value(came, expected).expect(&rt, *case);
+            let came = (i, builder.get(i), builder.is_null(i));
+            assert_text::value(came, (i, slot, slot.is_none())).expect(&rt, *case);
         }
         let counts = [array.null_count(), builder.null_count()];
         let are_empty = [array.is_empty(), builder.is_empty()];
         drop(builder);
         drop(array);
-        assert_text::value((counts, are_empty), ([*nulls; 2], [slots.is_empty(); 2])).expect(
-            &rt, *case,
-        );
+        let expected = ([*nulls; 2], [slots.is_empty(); 2]);
+        assert_text::value((counts, are_empty), expected).expect(&rt, *case);
     }
 }

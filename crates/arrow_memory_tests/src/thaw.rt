@@ -24,18 +24,13 @@ fn cut(rt: &(impl Abort + AllocGlobal)) -> Bitmap {
 fn check_values(rt: &(impl Abort + AllocGlobal), case: &str, mask: Option<Bitmap>, expected: &str) {
     let values = [7_i64, 0].to_vec(rt.alloc()).expect(rt, "memory");
     let values = Buffer::from_vec(values).expect(rt, "memory");
-    let side = match into_mut_values(values, mask) {
-        Left((values, mask)) => {
-            drop(mask);
-            drop(values);
-            "frozen"
-        }
-        Right((values, mask)) => {
-            drop(mask);
-            drop(values);
-            "growing"
-        }
+    let thawed = into_mut_values(values, mask);
+    let side = if thawed.is_right() {
+        "growing"
+    } else {
+        "frozen"
     };
+    drop(thawed);
     assert_text::value(side, expected).expect(rt, case);
 }
 
@@ -50,18 +45,13 @@ fn values_thaw_unless_their_mask_is_shared(rt: HostRuntime) {
 
 /// Thaws bits with a mask, and compares which side comes with this one.
 fn check_bits(rt: &impl Abort, case: &str, bits: Bitmap, mask: Option<Bitmap>, expected: &str) {
-    let side = match into_mut_bits(bits, mask) {
-        Left((bits, mask)) => {
-            drop(mask);
-            drop(bits);
-            "frozen"
-        }
-        Right((bits, mask)) => {
-            drop(mask);
-            drop(bits);
-            "growing"
-        }
+    let thawed = into_mut_bits(bits, mask);
+    let side = if thawed.is_right() {
+        "growing"
+    } else {
+        "frozen"
     };
+    drop(thawed);
     assert_text::value(side, expected).expect(rt, case);
 }
 

@@ -36,18 +36,21 @@ fn three<O: Offset>(rt: &(impl Abort + AllocGlobal)) -> Offsets<O> {
 }
 
 /// Appends slots to offsets of a type, first their own, then the last two of others and their bytes.
-fn check_growth<O: Offset>(rt: &(impl Abort + AllocGlobal)) {
+fn check_growth<O: Offset>(rt: &(impl Abort + AllocGlobal), name: &str) {
     let mut offsets = three::<O>(rt);
     let copy = offsets.clone().expect(rt, "memory");
     offsets
         .try_extend_from_self(&copy)
         .expect(rt, "room for 40");
     drop(copy);
-    assert_text::value(offsets.last().to_usize(), 40).expect(rt, "try_extend_from_self");
+    assert_text::value((name, offsets.last().to_usize()), (name, 40)).expect(
+        rt,
+        "try_extend_from_self",
+    );
     let other = three::<O>(rt).freeze().expect(rt, "memory");
     let copy = other.clone().expect(rt, "memory");
     drop(other);
-    assert_text::value(copy.len_proxy(), 3).expect(rt, "a clone of frozen offsets");
+    assert_text::value((name, copy.len_proxy()), (name, 3)).expect(rt, "a clone of frozen offsets");
     assert!(rt; copy.len_proxy() == 3 && copy.last().to_usize() <= 20);
     let mut values = Vec::new(rt.alloc());
     let answer = offsets.try_extend_slots(&mut values, &copy, b"a slot of 20 letters", 1, 2);
@@ -55,17 +58,17 @@ fn check_growth<O: Offset>(rt: &(impl Abort + AllocGlobal)) {
     answer.expect(rt, "room for 60");
     let ends = [offsets.last().to_usize(), values.len()];
     drop(values);
-    assert_text::value(ends, [60, 20]).expect(rt, "try_extend_slots");
+    assert_text::value((name, ends), (name, [60, 20])).expect(rt, "try_extend_slots");
     assert!(rt; offsets.len_proxy() == 8);
     offsets.truncate(2);
     let ends = [offsets.first().to_usize(), offsets.last().to_usize()];
-    assert_text::value((ends, offsets.len_proxy()), ([0, 0], 2)).expect(rt, "truncate");
+    assert_text::value((name, ends, offsets.len_proxy()), (name, [0, 0], 2)).expect(rt, "truncate");
     drop(offsets);
 }
 
 #[test]
 fn each_type_of_offset_grows(rt: HostRuntime) {
-    check_growth::<i32>(&rt);
-    check_growth::<i64>(&rt);
-    check_growth::<Tiny>(&rt);
+    check_growth::<i32>(&rt, "i32");
+    check_growth::<i64>(&rt, "i64");
+    check_growth::<Tiny>(&rt, "Tiny");
 }
