@@ -73,8 +73,8 @@ fn slots_are_popped_with_their_bytes(rt: HostRuntime) {
     for_both_widths!(check_pops, &rt);
 }
 
-/// Extends a builder by items, by slots of which one is null, and by slots of which none is, and a builder without nulls
-/// by the items, and by others.
+/// Extends a builder by items, by slots of which one is null, and by slots of which none is, and a builder without
+/// nulls by the items, and by others.
 macro_rules! check_growth {
     ($kind:ty, $rt:ident, $items:ident, $slots:ident) => {{
         let mut builder = MutableByteArray::<$kind, O>::default($rt.alloc()).expect($rt, "memory");
