@@ -1,6 +1,6 @@
-//! Arrays and builders of bytes and of text. What both kinds have in common is asked by functions over a kind and a width
-//! of offsets, which tests call for both kinds at both widths. Offsets are written as numbers where a value is made, and as
-//! a text where they are compared; masks as texts of `1` and `0`, or `none`.
+//! Arrays and builders of bytes and of text. What both kinds have in common is asked by functions over a kind and a
+//! width of offsets, which tests call for both kinds at both widths. Offsets are written as numbers where a value is
+//! made, and as a text where they are compared; masks as texts of `1` and `0`, or `none`.
 
 /// Calls a function of a width of offsets for both widths.
 macro_rules! for_both_widths {

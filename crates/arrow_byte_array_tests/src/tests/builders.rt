@@ -35,12 +35,8 @@ fn check_pushes<O: Offset>(rt: &(impl Abort + AllocGlobal)) {
             drop(builder);
         }};
     }
-    check!(
-        Binary,
-        b"\xC3\xA9".as_slice(),
-        b"c".as_slice(),
-        b"".as_slice()
-    );
+    let (e_acute, c, none) = (b"\xC3\xA9".as_slice(), b"c".as_slice(), b"".as_slice());
+    check!(Binary, e_acute, c, none);
     check!(Utf8, "é", "c", "");
 }
 
@@ -67,11 +63,8 @@ fn check_pops<O: Offset>(rt: &(impl Abort + AllocGlobal)) {
             drop(builder);
         }};
     }
-    check!(
-        Binary,
-        "Some([116, 104, 101, 114, 101])",
-        "Some([195, 169])"
-    );
+    let there = "Some([116, 104, 101, 114, 101])";
+    check!(Binary, there, "Some([195, 169])");
     check!(Utf8, r#"Some("there")"#, r#"Some("é")"#);
 }
 
@@ -80,8 +73,8 @@ fn slots_are_popped_with_their_bytes(rt: HostRuntime) {
     for_both_widths!(check_pops, &rt);
 }
 
-/// Extends a builder by items, by slots of which one is null, and by slots of which none is, and one without nulls by the
-/// items, and by others.
+/// Extends a builder by items, by slots of which one is null, and by slots of which none is, and a builder without
+/// nulls by the items, and by others.
 macro_rules! check_growth {
     ($kind:ty, $rt:ident, $items:ident, $slots:ident) => {{
         let mut builder = MutableByteArray::<$kind, O>::default($rt.alloc()).expect($rt, "memory");
