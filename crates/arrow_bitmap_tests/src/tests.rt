@@ -1,5 +1,4 @@
 //! Bitmaps. Marks are written as texts, in which `1` is a set mark.
-mod copies;
 mod mutable;
 mod ops;
 mod ranges;
@@ -37,7 +36,9 @@ fn check(rt: &impl Abort, case: &str, marks: BitmapIter<'_>, expected: &str) {
     assert_text::marks(marks, expected).expect(rt, case);
 }
 
-/// A name, the slice of what the row before left, its marks, the third of these, and how many are clear.
+const MARKS: &str = "00011111111110000011111111111111";
+
+/// A name, the slice of what the row before left, its marks, the third of them, and how many are clear.
 type Cut = (
     &'static str,
     usize,
@@ -48,43 +49,23 @@ type Cut = (
 );
 
 const CUTS: &[Cut] = &[
-    (
-        "whole",
-        0,
-        32,
-        "00011111111110000011111111111111",
-        Some(false),
-        8,
-    ),
-    (
-        "inside a byte",
-        2,
-        20,
-        "01111111111000001111",
-        Some(true),
-        6,
-    ),
+    ("whole", 0, 32, MARKS, Some(false), 8),
+    ("in a byte", 2, 20, "01111111111000001111", Some(true), 6),
     ("of a slice", 5, 10, "1111110000", Some(true), 4),
     ("three marks", 5, 3, "100", Some(false), 2),
     ("none", 3, 0, "", None, 0),
 ];
 
-/// Compares the marks of a bitmap by index with a text.
-fn check_by_index(rt: &impl Abort, case: &str, bitmap: &Bitmap, expected: &str) {
-    assert!(rt; bitmap.len() == expected.len());
-    for (index, mark) in expected.as_bytes().iter().enumerate() {
-        assert!(rt; index < bitmap.len());
-        assert_text::value(bitmap.get_bit(index), *mark == b'1').expect(rt, case);
-    }
-}
-
 #[test]
 fn slices_of_slices_add_their_offsets(rt: HostRuntime) {
-    let mut bitmap = frozen(&rt, "00011111111110000011111111111111");
+    let mut bitmap = frozen(&rt, MARKS);
     for (case, offset, len, expected, third, clear) in CUTS {
         cut(&rt, &mut bitmap, *offset, *len);
         check(&rt, *case, bitmap.iter(), *expected);
-        check_by_index(&rt, *case, &bitmap, *expected);
+        for (index, mark) in expected.as_bytes().iter().enumerate() {
+            assert!(rt; index < bitmap.len());
+            assert_text::value(bitmap.get_bit(index), *mark == b'1').expect(&rt, *case);
+        }
         let (mut near, mut far) = (bitmap.iter(), bitmap.iter());
         assert_text::value([near.nth(2), far.nth(usize::MAX)], [*third, None]).expect(&rt, *case);
         let left = [near.len(), far.len(), bitmap.unset_bits()];
@@ -98,8 +79,8 @@ fn size_hints_count_down(rt: HostRuntime) {
     let bitmap = frozen(&rt, "101");
     let mut marks = bitmap.iter();
     for left in [3, 2, 1, 0] {
-        assert_text::value(marks.size_hint(), (left, Some(left))).expect(&rt, "before a mark");
-        assert_text::value(marks.next().is_some(), left > 0).expect(&rt, "a mark is left");
+        let came = (marks.size_hint(), marks.next().is_some());
+        assert_text::value(came, ((left, Some(left)), left > 0)).expect(&rt, "before a mark");
     }
     drop(bitmap);
 }

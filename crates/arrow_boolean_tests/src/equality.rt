@@ -4,45 +4,37 @@ use arrow_testing::{assert_text, growing_mask};
 use arrow_types::data_type::DataType;
 use std::process::Abort;
 
-#[test]
-fn stored_values_of_nulls_are_not_compared(rt: HostRuntime) {
-    let stores_false = MutableBooleanArray::from(rt.alloc(), [Some(true), None].as_slice());
-    let stores_false = stores_false.expect(&rt, "memory");
-    let values = growing_mask(rt.alloc(), "11").expect(&rt, "memory");
-    let mask = growing_mask(rt.alloc(), "10").expect(&rt, "memory");
-    let values = values.expect(&rt, "values");
-    let stores_true = MutableBooleanArray::try_new(DataType::Boolean, values, mask);
-    let stores_true = stores_true.expect(&rt, "parts that fit");
-    let are_equal = stores_false == stores_true;
-    drop(stores_true);
-    drop(stores_false);
-    assert_text::value(are_equal, true).expect(
-        &rt,
-        "a null that stores false, and one that stores true",
-    );
-}
+/// Stored values and marks; `none` means that no mask is held.
+type Stored = (&'static str, &'static str);
 
-/// A name, the ninth slots of two builders of valid slots, and whether the builders are equal.
-const NINTH: &[(&str, Option<bool>, Option<bool>, bool)] = &[
-    ("the same value", Some(true), Some(true), true),
-    ("another value", Some(true), Some(false), false),
-    ("a value and a null", Some(false), None, false),
-    ("a null and a value", None, Some(false), false),
+/// Eight slots that are true, and a ninth that is true, false, or a null.
+const TRUE: Stored = ("111111111", "none");
+
+const FALSE: Stored = ("111111110", "none");
+
+const NULL: Stored = ("111111110", "111111110");
+
+/// A name, two builders, and whether they are equal.
+const COMPARED: &[(&str, Stored, Stored, bool)] = &[
+    ("other values of nulls", ("10", "10"), ("11", "10"), true),
+    ("the same value", TRUE, TRUE, true),
+    ("another value", TRUE, FALSE, false),
+    ("a value and a null", FALSE, NULL, false),
+    ("a null and a value", NULL, FALSE, false),
 ];
 
-/// Creates a builder of eight slots that are true, and a ninth.
-fn nine(rt: &(impl Abort + AllocGlobal), ninth: Option<bool>) -> MutableBooleanArray {
-    let mut builder = MutableBooleanArray::new(rt.alloc());
-    let valid = [Some(true); 8];
-    builder.extend(valid.into_iter()).expect(rt, "memory");
-    builder.push(ninth).expect(rt, "memory");
-    builder
+/// Creates a builder of these parts.
+fn builder(rt: &(impl Abort + AllocGlobal), (values, mask): Stored) -> MutableBooleanArray {
+    let values = growing_mask(rt.alloc(), values).expect(rt, "memory");
+    let mask = growing_mask(rt.alloc(), mask).expect(rt, "memory");
+    let values = values.expect(rt, "stored values");
+    MutableBooleanArray::try_new(DataType::Boolean, values, mask).expect(rt, "parts that fit")
 }
 
 #[test]
-fn slots_of_a_second_byte_are_compared(rt: HostRuntime) {
-    for (case, first, second, expected) in NINTH {
-        let (left, right) = (nine(&rt, *first), nine(&rt, *second));
+fn slots_are_compared_without_the_stored_values_of_nulls(rt: HostRuntime) {
+    for (case, first, second, expected) in COMPARED {
+        let (left, right) = (builder(&rt, *first), builder(&rt, *second));
         let are_equal = left == right;
         drop(right);
         drop(left);

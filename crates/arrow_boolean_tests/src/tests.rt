@@ -6,17 +6,17 @@ ghost use Rattle.std.specs.Prelude.{◌≡◌, length};
 
 use arrow_boolean::{BooleanArray, MutableBooleanArray};
 use arrow_memory::bitmap::{Bitmap, MutableBitmap};
-use arrow_testing::assert_text;
+use arrow_testing::{assert_text, frozen_mask};
 use arrow_types::data_type::DataType;
 use std::process::Abort;
 
-/// Compares the slots, stored values and mask of an array with these texts, and drops it.
-fn check(rt: &impl Abort, case: &str, array: BooleanArray, slots: &str, values: &str, mask: &str) {
+/// Compares the slots, stored values and mask of an array with these texts.
+fn check(rt: &impl Abort, case: &str, array: &BooleanArray, slots: &str, values: &str, mask: &str) {
     assert_text::bools(array.iter(), slots).expect(rt, case);
-    assert_text::bools((&array).into_iter(), slots).expect(rt, case);
+    assert_text::bools(array.into_iter(), slots).expect(rt, case);
     assert_text::marks(array.values_iter(), values).expect(rt, case);
     assert_text::mask(array.validity(), mask).expect(rt, case);
-    drop(array);
+    assert_text::value(array.is_empty(), slots.is_empty()).expect(rt, case);
 }
 
 /// Compares the slots, stored values and mask of a builder with these texts.
@@ -39,22 +39,20 @@ const THREE: [Option<bool>; 3] = [Some(true), None, Some(false)];
 
 #[test]
 fn arrays_have_a_mask_only_for_nulls(rt: HostRuntime) {
-    let (alloc, valid) = (rt.alloc(), [Some(true), Some(false)].as_slice());
-    let nulls = BooleanArray::new_null(alloc, DataType::Boolean, 3).expect(&rt, "memory");
-    check(&rt, "new_null", nulls, "___", "000", "000");
-    let slots = BooleanArray::from(alloc, valid).expect(&rt, "memory");
-    check(&rt, "from, no null", slots, "tf", "10", "none");
-    let values = BooleanArray::from_slice(alloc, [true, false].as_slice());
-    check(
-        &rt,
-        "from_slice",
-        values.expect(&rt, "memory"),
-        "tf",
-        "10",
-        "none",
-    );
-    let empty = BooleanArray::new_empty(alloc, DataType::Boolean).expect(&rt, "memory");
-    check(&rt, "new_empty", empty, "", "", "none");
+    let valid = [Some(true), Some(false)];
+    let array = BooleanArray::from(rt.alloc(), valid.as_slice()).expect(&rt, "memory");
+    check(&rt, "from, no null", &array, "tf", "10", "none");
+    drop(array);
+    let array = BooleanArray::from_slice(rt.alloc(), [true, false].as_slice());
+    let array = array.expect(&rt, "memory");
+    check(&rt, "from_slice", &array, "tf", "10", "none");
+    drop(array);
+    let array = BooleanArray::new_empty(rt.alloc(), DataType::Boolean).expect(&rt, "memory");
+    check(&rt, "new_empty", &array, "", "", "none");
+    drop(array);
+    let array = BooleanArray::new_null(rt.alloc(), DataType::Boolean, 3).expect(&rt, "memory");
+    check(&rt, "new_null", &array, "___", "000", "000");
+    drop(array);
 }
 
 #[test]
@@ -64,18 +62,51 @@ fn a_null_that_is_overwritten_leaves_its_mask(rt: HostRuntime) {
     assert!(rt; builder.len() == 1);
     builder.set(0, Some(true)).expect(&rt, "memory");
     let array = builder.freeze().expect(&rt, "memory");
-    check(&rt, "overwritten", array, "t", "1", "1");
+    check(&rt, "overwritten", &array, "t", "1", "1");
+    drop(array);
+}
+
+/// Creates the bitmap of a text.
+fn bits(rt: &(impl Abort + AllocGlobal), text: &str) -> Bitmap {
+    let marks = frozen_mask(rt.alloc(), text).expect(rt, "memory");
+    marks.expect(rt, "marks")
+}
+
+/// Returns a mask.
+fn same(mask: Bitmap) -> Bitmap
+    ensures { length result ≡ length mask }
+{
+    mask
 }
 
 #[test]
-fn the_mask_stays_if_values_are_replaced(rt: HostRuntime) {
-    let array = BooleanArray::from(rt.alloc(), THREE.as_slice()).expect(&rt, "memory");
-    let values = Bitmap::from_slice(rt.alloc(), [false, true, true].as_slice());
-    let values = values.expect(&rt, "memory");
-    assert!(rt; array.len() == values.len());
-    let replaced = array.with_values(values).expect(&rt, "memory");
+fn masks_are_replaced_under_the_values(rt: HostRuntime) {
+    let mut array = BooleanArray::new(DataType::Boolean, bits(&rt, "101"), None);
+    let mask = bits(&rt, "011");
+    assert!(rt; array.len() == mask.len());
+    array.set_validity(Some(mask));
+    check(&rt, "set_validity", &array, "_ft", "101", "011");
+    array.apply_validity(same);
+    check(&rt, "apply_validity", &array, "_ft", "101", "011");
+    let array = array.with_validity(None);
+    check(&rt, "with_validity", &array, "tft", "101", "none");
     drop(array);
-    check(&rt, "with_values", replaced, "f_t", "011", "101");
+}
+
+#[test]
+fn values_are_replaced_under_the_mask(rt: HostRuntime) {
+    let array = BooleanArray::from(rt.alloc(), THREE.as_slice()).expect(&rt, "memory");
+    let values = bits(&rt, "011");
+    assert!(rt; array.len() == values.len());
+    let mut replaced = array.with_values(values).expect(&rt, "memory");
+    check(&rt, "with_values", &replaced, "f_t", "011", "101");
+    check(&rt, "the first", &array, "t_f", "100", "101");
+    drop(array);
+    let values = bits(&rt, "110");
+    assert!(rt; replaced.len() == values.len());
+    replaced.set_values(values);
+    check(&rt, "set_values", &replaced, "t_f", "110", "101");
+    drop(replaced);
 }
 
 /// Reverses three marks; leaves others as they are.
@@ -96,8 +127,10 @@ fn changes_of_a_clone_leave_the_first(rt: HostRuntime) {
     let first = BooleanArray::from(rt.alloc(), THREE.as_slice()).expect(&rt, "memory");
     let mut second = first.clone().expect(&rt, "memory");
     second.apply_values_mut(reversed).expect(&rt, "memory");
-    check(&rt, "the clone", second, "f_t", "001", "101");
-    check(&rt, "the first", first, "t_f", "100", "101");
+    check(&rt, "the clone", &second, "f_t", "001", "101");
+    drop(second);
+    check(&rt, "the first", &first, "t_f", "100", "101");
+    drop(first);
 }
 
 #[test]
@@ -128,37 +161,36 @@ fn builders_grow_slot_by_slot(rt: HostRuntime) {
 
 #[test]
 fn builders_grow_by_iterators(rt: HostRuntime) {
-    let mut builder = MutableBooleanArray::default(rt.alloc());
-    let (values, slots) = ([true, false], [None]);
+    let builder = MutableBooleanArray::from_slice(rt.alloc(), [false, true].as_slice());
+    let mut builder = builder.expect(&rt, "memory");
+    check_builder(&rt, "from_slice", &builder, "ft", "01", "none");
+    let (values, slots, more) = ([true, false], [None], [Some(true)]);
     builder
         .extend_values(values.into_iter())
         .expect(&rt, "memory");
     builder.try_extend(slots.into_iter()).expect(&rt, "memory");
+    builder.extend(more.into_iter()).expect(&rt, "memory");
     let copy = builder.clone().expect(&rt, "memory");
     drop(builder);
-    check_builder(&rt, "the clone", &copy, "tf_", "100", "110");
+    check_builder(&rt, "the clone", &copy, "fttf_t", "011001", "111101");
     drop(copy);
+    let none = MutableBooleanArray::default(rt.alloc());
+    check_builder(&rt, "default", &none, "", "", "none");
+    drop(none);
 }
 
 /// A name, the slots of two builders, and those of the first after it took the second's.
-type Joined = (
-    &'static str,
-    &'static [Option<bool>],
-    &'static [Option<bool>],
-    &'static str,
-);
-
-const JOINED: &[Joined] = &[
+const JOINED: &[(&str, [Option<bool>; 2], [Option<bool>; 2], &str)] = &[
     (
         "a null in the second",
-        &[Some(true), Some(false)],
-        &[None, Some(true)],
+        [Some(true), Some(false)],
+        [None, Some(true)],
         "tf_t",
     ),
     (
         "a null in the first",
-        &[None, Some(true)],
-        &[Some(true), Some(false)],
+        [None, Some(true)],
+        [Some(true), Some(false)],
         "_ttf",
     ),
 ];
@@ -166,8 +198,10 @@ const JOINED: &[Joined] = &[
 #[test]
 fn builders_grow_by_builders(rt: HostRuntime) {
     for (case, first, second, joined) in JOINED {
-        let mut builder = MutableBooleanArray::from(rt.alloc(), *first).expect(&rt, "memory");
-        let other = MutableBooleanArray::from(rt.alloc(), *second).expect(&rt, "memory");
+        let mut builder = MutableBooleanArray::from(rt.alloc(), first.as_slice()).expect(
+            &rt, "memory",
+        );
+        let other = MutableBooleanArray::from(rt.alloc(), second.as_slice()).expect(&rt, "memory");
         builder.try_extend_from_self(&other).expect(&rt, "memory");
         drop(other);
         assert_text::bools(builder.iter(), *joined).expect(&rt, *case);

@@ -3,10 +3,4 @@
 #![tactic(auto)]
 
 #[cfg(test)]
-mod byte_values;
-#[cfg(test)]
-mod ranges;
-#[cfg(test)]
-mod slots;
-#[cfg(test)]
 mod tests;

@@ -1,7 +1,6 @@
 //! Keys that point at items.
 use arrow_check::indexes::{check_indexes, check_slots};
-use arrow_memory::bitmap::Bitmap;
-use arrow_testing::{assert_text, tells};
+use arrow_testing::{assert_text, frozen_mask, tells};
 use arrow_types::index_key::IndexKey;
 use std::process::Abort;
 
@@ -19,58 +18,27 @@ fn keys_of_every_sign_and_width_are_checked(rt: HostRuntime) {
     check(&rt, "a negative key", [2_i8, -1].as_slice(), 3, NO_INDEX);
     check(&rt, "one past the items", [255_u8].as_slice(), 255, PAST);
     check(&rt, "the last item", [254_u8, 0].as_slice(), 255, "made");
-    check(
-        &rt,
-        "the first fault is reported",
-        [1_i32, 3, -1].as_slice(),
-        3,
-        PAST,
-    );
-    check(
-        &rt,
-        "the greatest key",
-        [u64::MAX].as_slice(),
-        usize::MAX,
-        PAST,
-    );
-    let keys = [18446744073709551614_u64];
-    check(
-        &rt,
-        "one below the greatest",
-        keys.as_slice(),
-        usize::MAX,
-        "made",
-    );
+    check(&rt, "the first fault", [1_i32, 3, -1].as_slice(), 3, PAST);
+    let (greatest, below) = ([u64::MAX], [18446744073709551614_u64]);
+    let all = usize::MAX;
+    check(&rt, "the greatest", greatest.as_slice(), all, PAST);
+    check(&rt, "below the greatest", below.as_slice(), all, "made");
 }
 
 /// A name, keys, their marks, and the expected answer of `check_slots` for three items.
-const SLOTS: &[(&str, [i32; 4], [bool; 4], &str)] = &[
-    (
-        "nulls under both faults",
-        [2, 9, 0, -1],
-        [true, false, true, false],
-        "made",
-    ),
-    (
-        "a null under one fault",
-        [2, 9, 0, -1],
-        [true, false, true, true],
-        NO_INDEX,
-    ),
-    ("no null", [2, 9, 0, -1], [true, true, true, true], PAST),
-    (
-        "a null under the first fault",
-        [-1, 0, 3, -1],
-        [false, true, true, true],
-        PAST,
-    ),
-    ("nulls alone", [3, -1, 9, -7], [false; 4], "made"),
+const SLOTS: &[(&str, [i32; 4], &str, &str)] = &[
+    ("nulls under both faults", [2, 9, 0, -1], "1010", "made"),
+    ("a null under one fault", [2, 9, 0, -1], "1011", NO_INDEX),
+    ("no null", [2, 9, 0, -1], "1111", PAST),
+    ("a null under the first", [-1, 0, 3, -1], "0111", PAST),
+    ("nulls alone", [3, -1, 9, -7], "0000", "made"),
 ];
 
 #[test]
 fn keys_of_nulls_are_not_checked(rt: HostRuntime) {
     for (case, keys, marks, expected) in SLOTS {
-        let validity = Bitmap::from_slice(rt.alloc(), marks.as_slice()).expect(&rt, "memory");
+        let validity = frozen_mask(rt.alloc(), *marks).expect(&rt, "memory");
+        let validity = validity.expect(&rt, "a mask");
         assert!(rt; validity.len() == 4);
         let came = tells(check_slots(keys.as_slice(), Some(&validity), 3));
         drop(validity);
@@ -84,5 +52,8 @@ fn keys_without_a_mask_are_checked(rt: HostRuntime) {
         tells(check_slots([0_u8, 3].as_slice(), None, 3)),
         tells(check_slots([0_u8, 2].as_slice(), None, 3)),
     ];
-    assert_text::value(came, [PAST, "made"]).expect(&rt, "one past the items, the last item");
+    assert_text::value(came, [PAST, "made"]).expect(
+        &rt,
+        "no mask, one past the items and the last",
+    );
 }

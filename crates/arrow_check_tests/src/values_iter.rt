@@ -44,12 +44,13 @@ const TENS: Numbers = Numbers {
 #[test]
 fn items_come_from_both_ends(rt: HostRuntime) {
     let mut items = ArrayValuesIter::new(&TENS);
-    assert_text::value(items.len(), 3).expect(&rt, "items at first");
-    assert_text::value([items.next(), items.next_back()], [Some(&10), Some(&30)]).expect(&rt, "both ends");
-    assert_text::value((items.len(), items.size_hint()), (1, (1, Some(1)))).expect(&rt, "items left");
+    let came = (items.len(), items.next(), items.next_back());
+    assert_text::value(came, (3, Some(&10), Some(&30))).expect(&rt, "both ends");
+    let left = (items.len(), items.size_hint());
+    assert_text::value(left, (1, (1, Some(1)))).expect(&rt, "one item left");
     let came = [items.nth(0), items.next(), items.next_back()];
     assert_text::value(came, [Some(&20), None, None]).expect(&rt, "the last item");
-    assert_text::value(items.len(), 0).expect(&rt, "items at the end");
+    assert_text::value(items.len(), 0).expect(&rt, "the end");
 }
 
 #[test]
@@ -60,29 +61,31 @@ fn ranges_have_their_items(rt: HostRuntime) {
     let came = [last.next_back(), last.next(), last.next()];
     assert_text::value(came, [Some(&30), Some(&20), None]).expect(&rt, "the last two");
     let mut first = ArrayValuesIter::new_range(&TENS, 0, 1);
-    assert_text::value([first.next(), first.next()], [Some(&10), None]).expect(&rt, "the first");
     let mut none = ArrayValuesIter::new_range(&TENS, 3, 0);
-    assert_text::value(none.next(), None).expect(&rt, "none at the end");
+    let came = [first.next(), first.next(), none.next()];
+    assert_text::value(came, [Some(&10), None, None]).expect(&rt, "the first, and none");
 }
 
 #[test]
 fn items_are_skipped_up_to_the_end(rt: HostRuntime) {
     let mut items = ArrayValuesIter::new(&TENS);
-    assert_text::value([items.nth(2), items.next()], [Some(&30), None]).expect(&rt, "two of three");
+    let came = [items.nth(2), items.next()];
+    assert_text::value(came, [Some(&30), None]).expect(&rt, "two of three");
     let mut items = ArrayValuesIter::new(&TENS);
-    assert_text::value([items.nth(3), items.next_back()], [None, None]).expect(&rt, "three of three");
+    let came = [items.nth(3), items.next_back()];
+    assert_text::value(came, [None, None]).expect(&rt, "three of three");
     let mut items = ArrayValuesIter::new(&TENS);
-    assert_text::value([items.next(), items.nth(usize::MAX)], [Some(&10), None]).expect(&rt, "more than all");
-    assert_text::value(items.len(), 0).expect(&rt, "items at the end");
+    let came = (items.next(), items.nth(usize::MAX), items.len());
+    assert_text::value(came, (Some(&10), None, 0)).expect(&rt, "more than all");
 }
 
 #[test]
 fn a_clone_goes_on_alone(rt: HostRuntime) {
     let mut items = ArrayValuesIter::new(&TENS);
-    assert_text::value(items.next(), Some(&10)).expect(&rt, "the first");
+    let first = items.next();
     let mut others = items.clone();
-    assert_text::value(items.nth(1), Some(&30)).expect(&rt, "the third");
-    assert_text::value((others.len(), others.next()), (2, Some(&20))).expect(&rt, "the clone");
+    let came = (first, items.nth(1), others.len(), others.next());
+    assert_text::value(came, (Some(&10), Some(&30), 2, Some(&20))).expect(&rt, "the clone");
 }
 
 /// The numbers as values under marks: another crate's trait is not given to another crate's iterator,

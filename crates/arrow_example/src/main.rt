@@ -16,8 +16,8 @@ use dethrugn::offset::{Offsets, OffsetsBuffer};
 use std::alloc::Global;
 use std::io;
 
-/// An array is made by a builder, to which slots are pushed, and which is then frozen. A push can be refused: where memory
-/// is, and where the offsets, of `i32` here, can't count so many bytes.
+/// Builds an array: slots are pushed to a builder, which is then frozen. A push fails if memory is refused or if the
+/// offsets, of `i32` here, overflow.
 fn build(alloc: Global) -> Result<Utf8Array<i32>, Error> {
     let mut names = MutableUtf8Array::new(alloc)?;
     names.push(Some("Ada"))?;
@@ -26,8 +26,7 @@ fn build(alloc: Global) -> Result<Utf8Array<i32>, Error> {
     names.freeze()
 }
 
-/// A slot is read at its place, which has to be below the length: where that isn't known the proof fails, and not the
-/// program.
+/// Reads each slot by its index, which must be below the length: if that isn't known the proof fails, not the program.
 fn read(rt: &impl Print, title: &str, names: &Utf8Array<i32>) -> io::Result<()> {
     println!(rt; "{title}:")?;
     for place in 0..names.len() {
@@ -39,8 +38,8 @@ fn read(rt: &impl Print, title: &str, names: &Utf8Array<i32>) -> io::Result<()> 
     Ok(())
 }
 
-/// An iterator gives what the slots store, from both ends, and for a null slot too. A `for` over it asks for a measure in a
-/// proof file.
+/// Reads from both ends what the slots store, also of null slots. A `for` over this iterator needs a measure in a proof
+/// file.
 fn read_ends(rt: &impl Print, names: &Utf8Array<i32>) -> io::Result<()> {
     let mut stored = names.values_iter();
     if let Some(first) = stored.next() {
@@ -63,7 +62,7 @@ fn append(names: Utf8Array<i32>, name: &str) -> Result<Utf8Array<i32>, Error> {
     }
 }
 
-/// A clone that is sliced, and whose nulls are told as what they store.
+/// Slices a clone and removes its mask, so nulls show their stored values.
 fn read_part(rt: &impl Print, copy: Utf8Array<i32>) -> io::Result<()> {
     let mut copy = copy;
     copy.set_validity(None);

@@ -79,7 +79,10 @@ fn values_are_lent_once_no_clone_shares_them(rt: HostRuntime) {
     drop(second);
     let is_lent_alone = first.get_mut_slice(write_first);
     drop(first);
-    assert_text::value([is_lent, is_lent_alone], [false, true]).expect(&rt, "beside a clone, and alone");
+    assert_text::value([is_lent, is_lent_alone], [false, true]).expect(
+        &rt,
+        "beside a clone, and alone",
+    );
 }
 
 #[test]

@@ -1,144 +1,136 @@
+//! Frozen parts of arrays that become growing ones together, unless one of them is shared.
 use arrow_memory::bitmap::Bitmap;
 use arrow_memory::buffer::Buffer;
-use arrow_memory::offset::{Offsets, OffsetsBuffer};
 use arrow_memory::thaw::{into_mut_bits, into_mut_bytes, into_mut_values};
+use arrow_testing::{Text, assert_text, frozen_offsets};
 use arrow_types::offset::Offset;
 use either::{Left, Right};
-use std::alloc::Global;
 use std::process::Abort;
 
-/// Three bits, of which the second is clear.
-fn bits(alloc: Global, rt: &impl Abort) -> Bitmap {
-    Bitmap::from_slice(alloc, [true, false, true].as_slice()).expect(rt, "memory")
+/// Creates three bits, of which the second is clear.
+fn bits(rt: &(impl Abort + AllocGlobal)) -> Bitmap {
+    Bitmap::from_slice(rt.alloc(), [true, false, true].as_slice()).expect(rt, "memory")
 }
 
-/// The first two of three bits.
-fn cut(alloc: Global, rt: &impl Abort) -> Bitmap {
-    let mut bitmap = bits(alloc, rt);
+/// Creates the first two of three bits.
+fn cut(rt: &(impl Abort + AllocGlobal)) -> Bitmap {
+    let mut bitmap = bits(rt);
     assert!(rt; 2 <= bitmap.len());
     bitmap.slice(0, 2);
     bitmap
 }
 
-/// Two values.
-fn values(alloc: Global, rt: &impl Abort) -> Buffer<i64> {
-    let values = [7, 0].to_vec(alloc).expect(rt, "memory");
-    Buffer::from_vec(values).expect(rt, "memory")
-}
-
-/// Whether values are thawed with a mask, or with none.
-fn thaws_values(alloc: Global, rt: &impl Abort, mask: Option<Bitmap>) -> bool {
-    match into_mut_values(values(alloc, rt), mask) {
+/// Thaws two values with a mask, and compares which side comes with this one.
+fn check_values(rt: &(impl Abort + AllocGlobal), case: &str, mask: Option<Bitmap>, expected: &str) {
+    let values = [7_i64, 0].to_vec(rt.alloc()).expect(rt, "memory");
+    let values = Buffer::from_vec(values).expect(rt, "memory");
+    let side = match into_mut_values(values, mask) {
         Left((values, mask)) => {
             drop(mask);
             drop(values);
-            false
+            "frozen"
         }
         Right((values, mask)) => {
             drop(mask);
             drop(values);
-            true
+            "growing"
         }
-    }
+    };
+    assert_text::value(side, expected).expect(rt, case);
 }
 
-/// Values are not thawed while the mask is shared, and are once it isn't, or none is held.
 #[test]
-fn values_thaw_with_their_mask(rt: HostRuntime) {
-    let mask = cut(rt.alloc(), &rt);
+fn values_thaw_unless_their_mask_is_shared(rt: HostRuntime) {
+    let mask = cut(&rt);
     let other = mask.clone().expect(&rt, "memory");
-    let is_shared = !thaws_values(rt.alloc(), &rt, Some(mask));
-    let is_alone = thaws_values(rt.alloc(), &rt, Some(other));
-    assert!(rt; is_shared & is_alone & thaws_values(rt.alloc(), &rt, None));
+    check_values(&rt, "a shared mask", Some(mask), "frozen");
+    check_values(&rt, "a mask alone", Some(other), "growing");
+    check_values(&rt, "no mask", None, "growing");
 }
 
-/// Whether bits are thawed with a mask, or with none.
-fn thaws_bits(bits: Bitmap, mask: Option<Bitmap>) -> bool {
-    match into_mut_bits(bits, mask) {
+/// Thaws bits with a mask, and compares which side comes with this one.
+fn check_bits(rt: &impl Abort, case: &str, bits: Bitmap, mask: Option<Bitmap>, expected: &str) {
+    let side = match into_mut_bits(bits, mask) {
         Left((bits, mask)) => {
             drop(mask);
             drop(bits);
-            false
+            "frozen"
         }
         Right((bits, mask)) => {
             drop(mask);
             drop(bits);
-            true
+            "growing"
         }
-    }
+    };
+    assert_text::value(side, expected).expect(rt, case);
 }
 
-/// Bits are not thawed while they are shared, and are with another mask once they aren't, or with none.
 #[test]
-fn bits_thaw_with_their_mask(rt: HostRuntime) {
-    let first = bits(rt.alloc(), &rt);
+fn bits_thaw_unless_they_are_shared(rt: HostRuntime) {
+    let first = bits(&rt);
     let other = first.clone().expect(&rt, "memory");
-    let is_shared = !thaws_bits(first, Some(bits(rt.alloc(), &rt)));
-    let is_alone = thaws_bits(other, Some(cut(rt.alloc(), &rt)));
-    assert!(rt; is_shared & is_alone & thaws_bits(bits(rt.alloc(), &rt), None));
+    check_bits(&rt, "shared bits", first, Some(bits(&rt)), "frozen");
+    check_bits(&rt, "bits alone", other, Some(cut(&rt)), "growing");
+    check_bits(&rt, "no mask", bits(&rt), None, "growing");
 }
 
-/// Two slots, the second of one byte.
-fn slots(alloc: Global, rt: &impl Abort) -> OffsetsBuffer<i32> {
-    let offsets = [0, 0, 1].to_vec(alloc).expect(rt, "memory");
-    let offsets = Offsets::try_from_vec(offsets).expect(rt, "offsets");
-    offsets.freeze().expect(rt, "memory")
+/// Creates a buffer of two bytes.
+fn two_bytes(rt: &(impl Abort + AllocGlobal)) -> Buffer<u8> {
+    let bytes = [0x61, 0xff].to_vec(rt.alloc()).expect(rt, "memory");
+    Buffer::from_vec(bytes).expect(rt, "memory")
 }
 
-/// Bytes.
-fn bytes(alloc: Global, rt: &impl Abort, bytes: &[u8]) -> Buffer<u8> {
-    Buffer::from_vec(bytes.to_vec(alloc).expect(rt, "memory")).expect(rt, "memory")
+/// Creates the first of two bytes.
+fn cut_byte(rt: &(impl Abort + AllocGlobal)) -> Buffer<u8> {
+    let mut bytes = two_bytes(rt);
+    assert!(rt; 1 <= bytes.len());
+    bytes.slice(0, 1);
+    bytes
 }
 
-/// Whether the two slots are thawed with a mask or none, to this one byte alone, up to the last offset; nothing if they
-/// are not thawed.
-fn thaws_to_one(
-    alloc: Global,
-    rt: &impl Abort,
+/// Thaws two slots, the second of one byte, and compares the growing bytes, or that the slots stay frozen.
+fn check_slots(
+    rt: &(impl Abort + AllocGlobal),
+    case: &str,
     bytes: Buffer<u8>,
     mask: Option<Bitmap>,
-) -> Option<bool> {
-    let offsets = slots(alloc, rt);
+    expected: &str,
+) {
+    let offsets = frozen_offsets::<i32>(rt.alloc(), [0, 0, 1].as_slice());
+    let offsets = offsets.expect(rt, "offsets");
     assert!(rt; offsets.last().to_usize() <= bytes.len());
-    match into_mut_bytes::<i32>(offsets, bytes, mask) {
+    let came = match into_mut_bytes::<i32>(offsets, bytes, mask) {
         Left((offsets, bytes, mask)) => {
             drop(mask);
             drop(bytes);
             drop(offsets);
-            None
+            Text::of("frozen")
         }
         Right((offsets, bytes, mask)) => {
             drop(mask);
             drop(offsets);
-            let is_one = bytes.as_slice() == [0x61].as_slice();
+            let text = Text::of(format_args!("{:?}", bytes.as_slice()));
             drop(bytes);
-            Some(is_one)
+            text
         }
-    }
+    };
+    assert_text::text(came, expected).expect(rt, case);
 }
 
-/// Slots are not thawed while their bytes are shared, and are once they aren't, or without a mask.
 #[test]
-fn slots_thaw_with_their_mask(rt: HostRuntime) {
-    let first = bytes(rt.alloc(), &rt, [0x61, 0xff].as_slice());
+fn slots_thaw_to_the_bytes_before_their_last_offset(rt: HostRuntime) {
+    let first = two_bytes(&rt);
     let other = first.clone().expect(&rt, "memory");
-    let shared = thaws_to_one(rt.alloc(), &rt, first, Some(cut(rt.alloc(), &rt)));
-    let alone = thaws_to_one(rt.alloc(), &rt, other, Some(cut(rt.alloc(), &rt)));
-    let bare = bytes(rt.alloc(), &rt, [0x61].as_slice());
-    let bare = thaws_to_one(rt.alloc(), &rt, bare, None);
-    assert!(rt; shared.is_none() & (alone == Some(true)) & (bare == Some(true)));
+    check_slots(&rt, "shared bytes", first, Some(cut(&rt)), "frozen");
+    check_slots(&rt, "bytes alone", other, Some(cut(&rt)), "[97]");
+    let bare = [0x61].to_vec(rt.alloc()).expect(&rt, "memory");
+    let bare = Buffer::from_vec(bare).expect(&rt, "memory");
+    check_slots(&rt, "no mask", bare, None, "[97]");
 }
 
-/// Bytes that show only the beginning of their vector are not thawed, with a mask or without one.
+/// Bytes that show only the beginning of their vector are not thawed.
 #[test]
 fn slots_over_the_beginning_of_a_vector_stay_frozen(rt: HostRuntime) {
-    let mut first = bytes(rt.alloc(), &rt, [0x61, 0xff].as_slice());
-    assert!(rt; 1 <= first.len());
-    first.slice(0, 1);
-    let masked = thaws_to_one(rt.alloc(), &rt, first, Some(cut(rt.alloc(), &rt)));
-    let mut second = bytes(rt.alloc(), &rt, [0x61, 0xff].as_slice());
-    assert!(rt; 1 <= second.len());
-    second.slice(0, 1);
-    let bare = thaws_to_one(rt.alloc(), &rt, second, None);
-    assert_eq!(rt; [masked, bare], [None, None]);
+    check_slots(&rt, "a mask", cut_byte(&rt), Some(cut(&rt)), "frozen");
+    check_slots(&rt, "no mask", cut_byte(&rt), None, "frozen");
 }

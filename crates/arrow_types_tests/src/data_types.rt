@@ -1,94 +1,168 @@
-//! Physical types, default types and clones.
-ghost use Rattle.std.specs.Prelude.{IsTrue, ◌↔◌};
-ghost use Rattle.arrow_types.specs.Types.{logical_type, IsRightType};
-
-use crate::made::{timestamp, two_extensions};
-use arrow_testing::assert_text;
+//! Layouts, texts and clones of data types. The texts are those of Rust's `{:?}` for Arrow's names.
+use crate::made::{extension, timestamp, two_extensions};
+use arrow_testing::{Text, assert_text};
 use arrow_types::data_type::DataType;
-use arrow_types::native_type::NativeType;
 use arrow_types::physical_type::PhysicalType;
 use arrow_types::primitive_type::PrimitiveType;
-use arrow_types::units::{IntervalUnit, TimeUnit};
+use arrow_types::units::IntervalUnit::{DayTime, MonthDayNano, YearMonth};
+use arrow_types::units::TimeUnit::{Microsecond, Millisecond, Nanosecond, Second};
 use std::process::Abort;
 
+/// Compares what a type and its physical type print with these, and the type with its clone.
+fn check(rt: &(impl Abort + AllocGlobal), made: &DataType, text: &str, physical: &str) {
+    let printed = made.to_string(rt.alloc()).expect(rt, "memory");
+    assert_text::value(printed.as_str(), text).expect(rt, text);
+    drop(printed);
+    let layout = Text::of(format_args!("{:?}", made.to_physical_type()));
+    assert_text::text(layout, physical).expect(rt, text);
+    let copy = made.clone().expect(rt, "memory");
+    assert_text::value(&copy, made).expect(rt, "a clone");
+    drop(copy);
+}
+
 #[test]
-fn types_of_native_values_have_their_layout(rt: HostRuntime) {
+fn types_have_a_text_a_layout_and_equal_clones(rt: HostRuntime) {
+    // What a type prints, the type, and what its physical type prints.
     let types = [
-        (DataType::Int8, PrimitiveType::Int8),
-        (DataType::Int16, PrimitiveType::Int16),
-        (DataType::Int32, PrimitiveType::Int32),
-        (DataType::Int64, PrimitiveType::Int64),
-        (DataType::Decimal(0, usize::MAX), PrimitiveType::Int128),
-        (DataType::Decimal256(1, 2), PrimitiveType::Int256),
-        (DataType::UInt8, PrimitiveType::UInt8),
-        (DataType::UInt16, PrimitiveType::UInt16),
-        (DataType::UInt32, PrimitiveType::UInt32),
-        (DataType::UInt64, PrimitiveType::UInt64),
-        (DataType::Date32, PrimitiveType::Int32),
-        (DataType::Time32(TimeUnit::Nanosecond), PrimitiveType::Int32),
-        (DataType::Date64, PrimitiveType::Int64),
-        (DataType::Time64(TimeUnit::Second), PrimitiveType::Int64),
+        ("Int8", DataType::Int8, "Primitive(Int8)"),
+        ("Int16", DataType::Int16, "Primitive(Int16)"),
+        ("Int32", DataType::Int32, "Primitive(Int32)"),
+        ("Int64", DataType::Int64, "Primitive(Int64)"),
+        ("UInt8", DataType::UInt8, "Primitive(UInt8)"),
+        ("UInt16", DataType::UInt16, "Primitive(UInt16)"),
+        ("UInt32", DataType::UInt32, "Primitive(UInt32)"),
+        ("UInt64", DataType::UInt64, "Primitive(UInt64)"),
         (
-            DataType::Timestamp(TimeUnit::Microsecond, None),
-            PrimitiveType::Int64,
+            "Decimal(5, 2)",
+            DataType::Decimal(5, 2),
+            "Primitive(Int128)",
         ),
         (
-            DataType::Duration(TimeUnit::Millisecond),
-            PrimitiveType::Int64,
+            "Decimal(0, 18446744073709551615)",
+            DataType::Decimal(0, usize::MAX),
+            "Primitive(Int128)",
         ),
         (
-            DataType::Interval(IntervalUnit::YearMonth),
-            PrimitiveType::Int32,
+            "Decimal256(76, 0)",
+            DataType::Decimal256(76, 0),
+            "Primitive(Int256)",
+        ),
+        ("Date32", DataType::Date32, "Primitive(Int32)"),
+        ("Date64", DataType::Date64, "Primitive(Int64)"),
+        (
+            "Time32(Second)",
+            DataType::Time32(Second),
+            "Primitive(Int32)",
         ),
         (
-            DataType::Interval(IntervalUnit::DayTime),
-            PrimitiveType::DaysMs,
+            "Time32(Nanosecond)",
+            DataType::Time32(Nanosecond),
+            "Primitive(Int32)",
         ),
         (
-            DataType::Interval(IntervalUnit::MonthDayNano),
-            PrimitiveType::MonthDayNano,
+            "Time64(Second)",
+            DataType::Time64(Second),
+            "Primitive(Int64)",
         ),
+        (
+            "Time64(Microsecond)",
+            DataType::Time64(Microsecond),
+            "Primitive(Int64)",
+        ),
+        (
+            "Time64(Nanosecond)",
+            DataType::Time64(Nanosecond),
+            "Primitive(Int64)",
+        ),
+        (
+            "Duration(Millisecond)",
+            DataType::Duration(Millisecond),
+            "Primitive(Int64)",
+        ),
+        (
+            "Interval(YearMonth)",
+            DataType::Interval(YearMonth),
+            "Primitive(Int32)",
+        ),
+        (
+            "Interval(DayTime)",
+            DataType::Interval(DayTime),
+            "Primitive(DaysMs)",
+        ),
+        (
+            "Interval(MonthDayNano)",
+            DataType::Interval(MonthDayNano),
+            "Primitive(MonthDayNano)",
+        ),
+        ("Boolean", DataType::Boolean, "Boolean"),
+        ("Binary", DataType::Binary, "Binary"),
+        ("LargeBinary", DataType::LargeBinary, "LargeBinary"),
+        ("Utf8", DataType::Utf8, "Utf8"),
+        ("LargeUtf8", DataType::LargeUtf8, "LargeUtf8"),
     ];
-    for (data_type, primitive) in types.iter() {
-        let expected = PhysicalType::Primitive(*primitive);
-        assert_text::value(data_type.to_physical_type(), expected).expect(&rt, "a type of native values");
+    for (text, data_type, physical) in types.iter() {
+        check(&rt, data_type, *text, *physical);
     }
     drop(types);
 }
 
+/// Zones that are none, ASCII, escaped, or beyond ASCII, and what a time with them prints.
+const ZONES: &[(Option<&str>, &str)] = &[
+    (None, "Timestamp(Microsecond, None)"),
+    (Some("UTC"), "Timestamp(Microsecond, Some(\"UTC\"))"),
+    (Some("\"\\"), "Timestamp(Microsecond, Some(\"\\\"\\\\\"))"),
+    (Some("Zürich"), "Timestamp(Microsecond, Some(\"Zürich\"))"),
+];
+
 #[test]
-fn types_of_bytes_and_marks_have_the_layout_of_the_format(rt: HostRuntime) {
-    let types = [
-        (DataType::Boolean, PhysicalType::Boolean),
-        (DataType::Binary, PhysicalType::Binary),
-        (DataType::LargeBinary, PhysicalType::LargeBinary),
-        (DataType::Utf8, PhysicalType::Utf8),
-        (DataType::LargeUtf8, PhysicalType::LargeUtf8),
-    ];
-    for (data_type, expected) in types.iter() {
-        assert_text::value(data_type.to_physical_type(), *expected).expect(&rt, "a type of bytes or marks");
+fn timestamps_print_their_zones(rt: HostRuntime) {
+    for (zone, text) in ZONES {
+        let time = timestamp(&rt, Microsecond, *zone);
+        check(&rt, &time, *text, "Primitive(Int64)");
+        drop(time);
     }
-    drop(types);
-}
-
-/// Returns whether the values of this type have the layout of these native values.
-fn lies_as<T: NativeType>(data_type: &DataType) -> bool
-    ensures { IsTrue result ↔ IsRightType (PhysicalType.Primitive T.PRIMITIVE) (logical_type data_type.now) }
-{
-    data_type.to_physical_type() == PhysicalType::Primitive(T::PRIMITIVE)
 }
 
 #[test]
-fn types_are_right_by_their_layout(rt: HostRuntime) {
-    let (date, months) = (DataType::Date64, two_extensions(rt.alloc(), &rt));
-    let came = [
-        lies_as::<i64>(&date),
-        lies_as::<i32>(&date),
-        lies_as::<i32>(&months),
-    ];
-    drop(months);
+fn extensions_print_what_they_extend_and_have_its_layout(rt: HostRuntime) {
+    let names = extension(&rt, "names", DataType::Utf8, None);
+    check(&rt, &names, "Extension(\"names\", Utf8, None)", "Utf8");
+    drop(names);
+    let ages = two_extensions(&rt);
+    let text =
+        "Extension(\"ages\", Extension(\"months\", Interval(YearMonth), None), Some(\"whole\"))";
+    check(&rt, &ages, text, "Primitive(Int32)");
+    drop(ages);
+    let foreign = extension(&rt, "名前", DataType::Utf8, Some("Übersicht 😀"));
+    check(
+        &rt,
+        &foreign,
+        "Extension(\"名前\", Utf8, Some(\"Übersicht 😀\"))",
+        "Utf8",
+    );
+    drop(foreign);
+}
+
+#[test]
+fn a_type_is_right_for_its_own_layout_alone(rt: HostRuntime) {
+    let (narrow, wide) = (
+        PhysicalType::Primitive(PrimitiveType::Int32),
+        PhysicalType::Primitive(PrimitiveType::Int64),
+    );
+    let date = DataType::Date64;
+    assert_text::value(
+        [date.is_right_for(wide), date.is_right_for(narrow)],
+        [true, false],
+    )
+    .expect(&rt, "Int64 and Int32 for Date64");
     drop(date);
-    assert_text::value(came, [true, false, true]).expect(&rt, "i64 and i32 of Date64, i32 of extended months");
+    let months = two_extensions(&rt);
+    assert_text::value(
+        [months.is_right_for(wide), months.is_right_for(narrow)],
+        [false, true],
+    )
+    .expect(&rt, "Int64 and Int32 for extended months");
+    drop(months);
 }
 
 #[test]
@@ -104,46 +178,16 @@ fn native_types_have_default_types(rt: HostRuntime) {
         (PrimitiveType::UInt16, DataType::UInt16),
         (PrimitiveType::UInt32, DataType::UInt32),
         (PrimitiveType::UInt64, DataType::UInt64),
-        (
-            PrimitiveType::DaysMs,
-            DataType::Interval(IntervalUnit::DayTime),
-        ),
+        (PrimitiveType::DaysMs, DataType::Interval(DayTime)),
         (
             PrimitiveType::MonthDayNano,
-            DataType::Interval(IntervalUnit::MonthDayNano),
+            DataType::Interval(MonthDayNano),
         ),
     ];
     for (primitive, expected) in types.iter() {
         let came = primitive.default_data_type();
-        let is_default = came == *expected;
+        assert_text::value(&came, expected).expect(&rt, "a default type");
         drop(came);
-        assert_text::value((*primitive, is_default), (*primitive, true)).expect(&rt, "a default type");
     }
     drop(types);
-}
-
-/// Compares a type with its clone, and drops both.
-fn check_clone(rt: &impl Abort, case: &str, original: DataType) {
-    let copy = original.clone().expect(rt, "memory");
-    let are_equal = copy == original;
-    drop(copy);
-    drop(original);
-    assert_text::value(are_equal, true).expect(rt, case);
-}
-
-#[test]
-fn clones_are_equal(rt: HostRuntime) {
-    check_clone(&rt, "a number", DataType::UInt16);
-    check_clone(&rt, "a time", DataType::Time64(TimeUnit::Microsecond));
-    check_clone(
-        &rt,
-        "an interval",
-        DataType::Interval(IntervalUnit::DayTime),
-    );
-    check_clone(&rt, "a decimal", DataType::Decimal(5, 2));
-    let time = timestamp(rt.alloc(), &rt, TimeUnit::Millisecond, None);
-    check_clone(&rt, "a timestamp", time);
-    let time = timestamp(rt.alloc(), &rt, TimeUnit::Second, Some("UTC"));
-    check_clone(&rt, "a timestamp of a zone", time);
-    check_clone(&rt, "two extensions", two_extensions(rt.alloc(), &rt));
 }

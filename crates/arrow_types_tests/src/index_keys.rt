@@ -13,22 +13,18 @@ fn index_by_bound<K: IndexKey>(key: &K) -> Option<usize>
     key.to_index()
 }
 
-/// Compares the index of a key with this.
+/// Compares the index of a key with `expected`.
 fn check<K: IndexKey>(rt: &impl Abort, case: &str, key: &K, expected: Option<usize>) {
     assert_text::value(index_by_bound(key), expected).expect(rt, case);
 }
 
 #[test]
-fn negative_keys_give_no_index(rt: HostRuntime) {
+fn keys_give_their_index_unless_they_are_negative(rt: HostRuntime) {
     check(&rt, "i8", &-128_i8, None);
     check(&rt, "i16", &i16::MIN, None);
     check(&rt, "i32", &i32::MIN, None);
     check(&rt, "i64", &i64::MIN, None);
     check(&rt, "i64, one below zero", &-1_i64, None);
-}
-
-#[test]
-fn other_keys_of_every_type_give_their_index(rt: HostRuntime) {
     check(&rt, "seven", &7_i64, Some(7));
     check(&rt, "i8", &127_i8, Some(127));
     check(&rt, "i16", &32767_i16, Some(32767));

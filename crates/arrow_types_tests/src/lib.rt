@@ -5,8 +5,6 @@
 #[cfg(test)]
 mod data_types;
 #[cfg(test)]
-mod display;
-#[cfg(test)]
 mod equality;
 #[cfg(test)]
 mod errors;

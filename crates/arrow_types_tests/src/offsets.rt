@@ -1,8 +1,9 @@
 //! Offsets of both widths, and of a narrow type of the tests.
-ghost use Rattle.std.specs.Prelude.{◌≡◌, ◌≤◌};
+ghost use Rattle.std.specs.Prelude.{◌≤◌};
 
 use arrow_testing::{Tiny, assert_text};
 use arrow_types::offset::Offset;
+use std::process::Abort;
 
 /// Returns the number of the offset that is made of a number, by the bound.
 fn through<O: Offset>(value: usize) -> Option<usize> {
@@ -24,40 +25,26 @@ const NUMBERS: &[(usize, Option<usize>, Option<usize>, Option<usize>)] = &[
 #[test]
 fn offsets_hold_numbers_up_to_their_greatest(rt: HostRuntime) {
     for (value, tiny, narrow, wide) in NUMBERS {
-        assert_text::value(through::<Tiny>(*value), *tiny).expect(&rt, "Tiny");
-        assert_text::value(through::<i32>(*value), *narrow).expect(&rt, "i32");
-        assert_text::value(through::<i64>(*value), *wide).expect(&rt, "i64");
+        assert_text::value((*value, through::<Tiny>(*value)), (*value, *tiny)).expect(&rt, "Tiny");
+        assert_text::value((*value, through::<i32>(*value)), (*value, *narrow)).expect(&rt, "i32");
+        assert_text::value((*value, through::<i64>(*value)), (*value, *wide)).expect(&rt, "i64");
     }
 }
 
-/// Returns the greatest number of an offset type, by its bound.
-fn greatest<O: Offset>() -> Option<usize> {
-    O::max().try_to_usize()
-}
-
-#[test]
-fn offsets_know_their_greatest(rt: HostRuntime) {
-    let came = [greatest::<Tiny>(), greatest::<i32>(), greatest::<i64>()];
-    let expected = [Some(100), Some(2147483647), Some(9223372036854775807)];
-    assert_text::value(came, expected).expect(&rt, "Tiny, i32, i64");
-}
-
-/// Makes an offset without a test, of a number that is at most the greatest one.
-fn through_untested<O: Offset>(value: usize) -> usize
-    requires { value ≤ O.most }
-    ensures { result ≡ value }
+/// Compares the greatest number of an offset type, made without a test too, and whether the type is large, with these.
+fn check_greatest<O: Offset>(rt: &impl Abort, case: &str, greatest: usize, is_large: bool)
+    requires { greatest ≤ O.most }
 {
-    O::from_as_usize(value).to_usize()
+    let untested = O::from_as_usize(greatest).to_usize();
+    let came = (O::max().try_to_usize(), untested, O::IS_LARGE);
+    assert_text::value(came, (Some(greatest), greatest, is_large)).expect(rt, case);
 }
 
 #[test]
-fn numbers_known_to_fit_need_no_test(rt: HostRuntime) {
-    let came = [
-        through_untested::<Tiny>(100),
-        through_untested::<i32>(2147483647),
-        through_untested::<i64>(9223372036854775807),
-    ];
-    assert_text::value(came, [100, 2147483647, 9223372036854775807]).expect(&rt, "Tiny, i32, i64");
+fn offsets_know_their_greatest_and_whether_they_are_large(rt: HostRuntime) {
+    check_greatest::<Tiny>(&rt, "Tiny", 100, false);
+    check_greatest::<i32>(&rt, "i32", 2147483647, false);
+    check_greatest::<i64>(&rt, "i64", 9223372036854775807, true);
 }
 
 #[test]
@@ -69,12 +56,6 @@ fn negative_offsets_have_no_number(rt: HostRuntime) {
     ];
     assert_text::value(came, [None, None, Some(7)]).expect(&rt, "the least i32, -1, 7");
     assert_text::value(7_i64.to_usize(), 7).expect(&rt, "7 of 64 bits");
-}
-
-#[test]
-fn wide_offsets_are_large(rt: HostRuntime) {
-    let came = [Tiny::IS_LARGE, i32::IS_LARGE, i64::IS_LARGE];
-    assert_text::value(came, [false, false, true]).expect(&rt, "Tiny, i32, i64");
 }
 
 /// Returns the distance from the first number to the second, by the bound; `None` if it is below, or one does not fit.
@@ -100,7 +81,7 @@ const DISTANCES: &[(usize, usize, usize)] = &[
 fn distances_are_differences(rt: HostRuntime) {
     for (start, end, distance) in DISTANCES {
         let came = [between::<i32>(*start, *end), between::<i64>(*start, *end)];
-        assert_text::value(came, [Some(*distance); 2]).expect(&rt, "i32, i64");
+        assert_text::value((*end, came), (*end, [Some(*distance); 2])).expect(&rt, "i32, i64");
     }
     assert_text::value(between::<Tiny>(3, 100), Some(97)).expect(&rt, "Tiny");
 }

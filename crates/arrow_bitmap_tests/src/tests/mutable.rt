@@ -1,6 +1,6 @@
 //! Growing bitmaps. Bytes were packed by hand: mark i is bit i mod 8, the least significant first, of byte i / 8.
 use crate::tests::{check, pushed};
-use arrow_bitmap::MutableBitmap;
+use arrow_bitmap::{Bitmap, MutableBitmap};
 use arrow_testing::assert_text;
 use std::process::Abort;
 
@@ -18,12 +18,30 @@ const PACKED: &[(&str, &[u8])] = &[
     ("101", &[0x05]),
     ("00000001", &[0x80]),
     ("1010000101", &[0x85, 0x02]),
+    ("0110000101", &[0x86, 0x02]),
 ];
 
 #[test]
 fn the_first_mark_is_packed_lowest(rt: HostRuntime) {
     for (text, bytes) in PACKED {
         check_bytes(&rt, *text, pushed(&rt, *text), text.len(), *bytes);
+        let mut values = Vec::new(rt.alloc());
+        for mark in text.as_bytes() {
+            values.push(*mark == b'1').expect(&rt, "memory");
+        }
+        let growing = MutableBitmap::from_slice(rt.alloc(), values.as_slice());
+        let frozen = Bitmap::from_slice(rt.alloc(), values.as_slice());
+        drop(values);
+        let frozen = frozen.expect(&rt, "memory");
+        check(&rt, *text, frozen.iter(), *text);
+        drop(frozen);
+        check_bytes(
+            &rt,
+            *text,
+            growing.expect(&rt, "memory"),
+            text.len(),
+            *bytes,
+        );
     }
 }
 
@@ -72,7 +90,10 @@ fn room(marks: MutableBitmap) -> usize {
 #[test]
 fn room_is_reserved_and_given_back(rt: HostRuntime) {
     let first = MutableBitmap::with_capacity(rt.alloc(), 1000).expect(&rt, "memory");
-    assert_text::value(room(first).min(125), 125).expect(&rt, "at least 125 bytes by with_capacity");
+    assert_text::value(room(first).min(125), 125).expect(
+        &rt,
+        "at least 125 bytes by with_capacity",
+    );
     let mut more = MutableBitmap::with_capacity(rt.alloc(), 1000).expect(&rt, "memory");
     more.reserve(8000).expect(&rt, "memory");
     assert_text::value(room(more).min(1000), 1000).expect(&rt, "at least 1000 bytes by reserve");
@@ -87,7 +108,70 @@ fn a_clone_grows_alone(rt: HostRuntime) {
     let mut second = first.clone().expect(&rt, "memory");
     second.push(false).expect(&rt, "memory");
     check(&rt, "the clone", second.iter(), "1010");
+    let mut third = MutableBitmap::new(second.allocator());
     drop(second);
+    third.push(true).expect(&rt, "memory");
+    check(&rt, "one of the same allocator", third.iter(), "1");
+    drop(third);
     check(&rt, "the first", first.iter(), "101");
     drop(first);
+}
+
+#[test]
+fn marks_that_were_truncated_do_not_come_back(rt: HostRuntime) {
+    let bytes = [0xff, 0x01].to_vec(rt.alloc()).expect(&rt, "memory");
+    let mut marks = MutableBitmap::from_bytes(bytes, 9);
+    assert!(rt; 8 <= marks.len());
+    marks.truncate(8);
+    marks.push(false).expect(&rt, "memory");
+    check(&rt, "a mark after eight", marks.iter(), "111111110");
+    marks.truncate(0);
+    assert_text::value(marks.is_empty(), true).expect(&rt, "no mark");
+    drop(marks);
+}
+
+/// Two lists of marks, a mask, and whether they are equal, and agree where the mask is set.
+const COMPARED: &[(&str, &str, &str, bool, bool)] = &[
+    ("", "", "", true, true),
+    ("101", "101", "111", true, true),
+    ("101", "111", "101", false, true),
+    ("101", "111", "010", false, false),
+    ("000000001", "000000000", "000000001", false, false),
+    ("000000001", "000000000", "111111110", false, true),
+];
+
+#[test]
+fn marks_are_compared_where_a_mask_is_set(rt: HostRuntime) {
+    for (first, second, mask, equal, agree) in COMPARED {
+        let (left, right) = (pushed(&rt, *first), pushed(&rt, *second));
+        let marks = pushed(&rt, *mask);
+        assert!(rt; left.len() == right.len() && marks.len() == left.len());
+        let marks = Some(marks);
+        let masked = left.agrees_where(&right, &marks);
+        drop(marks);
+        let came = [
+            left.has_marks_of(&right),
+            left.agrees_where(&right, &None),
+            masked,
+        ];
+        drop(right);
+        drop(left);
+        assert_text::value(
+            (*first, *second, came),
+            (*first, *second, [*equal, *equal, *agree]),
+        )
+        .expect(&rt, *mask);
+    }
+}
+
+#[test]
+fn marks_of_other_lengths_differ(rt: HostRuntime) {
+    let mut none = MutableBitmap::default(rt.alloc());
+    let one = pushed(&rt, "0");
+    let (is_empty, is_equal) = (none.is_empty(), none.has_marks_of(&one));
+    none.push(false).expect(&rt, "memory");
+    let came = [is_equal, none.has_marks_of(&one), is_empty, none.is_empty()];
+    drop(one);
+    drop(none);
+    assert_text::value(came, [false, true, true, false]).expect(&rt, "none and one, one and one");
 }

@@ -1,13 +1,9 @@
 //! Ranges of marks that are read and appended.
-use crate::tests::{check, cut, frozen, pushed};
-use arrow_bitmap::{Bitmap, MutableBitmap};
-use std::process::Abort;
+use crate::tests::{MARKS, check, cut, frozen, pushed};
 
-const MARKS: &str = "00011111111110000011111111111111";
-
-/// A name, the slice of the marks, where a range of that begins, and the marks of the range.
+/// A name, the slice of the marks, where a range of it begins, and the marks of the range.
 const RANGES: &[(&str, usize, usize, usize, &str)] = &[
-    ("whole", 0, 32, 0, "00011111111110000011111111111111"),
+    ("whole", 0, 32, 0, MARKS),
     ("inside a byte", 0, 32, 2, "01111111111000001111"),
     ("at a byte", 0, 32, 8, "111110000011"),
     ("in the second byte", 0, 32, 11, "1100000111"),
@@ -30,41 +26,32 @@ fn ranges_are_read_from_any_mark(rt: HostRuntime) {
     }
 }
 
-/// A name, marks, the offset and length of the range that is appended to them, and the expected marks.
-const APPENDED: &[(&str, &str, usize, usize, &str)] = &[
-    ("none to none", "", 0, 0, ""),
-    ("to none", "", 2, 12, "011111111110"),
-    ("inside a byte", "101", 11, 10, "1011100000111"),
-    ("after a byte", "10110100", 8, 12, "10110100111110000011"),
-    ("none", "1011010", 32, 0, "1011010"),
-    ("all", "1", 0, 32, "100011111111110000011111111111111"),
-];
+/// An offset and a length.
+type Range = (usize, usize);
 
-/// Appends a range of a bitmap, in which it has to lie.
-fn extend(rt: &impl Abort, marks: &mut MutableBitmap, other: &Bitmap, offset: usize, len: usize) {
-    assert!(rt; offset <= other.len() && len <= other.len() - offset);
-    marks
-        .extend_from_range(other, offset, len)
-        .expect(rt, "memory");
-}
+const ALL: Range = (0, 32);
+
+/// A name, marks, a slice, the range of it that is appended to them, and the expected marks.
+const APPENDED: &[(&str, &str, Range, Range, &str)] = &[
+    ("none to none", "", ALL, (0, 0), ""),
+    ("to none", "", ALL, (2, 12), "011111111110"),
+    ("in a byte", "101", ALL, (11, 10), "1011100000111"),
+    ("past it", "10110100", ALL, (8, 12), "10110100111110000011"),
+    ("none", "1011010", ALL, (32, 0), "1011010"),
+    ("all", "1", ALL, ALL, "100011111111110000011111111111111"),
+    ("of a slice", "01", (5, 20), (6, 9), "01110000011"),
+];
 
 #[test]
 fn ranges_are_appended_after_any_mark(rt: HostRuntime) {
-    for (case, first, offset, len, expected) in APPENDED {
-        let (other, mut marks) = (frozen(&rt, MARKS), pushed(&rt, *first));
-        extend(&rt, &mut marks, &other, *offset, *len);
+    for (case, first, slice, range, expected) in APPENDED {
+        let (mut other, mut marks) = (frozen(&rt, MARKS), pushed(&rt, *first));
+        cut(&rt, &mut other, slice.0, slice.1);
+        assert!(rt; range.0 <= other.len() && range.1 <= other.len() - range.0);
+        let answer = marks.extend_from_range(&other, range.0, range.1);
         drop(other);
+        answer.expect(&rt, "memory");
         check(&rt, *case, marks.iter(), *expected);
         drop(marks);
     }
-}
-
-#[test]
-fn ranges_of_a_slice_are_appended(rt: HostRuntime) {
-    let (mut other, mut marks) = (frozen(&rt, MARKS), pushed(&rt, "01"));
-    cut(&rt, &mut other, 5, 20);
-    extend(&rt, &mut marks, &other, 6, 9);
-    drop(other);
-    check(&rt, "of a slice", marks.iter(), "01110000011");
-    drop(marks);
 }

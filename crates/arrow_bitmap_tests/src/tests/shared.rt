@@ -19,13 +19,13 @@ fn marks_that_were_cut_off_do_not_come_back(rt: HostRuntime) {
 #[test]
 fn zeroed_marks_are_clear(rt: HostRuntime) {
     let zeroed = Bitmap::new_zeroed(rt.alloc(), 70).expect(&rt, "memory");
-    let counts = [zeroed.len(), zeroed.unset_bits()];
+    let came = (zeroed.len(), zeroed.unset_bits(), zeroed.is_empty());
     drop(zeroed);
-    assert_text::value(counts, [70, 70]).expect(&rt, "new_zeroed");
+    assert_text::value(came, (70, 70, false)).expect(&rt, "new_zeroed");
     let none = Bitmap::new(rt.alloc()).expect(&rt, "memory");
-    let counts = [none.len(), none.unset_bits()];
+    let came = (none.len(), none.unset_bits(), none.is_empty());
     drop(none);
-    assert_text::value(counts, [0, 0]).expect(&rt, "new");
+    assert_text::value(came, (0, 0, true)).expect(&rt, "new");
 }
 
 #[test]
@@ -80,17 +80,13 @@ fn owned_marks_come_from_both_ends(rt: HostRuntime) {
     assert_text::value(came, [Some(true), Some(false), Some(true), None]).expect(&rt, "011");
 }
 
-/// Marks, and whether they are empty.
-const EMPTY: &[(&str, bool)] = &[("", true), ("00", false)];
-
 #[test]
-fn bitmaps_of_no_mark_are_empty(rt: HostRuntime) {
-    for (text, expected) in EMPTY {
-        let bitmap = frozen(&rt, *text);
-        let is_empty = bitmap.is_empty();
-        let thawed = bitmap.into_mut().right().expect(&rt, "marks alone thaw");
-        let came = [is_empty, thawed.is_empty()];
-        drop(thawed);
-        assert_text::value(came, [*expected; 2]).expect(&rt, *text);
-    }
+fn parts_are_given_back(rt: HostRuntime) {
+    let mut bitmap = frozen(&rt, "1011000111");
+    cut(&rt, &mut bitmap, 3, 6);
+    let (bytes, offset, length, unset) = bitmap.into_parts();
+    assert_text::value([offset, length, unset], [3, 6, 3]).expect(&rt, "into_parts");
+    let bitmap = Bitmap::from_parts(bytes, offset, length, unset);
+    check(&rt, "from_parts", bitmap.iter(), "100011");
+    drop(bitmap);
 }

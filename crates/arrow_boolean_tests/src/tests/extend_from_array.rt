@@ -1,5 +1,5 @@
 //! Ranges of arrays that builders take: stored values, those of null slots included, and marks.
-use arrow_boolean::{BooleanArray, MutableBooleanArray};
+use arrow_boolean::BooleanArray;
 use arrow_testing::{assert_text, frozen_mask};
 use arrow_types::data_type::DataType;
 use std::process::Abort;
@@ -15,73 +15,45 @@ const BARE: Stored = ("01100111010", "none");
 /// Each null stores true.
 const MASKED: Stored = ("01100111010", "10111011101");
 
+/// Two slots, without a mask and with one.
+const TWO: Stored = ("10", "none");
+
+const ONE: Stored = ("10", "01");
+
+const ALL: [usize; 2] = [0, 11];
+
 const CASES: &[Case] = &[
+    ("no mask", TWO, BARE, ALL, [3, 4], ("100011", "none")),
+    ("the first's", ONE, BARE, ALL, [3, 4], ("100011", "011111")),
     (
-        "no mask on either side",
-        ("10", "none"),
-        BARE,
-        [0, 11],
-        [3, 4],
-        ("100011", "none"),
-    ),
-    (
-        "a mask in the builder",
-        ("10", "01"),
-        BARE,
-        [0, 11],
-        [3, 4],
-        ("100011", "011111"),
-    ),
-    (
-        "a mask in the array",
-        ("10", "none"),
+        "the second's",
+        TWO,
         MASKED,
-        [0, 11],
+        ALL,
         [3, 5],
         ("1000111", "1111011"),
     ),
-    (
-        "both, of a slice",
-        ("10", "01"),
-        MASKED,
-        [1, 9],
-        [4, 5],
-        ("1011101", "0101110"),
-    ),
+    ("both", ONE, MASKED, [1, 9], [4, 5], ("1011101", "0101110")),
     (
         "both, past a byte",
         ("101010101", "111011110"),
         MASKED,
-        [0, 11],
+        ALL,
         [2, 9],
         ("101010101100111010", "111011110111011101"),
     ),
     (
-        "no null in the range",
+        "no null",
         ("1", "none"),
         MASKED,
         [1, 10],
         [1, 3],
         ("1100", "1111"),
     ),
+    ("nothing, masked", TWO, MASKED, ALL, [11, 0], ("10", "11")),
+    ("nothing, bare", TWO, BARE, [4, 0], [0, 0], ("10", "none")),
     (
-        "nothing of a masked array",
-        ("10", "none"),
-        MASKED,
-        [0, 11],
-        [11, 0],
-        ("10", "11"),
-    ),
-    (
-        "nothing of a bare array",
-        ("10", "none"),
-        BARE,
-        [4, 0],
-        [0, 0],
-        ("10", "none"),
-    ),
-    (
-        "nothing after nothing",
+        "after nothing",
         ("", "none"),
         MASKED,
         [2, 3],
@@ -98,38 +70,19 @@ fn array_of(rt: &(impl Abort + AllocGlobal), (values, mask): Stored) -> BooleanA
     BooleanArray::try_new(DataType::Boolean, values, mask).expect(rt, "parts that fit")
 }
 
-/// Creates the array of these parts, and slices it.
-fn sliced(
-    rt: &(impl Abort + AllocGlobal),
-    parts: Stored,
-    [offset, len]: [usize; 2],
-) -> BooleanArray {
-    let array = array_of(rt, parts);
-    assert!(rt; offset <= array.len() && len <= array.len() - offset);
-    array.sliced(offset, len)
-}
-
-/// Appends a range of an array, which has to lie within it.
-fn extend(
-    rt: &impl Abort,
-    builder: &mut MutableBooleanArray,
-    array: &BooleanArray,
-    [offset, len]: [usize; 2],
-) {
-    assert!(rt; offset <= array.len() && len <= array.len() - offset);
-    builder
-        .extend_from_array(array, offset, len)
-        .expect(rt, "memory");
-}
-
 #[test]
 fn a_mask_is_held_if_either_side_holds_one(rt: HostRuntime) {
     for (case, first, second, slice, range, joined) in CASES {
-        let array = sliced(&rt, *second, *slice);
+        let mut array = array_of(&rt, *second);
+        let ([start, count], [offset, len]) = (*slice, *range);
+        assert!(rt; start <= array.len() && count <= array.len() - start);
+        array.slice(start, count);
         let builder = array_of(&rt, *first).into_mut().right();
         let mut builder = builder.expect(&rt, "an array alone thaws");
-        extend(&rt, &mut builder, &array, *range);
+        assert!(rt; offset <= array.len() && len <= array.len() - offset);
+        let answer = builder.extend_from_array(&array, offset, len);
         drop(array);
+        answer.expect(&rt, "memory");
         assert_text::marks(builder.values_iter(), joined.0).expect(&rt, *case);
         assert_text::growing_mask(builder.validity(), joined.1).expect(&rt, *case);
         drop(builder);

@@ -22,7 +22,10 @@ fn offsets_of_no_slot_are_empty(rt: HostRuntime) {
     offsets.try_push_usize(0).expect(&rt, "room");
     let is_still_empty = offsets.is_empty();
     drop(offsets);
-    assert_text::value([is_empty, is_still_empty], [true, false]).expect(&rt, "no slot, one of no byte");
+    assert_text::value([is_empty, is_still_empty], [true, false]).expect(
+        &rt,
+        "no slot, one of no byte",
+    );
 }
 
 /// Creates offsets of two empty slots and one of 20 bytes.
@@ -32,53 +35,37 @@ fn three<O: Offset>(rt: &(impl Abort + AllocGlobal)) -> Offsets<O> {
     offsets
 }
 
-/// Appends offsets to themselves.
-fn join<O: Offset>(rt: &(impl Abort + AllocGlobal)) {
+/// Appends slots to offsets of a type, first their own, then the last two of others and their bytes.
+fn check_growth<O: Offset>(rt: &(impl Abort + AllocGlobal)) {
     let mut offsets = three::<O>(rt);
     let copy = offsets.clone().expect(rt, "memory");
     offsets
         .try_extend_from_self(&copy)
         .expect(rt, "room for 40");
     drop(copy);
-    let end = offsets.last().to_usize();
-    drop(offsets);
-    assert_text::value(end, 40).expect(rt, "the end after try_extend_from_self");
-}
-
-/// Freezes offsets, and clones them.
-fn freeze<O: Offset>(rt: &(impl Abort + AllocGlobal)) {
-    let offsets = three::<O>(rt).freeze().expect(rt, "memory");
-    let copy = offsets.clone().expect(rt, "memory");
-    drop(offsets);
-    let count = copy.len_proxy();
-    drop(copy);
-    assert_text::value(count, 3).expect(rt, "the slots of a clone");
-}
-
-/// Appends the last two slots, and their bytes.
-fn extend<O: Offset>(rt: &(impl Abort + AllocGlobal)) {
-    let (mut offsets, mut values) = (three::<O>(rt), Vec::new(rt.alloc()));
+    assert_text::value(offsets.last().to_usize(), 40).expect(rt, "try_extend_from_self");
     let other = three::<O>(rt).freeze().expect(rt, "memory");
-    assert!(rt; other.len_proxy() == 3 && other.last().to_usize() <= 20);
-    let answer = offsets.try_extend_slots(&mut values, &other, b"a slot of 20 letters", 1, 2);
+    let copy = other.clone().expect(rt, "memory");
     drop(other);
-    answer.expect(rt, "room for 40");
-    let came = [offsets.last().to_usize(), values.len()];
+    assert_text::value(copy.len_proxy(), 3).expect(rt, "a clone of frozen offsets");
+    assert!(rt; copy.len_proxy() == 3 && copy.last().to_usize() <= 20);
+    let mut values = Vec::new(rt.alloc());
+    let answer = offsets.try_extend_slots(&mut values, &copy, b"a slot of 20 letters", 1, 2);
+    drop(copy);
+    answer.expect(rt, "room for 60");
+    let ends = [offsets.last().to_usize(), values.len()];
     drop(values);
+    assert_text::value(ends, [60, 20]).expect(rt, "try_extend_slots");
+    assert!(rt; offsets.len_proxy() == 8);
+    offsets.truncate(2);
+    let ends = [offsets.first().to_usize(), offsets.last().to_usize()];
+    assert_text::value((ends, offsets.len_proxy()), ([0, 0], 2)).expect(rt, "truncate");
     drop(offsets);
-    assert_text::value(came, [40, 20]).expect(rt, "the end, and the bytes, after try_extend_slots");
-}
-
-/// Asks offsets of a type.
-fn grow<O: Offset>(rt: &(impl Abort + AllocGlobal)) {
-    join::<O>(rt);
-    freeze::<O>(rt);
-    extend::<O>(rt);
 }
 
 #[test]
 fn each_type_of_offset_grows(rt: HostRuntime) {
-    grow::<i32>(&rt);
-    grow::<i64>(&rt);
-    grow::<Tiny>(&rt);
+    check_growth::<i32>(&rt);
+    check_growth::<i64>(&rt);
+    check_growth::<Tiny>(&rt);
 }

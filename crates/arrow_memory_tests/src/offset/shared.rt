@@ -15,6 +15,11 @@ fn check_slice(
     assert!(rt; 1 <= len && offset <= slots && len - 1 <= slots - offset);
     offsets.slice(offset, len);
     assert_text::value(offsets.buffer().as_slice(), expected).expect(rt, "the offsets of a slice");
+    let ends = [*offsets.first(), *offsets.last()].map(Some);
+    assert_text::value(ends, [expected.first().copied(), expected.last().copied()]).expect(
+        rt,
+        "the ends of a slice",
+    );
     assert_text::value(offsets.len_proxy(), len - 1).expect(rt, "the slots of a slice");
 }
 

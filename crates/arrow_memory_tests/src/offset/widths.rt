@@ -1,61 +1,38 @@
 //! Offsets of one width as those of the other.
-use arrow_memory::offset::OffsetsBuffer;
-use arrow_testing::{are_offsets, frozen_offsets, tells};
-use arrow_types::offset::Offset;
-use std::alloc::Global;
-use std::process::Abort;
+use arrow_testing::{Text, assert_text, frozen_offsets, tells};
 
-/// Returns the answer of `narrow` for these numbers, as text.
-fn narrowing(alloc: Global, rt: &impl Abort, numbers: &[usize]) -> &'static str {
-    let offsets = frozen_offsets::<i64>(alloc, numbers).expect(rt, "offsets");
-    let told = tells(offsets.narrow());
-    drop(offsets);
-    told
+/// Offsets of either width, and what they print.
+const EITHER: &[(&[usize], &str)] = &[
+    (&[0, 2147483647], "[0, 2147483647]"),
+    (&[2147483647, 2147483647], "[2147483647, 2147483647]"),
+    (&[3, 3, 5, 9, 9, 200, 70000], "[3, 3, 5, 9, 9, 200, 70000]"),
+];
+
+#[test]
+fn widths_change_and_numbers_stay(rt: HostRuntime) {
+    for (numbers, text) in EITHER {
+        let offsets = frozen_offsets::<i32>(rt.alloc(), *numbers).expect(&rt, "offsets");
+        let wide = offsets.widen().expect(&rt, "memory");
+        drop(offsets);
+        let came = Text::of(format_args!("{:?}", wide.buffer().as_slice()));
+        assert_text::text(came, *text).expect(&rt, "widen");
+        let narrow = wide.narrow().expect(&rt, "numbers that fit");
+        drop(wide);
+        let came = Text::of(format_args!("{:?}", narrow.buffer().as_slice()));
+        assert_text::text(came, *text).expect(&rt, "narrow");
+        drop(narrow);
+    }
 }
 
 /// Offsets that end past the narrow width.
 const PAST: &[&[usize]] = &[&[0, 2147483648], &[4294967296]];
 
 #[test]
-fn narrow_offsets_end_with_their_width(rt: HostRuntime) {
+fn offsets_past_the_narrow_width_overflow(rt: HostRuntime) {
     for numbers in PAST {
-        assert!(rt; narrowing(rt.alloc(), &rt, *numbers) == "overflow");
-    }
-}
-
-/// Whether offsets are these numbers.
-fn are<O: Offset>(offsets: OffsetsBuffer<O>, numbers: &[usize]) -> bool {
-    let are = are_offsets(offsets.buffer().as_slice(), numbers);
-    drop(offsets);
-    are
-}
-
-/// Whether wide offsets of these numbers have them as narrow ones.
-fn narrow(alloc: Global, rt: &impl Abort, numbers: &[usize]) -> bool {
-    let offsets = frozen_offsets::<i64>(alloc, numbers).expect(rt, "offsets");
-    let narrow = offsets.narrow().expect(rt, "numbers that fit");
-    drop(offsets);
-    are(narrow, numbers)
-}
-
-/// Whether narrow offsets of these numbers have them as wide ones.
-fn widen(alloc: Global, rt: &impl Abort, numbers: &[usize]) -> bool {
-    let offsets = frozen_offsets::<i32>(alloc, numbers).expect(rt, "offsets");
-    let wide = offsets.widen().expect(rt, "memory");
-    drop(offsets);
-    are(wide, numbers)
-}
-
-/// Offsets of either width.
-const EITHER: &[&[usize]] = &[
-    &[0, 2147483647],
-    &[2147483647, 2147483647],
-    &[3, 3, 5, 9, 9, 200, 70000],
-];
-
-#[test]
-fn numbers_stay(rt: HostRuntime) {
-    for numbers in EITHER {
-        assert!(rt; narrow(rt.alloc(), &rt, *numbers) & widen(rt.alloc(), &rt, *numbers));
+        let offsets = frozen_offsets::<i64>(rt.alloc(), *numbers).expect(&rt, "offsets");
+        let answer = tells(offsets.narrow());
+        drop(offsets);
+        assert_text::value((*numbers, answer), (*numbers, "overflow")).expect(&rt, "narrow");
     }
 }
