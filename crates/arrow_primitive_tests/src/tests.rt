@@ -6,6 +6,7 @@ mod named;
 mod parts;
 mod ranges;
 
+use arrow_memory::buffer::Buffer;
 use arrow_primitive::{MutablePrimitiveArray, PrimitiveArray};
 use arrow_testing::assert_text;
 use arrow_types::data_type::DataType;
@@ -14,8 +15,10 @@ use arrow_types::native_type::{NativeType, i256};
 use std::fmt::Debug;
 use std::process::Abort;
 
-/// Three numbers of two parts.
+/// Numbers of two parts.
 const WIDE: [i256; 3] = [i256(0, 1), i256(1, 2), i256(1, 0)];
+
+const OTHER_WIDE: [i256; 3] = [i256(2, 0), i256(0, 5), i256(6, 6)];
 
 /// Compares all reads of an array with the default type, stored values and marks, and drops it.
 fn check<T: NativeType + Debug, const N: usize>(
@@ -26,18 +29,17 @@ fn check<T: NativeType + Debug, const N: usize>(
     mask: &str,
 ) {
     let array = answer.expect(rt, case);
-    let values = values.as_slice();
     let (data_type, marks) = (T::PRIMITIVE.default_data_type(), mask.as_bytes());
     let came = (array.data_type(), array.values().as_slice());
-    assert_text::value(came, (&data_type, values)).expect(rt, case);
+    assert_text::value(came, (&data_type, values.as_slice())).expect(rt, case);
     drop(data_type);
     assert_text::mask(array.validity(), mask).expect(rt, case);
     let nulls = marks.iter().filter(|mark| **mark == b'0').count();
     let came = (array.len(), array.is_empty(), array.null_count());
-    assert_text::value(came, (values.len(), values.is_empty(), nulls)).expect(rt, case);
+    assert_text::value(came, (N, N == 0, nulls)).expect(rt, case);
     let (mut slots, mut stored) = (array.iter(), array.values_iter());
-    assert!(rt; array.len() == values.len());
-    for i in 0..values.len() {
+    assert!(rt; array.len() == N);
+    for i in 0..N {
         let is_valid = marks.get(i) != Some(&b'0');
         let slot = if is_valid { Some(values[i]) } else { None };
         let came = (
@@ -62,18 +64,17 @@ fn check_builder<T: NativeType + Debug, const N: usize>(
     mask: &str,
 ) {
     let builder = answer.expect(rt, case);
-    let values = values.as_slice();
     let (data_type, marks) = (T::PRIMITIVE.default_data_type(), mask.as_bytes());
     let came = (builder.data_type(), builder.values().as_slice());
-    assert_text::value(came, (&data_type, values)).expect(rt, case);
+    assert_text::value(came, (&data_type, values.as_slice())).expect(rt, case);
     drop(data_type);
     assert_text::growing_mask(builder.validity(), mask).expect(rt, case);
     let nulls = marks.iter().filter(|mark| **mark == b'0').count();
     let came = (builder.len(), builder.is_empty(), builder.null_count());
-    assert_text::value(came, (values.len(), values.is_empty(), nulls)).expect(rt, case);
+    assert_text::value(came, (N, N == 0, nulls)).expect(rt, case);
     let (mut slots, mut stored) = (builder.iter(), builder.values_iter());
-    assert!(rt; builder.len() == values.len());
-    for i in 0..values.len() {
+    assert!(rt; builder.len() == N);
+    for i in 0..N {
         let is_valid = marks.get(i) != Some(&b'0');
         let slot = if is_valid { Some(values[i]) } else { None };
         let came = (
@@ -94,4 +95,9 @@ fn growing<T: NativeType, const N: usize>(
     values: [T; N],
 ) -> MutablePrimitiveArray<T> {
     MutablePrimitiveArray::from_slice(rt.alloc(), values.as_slice()).expect(rt, "memory")
+}
+
+/// Creates a buffer of these values.
+fn buffer<T: NativeType>(rt: &(impl Abort + AllocGlobal), values: &[T]) -> Buffer<T> {
+    Buffer::from_vec(values.to_vec(rt.alloc()).expect(rt, "memory")).expect(rt, "memory")
 }

@@ -1,8 +1,5 @@
 //! Arrays.
-ghost use Rattle.std.specs.Prelude.{◌≡◌, length};
-
 use super::*;
-use arrow_memory::bitmap::Bitmap;
 
 /// Compares what each constructor makes of a value, and of nulls, which store zero.
 fn check_constructors<T: NativeType + Debug>(rt: &(impl Abort + AllocGlobal), value: T, zero: T) {
@@ -22,6 +19,8 @@ fn check_constructors<T: NativeType + Debug>(rt: &(impl Abort + AllocGlobal), va
     check(rt, "from_iter", array, [value, zero], "10");
     let array = PrimitiveArray::<T>::from(alloc, slots.as_slice());
     check(rt, "from, no null", array, [value], "none");
+    let array = PrimitiveArray::<T>::from(alloc, [Some(value), None].as_slice());
+    check(rt, "from", array, [value, zero], "10");
     let array = PrimitiveArray::<T>::from_slice(alloc, [value].as_slice());
     check(rt, "from_slice", array, [value], "none");
     let vec = [value].to_vec(alloc).expect(rt, "memory");
@@ -44,32 +43,6 @@ fn arrays_have_a_mask_only_for_nulls(rt: HostRuntime) {
     check_constructors::<i32>(&rt, 1, 0);
     check_constructors::<i64>(&rt, 1, 0);
     check_constructors(&rt, i256(0, 1), i256(0, 0));
-}
-
-/// Returns the mask as it is.
-fn same_mask(mask: Bitmap) -> Bitmap
-    ensures { length result ≡ length mask }
-{
-    mask
-}
-
-/// Writes nothing.
-fn unwritten<T: NativeType>(_values: &mut [T]) {}
-
-/// Compares a value and a null after changes that leave both.
-fn check_unchanged<T: NativeType + Debug>(rt: &(impl Abort + AllocGlobal), value: T, zero: T) {
-    let array = PrimitiveArray::<T>::from(rt.alloc(), [Some(value), None].as_slice());
-    let mut array = array.expect(rt, "memory");
-    array.apply_validity(same_mask);
-    let is_lent = array.get_mut_values(unwritten::<T>);
-    assert_text::value(is_lent, true).expect(rt, "get_mut_values of an array alone");
-    check(rt, "after both changes", Ok(array), [value, zero], "10");
-}
-
-#[test]
-fn changes_of_nothing_leave_all(rt: HostRuntime) {
-    check_unchanged::<i32>(&rt, 1, 0);
-    check_unchanged(&rt, i256(0, 1), i256(0, 0));
 }
 
 #[test]

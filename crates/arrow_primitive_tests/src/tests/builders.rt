@@ -5,6 +5,13 @@ use super::*;
 use arrow_column::LendValues;
 use arrow_testing::growing_mask;
 
+/// Calls each, which has to succeed.
+macro_rules! append {
+    ($builder:ident, $rt:expr; $($call:ident($($argument:expr),*);)*) => {
+        $($builder.$call($($argument),*).expect($rt, stringify!($call));)*
+    };
+}
+
 /// Compares what each constructor makes.
 fn check_constructors<T: NativeType + Debug>(rt: &(impl Abort + AllocGlobal), value: T) {
     let (alloc, slots) = (rt.alloc(), [Some(value)]);
@@ -22,6 +29,13 @@ fn check_constructors<T: NativeType + Debug>(rt: &(impl Abort + AllocGlobal), va
     let builder = MutablePrimitiveArray::<T>::from(alloc, slots.as_slice());
     check_builder(rt, "from", builder, [value], "1");
     check_builder(rt, "from_slice", Ok(growing(rt, [value])), [value], "none");
+    check_builder(
+        rt,
+        "from_slice of none",
+        Ok(growing::<T, 0>(rt, [])),
+        [],
+        "none",
+    );
 }
 
 #[test]
@@ -29,25 +43,6 @@ fn builders_of_slots_have_a_mask(rt: HostRuntime) {
     check_constructors::<i32>(&rt, 1);
     check_constructors::<i64>(&rt, 1);
     check_constructors(&rt, i256(0, 1));
-}
-
-#[test]
-fn builders_are_read_by_index(rt: HostRuntime) {
-    let slots = [Some(7), None, Some(-1), None];
-    let builder = MutablePrimitiveArray::<i64>::from(rt.alloc(), slots.as_slice());
-    check_builder(&rt, "slots", builder, [7, 0, -1, 0], "1010");
-    let (zero, first, second) = (i256(0, 0), i256(0, 1), i256(-1, 2));
-    let slots = [None, Some(first), Some(second)];
-    let builder = MutablePrimitiveArray::<i256>::from(rt.alloc(), slots.as_slice());
-    check_builder(&rt, "two parts", builder, [zero, first, second], "011");
-    check_builder(
-        &rt,
-        "values",
-        Ok(growing::<i64, 2>(&rt, [5, 0])),
-        [5, 0],
-        "none",
-    );
-    check_builder(&rt, "no values", Ok(growing::<i64, 0>(&rt, [])), [], "none");
 }
 
 /// Returns the values as they are.
@@ -64,12 +59,7 @@ fn check_growth<T: NativeType + Debug>(
 ) {
     let builder = MutablePrimitiveArray::<T>::from(rt.alloc(), [Some(first)].as_slice());
     let mut builder = builder.expect(rt, "memory");
-    macro_rules! append {
-        ($($call:ident($($argument:expr),*);)*) => {
-            $(builder.$call($($argument),*).expect(rt, stringify!($call));)*
-        };
-    }
-    append! {
+    append! { builder, rt;
         push(Some(value));
         try_push(None);
         push_null();
@@ -101,12 +91,7 @@ fn builders_with_a_mask_grow_and_freeze(rt: HostRuntime) {
 #[test]
 fn the_first_null_makes_a_mask(rt: HostRuntime) {
     let mut builder = MutablePrimitiveArray::<i64>::default(rt.alloc());
-    macro_rules! append {
-        ($($call:ident($($argument:expr),*);)*) => {
-            $(builder.$call($($argument),*).expect(&rt, stringify!($call));)*
-        };
-    }
-    append! {
+    append! { builder, &rt;
         extend_values([1].into_iter());
         extend_from_slice([2].as_slice());
         extend_constant(1, Some(3));

@@ -1,7 +1,6 @@
 //! Ranges of arrays that builders take: stored values, those of null slots included, and marks.
 use super::*;
-use arrow_memory::buffer::Buffer;
-use arrow_testing::{frozen_mask, growing_mask};
+use arrow_testing::frozen_mask;
 
 /// Stored values and marks; `none` means that no mask is held.
 type Stored = (&'static [i64], &'static str);
@@ -34,50 +33,28 @@ const CASES: &[Case] = &[
     ("nothing after nothing", (&[], "none"), MASKED, [2, 3], [1, 0], (&[], "")),
 ];
 
-/// Creates a slice of the array of these parts.
-fn sliced(
-    rt: &(impl Abort + AllocGlobal),
-    parts: Stored,
-    slice: [usize; 2],
-) -> PrimitiveArray<i64> {
-    let ((values, mask), [offset, len]) = (parts, slice);
+/// Creates an array of these parts.
+fn array_of(rt: &(impl Abort + AllocGlobal), (values, mask): Stored) -> PrimitiveArray<i64> {
     let mask = frozen_mask(rt.alloc(), mask).expect(rt, "memory");
-    let values = values.to_vec(rt.alloc()).expect(rt, "memory");
-    let values = Buffer::from_vec(values).expect(rt, "memory");
-    let array = PrimitiveArray::<i64>::try_new(DataType::Int64, values, mask);
-    let array = array.expect(rt, "parts that fit");
-    assert!(rt; offset <= array.len() && len <= array.len() - offset);
-    array.sliced(offset, len)
-}
-
-/// Compares a builder of dates that takes a range of an array with these parts.
-fn check_extended(
-    rt: &(impl Abort + AllocGlobal),
-    case: &str,
-    (values, mask): Stored,
-    array: &PrimitiveArray<i64>,
-    [offset, len]: [usize; 2],
-    expected: Stored,
-) {
-    let mask = growing_mask(rt.alloc(), mask).expect(rt, "memory");
-    let values = values.to_vec(rt.alloc()).expect(rt, "memory");
-    let builder = MutablePrimitiveArray::<i64>::try_new(DataType::Date64, values, mask);
-    let mut builder = builder.expect(rt, "parts that fit");
-    assert!(rt; offset <= array.len() && len <= array.len() - offset);
-    builder
-        .extend_from_array(array, offset, len)
-        .expect(rt, "memory");
-    let came = (builder.data_type(), builder.values().as_slice());
-    assert_text::value(came, (&DataType::Date64, expected.0)).expect(rt, case);
-    assert_text::growing_mask(builder.validity(), expected.1).expect(rt, case);
-    drop(builder);
+    let array = PrimitiveArray::<i64>::try_new(DataType::Date64, buffer(rt, values), mask);
+    array.expect(rt, "parts that fit")
 }
 
 #[test]
 fn a_mask_is_held_if_either_side_holds_one(rt: HostRuntime) {
-    for (case, builder, array, slice, range, expected) in CASES {
-        let array = sliced(&rt, *array, *slice);
-        check_extended(&rt, *case, *builder, &array, *range, *expected);
+    for (case, first, second, [start, count], [offset, len], expected) in CASES {
+        let mut array = array_of(&rt, *second).to(DataType::Int64);
+        assert!(rt; *start <= array.len() && *count <= array.len() - *start);
+        array.slice(*start, *count);
+        let builder = array_of(&rt, *first).into_mut().right();
+        let mut builder = builder.expect(&rt, "an array alone thaws");
+        assert!(rt; *offset <= array.len() && *len <= array.len() - *offset);
+        let answer = builder.extend_from_array(&array, *offset, *len);
         drop(array);
+        answer.expect(&rt, "memory");
+        let came = (builder.data_type(), builder.values().as_slice());
+        assert_text::value(came, (&DataType::Date64, expected.0)).expect(&rt, *case);
+        assert_text::growing_mask(builder.validity(), expected.1).expect(&rt, *case);
+        drop(builder);
     }
 }

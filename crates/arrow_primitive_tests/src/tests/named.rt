@@ -1,6 +1,5 @@
 //! Types by their names, and data types.
 use super::*;
-use arrow_memory::buffer::Buffer;
 use arrow_primitive::{
     DaysMsArray, DaysMsVec, Int8Array, Int8Vec, Int16Array, Int16Vec, Int32Array, Int32Vec,
     Int64Array, Int64Vec, Int128Array, Int128Vec, Int256Array, Int256Vec, MonthsDaysNsArray,
@@ -54,11 +53,11 @@ fn named_arrays_and_builders_have_their_type(rt: HostRuntime) {
 
 #[test]
 fn arrays_and_builders_keep_the_type_that_they_are_given(rt: HostRuntime) {
-    let values = Buffer::new(rt.alloc()).expect(&rt, "memory");
+    let values = buffer(&rt, &[]);
     let array = PrimitiveArray::<i32>::new(DataType::Int32, values, None);
     let builder = MutablePrimitiveArray::from_data_type(rt.alloc(), DataType::Int32);
     check_types(&rt, "the default type", array, builder, DataType::Int32);
-    let values = Buffer::new(rt.alloc()).expect(&rt, "memory");
+    let values = buffer(&rt, &[]);
     let array = PrimitiveArray::<i64>::new(DataType::Date64, values, None);
     let builder = MutablePrimitiveArray::from_data_type(rt.alloc(), DataType::Date64);
     check_types(&rt, "new, from_data_type", array, builder, DataType::Date64);

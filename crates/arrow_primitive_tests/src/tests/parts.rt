@@ -1,28 +1,70 @@
 //! Parts of arrays and builders: taken out, put together again, and replaced.
+ghost use Rattle.std.specs.Prelude.{◌≡◌, length};
+
 use super::*;
 use arrow_memory::bitmap::{Bitmap, MutableBitmap};
-use arrow_memory::buffer::Buffer;
 
-/// Compares an array of three values that is made of its parts, and of other ones.
+/// Returns the mask as it is.
+fn same_mask(mask: Bitmap) -> Bitmap
+    ensures { length result ≡ length mask }
+{
+    mask
+}
+
+/// Writes nothing.
+fn unwritten<T: NativeType>(_values: &mut [T]) {}
+
+/// Compares an array that is made of its parts, and of other ones.
 fn check_parts<T: NativeType + Debug>(
     rt: &(impl Abort + AllocGlobal),
     values: [T; 3],
     others: [T; 3],
 ) {
     let array = PrimitiveArray::<T>::from_slice(rt.alloc(), values.as_slice());
-    let (data_type, buffer, mask) = array.expect(rt, "memory").into_inner();
-    let array = PrimitiveArray::<T>::try_new(data_type, buffer, mask).expect(rt, "parts that fit");
-    let (data_type, buffer, mask) = array.into_inner();
-    let array = PrimitiveArray::<T>::from_inner(data_type, buffer, mask);
-    let mut array = array.expect(rt, "parts that fit");
+    let (data_type, stored, mask) = array.expect(rt, "memory").into_inner();
+    let array = PrimitiveArray::<T>::try_new(data_type, stored, mask).expect(rt, "parts that fit");
+    let (data_type, stored, mask) = array.into_inner();
+    let array = PrimitiveArray::<T>::from_inner(data_type, stored, mask);
+    let array = array.expect(rt, "parts that fit");
     check(rt, "try_new, from_inner", array.clone(), values, "none");
-    let buffer = Buffer::from_vec(others.to_vec(rt.alloc()).expect(rt, "memory"));
-    let buffer = buffer.expect(rt, "memory");
-    let mask = Bitmap::from_slice(rt.alloc(), [false, true, true].as_slice()).expect(rt, "memory");
-    assert!(rt; array.len() == 3 && buffer.len() == 3 && mask.len() == 3);
-    array.set_values(buffer);
+    let (stored, mask) = (
+        buffer(rt, others.as_slice()),
+        Bitmap::new_zeroed(rt.alloc(), 3),
+    );
+    let mask = mask.expect(rt, "memory");
+    assert!(rt; array.len() == 3 && stored.len() == 3 && mask.len() == 3);
+    let array = array.with_values(stored).with_validity(Some(mask));
+    check(
+        rt,
+        "with_values, with_validity",
+        array.clone(),
+        others,
+        "000",
+    );
+    let mut slots = array.into_iter();
+    let slot = slots.next();
+    drop(slots);
+    assert_text::value(slot, Some(None)).expect(rt, "into_iter");
+}
+
+/// Compares an array whose parts are replaced and changed in place, and slices of it.
+fn check_replaced<T: NativeType + Debug>(
+    rt: &(impl Abort + AllocGlobal),
+    values: [T; 3],
+    others: [T; 3],
+) {
+    let array = PrimitiveArray::<T>::from_slice(rt.alloc(), values.as_slice());
+    let mut array = array.expect(rt, "memory");
+    let mask = Bitmap::from_slice(rt.alloc(), [false, true, true].as_slice());
+    let (stored, mask) = (buffer(rt, others.as_slice()), mask.expect(rt, "memory"));
+    assert!(rt; array.len() == 3 && stored.len() == 3 && mask.len() == 3);
+    array.set_values(stored);
     array.set_validity(Some(mask));
+    array.apply_validity(same_mask);
+    let is_lent = array.get_mut_values(unwritten::<T>);
+    assert_text::value(is_lent, true).expect(rt, "get_mut_values of an array alone");
     check(rt, "set_values, set_validity", array.clone(), others, "011");
+    assert!(rt; array.len() == 3);
     array.slice(0, 2);
     array.slice(1, 1);
     check(rt, "a slice of a slice", Ok(array), [others[1]], "1");
@@ -32,29 +74,10 @@ fn check_parts<T: NativeType + Debug>(
 fn arrays_are_made_of_parts(rt: HostRuntime) {
     check_parts::<i32>(&rt, [1, 2, 3], [4, 5, 6]);
     check_parts::<i64>(&rt, [1, 2, 3], [4, 5, 6]);
-    check_parts(&rt, WIDE, [i256(2, 0), i256(0, 5), i256(6, 6)]);
-}
-
-/// Compares an array of one value with the values and the mask that replace its own.
-fn check_with<T: NativeType + Debug>(rt: &(impl Abort + AllocGlobal), first: T, second: T) {
-    let values = [first].to_vec(rt.alloc()).expect(rt, "memory");
-    let array = PrimitiveArray::<T>::from_vec(values).expect(rt, "memory");
-    let values = [second].to_vec(rt.alloc()).expect(rt, "memory");
-    let values = Buffer::from_vec(values).expect(rt, "memory");
-    let mask = Bitmap::new_zeroed(rt.alloc(), 1).expect(rt, "memory");
-    assert!(rt; array.len() == 1 && values.len() == 1 && mask.len() == 1);
-    let array = array.with_values(values).with_validity(Some(mask));
-    assert_text::value(array.values().as_slice(), [second].as_slice()).expect(rt, "with_values");
-    let mut slots = array.into_iter();
-    let slot = slots.next();
-    drop(slots);
-    assert_text::value(slot, Some(None)).expect(rt, "with_validity");
-}
-
-#[test]
-fn arrays_are_made_with_other_parts(rt: HostRuntime) {
-    check_with::<i32>(&rt, 1, 2);
-    check_with(&rt, i256(0, 1), i256(1, 2));
+    check_parts(&rt, WIDE, OTHER_WIDE);
+    check_replaced::<i32>(&rt, [1, 2, 3], [4, 5, 6]);
+    check_replaced::<i64>(&rt, [1, 2, 3], [4, 5, 6]);
+    check_replaced(&rt, WIDE, OTHER_WIDE);
 }
 
 /// Compares the slots that are popped from builders that are made of parts, and with other ones.
@@ -70,9 +93,7 @@ fn check_builder_parts<T: NativeType + Debug>(
     let (data_type, vec, mask) = builder.into_inner();
     let builder = MutablePrimitiveArray::<T>::try_new(data_type, vec, mask);
     let mut builder = builder.expect(rt, "parts that fit");
-    let popped = builder.pop();
-    assert_text::value(builder.values_iter().next(), Some(&values[0])).expect(rt, "the rest");
-    let popped = [popped, builder.pop()];
+    let popped = [builder.pop(), builder.pop()];
     drop(builder);
     assert_text::value(popped, [None, Some(values[0])]).expect(rt, "try_new");
     let vec = values.to_vec(rt.alloc()).expect(rt, "memory");
@@ -92,7 +113,7 @@ fn check_builder_parts<T: NativeType + Debug>(
 fn builders_are_made_of_parts(rt: HostRuntime) {
     check_builder_parts::<i32>(&rt, [1, 2, 3], [4, 5, 6]);
     check_builder_parts::<i64>(&rt, [1, 2, 3], [4, 5, 6]);
-    check_builder_parts(&rt, WIDE, [i256(2, 0), i256(0, 5), i256(6, 6)]);
+    check_builder_parts(&rt, WIDE, OTHER_WIDE);
 }
 
 /// Compares a builder of three values and a null with the array that it froze to, thawed.
