@@ -1,5 +1,4 @@
-//! Callers of laws: what each function promises follows from a law and from the contracts of the
-//! calls that it makes.
+//! Callers of laws: the contract of each function follows from a law and from the contracts of the calls that it makes.
 ghost use Rattle.std.specs.Prelude.{◌≡◌, ◌+◌, ◌++◌, ◌∷◌, ◌<◌, ◌≤◌, [], ℕ, IfOk, List, None, OnOk, Some, count_by, true};
 ghost use Rattle.std.specs.Prelude.{flat_map, length, map, slice_get, slice_range, sum_by};
 ghost use Rattle.arrow_memory.specs.Rows.{FitsMask};
@@ -30,8 +29,14 @@ use arrow_types::index_key::IndexKey;
 use arrow_utf8::Utf8Array;
 use std::alloc::Global;
 
+type Numbers = PrimitiveArray<i64>;
+
+type NumbersBuilder = MutablePrimitiveArray<i64>;
+
+type Texts = Utf8Array<i32>;
+
 /// Creates an array of parts that fit.
-fn array_of_parts(values: Buffer<i64>, mask: Option<Bitmap>) -> PrimitiveArray<i64>
+fn array_of_parts(values: Buffer<i64>, mask: Option<Bitmap>) -> Numbers
     requires { FitsMask values mask }
     ensures values { stored_values result ≡ values }
     ensures count { length result.rows ≡ length values }
@@ -42,7 +47,7 @@ fn array_of_parts(values: Buffer<i64>, mask: Option<Bitmap>) -> PrimitiveArray<i
 }
 
 /// Creates an array without nulls.
-fn array_of_values(values: Buffer<i64>) -> PrimitiveArray<i64>
+fn array_of_values(values: Buffer<i64>) -> Numbers
     ensures { slots_of result ≡ map Some values }
 {
     slots_of_parts::<(), i64>();
@@ -50,7 +55,7 @@ fn array_of_values(values: Buffer<i64>) -> PrimitiveArray<i64>
 }
 
 /// Returns the number of slots.
-fn count_slots(array: &PrimitiveArray<i64>) -> usize
+fn count_slots(array: &Numbers) -> usize
     ensures { result ≡ length (slots_of array.now) }
 {
     slots_by_rows::<(), i64>();
@@ -58,7 +63,7 @@ fn count_slots(array: &PrimitiveArray<i64>) -> usize
 }
 
 /// Appends a value and a null.
-fn push_value_and_null(builder: &mut MutablePrimitiveArray<i64>, value: i64) -> Result<(), Error>
+fn push_value_and_null(builder: &mut NumbersBuilder, value: i64) -> Result<(), Error>
     ensures { OnOk result (slots_of builder.new ≡ (slots_of builder.old ++ Some value ∷ []) ++ None ∷ []) }
 {
     appended_slots::<(), i64>();
@@ -67,7 +72,7 @@ fn push_value_and_null(builder: &mut MutablePrimitiveArray<i64>, value: i64) -> 
 }
 
 /// Appends valid slots.
-fn extend(builder: &mut MutablePrimitiveArray<i64>, values: &[i64]) -> Result<(), Error>
+fn extend(builder: &mut NumbersBuilder, values: &[i64]) -> Result<(), Error>
     ensures { OnOk result (slots_of builder.new ≡ slots_of builder.old ++ map Some values.now) }
 {
     appended_slots::<(), i64>();
@@ -75,7 +80,7 @@ fn extend(builder: &mut MutablePrimitiveArray<i64>, values: &[i64]) -> Result<()
 }
 
 /// Freezes a builder.
-fn freeze(builder: MutablePrimitiveArray<i64>) -> Result<PrimitiveArray<i64>, Error>
+fn freeze(builder: NumbersBuilder) -> Result<Numbers, Error>
     ensures { IfOk result (λ array. slots_of array ≡ slots_of builder) }
 {
     appended_slots::<(), i64>();
@@ -83,10 +88,7 @@ fn freeze(builder: MutablePrimitiveArray<i64>) -> Result<PrimitiveArray<i64>, Er
 }
 
 /// Appends the slots of another builder.
-fn join(
-    builder: &mut MutablePrimitiveArray<i64>,
-    other: &MutablePrimitiveArray<i64>,
-) -> Result<(), Error>
+fn join(builder: &mut NumbersBuilder, other: &NumbersBuilder) -> Result<(), Error>
     ensures { OnOk result (slots_of builder.new ≡ slots_of builder.old ++ slots_of other.now) }
 {
     joined_slots::<(), (), i64>();
@@ -94,7 +96,7 @@ fn join(
 }
 
 /// Keeps the second and the third slot.
-fn keep_two(array: &mut PrimitiveArray<i64>)
+fn keep_two(array: &mut Numbers)
     requires { 3 ≤ length array.old.rows }
     ensures count { length array.new.rows ≡ 2 }
     ensures second { slice_get (slots_of array.new) 1 ≡ slice_get (slots_of array.old) 2 }
@@ -104,7 +106,7 @@ fn keep_two(array: &mut PrimitiveArray<i64>)
 }
 
 /// Keeps the second and the third text.
-fn keep_two_texts(array: &mut Utf8Array<i32>)
+fn keep_two_texts(array: &mut Texts)
     requires { 3 ≤ length array.old.rows }
     ensures count { length array.new.rows ≡ 2 }
     ensures second { slice_get (slots_of array.new) 1 ≡ slice_get (slots_of array.old) 2 }
@@ -113,24 +115,8 @@ fn keep_two_texts(array: &mut Utf8Array<i32>)
     array.slice(1, 2);
 }
 
-/// Returns how many texts a filter leaves.
-fn count_filtered(
-    alloc: Global,
-    array: &Utf8Array<i32>,
-    filter: &BooleanArray,
-) -> Result<usize, Error>
-    requires { length filter.now.rows ≡ length array.now.rows }
-    ensures { IfOk result (λ count. count ≡ count_by (λ mark. mark) (asked filter.now)) }
-{
-    filtered_slots::<BytesAround, Bytes>();
-    let kept = filter_utf8(alloc, array, filter)?;
-    let count = kept.len();
-    drop(kept);
-    Ok(count)
-}
-
 /// Returns how many texts a filter would leave, without filtering them.
-fn count_left(array: &Utf8Array<i32>, filter: &BooleanArray) -> usize
+fn count_left(array: &Texts, filter: &BooleanArray) -> usize
     requires { length filter.now.rows ≡ length array.now.rows }
     ensures { result ≡ length (filtered nothing_around array.now filter.now).rows }
 {
@@ -139,7 +125,7 @@ fn count_left(array: &Utf8Array<i32>, filter: &BooleanArray) -> usize
 }
 
 /// Returns the texts of several arrays.
-fn concat(alloc: Global, arrays: &[Utf8Array<i32>]) -> Result<Utf8Array<i32>, Error>
+fn concat(alloc: Global, arrays: &[Texts]) -> Result<Texts, Error>
     requires { 0 < length arrays.now }
     ensures slots { IfOk result (λ made. slots_of made ≡ flat_map slots_of arrays.now) }
     ensures count { IfOk result (λ made. length made.rows ≡ sum_by (λ array. length array.rows) arrays.now) }
@@ -149,44 +135,26 @@ fn concat(alloc: Global, arrays: &[Utf8Array<i32>]) -> Result<Utf8Array<i32>, Er
 }
 
 /// Returns the texts that a filter leaves.
-fn filter(
-    alloc: Global,
-    array: &Utf8Array<i32>,
-    filter: &BooleanArray,
-) -> Result<Utf8Array<i32>, Error>
+fn filter(alloc: Global, array: &Texts, filter: &BooleanArray) -> Result<Texts, Error>
     requires { length filter.now.rows ≡ length array.now.rows }
-    ensures { IfOk result (λ kept. slots_of kept ≡ where_set (asked filter.now) (slots_of array.now)) }
+    ensures slots { IfOk result (λ kept. slots_of kept ≡ where_set (asked filter.now) (slots_of array.now)) }
+    ensures count { IfOk result (λ kept. length kept.rows ≡ count_by (λ mark. mark) (asked filter.now)) }
 {
     filtered_slots::<BytesAround, Bytes>();
     filter_utf8(alloc, array, filter)
 }
 
-/// Returns the texts at keys.
-fn take<K: IndexKey>(
-    alloc: Global,
-    array: &Utf8Array<i32>,
-    keys: &[K],
-) -> Result<Utf8Array<i32>, Error>
-    ensures { IfOk result (λ made. slots_of made ≡ at_keys K.number keys.now (slots_of array.now)) }
-{
-    taken_slots::<BytesAround, Bytes, K>();
-    take_utf8(alloc, array, keys)
-}
-
-/// Returns the texts at keys, of which there are as many as keys: none of the keys was out of bounds.
-fn take_each<K: IndexKey>(
-    alloc: Global,
-    array: &Utf8Array<i32>,
-    keys: &[K],
-) -> Result<Utf8Array<i32>, Error>
-    ensures { IfOk result (λ made. length made.rows ≡ length keys.now) }
+/// Returns the texts at keys: one for each key, since none of the keys was out of bounds.
+fn take<K: IndexKey>(alloc: Global, array: &Texts, keys: &[K]) -> Result<Texts, Error>
+    ensures slots { IfOk result (λ made. slots_of made ≡ at_keys K.number keys.now (slots_of array.now)) }
+    ensures count { IfOk result (λ made. length made.rows ≡ length keys.now) }
 {
     taken_slots::<BytesAround, Bytes, K>();
     take_utf8(alloc, array, keys)
 }
 
 /// Returns the same texts over wide offsets.
-fn widen(alloc: Global, array: &Utf8Array<i32>) -> Result<Utf8Array<i64>, Error>
+fn widen(alloc: Global, array: &Texts) -> Result<Utf8Array<i64>, Error>
     ensures { IfOk result (λ wide. slots_of wide ≡ slots_of array.now) }
 {
     retyped_slots::<BytesAround, Bytes>();

@@ -1,104 +1,103 @@
-// What arrays and builders hold was worked out by hand. Values are let go by `drop` and taken by `expect`, which is
-// cheaper to prove than to leave that to the end of a function.
+//! Arrays and builders of numbers, of which those of `i256` have two parts. What they hold was worked out by hand.
 mod arrays;
 mod builders;
-mod equal;
 mod extend_from_array;
-mod growth;
-mod made;
 mod named;
 mod parts;
 mod ranges;
-mod shared;
-mod slots;
 
+use arrow_memory::buffer::Buffer;
 use arrow_primitive::{MutablePrimitiveArray, PrimitiveArray};
-use arrow_testing::is_mask;
+use arrow_testing::assert_text;
 use arrow_types::data_type::DataType;
-use std::alloc::Global;
+use arrow_types::error::Error;
+use arrow_types::native_type::{NativeType, i256};
+use std::fmt::Debug;
 use std::process::Abort;
 
-/// Whether an array has these stored values and marks.
-fn shows(array: &PrimitiveArray<i64>, values: &[i64], mask: &str) -> bool {
-    let marks = match array.validity() {
-        Some(marks) => Some(marks.iter()),
-        None => None,
-    };
-    (array.values().as_slice() == values) & is_mask(marks, mask)
-}
+/// Numbers of two parts.
+const WIDE: [i256; 3] = [i256(0, 1), i256(1, 2), i256(1, 0)];
 
-/// Whether a builder has these stored values and marks.
-fn builds(builder: &MutablePrimitiveArray<i64>, values: &[i64], mask: &str) -> bool {
-    let marks = match builder.validity() {
-        Some(marks) => Some(marks.iter()),
-        None => None,
-    };
-    (builder.values().as_slice() == values) & is_mask(marks, mask)
-}
+const OTHER_WIDE: [i256; 3] = [i256(2, 0), i256(0, 5), i256(6, 6)];
 
-/// A builder of slots that are pushed one by one.
-fn built(alloc: Global, rt: &impl Abort, slots: &[Option<i64>]) -> MutablePrimitiveArray<i64> {
-    let mut builder = MutablePrimitiveArray::new(alloc);
-    for slot in slots {
-        builder.push(*slot).expect(rt, "memory");
+/// Compares all reads of an array with the default type, stored values and marks, and drops it.
+fn check<T: NativeType + Debug, const N: usize>(
+    rt: &impl Abort,
+    case: &str,
+    answer: Result<PrimitiveArray<T>, Error>,
+    values: [T; N],
+    mask: &str,
+) {
+    let array = answer.expect(rt, case);
+    let (data_type, marks) = (T::PRIMITIVE.default_data_type(), mask.as_bytes());
+    let came = (array.data_type(), array.values().as_slice());
+    assert_text::value(came, (&data_type, values.as_slice())).expect(rt, case);
+    drop(data_type);
+    assert_text::mask(array.validity(), mask).expect(rt, case);
+    let nulls = marks.iter().filter(|mark| **mark == b'0').count();
+    let came = (array.len(), array.is_empty(), array.null_count());
+    assert_text::value(came, (N, N == 0, nulls)).expect(rt, case);
+    let (mut slots, mut stored) = (array.iter(), array.values_iter());
+    assert!(rt; array.len() == N);
+    for i in 0..N {
+        let is_valid = marks.get(i) != Some(&b'0');
+        let slot = if is_valid { Some(values[i]) } else { None };
+        let came = (
+            array.get(i),
+            array.value(i),
+            array.is_valid(i),
+            array.is_null(i),
+        );
+        assert_text::value(came, (slot, values[i], is_valid, !is_valid)).expect(rt, case);
+        let came = (slots.next(), stored.next());
+        assert_text::value(came, (Some(slot.as_ref()), Some(&values[i]))).expect(rt, case);
     }
-    builder
-}
-
-/// Whether an array that is given away has these stored values and marks.
-fn stores(array: PrimitiveArray<i64>, values: &[i64], mask: &str) -> bool {
-    let is_shown = shows(&array, values, mask);
     drop(array);
-    is_shown
 }
 
-/// Whether a builder that is given away has these stored values and marks.
-fn holds(builder: MutablePrimitiveArray<i64>, values: &[i64], mask: &str) -> bool {
-    let is_built = builds(&builder, values, mask);
-    drop(builder);
-    is_built
-}
-
-#[test]
-fn nulls_store_zero_and_freeze_with_a_mask(rt: HostRuntime) {
-    let builder = built(rt.alloc(), &rt, [Some(1), None, Some(2)].as_slice());
-    let is_built = builds(&builder, [1, 0, 2].as_slice(), "101");
-    let array = builder.freeze().expect(&rt, "memory");
-    assert!(rt; is_built & stores(array, [1, 0, 2].as_slice(), "101"));
-}
-
-#[test]
-fn pops_from_the_last_to_the_first(rt: HostRuntime) {
-    let mut builder = built(rt.alloc(), &rt, [None, Some(7), None].as_slice());
-    let popped = [builder.pop(), builder.pop(), builder.pop(), builder.pop()];
-    assert!(rt; holds(builder, &[], "") & (popped == [None, Some(7), None, None]));
-}
-
-/// Keeps a part of an array, where it is there, and counts its nulls.
-fn cut(array: &mut PrimitiveArray<i64>, offset: usize, len: usize) -> Option<usize> {
-    if offset <= array.len() && len <= array.len() - offset {
-        array.slice(offset, len);
-        return Some(array.null_count());
+/// Compares all reads of a builder with the default type, stored values and marks, and drops it.
+fn check_builder<T: NativeType + Debug, const N: usize>(
+    rt: &impl Abort,
+    case: &str,
+    answer: Result<MutablePrimitiveArray<T>, Error>,
+    values: [T; N],
+    mask: &str,
+) {
+    let builder = answer.expect(rt, case);
+    let (data_type, marks) = (T::PRIMITIVE.default_data_type(), mask.as_bytes());
+    let came = (builder.data_type(), builder.values().as_slice());
+    assert_text::value(came, (&data_type, values.as_slice())).expect(rt, case);
+    drop(data_type);
+    assert_text::growing_mask(builder.validity(), mask).expect(rt, case);
+    let nulls = marks.iter().filter(|mark| **mark == b'0').count();
+    let came = (builder.len(), builder.is_empty(), builder.null_count());
+    assert_text::value(came, (N, N == 0, nulls)).expect(rt, case);
+    let (mut slots, mut stored) = (builder.iter(), builder.values_iter());
+    assert!(rt; builder.len() == N);
+    for i in 0..N {
+        let is_valid = marks.get(i) != Some(&b'0');
+        let slot = if is_valid { Some(values[i]) } else { None };
+        let came = (
+            builder.get(i),
+            builder.is_null(i),
+            slots.next(),
+            stored.next(),
+        );
+        let expected = (slot, !is_valid, Some(slot.as_ref()), Some(&values[i]));
+        assert_text::value(came, expected).expect(rt, case);
     }
-    None
+    drop(builder);
 }
 
-/// Whether the last of three slots is cut off with its mask, and no null.
-fn keeps_mask(rt: &impl Abort, array: PrimitiveArray<i64>) -> bool {
-    assert!(rt; array.len() == 3);
-    let array = array.sliced(2, 1);
-    (array.null_count() == 0) & stores(array, [8].as_slice(), "1")
+/// Creates a builder of these values, without a mask.
+fn growing<T: NativeType, const N: usize>(
+    rt: &(impl Abort + AllocGlobal),
+    values: [T; N],
+) -> MutablePrimitiveArray<T> {
+    MutablePrimitiveArray::from_slice(rt.alloc(), values.as_slice()).expect(rt, "memory")
 }
 
-#[test]
-fn slices_count_their_own_nulls(rt: HostRuntime) {
-    let builder = built(
-        rt.alloc(),
-        &rt,
-        [None, Some(6), None, Some(8), None].as_slice(),
-    );
-    let mut array = builder.freeze().expect(&rt, "memory");
-    let is_counted = cut(&mut array, 1, 3) == Some(1);
-    let is_cut = shows(&array, [6, 0, 8].as_slice(), "101");
-    assert!(rt; keeps_mask(&rt, array) & is_counted & is_cut);
+/// Creates a buffer of these values.
+fn buffer<T: NativeType>(rt: &(impl Abort + AllocGlobal), values: &[T]) -> Buffer<T> {
+    Buffer::from_vec(values.to_vec(rt.alloc()).expect(rt, "memory")).expect(rt, "memory")
 }

@@ -1,242 +1,145 @@
-//! Arrays of numbers.
+//! Kernels of numbers. All arrays are of dates, which each kernel keeps.
 use super::*;
 use arrow_kernels::{concat_primitive, filter_primitive, take_primitive};
 use arrow_memory::buffer::Buffer;
 use arrow_primitive::PrimitiveArray;
 
-/// The array of values under a mask.
-fn masked(rt: &impl Abort, values: Vec<i64>, mask: Option<Bitmap>) -> PrimitiveArray<i64> {
+/// Stored values and marks.
+type Numbers = (&'static [i64], &'static str);
+
+/// Creates an array of dates.
+fn dates(rt: &(impl Abort + AllocGlobal), values: &[i64], mask: &str) -> PrimitiveArray<i64> {
+    let mask = frozen_mask(rt.alloc(), mask).expect(rt, "memory");
+    let values = values.to_vec(rt.alloc()).expect(rt, "memory");
     let values = Buffer::from_vec(values).expect(rt, "memory");
     PrimitiveArray::try_new(DataType::Date64, values, mask).expect(rt, "parts that fit")
 }
 
-/// Whether an array has these marks, and the type of the one that it was made of.
-fn is_masked(array: &PrimitiveArray<i64>, text: &str) -> bool {
-    let marks = match array.validity() {
-        Some(marks) => Some(marks.iter()),
-        None => None,
-    };
-    is_mask(marks, text) & (*array.data_type() == DataType::Date64)
+/// Compares an array of dates with its parts, and drops it.
+fn check(rt: &impl Abort, case: &str, array: PrimitiveArray<i64>, values: &[i64], mask: &str) {
+    assert_text::value(array.values().as_slice(), values).expect(rt, case);
+    assert_text::mask(array.validity(), mask).expect(rt, case);
+    assert_text::value(array.data_type(), &DataType::Date64).expect(rt, case);
+    drop(array);
 }
 
-// One is written as its stored values and its mask.
-impl Chosen for PrimitiveArray<i64> {
-    type Written = (&'static [i64], &'static str);
+/// One, a null that stores zero, and ten.
+const THREE: Numbers = (&[1, 0, 10], "101");
 
-    type Key = i64;
-
-    fn of(
-        alloc: Global,
-        rt: &impl Abort,
-        written: &(&'static [i64], &'static str),
-    ) -> PrimitiveArray<i64> {
-        let (values, text) = *written;
-        let mask = frozen_mask(alloc, text).expect(rt, "memory");
-        masked(rt, values.to_vec(alloc).expect(rt, "memory"), mask)
-    }
-
-    fn is(&self, written: &(&'static [i64], &'static str)) -> bool {
-        let (values, text) = *written;
-        (self.values().as_slice() == values) & is_masked(self, text)
-    }
-
-    fn filtered(
-        &self,
-        alloc: Global,
-        rt: &impl Abort,
-        filter: &BooleanArray,
-    ) -> Result<PrimitiveArray<i64>, Error> {
-        assert!(rt; filter.len() == self.len());
-        filter_primitive(alloc, self, filter)
-    }
-
-    fn taken(&self, alloc: Global, keys: &[i64]) -> Result<PrimitiveArray<i64>, Error> {
-        take_primitive(alloc, self, keys)
-    }
-
-    fn part(self, rt: &impl Abort, offset: usize, len: usize) -> PrimitiveArray<i64> {
-        assert!(rt; offset <= self.len() && len <= self.len() - offset);
-        self.sliced(offset, len)
-    }
-
-    fn joined(
-        alloc: Global,
-        rt: &impl Abort,
-        arrays: &[PrimitiveArray<i64>],
-    ) -> Result<PrimitiveArray<i64>, Error> {
-        assert!(rt; !arrays.is_empty());
-        concat_primitive(alloc, arrays)
-    }
-}
-
-/// Numbers as values and a mask.
-type Numbers = (&'static [i64], &'static str);
-
-/// One, a null that stores nothing, and ten.
-const ONE_NULL_TEN: Numbers = (&[1, 0, 10], "101");
-
-/// Rows that are asked for are left. A null of a filter asks for none, and a mask that no row needs is dropped.
-const FILTERS: &[(Numbers, Filter, Numbers)] = &[
-    (ONE_NULL_TEN, ("t_t", true), (&[1, 10], "none")),
-    (ONE_NULL_TEN, ("ftt", true), (&[0, 10], "01")),
-    (ONE_NULL_TEN, ("ttf", false), (&[1, 0], "10")),
-    (ONE_NULL_TEN, ("fff", false), (&[], "none")),
-    (ONE_NULL_TEN, ("ttt", false), ONE_NULL_TEN),
-    ((&[1, 2], "none"), ("t_", true), (&[1], "none")),
-    ((&[1, 2], "11"), ("tt", false), (&[1, 2], "none")),
-];
-
-/// Rows at keys are taken.
-const TAKES: &[(Numbers, &[i64], Numbers)] = &[
-    (ONE_NULL_TEN, &[2, 1, 1], (&[10, 0, 0], "100")),
-    (ONE_NULL_TEN, &[2, 2], (&[10, 10], "none")),
-    (ONE_NULL_TEN, &[], (&[], "none")),
-];
-
-/// The error names the first key that is out of bounds.
-const ASTRAY: &[(Numbers, &[i64], &str)] = &[
-    (ONE_NULL_TEN, &[3], TOO_GREAT),
-    (ONE_NULL_TEN, &[0, -1, 9], NO_INDEX),
-    (ONE_NULL_TEN, &[0, 9, -1], TOO_GREAT),
+/// A name, an array, a filter, whose nulls store true, and the slots that it keeps.
+#[rattlefmt::skip]
+const FILTERS: &[(&str, Numbers, Booleans, Numbers)] = &[
+    ("a null", THREE, ("111", "101"), (&[1, 10], "none")),
+    ("a needless mask", THREE, ("011", "111"), (&[0, 10], "01")),
+    ("no mask", THREE, ("110", "none"), (&[1, 0], "10")),
+    ("no slot", THREE, ("000", "none"), (&[], "none")),
+    ("every slot", THREE, ("111", "none"), THREE),
+    ("a null, of an array without a mask", (&[1, 2], "none"), ("11", "10"), (&[1], "none")),
+    ("every slot, of an array with a needless mask", (&[1, 2], "11"), ("11", "none"), (&[1, 2], "none")),
 ];
 
 #[test]
-fn numbers_are_chosen(rt: HostRuntime) {
-    let are_left = all_filter::<PrimitiveArray<i64>>(rt.alloc(), &rt, FILTERS);
-    let are_taken = all_take::<PrimitiveArray<i64>>(rt.alloc(), &rt, TAKES);
-    assert!(rt; are_left & are_taken & all_tell::<PrimitiveArray<i64>>(rt.alloc(), &rt, ASTRAY));
+fn filters_keep_slots_at_true(rt: HostRuntime) {
+    for (case, array, filter, expected) in FILTERS {
+        let array = dates(&rt, array.0, array.1);
+        let filter = bools(&rt, *filter);
+        assert!(rt; filter.len() == array.len());
+        let kept = filter_primitive(rt.alloc(), &array, &filter).expect(&rt, "memory");
+        drop(filter);
+        drop(array);
+        check(&rt, *case, kept, expected.0, expected.1);
+    }
+}
+
+/// What filters repeat until they are 300 slots long.
+const PERIODS: &[&str] = &["10", "001", "1111110", "0000000001", "1", "0"];
+
+#[test]
+fn long_filters_keep_slots_at_true(rt: HostRuntime) {
+    for text in PERIODS {
+        let period = text.as_bytes();
+        let mut numbers = Vec::new(rt.alloc());
+        let (mut filter, mut expected) = (Vec::new(rt.alloc()), Vec::new(rt.alloc()));
+        for number in 0..300usize {
+            assert!(rt; !period.is_empty());
+            let is_kept = period[number % period.len()] == b'1';
+            filter.push(is_kept).expect(&rt, "memory");
+            numbers.push(number as i64).expect(&rt, "memory");
+            if is_kept {
+                expected.push(number as i64).expect(&rt, "memory");
+            }
+        }
+        let array = dates(&rt, &numbers, "none");
+        drop(numbers);
+        let marks = BooleanArray::from_slice(rt.alloc(), &filter).expect(&rt, "memory");
+        drop(filter);
+        assert!(rt; marks.len() == array.len());
+        let kept = filter_primitive(rt.alloc(), &array, &marks).expect(&rt, "memory");
+        drop(marks);
+        drop(array);
+        check(&rt, *text, kept, &expected, "none");
+        drop(expected);
+    }
+}
+
+/// A name, keys, and the slots of `THREE` at them.
+const TAKES: &[(&str, &[i64], Result<Numbers, Error>)] = &[
+    ("a null twice", &[2, 1, 1], Ok((&[10, 0, 0], "100"))),
+    ("no null", &[2, 2], Ok((&[10, 10], "none"))),
+    ("no key", &[], Ok((&[], "none"))),
+    ("the length", &[3], Err(TOO_GREAT)),
+    ("negative, then too great", &[0, -1, 9], Err(NEGATIVE)),
+    ("too great, then negative", &[0, 9, -1], Err(TOO_GREAT)),
+];
+
+#[test]
+fn takes_keep_slots_at_keys(rt: HostRuntime) {
+    let array = dates(&rt, THREE.0, THREE.1);
+    for (case, keys, expected) in TAKES {
+        let taken = take_primitive(rt.alloc(), &array, *keys);
+        match *expected {
+            Ok((values, mask)) => check(&rt, *case, taken.expect(&rt, *case), values, mask),
+            Err(error) => assert_text::value(taken.err(), Some(error)).expect(&rt, *case),
+        }
+    }
+    drop(array);
 }
 
 /// Eleven numbers, the third and the tenth of which are null.
 const ELEVEN: Numbers = (&[0, 1, 2, 3, 4, 5, 6, 7, 8, 9, 10], "11011111101");
 
-/// Slots of several arrays come in order, also if their marks do not begin at a byte. A mask that no slot needs is
-/// dropped, and one is created if only some of the arrays hold one.
-const JOINS: &[(&[(Numbers, usize, usize)], Numbers)] = &[
-    (&[(ONE_NULL_TEN, 0, 3)], ONE_NULL_TEN),
+/// An array, and the offset and length of a slice of it.
+type Slice = (Numbers, usize, usize);
+
+/// A name, slices, and their concatenation.
+#[rattlefmt::skip]
+const CONCATENATIONS: &[(&str, &[Slice], Numbers)] = &[
+    ("one array", &[(THREE, 0, 3)], THREE),
+    ("a mask in the first", &[(THREE, 1, 2), ((&[5, 6], "none"), 0, 2)], (&[0, 10, 5, 6], "0111")),
+    ("no null in slices", &[(THREE, 2, 1), (THREE, 0, 1)], (&[10, 1], "none")),
+    ("no slot in the first", &[(THREE, 3, 0), ((&[5, 6], "11"), 1, 1)], (&[6], "none")),
+    ("no slot", &[(THREE, 3, 0), (THREE, 0, 0)], (&[], "none")),
     (
-        &[(ONE_NULL_TEN, 1, 2), ((&[5, 6], "none"), 0, 2)],
-        (&[0, 10, 5, 6], "0111"),
-    ),
-    (
-        &[(ONE_NULL_TEN, 2, 1), (ONE_NULL_TEN, 0, 1)],
-        (&[10, 1], "none"),
-    ),
-    (
-        &[(ONE_NULL_TEN, 3, 0), ((&[5, 6], "11"), 1, 1)],
-        (&[6], "none"),
-    ),
-    (&[(ONE_NULL_TEN, 3, 0), (ONE_NULL_TEN, 0, 0)], (&[], "none")),
-    (
-        &[
-            (ELEVEN, 3, 8),
-            ((&[20, 21, 22], "none"), 1, 2),
-            (ELEVEN, 1, 10),
-        ],
-        (
-            &[
-                3, 4, 5, 6, 7, 8, 9, 10, 21, 22, 1, 2, 3, 4, 5, 6, 7, 8, 9, 10,
-            ],
-            "11111101111011111101",
-        ),
+        "marks that begin within a byte",
+        &[(ELEVEN, 3, 8), ((&[20, 21, 22], "none"), 1, 2), (ELEVEN, 1, 10)],
+        (&[3, 4, 5, 6, 7, 8, 9, 10, 21, 22, 1, 2, 3, 4, 5, 6, 7, 8, 9, 10], "11111101111011111101"),
     ),
 ];
 
 #[test]
-fn numbers_are_joined(rt: HostRuntime) {
-    assert!(rt; all_join::<PrimitiveArray<i64>>(rt.alloc(), &rt, JOINS));
-}
-
-/// Long arrays: each number below this one.
-const MANY: usize = 300;
-
-/// Whether a number is asked for by what it leaves, for each rest whether it is wanted, in order.
-fn is_asked(rests: &[bool], number: usize) -> bool {
-    if rests.is_empty() {
-        return false;
-    }
-    rests[number % rests.len()]
-}
-
-/// The array of all.
-fn many(alloc: Global, rt: &impl Abort) -> PrimitiveArray<i64> {
-    let mut values = Vec::new(alloc);
-    for number in 0..MANY {
-        values.push(number as i64).expect(rt, "memory");
-    }
-    masked(rt, values, None)
-}
-
-/// A filter as long that asks for numbers by what they leave.
-fn many_asked(alloc: Global, rt: &impl Abort, rests: &[bool]) -> BooleanArray {
-    let mut marks = MutableBitmap::new(alloc);
-    for number in 0..MANY {
-        marks.push(is_asked(rests, number)).expect(rt, "memory");
-    }
-    let marks = marks.freeze().expect(rt, "memory");
-    BooleanArray::try_new(DataType::Boolean, marks, None).expect(rt, "parts that fit")
-}
-
-/// Whether values are the numbers that are asked for.
-fn are_asked(values: &[i64], rests: &[bool]) -> bool {
-    let mut count = 0usize;
-    for number in 0..MANY {
-        if is_asked(rests, number) {
-            if values.get(count) != Some(&(number as i64)) {
-                return false;
-            }
-            count = count.saturating_add(1);
+fn concatenations_have_all_slots_in_order(rt: HostRuntime) {
+    for (case, slices, expected) in CONCATENATIONS {
+        let mut arrays = Vec::new(rt.alloc());
+        for ((values, mask), offset, len) in *slices {
+            let array = dates(&rt, *values, *mask);
+            assert!(rt; *offset <= array.len() && *len <= array.len() - *offset);
+            arrays
+                .push(array.sliced(*offset, *len))
+                .expect(&rt, "memory");
         }
+        assert!(rt; !arrays.is_empty());
+        let joined = concat_primitive(rt.alloc(), &arrays).expect(&rt, "memory");
+        drop(arrays);
+        check(&rt, *case, joined, expected.0, expected.1);
     }
-    count == values.len()
-}
-
-/// Whether a long filter leaves the numbers that it asks for.
-fn leaves_many(
-    alloc: Global,
-    rt: &impl Abort,
-    array: &PrimitiveArray<i64>,
-    rests: &[bool],
-) -> bool {
-    let filter = many_asked(alloc, rt, rests);
-    let left = array.filtered(alloc, rt, &filter).expect(rt, "memory");
-    drop(filter);
-    let are_left = are_asked(left.values().as_slice(), rests) & is_masked(&left, "none");
-    drop(left);
-    are_left
-}
-
-/// Which rests are asked for.
-const RESTS: &[&[bool]] = &[
-    &[true, false],
-    &[false, false, true],
-    &[true, true, true, true, true, true, false],
-    &[
-        false, false, false, false, false, false, false, false, false, true,
-    ],
-    &[true],
-    &[false],
-];
-
-/// Whether filters by each of them do.
-fn all_leave(
-    alloc: Global,
-    rt: &impl Abort,
-    array: &PrimitiveArray<i64>,
-    cases: &[&[bool]],
-) -> bool {
-    for rests in cases {
-        if !leaves_many(alloc, rt, array, *rests) {
-            return false;
-        }
-    }
-    true
-}
-
-#[test]
-fn long_filters_leave_what_they_ask_for(rt: HostRuntime) {
-    let array = many(rt.alloc(), &rt);
-    let are_left = all_leave(rt.alloc(), &rt, &array, RESTS);
-    drop(array);
-    assert!(rt; are_left);
 }

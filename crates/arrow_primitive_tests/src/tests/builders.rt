@@ -1,155 +1,225 @@
-//! What builders answer at a narrow type, and at one of two parts.
+//! Builders.
 ghost use Rattle.std.specs.Prelude.{◌≡◌, vec_len};
 
-use super::arrays::{counts, is_default};
 use super::*;
-use arrow_types::native_type::{NativeType, i256};
+use arrow_column::LendValues;
+use arrow_testing::growing_mask;
 
-/// The values as they are.
+/// Calls each, which has to succeed.
+macro_rules! append {
+    ($builder:ident, $rt:expr; $($call:ident($($argument:expr),*);)*) => {
+        $($builder.$call($($argument),*).expect($rt, stringify!($call));)*
+    };
+}
+
+/// Compares what each constructor makes.
+fn check_constructors<T: NativeType + Debug>(rt: &(impl Abort + AllocGlobal), value: T) {
+    let (alloc, slots) = (rt.alloc(), [Some(value)]);
+    let builder = MutablePrimitiveArray::<T>::default(alloc);
+    check_builder(rt, "default", Ok(builder), [], "none");
+    let data_type = T::PRIMITIVE.default_data_type();
+    let builder = MutablePrimitiveArray::<T>::from_data_type(alloc, data_type);
+    let builder = builder.to(T::PRIMITIVE.default_data_type());
+    check_builder(rt, "from_data_type, to", Ok(builder), [], "none");
+    let data_type = T::PRIMITIVE.default_data_type();
+    let builder = MutablePrimitiveArray::<T>::with_capacity_from(alloc, 1, data_type);
+    check_builder(rt, "with_capacity_from", builder, [], "none");
+    let builder = MutablePrimitiveArray::<T>::from_iter(alloc, slots.into_iter());
+    check_builder(rt, "from_iter", builder, [value], "1");
+    let builder = MutablePrimitiveArray::<T>::from(alloc, slots.as_slice());
+    check_builder(rt, "from", builder, [value], "1");
+    check_builder(rt, "from_slice", Ok(growing(rt, [value])), [value], "none");
+    check_builder(
+        rt,
+        "from_slice of none",
+        Ok(growing::<T, 0>(rt, [])),
+        [],
+        "none",
+    );
+}
+
+#[test]
+fn builders_of_slots_have_a_mask(rt: HostRuntime) {
+    check_constructors::<i32>(&rt, 1);
+    check_constructors::<i64>(&rt, 1);
+    check_constructors(&rt, i256(0, 1));
+}
+
+/// Returns the values as they are.
 fn same_values<T: NativeType>(values: Vec<T>) -> Vec<T>
     ensures { vec_len result ≡ vec_len values }
 {
     values
 }
 
-/// Appends a slot and two nulls one by one.
-fn push_each<T: NativeType>(
-    rt: &impl Abort,
-    builder: &mut MutablePrimitiveArray<T>,
-    slot: Option<T>,
+/// Compares a builder to which slots are appended by each call, and one of which is popped, once frozen.
+fn check_growth<T: NativeType + Debug>(
+    rt: &(impl Abort + AllocGlobal),
+    [first, value, zero]: [T; 3],
 ) {
-    builder.push(slot).expect(rt, "memory");
-    builder.try_push(None).expect(rt, "memory");
-    builder.push_null().expect(rt, "memory");
-}
-
-/// Appends slots twice, and then values, that iterators give; values and two slots, of which the last is removed.
-fn extend_each<T: NativeType>(
-    rt: &impl Abort,
-    builder: &mut MutablePrimitiveArray<T>,
-    slots: &[Option<T>],
-    values: &[T],
-) {
-    builder.extend(slots.iter().copied()).expect(rt, "memory");
-    builder
-        .try_extend(slots.iter().copied())
-        .expect(rt, "memory");
-    builder
-        .extend_values(values.iter().copied())
-        .expect(rt, "memory");
-    builder.extend_from_slice(values).expect(rt, "memory");
-    builder
-        .extend_constant(2, values.first().copied())
-        .expect(rt, "memory");
-    builder.pop();
-}
-
-/// Whether a builder of one slot, after eight more are appended in each way, four of them null, freezes to an array of
-/// these slots.
-fn grows<T: NativeType>(
-    alloc: Global,
-    rt: &impl Abort,
-    first: &[Option<T>],
-    null: &[Option<T>],
-    value: &[T],
-) -> bool {
-    let mut builder = MutablePrimitiveArray::<T>::from(alloc, first).expect(rt, "memory");
-    push_each(rt, &mut builder, value.first().copied());
-    extend_each(rt, &mut builder, null, value);
+    let builder = MutablePrimitiveArray::<T>::from(rt.alloc(), [Some(first)].as_slice());
+    let mut builder = builder.expect(rt, "memory");
+    append! { builder, rt;
+        push(Some(value));
+        try_push(None);
+        push_null();
+        extend([None].into_iter());
+        try_extend([None].into_iter());
+        extend_values([value].into_iter());
+        extend_from_slice([value].as_slice());
+        extend_constant(2, Some(value));
+    }
+    let popped = builder.pop();
+    assert_text::value(popped, Some(value)).expect(rt, "pop");
     builder.apply_values(same_values::<T>);
-    let is_grown = builder.len() == 9;
-    is_grown & counts(builder.freeze().expect(rt, "memory"), 9, 4)
+    let expected = [first, value, zero, zero, zero, zero, value, value, value];
+    check(
+        rt,
+        "grown and frozen",
+        builder.freeze(),
+        expected,
+        "110000111",
+    );
 }
 
 #[test]
-fn builders_of_slots(rt: HostRuntime) {
-    let narrow = grows::<i32>(
-        rt.alloc(),
-        &rt,
-        [Some(2)].as_slice(),
-        [None].as_slice(),
-        [1].as_slice(),
-    );
-    let (first, value) = ([Some(i256(1, 2))], [i256(0, 1)]);
-    let wide = grows::<i256>(
-        rt.alloc(),
-        &rt,
-        first.as_slice(),
-        [None].as_slice(),
-        value.as_slice(),
-    );
-    assert!(rt; narrow & wide);
+fn builders_with_a_mask_grow_and_freeze(rt: HostRuntime) {
+    check_growth::<i32>(&rt, [2, 1, 0]);
+    check_growth(&rt, [i256(1, 2), i256(0, 1), i256(0, 0)]);
 }
 
-/// Changes the first slot, where there is one, and the room.
-fn change<T: NativeType>(rt: &impl Abort, builder: &mut MutablePrimitiveArray<T>, value: T) {
-    if builder.len() > 0 {
-        builder.set(0, Some(value)).expect(rt, "memory");
+#[test]
+fn the_first_null_makes_a_mask(rt: HostRuntime) {
+    let mut builder = MutablePrimitiveArray::<i64>::default(rt.alloc());
+    append! { builder, &rt;
+        extend_values([1].into_iter());
+        extend_from_slice([2].as_slice());
+        extend_constant(1, Some(3));
+        extend([Some(4), None].into_iter());
+        try_extend([Some(6)].into_iter());
+        extend_constant(2, None);
+        extend_from_slice([9].as_slice());
     }
+    let expected = [1, 2, 3, 4, 0, 6, 0, 0, 9];
+    check_builder(&rt, "by extending", Ok(builder), expected, "111101001");
+    let mut builder = MutablePrimitiveArray::<i64>::new(rt.alloc());
+    for slot in [Some(1), None, Some(2)] {
+        builder.push(slot).expect(&rt, "memory");
+    }
+    check_builder(&rt, "by push", builder.clone(), [1, 0, 2], "101");
+    check(&rt, "by push, frozen", builder.freeze(), [1, 0, 2], "101");
+}
+
+#[test]
+fn set_makes_a_mask_for_a_null(rt: HostRuntime) {
+    let mut builder = growing::<i64, 3>(&rt, [1, 2, 3]);
+    assert!(rt; builder.len() == 3);
+    builder.set(1, None).expect(&rt, "memory");
+    check_builder(&rt, "a null", builder.clone(), [1, 0, 3], "101");
+    assert!(rt; builder.len() == 3);
+    builder.set(1, Some(7)).expect(&rt, "memory");
+    check_builder(&rt, "overwritten", Ok(builder), [1, 7, 3], "111");
+}
+
+#[test]
+fn a_mask_without_a_null_is_dropped_by_freeze(rt: HostRuntime) {
+    let mut builder = growing::<i64, 1>(&rt, [1]);
+    builder.extend_constant(0, None).expect(&rt, "memory");
+    check_builder(&rt, "no null appended", builder.clone(), [1], "1");
+    check(&rt, "no null appended", builder.freeze(), [1], "none");
+    let mut builder = MutablePrimitiveArray::<i64>::new(rt.alloc());
+    builder.push(None).expect(&rt, "memory");
+    assert!(rt; builder.len() == 1);
+    builder.set(0, Some(7)).expect(&rt, "memory");
+    check_builder(&rt, "overwritten", builder.clone(), [7], "1");
+    check(&rt, "overwritten", builder.freeze(), [7], "none");
+}
+
+/// Compares the copy of a builder of a value that replaced a null, and of another builder's value.
+fn check_copy<T: NativeType + Debug>(rt: &(impl Abort + AllocGlobal), value: T, other: T) {
+    let builder = MutablePrimitiveArray::<T>::from_iter(rt.alloc(), [None].into_iter());
+    let mut builder = builder.expect(rt, "memory");
+    assert!(rt; builder.len() == 1);
+    builder.set(0, Some(value)).expect(rt, "memory");
     builder.reserve(9).expect(rt, "memory");
     builder.shrink_to_fit().expect(rt, "memory");
-}
-
-/// Whether a builder of two slots begins with this value, and holds a mask.
-fn is_pair<T: NativeType>(builder: MutablePrimitiveArray<T>, value: T) -> bool {
-    let is_first = builder.iter().next() == Some(Some(&value));
-    let has_parts = (builder.values().len() == 2) & builder.validity().is_some();
-    let is_stored = builder.values_iter().next() == Some(&value);
-    let has_room = 2 <= builder.capacity();
-    drop(builder);
-    is_first & has_parts & is_stored & has_room
-}
-
-/// Whether the copy of a builder of a null, which was replaced, that took the slots of a builder of these values has
-/// both.
-fn changes<T: NativeType>(
-    alloc: Global,
-    rt: &impl Abort,
-    null: &[Option<T>],
-    value: T,
-    other: &[T],
-) -> bool {
-    let builder = MutablePrimitiveArray::<T>::from_iter(alloc, null.iter().copied());
-    let mut builder = builder.expect(rt, "memory");
-    let other = MutablePrimitiveArray::<T>::from_slice(alloc, other).expect(rt, "memory");
-    change(rt, &mut builder, value);
-    builder.try_extend_from_self(&other).expect(rt, "memory");
-    drop(other);
+    let second = growing(rt, [other]);
+    builder.try_extend_from_self(&second).expect(rt, "memory");
+    drop(second);
     let copy = builder.clone().expect(rt, "memory");
     drop(builder);
-    is_pair(copy, value)
+    assert_text::value(copy.capacity().min(2), 2).expect(rt, "a capacity of at least 2");
+    check_builder(rt, "the clone", Ok(copy), [value, other], "11");
 }
 
 #[test]
-fn builders_of_other_slots(rt: HostRuntime) {
-    let narrow = changes::<i32>(rt.alloc(), &rt, [None].as_slice(), 2, [1].as_slice());
-    let (value, other) = (i256(1, 2), [i256(0, 1)]);
-    let wide = changes::<i256>(rt.alloc(), &rt, [None].as_slice(), value, other.as_slice());
-    assert!(rt; narrow & wide);
-}
-
-/// Whether a builder has no slot, and the default type.
-fn is_new<T: NativeType>(builder: MutablePrimitiveArray<T>) -> bool {
-    let (data_type, values, validity) = builder.into_inner();
-    let is_typed = is_default::<T>(&data_type);
-    let has_no_part = (values.len() == 0) & validity.is_none();
-    drop(validity);
-    drop(values);
-    drop(data_type);
-    is_typed & has_no_part
-}
-
-/// Whether new builders have none.
-fn begins<T: NativeType>(alloc: Global, rt: &impl Abort) -> bool {
-    let typed = MutablePrimitiveArray::<T>::from_data_type(alloc, T::PRIMITIVE.default_data_type());
-    let is_typed = is_new(typed.to(T::PRIMITIVE.default_data_type()));
-    let is_default = is_new(MutablePrimitiveArray::<T>::default(alloc));
-    let data_type = T::PRIMITIVE.default_data_type();
-    let roomy = MutablePrimitiveArray::<T>::with_capacity_from(alloc, 1, data_type);
-    is_typed & is_default & is_new(roomy.expect(rt, "memory"))
+fn clones_have_the_slots_of_both_builders(rt: HostRuntime) {
+    check_copy::<i32>(&rt, 2, 1);
+    check_copy(&rt, i256(1, 2), i256(0, 1));
 }
 
 #[test]
-fn new_builders(rt: HostRuntime) {
-    assert!(rt; begins::<i32>(rt.alloc(), &rt) & begins::<i256>(rt.alloc(), &rt));
+fn pops_come_from_the_last_to_the_first(rt: HostRuntime) {
+    let slots = [None, Some(7), None];
+    let builder = MutablePrimitiveArray::<i64>::from(rt.alloc(), slots.as_slice());
+    let mut builder = builder.expect(&rt, "memory");
+    let popped = [builder.pop(), builder.pop(), builder.pop(), builder.pop()];
+    check_builder(&rt, "after the pops", Ok(builder), [], "");
+    assert_text::value(popped, [None, Some(7), None, None]).expect(&rt, "of [_ 7 _]");
+}
+
+/// Reverses the values.
+fn reversed(values: Vec<i64>) -> Vec<i64>
+    ensures { vec_len result ≡ vec_len values }
+{
+    let mut values = values;
+    values.reverse();
+    values
+}
+
+#[test]
+fn values_are_changed_in_place(rt: HostRuntime) {
+    let values = [1, 2, 3].to_vec(rt.alloc()).expect(&rt, "memory");
+    let mut builder = MutablePrimitiveArray::<i64>::from_vec(values);
+    builder.apply_values(reversed);
+    assert_text::slots(builder.iter(), "[3 2 1]").expect(&rt, "apply_values");
+    assert!(rt; builder.len() == 3);
+    builder.values_mut_slice()[0] = 7;
+    check_builder(&rt, "values_mut_slice", Ok(builder), [7, 2, 1], "none");
+}
+
+#[test]
+fn capacity_is_reserved_and_given_back(rt: HostRuntime) {
+    let builder = MutablePrimitiveArray::<i64>::with_capacity(rt.alloc(), 1000);
+    let mut builder = builder.expect(&rt, "memory");
+    assert_text::value(builder.capacity().min(1000), 1000).expect(
+        &rt,
+        "at least 1000 by with_capacity",
+    );
+    builder.shrink_to_fit().expect(&rt, "memory");
+    assert_text::value(builder.capacity().max(999), 999).expect(
+        &rt,
+        "at most 999 by shrink_to_fit",
+    );
+    builder.reserve(1000).expect(&rt, "memory");
+    assert_text::value(builder.capacity().min(1000), 1000).expect(&rt, "at least 1000 by reserve");
+    drop(builder);
+}
+
+#[test]
+fn stored_values_of_nulls_are_not_compared(rt: HostRuntime) {
+    let slots = [("a null that stores 0", None, true), ("9", Some(9), false)];
+    for (case, second, expected) in slots {
+        let slots = [Some(1), second];
+        let left = MutablePrimitiveArray::<i64>::from(rt.alloc(), slots.as_slice());
+        let left = left.expect(&rt, "memory");
+        let mask = growing_mask(rt.alloc(), "10").expect(&rt, "memory");
+        let values = [1, 9].to_vec(rt.alloc()).expect(&rt, "memory");
+        let right = MutablePrimitiveArray::<i64>::try_new(DataType::Int64, values, mask);
+        let right = right.expect(&rt, "parts that fit");
+        let are_equal = left == right;
+        drop(right);
+        drop(left);
+        assert_text::value(are_equal, expected).expect(&rt, case);
+    }
 }

@@ -1,3 +1,4 @@
+//! Types by their names, and data types.
 use super::*;
 use arrow_primitive::{
     DaysMsArray, DaysMsVec, Int8Array, Int8Vec, Int16Array, Int16Vec, Int32Array, Int32Vec,
@@ -5,113 +6,82 @@ use arrow_primitive::{
     MonthsDaysNsVec, UInt8Array, UInt8Vec, UInt16Array, UInt16Vec, UInt32Array, UInt32Vec,
     UInt64Array, UInt64Vec,
 };
-use arrow_types::error::Error;
-use arrow_types::native_type::NativeType;
 use arrow_types::units::IntervalUnit;
 
-/// Whether a builder and an array are of a type.
-fn are_of<T: NativeType>(
+/// Compares the types of an array and of a builder, and drops them.
+fn check_types<T: NativeType>(
     rt: &impl Abort,
+    case: &str,
+    array: PrimitiveArray<T>,
     builder: MutablePrimitiveArray<T>,
-    array: Result<PrimitiveArray<T>, Error>,
-    data_type: DataType,
-) -> bool {
-    let array = array.expect(rt, "memory");
-    let are_of = (*builder.data_type() == data_type) & (*array.data_type() == data_type);
+    expected: DataType,
+) {
+    let came = (array.data_type(), builder.data_type());
+    assert_text::value(came, (&expected, &expected)).expect(rt, case);
+    drop(expected);
     drop(builder);
     drop(array);
-    drop(data_type);
-    are_of
 }
 
 #[test]
-fn names_of_signed_numbers(rt: HostRuntime) {
-    let alloc = rt.alloc();
-    let is_8 = are_of(
-        &rt,
-        Int8Vec::new(alloc),
-        Int8Array::default(alloc),
-        DataType::Int8,
-    );
-    let is_16 = are_of(
-        &rt,
-        Int16Vec::new(alloc),
-        Int16Array::default(alloc),
-        DataType::Int16,
-    );
-    let is_32 = are_of(
-        &rt,
-        Int32Vec::new(alloc),
-        Int32Array::default(alloc),
-        DataType::Int32,
-    );
-    let is_64 = are_of(
-        &rt,
-        Int64Vec::new(alloc),
-        Int64Array::default(alloc),
-        DataType::Int64,
-    );
-    assert!(rt; is_8 & is_16 & is_32 & is_64);
-}
-
-#[test]
-fn names_of_unsigned_numbers(rt: HostRuntime) {
-    let alloc = rt.alloc();
-    let is_8 = are_of(
-        &rt,
-        UInt8Vec::new(alloc),
-        UInt8Array::default(alloc),
-        DataType::UInt8,
-    );
-    let is_16 = are_of(
-        &rt,
-        UInt16Vec::new(alloc),
-        UInt16Array::default(alloc),
-        DataType::UInt16,
-    );
-    let is_32 = are_of(
-        &rt,
-        UInt32Vec::new(alloc),
-        UInt32Array::default(alloc),
-        DataType::UInt32,
-    );
-    let is_64 = are_of(
-        &rt,
-        UInt64Vec::new(alloc),
-        UInt64Array::default(alloc),
-        DataType::UInt64,
-    );
-    assert!(rt; is_8 & is_16 & is_32 & is_64);
-}
-
-#[test]
-fn names_of_wide_numbers_and_spans_of_time(rt: HostRuntime) {
-    let alloc = rt.alloc();
-    let narrow = DataType::Decimal(32, 32);
-    let is_128 = are_of(
-        &rt,
-        Int128Vec::new(alloc),
-        Int128Array::default(alloc),
-        narrow,
-    );
-    let whole = DataType::Decimal256(32, 32);
-    let is_256 = are_of(
-        &rt,
-        Int256Vec::new(alloc),
-        Int256Array::default(alloc),
-        whole,
-    );
-    let days = DataType::Interval(IntervalUnit::DayTime);
-    let is_days = are_of(
-        &rt,
-        DaysMsVec::new(alloc),
-        DaysMsArray::default(alloc),
-        days,
+fn named_arrays_and_builders_have_their_type(rt: HostRuntime) {
+    macro_rules! check_names {
+        ($array:ident, $builder:ident, $data_type:expr) => {
+            let array = $array::default(rt.alloc()).expect(&rt, "memory");
+            let builder = $builder::new(rt.alloc());
+            check_types(&rt, stringify!($array), array, builder, $data_type);
+        };
+    }
+    check_names!(Int8Array, Int8Vec, DataType::Int8);
+    check_names!(Int16Array, Int16Vec, DataType::Int16);
+    check_names!(Int32Array, Int32Vec, DataType::Int32);
+    check_names!(Int64Array, Int64Vec, DataType::Int64);
+    check_names!(UInt8Array, UInt8Vec, DataType::UInt8);
+    check_names!(UInt16Array, UInt16Vec, DataType::UInt16);
+    check_names!(UInt32Array, UInt32Vec, DataType::UInt32);
+    check_names!(UInt64Array, UInt64Vec, DataType::UInt64);
+    check_names!(Int128Array, Int128Vec, DataType::Decimal(32, 32));
+    check_names!(Int256Array, Int256Vec, DataType::Decimal256(32, 32));
+    check_names!(
+        DaysMsArray,
+        DaysMsVec,
+        DataType::Interval(IntervalUnit::DayTime)
     );
     let months = DataType::Interval(IntervalUnit::MonthDayNano);
-    let (builder, array) = (
-        MonthsDaysNsVec::new(alloc),
-        MonthsDaysNsArray::default(alloc),
+    check_names!(MonthsDaysNsArray, MonthsDaysNsVec, months);
+}
+
+#[test]
+fn arrays_and_builders_keep_the_type_that_they_are_given(rt: HostRuntime) {
+    let values = buffer(&rt, &[]);
+    let array = PrimitiveArray::<i32>::new(DataType::Int32, values, None);
+    let builder = MutablePrimitiveArray::from_data_type(rt.alloc(), DataType::Int32);
+    check_types(&rt, "the default type", array, builder, DataType::Int32);
+    let values = buffer(&rt, &[]);
+    let array = PrimitiveArray::<i64>::new(DataType::Date64, values, None);
+    let builder = MutablePrimitiveArray::from_data_type(rt.alloc(), DataType::Date64);
+    check_types(&rt, "new, from_data_type", array, builder, DataType::Date64);
+    let array = PrimitiveArray::<i64>::default(rt.alloc()).expect(&rt, "memory");
+    let builder = MutablePrimitiveArray::with_capacity_from(rt.alloc(), 1, DataType::Date64);
+    let (array, builder) = (array.to(DataType::Date64), builder.expect(&rt, "memory"));
+    check_types(
+        &rt,
+        "to, with_capacity_from",
+        array,
+        builder,
+        DataType::Date64,
     );
-    assert!(rt; is_128 & is_256 & is_days & are_of(&rt, builder, array, months));
+}
+
+#[test]
+fn values_stay_under_another_type(rt: HostRuntime) {
+    let array = growing::<i32, 2>(&rt, [1, 2])
+        .freeze()
+        .expect(&rt, "memory");
+    let dates = array.to(DataType::Date32);
+    let numbers = dates.clone().expect(&rt, "memory").to(DataType::Int32);
+    assert_text::value(dates.data_type(), &DataType::Date32).expect(&rt, "dates");
+    assert_text::slots(dates.iter(), "[1 2]").expect(&rt, "dates");
+    drop(dates);
+    check(&rt, "numbers", Ok(numbers), [1, 2], "none");
 }

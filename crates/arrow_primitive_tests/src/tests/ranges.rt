@@ -1,49 +1,44 @@
 //! Iterators over a range of slots.
 use super::*;
-use arrow_types::native_type::{NativeType, i256};
 
-/// Returns whether a range of an array has these slots, from both ends.
-fn has<T: NativeType>(array: &PrimitiveArray<T>, offset: usize, slots: &[Option<T>]) -> bool {
-    let len = slots.len();
-    if array.len() < offset || array.len() - offset < len {
-        return false;
-    }
-    let (mut part, mut back) = (array.iter_range(offset, len), array.iter_range(offset, len));
-    let mut are_slots = part.size_hint() == (len, Some(len));
-    for i in 0..len {
-        are_slots &= part.next() == Some(slots[i].as_ref());
-        are_slots &= back.next_back() == Some(slots[len - 1 - i].as_ref());
-    }
-    are_slots & part.next().is_none() & back.next_back().is_none()
-}
+/// A name, where a slice of the array and a range of that slice begin, and the length of the range.
+const RANGES: &[(&str, usize, usize, usize)] = &[
+    ("all", 0, 0, 5),
+    ("in the middle", 0, 1, 3),
+    ("at the end", 0, 2, 3),
+    ("none", 0, 0, 0),
+    ("none at the end", 0, 5, 0),
+    ("all of a slice", 1, 0, 4),
+    ("in a slice", 1, 2, 1),
+];
 
-/// Returns whether ranges of an array of five slots, and of its last four, have the right slots.
-fn are_parts<T: NativeType>(
-    rt: &impl Abort,
-    mut array: PrimitiveArray<T>,
-    slots: &[Option<T>; 5],
-) -> bool {
-    assert!(rt; array.len() == 5);
-    let slots = slots.as_slice();
-    let are_whole = has(&array, 0, slots) & has(&array, 1, &slots[1..4]);
-    let are_none = has(&array, 0, &slots[..0]) & has(&array, 5, &slots[..0]);
-    let is_end = has(&array, 2, &slots[2..]);
-    array.slice(1, 4);
-    let are_cut = has(&array, 0, &slots[1..]) & has(&array, 2, &slots[3..4]);
-    drop(array);
-    are_whole & is_end & are_none & are_cut
+/// Compares ranges of an array of these slots from both ends.
+fn check_ranges<T: NativeType + Debug>(rt: &(impl Abort + AllocGlobal), slots: [Option<T>; 5]) {
+    for (case, start, offset, len) in RANGES {
+        let (start, offset, len) = (*start, *offset, *len);
+        let array = PrimitiveArray::<T>::from(rt.alloc(), slots.as_slice());
+        let mut array = array.expect(rt, "memory");
+        assert!(rt; start <= 5 && array.len() == 5);
+        array.slice(start, 5 - start);
+        assert!(rt; offset <= array.len() && len <= array.len() - offset);
+        let (mut front, mut back) = (array.iter_range(offset, len), array.iter_range(offset, len));
+        assert_text::value(front.size_hint(), (len, Some(len))).expect(rt, *case);
+        for i in 0..len {
+            let came = (front.next(), back.next_back());
+            let (first, last) = (start + offset + i, start + offset + len - 1 - i);
+            assert!(rt; first < 5 && last < 5);
+            let expected = (Some(slots[first].as_ref()), Some(slots[last].as_ref()));
+            assert_text::value(came, expected).expect(rt, *case);
+        }
+        assert_text::value((front.next(), back.next_back()), (None, None)).expect(rt, *case);
+        drop(array);
+    }
 }
 
 #[test]
-fn parts_of_arrays(rt: HostRuntime) {
-    let slots = [Some(1), None, Some(3), Some(4), None];
-    let array = PrimitiveArray::<i64>::from(rt.alloc(), slots.as_slice());
-    let narrow = are_parts(&rt, array.expect(&rt, "memory"), &slots);
-    let (first, last) = (i256(0, 1), i256(-1, 2));
-    let slots = [None, Some(first), Some(last), None, Some(first)];
-    let array = PrimitiveArray::<i256>::from(rt.alloc(), slots.as_slice());
-    let wide = are_parts(&rt, array.expect(&rt, "memory"), &slots);
-    let array = PrimitiveArray::<i64>::from_slice(rt.alloc(), [5, 6, 7, 8, 9].as_slice());
-    let slots = [Some(5), Some(6), Some(7), Some(8), Some(9)];
-    assert!(rt; narrow & wide & are_parts(&rt, array.expect(&rt, "memory"), &slots));
+fn ranges_are_read_from_both_ends(rt: HostRuntime) {
+    check_ranges::<i64>(&rt, [Some(1), None, Some(3), Some(4), None]);
+    let (first, last) = (Some(i256(0, 1)), Some(i256(-1, 2)));
+    check_ranges(&rt, [None, first, last, None, first]);
+    check_ranges::<i64>(&rt, [Some(5), Some(6), Some(7), Some(8), Some(9)]);
 }
