@@ -177,6 +177,9 @@ fn builders_grow_by_iterators(rt: HostRuntime) {
     let none = MutableBooleanArray::default(rt.alloc());
     check_builder(&rt, "default", &none, "", "", "none");
     drop(none);
+    let none = MutableBooleanArray::from_slice(rt.alloc(), &[]).expect(&rt, "memory");
+    check_builder(&rt, "from_slice of none", &none, "", "", "none");
+    drop(none);
 }
 
 /// A name, the slots of two builders, and those of the first after it took the second's.

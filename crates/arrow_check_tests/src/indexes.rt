@@ -1,6 +1,7 @@
 //! Keys that point at items.
 use arrow_check::indexes::{check_indexes, check_slots};
-use arrow_testing::{assert_text, frozen_mask, tells};
+use arrow_memory::bitmap::Bitmap;
+use arrow_testing::{assert_text, tells};
 use arrow_types::index_key::IndexKey;
 use std::process::Abort;
 
@@ -26,19 +27,33 @@ fn keys_of_every_sign_and_width_are_checked(rt: HostRuntime) {
 }
 
 /// A name, keys, their marks, and the expected answer of `check_slots` for three items.
-const SLOTS: &[(&str, [i32; 4], &str, &str)] = &[
-    ("nulls under both faults", [2, 9, 0, -1], "1010", "made"),
-    ("a null under one fault", [2, 9, 0, -1], "1011", NO_INDEX),
-    ("no null", [2, 9, 0, -1], "1111", PAST),
-    ("a null under the first", [-1, 0, 3, -1], "0111", PAST),
-    ("nulls alone", [3, -1, 9, -7], "0000", "made"),
+const SLOTS: &[(&str, [i32; 4], [bool; 4], &str)] = &[
+    (
+        "nulls under both faults",
+        [2, 9, 0, -1],
+        [true, false, true, false],
+        "made",
+    ),
+    (
+        "a null under one fault",
+        [2, 9, 0, -1],
+        [true, false, true, true],
+        NO_INDEX,
+    ),
+    ("no null", [2, 9, 0, -1], [true; 4], PAST),
+    (
+        "a null under the first fault",
+        [-1, 0, 3, -1],
+        [false, true, true, true],
+        PAST,
+    ),
+    ("nulls alone", [3, -1, 9, -7], [false; 4], "made"),
 ];
 
 #[test]
 fn keys_of_nulls_are_not_checked(rt: HostRuntime) {
     for (case, keys, marks, expected) in SLOTS {
-        let validity = frozen_mask(rt.alloc(), *marks).expect(&rt, "memory");
-        let validity = validity.expect(&rt, "a mask");
+        let validity = Bitmap::from_slice(rt.alloc(), marks.as_slice()).expect(&rt, "memory");
         assert!(rt; validity.len() == 4);
         let came = tells(check_slots(keys.as_slice(), Some(&validity), 3));
         drop(validity);
@@ -52,8 +67,5 @@ fn keys_without_a_mask_are_checked(rt: HostRuntime) {
         tells(check_slots([0_u8, 3].as_slice(), None, 3)),
         tells(check_slots([0_u8, 2].as_slice(), None, 3)),
     ];
-    assert_text::value(came, [PAST, "made"]).expect(
-        &rt,
-        "no mask, one past the items and the last",
-    );
+    assert_text::value(came, [PAST, "made"]).expect(&rt, "one past the items, the last item");
 }

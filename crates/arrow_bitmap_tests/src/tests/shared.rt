@@ -17,15 +17,19 @@ fn marks_that_were_cut_off_do_not_come_back(rt: HostRuntime) {
 }
 
 #[test]
-fn zeroed_marks_are_clear(rt: HostRuntime) {
+fn zeroed_marks_are_clear_and_thaw(rt: HostRuntime) {
     let zeroed = Bitmap::new_zeroed(rt.alloc(), 70).expect(&rt, "memory");
     let came = (zeroed.len(), zeroed.unset_bits(), zeroed.is_empty());
-    drop(zeroed);
-    assert_text::value(came, (70, 70, false)).expect(&rt, "new_zeroed");
+    let thawed = zeroed.into_mut().right().expect(&rt, "marks alone thaw");
+    let is_empty = thawed.is_empty();
+    drop(thawed);
+    assert_text::value((came, is_empty), ((70, 70, false), false)).expect(&rt, "new_zeroed");
     let none = Bitmap::new(rt.alloc()).expect(&rt, "memory");
     let came = (none.len(), none.unset_bits(), none.is_empty());
-    drop(none);
-    assert_text::value(came, (0, 0, true)).expect(&rt, "new");
+    let thawed = none.into_mut().right().expect(&rt, "no mark thaws");
+    let is_empty = thawed.is_empty();
+    drop(thawed);
+    assert_text::value((came, is_empty), ((0, 0, true), true)).expect(&rt, "new");
 }
 
 #[test]
