@@ -15,11 +15,6 @@ use arrow_types::native_type::{NativeType, i256};
 use std::fmt::Debug;
 use std::process::Abort;
 
-/// Numbers of two parts.
-const WIDE: [i256; 3] = [i256(0, 1), i256(1, 2), i256(1, 0)];
-
-const OTHER_WIDE: [i256; 3] = [i256(2, 0), i256(0, 5), i256(6, 6)];
-
 /// Compares all reads of an array with the default type, stored values and marks, and drops it.
 fn check<T: NativeType + Debug, const N: usize>(
     rt: &impl Abort,
