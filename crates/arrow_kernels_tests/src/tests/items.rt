@@ -39,8 +39,8 @@ pub(super) fn check<K: ByteKind, O: Offset>(
     let numbers = numbers.filter_map(|offset| offset.try_to_usize());
     let numbers: Vec<usize> = numbers.collect(rt.alloc()).expect(rt, "memory");
     let data_type = K::default_type(O::IS_LARGE);
-    let came = (array.data_type(), numbers.as_slice());
-    assert_text::value(came, (&data_type, offsets)).expect(rt, case);
+    assert_text::value(array.data_type(), &data_type).expect(rt, case);
+    assert_text::value(numbers.as_slice(), offsets).expect(rt, case);
     assert_text::value(array.values().as_slice(), bytes).expect(rt, case);
     assert_text::mask(array.validity(), mask).expect(rt, case);
     drop(data_type);

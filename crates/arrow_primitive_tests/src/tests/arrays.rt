@@ -3,7 +3,8 @@ use super::*;
 
 /// Compares what each constructor makes of a value, and of nulls, which store zero.
 fn check_constructors<T: NativeType + Debug>(rt: &(impl Abort + AllocGlobal), value: T, zero: T) {
-    let (alloc, slots) = (rt.alloc(), [Some(value)]);
+    let alloc = rt.alloc();
+    let slots = [Some(value)];
     let array = PrimitiveArray::<T>::default(alloc);
     check(rt, "default", array, [], "none");
     let array = PrimitiveArray::<T>::new_empty(alloc, T::PRIMITIVE.default_data_type());

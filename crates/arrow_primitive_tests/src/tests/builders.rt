@@ -14,7 +14,8 @@ macro_rules! append {
 
 /// Compares what each constructor makes.
 fn check_constructors<T: NativeType + Debug>(rt: &(impl Abort + AllocGlobal), value: T) {
-    let (alloc, slots) = (rt.alloc(), [Some(value)]);
+    let alloc = rt.alloc();
+    let slots = [Some(value)];
     let builder = MutablePrimitiveArray::<T>::default(alloc);
     check_builder(rt, "default", Ok(builder), [], "none");
     let data_type = T::PRIMITIVE.default_data_type();
