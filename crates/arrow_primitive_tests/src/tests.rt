@@ -15,11 +15,6 @@ use arrow_types::native_type::{NativeType, i256};
 use std::fmt::Debug;
 use std::process::Abort;
 
-/// Numbers of two parts.
-const WIDE: [i256; 3] = [i256(0, 1), i256(1, 2), i256(1, 0)];
-
-const OTHER_WIDE: [i256; 3] = [i256(2, 0), i256(0, 5), i256(6, 6)];
-
 /// Compares all reads of an array with the default type, stored values and marks, and drops it.
 fn check<T: NativeType + Debug, const N: usize>(
     rt: &impl Abort,
@@ -29,9 +24,10 @@ fn check<T: NativeType + Debug, const N: usize>(
     mask: &str,
 ) {
     let array = answer.expect(rt, case);
-    let (data_type, marks) = (T::PRIMITIVE.default_data_type(), mask.as_bytes());
-    let came = (array.data_type(), array.values().as_slice());
-    assert_text::value(came, (&data_type, values.as_slice())).expect(rt, case);
+    let (values, marks) = (values.as_slice(), mask.as_bytes());
+    let data_type = T::PRIMITIVE.default_data_type();
+    assert_text::value(array.data_type(), &data_type).expect(rt, case);
+    assert_text::value(array.values().as_slice(), values).expect(rt, case);
     drop(data_type);
     assert_text::mask(array.validity(), mask).expect(rt, case);
     let nulls = marks.iter().filter(|mark| **mark == b'0').count();
@@ -42,15 +38,11 @@ fn check<T: NativeType + Debug, const N: usize>(
     for i in 0..N {
         let is_valid = marks.get(i) != Some(&b'0');
         let slot = if is_valid { Some(values[i]) } else { None };
-        let came = (
-            array.get(i),
-            array.value(i),
-            array.is_valid(i),
-            array.is_null(i),
-        );
-        assert_text::value(came, (slot, values[i], is_valid, !is_valid)).expect(rt, case);
-        let came = (slots.next(), stored.next());
-        assert_text::value(came, (Some(slot.as_ref()), Some(&values[i]))).expect(rt, case);
+        let marked = (array.is_valid(i), array.is_null(i));
+        assert_text::value(marked, (is_valid, !is_valid)).expect(rt, case);
+        assert_text::value((array.get(i), array.value(i)), (slot, values[i])).expect(rt, case);
+        assert_text::value(slots.next(), Some(slot.as_ref())).expect(rt, case);
+        assert_text::value(stored.next(), Some(&values[i])).expect(rt, case);
     }
     drop(array);
 }
@@ -64,9 +56,10 @@ fn check_builder<T: NativeType + Debug, const N: usize>(
     mask: &str,
 ) {
     let builder = answer.expect(rt, case);
-    let (data_type, marks) = (T::PRIMITIVE.default_data_type(), mask.as_bytes());
-    let came = (builder.data_type(), builder.values().as_slice());
-    assert_text::value(came, (&data_type, values.as_slice())).expect(rt, case);
+    let (values, marks) = (values.as_slice(), mask.as_bytes());
+    let data_type = T::PRIMITIVE.default_data_type();
+    assert_text::value(builder.data_type(), &data_type).expect(rt, case);
+    assert_text::value(builder.values().as_slice(), values).expect(rt, case);
     drop(data_type);
     assert_text::growing_mask(builder.validity(), mask).expect(rt, case);
     let nulls = marks.iter().filter(|mark| **mark == b'0').count();
@@ -77,14 +70,10 @@ fn check_builder<T: NativeType + Debug, const N: usize>(
     for i in 0..N {
         let is_valid = marks.get(i) != Some(&b'0');
         let slot = if is_valid { Some(values[i]) } else { None };
-        let came = (
-            builder.get(i),
-            builder.is_null(i),
-            slots.next(),
-            stored.next(),
-        );
-        let expected = (slot, !is_valid, Some(slot.as_ref()), Some(&values[i]));
-        assert_text::value(came, expected).expect(rt, case);
+        let came = (builder.get(i), builder.is_null(i));
+        assert_text::value(came, (slot, !is_valid)).expect(rt, case);
+        assert_text::value(slots.next(), Some(slot.as_ref())).expect(rt, case);
+        assert_text::value(stored.next(), Some(&values[i])).expect(rt, case);
     }
     drop(builder);
 }

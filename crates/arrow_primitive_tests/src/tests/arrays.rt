@@ -3,14 +3,10 @@ use super::*;
 
 /// Compares what each constructor makes of a value, and of nulls, which store zero.
 fn check_constructors<T: NativeType + Debug>(rt: &(impl Abort + AllocGlobal), value: T, zero: T) {
-    let (alloc, slots) = (rt.alloc(), [Some(value)]);
-    check(
-        rt,
-        "default",
-        PrimitiveArray::<T>::default(alloc),
-        [],
-        "none",
-    );
+    let alloc = rt.alloc();
+    let slots = [Some(value)];
+    let array = PrimitiveArray::<T>::default(alloc);
+    check(rt, "default", array, [], "none");
     let array = PrimitiveArray::<T>::new_empty(alloc, T::PRIMITIVE.default_data_type());
     check(rt, "new_empty", array, [], "none");
     let array = PrimitiveArray::<T>::new_null(alloc, T::PRIMITIVE.default_data_type(), 3);
@@ -24,13 +20,8 @@ fn check_constructors<T: NativeType + Debug>(rt: &(impl Abort + AllocGlobal), va
     let array = PrimitiveArray::<T>::from_slice(alloc, [value].as_slice());
     check(rt, "from_slice", array, [value], "none");
     let vec = [value].to_vec(alloc).expect(rt, "memory");
-    check(
-        rt,
-        "from_vec",
-        PrimitiveArray::<T>::from_vec(vec),
-        [value],
-        "none",
-    );
+    let array = PrimitiveArray::<T>::from_vec(vec);
+    check(rt, "from_vec", array, [value], "none");
     let array = PrimitiveArray::<T>::from_values(alloc, [value].into_iter());
     let array = array.expect(rt, "memory");
     let copy = array.clone();
@@ -53,13 +44,7 @@ fn slices_count_their_own_nulls(rt: HostRuntime) {
     assert!(rt; array.len() == 5);
     array.slice(1, 3);
     check(&rt, "one null", array.clone(), [6, 0, 8], "101");
-    check(
-        &rt,
-        "no null, under a mask",
-        Ok(array.sliced(2, 1)),
-        [8],
-        "1",
-    );
+    check(&rt, "no null", Ok(array.sliced(2, 1)), [8], "1");
 }
 
 /// Writes at the first index, if there is one.

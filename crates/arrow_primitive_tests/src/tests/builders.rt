@@ -14,7 +14,8 @@ macro_rules! append {
 
 /// Compares what each constructor makes.
 fn check_constructors<T: NativeType + Debug>(rt: &(impl Abort + AllocGlobal), value: T) {
-    let (alloc, slots) = (rt.alloc(), [Some(value)]);
+    let alloc = rt.alloc();
+    let slots = [Some(value)];
     let builder = MutablePrimitiveArray::<T>::default(alloc);
     check_builder(rt, "default", Ok(builder), [], "none");
     let data_type = T::PRIMITIVE.default_data_type();
@@ -29,13 +30,7 @@ fn check_constructors<T: NativeType + Debug>(rt: &(impl Abort + AllocGlobal), va
     let builder = MutablePrimitiveArray::<T>::from(alloc, slots.as_slice());
     check_builder(rt, "from", builder, [value], "1");
     check_builder(rt, "from_slice", Ok(growing(rt, [value])), [value], "none");
-    check_builder(
-        rt,
-        "from_slice of none",
-        Ok(growing::<T, 0>(rt, [])),
-        [],
-        "none",
-    );
+    check_builder(rt, "none", Ok(growing::<T, 0>(rt, [])), [], "none");
 }
 
 #[test]
@@ -53,10 +48,8 @@ fn same_values<T: NativeType>(values: Vec<T>) -> Vec<T>
 }
 
 /// Compares a builder to which slots are appended by each call, and one of which is popped, once frozen.
-fn check_growth<T: NativeType + Debug>(
-    rt: &(impl Abort + AllocGlobal),
-    [first, value, zero]: [T; 3],
-) {
+fn check_growth<T: NativeType + Debug>(rt: &(impl Abort + AllocGlobal), values: [T; 3]) {
+    let [first, value, zero] = values;
     let builder = MutablePrimitiveArray::<T>::from(rt.alloc(), [Some(first)].as_slice());
     let mut builder = builder.expect(rt, "memory");
     append! { builder, rt;
@@ -73,13 +66,7 @@ fn check_growth<T: NativeType + Debug>(
     assert_text::value(popped, Some(value)).expect(rt, "pop");
     builder.apply_values(same_values::<T>);
     let expected = [first, value, zero, zero, zero, zero, value, value, value];
-    check(
-        rt,
-        "grown and frozen",
-        builder.freeze(),
-        expected,
-        "110000111",
-    );
+    check(rt, "frozen", builder.freeze(), expected, "110000111");
 }
 
 #[test]
@@ -169,10 +156,9 @@ fn pops_come_from_the_last_to_the_first(rt: HostRuntime) {
 }
 
 /// Reverses the values.
-fn reversed(values: Vec<i64>) -> Vec<i64>
+fn reversed(mut values: Vec<i64>) -> Vec<i64>
     ensures { vec_len result ≡ vec_len values }
 {
-    let mut values = values;
     values.reverse();
     values
 }
@@ -192,17 +178,11 @@ fn values_are_changed_in_place(rt: HostRuntime) {
 fn capacity_is_reserved_and_given_back(rt: HostRuntime) {
     let builder = MutablePrimitiveArray::<i64>::with_capacity(rt.alloc(), 1000);
     let mut builder = builder.expect(&rt, "memory");
-    assert_text::value(builder.capacity().min(1000), 1000).expect(
-        &rt,
-        "at least 1000 by with_capacity",
-    );
+    assert_text::value(builder.capacity().min(1000), 1000).expect(&rt, "with_capacity");
     builder.shrink_to_fit().expect(&rt, "memory");
-    assert_text::value(builder.capacity().max(999), 999).expect(
-        &rt,
-        "at most 999 by shrink_to_fit",
-    );
+    assert_text::value(builder.capacity().max(999), 999).expect(&rt, "shrink_to_fit");
     builder.reserve(1000).expect(&rt, "memory");
-    assert_text::value(builder.capacity().min(1000), 1000).expect(&rt, "at least 1000 by reserve");
+    assert_text::value(builder.capacity().min(1000), 1000).expect(&rt, "reserve");
     drop(builder);
 }
 

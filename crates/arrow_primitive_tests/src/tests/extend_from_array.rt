@@ -42,18 +42,20 @@ fn array_of(rt: &(impl Abort + AllocGlobal), (values, mask): Stored) -> Primitiv
 
 #[test]
 fn a_mask_is_held_if_either_side_holds_one(rt: HostRuntime) {
-    for (case, first, second, [start, count], [offset, len], expected) in CASES {
+    for (case, first, second, slice, range, expected) in CASES {
+        let [start, count] = *slice;
+        let [offset, len] = *range;
         let mut array = array_of(&rt, *second).to(DataType::Int64);
-        assert!(rt; *start <= array.len() && *count <= array.len() - *start);
-        array.slice(*start, *count);
+        assert!(rt; start <= array.len() && count <= array.len() - start);
+        array.slice(start, count);
         let builder = array_of(&rt, *first).into_mut().right();
         let mut builder = builder.expect(&rt, "an array alone thaws");
-        assert!(rt; *offset <= array.len() && *len <= array.len() - *offset);
-        let answer = builder.extend_from_array(&array, *offset, *len);
+        assert!(rt; offset <= array.len() && len <= array.len() - offset);
+        let answer = builder.extend_from_array(&array, offset, len);
         drop(array);
         answer.expect(&rt, "memory");
-        let came = (builder.data_type(), builder.values().as_slice());
-        assert_text::value(came, (&DataType::Date64, expected.0)).expect(&rt, *case);
+        assert_text::value(builder.data_type(), &DataType::Date64).expect(&rt, *case);
+        assert_text::value(builder.values().as_slice(), expected.0).expect(&rt, *case);
         assert_text::growing_mask(builder.validity(), expected.1).expect(&rt, *case);
         drop(builder);
     }

@@ -1,11 +1,6 @@
 //! Types by their names, and data types.
 use super::*;
-use arrow_primitive::{
-    DaysMsArray, DaysMsVec, Int8Array, Int8Vec, Int16Array, Int16Vec, Int32Array, Int32Vec,
-    Int64Array, Int64Vec, Int128Array, Int128Vec, Int256Array, Int256Vec, MonthsDaysNsArray,
-    MonthsDaysNsVec, UInt8Array, UInt8Vec, UInt16Array, UInt16Vec, UInt32Array, UInt32Vec,
-    UInt64Array, UInt64Vec,
-};
+use arrow_primitive::*;
 use arrow_types::units::IntervalUnit;
 
 /// Compares the types of an array and of a builder, and drops them.

@@ -4,6 +4,12 @@ ghost use Rattle.std.specs.Prelude.{◌≡◌, length};
 use super::*;
 use arrow_memory::bitmap::{Bitmap, MutableBitmap};
 
+/// Numbers of two parts.
+const WIDE: [[i256; 3]; 2] = [
+    [i256(0, 1), i256(1, 2), i256(1, 0)],
+    [i256(2, 0), i256(0, 5), i256(6, 6)],
+];
+
 /// Returns the mask as it is.
 fn same_mask(mask: Bitmap) -> Bitmap
     ensures { length result ≡ length mask }
@@ -15,11 +21,8 @@ fn same_mask(mask: Bitmap) -> Bitmap
 fn unwritten<T: NativeType>(_values: &mut [T]) {}
 
 /// Compares an array that is made of its parts, and of other ones.
-fn check_parts<T: NativeType + Debug>(
-    rt: &(impl Abort + AllocGlobal),
-    values: [T; 3],
-    others: [T; 3],
-) {
+fn check_parts<T: NativeType + Debug>(rt: &(impl Abort + AllocGlobal), parts: [[T; 3]; 2]) {
+    let [values, others] = parts;
     let array = PrimitiveArray::<T>::from_slice(rt.alloc(), values.as_slice());
     let (data_type, stored, mask) = array.expect(rt, "memory").into_inner();
     let array = PrimitiveArray::<T>::try_new(data_type, stored, mask).expect(rt, "parts that fit");
@@ -27,20 +30,11 @@ fn check_parts<T: NativeType + Debug>(
     let array = PrimitiveArray::<T>::from_inner(data_type, stored, mask);
     let array = array.expect(rt, "parts that fit");
     check(rt, "try_new, from_inner", array.clone(), values, "none");
-    let (stored, mask) = (
-        buffer(rt, others.as_slice()),
-        Bitmap::new_zeroed(rt.alloc(), 3),
-    );
-    let mask = mask.expect(rt, "memory");
+    let stored = buffer(rt, others.as_slice());
+    let mask = Bitmap::new_zeroed(rt.alloc(), 3).expect(rt, "memory");
     assert!(rt; array.len() == 3 && stored.len() == 3 && mask.len() == 3);
     let array = array.with_values(stored).with_validity(Some(mask));
-    check(
-        rt,
-        "with_values, with_validity",
-        array.clone(),
-        others,
-        "000",
-    );
+    check(rt, "with_values", array.clone(), others, "000");
     let mut slots = array.into_iter();
     let slot = slots.next();
     drop(slots);
@@ -48,11 +42,8 @@ fn check_parts<T: NativeType + Debug>(
 }
 
 /// Compares an array whose parts are replaced and changed in place, and slices of it.
-fn check_replaced<T: NativeType + Debug>(
-    rt: &(impl Abort + AllocGlobal),
-    values: [T; 3],
-    others: [T; 3],
-) {
+fn check_replaced<T: NativeType + Debug>(rt: &(impl Abort + AllocGlobal), parts: [[T; 3]; 2]) {
+    let [values, others] = parts;
     let array = PrimitiveArray::<T>::from_slice(rt.alloc(), values.as_slice());
     let mut array = array.expect(rt, "memory");
     let mask = Bitmap::from_slice(rt.alloc(), [false, true, true].as_slice());
@@ -72,20 +63,17 @@ fn check_replaced<T: NativeType + Debug>(
 
 #[test]
 fn arrays_are_made_of_parts(rt: HostRuntime) {
-    check_parts::<i32>(&rt, [1, 2, 3], [4, 5, 6]);
-    check_parts::<i64>(&rt, [1, 2, 3], [4, 5, 6]);
-    check_parts(&rt, WIDE, OTHER_WIDE);
-    check_replaced::<i32>(&rt, [1, 2, 3], [4, 5, 6]);
-    check_replaced::<i64>(&rt, [1, 2, 3], [4, 5, 6]);
-    check_replaced(&rt, WIDE, OTHER_WIDE);
+    check_parts::<i32>(&rt, [[1, 2, 3], [4, 5, 6]]);
+    check_parts::<i64>(&rt, [[1, 2, 3], [4, 5, 6]]);
+    check_parts(&rt, WIDE);
+    check_replaced::<i32>(&rt, [[1, 2, 3], [4, 5, 6]]);
+    check_replaced::<i64>(&rt, [[1, 2, 3], [4, 5, 6]]);
+    check_replaced(&rt, WIDE);
 }
 
 /// Compares the slots that are popped from builders that are made of parts, and with other ones.
-fn check_builder_parts<T: NativeType + Debug>(
-    rt: &(impl Abort + AllocGlobal),
-    values: [T; 3],
-    others: [T; 3],
-) {
+fn check_built<T: NativeType + Debug>(rt: &(impl Abort + AllocGlobal), parts: [[T; 3]; 2]) {
+    let [values, others] = parts;
     let builder = MutablePrimitiveArray::<T>::with_capacity(rt.alloc(), 2);
     let mut builder = builder.expect(rt, "memory");
     builder.try_push(Some(values[0])).expect(rt, "memory");
@@ -111,34 +99,27 @@ fn check_builder_parts<T: NativeType + Debug>(
 
 #[test]
 fn builders_are_made_of_parts(rt: HostRuntime) {
-    check_builder_parts::<i32>(&rt, [1, 2, 3], [4, 5, 6]);
-    check_builder_parts::<i64>(&rt, [1, 2, 3], [4, 5, 6]);
-    check_builder_parts(&rt, WIDE, OTHER_WIDE);
+    check_built::<i32>(&rt, [[1, 2, 3], [4, 5, 6]]);
+    check_built::<i64>(&rt, [[1, 2, 3], [4, 5, 6]]);
+    check_built(&rt, WIDE);
 }
 
-/// Compares a builder of three values and a null with the array that it froze to, thawed.
-fn check_thawed<T: NativeType + Debug>(
-    rt: &(impl Abort + AllocGlobal),
-    [a, b, c]: [T; 3],
-    zero: T,
-) {
-    let mut builder = growing(rt, [a, b, c]);
+/// Compares a builder of a value and a null with the array that it froze to, thawed.
+fn check_thawed<T: NativeType + Debug>(rt: &(impl Abort + AllocGlobal), value: T, zero: T) {
+    let mut builder = growing(rt, [value]);
     builder.push_null().expect(rt, "memory");
-    let array = builder
-        .clone()
-        .expect(rt, "memory")
-        .freeze()
-        .expect(rt, "memory");
+    let copy = builder.clone().expect(rt, "memory");
+    let array = copy.freeze().expect(rt, "memory");
     let thawed = array.into_mut().right().expect(rt, "an array alone thaws");
     let are_equal = thawed == builder;
     drop(builder);
     assert_text::value(are_equal, true).expect(rt, "a builder and its thawed array");
-    check_builder(rt, "thawed", Ok(thawed), [a, b, c, zero], "1110");
+    check_builder(rt, "thawed", Ok(thawed), [value, zero], "10");
 }
 
 #[test]
 fn an_array_alone_thaws(rt: HostRuntime) {
-    check_thawed::<i32>(&rt, [1, 2, 3], 0);
-    check_thawed::<i64>(&rt, [1, 2, 3], 0);
-    check_thawed(&rt, WIDE, i256(0, 0));
+    check_thawed::<i32>(&rt, 1, 0);
+    check_thawed::<i64>(&rt, 1, 0);
+    check_thawed(&rt, i256(0, 1), i256(0, 0));
 }
