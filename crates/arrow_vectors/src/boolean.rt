@@ -1,60 +1,30 @@
-//! Truth values: what slots and raw parts become. Stored values and marks are texts of '1' and '0'.
+//! Booleans: what slots and raw parts become. Stored values and marks are texts of `1` and `0`.
 use arrow_boolean::{BooleanArray, MutableBooleanArray};
 use arrow_memory::bitmap::{Bitmap, MutableBitmap};
-use arrow_testing::{frozen_mask, growing_mask, is_mask, tells};
+use arrow_testing::{assert_text, frozen_mask, growing_mask, tells};
 use arrow_types::data_type::DataType;
 use arrow_types::error::Error;
-use std::alloc::Global;
 use std::process::Abort;
 
-/// Whether an array stores these values, under these marks.
-fn shows(array: &BooleanArray, values: &str, mask: &str) -> bool {
-    let marks = match array.validity() {
-        Some(marks) => Some(marks.iter()),
-        None => None,
-    };
-    is_mask(Some(array.values_iter()), values) && is_mask(marks, mask)
-}
-
-/// The same of an array that is given away.
-fn stores(array: BooleanArray, values: &str, mask: &str) -> bool {
-    let is_shown = shows(&array, values, mask);
+/// Compares the stored values, the mask and the number of nulls of an array, and drops it.
+fn check(rt: &impl Abort, case: &str, array: BooleanArray, values: &str, mask: &str, nulls: usize) {
+    assert_text::marks(array.values_iter(), values).expect(rt, case);
+    assert_text::mask(array.validity(), mask).expect(rt, case);
+    assert_text::value(array.null_count(), nulls).expect(rt, case);
     drop(array);
-    is_shown
-}
-
-const SLOTS: [Option<bool>; 3] = [Some(true), None, Some(false)];
-
-/// Whether the slots of an array of three are read so, and what they store.
-fn reads(array: &BooleanArray) -> bool {
-    if array.len() != 3 || array.null_count() != 1 || *array.data_type() != DataType::Boolean {
-        return false;
-    }
-    let stored = [array.value(0), array.value(1), array.value(2)];
-    let slots = [array.get(0), array.get(1), array.get(2)];
-    (stored == [true, false, false]) & (slots == SLOTS) & shows(array, "100", "101")
 }
 
 #[test]
 fn a_null_stores_false_under_a_clear_mark(rt: HostRuntime) {
-    let array = BooleanArray::from(rt.alloc(), SLOTS.as_slice()).expect(&rt, "memory");
-    let is_read = reads(&array);
-    drop(array);
-    assert!(rt; is_read);
-}
-
-/// A null that is overwritten leaves a mask of one set mark, which `freeze` keeps, and no null.
-#[test]
-fn an_overwritten_null_leaves_a_mask_and_no_null(rt: HostRuntime) {
-    let mut builder = MutableBooleanArray::new(rt.alloc());
-    builder.push(None).expect(&rt, "memory");
-    assert!(rt; builder.len() == 1);
-    builder.set(0, Some(true)).expect(&rt, "memory");
-    let array = builder.freeze().expect(&rt, "memory");
-    let nulls = array.null_count();
-    let is_shown = stores(array, "1", "1");
-    assert_eq!(rt; nulls, 0);
-    assert!(rt; is_shown, "the value is true, under a mask of one set mark");
+    let slots = [Some(true), None, Some(false)];
+    let array = BooleanArray::from(rt.alloc(), slots.as_slice()).expect(&rt, "memory");
+    assert!(rt; array.len() == 3);
+    let values = [array.value(0), array.value(1), array.value(2)];
+    assert_text::value(values, [true, false, false]).expect(&rt, "value");
+    let read = [array.get(0), array.get(1), array.get(2)];
+    assert_text::value(read, slots).expect(&rt, "get");
+    assert_text::value(array.data_type(), &DataType::Boolean).expect(&rt, "data_type");
+    check(&rt, "parts", array, "100", "101", 1);
 }
 
 const UNFIT: &str = "validity mask length must match the number of values";
@@ -65,32 +35,8 @@ const OTHER_TYPE: &str =
 const OTHER_BUILDER_TYPE: &str =
     "MutableBooleanArray can only be initialized with a DataType whose physical type is Boolean";
 
-/// The array of true, false and true, under a type and a mask.
-fn array_of(
-    alloc: Global,
-    rt: &impl Abort,
-    data_type: DataType,
-    mask: &str,
-) -> Result<BooleanArray, Error> {
-    let values = Bitmap::from_slice(alloc, [true, false, true].as_slice()).expect(rt, "memory");
-    let validity = frozen_mask(alloc, mask).expect(rt, "memory");
-    BooleanArray::try_new(data_type, values, validity)
-}
-
-/// The builder of true, false and true, under a type and a mask.
-fn builder_of(
-    alloc: Global,
-    rt: &impl Abort,
-    data_type: DataType,
-    mask: &str,
-) -> Result<MutableBooleanArray, Error> {
-    let values = MutableBitmap::from_slice(alloc, [true, false, true].as_slice());
-    let validity = growing_mask(alloc, mask).expect(rt, "memory");
-    MutableBooleanArray::try_new(data_type, values.expect(rt, "memory"), validity)
-}
-
-/// The type of truth values, or another.
-fn named(is_own: bool) -> DataType {
+/// Returns the type of booleans or another.
+fn type_of(is_own: bool) -> DataType {
     if is_own {
         DataType::Boolean
     } else {
@@ -98,57 +44,86 @@ fn named(is_own: bool) -> DataType {
     }
 }
 
-/// A mask, whether the type is their own, and what is told of an array and of a builder.
-type Fault = (&'static str, bool, &'static str, &'static str);
+/// Creates an array of true, false and true, of a type that is theirs or another, with a mask.
+fn array_of(
+    rt: &(impl Abort + AllocGlobal),
+    is_own: bool,
+    mask: &str,
+) -> Result<BooleanArray, Error> {
+    let values = Bitmap::from_slice(rt.alloc(), [true, false, true].as_slice());
+    let validity = frozen_mask(rt.alloc(), mask).expect(rt, "memory");
+    BooleanArray::try_new(type_of(is_own), values.expect(rt, "memory"), validity)
+}
+
+/// A name, a mask of three values, whether the type is theirs, and the expected answers to an array and to a builder.
+type Fault = (&'static str, &'static str, bool, &'static str, &'static str);
 
 const FAULTS: &[Fault] = &[
-    ("11", false, UNFIT, UNFIT),
-    ("1111", false, UNFIT, UNFIT),
-    ("11", true, UNFIT, UNFIT),
-    ("111", false, OTHER_TYPE, OTHER_BUILDER_TYPE),
-    ("none", false, OTHER_TYPE, OTHER_BUILDER_TYPE),
-    ("111", true, "made", "made"),
-    ("000", true, "made", "made"),
-    ("none", true, "made", "made"),
+    ("short mask, other type", "11", false, UNFIT, UNFIT),
+    ("long mask, other type", "1111", false, UNFIT, UNFIT),
+    ("short mask", "11", true, UNFIT, UNFIT),
+    ("type", "111", false, OTHER_TYPE, OTHER_BUILDER_TYPE),
+    ("no mask", "none", false, OTHER_TYPE, OTHER_BUILDER_TYPE),
+    ("no null", "111", true, "made", "made"),
+    ("nulls", "000", true, "made", "made"),
+    ("no mask", "none", true, "made", "made"),
 ];
 
 #[test]
-fn the_mask_is_tested_before_the_type(rt: HostRuntime) {
-    for (mask, is_own, of_array, of_builder) in FAULTS {
-        let array = tells(array_of(rt.alloc(), &rt, named(*is_own), *mask));
-        let builder = tells(builder_of(rt.alloc(), &rt, named(*is_own), *mask));
-        assert!(rt; [array, builder] == [*of_array, *of_builder]);
+fn the_mask_is_checked_before_the_type(rt: HostRuntime) {
+    for (case, mask, is_own, of_array, of_builder) in FAULTS {
+        let array = tells(array_of(&rt, *is_own, *mask));
+        let values = MutableBitmap::from_slice(rt.alloc(), [true, false, true].as_slice());
+        let values = values.expect(&rt, "memory");
+        let validity = growing_mask(rt.alloc(), *mask).expect(&rt, "memory");
+        let builder = MutableBooleanArray::try_new(type_of(*is_own), values, validity);
+        let came = [array, tells(builder)];
+        assert_text::value(came, [*of_array, *of_builder]).expect(&rt, *case);
     }
 }
 
-/// The array of the parts of the last two of three slots.
-fn sliced_again(alloc: Global, rt: &impl Abort, mask: &str) -> BooleanArray {
-    let array = array_of(alloc, rt, named(true), mask).expect(rt, "parts that fit");
-    assert!(rt; array.len() == 3);
-    let (data_type, values, validity) = array.sliced(1, 2).into_inner();
-    BooleanArray::try_new(data_type, values, validity).expect(rt, "parts that fit")
-}
+/// A name, the mask of true, false and true, and the mask and the nulls of the last two and of the first two.
+type Again = (
+    &'static str,
+    &'static str,
+    (&'static str, usize),
+    (&'static str, usize),
+);
 
-/// The array of those of a thawed array, once the last of three slots was popped.
-fn popped_again(alloc: Global, rt: &impl Abort, mask: &str) -> BooleanArray {
-    let array = array_of(alloc, rt, named(true), mask).expect(rt, "parts that fit");
-    let mut builder = array.into_mut().right().expect(rt, "an array alone");
-    builder.pop();
-    let (data_type, values, validity) = builder.freeze().expect(rt, "memory").into_inner();
-    BooleanArray::try_new(data_type, values, validity).expect(rt, "parts that fit")
-}
-
-/// Marks of three slots, and those of the last two and of the first two.
-const AGAIN: &[(&str, &str, &str)] = &[
-    ("none", "none", "none"),
-    ("101", "01", "10"),
-    ("110", "10", "11"),
+const AGAIN: &[Again] = &[
+    ("no mask", "none", ("none", 0), ("none", 0)),
+    ("a null in the middle", "101", ("01", 1), ("10", 1)),
+    ("a null at the end", "110", ("10", 1), ("11", 0)),
 ];
 
 #[test]
-fn parts_that_are_taken_out_are_accepted_again(rt: HostRuntime) {
-    for (mask, last, first) in AGAIN {
-        let is_cut = stores(sliced_again(rt.alloc(), &rt, *mask), "01", *last);
-        assert!(rt; is_cut & stores(popped_again(rt.alloc(), &rt, *mask), "10", *first));
+fn parts_of_slices_and_popped_builders_are_accepted(rt: HostRuntime) {
+    for (case, mask, last, first) in AGAIN {
+        let array = array_of(&rt, true, *mask).expect(&rt, "parts that fit");
+        assert!(rt; array.len() == 3);
+        let (data_type, values, validity) = array.sliced(1, 2).into_inner();
+        let array = BooleanArray::try_new(data_type, values, validity);
+        check(
+            &rt,
+            *case,
+            array.expect(&rt, "parts of a slice"),
+            "01",
+            last.0,
+            last.1,
+        );
+        let array = array_of(&rt, true, *mask).expect(&rt, "parts that fit");
+        let mut builder = array.into_mut().right().expect(&rt, "an array alone thaws");
+        builder.pop();
+        let array = builder.freeze().expect(&rt, "memory");
+        let (data_type, values, validity) = array.into_inner();
+        let array = BooleanArray::try_new(data_type, values, validity);
+        check(
+            &rt,
+            *case,
+            array.expect(&rt, "parts of a builder"),
+            "10",
+            first.0,
+            first.1,
+        );
     }
 }

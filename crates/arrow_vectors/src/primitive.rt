@@ -1,195 +1,139 @@
-//! Numbers: what slots and raw parts become, and what slices, clones and thaws leave.
+//! Numbers: what slots and raw parts become, and what slices, clones and thawed arrays are.
 use arrow_memory::buffer::Buffer;
 use arrow_primitive::{MutablePrimitiveArray, PrimitiveArray};
-use arrow_testing::{frozen_mask, growing_mask, is_mask, tells};
+use arrow_testing::{Text, assert_text, frozen_mask, growing_mask, tells};
 use arrow_types::data_type::DataType;
 use arrow_types::error::Error;
-use std::alloc::Global;
 use std::process::Abort;
 
-/// Whether an array stores these values, under these marks.
-fn shows(array: &PrimitiveArray<i32>, values: &[i32], mask: &str) -> bool {
-    let marks = match array.validity() {
-        Some(marks) => Some(marks.iter()),
-        None => None,
-    };
-    array.values().as_slice() == values && is_mask(marks, mask)
+/// Compares the stored values and the mask of an array.
+fn check(rt: &impl Abort, case: &str, array: &PrimitiveArray<i32>, values: &[i32], mask: &str) {
+    assert_text::value(array.values().as_slice(), values).expect(rt, case);
+    assert_text::mask(array.validity(), mask).expect(rt, case);
 }
 
-/// Whether a builder stores these values, under these marks.
-pub(crate) fn builds(builder: &MutablePrimitiveArray<i32>, values: &[i32], mask: &str) -> bool {
-    let marks = match builder.validity() {
-        Some(marks) => Some(marks.iter()),
-        None => None,
-    };
-    builder.values().as_slice() == values && is_mask(marks, mask)
-}
-
-/// The same of an array that is given away.
-fn stores(array: PrimitiveArray<i32>, values: &[i32], mask: &str) -> bool {
-    let is_shown = shows(&array, values, mask);
-    drop(array);
-    is_shown
-}
-
-/// The same of a builder that is.
-fn holds(builder: MutablePrimitiveArray<i32>, values: &[i32], mask: &str) -> bool {
-    let is_built = builds(&builder, values, mask);
-    drop(builder);
-    is_built
-}
-
-const SLOTS: [Option<i32>; 3] = [Some(1), None, Some(10)];
-
-/// Whether the slots of an array of three are read so, and what they store.
-fn reads(array: &PrimitiveArray<i32>) -> bool {
-    if array.len() != 3 || array.null_count() != 1 || *array.data_type() != DataType::Int32 {
-        return false;
-    }
-    let stored = [array.value(0), array.value(1), array.value(2)];
-    let slots = [array.get(0), array.get(1), array.get(2)];
-    let are_null = [array.is_null(0), array.is_null(1), array.is_valid(2)];
-    let are_read = (stored == [1, 0, 10]) & (slots == SLOTS) & (are_null == [false, true, true]);
-    are_read & shows(array, [1, 0, 10].as_slice(), "101")
+/// Compares the stored values and the mask of a builder.
+pub(crate) fn check_builder(
+    rt: &impl Abort,
+    case: &str,
+    builder: &MutablePrimitiveArray<i32>,
+    values: &[i32],
+    mask: &str,
+) {
+    assert_text::value(builder.values().as_slice(), values).expect(rt, case);
+    assert_text::growing_mask(builder.validity(), mask).expect(rt, case);
 }
 
 #[test]
 fn a_null_stores_zero_under_a_clear_mark(rt: HostRuntime) {
-    let array = PrimitiveArray::from(rt.alloc(), SLOTS.as_slice()).expect(&rt, "memory");
-    let is_read = reads(&array);
+    let slots = [Some(1), None, Some(10)];
+    let array = PrimitiveArray::from(rt.alloc(), slots.as_slice()).expect(&rt, "memory");
+    assert!(rt; array.len() == 3);
+    let values = [array.value(0), array.value(1), array.value(2)];
+    assert_text::value(values, [1, 0, 10]).expect(&rt, "value");
+    let read = [array.get(0), array.get(1), array.get(2)];
+    assert_text::value(read, slots).expect(&rt, "get");
+    let nulls = [array.is_null(0), array.is_null(1), array.is_valid(2)];
+    assert_text::value(nulls, [false, true, true]).expect(&rt, "is_null and is_valid");
+    assert_text::value(array.null_count(), 1).expect(&rt, "null_count");
+    assert_text::value(array.data_type(), &DataType::Int32).expect(&rt, "data_type");
+    check(&rt, "parts", &array, [1, 0, 10].as_slice(), "101");
     drop(array);
-    assert!(rt; is_read);
 }
 
-/// Three slots, and the byte of their marks.
-const PACKED: &[(&[Option<i32>], u8)] = &[
-    (&[Some(1), None, Some(10)], 0b101),
-    (&[None, None, Some(0)], 0b100),
-    (&[Some(1), Some(2), Some(3)], 0b111),
+/// A name, three slots, and the byte of their marks.
+const PACKED: &[(&str, [Option<i32>; 3], u8)] = &[
+    ("a null", [Some(1), None, Some(10)], 0b101),
+    ("two nulls", [None, None, Some(0)], 0b100),
+    ("no null", [Some(1), Some(2), Some(3)], 0b111),
 ];
-
-/// Whether a builder of slots has this byte of marks.
-fn is_packed(alloc: Global, rt: &impl Abort, slots: &[Option<i32>], byte: u8) -> bool {
-    let builder = MutablePrimitiveArray::from(alloc, slots).expect(rt, "memory");
-    let (_, _, mask) = builder.into_inner();
-    let bytes = mask.expect(rt, "a mask").into_vec();
-    let is_packed = bytes.as_slice() == [byte].as_slice();
-    drop(bytes);
-    is_packed
-}
 
 #[test]
 fn marks_are_packed_from_the_lowest_bit_on(rt: HostRuntime) {
-    for (slots, byte) in PACKED {
-        assert!(rt; is_packed(rt.alloc(), &rt, *slots, *byte));
+    for (case, slots, expected) in PACKED {
+        let builder = MutablePrimitiveArray::from(rt.alloc(), slots.as_slice());
+        let (_, _, mask) = builder.expect(&rt, "memory").into_inner();
+        let bytes = mask.expect(&rt, "a mask").into_vec();
+        assert_text::value(bytes.as_slice(), [*expected].as_slice()).expect(&rt, *case);
+        drop(bytes);
     }
 }
 
-/// The array of so many nulls.
-fn nulls(alloc: Global, rt: &impl Abort, length: usize) -> PrimitiveArray<i32> {
-    PrimitiveArray::new_null(alloc, DataType::Int32, length).expect(rt, "memory")
-}
-
 #[test]
-fn an_array_of_no_null_holds_a_mask_of_nulls(rt: HostRuntime) {
-    let is_none = stores(nulls(rt.alloc(), &rt, 0), &[], "");
-    assert!(rt; is_none & stores(nulls(rt.alloc(), &rt, 3), [0, 0, 0].as_slice(), "000"));
+fn new_null_holds_a_mask_for_any_length(rt: HostRuntime) {
+    let none = PrimitiveArray::new_null(rt.alloc(), DataType::Int32, 0).expect(&rt, "memory");
+    check(&rt, "no slot", &none, &[], "");
+    drop(none);
+    let nulls = PrimitiveArray::new_null(rt.alloc(), DataType::Int32, 3).expect(&rt, "memory");
+    check(&rt, "three", &nulls, [0, 0, 0].as_slice(), "000");
+    drop(nulls);
 }
 
-/// The builder of a thawed array.
+/// Thaws an array that is not shared.
 fn thawed(rt: &impl Abort, array: PrimitiveArray<i32>) -> MutablePrimitiveArray<i32> {
-    array.into_mut().right().expect(rt, "an array alone")
-}
-
-/// The array of a thawed array with a slot and so many more behind it.
-fn grown(
-    rt: &impl Abort,
-    array: PrimitiveArray<i32>,
-    slot: Option<i32>,
-    count: usize,
-) -> PrimitiveArray<i32> {
-    let mut builder = thawed(rt, array);
-    builder.push(slot).expect(rt, "memory");
-    builder.extend_constant(count, Some(9)).expect(rt, "memory");
-    builder.freeze().expect(rt, "memory")
-}
-
-/// The array of a frozen builder of three values.
-fn frozen(alloc: Global, rt: &impl Abort) -> PrimitiveArray<i32> {
-    let values = [1, 2, 3].to_vec(alloc).expect(rt, "memory");
-    MutablePrimitiveArray::from_vec(values)
-        .freeze()
-        .expect(rt, "memory")
-}
-
-/// Whether an array stores four values, is thawed again, and grows by 256.
-fn grows_again(rt: &impl Abort, array: PrimitiveArray<i32>) -> bool {
-    let is_grown = shows(&array, [1, 2, 3, 5].as_slice(), "none");
-    is_grown & (grown(rt, array, Some(9), 255).len() == 260)
+    array.into_mut().right().expect(rt, "an array alone thaws")
 }
 
 #[test]
 fn a_frozen_builder_is_thawed_and_grows(rt: HostRuntime) {
-    let array = grown(&rt, frozen(rt.alloc(), &rt), Some(5), 0);
-    assert!(rt; grows_again(&rt, array));
+    let values = [1, 2, 3].to_vec(rt.alloc()).expect(&rt, "memory");
+    let array = MutablePrimitiveArray::from_vec(values)
+        .freeze()
+        .expect(&rt, "memory");
+    let mut builder = thawed(&rt, array);
+    builder.push(Some(5)).expect(&rt, "memory");
+    let array = builder.freeze().expect(&rt, "memory");
+    check(&rt, "pushed", &array, [1, 2, 3, 5].as_slice(), "none");
+    let mut builder = thawed(&rt, array);
+    builder.push(Some(9)).expect(&rt, "memory");
+    builder.extend_constant(255, Some(9)).expect(&rt, "memory");
+    let array = builder.freeze().expect(&rt, "memory");
+    let len = array.len();
+    drop(array);
+    assert_text::value(len, 260).expect(&rt, "256 more");
 }
 
-/// Slots, and what stores them, under which marks.
-type Stored = (&'static [Option<i32>], &'static [i32], &'static str);
-
-const SHARED: &[Stored] = &[
-    (&[Some(1), Some(2), Some(3)], &[1, 2, 3], "none"),
-    (&[Some(1), None, Some(3)], &[1, 0, 3], "101"),
+/// A name, slots, the values that they store, and their mask.
+const SHARED: &[(&str, [Option<i32>; 3], [i32; 3], &str)] = &[
+    ("no null", [Some(1), Some(2), Some(3)], [1, 2, 3], "none"),
+    ("a null", [Some(1), None, Some(3)], [1, 0, 3], "101"),
 ];
 
-/// Whether the second of two owners is not thawed while the first lives, both are as before, and it is thawed then.
-fn are_apart(
-    rt: &impl Abort,
-    first: PrimitiveArray<i32>,
-    second: PrimitiveArray<i32>,
-    values: &[i32],
-    mask: &str,
-) -> bool {
-    let second = second
-        .into_mut()
-        .left()
-        .expect(rt, "an array that is shared");
-    let are_as_before = shows(&first, values, mask) & shows(&second, values, mask);
-    drop(first);
-    are_as_before & holds(thawed(rt, second), values, mask)
-}
-
-/// Whether an array and its clone are so.
-fn is_shared(rt: &impl Abort, first: PrimitiveArray<i32>, values: &[i32], mask: &str) -> bool {
-    let second = first.clone().expect(rt, "memory");
-    are_apart(rt, first, second, values, mask)
-}
-
 #[test]
-fn a_clone_is_not_thawed_while_the_first_lives(rt: HostRuntime) {
-    for (slots, values, mask) in SHARED {
-        let array = PrimitiveArray::from(rt.alloc(), *slots).expect(&rt, "memory");
-        assert!(rt; is_shared(&rt, array, *values, *mask));
+fn a_clone_thaws_once_the_first_is_dropped(rt: HostRuntime) {
+    for (case, slots, values, mask) in SHARED {
+        let first = PrimitiveArray::from(rt.alloc(), slots.as_slice()).expect(&rt, "memory");
+        let second = first.clone().expect(&rt, "memory");
+        let second = second
+            .into_mut()
+            .left()
+            .expect(&rt, "a shared array stays frozen");
+        check(&rt, *case, &second, values.as_slice(), *mask);
+        check(&rt, *case, &first, values.as_slice(), *mask);
+        drop(first);
+        let builder = thawed(&rt, second);
+        check_builder(&rt, *case, &builder, values.as_slice(), *mask);
+        drop(builder);
     }
 }
 
-/// So many slots of an array from a place on.
-fn cut_off(
+/// Returns a slice of an array, in which it has to lie.
+fn cut(
     rt: &impl Abort,
     array: PrimitiveArray<i32>,
-    (place, count): (usize, usize),
+    (offset, len): (usize, usize),
 ) -> PrimitiveArray<i32> {
-    assert!(rt; place <= array.len() && count <= array.len() - place);
-    array.sliced(place, count)
+    assert!(rt; offset <= array.len() && len <= array.len() - offset);
+    array.sliced(offset, len)
 }
 
-const VALUES: &[Option<i32>] = &[Some(5), Some(6), Some(7), Some(8), Some(9)];
+const VALUES: [Option<i32>; 5] = [Some(5), Some(6), Some(7), Some(8), Some(9)];
 
-const NULLS: &[Option<i32>] = &[None, Some(6), None, Some(8), None];
+const NULLS: [Option<i32>; 5] = [None, Some(6), None, Some(8), None];
 
-/// Slots, two cuts, each a place and a number of slots, and what is left of both, under which marks.
+/// Slots, an offset and a length, those of a slice of that slice, and its values and mask.
 type Cut = (
-    &'static [Option<i32>],
+    [Option<i32>; 5],
     (usize, usize),
     (usize, usize),
     &'static [i32],
@@ -206,23 +150,14 @@ const CUTS: &[Cut] = &[
     (NULLS, (5, 0), (0, 0), &[], ""),
 ];
 
-/// What two cuts leave of slots.
-fn cut_twice(
-    alloc: Global,
-    rt: &impl Abort,
-    slots: &[Option<i32>],
-    first: (usize, usize),
-    second: (usize, usize),
-) -> PrimitiveArray<i32> {
-    let array = PrimitiveArray::from(alloc, slots).expect(rt, "memory");
-    cut_off(rt, cut_off(rt, array, first), second)
-}
-
 #[test]
-fn places_of_a_slice_of_a_slice_are_added(rt: HostRuntime) {
+fn slices_of_slices_add_their_offsets(rt: HostRuntime) {
     for (slots, first, second, values, mask) in CUTS {
-        let array = cut_twice(rt.alloc(), &rt, *slots, *first, *second);
-        assert!(rt; stores(array, *values, *mask));
+        let case = Text::of(format_args!("{second:?} of {first:?} of {slots:?}"));
+        let array = PrimitiveArray::from(rt.alloc(), slots.as_slice()).expect(&rt, "memory");
+        let array = cut(&rt, cut(&rt, array, *first), *second);
+        check(&rt, case.as_str(), &array, *values, *mask);
+        drop(array);
     }
 }
 
@@ -231,33 +166,8 @@ const UNFIT: &str = "validity mask length must match the number of values";
 const OTHER_TYPE: &str =
     "PrimitiveArray can only be initialized with a DataType whose physical type is Primitive";
 
-/// The array of three values, under a type and a mask.
-fn array_of(
-    alloc: Global,
-    rt: &impl Abort,
-    data_type: DataType,
-    mask: &str,
-) -> Result<PrimitiveArray<i32>, Error> {
-    let values = [1, 2, 3].to_vec(alloc).expect(rt, "memory");
-    let values = Buffer::from_vec(values).expect(rt, "memory");
-    let validity = frozen_mask(alloc, mask).expect(rt, "memory");
-    PrimitiveArray::try_new(data_type, values, validity)
-}
-
-/// The builder of three values, under a type and a mask.
-fn builder_of(
-    alloc: Global,
-    rt: &impl Abort,
-    data_type: DataType,
-    mask: &str,
-) -> Result<MutablePrimitiveArray<i32>, Error> {
-    let values = [1, 2, 3].to_vec(alloc).expect(rt, "memory");
-    let validity = growing_mask(alloc, mask).expect(rt, "memory");
-    MutablePrimitiveArray::try_new(data_type, values, validity)
-}
-
-/// A type of numbers that these are, or another.
-fn named(is_own: bool) -> DataType {
+/// Returns a type of `i32` or another.
+fn type_of(is_own: bool) -> DataType {
     if is_own {
         DataType::Date32
     } else {
@@ -265,59 +175,64 @@ fn named(is_own: bool) -> DataType {
     }
 }
 
-/// A mask, whether the type is their own, and what is told.
-const FAULTS: &[(&str, bool, &str)] = &[
-    ("11", false, UNFIT),
-    ("1111", false, UNFIT),
-    ("11", true, UNFIT),
-    ("111", false, OTHER_TYPE),
-    ("none", false, OTHER_TYPE),
-    ("111", true, "made"),
-    ("000", true, "made"),
-    ("none", true, "made"),
+/// Creates an array of three values, of a type that is theirs or another, with a mask.
+fn array_of(
+    rt: &(impl Abort + AllocGlobal),
+    is_own: bool,
+    mask: &str,
+) -> Result<PrimitiveArray<i32>, Error> {
+    let values = [1, 2, 3].to_vec(rt.alloc()).expect(rt, "memory");
+    let values = Buffer::from_vec(values).expect(rt, "memory");
+    let validity = frozen_mask(rt.alloc(), mask).expect(rt, "memory");
+    PrimitiveArray::try_new(type_of(is_own), values, validity)
+}
+
+/// A name, a mask of three values, whether the type is theirs, and the expected answer.
+const FAULTS: &[(&str, &str, bool, &str)] = &[
+    ("short mask, other type", "11", false, UNFIT),
+    ("long mask, other type", "1111", false, UNFIT),
+    ("short mask", "11", true, UNFIT),
+    ("other type, a mask", "111", false, OTHER_TYPE),
+    ("other type, no mask", "none", false, OTHER_TYPE),
+    ("no null", "111", true, "made"),
+    ("nulls", "000", true, "made"),
+    ("no mask", "none", true, "made"),
 ];
 
 #[test]
-fn the_mask_is_tested_before_the_type(rt: HostRuntime) {
-    for (mask, is_own, answer) in FAULTS {
-        let array = tells(array_of(rt.alloc(), &rt, named(*is_own), *mask));
-        let builder = tells(builder_of(rt.alloc(), &rt, named(*is_own), *mask));
-        assert!(rt; [array, builder] == [*answer; 2]);
+fn the_mask_is_checked_before_the_type(rt: HostRuntime) {
+    for (case, mask, is_own, expected) in FAULTS {
+        let array = tells(array_of(&rt, *is_own, *mask));
+        let values = [1, 2, 3].to_vec(rt.alloc()).expect(&rt, "memory");
+        let validity = growing_mask(rt.alloc(), *mask).expect(&rt, "memory");
+        let builder = MutablePrimitiveArray::try_new(type_of(*is_own), values, validity);
+        assert_text::value([array, tells(builder)], [*expected; 2]).expect(&rt, *case);
     }
 }
 
-/// The array of the parts of the last two of three slots.
-fn sliced_again(alloc: Global, rt: &impl Abort, mask: &str) -> PrimitiveArray<i32> {
-    let array = array_of(alloc, rt, named(true), mask).expect(rt, "parts that fit");
-    let (data_type, values, validity) = cut_off(rt, array, (1, 2)).into_inner();
-    PrimitiveArray::try_new(data_type, values, validity).expect(rt, "parts that fit")
-}
-
-/// The builder of those of a thawed array, once the last of three slots was popped.
-fn popped_again(alloc: Global, rt: &impl Abort, mask: &str) -> MutablePrimitiveArray<i32> {
-    let array = array_of(alloc, rt, named(true), mask).expect(rt, "parts that fit");
-    let mut builder = thawed(rt, array);
-    builder.pop();
-    let (data_type, values, validity) = builder.into_inner();
-    MutablePrimitiveArray::try_new(data_type, values, validity).expect(rt, "parts that fit")
-}
-
-/// Marks of three values, and those of the last two and of the first two.
-const AGAIN: &[(&str, &str, &str)] = &[
-    ("none", "none", "none"),
-    ("101", "01", "10"),
-    ("110", "10", "11"),
+/// A name, the mask of three values, and those of the last two and of the first two.
+const AGAIN: &[(&str, &str, &str, &str)] = &[
+    ("no mask", "none", "none", "none"),
+    ("a null in the middle", "101", "01", "10"),
+    ("a null at the end", "110", "10", "11"),
 ];
 
 #[test]
-fn parts_that_are_taken_out_are_accepted_again(rt: HostRuntime) {
-    for (mask, last, first) in AGAIN {
-        let is_cut = stores(
-            sliced_again(rt.alloc(), &rt, *mask),
-            [2, 3].as_slice(),
-            *last,
-        );
-        let popped = popped_again(rt.alloc(), &rt, *mask);
-        assert!(rt; is_cut & holds(popped, [1, 2].as_slice(), *first));
+fn parts_of_slices_and_popped_builders_are_accepted(rt: HostRuntime) {
+    for (case, mask, last, first) in AGAIN {
+        let array = array_of(&rt, true, *mask).expect(&rt, "parts that fit");
+        let (data_type, values, validity) = cut(&rt, array, (1, 2)).into_inner();
+        let array = PrimitiveArray::try_new(data_type, values, validity);
+        let array = array.expect(&rt, "parts of a slice");
+        check(&rt, *case, &array, [2, 3].as_slice(), *last);
+        drop(array);
+        let array = array_of(&rt, true, *mask).expect(&rt, "parts that fit");
+        let mut builder = thawed(&rt, array);
+        builder.pop();
+        let (data_type, values, validity) = builder.into_inner();
+        let builder = MutablePrimitiveArray::try_new(data_type, values, validity);
+        let builder = builder.expect(&rt, "parts of a builder");
+        check_builder(&rt, *case, &builder, [1, 2].as_slice(), *first);
+        drop(builder);
     }
 }
