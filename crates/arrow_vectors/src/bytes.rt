@@ -11,7 +11,7 @@ use arrow_types::offset::Offset;
 use std::process::Abort;
 
 /// Compares an array of three slots of bytes.
-fn check_slots<O: Offset>(rt: &(impl Abort + AllocGlobal)) {
+fn nulls_store_no_byte<O: Offset>(rt: &(impl Abort + AllocGlobal)) {
     let slots: &[Option<&[u8]>] = &[Some(b"\x01\x02"), None, Some(b"\x03")];
     let array = BinaryArray::<O>::from(rt.alloc(), slots).expect(rt, "memory");
     let mut items = array.values_iter();
@@ -23,18 +23,11 @@ fn check_slots<O: Offset>(rt: &(impl Abort + AllocGlobal)) {
     drop(array);
 }
 
-#[test]
-fn a_null_stores_no_byte_under_a_clear_mark(rt: HostRuntime) {
-    check_slots::<i32>(&rt);
-    check_slots::<i64>(&rt);
-    check_slots::<Tiny>(&rt);
-}
-
 /// Three slots of one, no and two bytes, the second null, with bytes around them that are no text.
 const AROUND: Parts = (&[2, 3, 3, 5], b"\xFF\xFF\x01\x04\x04\xC3", "101");
 
 /// Compares the items of an array of bytes, and the slots and the parts of a slice.
-fn check_slice_of_bytes<O: Offset>(rt: &(impl Abort + AllocGlobal)) {
+fn slices_keep_all_bytes<O: Offset>(rt: &(impl Abort + AllocGlobal)) {
     let mut array = own_array::<Binary, O>(rt, AROUND);
     assert!(rt; array.len() == 3);
     let items = [array.value(0), array.value(1), array.value(2)];
@@ -50,17 +43,8 @@ fn check_slice_of_bytes<O: Offset>(rt: &(impl Abort + AllocGlobal)) {
     drop(array);
 }
 
-#[test]
-fn slices_keep_all_bytes_and_their_own_marks(rt: HostRuntime) {
-    check_slice_of_bytes::<i32>(&rt);
-    check_slice_of_bytes::<i64>(&rt);
-    check_slice_of_bytes::<Tiny>(&rt);
-}
-
 /// A name, an offset, a length, and the offsets and the mask of that slice.
-type Slice = (&'static str, usize, usize, &'static [usize], &'static str);
-
-const SLICES: &[Slice] = &[
+const SLICES: &[(&str, usize, usize, &[usize], &str)] = &[
     ("all", 0, 3, &[2, 3, 3, 5], "101"),
     ("the last two", 1, 2, &[3, 3, 5], "01"),
     ("the first", 0, 1, &[2, 3], "1"),
@@ -68,29 +52,20 @@ const SLICES: &[Slice] = &[
 ];
 
 /// Compares an array of the parts of a slice.
-fn check_slice<K: ByteKind, O: Offset>(rt: &(impl Abort + AllocGlobal), slice: &Slice) {
-    let (case, offset, len, offsets, mask) = *slice;
-    let array = own_array::<K, O>(rt, AROUND);
-    assert!(rt; offset <= array.len() && len <= array.len() - offset);
-    let (data_type, ends, values, validity) = array.sliced(offset, len).into_inner();
-    let array = ByteArray::<K, O>::try_new(data_type, ends, values, validity);
-    let array = array.expect(rt, "parts of a slice");
-    check_array(rt, case, &array, (offsets, AROUND.1, mask));
-    drop(array);
-}
-
-#[test]
-fn parts_of_slices_are_accepted(rt: HostRuntime) {
-    for slice in SLICES {
-        check_slice::<Binary, i32>(&rt, slice);
-        check_slice::<Binary, i64>(&rt, slice);
-        check_slice::<Utf8, i32>(&rt, slice);
-        check_slice::<Utf8, i64>(&rt, slice);
+fn parts_of_slices_are_accepted<K: ByteKind, O: Offset>(rt: &(impl Abort + AllocGlobal)) {
+    for (case, offset, len, offsets, mask) in SLICES {
+        let array = own_array::<K, O>(rt, AROUND);
+        assert!(rt; *offset <= array.len() && *len <= array.len() - *offset);
+        let (data_type, ends, values, validity) = array.sliced(*offset, *len).into_inner();
+        let array = ByteArray::<K, O>::try_new(data_type, ends, values, validity);
+        let array = array.expect(rt, "parts of a slice");
+        check_array(rt, *case, &array, (*offsets, AROUND.1, *mask));
+        drop(array);
     }
 }
 
-/// Compares a builder of the parts of a builder, from which a slot was popped.
-fn check_pop<K: ByteKind, O: Offset>(rt: &(impl Abort + AllocGlobal)) {
+/// Compares builders, with and without nulls, of the parts of builders from which a slot was popped.
+fn parts_of_popped_builders_are_accepted<K: ByteKind, O: Offset>(rt: &(impl Abort + AllocGlobal)) {
     let mut builder = thawed(rt, own_array::<K, O>(rt, AROUND));
     drop(builder.pop().expect(rt, "memory"));
     let (data_type, offsets, values, validity) = builder.into_data();
@@ -99,49 +74,26 @@ fn check_pop<K: ByteKind, O: Offset>(rt: &(impl Abort + AllocGlobal)) {
     let left: Parts = (&[2, 3, 3], b"\xFF\xFF\x01", "10");
     check_builder(rt, "two slots are left", &builder, left);
     drop(builder);
-}
-
-/// Compares a builder without nulls of the parts of one, from which an item was popped.
-fn check_popped_values<K: ByteKind, O: Offset>(rt: &(impl Abort + AllocGlobal)) {
     let parts: Parts = (&[2, 3, 5], b"\xFF\xFF\x01\x04\x04", "none");
     let builder = values_of::<K, O>(rt, K::default_type(O::IS_LARGE), parts);
     let mut builder = builder.expect(rt, "parts that fit");
     drop(builder.pop().expect(rt, "memory"));
     let (data_type, offsets, values) = builder.into_inner();
     let builder = MutableByteValuesArray::<K, O>::try_new(data_type, offsets, values);
-    let builder = builder.expect(rt, "parts of a builder");
+    let builder = builder.expect(rt, "parts of a builder without nulls");
     let left: Parts = (&[2, 3], b"\xFF\xFF\x01", "none");
     check_values(rt, "an item is left", &builder, left);
     drop(builder);
 }
 
-#[test]
-fn parts_of_popped_builders_are_accepted(rt: HostRuntime) {
-    check_pop::<Binary, i32>(&rt);
-    check_pop::<Binary, i64>(&rt);
-    check_pop::<Utf8, i32>(&rt);
-    check_pop::<Utf8, i64>(&rt);
-    check_popped_values::<Binary, i32>(&rt);
-    check_popped_values::<Binary, i64>(&rt);
-    check_popped_values::<Utf8, i32>(&rt);
-    check_popped_values::<Utf8, i64>(&rt);
-}
-
 /// Compares the item that is popped from behind another byte, and what is left.
-fn check_popped_item<O: Offset>(rt: &(impl Abort + AllocGlobal)) {
+fn bytes_before_a_popped_item_stay<O: Offset>(rt: &(impl Abort + AllocGlobal)) {
     let mut builder = own_builder::<Binary, O>(rt, (&[1, 3], b"\x07\x08\x09", "none"));
     let item = builder.pop().expect(rt, "memory").expect(rt, "an item");
     assert_text::value(item.as_slice(), [8, 9].as_slice()).expect(rt, "the item");
     drop(item);
     check_builder(rt, "the byte before it", &builder, (&[1], b"\x07", "none"));
     drop(builder);
-}
-
-#[test]
-fn bytes_before_a_popped_item_stay(rt: HostRuntime) {
-    check_popped_item::<i32>(&rt);
-    check_popped_item::<i64>(&rt);
-    check_popped_item::<Tiny>(&rt);
 }
 
 /// A name, the parts of an array, and the bytes and the mask of its builder.
@@ -158,21 +110,12 @@ const THAWS: &[(&str, Parts, &[u8], &str)] = &[
 ];
 
 /// Compares the builder of a thawed array, which has no bytes behind the last slot.
-fn check_thaw<K: ByteKind, O: Offset>(rt: &(impl Abort + AllocGlobal)) {
+fn thawed_arrays_end_at_their_last_offset<K: ByteKind, O: Offset>(rt: &(impl Abort + AllocGlobal)) {
     for (case, parts, bytes, mask) in THAWS {
         let builder = thawed(rt, own_array::<K, O>(rt, *parts));
         check_builder(rt, *case, &builder, (parts.0, *bytes, *mask));
         drop(builder);
     }
-}
-
-#[test]
-fn thawed_arrays_end_at_their_last_offset(rt: HostRuntime) {
-    check_thaw::<Binary, i32>(&rt);
-    check_thaw::<Binary, i64>(&rt);
-    check_thaw::<Utf8, i32>(&rt);
-    check_thaw::<Utf8, i64>(&rt);
-    check_thaw::<Utf8, Tiny>(&rt);
 }
 
 /// Compares a builder after a push, and a builder of its parts.
@@ -193,7 +136,7 @@ fn check_push<K: BorrowItem<'static>, O: Offset>(
 }
 
 /// Compares builders after a push: thawed arrays with a byte behind the slot, and one with a byte before its slots.
-fn check_pushes<O: Offset>(rt: &(impl Abort + AllocGlobal)) {
+fn pushed_items_follow_the_last_slot<O: Offset>(rt: &(impl Abort + AllocGlobal)) {
     let parts: Parts = (&[0, 1], b"a\xFF", "none");
     let grown: Parts = (&[0, 1, 2], b"ab", "none");
     let builder = thawed(rt, own_array::<Binary, O>(rt, parts));
@@ -205,13 +148,6 @@ fn check_pushes<O: Offset>(rt: &(impl Abort + AllocGlobal)) {
     check_push(rt, "behind another byte", builder, "c", grown);
 }
 
-#[test]
-fn pushed_items_follow_the_last_slot(rt: HostRuntime) {
-    check_pushes::<i32>(&rt);
-    check_pushes::<i64>(&rt);
-    check_pushes::<Tiny>(&rt);
-}
-
 /// A name, and the parts of an array.
 const SHARED: &[(&str, Parts)] = &[
     ("the last is null", (&[0, 5, 6, 6], b"hello ", "110")),
@@ -219,14 +155,14 @@ const SHARED: &[(&str, Parts)] = &[
 ];
 
 /// Compares an array and its clone, which does not thaw, and the builder of the array once the clone is dropped.
-fn check_clone<K: ByteKind, O: Offset>(rt: &(impl Abort + AllocGlobal)) {
+fn arrays_thaw_once_their_clones_are_dropped<K: ByteKind, O: Offset>(
+    rt: &(impl Abort + AllocGlobal),
+) {
     for (case, parts) in SHARED {
         let first = own_array::<K, O>(rt, *parts);
         let second = first.clone().expect(rt, "memory");
-        let second = second
-            .into_mut()
-            .left()
-            .expect(rt, "a shared array stays frozen");
+        let second = second.into_mut().left();
+        let second = second.expect(rt, "a shared array stays frozen");
         check_array(rt, *case, &first, *parts);
         check_array(rt, *case, &second, *parts);
         drop(second);
@@ -236,10 +172,34 @@ fn check_clone<K: ByteKind, O: Offset>(rt: &(impl Abort + AllocGlobal)) {
     }
 }
 
+/// Compares arrays and builders over a type of offsets.
+fn check<O: Offset>(rt: &(impl Abort + AllocGlobal)) {
+    nulls_store_no_byte::<O>(rt);
+    slices_keep_all_bytes::<O>(rt);
+    bytes_before_a_popped_item_stay::<O>(rt);
+    pushed_items_follow_the_last_slot::<O>(rt);
+    thawed_arrays_end_at_their_last_offset::<Utf8, O>(rt);
+}
+
 #[test]
-fn arrays_thaw_once_their_clones_are_dropped(rt: HostRuntime) {
-    check_clone::<Binary, i32>(&rt);
-    check_clone::<Binary, i64>(&rt);
-    check_clone::<Utf8, i32>(&rt);
-    check_clone::<Utf8, i64>(&rt);
+fn bytes_around_slots_of_each_offset(rt: HostRuntime) {
+    check::<i32>(&rt);
+    check::<i64>(&rt);
+    check::<Tiny>(&rt);
+}
+
+/// Compares arrays and builders of a kind over a type of offsets.
+fn check_kind<K: ByteKind, O: Offset>(rt: &(impl Abort + AllocGlobal)) {
+    parts_of_slices_are_accepted::<K, O>(rt);
+    parts_of_popped_builders_are_accepted::<K, O>(rt);
+    arrays_thaw_once_their_clones_are_dropped::<K, O>(rt);
+    thawed_arrays_end_at_their_last_offset::<K, O>(rt);
+}
+
+#[test]
+fn bytes_around_slots_of_each_kind(rt: HostRuntime) {
+    check_kind::<Binary, i32>(&rt);
+    check_kind::<Binary, i64>(&rt);
+    check_kind::<Utf8, i32>(&rt);
+    check_kind::<Utf8, i64>(&rt);
 }

@@ -74,10 +74,8 @@ fn lying<'a, T: Copy>(items: &'a [T], (_, has_lower, has_upper, more): Lie) -> L
 
 #[test]
 fn numbers_are_taken_from_an_iterator_that_lies(rt: HostRuntime) {
-    let (values, slots) = (
-        [1_i64, 0, 3].as_slice(),
-        [Some(1_i64), None, Some(3)].as_slice(),
-    );
+    let values = [1_i64, 0, 3].as_slice();
+    let slots = [Some(1_i64), None, Some(3)].as_slice();
     for lie in LIES {
         let (lie, case) = (*lie, lie.0);
         let mut builder = MutablePrimitiveArray::<i64>::new(rt.alloc());
@@ -85,9 +83,8 @@ fn numbers_are_taken_from_an_iterator_that_lies(rt: HostRuntime) {
         assert_text::growing_mask(builder.validity(), "none").expect(&rt, case);
         builder.extend(lying(slots, lie)).expect(&rt, case);
         builder.try_extend(lying(slots, lie)).expect(&rt, case);
-        assert_text::slots(builder.values_iter().map(Some), "[1 0 3 1 0 3 1 0 3]").expect(
-            &rt, case,
-        );
+        let all = [1, 0, 3, 1, 0, 3, 1, 0, 3];
+        assert_text::value(builder.values().as_slice(), all.as_slice()).expect(&rt, case);
         assert_text::growing_mask(builder.validity(), "111101101").expect(&rt, case);
         drop(builder);
         let builder = MutablePrimitiveArray::from_iter(rt.alloc(), lying(slots, lie));
@@ -147,14 +144,11 @@ const ALL: Parts = (
 /// Compares builders of three items that come from an iterator that lies.
 fn check_builders<K: ByteKind, X: ByteItem<K> + ItemError<Error = Error> + 'static>(
     rt: &(impl Abort + AllocGlobal),
-    (case, has_lower, has_upper, more): Lie,
-    items: [X; 3],
+    lie: Lie,
+    items: &[X],
+    slots: &[Option<X>],
 ) {
-    let (lie, slots) = (
-        (case, has_lower, has_upper, more),
-        [Some(items[0]), None, Some(items[2])],
-    );
-    let (items, slots) = (items.as_slice(), slots.as_slice());
+    let case = lie.0;
     let mut builder = MutableByteArray::<K, i32>::new(rt.alloc()).expect(rt, "memory");
     builder.extend_values(lying(items, lie)).expect(rt, case);
     check_builder(rt, case, &builder, ITEMS);
@@ -175,14 +169,11 @@ fn check_builders<K: ByteKind, X: ByteItem<K> + ItemError<Error = Error> + 'stat
 /// Compares builders without nulls, and arrays, of three items that come from an iterator that lies.
 fn check_arrays<K: ByteKind, X: ByteItem<K> + ItemError<Error = Error> + 'static>(
     rt: &(impl Abort + AllocGlobal),
-    (case, has_lower, has_upper, more): Lie,
-    items: [X; 3],
+    lie: Lie,
+    items: &[X],
+    slots: &[Option<X>],
 ) {
-    let (lie, slots) = (
-        (case, has_lower, has_upper, more),
-        [Some(items[0]), None, Some(items[2])],
-    );
-    let (items, slots) = (items.as_slice(), slots.as_slice());
+    let case = lie.0;
     let mut builder = MutableByteValuesArray::<K, i32>::new(rt.alloc()).expect(rt, "memory");
     builder.extend(lying(items, lie)).expect(rt, case);
     check_values(rt, case, &builder, ITEMS);
@@ -209,13 +200,15 @@ fn check_arrays<K: ByteKind, X: ByteItem<K> + ItemError<Error = Error> + 'static
 
 #[test]
 fn bytes_and_texts_are_taken_from_an_iterator_that_lies(rt: HostRuntime) {
-    let bytes: [&'static [u8]; 3] = [b"hi", b"", b"there"];
-    let texts = ["hi", "", "there"];
+    let bytes: &[&'static [u8]] = &[b"hi", b"", b"there"];
+    let byte_slots: &[Option<&'static [u8]>] = &[Some(b"hi"), None, Some(b"there")];
+    let texts: &[&'static str] = &["hi", "", "there"];
+    let text_slots: &[Option<&'static str>] = &[Some("hi"), None, Some("there")];
     for lie in LIES {
-        check_builders::<Binary, &[u8]>(&rt, *lie, bytes);
-        check_builders::<Utf8, &str>(&rt, *lie, texts);
-        check_arrays::<Binary, &[u8]>(&rt, *lie, bytes);
-        check_arrays::<Utf8, &str>(&rt, *lie, texts);
+        check_builders::<Binary, &[u8]>(&rt, *lie, bytes, byte_slots);
+        check_builders::<Utf8, &str>(&rt, *lie, texts, text_slots);
+        check_arrays::<Binary, &[u8]>(&rt, *lie, bytes, byte_slots);
+        check_arrays::<Utf8, &str>(&rt, *lie, texts, text_slots);
     }
 }
 

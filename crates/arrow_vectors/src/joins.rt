@@ -1,6 +1,5 @@
 //! Builders that take the slots of another: numbers, bytes and text, and items that would end past the greatest offset.
 use crate::overflow::{FORTY, FORTY_ONE, SIXTY};
-use crate::primitive;
 use crate::raw::{Parts, check_builder, own_builder};
 use arrow_bytes::{Binary, ByteKind, Utf8};
 use arrow_primitive::MutablePrimitiveArray;
@@ -26,35 +25,35 @@ const NUMBERS: &[Numbers] = &[
     ("nothing", &[], &[], &[], "none"),
 ];
 
-/// Creates a builder of slots that are pushed one by one.
-fn pushed(rt: &(impl Abort + AllocGlobal), slots: &[Option<i32>]) -> MutablePrimitiveArray<i32> {
-    let mut builder = MutablePrimitiveArray::new(rt.alloc());
-    for slot in slots {
-        builder.push(*slot).expect(rt, "memory");
-    }
-    builder
-}
-
 #[test]
 fn slots_behind_others_keep_their_marks(rt: HostRuntime) {
     for (case, first, second, values, mask) in NUMBERS {
-        let mut builder = pushed(&rt, *first);
-        let other = pushed(&rt, *second);
+        let mut builder = MutablePrimitiveArray::new(rt.alloc());
+        for slot in *first {
+            builder.push(*slot).expect(&rt, "memory");
+        }
+        let mut other = MutablePrimitiveArray::new(rt.alloc());
+        for slot in *second {
+            other.push(*slot).expect(&rt, "memory");
+        }
         builder.try_extend_from_self(&other).expect(&rt, "memory");
         drop(other);
-        primitive::check_builder(&rt, *case, &builder, *values, *mask);
+        assert_text::value(builder.values().as_slice(), *values).expect(&rt, *case);
+        assert_text::growing_mask(builder.validity(), *mask).expect(&rt, *case);
         drop(builder);
     }
 }
 
 #[test]
 fn values_of_a_vector_are_valid_behind_a_null(rt: HostRuntime) {
-    let mut builder = pushed(&rt, [None].as_slice());
+    let mut builder = MutablePrimitiveArray::new(rt.alloc());
+    builder.push(None).expect(&rt, "memory");
     let other = MutablePrimitiveArray::from_vec([1].to_vec(rt.alloc()).expect(&rt, "memory"));
     builder.try_extend_from_self(&other).expect(&rt, "memory");
     drop(other);
     assert_text::slots(builder.iter(), "[_ 1]").expect(&rt, "slots");
-    primitive::check_builder(&rt, "parts", &builder, [0, 1].as_slice(), "01");
+    assert_text::value(builder.values().as_slice(), [0, 1].as_slice()).expect(&rt, "values");
+    assert_text::growing_mask(builder.validity(), "01").expect(&rt, "mask");
     drop(builder);
 }
 

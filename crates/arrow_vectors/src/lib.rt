@@ -5,7 +5,7 @@
 //! |---|---|
 //! | raw offsets, and slots that end near the greatest offset | `offsets` |
 //! | marks of raw bytes | `masks` |
-//! | slots, parts, slices, clones and thawed arrays of numbers and of booleans | `primitive`, `boolean` |
+//! | slots, parts, slices, clones and thawed arrays of numbers and of booleans | `columns` |
 //! | raw parts of bytes and text: the order of refusals, extension types | `parts` |
 //! | bytes around the slots of bytes and text, in slices, thawed arrays and builders | `bytes` |
 //! | where bytes can be cut into text | `text` |
@@ -17,9 +17,9 @@
 #![tactic(auto)]
 
 #[cfg(test)]
-mod boolean;
-#[cfg(test)]
 mod bytes;
+#[cfg(test)]
+mod columns;
 #[cfg(test)]
 mod iterators;
 #[cfg(test)]
@@ -34,8 +34,6 @@ mod offsets;
 mod overflow;
 #[cfg(test)]
 mod parts;
-#[cfg(test)]
-mod primitive;
 #[cfg(test)]
 mod raw;
 #[cfg(test)]

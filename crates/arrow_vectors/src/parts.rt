@@ -33,15 +33,8 @@ const UTF8_BUILDER: &str =
     "MutableUtf8ValuesArray can only be initialized with DataType::Utf8 or DataType::LargeUtf8";
 
 /// A name, which lists the faults; a data type, which is the `own`, that of the other `kind`, or that of offsets of
-/// the other `width`; offsets, bytes and a mask; and the expected answer.
-type Row = (
-    &'static str,
-    &'static str,
-    &'static [usize],
-    &'static [u8],
-    &'static str,
-    &'static str,
-);
+/// the other `width`; parts; and the expected answer.
+type Row = (&'static str, &'static str, Parts, &'static str);
 
 /// Returns the data type that a word names.
 fn type_of<K: ByteKind, Other: ByteKind>(word: &str, is_large: bool) -> DataType {
@@ -52,48 +45,37 @@ fn type_of<K: ByteKind, Other: ByteKind>(word: &str, is_large: bool) -> DataType
     }
 }
 
-/// Compares the answer to the parts of an array.
-fn check_array<K: ByteKind, Other: ByteKind, O: Offset>(
-    rt: &(impl Abort + AllocGlobal),
-    of_type: &str,
-    row: &Row,
-) {
-    let (case, word, offsets, bytes, mask, answer) = *row;
-    let data_type = type_of::<K, Other>(word, O::IS_LARGE);
-    let came = tells(array_of::<K, O>(rt, data_type, (offsets, bytes, mask)));
-    let expected = if answer == TYPE { of_type } else { answer };
-    assert_text::value(came, expected).expect(rt, case);
-}
-
-/// Compares the answers to the parts of a builder, and to those of one without nulls, which has no mask to refuse.
-fn check_builder<K: ByteKind, Other: ByteKind, O: Offset>(
-    rt: &(impl Abort + AllocGlobal),
-    of_type: &str,
-    row: &Row,
-) {
-    let (case, word, offsets, bytes, mask, answer) = *row;
-    let parts: Parts = (offsets, bytes, mask);
-    let data_type = type_of::<K, Other>(word, O::IS_LARGE);
-    let came = tells(builder_of::<K, O>(rt, data_type, parts));
-    let expected = if answer == TYPE { of_type } else { answer };
-    assert_text::value(came, expected).expect(rt, case);
-    let data_type = type_of::<K, Other>(word, O::IS_LARGE);
-    let came = tells(values_of::<K, O>(rt, data_type, parts));
-    let expected = if expected == LEN { MADE } else { expected };
-    assert_text::value(came, expected).expect(rt, case);
-}
-
 /// Compares the answers to the parts of arrays of a kind, over each type of offsets.
 fn check_arrays<K: ByteKind, Other: ByteKind>(
     rt: &(impl Abort + AllocGlobal),
     of_type: &str,
     rows: &[Row],
 ) {
-    for row in rows {
-        check_array::<K, Other, i32>(rt, of_type, row);
-        check_array::<K, Other, i64>(rt, of_type, row);
-        check_array::<K, Other, Tiny>(rt, of_type, row);
+    for (case, word, parts, answer) in rows {
+        let expected = if *answer == TYPE { of_type } else { *answer };
+        let came = [
+            tells(array_of::<K, i32>(rt, type_of::<K, Other>(*word, false), *parts)),
+            tells(array_of::<K, i64>(rt, type_of::<K, Other>(*word, true), *parts)),
+            tells(array_of::<K, Tiny>(rt, type_of::<K, Other>(*word, false), *parts)),
+        ];
+        assert_text::value(came, [expected; 3]).expect(rt, *case);
     }
+}
+
+/// Compares the answers to the parts of a builder, and to those of one without nulls, which has no mask to refuse.
+fn check_builder<K: ByteKind, Other: ByteKind, O: Offset>(
+    rt: &(impl Abort + AllocGlobal),
+    of_type: &str,
+    (case, word, parts, answer): Row,
+) {
+    let expected = if answer == TYPE { of_type } else { answer };
+    let data_type = type_of::<K, Other>(word, O::IS_LARGE);
+    let came = tells(builder_of::<K, O>(rt, data_type, parts));
+    assert_text::value(came, expected).expect(rt, case);
+    let expected = if answer == LEN { MADE } else { expected };
+    let data_type = type_of::<K, Other>(word, O::IS_LARGE);
+    let came = tells(values_of::<K, O>(rt, data_type, parts));
+    assert_text::value(came, expected).expect(rt, case);
 }
 
 /// Compares the answers to the parts of builders of a kind, over each type of offsets.
@@ -103,41 +85,27 @@ fn check_builders<K: ByteKind, Other: ByteKind>(
     rows: &[Row],
 ) {
     for row in rows {
-        check_builder::<K, Other, i32>(rt, of_type, row);
-        check_builder::<K, Other, i64>(rt, of_type, row);
-        check_builder::<K, Other, Tiny>(rt, of_type, row);
+        check_builder::<K, Other, i32>(rt, of_type, *row);
+        check_builder::<K, Other, i64>(rt, of_type, *row);
+        check_builder::<K, Other, Tiny>(rt, of_type, *row);
     }
 }
 
 const ARRAYS: &[Row] = &[
-    (
-        "no slot behind two bytes",
-        "own",
-        &[2],
-        b"999",
-        "none",
-        MADE,
-    ),
-    ("past the end, no slot", "own", &[3], b"99", "none", PAST),
-    ("past the end", "own", &[1, 4], b"999", "none", PAST),
-    ("past the end, mask", "own", &[1, 4], b"999", "11", PAST),
-    ("past the end, kind", "kind", &[1, 4], b"999", "none", PAST),
-    ("past, mask, kind", "kind", &[1, 4], b"999", "11", PAST),
-    ("mask, kind", "kind", &[1, 3], b"999", "11", MASK),
-    ("empty mask, width", "width", &[1, 3], b"999", "", MASK),
-    ("mask", "own", &[1, 3], b"999", "11", MASK),
-    ("kind", "kind", &[1, 3], b"999", "1", TYPE),
-    (
-        "kind, without a mask",
-        "kind",
-        &[1, 3],
-        b"999",
-        "none",
-        TYPE,
-    ),
-    ("width", "width", &[0, 0], b"", "none", TYPE),
-    ("none, with a mask", "own", &[1, 3], b"999", "1", MADE),
-    ("none", "own", &[1, 3], b"999", "none", MADE),
+    ("a lead", "own", (&[2], b"999", "none"), MADE),
+    ("past, no slot", "own", (&[3], b"99", "none"), PAST),
+    ("past the end", "own", (&[1, 4], b"999", "none"), PAST),
+    ("past, mask", "own", (&[1, 4], b"999", "11"), PAST),
+    ("past, kind", "kind", (&[1, 4], b"999", "none"), PAST),
+    ("past, mask, kind", "kind", (&[1, 4], b"999", "11"), PAST),
+    ("mask, kind", "kind", (&[1, 3], b"999", "11"), MASK),
+    ("mask, width", "width", (&[1, 3], b"999", ""), MASK),
+    ("mask", "own", (&[1, 3], b"999", "11"), MASK),
+    ("kind", "kind", (&[1, 3], b"999", "1"), TYPE),
+    ("kind, no mask", "kind", (&[1, 3], b"999", "none"), TYPE),
+    ("width", "width", (&[0, 0], b"", "none"), TYPE),
+    ("none, a mask", "own", (&[1, 3], b"999", "1"), MADE),
+    ("none", "own", (&[1, 3], b"999", "none"), MADE),
 ];
 
 const EYES: &[u8] = b"\xF0\x9F\x98\x80";
@@ -145,18 +113,18 @@ const EYES: &[u8] = b"\xF0\x9F\x98\x80";
 const ACCENTS: &[u8] = b"\xC3\xA9\xC3\xA8";
 
 const TEXT_ARRAYS: &[Row] = &[
-    ("cut in è", "own", &[0, 1, 4], ACCENTS, "none", TEXT),
-    ("half of é", "own", &[1, 2], ACCENTS, "none", TEXT),
-    ("cut in 😀", "own", &[0, 2, 4], EYES, "none", TEXT),
-    ("past, no slot", "own", &[5], b"", "none", PAST),
-    ("past, text", "own", &[0, 3], b"\xC3a", "none", PAST),
-    ("all", "kind", &[0, 3], b"\xC3a", "11111", PAST),
-    ("text, mask, kind", "kind", &[0, 2], b"\xC3a", "11111", TEXT),
-    ("text, mask", "own", &[0, 2], b"\xC3a", "11111", TEXT),
-    ("text, kind", "kind", &[0, 2], b"\xC3a", "none", TEXT),
-    ("text, width", "width", &[0, 2], b"\xC3a", "0", TEXT),
-    ("mask, kind", "kind", &[0, 2], b"ab", "11111", MASK),
-    ("kind", "kind", &[0, 2], b"ab", "0", TYPE),
+    ("cut in è", "own", (&[0, 1, 4], ACCENTS, "none"), TEXT),
+    ("half of é", "own", (&[1, 2], b"\xC3\xA9", "none"), TEXT),
+    ("cut in 😀", "own", (&[0, 2, 4], EYES, "none"), TEXT),
+    ("past, no slot", "own", (&[5], b"", "none"), PAST),
+    ("past, text", "own", (&[0, 3], b"\xC3a", "none"), PAST),
+    ("past, all", "kind", (&[0, 3], b"\xC3a", "11111"), PAST),
+    ("all", "kind", (&[0, 2], b"\xC3a", "11111"), TEXT),
+    ("text, mask", "own", (&[0, 2], b"\xC3a", "11111"), TEXT),
+    ("text, kind", "kind", (&[0, 2], b"\xC3a", "none"), TEXT),
+    ("text, width", "width", (&[0, 2], b"\xC3a", "0"), TEXT),
+    ("mask, kind", "kind", (&[0, 2], b"ab", "11111"), MASK),
+    ("kind", "kind", (&[0, 2], b"ab", "0"), TYPE),
 ];
 
 #[test]
@@ -167,50 +135,36 @@ fn arrays_are_refused_by_their_first_fault(rt: HostRuntime) {
 }
 
 const BUILDERS: &[Row] = &[
-    ("before the end", "own", &[0, 2], b"999", "none", END),
-    ("past the end", "own", &[0, 4], b"999", "none", END),
-    ("end, kind, mask", "kind", &[0, 2], b"999", "11", END),
-    ("all, with a lead", "kind", &[1, 3], b"9999", "11", END),
-    ("end, width", "width", &[1, 3], b"9999", "none", END),
-    ("end, mask", "own", &[1, 3], b"9999", "11", END),
-    ("kind, mask", "kind", &[0, 3], b"999", "11", TYPE),
-    ("width, mask", "width", &[1, 3], b"999", "11", TYPE),
-    ("kind", "kind", &[1, 3], b"999", "none", TYPE),
-    (
-        "kind, mask, with a lead",
-        "kind",
-        &[1, 3],
-        b"999",
-        "11",
-        TYPE,
-    ),
-    ("mask, with a lead", "own", &[1, 3], b"999", "11", LEN),
-    ("mask", "own", &[0, 3], b"999", "11", LEN),
-    ("empty mask", "own", &[1, 3], b"999", "", LEN),
-    ("none", "own", &[1, 3], b"999", "1", MADE),
-    (
-        "no slot behind three bytes",
-        "own",
-        &[3],
-        b"999",
-        "none",
-        MADE,
-    ),
+    ("before the end", "own", (&[0, 2], b"999", "none"), END),
+    ("past the end", "own", (&[0, 4], b"999", "none"), END),
+    ("end, kind, mask", "kind", (&[0, 2], b"999", "11"), END),
+    ("all, a lead", "kind", (&[1, 3], b"9999", "11"), END),
+    ("end, width", "width", (&[1, 3], b"9999", "none"), END),
+    ("end, mask", "own", (&[1, 3], b"9999", "11"), END),
+    ("kind, mask", "kind", (&[0, 3], b"999", "11"), TYPE),
+    ("width, mask", "width", (&[1, 3], b"999", "11"), TYPE),
+    ("kind", "kind", (&[1, 3], b"999", "none"), TYPE),
+    ("kind, mask, a lead", "kind", (&[1, 3], b"999", "11"), TYPE),
+    ("mask, a lead", "own", (&[1, 3], b"999", "11"), LEN),
+    ("mask", "own", (&[0, 3], b"999", "11"), LEN),
+    ("empty mask", "own", (&[1, 3], b"999", ""), LEN),
+    ("none", "own", (&[1, 3], b"999", "1"), MADE),
+    ("a lead", "own", (&[3], b"999", "none"), MADE),
 ];
 
 const TEXT_BUILDERS: &[Row] = &[
-    ("before the end", "own", &[0, 1], b"a\xFF", "none", END),
-    ("with a lead", "own", &[1, 2, 3], b"\xFFab\xFF", "none", END),
-    ("past, text", "own", &[0, 3], b"\xC3a", "none", END),
-    ("all", "kind", &[0, 1], b"\xC3a", "11111", END),
-    ("cut in è", "own", &[0, 1, 4], ACCENTS, "none", TEXT),
-    ("text, kind, mask", "kind", &[0, 2], b"\xC3a", "11111", TEXT),
-    ("text, mask", "own", &[0, 2], b"\xC3a", "11111", TEXT),
-    ("text, width", "width", &[0, 2], b"\xC3a", "none", TEXT),
-    ("kind, mask", "kind", &[0, 2], b"ab", "11111", TYPE),
-    ("mask", "own", &[0, 2], b"ab", "11111", LEN),
-    ("no text in the lead", "own", &[1, 3], b"\xFFab", "0", MADE),
-    ("two slots", "own", &[1, 2, 3], b"\xFFab", "none", MADE),
+    ("before the end", "own", (&[0, 1], b"a\xFF", "none"), END),
+    ("a lead", "own", (&[1, 2, 3], b"\xFFab\xFF", "none"), END),
+    ("past, text", "own", (&[0, 3], b"\xC3a", "none"), END),
+    ("end, all", "kind", (&[0, 1], b"\xC3a", "11111"), END),
+    ("cut in è", "own", (&[0, 1, 4], ACCENTS, "none"), TEXT),
+    ("all", "kind", (&[0, 2], b"\xC3a", "11111"), TEXT),
+    ("text, mask", "own", (&[0, 2], b"\xC3a", "11111"), TEXT),
+    ("text, width", "width", (&[0, 2], b"\xC3a", "none"), TEXT),
+    ("kind, mask", "kind", (&[0, 2], b"ab", "11111"), TYPE),
+    ("mask", "own", (&[0, 2], b"ab", "11111"), LEN),
+    ("a lead", "own", (&[1, 3], b"\xFFab", "0"), MADE),
+    ("two slots", "own", (&[1, 2, 3], b"\xFFab", "none"), MADE),
 ];
 
 #[test]

@@ -8,7 +8,7 @@ use arrow_utf8::Utf8Array;
 use std::process::Abort;
 
 /// Compares an array of three slots.
-fn check_slots<O: Offset>(rt: &(impl Abort + AllocGlobal)) {
+fn nulls_store_no_byte<O: Offset>(rt: &(impl Abort + AllocGlobal)) {
     let slots = [Some("hi"), None, Some("there")];
     let array = Utf8Array::<O>::from(rt.alloc(), slots.as_slice()).expect(rt, "memory");
     let mut items = array.values_iter();
@@ -19,29 +19,17 @@ fn check_slots<O: Offset>(rt: &(impl Abort + AllocGlobal)) {
     drop(array);
 }
 
-#[test]
-fn a_null_stores_no_byte_under_a_clear_mark(rt: HostRuntime) {
-    check_slots::<i32>(&rt);
-    check_slots::<i64>(&rt);
-    check_slots::<Tiny>(&rt);
-}
+/// Two characters of two bytes, and one of four.
+const ACCENTS: &[u8] = b"\xC3\xA9\xC3\xA8";
+
+const FOUR: &[u8] = b"\xF0\x9F\x98\x80";
 
 /// A name, offsets, bytes, and the texts between the offsets.
 const CUTS: &[(&str, &[usize], &[u8], &str)] = &[
-    (
-        "two accents",
-        &[0, 2, 4],
-        b"\xC3\xA9\xC3\xA8",
-        "[\"é\" \"è\"]",
-    ),
-    ("none in a character", &[1, 1], b"\xC3\xA9", "[\"\"]"),
-    ("behind it", &[0, 4, 4], b"\xF0\x9F\x98\x80", "[\"😀\" \"\"]"),
-    (
-        "twice in it",
-        &[2, 2, 2],
-        b"\xF0\x9F\x98\x80",
-        "[\"\" \"\"]",
-    ),
+    ("accents", &[0, 2, 4], ACCENTS, "[\"é\" \"è\"]"),
+    ("no byte in an accent", &[1, 1], ACCENTS, "[\"\"]"),
+    ("no byte behind four", &[0, 4, 4], FOUR, "[\"😀\" \"\"]"),
+    ("no byte in four", &[2, 2, 2], FOUR, "[\"\" \"\"]"),
     ("around", &[1, 2, 3], b"\xFFab\xFF", "[\"a\" \"b\"]"),
     ("behind", &[0, 1], b"a\xFF", "[\"a\"]"),
     ("no slot", &[2], b"\xFF\xFF\xFF", "[]"),
@@ -49,7 +37,7 @@ const CUTS: &[(&str, &[usize], &[u8], &str)] = &[
 ];
 
 /// Compares the texts of arrays.
-fn check_cuts<O: Offset>(rt: &(impl Abort + AllocGlobal)) {
+fn each_slot_is_text_by_itself<O: Offset>(rt: &(impl Abort + AllocGlobal)) {
     for (case, offsets, bytes, expected) in CUTS {
         let array = own_array::<Utf8, O>(rt, (*offsets, *bytes, "none"));
         assert_text::slots(array.values_iter().map(Some), *expected).expect(rt, *case);
@@ -57,21 +45,14 @@ fn check_cuts<O: Offset>(rt: &(impl Abort + AllocGlobal)) {
     }
 }
 
-#[test]
-fn each_slot_is_text_by_itself(rt: HostRuntime) {
-    check_cuts::<i32>(&rt);
-    check_cuts::<i64>(&rt);
-    check_cuts::<Tiny>(&rt);
-}
-
 const NO_TEXT: &str = "every text between two offsets must be UTF-8";
 
 /// A name, bytes, and a `1` for each index at which they can be cut into two texts.
 const CUT_AT: &[(&str, &[u8], &str)] = &[
     ("one byte each", b"abc", "1111"),
-    ("two bytes each", b"\xC3\xA9\xC3\xA8", "10101"),
+    ("two bytes each", ACCENTS, "10101"),
     ("three bytes and one", b"\xE2\x82\xACa", "10011"),
-    ("four bytes", b"\xF0\x9F\x98\x80", "10001"),
+    ("four bytes", FOUR, "10001"),
     ("a character that ends early", b"a\xC3", "000"),
     ("a byte of no character", b"\xFFa", "000"),
     ("a surrogate", b"\xED\xA0\x80", "0000"),
@@ -79,7 +60,7 @@ const CUT_AT: &[(&str, &[u8], &str)] = &[
 ];
 
 /// Compares the answers to bytes that are cut into two slots, at each index.
-fn check_cut_at<O: Offset>(rt: &(impl Abort + AllocGlobal)) {
+fn bytes_are_cut_between_characters<O: Offset>(rt: &(impl Abort + AllocGlobal)) {
     for (case, bytes, marks) in CUT_AT {
         for (index, mark) in marks.as_bytes().iter().enumerate() {
             let offsets = frozen_offsets(rt.alloc(), [0, index, bytes.len()].as_slice());
@@ -94,9 +75,16 @@ fn check_cut_at<O: Offset>(rt: &(impl Abort + AllocGlobal)) {
     }
 }
 
+/// Compares text over a type of offsets.
+fn check<O: Offset>(rt: &(impl Abort + AllocGlobal)) {
+    nulls_store_no_byte::<O>(rt);
+    each_slot_is_text_by_itself::<O>(rt);
+    bytes_are_cut_between_characters::<O>(rt);
+}
+
 #[test]
-fn bytes_are_cut_between_characters(rt: HostRuntime) {
-    check_cut_at::<i32>(&rt);
-    check_cut_at::<i64>(&rt);
-    check_cut_at::<Tiny>(&rt);
+fn bytes_are_cut_into_text_by_each_offset(rt: HostRuntime) {
+    check::<i32>(&rt);
+    check::<i64>(&rt);
+    check::<Tiny>(&rt);
 }
