@@ -16,15 +16,15 @@ use std::fmt::Debug;
 use std::process::Abort;
 
 /// Compares all reads of an array with the default type, stored values and marks, and drops it.
-fn check<T: NativeType + Debug, const N: usize>(
+fn check<T: NativeType + Debug>(
     rt: &impl Abort,
     case: &str,
     answer: Result<PrimitiveArray<T>, Error>,
-    values: [T; N],
+    values: &[T],
     mask: &str,
 ) {
     let array = answer.expect(rt, case);
-    let (values, marks) = (values.as_slice(), mask.as_bytes());
+    let marks = mask.as_bytes();
     let data_type = T::PRIMITIVE.default_data_type();
     assert_text::value(array.data_type(), &data_type).expect(rt, case);
     assert_text::value(array.values().as_slice(), values).expect(rt, case);
@@ -32,10 +32,10 @@ fn check<T: NativeType + Debug, const N: usize>(
     assert_text::mask(array.validity(), mask).expect(rt, case);
     let nulls = marks.iter().filter(|mark| **mark == b'0').count();
     let came = (array.len(), array.is_empty(), array.null_count());
-    assert_text::value(came, (N, N == 0, nulls)).expect(rt, case);
+    assert_text::value(came, (values.len(), values.is_empty(), nulls)).expect(rt, case);
     let (mut slots, mut stored) = (array.iter(), array.values_iter());
-    assert!(rt; array.len() == N);
-    for i in 0..N {
+    assert!(rt; array.len() == values.len());
+    for i in 0..values.len() {
         let is_valid = marks.get(i) != Some(&b'0');
         let slot = if is_valid { Some(values[i]) } else { None };
         let marked = (array.is_valid(i), array.is_null(i));
@@ -48,15 +48,15 @@ fn check<T: NativeType + Debug, const N: usize>(
 }
 
 /// Compares all reads of a builder with the default type, stored values and marks, and drops it.
-fn check_builder<T: NativeType + Debug, const N: usize>(
+fn check_builder<T: NativeType + Debug>(
     rt: &impl Abort,
     case: &str,
     answer: Result<MutablePrimitiveArray<T>, Error>,
-    values: [T; N],
+    values: &[T],
     mask: &str,
 ) {
     let builder = answer.expect(rt, case);
-    let (values, marks) = (values.as_slice(), mask.as_bytes());
+    let marks = mask.as_bytes();
     let data_type = T::PRIMITIVE.default_data_type();
     assert_text::value(builder.data_type(), &data_type).expect(rt, case);
     assert_text::value(builder.values().as_slice(), values).expect(rt, case);
@@ -64,10 +64,10 @@ fn check_builder<T: NativeType + Debug, const N: usize>(
     assert_text::growing_mask(builder.validity(), mask).expect(rt, case);
     let nulls = marks.iter().filter(|mark| **mark == b'0').count();
     let came = (builder.len(), builder.is_empty(), builder.null_count());
-    assert_text::value(came, (N, N == 0, nulls)).expect(rt, case);
+    assert_text::value(came, (values.len(), values.is_empty(), nulls)).expect(rt, case);
     let (mut slots, mut stored) = (builder.iter(), builder.values_iter());
-    assert!(rt; builder.len() == N);
-    for i in 0..N {
+    assert!(rt; builder.len() == values.len());
+    for i in 0..values.len() {
         let is_valid = marks.get(i) != Some(&b'0');
         let slot = if is_valid { Some(values[i]) } else { None };
         let came = (builder.get(i), builder.is_null(i));
@@ -79,11 +79,11 @@ fn check_builder<T: NativeType + Debug, const N: usize>(
 }
 
 /// Creates a builder of these values, without a mask.
-fn growing<T: NativeType, const N: usize>(
+fn growing<T: NativeType>(
     rt: &(impl Abort + AllocGlobal),
-    values: [T; N],
+    values: &[T],
 ) -> MutablePrimitiveArray<T> {
-    MutablePrimitiveArray::from_slice(rt.alloc(), values.as_slice()).expect(rt, "memory")
+    MutablePrimitiveArray::from_slice(rt.alloc(), values).expect(rt, "memory")
 }
 
 /// Creates a buffer of these values.

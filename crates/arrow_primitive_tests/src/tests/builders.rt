@@ -12,32 +12,35 @@ macro_rules! append {
     };
 }
 
-/// Compares what each constructor makes.
-fn check_constructors<T: NativeType + Debug>(rt: &(impl Abort + AllocGlobal), value: T) {
+/// Compares what each constructor makes, of a valid slot or of nothing.
+fn check_constructors<T: NativeType + Debug>(
+    rt: &(impl Abort + AllocGlobal),
+    slot: &[Option<T>],
+    value: &[T],
+) {
     let alloc = rt.alloc();
-    let slots = [Some(value)];
     let builder = MutablePrimitiveArray::<T>::default(alloc);
-    check_builder(rt, "default", Ok(builder), [], "none");
+    check_builder(rt, "default", Ok(builder), &[], "none");
     let data_type = T::PRIMITIVE.default_data_type();
     let builder = MutablePrimitiveArray::<T>::from_data_type(alloc, data_type);
     let builder = builder.to(T::PRIMITIVE.default_data_type());
-    check_builder(rt, "from_data_type, to", Ok(builder), [], "none");
+    check_builder(rt, "from_data_type, to", Ok(builder), &[], "none");
     let data_type = T::PRIMITIVE.default_data_type();
     let builder = MutablePrimitiveArray::<T>::with_capacity_from(alloc, 1, data_type);
-    check_builder(rt, "with_capacity_from", builder, [], "none");
-    let builder = MutablePrimitiveArray::<T>::from_iter(alloc, slots.into_iter());
-    check_builder(rt, "from_iter", builder, [value], "1");
-    let builder = MutablePrimitiveArray::<T>::from(alloc, slots.as_slice());
-    check_builder(rt, "from", builder, [value], "1");
-    check_builder(rt, "from_slice", Ok(growing(rt, [value])), [value], "none");
-    check_builder(rt, "none", Ok(growing::<T, 0>(rt, [])), [], "none");
+    check_builder(rt, "with_capacity_from", builder, &[], "none");
+    let builder = MutablePrimitiveArray::<T>::from_iter(alloc, slot.iter().copied());
+    check_builder(rt, "from_iter", builder, value, "1");
+    let builder = MutablePrimitiveArray::<T>::from(alloc, slot);
+    check_builder(rt, "from", builder, value, "1");
+    check_builder(rt, "from_slice", Ok(growing(rt, value)), value, "none");
+    check_builder(rt, "no value", Ok(growing::<T>(rt, &[])), &[], "none");
 }
 
 #[test]
 fn builders_of_slots_have_a_mask(rt: HostRuntime) {
-    check_constructors::<i32>(&rt, 1);
-    check_constructors::<i64>(&rt, 1);
-    check_constructors(&rt, i256(0, 1));
+    check_constructors::<i32>(&rt, &[Some(1)], &[1]);
+    check_constructors::<i64>(&rt, &[Some(1)], &[1]);
+    check_constructors(&rt, &[Some(i256(0, 1))], &[i256(0, 1)]);
 }
 
 /// Returns the values as they are.
@@ -48,31 +51,36 @@ fn same_values<T: NativeType>(values: Vec<T>) -> Vec<T>
 }
 
 /// Compares a builder to which slots are appended by each call, and one of which is popped, once frozen.
-fn check_growth<T: NativeType + Debug>(rt: &(impl Abort + AllocGlobal), values: [T; 3]) {
-    let [first, value, zero] = values;
-    let builder = MutablePrimitiveArray::<T>::from(rt.alloc(), [Some(first)].as_slice());
+fn check_growth<T: NativeType + Debug>(
+    rt: &(impl Abort + AllocGlobal),
+    first: &[Option<T>],
+    value: &[T],
+    expected: &[T],
+) {
+    let builder = MutablePrimitiveArray::<T>::from(rt.alloc(), first);
     let mut builder = builder.expect(rt, "memory");
     append! { builder, rt;
-        push(Some(value));
+        push(value.first().copied());
         try_push(None);
         push_null();
-        extend([None].into_iter());
-        try_extend([None].into_iter());
-        extend_values([value].into_iter());
-        extend_from_slice([value].as_slice());
-        extend_constant(2, Some(value));
+        extend([true].iter().map(|_| None));
+        try_extend([true].iter().map(|_| None));
+        extend_values(value.iter().copied());
+        extend_from_slice(value);
+        extend_constant(2, value.first().copied());
     }
     let popped = builder.pop();
-    assert_text::value(popped, Some(value)).expect(rt, "pop");
+    assert_text::value(popped, value.first().copied()).expect(rt, "pop");
     builder.apply_values(same_values::<T>);
-    let expected = [first, value, zero, zero, zero, zero, value, value, value];
     check(rt, "frozen", builder.freeze(), expected, "110000111");
 }
 
 #[test]
 fn builders_with_a_mask_grow_and_freeze(rt: HostRuntime) {
-    check_growth::<i32>(&rt, [2, 1, 0]);
-    check_growth(&rt, [i256(1, 2), i256(0, 1), i256(0, 0)]);
+    check_growth::<i32>(&rt, &[Some(2)], &[1], &[2, 1, 0, 0, 0, 0, 1, 1, 1]);
+    let (first, value, zero) = (i256(1, 2), i256(0, 1), i256(0, 0));
+    let expected = [first, value, zero, zero, zero, zero, value, value, value];
+    check_growth(&rt, &[Some(first)], &[value], expected.as_slice());
 }
 
 #[test]
@@ -88,61 +96,72 @@ fn the_first_null_makes_a_mask(rt: HostRuntime) {
         extend_from_slice([9].as_slice());
     }
     let expected = [1, 2, 3, 4, 0, 6, 0, 0, 9];
-    check_builder(&rt, "by extending", Ok(builder), expected, "111101001");
+    check_builder(
+        &rt,
+        "by extending",
+        Ok(builder),
+        expected.as_slice(),
+        "111101001",
+    );
     let mut builder = MutablePrimitiveArray::<i64>::new(rt.alloc());
     for slot in [Some(1), None, Some(2)] {
         builder.push(slot).expect(&rt, "memory");
     }
-    check_builder(&rt, "by push", builder.clone(), [1, 0, 2], "101");
-    check(&rt, "by push, frozen", builder.freeze(), [1, 0, 2], "101");
+    check_builder(&rt, "by push", builder.clone(), &[1, 0, 2], "101");
+    check(&rt, "by push, frozen", builder.freeze(), &[1, 0, 2], "101");
 }
 
 #[test]
 fn set_makes_a_mask_for_a_null(rt: HostRuntime) {
-    let mut builder = growing::<i64, 3>(&rt, [1, 2, 3]);
+    let mut builder = growing::<i64>(&rt, &[1, 2, 3]);
     assert!(rt; builder.len() == 3);
     builder.set(1, None).expect(&rt, "memory");
-    check_builder(&rt, "a null", builder.clone(), [1, 0, 3], "101");
+    check_builder(&rt, "a null", builder.clone(), &[1, 0, 3], "101");
     assert!(rt; builder.len() == 3);
     builder.set(1, Some(7)).expect(&rt, "memory");
-    check_builder(&rt, "overwritten", Ok(builder), [1, 7, 3], "111");
+    check_builder(&rt, "overwritten", Ok(builder), &[1, 7, 3], "111");
 }
 
 #[test]
 fn a_mask_without_a_null_is_dropped_by_freeze(rt: HostRuntime) {
-    let mut builder = growing::<i64, 1>(&rt, [1]);
+    let mut builder = growing::<i64>(&rt, &[1]);
     builder.extend_constant(0, None).expect(&rt, "memory");
-    check_builder(&rt, "no null appended", builder.clone(), [1], "1");
-    check(&rt, "no null appended", builder.freeze(), [1], "none");
+    check_builder(&rt, "no null appended", builder.clone(), &[1], "1");
+    check(&rt, "no null appended", builder.freeze(), &[1], "none");
     let mut builder = MutablePrimitiveArray::<i64>::new(rt.alloc());
     builder.push(None).expect(&rt, "memory");
     assert!(rt; builder.len() == 1);
     builder.set(0, Some(7)).expect(&rt, "memory");
-    check_builder(&rt, "overwritten", builder.clone(), [7], "1");
-    check(&rt, "overwritten", builder.freeze(), [7], "none");
+    check_builder(&rt, "overwritten", builder.clone(), &[7], "1");
+    check(&rt, "overwritten", builder.freeze(), &[7], "none");
 }
 
 /// Compares the copy of a builder of a value that replaced a null, and of another builder's value.
-fn check_copy<T: NativeType + Debug>(rt: &(impl Abort + AllocGlobal), value: T, other: T) {
-    let builder = MutablePrimitiveArray::<T>::from_iter(rt.alloc(), [None].into_iter());
+fn check_copy<T: NativeType + Debug>(
+    rt: &(impl Abort + AllocGlobal),
+    null: &[Option<T>],
+    values: &[T],
+) {
+    assert!(rt; values.len() == 2);
+    let builder = MutablePrimitiveArray::<T>::from_iter(rt.alloc(), null.iter().copied());
     let mut builder = builder.expect(rt, "memory");
     assert!(rt; builder.len() == 1);
-    builder.set(0, Some(value)).expect(rt, "memory");
+    builder.set(0, Some(values[0])).expect(rt, "memory");
     builder.reserve(9).expect(rt, "memory");
     builder.shrink_to_fit().expect(rt, "memory");
-    let second = growing(rt, [other]);
+    let second = growing(rt, &values[1..]);
     builder.try_extend_from_self(&second).expect(rt, "memory");
     drop(second);
     let copy = builder.clone().expect(rt, "memory");
     drop(builder);
     assert_text::value(copy.capacity().min(2), 2).expect(rt, "a capacity of at least 2");
-    check_builder(rt, "the clone", Ok(copy), [value, other], "11");
+    check_builder(rt, "the clone", Ok(copy), values, "11");
 }
 
 #[test]
 fn clones_have_the_slots_of_both_builders(rt: HostRuntime) {
-    check_copy::<i32>(&rt, 2, 1);
-    check_copy(&rt, i256(1, 2), i256(0, 1));
+    check_copy::<i32>(&rt, &[None], &[2, 1]);
+    check_copy(&rt, &[None], &[i256(1, 2), i256(0, 1)]);
 }
 
 #[test]
@@ -151,7 +170,7 @@ fn pops_come_from_the_last_to_the_first(rt: HostRuntime) {
     let builder = MutablePrimitiveArray::<i64>::from(rt.alloc(), slots.as_slice());
     let mut builder = builder.expect(&rt, "memory");
     let popped = [builder.pop(), builder.pop(), builder.pop(), builder.pop()];
-    check_builder(&rt, "after the pops", Ok(builder), [], "");
+    check_builder(&rt, "after the pops", Ok(builder), &[], "");
     assert_text::value(popped, [None, Some(7), None, None]).expect(&rt, "of [_ 7 _]");
 }
 
@@ -171,7 +190,7 @@ fn values_are_changed_in_place(rt: HostRuntime) {
     assert_text::slots(builder.iter(), "[3 2 1]").expect(&rt, "apply_values");
     assert!(rt; builder.len() == 3);
     builder.values_mut_slice()[0] = 7;
-    check_builder(&rt, "values_mut_slice", Ok(builder), [7, 2, 1], "none");
+    check_builder(&rt, "values_mut_slice", Ok(builder), &[7, 2, 1], "none");
 }
 
 #[test]

@@ -70,13 +70,11 @@ fn arrays_and_builders_keep_the_type_that_they_are_given(rt: HostRuntime) {
 
 #[test]
 fn values_stay_under_another_type(rt: HostRuntime) {
-    let array = growing::<i32, 2>(&rt, [1, 2])
-        .freeze()
-        .expect(&rt, "memory");
+    let array = growing::<i32>(&rt, &[1, 2]).freeze().expect(&rt, "memory");
     let dates = array.to(DataType::Date32);
     let numbers = dates.clone().expect(&rt, "memory").to(DataType::Int32);
     assert_text::value(dates.data_type(), &DataType::Date32).expect(&rt, "dates");
     assert_text::slots(dates.iter(), "[1 2]").expect(&rt, "dates");
     drop(dates);
-    check(&rt, "numbers", Ok(numbers), [1, 2], "none");
+    check(&rt, "numbers", Ok(numbers), &[1, 2], "none");
 }

@@ -5,10 +5,9 @@ use super::*;
 use arrow_memory::bitmap::{Bitmap, MutableBitmap};
 
 /// Numbers of two parts.
-const WIDE: [[i256; 3]; 2] = [
-    [i256(0, 1), i256(1, 2), i256(1, 0)],
-    [i256(2, 0), i256(0, 5), i256(6, 6)],
-];
+const WIDE: &[i256] = &[i256(0, 1), i256(1, 2), i256(1, 0)];
+
+const OTHER_WIDE: &[i256] = &[i256(2, 0), i256(0, 5), i256(6, 6)];
 
 /// Returns the mask as it is.
 fn same_mask(mask: Bitmap) -> Bitmap
@@ -21,19 +20,20 @@ fn same_mask(mask: Bitmap) -> Bitmap
 fn unwritten<T: NativeType>(_values: &mut [T]) {}
 
 /// Compares an array that is made of its parts, and of other ones.
-fn check_parts<T: NativeType + Debug>(rt: &(impl Abort + AllocGlobal), parts: [[T; 3]; 2]) {
-    let [values, others] = parts;
-    let array = PrimitiveArray::<T>::from_slice(rt.alloc(), values.as_slice());
+fn check_parts<T: NativeType + Debug>(rt: &(impl Abort + AllocGlobal), values: &[T], others: &[T]) {
+    let array = PrimitiveArray::<T>::from_slice(rt.alloc(), values);
     let (data_type, stored, mask) = array.expect(rt, "memory").into_inner();
     let array = PrimitiveArray::<T>::try_new(data_type, stored, mask).expect(rt, "parts that fit");
     let (data_type, stored, mask) = array.into_inner();
     let array = PrimitiveArray::<T>::from_inner(data_type, stored, mask);
     let array = array.expect(rt, "parts that fit");
     check(rt, "try_new, from_inner", array.clone(), values, "none");
-    let stored = buffer(rt, others.as_slice());
+    let stored = buffer(rt, others);
     let mask = Bitmap::new_zeroed(rt.alloc(), 3).expect(rt, "memory");
     assert!(rt; array.len() == 3 && stored.len() == 3 && mask.len() == 3);
-    let array = array.with_values(stored).with_validity(Some(mask));
+    let array = array.with_values(stored);
+    assert!(rt; array.len() == mask.len());
+    let array = array.with_validity(Some(mask));
     check(rt, "with_values", array.clone(), others, "000");
     let mut slots = array.into_iter();
     let slot = slots.next();
@@ -42,14 +42,18 @@ fn check_parts<T: NativeType + Debug>(rt: &(impl Abort + AllocGlobal), parts: [[
 }
 
 /// Compares an array whose parts are replaced and changed in place, and slices of it.
-fn check_replaced<T: NativeType + Debug>(rt: &(impl Abort + AllocGlobal), parts: [[T; 3]; 2]) {
-    let [values, others] = parts;
-    let array = PrimitiveArray::<T>::from_slice(rt.alloc(), values.as_slice());
+fn check_replaced<T: NativeType + Debug>(
+    rt: &(impl Abort + AllocGlobal),
+    values: &[T],
+    others: &[T],
+) {
+    let array = PrimitiveArray::<T>::from_slice(rt.alloc(), values);
     let mut array = array.expect(rt, "memory");
     let mask = Bitmap::from_slice(rt.alloc(), [false, true, true].as_slice());
-    let (stored, mask) = (buffer(rt, others.as_slice()), mask.expect(rt, "memory"));
+    let (stored, mask) = (buffer(rt, others), mask.expect(rt, "memory"));
     assert!(rt; array.len() == 3 && stored.len() == 3 && mask.len() == 3);
     array.set_values(stored);
+    assert!(rt; array.len() == mask.len());
     array.set_validity(Some(mask));
     array.apply_validity(same_mask);
     let is_lent = array.get_mut_values(unwritten::<T>);
@@ -57,23 +61,24 @@ fn check_replaced<T: NativeType + Debug>(rt: &(impl Abort + AllocGlobal), parts:
     check(rt, "set_values, set_validity", array.clone(), others, "011");
     assert!(rt; array.len() == 3);
     array.slice(0, 2);
+    assert!(rt; array.len() == 2 && others.len() == 3);
     array.slice(1, 1);
-    check(rt, "a slice of a slice", Ok(array), [others[1]], "1");
+    check(rt, "a slice of a slice", Ok(array), &others[1..2], "1");
 }
 
 #[test]
 fn arrays_are_made_of_parts(rt: HostRuntime) {
-    check_parts::<i32>(&rt, [[1, 2, 3], [4, 5, 6]]);
-    check_parts::<i64>(&rt, [[1, 2, 3], [4, 5, 6]]);
-    check_parts(&rt, WIDE);
-    check_replaced::<i32>(&rt, [[1, 2, 3], [4, 5, 6]]);
-    check_replaced::<i64>(&rt, [[1, 2, 3], [4, 5, 6]]);
-    check_replaced(&rt, WIDE);
+    check_parts::<i32>(&rt, &[1, 2, 3], &[4, 5, 6]);
+    check_parts::<i64>(&rt, &[1, 2, 3], &[4, 5, 6]);
+    check_parts(&rt, WIDE, OTHER_WIDE);
+    check_replaced::<i32>(&rt, &[1, 2, 3], &[4, 5, 6]);
+    check_replaced::<i64>(&rt, &[1, 2, 3], &[4, 5, 6]);
+    check_replaced(&rt, WIDE, OTHER_WIDE);
 }
 
 /// Compares the slots that are popped from builders that are made of parts, and with other ones.
-fn check_built<T: NativeType + Debug>(rt: &(impl Abort + AllocGlobal), parts: [[T; 3]; 2]) {
-    let [values, others] = parts;
+fn check_built<T: NativeType + Debug>(rt: &(impl Abort + AllocGlobal), values: &[T], others: &[T]) {
+    assert!(rt; values.len() == 3 && others.len() == 3);
     let builder = MutablePrimitiveArray::<T>::with_capacity(rt.alloc(), 2);
     let mut builder = builder.expect(rt, "memory");
     builder.try_push(Some(values[0])).expect(rt, "memory");
@@ -81,32 +86,33 @@ fn check_built<T: NativeType + Debug>(rt: &(impl Abort + AllocGlobal), parts: [[
     let (data_type, vec, mask) = builder.into_inner();
     let builder = MutablePrimitiveArray::<T>::try_new(data_type, vec, mask);
     let mut builder = builder.expect(rt, "parts that fit");
-    let popped = [builder.pop(), builder.pop()];
+    let popped = (builder.pop(), builder.pop());
     drop(builder);
-    assert_text::value(popped, [None, Some(values[0])]).expect(rt, "try_new");
+    assert_text::value(popped, (None, Some(values[0]))).expect(rt, "try_new");
     let vec = values.to_vec(rt.alloc()).expect(rt, "memory");
     let mut builder = MutablePrimitiveArray::<T>::from_vec(vec);
     let vec = others.to_vec(rt.alloc()).expect(rt, "memory");
+    assert!(rt; builder.len() == vec.len());
+    builder.set_values(vec);
     let mask = MutableBitmap::from_slice(rt.alloc(), [true, true, false].as_slice());
     let mask = mask.expect(rt, "memory");
-    assert!(rt; builder.len() == 3 && vec.len() == 3 && mask.len() == 3);
-    builder.set_values(vec);
+    assert!(rt; builder.len() == mask.len());
     builder.set_validity(Some(mask));
-    let popped = [builder.pop(), builder.pop()];
-    assert_text::value(popped, [None, Some(others[1])]).expect(rt, "set_values, set_validity");
-    check_builder(rt, "the rest", Ok(builder), [others[0]], "1");
+    let popped = (builder.pop(), builder.pop());
+    assert_text::value(popped, (None, Some(others[1]))).expect(rt, "set_values, set_validity");
+    check_builder(rt, "the rest", Ok(builder), &others[..1], "1");
 }
 
 #[test]
 fn builders_are_made_of_parts(rt: HostRuntime) {
-    check_built::<i32>(&rt, [[1, 2, 3], [4, 5, 6]]);
-    check_built::<i64>(&rt, [[1, 2, 3], [4, 5, 6]]);
-    check_built(&rt, WIDE);
+    check_built::<i32>(&rt, &[1, 2, 3], &[4, 5, 6]);
+    check_built::<i64>(&rt, &[1, 2, 3], &[4, 5, 6]);
+    check_built(&rt, WIDE, OTHER_WIDE);
 }
 
-/// Compares a builder of a value and a null with the array that it froze to, thawed.
-fn check_thawed<T: NativeType + Debug>(rt: &(impl Abort + AllocGlobal), value: T, zero: T) {
-    let mut builder = growing(rt, [value]);
+/// Compares a builder of these values and a null with the array that it froze to, thawed.
+fn check_thawed<T: NativeType + Debug>(rt: &(impl Abort + AllocGlobal), values: &[T], all: &[T]) {
+    let mut builder = growing(rt, values);
     builder.push_null().expect(rt, "memory");
     let copy = builder.clone().expect(rt, "memory");
     let array = copy.freeze().expect(rt, "memory");
@@ -114,12 +120,12 @@ fn check_thawed<T: NativeType + Debug>(rt: &(impl Abort + AllocGlobal), value: T
     let are_equal = thawed == builder;
     drop(builder);
     assert_text::value(are_equal, true).expect(rt, "a builder and its thawed array");
-    check_builder(rt, "thawed", Ok(thawed), [value, zero], "10");
+    check_builder(rt, "thawed", Ok(thawed), all, "1110");
 }
 
 #[test]
 fn an_array_alone_thaws(rt: HostRuntime) {
-    check_thawed::<i32>(&rt, 1, 0);
-    check_thawed::<i64>(&rt, 1, 0);
-    check_thawed(&rt, i256(0, 1), i256(0, 0));
+    check_thawed::<i32>(&rt, &[1, 2, 3], &[1, 2, 3, 0]);
+    check_thawed::<i64>(&rt, &[1, 2, 3], &[1, 2, 3, 0]);
+    check_thawed(&rt, WIDE, &[i256(0, 1), i256(1, 2), i256(1, 0), i256(0, 0)]);
 }
