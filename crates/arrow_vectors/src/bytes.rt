@@ -3,25 +3,11 @@
 use crate::raw::{
     Parts, check_array, check_builder, check_values, own_array, own_builder, thawed, values_of,
 };
-use arrow_binary::BinaryArray;
 use arrow_byte_array::{ByteArray, MutableByteArray, MutableByteValuesArray};
 use arrow_bytes::{Binary, BorrowItem, ByteKind, Utf8};
 use arrow_testing::{Tiny, assert_text};
 use arrow_types::offset::Offset;
 use std::process::Abort;
-
-/// Compares an array of three slots of bytes.
-fn nulls_store_no_byte<O: Offset>(rt: &(impl Abort + AllocGlobal)) {
-    let slots: &[Option<&[u8]>] = &[Some(b"\x01\x02"), None, Some(b"\x03")];
-    let array = BinaryArray::<O>::from(rt.alloc(), slots).expect(rt, "memory");
-    let mut items = array.values_iter();
-    let came = [items.next(), items.next(), items.next(), items.next()];
-    let expected: [Option<&[u8]>; 4] = [Some(b"\x01\x02"), Some(b""), Some(b"\x03"), None];
-    assert_text::value(came, expected).expect(rt, "values_iter");
-    let parts: Parts = (&[0, 2, 2, 3], b"\x01\x02\x03", "101");
-    check_array(rt, "parts", &array, parts);
-    drop(array);
-}
 
 /// Three slots of one, no and two bytes, the second null, with bytes around them that are no text.
 const AROUND: Parts = (&[2, 3, 3, 5], b"\xFF\xFF\x01\x04\x04\xC3", "101");
@@ -148,33 +134,8 @@ fn pushed_items_follow_the_last_slot<O: Offset>(rt: &(impl Abort + AllocGlobal))
     check_push(rt, "behind another byte", builder, "c", grown);
 }
 
-/// A name, and the parts of an array.
-const SHARED: &[(&str, Parts)] = &[
-    ("the last is null", (&[0, 5, 6, 6], b"hello ", "110")),
-    ("the second is null", (&[0, 2, 2, 7], b"hithere", "101")),
-];
-
-/// Compares an array and its clone, which does not thaw, and the builder of the array once the clone is dropped.
-fn arrays_thaw_once_their_clones_are_dropped<K: ByteKind, O: Offset>(
-    rt: &(impl Abort + AllocGlobal),
-) {
-    for (case, parts) in SHARED {
-        let first = own_array::<K, O>(rt, *parts);
-        let second = first.clone().expect(rt, "memory");
-        let second = second.into_mut().left();
-        let second = second.expect(rt, "a shared array stays frozen");
-        check_array(rt, *case, &first, *parts);
-        check_array(rt, *case, &second, *parts);
-        drop(second);
-        let builder = thawed(rt, first);
-        check_builder(rt, *case, &builder, *parts);
-        drop(builder);
-    }
-}
-
 /// Compares arrays and builders over a type of offsets.
 fn check<O: Offset>(rt: &(impl Abort + AllocGlobal)) {
-    nulls_store_no_byte::<O>(rt);
     slices_keep_all_bytes::<O>(rt);
     bytes_before_a_popped_item_stay::<O>(rt);
     pushed_items_follow_the_last_slot::<O>(rt);
@@ -192,7 +153,6 @@ fn bytes_around_slots_of_each_offset(rt: HostRuntime) {
 fn check_kind<K: ByteKind, O: Offset>(rt: &(impl Abort + AllocGlobal)) {
     parts_of_slices_are_accepted::<K, O>(rt);
     parts_of_popped_builders_are_accepted::<K, O>(rt);
-    arrays_thaw_once_their_clones_are_dropped::<K, O>(rt);
     thawed_arrays_end_at_their_last_offset::<K, O>(rt);
 }
 

@@ -1,6 +1,6 @@
 //! Capacity: what fits into reserved room is appended without another growth, and room that is given back is gone.
 use arrow_boolean::MutableBooleanArray;
-use arrow_byte_array::{MutableByteArray, MutableByteValuesArray};
+use arrow_byte_array::MutableByteArray;
 use arrow_bytes::{Binary, BorrowItem, ByteKind, Utf8};
 use arrow_memory::bitmap::{Bitmap, MutableBitmap};
 use arrow_primitive::MutablePrimitiveArray;
@@ -143,25 +143,8 @@ fn check_slots<K: ByteKind, O: Offset>(rt: &(impl Abort + AllocGlobal), case: &s
     }
 }
 
-/// Compares the capacities of a builder without nulls, after `reserve` and after `shrink_to_fit`.
-fn check_values<K: ByteKind, O: Offset>(rt: &(impl Abort + AllocGlobal), case: &str) {
-    for is_shrunk in [false, true] {
-        let mut builder = MutableByteValuesArray::<K, O>::new(rt.alloc()).expect(rt, "memory");
-        builder.push_null().expect(rt, "memory");
-        builder.reserve(1000, 1000).expect(rt, "memory");
-        if is_shrunk {
-            builder.shrink_to_fit().expect(rt, "memory");
-        }
-        let (slots, bytes) = (builder.capacity(), builder.values().capacity());
-        drop(builder);
-        check_capacities(rt, case, is_shrunk, [slots, bytes, bytes]);
-    }
-}
-
 #[test]
 fn room_for_bytes_and_text_comes_and_goes(rt: HostRuntime) {
     check_slots::<Binary, i32>(&rt, "bytes");
     check_slots::<Utf8, i64>(&rt, "text");
-    check_values::<Binary, i64>(&rt, "bytes without nulls");
-    check_values::<Utf8, i32>(&rt, "text without nulls");
 }
