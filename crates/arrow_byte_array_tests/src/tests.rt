@@ -45,6 +45,7 @@ use arrow_memory::buffer::Buffer;
 use arrow_testing::{Text, assert_text, frozen_mask, frozen_offsets, growing_mask, offsets_of};
 use arrow_types::data_type::DataType;
 use arrow_types::offset::Offset;
+use std::fmt::Debug;
 use std::process::Abort;
 
 /// Offsets, bytes, and marks or `none`, of which a value is made.
@@ -140,6 +141,13 @@ fn check_values<K: ByteKind, O: Offset>(
     let parts = (builder.offsets().as_slice(), builder.values().as_slice());
     let size = (builder.len(), builder.is_empty());
     check_stored::<K, O>(rt, &name, (builder.data_type(), size), parts, expected);
+}
+
+/// Compares what a value prints with a text, and drops it.
+fn check_text<T: Debug + Drop>(rt: &impl Abort, case: &str, value: T, expected: &str) {
+    let came = Text::of(format_args!("{value:?}"));
+    drop(value);
+    assert_text::text(came, expected).expect(rt, case);
 }
 
 /// Creates a buffer of these bytes.

@@ -1,25 +1,10 @@
 //! Builders: how they grow and shrink; how those with nulls are copied and compared.
 use super::*;
-use arrow_types::error::Error;
-use std::fmt::Debug;
 
-/// Compares what `pop` returned with a text.
-pub(super) fn check_popped<T: Debug + Drop>(
-    rt: &impl Abort,
-    case: &str,
-    popped: Result<Option<T>, Error>,
-    expected: &str,
-) {
-    let slot = popped.expect(rt, case);
-    let came = Text::of(format_args!("{slot:?}"));
-    drop(slot);
-    assert_text::text(came, expected).expect(rt, case);
-}
-
-/// Pushes slots and nulls, and reads their items by index.
+/// Pushes slots and nulls, and reads their items by index, which print as these texts.
 fn check_pushes<O: Offset>(rt: &(impl Abort + AllocGlobal)) {
     macro_rules! check {
-        ($kind:ty, $e_acute:expr, $c:expr, $none:expr) => {{
+        ($kind:ty, [$e_acute:expr, $c:expr], [$first:expr, $third:expr, $none:expr]) => {{
             let mut builder = MutableByteArray::<$kind, O>::new(rt.alloc()).expect(rt, "memory");
             builder.push(Some($e_acute)).expect(rt, "memory");
             builder.push(None).expect(rt, "memory");
@@ -28,16 +13,17 @@ fn check_pushes<O: Offset>(rt: &(impl Abort + AllocGlobal)) {
             builder.push_null().expect(rt, "memory");
             check_builder(rt, "pushed", &builder, ("[0 2 2 3 3 3]", b"\xC3\xA9c", "10100"));
             assert!(rt; builder.len() == 5);
-            let items = [builder.value(0), builder.value(1), builder.value(2)];
-            assert_text::value(items, [$e_acute, $none, $c]).expect(rt, "value");
-            let items = [builder.value(3), builder.value(4)];
-            assert_text::value(items, [$none, $none]).expect(rt, "value of nulls");
+            check_text(rt, "push", builder.value(0), $first);
+            check_text(rt, "push of a null", builder.value(1), $none);
+            check_text(rt, "try_push", builder.value(2), $third);
+            check_text(rt, "try_push of a null", builder.value(3), $none);
+            check_text(rt, "push_null", builder.value(4), $none);
             drop(builder);
         }};
     }
-    let (e_acute, c, none) = (b"\xC3\xA9".as_slice(), b"c".as_slice(), b"".as_slice());
-    check!(Binary, e_acute, c, none);
-    check!(Utf8, "é", "c", "");
+    let (e_acute, c) = (b"\xC3\xA9".as_slice(), b"c".as_slice());
+    check!(Binary, [e_acute, c], ["[195, 169]", "[99]", "[]"]);
+    check!(Utf8, ["é", "c"], [r#""é""#, r#""c""#, r#""""#]);
 }
 
 #[test]
@@ -50,15 +36,15 @@ fn check_pops<O: Offset>(rt: &(impl Abort + AllocGlobal)) {
     macro_rules! check {
         ($kind:ty, $there:expr, $e_acute:expr) => {{
             let mut builder = builder_of::<$kind, O>(rt, SLOTS_PARTS);
-            check_popped(rt, "the last slot", builder.pop(), $there);
-            check_popped(rt, "a null", builder.pop(), "None");
+            check_text(rt, "the last slot", builder.pop().expect(rt, "memory"), $there);
+            check_text(rt, "a null", builder.pop().expect(rt, "memory"), "None");
             check_builder(rt, "one slot", &builder, ("[0 2]", b"\xC3\xA9", "1"));
-            check_popped(rt, "the first slot", builder.pop(), $e_acute);
-            check_popped(rt, "no slot", builder.pop(), "None");
+            check_text(rt, "the first slot", builder.pop().expect(rt, "memory"), $e_acute);
+            check_text(rt, "no slot", builder.pop().expect(rt, "memory"), "None");
             check_builder(rt, "no slots", &builder, ("[0]", b"", ""));
             drop(builder);
             let mut builder = builder_of::<$kind, O>(rt, (&[1, 2, 3], b"\xFFyz", "10"));
-            check_popped(rt, "a null that stores a byte", builder.pop(), "None");
+            check_text(rt, "a null of a byte", builder.pop().expect(rt, "memory"), "None");
             check_builder(rt, "its byte goes with it", &builder, ("[1 2]", b"\xFFy", "1"));
             drop(builder);
         }};
@@ -211,16 +197,17 @@ fn builders_of_the_same_slots_are_equal(rt: HostRuntime) {
     for_all_kinds!(check_equality, &rt);
 }
 
-/// Compares what a builder of three slots answers by index with slots, marks of its nulls, and their number.
+/// Compares what a builder of three slots answers by index with texts, marks of its nulls, and their number.
 macro_rules! check_slots {
-    ($rt:ident, $case:expr, $builder:expr, $slots:expr, $null:expr, $nulls:expr) => {{
+    ($rt:ident, $builder:expr, [$first:expr, $second:expr, $third:expr], $null:expr, $nulls:expr) => {{
         let builder = $builder;
         assert!($rt; builder.len() == 3);
-        let slots = [builder.get(0), builder.get(1), builder.get(2)];
-        assert_text::value(slots, $slots).expect($rt, $case);
+        check_text($rt, "the first slot", builder.get(0), $first);
+        check_text($rt, "the second slot", builder.get(1), $second);
+        check_text($rt, "the third slot", builder.get(2), $third);
         let null = [builder.is_null(0), builder.is_null(1), builder.is_null(2)];
-        assert_text::marks(null.into_iter(), $null).expect($rt, $case);
-        assert_text::value(builder.null_count(), $nulls).expect($rt, $case);
+        assert_text::marks(null.into_iter(), $null).expect($rt, "is_null");
+        assert_text::value(builder.null_count(), $nulls).expect($rt, "null_count");
         drop(builder);
     }};
 }
@@ -228,13 +215,11 @@ macro_rules! check_slots {
 #[test]
 fn slots_are_read_by_index(rt: HostRuntime) {
     let (rt, offsets): (&HostRuntime, &[usize]) = (&rt, &[0, 0, 2, 3]);
+    let (none, ab, c) = (r#"Some("")"#, r#"Some("ab")"#, r#"Some("c")"#);
     let some = builder_of::<Utf8, i32>(rt, (offsets, b"abc", "101"));
-    let slots = [Some(""), None, Some("c")];
-    check_slots!(rt, "a null that stores text", some, slots, "010", 1);
+    check_slots!(rt, some, [none, "None", c], "010", 1);
     let all = builder_of::<Utf8, i64>(rt, (offsets, b"abc", "none"));
-    let slots = [Some(""), Some("ab"), Some("c")];
-    check_slots!(rt, "no mask", all, slots, "000", 0);
+    check_slots!(rt, all, [none, ab, c], "000", 0);
     let bytes = builder_of::<Binary, i64>(rt, (offsets, b"abc", "010"));
-    let slots = [None, Some(b"ab".as_slice()), None];
-    check_slots!(rt, "nulls that store bytes", bytes, slots, "101", 2);
+    check_slots!(rt, bytes, ["None", "Some([97, 98])", "None"], "101", 2);
 }

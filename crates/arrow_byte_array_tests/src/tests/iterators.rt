@@ -5,32 +5,35 @@ use arrow_check::accessor::ArrayAccessor;
 /// Reads from both ends arrays of a slot `$one`, a null that stores `$none`, and a slot `$two`.
 fn check_arrays<O: Offset>(rt: &(impl Abort + AllocGlobal)) {
     macro_rules! check {
-        ($kind:ty, $one:expr, $none:expr, $two:expr, $slots:expr) => {{
+        ($kind:ty, $one:literal, $none:literal, $two:literal) => {{
             let array = array_of::<$kind, O>(rt, AROUND);
             let mut slots = array.iter();
             assert_text::value(slots.size_hint(), (3, Some(3))).expect(rt, "iter, size_hint");
-            let ends = [slots.next(), slots.next_back()];
-            assert_text::value(ends, [Some(Some($one)), Some(Some($two))]).expect(rt, "iter, ends");
+            check_text(rt, "the first slot", slots.next(), concat!("Some(Some(", $one, "))"));
+            check_text(rt, "the last slot", slots.next_back(), concat!("Some(Some(", $two, "))"));
             assert_text::value(slots.size_hint(), (1, Some(1))).expect(rt, "iter, the size left");
-            let rest = [slots.next(), slots.next_back(), slots.next()];
-            assert_text::value(rest, [Some(None), None, None]).expect(rt, "iter, the rest");
-            assert_text::slots((&array).into_iter(), $slots).expect(rt, "into_iter");
+            check_text(rt, "the null between them", slots.next(), "Some(None)");
+            check_text(rt, "no slot before it", slots.next_back(), "None");
+            check_text(rt, "no slot after it", slots.next(), "None");
+            let all = concat!("[", $one, " _ ", $two, "]");
+            assert_text::slots((&array).into_iter(), all).expect(rt, "into_iter");
             let (mut items, mut others) = (array.values_iter(), array.values_iter());
             assert_text::value(items.size_hint(), (3, Some(3))).expect(rt, "items, size_hint");
-            let ends = [items.next(), items.next_back()];
-            assert_text::value(ends, [Some($one), Some($two)]).expect(rt, "items, ends");
+            check_text(rt, "the first item", items.next(), concat!("Some(", $one, ")"));
+            check_text(rt, "the last item", items.next_back(), concat!("Some(", $two, ")"));
             assert_text::value(items.len(), 1).expect(rt, "items, the length left");
-            let rest = [items.nth(0), items.next(), items.next_back()];
-            assert_text::value(rest, [Some($none), None, None]).expect(rt, "items, the rest");
-            assert_text::value(others.nth(1), Some($none)).expect(rt, "items, nth");
-            let past = [others.nth(usize::MAX), others.next(), others.next_back()];
-            assert_text::value(past, [None, None, None]).expect(rt, "items, nth past the last");
+            check_text(rt, "the item between them", items.nth(0), concat!("Some(", $none, ")"));
+            check_text(rt, "no item after it", items.next(), "None");
+            check_text(rt, "no item before it", items.next_back(), "None");
+            check_text(rt, "nth of the second", others.nth(1), concat!("Some(", $none, ")"));
+            check_text(rt, "nth past the last", others.nth(usize::MAX), "None");
+            check_text(rt, "no item after nth", others.next(), "None");
+            check_text(rt, "no item before nth", others.next_back(), "None");
             drop(array);
         }};
     }
-    let (one, none, two) = (b"\x01".as_slice(), b"".as_slice(), b"\x04\x04".as_slice());
-    check!(Binary, one, none, two, "[[1] _ [4, 4]]");
-    check!(Utf8, "\x01", "", "\x04\x04", r#"["\u{1}" _ "\u{4}\u{4}"]"#);
+    check!(Binary, "[1]", "[]", "[4, 4]");
+    check!(Utf8, r#""\u{1}""#, r#""""#, r#""\u{4}\u{4}""#);
 }
 
 #[test]
@@ -41,49 +44,49 @@ fn arrays_are_read_from_both_ends(rt: HostRuntime) {
 /// Reads from both ends builders of a null that stores `$first`, and a slot `$last`.
 fn check_builders<O: Offset>(rt: &(impl Abort + AllocGlobal)) {
     macro_rules! check {
-        ($kind:ty, $first:expr, $last:expr) => {{
+        ($kind:ty, $first:literal, $last:literal) => {{
             let builder = builder_of::<$kind, O>(rt, (&[1, 2, 3], b"\xFFyz", "01"));
-            let (mut slots, mut others) = (builder.iter(), (&builder).into_iter());
-            assert_text::value(slots.next_back(), Some(Some($last))).expect(rt, "iter, next_back");
+            let mut slots = builder.iter();
+            check_text(rt, "the last slot", slots.next_back(), concat!("Some(Some(", $last, "))"));
             assert_text::value(slots.size_hint(), (1, Some(1))).expect(rt, "iter, the size left");
-            let rest = [slots.next(), slots.next()];
-            assert_text::value(rest, [Some(None), None]).expect(rt, "iter, the rest");
-            let all = [others.next(), others.next(), others.next()];
-            assert_text::value(all, [Some(None), Some(Some($last)), None]).expect(rt, "into_iter");
+            check_text(rt, "the null before it", slots.next(), "Some(None)");
+            check_text(rt, "no slot after it", slots.next(), "None");
+            let all = concat!("[_ ", $last, "]");
+            assert_text::slots((&builder).into_iter(), all).expect(rt, "into_iter");
             let (mut items, mut others) = (builder.values_iter(), builder.values_iter());
-            let all = [items.next_back(), items.next(), items.next()];
-            assert_text::value(all, [Some($last), Some($first), None]).expect(rt, "values_iter");
-            assert_text::value(others.nth(1), Some($last)).expect(rt, "values_iter, nth");
+            check_text(rt, "the last item", items.next_back(), concat!("Some(", $last, ")"));
+            check_text(rt, "the item before it", items.next(), concat!("Some(", $first, ")"));
+            check_text(rt, "no item after it", items.next(), "None");
+            check_text(rt, "nth of the second", others.nth(1), concat!("Some(", $last, ")"));
             assert!(rt; ArrayAccessor::len(&builder) == 2);
-            let item = ArrayAccessor::value(&builder, 1);
-            assert_text::value(item, $last).expect(rt, "an item by its index");
+            check_text(rt, "an item by its index", ArrayAccessor::value(&builder, 1), $last);
             drop(builder);
         }};
     }
-    check!(Binary, b"y".as_slice(), b"z".as_slice());
-    check!(Utf8, "y", "z");
+    check!(Binary, "[121]", "[122]");
+    check!(Utf8, r#""y""#, r#""z""#);
 }
 
 /// Reads from both ends builders without nulls of the items `$first`, of a byte, and `$last`, of two.
 fn check_values_builders<O: Offset>(rt: &(impl Abort + AllocGlobal)) {
     macro_rules! check {
-        ($kind:ty, $first:expr, $last:expr) => {{
-            let items = [$first, $last].into_iter();
-            let builder = MutableByteValuesArray::<$kind, O>::from_iter(rt.alloc(), items);
+        ($kind:ty, $items:expr, $first:literal, $last:literal) => {{
+            let builder = MutableByteValuesArray::<$kind, O>::from_iter(rt.alloc(), $items);
             let builder = builder.expect(rt, "memory");
             check_values(rt, "from_iter", &builder, ("[0 1 3]", b"abc", "none"));
             let (mut items, mut others) = (builder.iter(), (&builder).into_iter());
-            assert_text::value(items.next_back(), Some($last)).expect(rt, "iter, next_back");
+            check_text(rt, "the last item", items.next_back(), concat!("Some(", $last, ")"));
             assert_text::value(items.size_hint(), (1, Some(1))).expect(rt, "iter, the size left");
-            let rest = [items.next(), items.next_back()];
-            assert_text::value(rest, [Some($first), None]).expect(rt, "iter, the rest");
-            let last = [others.nth(1), others.next()];
-            assert_text::value(last, [Some($last), None]).expect(rt, "into_iter, nth");
+            check_text(rt, "the item before it", items.next(), concat!("Some(", $first, ")"));
+            check_text(rt, "no item before that", items.next_back(), "None");
+            check_text(rt, "nth of the second", others.nth(1), concat!("Some(", $last, ")"));
+            check_text(rt, "no item after it", others.next(), "None");
             drop(builder);
         }};
     }
-    check!(Binary, b"a".as_slice(), b"bc".as_slice());
-    check!(Utf8, "a", "bc");
+    let items = [b"a".as_slice(), b"bc".as_slice()];
+    check!(Binary, items.into_iter(), "[97]", "[98, 99]");
+    check!(Utf8, ["a", "bc"].into_iter(), r#""a""#, r#""bc""#);
 }
 
 #[test]
@@ -108,8 +111,9 @@ macro_rules! check_items {
     ($rt:ident, $case:expr, $array:ident, $offset:expr, $first:expr, $last:expr) => {{
         let mut items = $array.values_iter_range($offset, 2);
         assert_text::value(items.len(), 2).expect($rt, $case);
-        let came = [items.next_back(), items.next(), items.next()];
-        assert_text::value(came, [Some($last), Some($first), None]).expect($rt, $case);
+        check_text($rt, $case, items.next_back(), $last);
+        check_text($rt, $case, items.next(), $first);
+        check_text($rt, $case, items.next(), "None");
     }};
 }
 
@@ -132,11 +136,12 @@ fn check_ranges_of_texts<O: Offset>(rt: &(impl Abort + AllocGlobal)) {
     );
     check_range!(rt, "none in the middle", array, 1, 0, "[]", "[]");
     check_range!(rt, "none at the end", array, 4, 0, "[]", "[]");
-    check_items!(rt, "a null that stores text", array, 2, "c", "def");
+    let (none, c, def) = (r#"Some("")"#, r#"Some("c")"#, r#"Some("def")"#);
+    check_items!(rt, "a null that stores text", array, 2, c, def);
     let slice = array.sliced(1, 3);
     assert!(rt; slice.len() == 3);
     check_range!(rt, "a null of a slice", slice, 1, 1, "[_]", "[_]");
-    check_items!(rt, "items of a slice", slice, 0, "", "c");
+    check_items!(rt, "items of a slice", slice, 0, none, c);
     drop(slice);
 }
 
@@ -152,20 +157,14 @@ fn check_ranges_of_bytes<O: Offset>(rt: &(impl Abort + AllocGlobal)) {
         "items in the middle",
         array,
         1,
-        b"".as_slice(),
-        b"c".as_slice()
+        "Some([])",
+        "Some([99])"
     );
     let slice = array.sliced(1, 3);
     assert!(rt; slice.len() == 3);
     check_range!(rt, "a slot of a slice", slice, 1, 1, "[[99]]", "[[99]]");
-    check_items!(
-        rt,
-        "items of a slice",
-        slice,
-        1,
-        b"c".as_slice(),
-        b"def".as_slice()
-    );
+    let def = "Some([100, 101, 102])";
+    check_items!(rt, "items of a slice", slice, 1, "Some([99])", def);
     drop(slice);
 }
 

@@ -23,14 +23,17 @@ fn inverted(marks: MutableBitmap) -> MutableBitmap
     marks
 }
 
-/// Compares what an array of three slots answers by index with slots, items, and marks of valid slots and of nulls.
+/// Compares what an array of three slots answers by index with texts of slots and items, and with marks of valid slots
+/// and of nulls.
 macro_rules! check_reads {
-    ($rt:ident, $case:expr, $array:ident, $slots:expr, $items:expr, $valid:expr, $null:expr) => {{
+    ($rt:ident, $case:expr, $array:ident, $slots:ident, $items:ident, $valid:expr, $null:expr) => {{
         assert!($rt; $array.len() == 3);
-        let slots = [$array.get(0), $array.get(1), $array.get(2)];
-        assert_text::value(slots, $slots).expect($rt, $case);
-        let items = [$array.value(0), $array.value(1), $array.value(2)];
-        assert_text::value(items, $items).expect($rt, $case);
+        check_text($rt, $case, $array.get(0), $slots[0]);
+        check_text($rt, $case, $array.get(1), $slots[1]);
+        check_text($rt, $case, $array.get(2), $slots[2]);
+        check_text($rt, $case, $array.value(0), $items[0]);
+        check_text($rt, $case, $array.value(1), $items[1]);
+        check_text($rt, $case, $array.value(2), $items[2]);
         let valid = [$array.is_valid(0), $array.is_valid(1), $array.is_valid(2)];
         assert_text::marks(valid.into_iter(), $valid).expect($rt, $case);
         let null = [$array.is_null(0), $array.is_null(1), $array.is_null(2)];
@@ -41,8 +44,9 @@ macro_rules! check_reads {
 /// Replaces the mask of arrays of a slot `$one`, a null that stores `$none`, and a slot `$two`.
 fn check_replaced_masks<O: Offset>(rt: &(impl Abort + AllocGlobal)) {
     macro_rules! check {
-        ($kind:ty, $one:expr, $none:expr, $two:expr) => {{
-            let (slots, items) = ([Some($one), None, Some($two)], [$one, $none, $two]);
+        ($kind:ty, $one:literal, $none:literal, $two:literal) => {{
+            let (two, items) = (concat!("Some(", $two, ")"), [$one, $none, $two]);
+            let slots = [concat!("Some(", $one, ")"), "None", two];
             let mut array: ByteArray<$kind, O> = array_of(rt, AROUND);
             check_reads!(rt, "a mask", array, slots, items, "101", "010");
             assert_text::value(array.null_count(), 1).expect(rt, "null_count");
@@ -52,23 +56,24 @@ fn check_replaced_masks<O: Offset>(rt: &(impl Abort + AllocGlobal)) {
             array.set_validity(Some(marks));
             array.apply_validity(same);
             check_array(rt, "another mask", &array, (BARE.0, BARE.1, "011"));
-            let slots = [None, Some($none), Some($two)];
+            let slots = ["None", concat!("Some(", $none, ")"), two];
             check_reads!(rt, "another mask", array, slots, items, "011", "100");
             let array = array.with_validity(None);
             check_array(rt, "with_validity of none", &array, BARE);
             drop(array);
         }};
     }
-    let (one, none, two) = (b"\x01".as_slice(), b"".as_slice(), b"\x04\x04".as_slice());
-    check!(Binary, one, none, two);
-    check!(Utf8, "\x01", "", "\x04\x04");
+    check!(Binary, "[1]", "[]", "[4, 4]");
+    check!(Utf8, r#""\u{1}""#, r#""""#, r#""\u{4}\u{4}""#);
 }
 
 /// Drops the mask of such arrays.
 fn check_dropped_masks<O: Offset>(rt: &(impl Abort + AllocGlobal)) {
     macro_rules! check {
-        ($kind:ty, $one:expr, $none:expr, $two:expr) => {{
-            let (slots, items) = ([Some($one), Some($none), Some($two)], [$one, $none, $two]);
+        ($kind:ty, $one:literal, $none:literal, $two:literal) => {{
+            let (one, none) = (concat!("Some(", $one, ")"), concat!("Some(", $none, ")"));
+            let slots = [one, none, concat!("Some(", $two, ")")];
+            let items = [$one, $none, $two];
             let mut array: ByteArray<$kind, O> = array_of(rt, AROUND);
             array.set_validity(None);
             check_array(rt, "set_validity of none", &array, BARE);
@@ -78,9 +83,8 @@ fn check_dropped_masks<O: Offset>(rt: &(impl Abort + AllocGlobal)) {
             drop(array);
         }};
     }
-    let (one, none, two) = (b"\x01".as_slice(), b"".as_slice(), b"\x04\x04".as_slice());
-    check!(Binary, one, none, two);
-    check!(Utf8, "\x01", "", "\x04\x04");
+    check!(Binary, "[1]", "[]", "[4, 4]");
+    check!(Utf8, r#""\u{1}""#, r#""""#, r#""\u{4}\u{4}""#);
 }
 
 #[test]

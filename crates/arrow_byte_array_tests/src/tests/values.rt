@@ -1,30 +1,30 @@
 //! Builders without nulls.
-use super::builders::check_popped;
 use super::*;
 
-/// Pushes an item of the byte 1, `é` and a null, and pops two of them, which print as `$popped` and `$empty`.
+/// Pushes an item of the byte 1, `é` and a null, which print as these texts, and pops two of them.
 fn check_items<O: Offset>(rt: &(impl Abort + AllocGlobal)) {
     macro_rules! check {
-        ($kind:ty, $one:expr, $e_acute:expr, $popped:expr, $empty:expr) => {{
+        ($kind:ty, [$one:expr, $e_acute:expr], [$first:expr, $second:literal, $none:literal]) => {{
             let builder = MutableByteValuesArray::<$kind, O>::new(rt.alloc());
             let mut builder = builder.expect(rt, "memory");
             builder.push($one).expect(rt, "memory");
             builder.try_push($e_acute).expect(rt, "memory");
             check_values(rt, "items", &builder, ("[0 1 3]", b"\x01\xC3\xA9", "none"));
             assert!(rt; builder.len() == 2);
-            let items = [builder.value(0), builder.value(1)];
-            assert_text::value(items, [$one, $e_acute]).expect(rt, "value");
+            check_text(rt, "the first item", builder.value(0), $first);
+            check_text(rt, "the second item", builder.value(1), $second);
             builder.push_null().expect(rt, "memory");
             check_values(rt, "a null", &builder, ("[0 1 3 3]", b"\x01\xC3\xA9", "none"));
-            check_popped(rt, "pop of a null", builder.pop(), $empty);
-            check_popped(rt, "pop", builder.pop(), $popped);
+            let (popped, none) = (concat!("Some(", $second, ")"), concat!("Some(", $none, ")"));
+            check_text(rt, "pop of a null", builder.pop().expect(rt, "memory"), none);
+            check_text(rt, "pop", builder.pop().expect(rt, "memory"), popped);
             check_values(rt, "popped", &builder, ("[0 1]", b"\x01", "none"));
             drop(builder);
         }};
     }
     let (one, e_acute) = (b"\x01".as_slice(), b"\xC3\xA9".as_slice());
-    check!(Binary, one, e_acute, "Some([195, 169])", "Some([])");
-    check!(Utf8, "\x01", "é", r#"Some("é")"#, r#"Some("")"#);
+    check!(Binary, [one, e_acute], ["[1]", "[195, 169]", "[]"]);
+    check!(Utf8, ["\x01", "é"], [r#""\u{1}""#, r#""é""#, r#""""#]);
 }
 
 #[test]
