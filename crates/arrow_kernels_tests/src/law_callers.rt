@@ -11,8 +11,13 @@ use arrow_boolean::BooleanArray;
 use arrow_bytes::BytesAround;
 use arrow_bytes::laws::items_by_offsets;
 use arrow_check::accessor::Bytes;
-use arrow_column::laws::*;
-use arrow_kernels::laws::*;
+use arrow_column::laws::{
+    appended_slots, cut_slots, joined_slots, plain_cut_slots, rows_of_parts, slots_by_rows,
+    slots_of_parts,
+};
+use arrow_kernels::laws::{
+    concatenated_slots, filtered_slots, marked_items, retyped_slots, taken_slots,
+};
 use arrow_kernels::{concat_utf8, filter_utf8, take_utf8, true_count, widen_utf8};
 use arrow_memory::bitmap::Bitmap;
 use arrow_memory::buffer::Buffer;
@@ -25,6 +30,8 @@ use arrow_utf8::Utf8Array;
 use std::alloc::Global;
 
 type Numbers = PrimitiveArray<i64>;
+
+type NumbersBuilder = MutablePrimitiveArray<i64>;
 
 type Texts = Utf8Array<i32>;
 
@@ -56,7 +63,7 @@ fn count_slots(array: &Numbers) -> usize
 }
 
 /// Appends a value and a null.
-fn push_value_and_null(builder: &mut MutablePrimitiveArray<i64>, value: i64) -> Result<(), Error>
+fn push_value_and_null(builder: &mut NumbersBuilder, value: i64) -> Result<(), Error>
     ensures { OnOk result (slots_of builder.new ≡ (slots_of builder.old ++ Some value ∷ []) ++ None ∷ []) }
 {
     appended_slots::<(), i64>();
@@ -65,7 +72,7 @@ fn push_value_and_null(builder: &mut MutablePrimitiveArray<i64>, value: i64) -> 
 }
 
 /// Appends valid slots.
-fn extend(builder: &mut MutablePrimitiveArray<i64>, values: &[i64]) -> Result<(), Error>
+fn extend(builder: &mut NumbersBuilder, values: &[i64]) -> Result<(), Error>
     ensures { OnOk result (slots_of builder.new ≡ slots_of builder.old ++ map Some values.now) }
 {
     appended_slots::<(), i64>();
@@ -73,7 +80,7 @@ fn extend(builder: &mut MutablePrimitiveArray<i64>, values: &[i64]) -> Result<()
 }
 
 /// Freezes a builder.
-fn freeze(builder: MutablePrimitiveArray<i64>) -> Result<Numbers, Error>
+fn freeze(builder: NumbersBuilder) -> Result<Numbers, Error>
     ensures { IfOk result (λ array. slots_of array ≡ slots_of builder) }
 {
     appended_slots::<(), i64>();
@@ -81,10 +88,7 @@ fn freeze(builder: MutablePrimitiveArray<i64>) -> Result<Numbers, Error>
 }
 
 /// Appends the slots of another builder.
-fn join(
-    builder: &mut MutablePrimitiveArray<i64>,
-    other: &MutablePrimitiveArray<i64>,
-) -> Result<(), Error>
+fn join(builder: &mut NumbersBuilder, other: &NumbersBuilder) -> Result<(), Error>
     ensures { OnOk result (slots_of builder.new ≡ slots_of builder.old ++ slots_of other.now) }
 {
     joined_slots::<(), (), i64>();

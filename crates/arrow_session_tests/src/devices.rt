@@ -1,20 +1,20 @@
-//! Devices that fail, and devices that have to be called again.
-use crate::sessions::{FIRST_REPLIES, FIRST_RUN, ending};
+//! Devices that fail, and devices that have to be asked again.
+use crate::sessions::{FIRST_REPLIES, FIRST_RUN};
 use arrow_session::counted::Counted;
+use arrow_session::outcome::Outcome;
 use arrow_session::session::session;
-use arrow_testing::{Text, assert_text};
+use std::alloc::Global;
 use std::io;
 use std::io::{ErrorKind, Read, Write};
-use std::process::Abort;
 
-/// The number of the read or write that fails, from one, and its error.
+/// Which read or write fails, counted from one, and in which way.
 #[derive(Clone, Copy)]
 struct Failure {
     number: usize,
     kind: ErrorKind,
 }
 
-/// Gives seven bytes at a time; one read fails.
+/// Gives seven bytes at a time; one read fails so.
 #[derive(Drop)]
 struct Reader {
     bytes: &'static [u8],
@@ -35,7 +35,7 @@ impl Read for Reader {
     }
 }
 
-/// Takes three bytes at a time; one write fails, and each flush may.
+/// Takes three bytes at a time; one write fails so, and each flush may.
 #[derive(Drop)]
 struct Writer<'a> {
     taken: &'a mut Vec<u8>,
@@ -65,164 +65,276 @@ impl Write for Writer<'_> {
     }
 }
 
-/// Runs a session whose writer fails, and returns how it ends and what was written, and the numbers of faults and of
-/// flushes.
-fn write_to_failing(
-    rt: &(impl Abort + AllocGlobal),
+/// What a session is to come to: its outcome, the faults of its device, its flushes, and what was written.
+#[derive(Drop)]
+struct Wanted {
+    outcome: Outcome,
+    faults: u64,
+    flushes: u32,
+    text: &'static str,
+}
+
+/// How a session over this input ends on this writer, and how many faults the writer had.
+fn session_to(alloc: Global, input: &str, writer: Writer<'_>) -> (Outcome, u64) {
+    let mut output = Counted::new(writer);
+    let mut input = Counted::new(input.as_bytes());
+    let outcome = session(alloc, &mut input, &mut output);
+    let faults = output.count();
+    drop(output);
+    (outcome, faults)
+}
+
+/// Whether a session of which one write fails so, as each flush may, comes to this.
+fn is_written(
+    alloc: Global,
     input: &str,
     failure: Failure,
     flush_fails: bool,
-) -> (Text, (u64, u32)) {
-    let (mut taken, mut flushes) = (Vec::new(rt.alloc()), 0);
-    let mut output = Counted::new(Writer {
+    wanted: &Wanted,
+) -> bool {
+    let mut taken = Vec::new(alloc);
+    let mut flushes = 0;
+    let writer = Writer {
         taken: &mut taken,
         flushes: &mut flushes,
         failure,
         flush_fails,
         writes: 0,
-    });
-    let outcome = session(rt.alloc(), &mut Counted::new(input.as_bytes()), &mut output);
-    let faults = output.count();
-    drop(output);
-    let came = ending(outcome, taken.as_slice());
-    drop(taken);
-    (came, (faults, flushes))
-}
-
-/// A name, an input, whether each flush fails, how the session ends and what was written, and the numbers of faults and
-/// of flushes.
-const FLUSHES: &[(&str, &str, bool, &str, (u64, u32))] = &[
-    ("one write", "new 0 prim", false, "done: ok\n", (0, 1)),
-    (
-        "a flush that fails",
-        "new 0 prim",
-        true,
-        "device fault: ok\n",
-        (1, 1),
-    ),
-    ("no replies", "# no replies\n", false, "done: ", (0, 1)),
-    (
-        "no replies, and a flush that fails",
-        "# no replies\n",
-        true,
-        "device fault: ",
-        (1, 1),
-    ),
-];
-
-#[test]
-fn sessions_flush_once(rt: HostRuntime) {
-    let second = Failure {
-        number: 2,
-        kind: ErrorKind::Other,
     };
-    for (case, input, flush_fails, expected, counts) in FLUSHES {
-        let (came, numbers) = write_to_failing(&rt, *input, second, *flush_fails);
-        assert_text::text(came, *expected).expect(&rt, *case);
-        assert_text::value(numbers, *counts).expect(&rt, *case);
-    }
+    let (outcome, faults) = session_to(alloc, input, writer);
+    let are_counted = (faults == wanted.faults) & (flushes == wanted.flushes);
+    let is_taken = taken.as_slice() == wanted.text.as_bytes();
+    drop(taken);
+    are_counted & (outcome == wanted.outcome) & is_taken
 }
 
-/// Errors, and whether they end a session. A call that was interrupted is made again.
-const KINDS: &[(ErrorKind, bool)] = &[
-    (ErrorKind::Other, true),
-    (ErrorKind::BrokenPipe, true),
-    (ErrorKind::Interrupted, false),
+/// Inputs, how the second write fails, whether each flush does, and what the session comes to.
+const WRITERS: &[(&str, ErrorKind, bool, Wanted)] = &[
+    (
+        FIRST_RUN,
+        ErrorKind::Interrupted,
+        false,
+        Wanted {
+            outcome: Outcome::Done,
+            faults: 1,
+            flushes: 1,
+            text: FIRST_REPLIES,
+        },
+    ),
+    (
+        FIRST_RUN,
+        ErrorKind::Other,
+        false,
+        Wanted {
+            outcome: Outcome::Device,
+            faults: 1,
+            flushes: 0,
+            text: "ok\n",
+        },
+    ),
+    (
+        "new 0 prim",
+        ErrorKind::Other,
+        false,
+        Wanted {
+            outcome: Outcome::Done,
+            faults: 0,
+            flushes: 1,
+            text: "ok\n",
+        },
+    ),
+    (
+        "new 0 prim",
+        ErrorKind::Other,
+        true,
+        Wanted {
+            outcome: Outcome::Device,
+            faults: 1,
+            flushes: 1,
+            text: "ok\n",
+        },
+    ),
+    (
+        "# no replies\n",
+        ErrorKind::Other,
+        false,
+        Wanted {
+            outcome: Outcome::Done,
+            faults: 0,
+            flushes: 1,
+            text: "",
+        },
+    ),
+    (
+        "# no replies\n",
+        ErrorKind::Other,
+        true,
+        Wanted {
+            outcome: Outcome::Device,
+            faults: 1,
+            flushes: 1,
+            text: "",
+        },
+    ),
 ];
 
-/// The replies to the first run take seventeen writes.
-#[test]
-fn each_write_may_fail(rt: HostRuntime) {
-    for (kind, is_end) in KINDS {
-        for number in 1..18 {
-            let case = Text::of(format_args!("write {number}, {kind:?}"));
-            let failure = Failure {
-                number,
-                kind: *kind,
-            };
-            let (came, numbers) = write_to_failing(&rt, FIRST_RUN, failure, false);
-            let (expected, counts) = if *is_end {
-                let front = FIRST_REPLIES.get(..(number - 1) * 3).unwrap_or("too many");
-                (Text::of("device fault: ").and(front, 300), (1, 0))
-            } else {
-                (Text::of("done: ").and(FIRST_REPLIES, 300), (1, 1))
-            };
-            assert_text::text(came, expected.as_str()).expect(&rt, case.as_str());
-            assert_text::value(numbers, counts).expect(&rt, case.as_str());
+/// The place of the first of them that comes to something else; their number where none does.
+fn first_writer(alloc: Global, cases: &[(&str, ErrorKind, bool, Wanted)]) -> usize {
+    for (place, (input, kind, flush_fails, wanted)) in cases.iter().enumerate() {
+        let failure = Failure {
+            number: 2,
+            kind: *kind,
+        };
+        if !is_written(alloc, *input, failure, *flush_fails, wanted) {
+            return place;
         }
     }
+    cases.len()
 }
 
-/// Runs a session over the first run whose reader fails, and returns how it ends and what it wrote, and the number of
-/// faults.
-fn read_from_failing(rt: &(impl Abort + AllocGlobal), failure: Failure) -> (Text, u64) {
-    let mut written = Vec::new(rt.alloc());
+/// A write that was interrupted is tried again, and any other failure ends the session. A session flushes once, also
+/// where it has no replies, and a flush that failed is a fault.
+#[test]
+fn failing_writers(rt: HostRuntime) {
+    let place = first_writer(rt.alloc(), WRITERS);
+    assert!(rt; place == WRITERS.len());
+}
+
+/// What a session over the first run comes to where one write fails, in a way that ends it or is tried again: what was
+/// written before is a beginning.
+fn after_failure(number: usize, is_end: bool) -> Wanted {
+    let length = number.saturating_sub(1).saturating_mul(3);
+    if is_end {
+        return Wanted {
+            outcome: Outcome::Device,
+            faults: 1,
+            flushes: 0,
+            text: FIRST_REPLIES.get(..length).unwrap_or("too many"),
+        };
+    }
+    Wanted {
+        outcome: Outcome::Done,
+        faults: 1,
+        flushes: 1,
+        text: FIRST_REPLIES,
+    }
+}
+
+/// The first of the seventeen writes of the first run after whose failure a session comes to something else; 18 where
+/// there is none.
+fn first_write(alloc: Global, kind: ErrorKind, is_end: bool) -> usize {
+    for number in 1..18 {
+        let wanted = after_failure(number, is_end);
+        if !is_written(alloc, FIRST_RUN, Failure { number, kind }, false, &wanted) {
+            return number;
+        }
+    }
+    18
+}
+
+#[test]
+fn each_write_may_fail(rt: HostRuntime) {
+    let first = [
+        first_write(rt.alloc(), ErrorKind::Other, true),
+        first_write(rt.alloc(), ErrorKind::BrokenPipe, true),
+        first_write(rt.alloc(), ErrorKind::Interrupted, false),
+    ];
+    assert!(rt; first == [18; 3]);
+}
+
+/// How a session over the first run ends that writes behind these bytes, and of which one read fails so, and how many
+/// faults the reader had.
+fn session_from(alloc: Global, failure: Failure, written: &mut Vec<u8>) -> (Outcome, u64) {
     let mut input = Counted::new(Reader {
         bytes: FIRST_RUN.as_bytes(),
         failure,
         reads: 0,
     });
-    let outcome = session(rt.alloc(), &mut input, &mut Counted::new(&mut written));
+    let mut output = Counted::new(written);
+    let outcome = session(alloc, &mut input, &mut output);
     let faults = input.count();
     drop(input);
-    let came = ending(outcome, written.as_slice());
-    drop(written);
-    (came, faults)
+    (outcome, faults)
 }
 
-/// The first run takes sixteen reads, the last of which finds its end.
-#[test]
-fn each_read_may_fail(rt: HostRuntime) {
-    for (kind, is_end) in KINDS {
-        for number in 1..17 {
-            let case = Text::of(format_args!("read {number}, {kind:?}"));
-            let failure = Failure {
-                number,
-                kind: *kind,
-            };
-            let (came, faults) = read_from_failing(&rt, failure);
-            let expected = if *is_end {
-                Text::of("device fault: ")
-            } else {
-                Text::of("done: ").and(FIRST_REPLIES, 300)
-            };
-            assert_text::text(came, expected.as_str()).expect(&rt, case.as_str());
-            assert_text::value(faults, 1).expect(&rt, case.as_str());
+/// Whether it ends by the device, or is done, and writes this.
+fn is_read(alloc: Global, failure: Failure, is_end: bool, text: &str) -> bool {
+    let mut written = Vec::new(alloc);
+    let (outcome, faults) = session_from(alloc, failure, &mut written);
+    let is_ended = match outcome {
+        Outcome::Device => is_end,
+        Outcome::Done => !is_end,
+        _ => false,
+    };
+    let is_written = written.as_slice() == text.as_bytes();
+    drop(written);
+    is_ended & (faults == 1) & is_written
+}
+
+/// The first of the sixteen reads of the first run, the last of which finds its end, after whose failure a session ends
+/// otherwise or writes something else; 17 where there is none.
+fn first_read(alloc: Global, kind: ErrorKind, is_end: bool, text: &str) -> usize {
+    for number in 1..17 {
+        if !is_read(alloc, Failure { number, kind }, is_end, text) {
+            return number;
         }
     }
+    17
 }
 
+/// A read that was interrupted is tried again, and any other failure ends the session, whichever read it is.
 #[test]
-fn a_writer_that_takes_nothing_more_ends_the_session(rt: HostRuntime) {
+fn each_read_may_fail(rt: HostRuntime) {
+    let first = [
+        first_read(rt.alloc(), ErrorKind::Interrupted, false, FIRST_REPLIES),
+        first_read(rt.alloc(), ErrorKind::Other, true, ""),
+        first_read(rt.alloc(), ErrorKind::BrokenPipe, true, ""),
+    ];
+    assert!(rt; first == [17; 3]);
+}
+
+/// How a session over the first run ends on a writer into memory of this size, and how many faults the writer had.
+fn session_into(alloc: Global, room: &mut [u8]) -> (Outcome, u64) {
+    let mut output = Counted::new(room);
+    let outcome = session(alloc, &mut Counted::new(FIRST_RUN.as_bytes()), &mut output);
+    (outcome, output.count())
+}
+
+/// A writer that takes nothing more ends the session.
+#[test]
+fn full_writer(rt: HostRuntime) {
     let mut room = [0; 3];
+    let (outcome, faults) = session_into(rt.alloc(), &mut room);
+    assert!(rt; outcome == Outcome::Device && faults == 1 && room == *b"ok\n");
+}
+
+/// How many faults a full writer has after a write of these bytes.
+fn faults_of(piece: &str) -> u64 {
+    let mut room = [0; 0];
     let mut output = Counted::new(room.as_mut_slice());
-    let mut input = Counted::new(FIRST_RUN.as_bytes());
-    let outcome = session(rt.alloc(), &mut input, &mut output);
-    assert_text::value(output.count(), 1).expect(&rt, "faults");
-    assert_text::text(ending(outcome, &room), "device fault: ok\n").expect(
-        &rt,
-        "three bytes of room",
-    );
+    let _ = output.write(piece.as_bytes());
+    output.count()
 }
 
+/// A writer is at fault that takes nothing of a piece, unless there was nothing to take.
 #[test]
-fn taking_nothing_of_a_piece_is_a_fault_unless_the_piece_is_empty(rt: HostRuntime) {
-    for (case, piece, faults) in [("an empty piece", "", 0), ("a byte", "a", 1)] {
-        let mut room = [0; 0];
-        let mut output = Counted::new(room.as_mut_slice());
-        let _ = output.write(piece.as_bytes());
-        assert_text::value(output.count(), faults).expect(&rt, case);
-    }
+fn empty_piece_is_no_fault(rt: HostRuntime) {
+    assert!(rt; faults_of("") == 0 && faults_of("a") == 1);
 }
 
-#[test]
-fn the_end_is_found_by_a_read_with_room(rt: HostRuntime) {
+/// Whether a reader has found the end of one byte after a read of it, a read into no room, and one more read.
+fn ends_found() -> [bool; 3] {
     let mut input = Counted::new("a".as_bytes());
     let mut room = [0; 1];
     let _ = input.read(&mut room);
-    assert_text::value(input.has_ended(), false).expect(&rt, "after the only byte");
+    let behind_it = input.has_ended();
     let _ = input.read(&mut room[..0]);
-    assert_text::value(input.has_ended(), false).expect(&rt, "after a read without room");
+    let no_room = input.has_ended();
     let _ = input.read(&mut room);
-    assert_text::value(input.has_ended(), true).expect(&rt, "after one more read");
+    [behind_it, no_room, input.has_ended()]
+}
+
+#[test]
+fn end_is_found_by_a_read(rt: HostRuntime) {
+    assert!(rt; ends_found() == [false, false, true]);
 }

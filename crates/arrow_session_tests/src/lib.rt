@@ -1,4 +1,5 @@
-//! Tests of sessions, in a crate of their own, since the gate proves a crate with tests twice.
+//! What lines, devices and outcomes do, by example, in a crate of their own, since the gate proves a crate with tests
+//! twice.
 #![tactic(auto)]
 
 #[cfg(test)]

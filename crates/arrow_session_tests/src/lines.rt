@@ -1,9 +1,28 @@
-//! Which lines are not commands.
-use crate::sessions::session_over;
-use arrow_testing::assert_text;
+//! Which lines are no commands.
+use crate::sessions::session_of;
+use arrow_session::outcome::Outcome;
+use std::alloc::Global;
 
-/// Lines that are not commands: numbers out of range, malformed numbers, missing words and too many, words that are close
-/// to a command's, wrong or missing digits, bytes that are not UTF-8, and bytes that no word has.
+/// How a session over an input ends, and whether it writes nothing.
+fn end_of(alloc: Global, input: &[u8]) -> (Outcome, bool) {
+    let mut written = Vec::new(alloc);
+    let outcome = session_of(alloc, input, &mut written);
+    let is_silent = written.is_empty();
+    drop(written);
+    (outcome, is_silent)
+}
+
+/// Whether the first line of an input that is no command has this number; 0 where each is one.
+fn is_bad_from(alloc: Global, input: &[u8], number: usize) -> bool {
+    match end_of(alloc, input) {
+        (Outcome::Done, _) => number == 0,
+        (Outcome::BadLine(first), is_silent) => first == number && is_silent,
+        _ => false,
+    }
+}
+
+/// Lines that are no commands: numbers past their range, no numbers, missing and further words, words that are not
+/// quite a command's, digits that are none or too few, bytes that are no text, and bytes that no word has.
 const NO_COMMANDS: &str = "len 18446744073709551616
 len 99999999999999999999999999
 slice 0 0 18446744073709551616
@@ -144,50 +163,53 @@ len 0 \u{e9}
 \t
 \0";
 
-#[test]
-fn lines_that_are_not_commands_are_reported(rt: HostRuntime) {
-    for line in NO_COMMANDS.split('\n') {
-        let came = session_over(&rt, line.as_bytes());
-        assert_text::text(came, "line 1: not a command: ").expect(&rt, line);
+/// The first of the lines of a text that is a command, where there is one.
+fn first_command<'a>(alloc: Global, lines: &'a str) -> Option<&'a str> {
+    for line in lines.split('\n') {
+        if !is_bad_from(alloc, line.as_bytes(), 1) {
+            return Some(line);
+        }
     }
+    None
 }
 
-/// A text that is longer than what is read at a time, which ends within a character.
+#[test]
+fn no_commands(rt: HostRuntime) {
+    let first = first_command(rt.alloc(), NO_COMMANDS);
+    assert!(rt; first == None);
+}
+
+/// A text that is longer than what is looked at at a time, the end of which lies in a character.
 const LONG_TEXT: &str =
     "items 0 utf8 t61C3A9C3A9C3A9C3A9C3A9C3A9C3A9C3A9C3A9C3A9C3A9C3A9C3A9C3A9C3A9C3A9C3A9C3A9C3A9C3A9C3A9C3A9C3A9C3A9C3A9C3A9C3A9C3A9C3A9C3A9C3A9C3A9C3A9C3A9C3A9C3A9C3A9C3A9C3A9C3A9C3A9C3A9C3A9C3A9C3A9C3A9C3A9C3A9C3A9C3A9";
 
-/// The same with half of its last character.
+/// The same, but for its last character.
 const LONG_BROKEN_TEXT: &str =
     "items 0 utf8 t61C3A9C3A9C3A9C3A9C3A9C3A9C3A9C3A9C3A9C3A9C3A9C3A9C3A9C3A9C3A9C3A9C3A9C3A9C3A9C3A9C3A9C3A9C3A9C3A9C3A9C3A9C3A9C3A9C3A9C3A9C3A9C3A9C3A9C3A9C3A9C3A9C3A9C3A9C3A9C3A9C3A9C3A9C3A9C3A9C3A9C3A9C3A9C3A9C3A9C361";
 
-/// A name, an input, how the session ends, and what it writes.
-const INPUTS: &[(&str, &str, &str)] = &[
-    ("no line", "", "done: "),
-    ("empty lines", "\n\n", "done: "),
-    ("comments", "# any \u{e9}\tbyte\n   \n#", "done: "),
-    ("spaces at the end", "# no command\n\n   ", "done: "),
-    (
-        "a bad line behind comments",
-        "\n# one\n  \nlen 0\nlen\n",
-        "line 5: not a command: ",
-    ),
-    (
-        "two bad lines",
-        "len 0\nlen\nlen",
-        "line 2: not a command: ",
-    ),
-    ("a long text", LONG_TEXT, "done: ok\n"),
-    (
-        "a long text that is not UTF-8",
-        LONG_BROKEN_TEXT,
-        "line 1: not a command: ",
-    ),
+/// Inputs, and the numbers of their first lines that are no commands, or 0.
+const COUNTED: &[(&str, usize)] = &[
+    ("", 0),
+    ("\n\n", 0),
+    ("# any \u{e9}\tbyte\n   \n#", 0),
+    ("\n# one\n  \nlen 0\nlen\n", 5),
+    ("len 0\nlen\nlen", 2),
+    (LONG_TEXT, 0),
+    (LONG_BROKEN_TEXT, 1),
 ];
 
-#[test]
-fn lines_are_counted_from_one(rt: HostRuntime) {
-    for (case, input, expected) in INPUTS {
-        let came = session_over(&rt, input.as_bytes());
-        assert_text::text(came, *expected).expect(&rt, *case);
+/// The place of the first of them that has another number; their number where none has.
+fn first_counted(alloc: Global, cases: &[(&str, usize)]) -> usize {
+    for (place, (input, number)) in cases.iter().enumerate() {
+        if !is_bad_from(alloc, input.as_bytes(), *number) {
+            return place;
+        }
     }
+    cases.len()
+}
+
+#[test]
+fn lines_are_counted(rt: HostRuntime) {
+    let place = first_counted(rt.alloc(), COUNTED);
+    assert!(rt; place == COUNTED.len());
 }

@@ -1,44 +1,28 @@
-//! Tests of tables by their public calls: native types and offsets that the program's lines do not have, raw parts that
-//! its lines can't write, and how commands are run. The lines in `examples/` test the commands.
+//! What a table does, by example, with ample memory. What it is asked and has to answer is written as scripts, which are
+//! run over two native types and two widths of offsets, and over offsets that end early.
 #![tactic(auto)]
 
-/// Runs commands on a table, and compares the reply of each with a text.
-macro_rules! replies {
-    ($rt:expr, $table:expr; $($name:ident ( $($argument:tt)* ) => $expected:expr,)*) => {
-        $(
-            $crate::replies::ask(
-                $rt,
-                $table,
-                stringify!($name($($argument)*)),
-                arrow_table::Command::$name($($argument)*),
-                $expected,
-            );
-        )*
-    };
-}
-
-/// Compares the reply of each call with a text.
-macro_rules! calls {
-    ($rt:expr; $($call:expr => $expected:expr,)*) => {
-        $(
-            $crate::replies::check($rt, stringify!($call), $call, $expected);
-        )*
-    };
-}
-
 #[cfg(test)]
-mod intervals;
+mod apart;
 #[cfg(test)]
-mod overflow;
+mod arrays;
+#[cfg(test)]
+mod builders;
+#[cfg(test)]
+mod chosen;
+#[cfg(test)]
+mod narrow;
 #[cfg(test)]
 mod parts;
 #[cfg(test)]
-mod replies;
+mod room;
 #[cfg(test)]
 mod runs;
 #[cfg(test)]
-mod text_cost;
+mod script;
 #[cfg(test)]
-mod values;
+mod texts;
+#[cfg(test)]
+mod unmet;
 #[cfg(test)]
 mod widths;

@@ -1,165 +1,196 @@
-//! Bytes around the slots of bytes and of text, in slices, thawed arrays and builders, and parts that are taken out and
-//! accepted again.
-use crate::raw::{
-    Parts, check_array, check_builder, check_values, own_array, own_builder, thawed, values_of,
-};
-use arrow_byte_array::{ByteArray, MutableByteArray, MutableByteValuesArray};
-use arrow_bytes::{Binary, BorrowItem, ByteKind, Utf8};
-use arrow_testing::{Tiny, assert_text};
+//! Bytes: what slots and raw parts become, and what slices, thaws and pops leave. What text has in common with bytes
+//! is asked of both kinds.
+use crate::Tiny;
+use crate::raw::{Parts, builds, own_array, own_builder, shows, thawed};
+use arrow_binary::{BinaryArray, MutableBinaryArray};
+use arrow_byte_array::ByteArray;
+use arrow_bytes::{Binary, ByteKind, Utf8};
 use arrow_types::offset::Offset;
+use std::alloc::Global;
 use std::process::Abort;
 
-/// Three slots of one, no and two bytes, the second null, with bytes around them that are no text.
-const AROUND: Parts = (&[2, 3, 3, 5], b"\xFF\xFF\x01\x04\x04\xC3", "101");
+/// Whether the items of three slots come in order, an empty one for a null, and then none.
+fn gives<O: Offset>(array: &BinaryArray<O>) -> bool {
+    let mut items = array.values_iter();
+    let first = [items.next(), items.next()] == [Some(b"\x01\x02".as_slice()), Some(b"")];
+    first & ([items.next(), items.next()] == [Some(b"\x03".as_slice()), None])
+}
 
-/// Compares the items of an array of bytes, and the slots and the parts of a slice.
-fn slices_keep_all_bytes<O: Offset>(rt: &(impl Abort + AllocGlobal)) {
-    let mut array = own_array::<Binary, O>(rt, AROUND);
-    assert!(rt; array.len() == 3);
-    let items = [array.value(0), array.value(1), array.value(2)];
-    let expected: [&[u8]; 3] = [b"\x01", b"", b"\x04\x04"];
-    assert_text::value(items, expected).expect(rt, "value");
-    array.slice(1, 2);
-    assert!(rt; array.len() == 2);
-    let slots = [array.get(0), array.get(1)];
-    let expected: [Option<&[u8]>; 2] = [None, Some(b"\x04\x04")];
-    assert_text::value(slots, expected).expect(rt, "get");
-    assert_text::value(array.null_count(), 1).expect(rt, "null_count");
-    check_array(rt, "parts", &array, (&[3, 3, 5], AROUND.1, "01"));
+/// Whether slots are stored as bytes between offsets, under marks.
+fn is_stored<O: Offset>(alloc: Global, rt: &impl Abort) -> bool {
+    let slots: &[Option<&[u8]>] = &[Some(b"\x01\x02"), None, Some(b"\x03")];
+    let array = BinaryArray::<O>::from(alloc, slots).expect(rt, "memory");
+    let is_stored = gives(&array) & shows(&array, (&[0, 2, 2, 3], b"\x01\x02\x03", "101"));
     drop(array);
+    is_stored
 }
 
-/// A name, an offset, a length, and the offsets and the mask of that slice.
-const SLICES: &[(&str, usize, usize, &[usize], &str)] = &[
-    ("all", 0, 3, &[2, 3, 3, 5], "101"),
-    ("the last two", 1, 2, &[3, 3, 5], "01"),
-    ("the first", 0, 1, &[2, 3], "1"),
-    ("none", 3, 0, &[5], ""),
-];
+#[test]
+fn a_null_stores_no_byte_under_a_clear_mark(rt: HostRuntime) {
+    let narrow = is_stored::<i32>(rt.alloc(), &rt);
+    let wide = is_stored::<i64>(rt.alloc(), &rt);
+    assert!(rt; narrow & wide & is_stored::<Tiny>(rt.alloc(), &rt));
+}
 
-/// Compares an array of the parts of a slice.
-fn parts_of_slices_are_accepted<K: ByteKind, O: Offset>(rt: &(impl Abort + AllocGlobal)) {
-    for (case, offset, len, offsets, mask) in SLICES {
-        let array = own_array::<K, O>(rt, AROUND);
-        assert!(rt; *offset <= array.len() && *len <= array.len() - *offset);
-        let (data_type, ends, values, validity) = array.sliced(*offset, *len).into_inner();
-        let array = ByteArray::<K, O>::try_new(data_type, ends, values, validity);
-        let array = array.expect(rt, "parts of a slice");
-        check_array(rt, *case, &array, (*offsets, AROUND.1, *mask));
-        drop(array);
+/// Three items, which lie between other bytes.
+const ITEMS: [&[u8]; 3] = [b"\x01", b"", b"\x04\x04"];
+
+const AROUND: &[u8] = b"\x09\x09\x01\x04\x04\x08";
+
+/// Whether the last two of three items are left, of which the first is null.
+fn is_rest<O: Offset>(array: &BinaryArray<O>) -> bool {
+    if array.len() != 2 {
+        return false;
     }
+    let are_read = [array.get(0), array.get(1)] == [None, Some(ITEMS[2])];
+    are_read & (array.null_count() == 1) & shows(array, (&[3, 3, 5], AROUND, "01"))
 }
 
-/// Compares builders, with and without nulls, of the parts of builders from which a slot was popped.
-fn parts_of_popped_builders_are_accepted<K: ByteKind, O: Offset>(rt: &(impl Abort + AllocGlobal)) {
-    let mut builder = thawed(rt, own_array::<K, O>(rt, AROUND));
-    drop(builder.pop().expect(rt, "memory"));
-    let (data_type, offsets, values, validity) = builder.into_data();
-    let builder = MutableByteArray::<K, O>::try_new(data_type, offsets, values, validity);
-    let builder = builder.expect(rt, "parts of a builder");
-    let left: Parts = (&[2, 3, 3], b"\xFF\xFF\x01", "10");
-    check_builder(rt, "two slots are left", &builder, left);
-    drop(builder);
-    let parts: Parts = (&[2, 3, 5], b"\xFF\xFF\x01\x04\x04", "none");
-    let builder = values_of::<K, O>(rt, K::default_type(O::IS_LARGE), parts);
-    let mut builder = builder.expect(rt, "parts that fit");
-    drop(builder.pop().expect(rt, "memory"));
-    let (data_type, offsets, values) = builder.into_inner();
-    let builder = MutableByteValuesArray::<K, O>::try_new(data_type, offsets, values);
-    let builder = builder.expect(rt, "parts of a builder without nulls");
-    let left: Parts = (&[2, 3], b"\xFF\xFF\x01", "none");
-    check_values(rt, "an item is left", &builder, left);
-    drop(builder);
+/// Whether an array stores the three items.
+fn stores<O: Offset>(array: &BinaryArray<O>) -> bool {
+    array.len() == 3 && [array.value(0), array.value(1), array.value(2)] == ITEMS
 }
 
-/// Compares the item that is popped from behind another byte, and what is left.
-fn bytes_before_a_popped_item_stay<O: Offset>(rt: &(impl Abort + AllocGlobal)) {
-    let mut builder = own_builder::<Binary, O>(rt, (&[1, 3], b"\x07\x08\x09", "none"));
+/// Whether it does, and the last two of them are left of a slice.
+fn is_sliced<O: Offset>(array: &mut BinaryArray<O>) -> bool {
+    if !stores(array) || array.len() != 3 {
+        return false;
+    }
+    array.slice(1, 2);
+    is_rest(array)
+}
+
+/// Whether those of an array are.
+fn slices<O: Offset>(alloc: Global, rt: &impl Abort) -> bool {
+    let mut array = own_array::<Binary, O>(alloc, rt, (&[2, 3, 3, 5], AROUND, "101"));
+    let is_sliced = is_sliced(&mut array);
+    drop(array);
+    is_sliced
+}
+
+#[test]
+fn a_slice_keeps_all_bytes_and_its_own_marks(rt: HostRuntime) {
+    let (narrow, wide) = (
+        slices::<i32>(rt.alloc(), &rt),
+        slices::<i64>(rt.alloc(), &rt),
+    );
+    assert!(rt; narrow & wide & slices::<Tiny>(rt.alloc(), &rt));
+}
+
+/// Whether the item of a builder is popped from behind another byte, which stays.
+fn pops<O: Offset>(alloc: Global, rt: &impl Abort) -> bool {
+    let mut builder = own_builder::<Binary, O>(alloc, rt, (&[1, 3], b"\x07\x08\x09", "none"));
     let item = builder.pop().expect(rt, "memory").expect(rt, "an item");
-    assert_text::value(item.as_slice(), [8, 9].as_slice()).expect(rt, "the item");
+    let is_popped = item.as_slice() == [8, 9].as_slice();
     drop(item);
-    check_builder(rt, "the byte before it", &builder, (&[1], b"\x07", "none"));
+    let is_left = builds(&builder, (&[1], b"\x07", "none"));
     drop(builder);
+    is_popped & is_left
 }
 
-/// A name, the parts of an array, and the bytes and the mask of its builder.
-const THAWS: &[(&str, Parts, &[u8], &str)] = &[
+#[test]
+fn bytes_before_a_popped_item_stay(rt: HostRuntime) {
+    let (narrow, wide) = (pops::<i32>(rt.alloc(), &rt), pops::<i64>(rt.alloc(), &rt));
+    assert!(rt; narrow & wide & pops::<Tiny>(rt.alloc(), &rt));
+}
+
+/// The parts of arrays, and those of the builders that they are thawed to.
+const THAWS: &[(Parts, Parts)] = &[
+    ((&[0, 1], b"\x61\xFF", "none"), (&[0, 1], b"\x61", "none")),
     (
-        "a byte behind",
-        (&[0, 1], b"\x61\xFF", "none"),
-        b"\x61",
-        "none",
+        (&[2, 3, 3, 5], b"\xFF\xFF\x01\x04\x04\xC3", "101"),
+        (&[2, 3, 3, 5], b"\xFF\xFF\x01\x04\x04", "101"),
     ),
-    ("bytes around", AROUND, b"\xFF\xFF\x01\x04\x04", "101"),
-    ("no slot", (&[1], b"\xFF\xFF", ""), b"\xFF", ""),
-    ("no slot at 0", (&[0], b"\xFF", "none"), b"", "none"),
+    ((&[1], b"\xFF\xFF", ""), (&[1], b"\xFF", "")),
+    ((&[0], b"\xFF", "none"), (&[0], b"", "none")),
 ];
 
-/// Compares the builder of a thawed array, which has no bytes behind the last slot.
-fn thawed_arrays_end_at_their_last_offset<K: ByteKind, O: Offset>(rt: &(impl Abort + AllocGlobal)) {
-    for (case, parts, bytes, mask) in THAWS {
-        let builder = thawed(rt, own_array::<K, O>(rt, *parts));
-        check_builder(rt, *case, &builder, (parts.0, *bytes, *mask));
-        drop(builder);
+/// Whether an array is thawed to these: no byte is behind the last slot.
+fn thaws<K: ByteKind, O: Offset>(
+    alloc: Global,
+    rt: &impl Abort,
+    array: Parts,
+    builder: Parts,
+) -> bool {
+    let thawed = thawed(rt, own_array::<K, O>(alloc, rt, array));
+    let is_thawed = builds(&thawed, builder);
+    drop(thawed);
+    is_thawed
+}
+
+/// Whether it is over both widths of offsets.
+fn all_thaw<K: ByteKind>(alloc: Global, rt: &impl Abort, array: Parts, builder: Parts) -> bool {
+    let is_narrow = thaws::<K, i32>(alloc, rt, array, builder);
+    is_narrow & thaws::<K, i64>(alloc, rt, array, builder)
+}
+
+#[test]
+fn a_thawed_array_ends_at_its_last_offset(rt: HostRuntime) {
+    for (array, builder) in THAWS {
+        let are_bytes = all_thaw::<Binary>(rt.alloc(), &rt, *array, *builder);
+        assert!(rt; are_bytes & all_thaw::<Utf8>(rt.alloc(), &rt, *array, *builder));
     }
 }
 
-/// Compares a builder after a push, and a builder of its parts.
-fn check_push<K: BorrowItem<'static>, O: Offset>(
-    rt: &(impl Abort + AllocGlobal),
-    case: &str,
-    mut builder: MutableByteArray<K, O>,
-    item: K::Borrowed,
-    expected: Parts,
-) {
-    builder.push(Some(item)).expect(rt, "memory");
-    check_builder(rt, case, &builder, expected);
-    let (data_type, offsets, values, validity) = builder.into_data();
-    let builder = MutableByteArray::<K, O>::try_new(data_type, offsets, values, validity);
-    let builder = builder.expect(rt, "parts of a builder");
-    check_builder(rt, case, &builder, expected);
+/// Whether a byte that is pushed stands behind a thawed array's slot, where another byte was.
+fn thaws_and_grows<O: Offset>(alloc: Global, rt: &impl Abort) -> bool {
+    let array = own_array::<Binary, O>(alloc, rt, (&[0, 1], b"\x61\xFF", "none"));
+    let mut builder: MutableBinaryArray<O> = thawed(rt, array);
+    builder.push(Some(b"\x62")).expect(rt, "memory");
+    let is_grown = builds(&builder, (&[0, 1, 2], b"\x61\x62", "none"));
     drop(builder);
-}
-
-/// Compares builders after a push: thawed arrays with a byte behind the slot, and one with a byte before its slots.
-fn pushed_items_follow_the_last_slot<O: Offset>(rt: &(impl Abort + AllocGlobal)) {
-    let parts: Parts = (&[0, 1], b"a\xFF", "none");
-    let grown: Parts = (&[0, 1, 2], b"ab", "none");
-    let builder = thawed(rt, own_array::<Binary, O>(rt, parts));
-    check_push(rt, "thawed bytes", builder, b"b", grown);
-    let builder = thawed(rt, own_array::<Utf8, O>(rt, parts));
-    check_push(rt, "thawed text", builder, "b", grown);
-    let builder = own_builder::<Utf8, O>(rt, (&[1, 2, 3], b"\xFFab", "none"));
-    let grown: Parts = (&[1, 2, 3, 4], b"\xFFabc", "none");
-    check_push(rt, "behind another byte", builder, "c", grown);
-}
-
-/// Compares arrays and builders over a type of offsets.
-fn check<O: Offset>(rt: &(impl Abort + AllocGlobal)) {
-    slices_keep_all_bytes::<O>(rt);
-    bytes_before_a_popped_item_stay::<O>(rt);
-    pushed_items_follow_the_last_slot::<O>(rt);
-    thawed_arrays_end_at_their_last_offset::<Utf8, O>(rt);
+    is_grown
 }
 
 #[test]
-fn bytes_around_slots_of_each_offset(rt: HostRuntime) {
-    check::<i32>(&rt);
-    check::<i64>(&rt);
-    check::<Tiny>(&rt);
+fn bytes_behind_a_thawed_array_do_not_come_back(rt: HostRuntime) {
+    let narrow = thaws_and_grows::<i32>(rt.alloc(), &rt);
+    let wide = thaws_and_grows::<i64>(rt.alloc(), &rt);
+    assert!(rt; narrow & wide & thaws_and_grows::<Tiny>(rt.alloc(), &rt));
 }
 
-/// Compares arrays and builders of a kind over a type of offsets.
-fn check_kind<K: ByteKind, O: Offset>(rt: &(impl Abort + AllocGlobal)) {
-    parts_of_slices_are_accepted::<K, O>(rt);
-    parts_of_popped_builders_are_accepted::<K, O>(rt);
-    thawed_arrays_end_at_their_last_offset::<K, O>(rt);
+/// Three slots, the last of which is null; and three others, of which the second is.
+const SHARED: &[Parts] = &[
+    (&[0, 5, 6, 6], b"hello ", "110"),
+    (&[0, 2, 2, 7], b"hithere", "101"),
+];
+
+/// Whether the second of two owners is not thawed while the first lives, both are as before, and the first is thawed once
+/// the second doesn't live.
+fn are_apart<K: ByteKind, O: Offset>(
+    rt: &impl Abort,
+    first: ByteArray<K, O>,
+    second: ByteArray<K, O>,
+    parts: Parts,
+) -> bool {
+    let second = second
+        .into_mut()
+        .left()
+        .expect(rt, "an array that is shared");
+    let are_as_before = shows(&first, parts) & shows(&second, parts);
+    drop(second);
+    let builder = thawed(rt, first);
+    let is_thawed = builds(&builder, parts);
+    drop(builder);
+    are_as_before & is_thawed
+}
+
+/// Whether an array and its clone are so.
+fn is_shared<K: ByteKind, O: Offset>(alloc: Global, rt: &impl Abort, parts: Parts) -> bool {
+    let first = own_array::<K, O>(alloc, rt, parts);
+    let second = first.clone().expect(rt, "memory");
+    are_apart(rt, first, second, parts)
+}
+
+/// Whether they are over both widths of offsets.
+fn all_are_shared<K: ByteKind>(alloc: Global, rt: &impl Abort, parts: Parts) -> bool {
+    is_shared::<K, i32>(alloc, rt, parts) & is_shared::<K, i64>(alloc, rt, parts)
 }
 
 #[test]
-fn bytes_around_slots_of_each_kind(rt: HostRuntime) {
-    check_kind::<Binary, i32>(&rt);
-    check_kind::<Binary, i64>(&rt);
-    check_kind::<Utf8, i32>(&rt);
-    check_kind::<Utf8, i64>(&rt);
+fn a_clone_is_not_thawed_while_the_first_lives(rt: HostRuntime) {
+    for parts in SHARED {
+        let are_bytes = all_are_shared::<Binary>(rt.alloc(), &rt, *parts);
+        assert!(rt; are_bytes & all_are_shared::<Utf8>(rt.alloc(), &rt, *parts));
+    }
 }

@@ -1,33 +1,56 @@
-//! Iterators: all items of one that reports a wrong length are taken, and one over an array ends for good.
-use crate::raw::{Parts, check_array, check_builder, check_values};
+//! Iterators: one that lies of its length gives its three items all the same, or, where it says that there are more than
+//! any memory holds, memory is wanting; and one over an array ends for good, however much is passed over.
+use crate::Tiny;
+use crate::raw::{Parts, builds, holds, shows};
 use arrow_boolean::{BooleanArray, MutableBooleanArray};
 use arrow_byte_array::{ByteArray, MutableByteArray, MutableByteValuesArray};
 use arrow_bytes::{Binary, ByteItem, ByteKind, ItemError, Utf8};
 use arrow_primitive::{MutablePrimitiveArray, PrimitiveArray};
-use arrow_testing::{Tiny, assert_text};
+use arrow_testing::{is_mask, seen};
 use arrow_types::error::Error;
 use arrow_types::offset::Offset;
 use arrow_utf8::Utf8Array;
+use std::alloc::Global;
 use std::process::Abort;
 
-/// A name, whether an iterator reports a lower and an upper bound of its length, and by how many items these are too
-/// great.
-type Lie = (&'static str, bool, bool, usize);
+/// What an iterator says beside the truth: whether it tells a least number and a greatest number of items, and by how many
+/// these are too large.
+#[derive(Clone, Copy)]
+struct Lie {
+    tells_least: bool,
+    tells_most: bool,
+    more: usize,
+}
 
+/// Of three items it tells nothing; at most nine; seven; at least as many as a number can count.
 const LIES: &[Lie] = &[
-    ("no bound", false, false, 0),
-    ("at most nine", false, true, 6),
-    ("exactly seven", true, true, 4),
-    ("at least usize::MAX", true, false, 18446744073709551612),
+    Lie {
+        tells_least: false,
+        tells_most: false,
+        more: 0,
+    },
+    Lie {
+        tells_least: false,
+        tells_most: true,
+        more: 6,
+    },
+    Lie {
+        tells_least: true,
+        tells_most: true,
+        more: 4,
+    },
+    Lie {
+        tells_least: true,
+        tells_most: false,
+        more: 18446744073709551612,
+    },
 ];
 
-/// An iterator over a list, with wrong bounds of its length.
+/// An iterator over a list that lies of its length.
 #[derive(Drop)]
 struct Liar<'a, T> {
     items: &'a [T],
-    has_lower: bool,
-    has_upper: bool,
-    more: usize,
+    lie: Lie,
 }
 
 impl<'a, T: Copy> Iterator for Liar<'a, T> {
@@ -38,7 +61,7 @@ impl<'a, T: Copy> Iterator for Liar<'a, T> {
 
     ghost next_gives = { YieldsFirst (λ liar. liar.items.now) };
 
-    ghost remaining = { λ liar. at_most (length liar.items.now + liar.more) };
+    ghost remaining = { λ liar. at_most (length liar.items.now + liar.lie.more) };
 
     fn next(&mut self) -> Option<T> {
         let (item, rest) = self.items.split_first()?;
@@ -48,192 +71,307 @@ impl<'a, T: Copy> Iterator for Liar<'a, T> {
 
     fn size_hint(&self) -> (usize, Option<usize>) {
         let count = self.items.len();
-        let lower = if self.has_lower {
-            count.saturating_add(self.more)
+        let least = if self.lie.tells_least {
+            count.saturating_add(self.lie.more)
         } else {
             0
         };
-        let upper = if self.has_upper {
-            count.checked_add(self.more)
+        let most = if self.lie.tells_most {
+            count.checked_add(self.lie.more)
         } else {
             None
         };
-        (lower, upper)
+        (least, most)
     }
 }
 
-/// Returns an iterator over a list with wrong bounds.
-fn lying<'a, T: Copy>(items: &'a [T], (_, has_lower, has_upper, more): Lie) -> Liar<'a, T> {
-    Liar {
-        items,
-        has_lower,
-        has_upper,
-        more,
+/// An iterator over a list that lies so.
+fn lying<'a, T: Copy>(items: &'a [T], lie: Lie) -> Liar<'a, T> {
+    Liar { items, lie }
+}
+
+/// Whether all items were taken, or memory was wanting where no memory holds as many as were told.
+fn is_taken(answer: Result<bool, Error>, lie: Lie) -> bool {
+    match answer {
+        Ok(are_all) => are_all,
+        Err(Error::OutOfMemory) => lie.tells_least & !lie.tells_most,
+        Err(_) => false,
     }
+}
+
+const NUMBERS: &[i64] = &[1, 0, 3];
+
+const SLOTS: &[Option<i64>] = &[Some(1), None, Some(3)];
+
+/// Whether a builder stores the three numbers, under these marks.
+fn stores(builder: &MutablePrimitiveArray<i64>, mask: &str) -> bool {
+    let marks = match builder.validity() {
+        Some(marks) => Some(marks.iter()),
+        None => None,
+    };
+    (builder.values().as_slice() == NUMBERS) & is_mask(marks, mask)
+}
+
+/// Whether an array does.
+fn array_stores(array: &PrimitiveArray<i64>, mask: &str) -> bool {
+    let marks = match array.validity() {
+        Some(marks) => Some(marks.iter()),
+        None => None,
+    };
+    (array.values().as_slice() == NUMBERS) & is_mask(marks, mask)
+}
+
+/// The marks of three slots that are appended in one of three ways, the last of which appends values.
+fn mask_of(way: usize) -> &'static str {
+    if way == 2 { "none" } else { "101" }
+}
+
+/// Whether a new builder takes them in one of three ways.
+fn extends(alloc: Global, lie: Lie, way: usize) -> bool {
+    let mut builder = MutablePrimitiveArray::new(alloc);
+    let answer = match way {
+        0 => builder.extend(lying(SLOTS, lie)),
+        1 => builder.try_extend(lying(SLOTS, lie)),
+        _ => builder.extend_values(lying(NUMBERS, lie)),
+    };
+    let are_all = stores(&builder, mask_of(way));
+    drop(builder);
+    is_taken(answer.and(Ok(are_all)), lie)
+}
+
+/// Whether all makers of a builder and of an array take them.
+fn makes(alloc: Global, lie: Lie) -> bool {
+    let builder = seen(
+        MutablePrimitiveArray::from_iter(alloc, lying(SLOTS, lie)),
+        |builder| stores(builder, "101"),
+    );
+    let array = seen(
+        PrimitiveArray::from_iter(alloc, lying(SLOTS, lie)),
+        |array| array_stores(array, "101"),
+    );
+    let values = seen(
+        PrimitiveArray::from_values(alloc, lying(NUMBERS, lie)),
+        |array| array_stores(array, "none"),
+    );
+    is_taken(builder, lie) & is_taken(array, lie) & is_taken(values, lie)
 }
 
 #[test]
 fn numbers_are_taken_from_an_iterator_that_lies(rt: HostRuntime) {
-    let values = [1_i64, 0, 3].as_slice();
-    let slots = [Some(1_i64), None, Some(3)].as_slice();
     for lie in LIES {
-        let (lie, case) = (*lie, lie.0);
-        let mut builder = MutablePrimitiveArray::<i64>::new(rt.alloc());
-        builder.extend_values(lying(values, lie)).expect(&rt, case);
-        assert_text::growing_mask(builder.validity(), "none").expect(&rt, case);
-        builder.extend(lying(slots, lie)).expect(&rt, case);
-        builder.try_extend(lying(slots, lie)).expect(&rt, case);
-        let all = [1, 0, 3, 1, 0, 3, 1, 0, 3];
-        assert_text::value(builder.values().as_slice(), all.as_slice()).expect(&rt, case);
-        assert_text::growing_mask(builder.validity(), "111101101").expect(&rt, case);
-        drop(builder);
-        let builder = MutablePrimitiveArray::from_iter(rt.alloc(), lying(slots, lie));
-        let builder = builder.expect(&rt, case);
-        assert_text::value(builder.values().as_slice(), values).expect(&rt, case);
-        assert_text::growing_mask(builder.validity(), "101").expect(&rt, case);
-        drop(builder);
-        let array = PrimitiveArray::from_iter(rt.alloc(), lying(slots, lie)).expect(&rt, case);
-        assert_text::value(array.values().as_slice(), values).expect(&rt, case);
-        assert_text::mask(array.validity(), "101").expect(&rt, case);
-        drop(array);
-        let array = PrimitiveArray::from_values(rt.alloc(), lying(values, lie)).expect(&rt, case);
-        assert_text::value(array.values().as_slice(), values).expect(&rt, case);
-        assert_text::mask(array.validity(), "none").expect(&rt, case);
-        drop(array);
+        for way in 0..3 {
+            assert!(rt; extends(rt.alloc(), *lie, way));
+        }
+        assert!(rt; makes(rt.alloc(), *lie));
+    }
+}
+
+const MARKS: &[bool] = &[true, false, true];
+
+const MARK_SLOTS: &[Option<bool>] = &[Some(true), None, Some(true)];
+
+/// Whether a builder stores the three truth values, under these marks.
+fn marks(builder: &MutableBooleanArray, mask: &str) -> bool {
+    let marks = match builder.validity() {
+        Some(marks) => Some(marks.iter()),
+        None => None,
+    };
+    is_mask(Some(builder.values_iter()), "101") & is_mask(marks, mask)
+}
+
+/// Whether an array does.
+fn array_marks(array: &BooleanArray, mask: &str) -> bool {
+    let marks = match array.validity() {
+        Some(marks) => Some(marks.iter()),
+        None => None,
+    };
+    is_mask(Some(array.values_iter()), "101") & is_mask(marks, mask)
+}
+
+/// Whether a new builder takes them in one of three ways.
+fn extends_marks(alloc: Global, lie: Lie, way: usize) -> bool {
+    let mut builder = MutableBooleanArray::new(alloc);
+    let answer = match way {
+        0 => builder.extend(lying(MARK_SLOTS, lie)),
+        1 => builder.try_extend(lying(MARK_SLOTS, lie)),
+        _ => builder.extend_values(lying(MARKS, lie)),
+    };
+    let are_all = marks(&builder, mask_of(way));
+    drop(builder);
+    is_taken(answer.and(Ok(are_all)), lie)
+}
+
+/// Whether the makers of a builder and of an array take them.
+fn makes_marks(alloc: Global, lie: Lie) -> bool {
+    let builder = seen(
+        MutableBooleanArray::from_iter(alloc, lying(MARK_SLOTS, lie)),
+        |builder| marks(builder, "101"),
+    );
+    let array = seen(
+        BooleanArray::from_iter(alloc, lying(MARK_SLOTS, lie)),
+        |array| array_marks(array, "101"),
+    );
+    is_taken(builder, lie) & is_taken(array, lie)
+}
+
+#[test]
+fn truth_values_are_taken_from_an_iterator_that_lies(rt: HostRuntime) {
+    for lie in LIES {
+        for way in 0..3 {
+            assert!(rt; extends_marks(rt.alloc(), *lie, way));
+        }
+        assert!(rt; makes_marks(rt.alloc(), *lie));
+    }
+}
+
+/// A kind of bytes, and three of its items.
+trait Listed: ByteKind {
+    /// What lends an item.
+    type Item: ByteItem<Self> + ItemError<Error = Error> + 'static;
+
+    /// The items, of two, no and five bytes.
+    fn items() -> &'static [Self::Item];
+
+    /// Slots that show them, but for the second, which is null.
+    fn slots() -> &'static [Option<Self::Item>];
+}
+
+impl Listed for Binary {
+    type Item = &'static [u8];
+
+    fn items() -> &'static [&'static [u8]] {
+        &[b"hi", b"", b"there"]
+    }
+
+    fn slots() -> &'static [Option<&'static [u8]>] {
+        &[Some(b"hi"), None, Some(b"there")]
+    }
+}
+
+impl Listed for Utf8 {
+    type Item = &'static str;
+
+    fn items() -> &'static [&'static str] {
+        &["hi", "", "there"]
+    }
+
+    fn slots() -> &'static [Option<&'static str>] {
+        &[Some("hi"), None, Some("there")]
+    }
+}
+
+/// The three items, under marks or none.
+fn parts(mask: &'static str) -> Parts {
+    (&[0, 2, 2, 7], b"hithere", mask)
+}
+
+/// Whether a new builder takes them in one of three ways.
+fn extends_bytes<K: Listed>(alloc: Global, rt: &impl Abort, lie: Lie, way: usize) -> bool {
+    let mut builder = MutableByteArray::<K, i32>::new(alloc).expect(rt, "memory");
+    let answer = match way {
+        0 => builder.extend(lying(K::slots(), lie)),
+        1 => builder.try_extend(lying(K::slots(), lie)),
+        _ => builder.extend_values(lying(K::items(), lie)),
+    };
+    let are_all = builds(&builder, parts(mask_of(way)));
+    drop(builder);
+    is_taken(answer.and(Ok(are_all)), lie)
+}
+
+/// Whether a new builder without nulls takes them, by `try_extend` or by `extend`.
+fn extends_values<K: Listed>(alloc: Global, rt: &impl Abort, lie: Lie, tries: bool) -> bool {
+    let mut builder = MutableByteValuesArray::<K, i32>::new(alloc).expect(rt, "memory");
+    let answer = if tries {
+        builder.try_extend(lying(K::items(), lie))
+    } else {
+        builder.extend(lying(K::items(), lie))
+    };
+    let are_all = holds(&builder, parts("none"));
+    drop(builder);
+    is_taken(answer.and(Ok(are_all)), lie)
+}
+
+/// Whether the makers of a builder take them.
+fn makes_builders<K: Listed>(alloc: Global, lie: Lie) -> bool {
+    let slots = MutableByteArray::<K, i32>::from_iter(alloc, lying(K::slots(), lie));
+    let is_taken_as_slots = is_taken(seen(slots, |it| builds(it, parts("101"))), lie);
+    let items = MutableByteArray::<K, i32>::from_iter_values(alloc, lying(K::items(), lie));
+    is_taken_as_slots & is_taken(seen(items, |it| builds(it, parts("none"))), lie)
+}
+
+/// Whether those of a builder without nulls do.
+fn makes_values<K: Listed>(alloc: Global, lie: Lie) -> bool {
+    let made = MutableByteValuesArray::<K, i32>::from_iter(alloc, lying(K::items(), lie));
+    let is_made = is_taken(seen(made, |it| holds(it, parts("none"))), lie);
+    let tried = MutableByteValuesArray::<K, i32>::try_from_iter(alloc, lying(K::items(), lie));
+    is_made & is_taken(seen(tried, |it| holds(it, parts("none"))), lie)
+}
+
+/// Whether those of an array do.
+fn makes_arrays<K: Listed>(alloc: Global, lie: Lie) -> bool {
+    let slots = ByteArray::<K, i32>::from_iter(alloc, lying(K::slots(), lie));
+    let is_taken_as_slots = is_taken(seen(slots, |it| shows(it, parts("101"))), lie);
+    let items = ByteArray::<K, i32>::from_iter_values(alloc, lying(K::items(), lie));
+    is_taken_as_slots & is_taken(seen(items, |it| shows(it, parts("none"))), lie)
+}
+
+/// Whether all of them take the items of such an iterator.
+fn takes_bytes<K: Listed>(alloc: Global, rt: &impl Abort, lie: Lie) -> bool {
+    for way in 0..3 {
+        if !extends_bytes::<K>(alloc, rt, lie, way) {
+            return false;
+        }
+    }
+    let are_values = extends_values::<K>(alloc, rt, lie, false)
+        & extends_values::<K>(alloc, rt, lie, true);
+    let are_builders = makes_builders::<K>(alloc, lie) & makes_values::<K>(alloc, lie);
+    are_values & are_builders & makes_arrays::<K>(alloc, lie)
+}
+
+#[test]
+fn bytes_are_taken_from_an_iterator_that_lies(rt: HostRuntime) {
+    for lie in LIES {
+        assert!(rt; takes_bytes::<Binary>(rt.alloc(), &rt, *lie));
     }
 }
 
 #[test]
-fn booleans_are_taken_from_an_iterator_that_lies(rt: HostRuntime) {
-    let values = [true, false, true].as_slice();
-    let slots = [Some(true), None, Some(true)].as_slice();
+fn texts_are_taken_from_an_iterator_that_lies(rt: HostRuntime) {
     for lie in LIES {
-        let (lie, case) = (*lie, lie.0);
-        let mut builder = MutableBooleanArray::new(rt.alloc());
-        builder.extend_values(lying(values, lie)).expect(&rt, case);
-        assert_text::growing_mask(builder.validity(), "none").expect(&rt, case);
-        builder.extend(lying(slots, lie)).expect(&rt, case);
-        builder.try_extend(lying(slots, lie)).expect(&rt, case);
-        assert_text::marks(builder.values_iter(), "101101101").expect(&rt, case);
-        assert_text::growing_mask(builder.validity(), "111101101").expect(&rt, case);
-        drop(builder);
-        let builder = MutableBooleanArray::from_iter(rt.alloc(), lying(slots, lie));
-        let builder = builder.expect(&rt, case);
-        assert_text::marks(builder.values_iter(), "101").expect(&rt, case);
-        assert_text::growing_mask(builder.validity(), "101").expect(&rt, case);
-        drop(builder);
-        let array = BooleanArray::from_iter(rt.alloc(), lying(slots, lie)).expect(&rt, case);
-        assert_text::marks(array.values_iter(), "101").expect(&rt, case);
-        assert_text::mask(array.validity(), "101").expect(&rt, case);
-        drop(array);
+        assert!(rt; takes_bytes::<Utf8>(rt.alloc(), &rt, *lie));
     }
 }
 
-/// Items of two, no and five bytes, and slots, of which the second is null.
-const ITEMS: Parts = (&[0, 2, 2, 7], b"hithere", "none");
+const ITEMS: [&str; 3] = ["10", "20", "30"];
 
-const SLOTS: Parts = (&[0, 2, 2, 7], b"hithere", "101");
-
-/// The items, and the slots twice behind them.
-const ALL: Parts = (
-    &[0, 2, 2, 7, 9, 9, 14, 16, 16, 21],
-    b"hitherehitherehithere",
-    "111101101",
-);
-
-/// Compares builders of three items that come from an iterator that lies.
-fn check_builders<K: ByteKind, X: ByteItem<K> + ItemError<Error = Error> + 'static>(
-    rt: &(impl Abort + AllocGlobal),
-    lie: Lie,
-    items: &[X],
-    slots: &[Option<X>],
-) {
-    let case = lie.0;
-    let mut builder = MutableByteArray::<K, i32>::new(rt.alloc()).expect(rt, "memory");
-    builder.extend_values(lying(items, lie)).expect(rt, case);
-    check_builder(rt, case, &builder, ITEMS);
-    builder.extend(lying(slots, lie)).expect(rt, case);
-    builder.try_extend(lying(slots, lie)).expect(rt, case);
-    check_builder(rt, case, &builder, ALL);
-    drop(builder);
-    let builder = MutableByteArray::<K, i32>::from_iter(rt.alloc(), lying(slots, lie));
-    let builder = builder.expect(rt, case);
-    check_builder(rt, case, &builder, SLOTS);
-    drop(builder);
-    let builder = MutableByteArray::<K, i32>::from_iter_values(rt.alloc(), lying(items, lie));
-    let builder = builder.expect(rt, case);
-    check_builder(rt, case, &builder, ITEMS);
-    drop(builder);
-}
-
-/// Compares builders without nulls, and arrays, of three items that come from an iterator that lies.
-fn check_arrays<K: ByteKind, X: ByteItem<K> + ItemError<Error = Error> + 'static>(
-    rt: &(impl Abort + AllocGlobal),
-    lie: Lie,
-    items: &[X],
-    slots: &[Option<X>],
-) {
-    let case = lie.0;
-    let mut builder = MutableByteValuesArray::<K, i32>::new(rt.alloc()).expect(rt, "memory");
-    builder.extend(lying(items, lie)).expect(rt, case);
-    check_values(rt, case, &builder, ITEMS);
-    builder.try_extend(lying(items, lie)).expect(rt, case);
-    builder.try_extend(lying(items, lie)).expect(rt, case);
-    check_values(rt, case, &builder, ALL);
-    drop(builder);
-    let builder = MutableByteValuesArray::<K, i32>::from_iter(rt.alloc(), lying(items, lie));
-    let builder = builder.expect(rt, case);
-    check_values(rt, case, &builder, ITEMS);
-    drop(builder);
-    let builder = MutableByteValuesArray::<K, i32>::try_from_iter(rt.alloc(), lying(items, lie));
-    let builder = builder.expect(rt, case);
-    check_values(rt, case, &builder, ITEMS);
-    drop(builder);
-    let array = ByteArray::<K, i32>::from_iter(rt.alloc(), lying(slots, lie)).expect(rt, case);
-    check_array(rt, case, &array, SLOTS);
-    drop(array);
-    let array = ByteArray::<K, i32>::from_iter_values(rt.alloc(), lying(items, lie));
-    let array = array.expect(rt, case);
-    check_array(rt, case, &array, ITEMS);
-    drop(array);
-}
-
-#[test]
-fn bytes_and_texts_are_taken_from_an_iterator_that_lies(rt: HostRuntime) {
-    let bytes: &[&'static [u8]] = &[b"hi", b"", b"there"];
-    let byte_slots: &[Option<&'static [u8]>] = &[Some(b"hi"), None, Some(b"there")];
-    let texts: &[&'static str] = &["hi", "", "there"];
-    let text_slots: &[Option<&'static str>] = &[Some("hi"), None, Some("there")];
-    for lie in LIES {
-        check_builders::<Binary, &[u8]>(&rt, *lie, bytes, byte_slots);
-        check_builders::<Utf8, &str>(&rt, *lie, texts, text_slots);
-        check_arrays::<Binary, &[u8]>(&rt, *lie, bytes, byte_slots);
-        check_arrays::<Utf8, &str>(&rt, *lie, texts, text_slots);
-    }
-}
-
-/// Compares the items of an iterator from both ends, and after its end.
-fn check_ends<O: Offset>(rt: &(impl Abort + AllocGlobal)) {
-    let array = Utf8Array::<O>::from_slice(rt.alloc(), ["10", "20", "30"].as_slice());
-    let array = array.expect(rt, "memory");
+/// Whether three texts come from both ends, and then none.
+fn turns<O: Offset>(array: &Utf8Array<O>) -> bool {
     let mut items = array.values_iter();
     let ends = [items.next(), items.next_back()];
-    assert_text::value(ends, [Some("10"), Some("30")]).expect(rt, "both ends");
-    assert_text::value(items.len(), 1).expect(rt, "one is left");
+    let left = items.len();
     let rest = [items.nth(0), items.next(), items.next_back()];
-    assert_text::value(rest, [Some("20"), None, None]).expect(rt, "the last, and none behind");
+    (ends == [Some("10"), Some("30")]) & (left == 1) & (rest == [Some("20"), None, None])
+}
+
+/// Whether none comes once more were passed over than there are.
+fn passes<O: Offset>(array: &Utf8Array<O>) -> bool {
     let mut items = array.values_iter();
-    let skipped = [items.next(), items.nth(usize::MAX)];
-    assert_text::value(skipped, [Some("10"), None]).expect(rt, "more is skipped than is left");
-    assert_text::value(items.len(), 0).expect(rt, "none is left");
+    let first = [items.next(), items.nth(usize::MAX)];
+    let left = items.len();
     let rest = [items.next(), items.next_back()];
-    assert_text::value(rest, [None, None]).expect(rt, "none comes back");
+    (first == [Some("10"), None]) & (left == 0) & (rest == [None, None])
+}
+
+/// Whether both hold of an array of three texts.
+fn ends<O: Offset>(alloc: Global, rt: &impl Abort) -> bool {
+    let array = Utf8Array::<O>::from_slice(alloc, ITEMS.as_slice()).expect(rt, "memory");
+    let are_all = turns(&array) & passes(&array);
     drop(array);
+    are_all
 }
 
 #[test]
 fn an_iterator_ends_for_good(rt: HostRuntime) {
-    check_ends::<i32>(&rt);
-    check_ends::<i64>(&rt);
-    check_ends::<Tiny>(&rt);
+    let (narrow, wide) = (ends::<i32>(rt.alloc(), &rt), ends::<i64>(rt.alloc(), &rt));
+    assert!(rt; narrow & wide & ends::<Tiny>(rt.alloc(), &rt));
 }

@@ -1,25 +1,25 @@
-//! Worked examples and hostile input, as tables of cases: what calls answer, and what arrays and builders are then. Memory
-//! is ample; `arrow_refusals` tests what calls answer if it is not.
+//! What the arrays and their builders do with good input and with hostile input: tables of cases, with parts, calls and
+//! answers, for a reader who asks what happens if. All of it is with ample memory; what is answered where memory is refused
+//! stands in `arrow_refusals`. What a table of arrays answers to hostile commands, items past the greatest offset among them,
+//! stands as scripts in `arrow_table_tests`.
 //!
-//! | subject | module |
+//! | asks | module |
 //! |---|---|
-//! | raw offsets, and slots that end near the greatest offset | `offsets` |
-//! | marks of raw bytes | `masks` |
-//! | slots, parts, slices, clones and thawed arrays of numbers and of booleans | `columns` |
-//! | raw parts of bytes and text: the order of refusals, extension types | `parts` |
-//! | bytes around the slots of bytes and text, in slices, thawed arrays and builders | `bytes` |
-//! | where bytes can be cut into text | `text` |
-//! | the slots of another builder | `joins` |
-//! | items that end past the greatest offset, over a type that ends at 100 | `overflow` |
-//! | capacity | `room` |
-//! | iterators that report a wrong length, and their ends | `iterators` |
-//! | keys that point at items | `keys` |
+//! | which offsets are taken, and where they end | `offsets` |
+//! | which marks fit in bytes | `masks` |
+//! | what slots and raw parts become, what slices, clones and thaws leave: of numbers, truth values, bytes, text | `primitive`, `boolean`, `bytes`, `text` |
+//! | what comes of another builder's slots | `joins` |
+//! | which raw parts of bytes and of text are refused, and which of several faults is told | `parts` |
+//! | what happens past the greatest offset, over a type that ends at 100 | `overflow` |
+//! | whether room that was asked for is there, and goes once it is given back | `room` |
+//! | what an iterator does that lies of its length, or is asked for more than there is | `iterators` |
+//! | which keys point at an item | `keys` |
 #![tactic(auto)]
 
 #[cfg(test)]
-mod bytes;
+mod boolean;
 #[cfg(test)]
-mod columns;
+mod bytes;
 #[cfg(test)]
 mod iterators;
 #[cfg(test)]
@@ -35,8 +35,13 @@ mod overflow;
 #[cfg(test)]
 mod parts;
 #[cfg(test)]
+mod primitive;
+#[cfg(test)]
 mod raw;
 #[cfg(test)]
 mod room;
 #[cfg(test)]
 mod text;
+
+/// An offset whose greatest number is 100, which is not large. Negative ones exist.
+pub use arrow_testing::Tiny;

@@ -1,8 +1,9 @@
-//! Raw offsets, and slots that end near the greatest offset.
-use crate::raw::check_offsets;
+//! Offsets that are taken, and those that are refused: because they are no offsets, or end past the greatest number.
+use crate::Tiny;
 use arrow_memory::offset::Offsets;
-use arrow_testing::{Tiny, assert_text, offsets_of, tells};
+use arrow_testing::{are_offsets, offsets_of, tells};
 use arrow_types::offset::Offset;
+use std::alloc::Global;
 use std::process::Abort;
 
 const NONE: &str = "offsets must have at least one element";
@@ -11,102 +12,159 @@ const NEGATIVE: &str = "the first offset must not be negative";
 
 const FALLS: &str = "offsets must never fall";
 
-/// Returns the answer to raw offsets.
-fn answer<O: Offset>(rt: &(impl Abort + AllocGlobal), offsets: &[O]) -> &'static str {
-    tells(Offsets::try_from_vec(offsets.to_vec(rt.alloc()).expect(rt, "memory")))
+/// What is told of raw offsets.
+fn told<O: Offset>(alloc: Global, rt: &impl Abort, offsets: &[O]) -> &'static str {
+    tells(Offsets::try_from_vec(offsets.to_vec(alloc).expect(rt, "memory")))
 }
 
-/// A name, raw offsets, and the expected answer.
-const RAW: &[(&str, &[i32], &str)] = &[
-    ("none", &[], NONE),
-    ("negative, then falls", &[-1, -2], NEGATIVE),
-    ("negative", &[-1, 0], NEGATIVE),
-    ("negative alone", &[-1], NEGATIVE),
-    ("falls", &[0, 2, 1], FALLS),
-    ("falls below zero", &[0, -1, 5], FALLS),
-    ("falls from the greatest", &[0, i32::MAX, i32::MIN], FALLS),
-    ("slots behind other bytes", &[2, 3, 3, 5], "made"),
-    ("no slot", &[5], "made"),
-    ("the greatest", &[0, i32::MAX], "made"),
-];
-
-/// A name, two numbers, and the expected answer to them as offsets of at most 100.
-const NARROW: &[(&str, i8, i8, &str)] = &[
-    ("negative", -1, 0, NEGATIVE),
-    ("both negative", i8::MIN, -1, NEGATIVE),
-    ("falls", 3, 2, FALLS),
-    ("up to the greatest", 99, 100, "made"),
-    ("the greatest twice", 100, 100, "made"),
-    ("one above the greatest", 100, 101, "not an offset"),
-    ("a first one above it", i8::MAX, 0, "not an offset"),
+/// Raw offsets, and what is told of them.
+const FAULTS: &[(&[i32], &str)] = &[
+    (&[], NONE),
+    (&[-1, -2], NEGATIVE),
+    (&[-1, 0], NEGATIVE),
+    (&[-1], NEGATIVE),
+    (&[0, 2, 1], FALLS),
+    (&[0, -1, 5], FALLS),
+    (&[0, i32::MAX, i32::MIN], FALLS),
+    (&[2, 3, 3, 5], "made"),
+    (&[5], "made"),
+    (&[0, i32::MAX], "made"),
 ];
 
 #[test]
-fn raw_offsets_are_refused_by_their_first_fault(rt: HostRuntime) {
-    for (case, offsets, expected) in RAW {
-        assert_text::value(answer(&rt, *offsets), *expected).expect(&rt, *case);
-    }
-    for (case, first, second, expected) in NARROW {
-        let came = match (Tiny::new(*first), Tiny::new(*second)) {
-            (Some(first), Some(second)) => answer(&rt, [first, second].as_slice()),
-            _ => "not an offset",
-        };
-        assert_text::value(came, *expected).expect(&rt, *case);
+fn the_first_fault_is_told(rt: HostRuntime) {
+    for (offsets, answer) in FAULTS {
+        assert!(rt; told(rt.alloc(), &rt, *offsets) == *answer);
     }
 }
 
-/// A name, how far before the greatest offset the last of two lies, the bytes of a slot behind it, and the expected
-/// answer.
-type End = (&'static str, usize, usize, &'static str);
+/// What is told of two raw offsets of a narrow type, where each is one.
+fn told_of_two(alloc: Global, rt: &impl Abort, first: i8, second: i8) -> &'static str {
+    match (Tiny::new(first), Tiny::new(second)) {
+        (Some(first), Some(second)) => told(alloc, rt, [first, second].as_slice()),
+        _ => "not an offset",
+    }
+}
 
-const ENDS: &[End] = &[
-    ("no byte", 1, 0, "made"),
-    ("up to the greatest", 1, 1, "made"),
-    ("one past it", 1, 2, "overflow"),
-    ("no byte at the greatest", 0, 0, "made"),
-    ("a byte at the greatest", 0, 1, "overflow"),
-    ("far past it", 0, 95, "overflow"),
-    ("one before the greatest", 2, 1, "made"),
-    ("two bytes up to it", 2, 2, "made"),
-    ("two bytes and one past it", 2, 3, "overflow"),
+/// Two of them, and what is told.
+const NARROW: &[(i8, i8, &str)] = &[
+    (-1, 0, NEGATIVE),
+    (i8::MIN, -1, NEGATIVE),
+    (3, 2, FALLS),
+    (99, 100, "made"),
+    (100, 100, "made"),
+    (100, 101, "not an offset"),
+    (i8::MAX, 0, "not an offset"),
 ];
 
-/// Compares the answers to a slot, and the offsets then, once it is pushed and once it comes from other offsets. A slot
-/// that is far too long is refused before.
-fn check_end<O: Offset>(rt: &(impl Abort + AllocGlobal), end: &End) {
-    let (case, before, length, answer) = *end;
-    let last = O::max().to_usize().saturating_sub(before);
-    let ends = [0, last, last.saturating_add(length)];
-    let expected = if answer == "made" {
-        ends.as_slice()
-    } else {
-        &ends[..2]
-    };
-    let long = offsets_of::<O>(rt.alloc(), [5, 100].as_slice()).expect(rt, "offsets");
-    let other = offsets_of::<O>(rt.alloc(), [5, length.saturating_add(5)].as_slice());
-    let other = other.expect(rt, "offsets");
-    for is_pushed in [true, false] {
-        let mut offsets = offsets_of::<O>(rt.alloc(), &ends[..2]).expect(rt, "offsets");
-        let came = if is_pushed {
-            let far = tells(offsets.try_push_usize(usize::MAX - 5));
-            [far, tells(offsets.try_push_usize(length))]
-        } else {
-            let far = tells(offsets.try_extend_from_self(&long));
-            [far, tells(offsets.try_extend_from_self(&other))]
-        };
-        assert_text::value(came, ["overflow", answer]).expect(rt, case);
-        check_offsets(rt, case, offsets.as_slice(), expected);
-        drop(offsets);
+#[test]
+fn a_narrow_type_is_told_the_same(rt: HostRuntime) {
+    for (first, second, answer) in NARROW {
+        assert!(rt; told_of_two(rt.alloc(), &rt, *first, *second) == *answer);
     }
+}
+
+/// Where the last of two offsets lies so far before the greatest number, how many bytes a slot behind it has, and what is
+/// told of that.
+const ENDS: &[(usize, usize, &str)] = &[
+    (1, 0, "made"),
+    (1, 1, "made"),
+    (1, 2, "overflow"),
+    (0, 0, "made"),
+    (0, 1, "overflow"),
+    (2, 1, "made"),
+    (2, 2, "made"),
+    (2, 3, "overflow"),
+    (0, usize::MAX - 5, "overflow"),
+];
+
+/// What is told of a slot of so many bytes that is pushed, or that comes from other offsets, behind bytes of their own.
+fn told_of_slot<O: Offset>(
+    alloc: Global,
+    rt: &impl Abort,
+    offsets: &mut Offsets<O>,
+    length: usize,
+    is_joined: bool,
+) -> &'static str {
+    if !is_joined {
+        return tells(offsets.try_push_usize(length));
+    }
+    let other = offsets_of(alloc, [5, length.saturating_add(5)].as_slice());
+    let other = other.expect(rt, "two offsets");
+    let told = tells(offsets.try_extend_from_self(&other));
     drop(other);
-    drop(long);
+    told
+}
+
+/// Whether these are the first two offsets, if the slot was refused, or three.
+fn are_left<O: Offset>(offsets: &[O], answer: &str, last: usize, length: usize) -> bool {
+    if answer == "made" {
+        return are_offsets(offsets, [0, last, last.saturating_add(length)].as_slice());
+    }
+    are_offsets(offsets, [0, last].as_slice())
+}
+
+/// Whether this is told of a slot behind two offsets, and these are left where it is refused.
+fn ends<O: Offset>(
+    alloc: Global,
+    rt: &impl Abort,
+    case: (usize, usize, &str),
+    is_joined: bool,
+) -> bool {
+    let (before, length, answer) = case;
+    let last = O::max().to_usize().saturating_sub(before);
+    let mut offsets = offsets_of::<O>(alloc, [0, last].as_slice()).expect(rt, "two offsets");
+    let told = told_of_slot(alloc, rt, &mut offsets, length, is_joined);
+    let are_left = are_left(offsets.as_slice(), answer, last, length);
+    drop(offsets);
+    are_left & (told == answer)
+}
+
+/// Whether it is over each type of offsets.
+fn all_end(alloc: Global, rt: &impl Abort, case: (usize, usize, &str), is_joined: bool) -> bool {
+    let narrow = ends::<i32>(alloc, rt, case, is_joined);
+    let wide = ends::<i64>(alloc, rt, case, is_joined);
+    narrow & wide & ends::<Tiny>(alloc, rt, case, is_joined)
 }
 
 #[test]
 fn slots_end_at_the_greatest_offset(rt: HostRuntime) {
-    for end in ENDS {
-        check_end::<i32>(&rt, end);
-        check_end::<i64>(&rt, end);
-        check_end::<Tiny>(&rt, end);
+    for case in ENDS {
+        assert!(rt; all_end(rt.alloc(), &rt, *case, false));
     }
+}
+
+/// Those of a slot that offsets of each type can have.
+const JOINS: &[(usize, usize, &str)] = &[
+    (1, 0, "made"),
+    (1, 1, "made"),
+    (1, 2, "overflow"),
+    (0, 0, "made"),
+    (0, 1, "overflow"),
+    (0, 95, "overflow"),
+];
+
+#[test]
+fn slots_of_other_offsets_end_there_too(rt: HostRuntime) {
+    for case in JOINS {
+        assert!(rt; all_end(rt.alloc(), &rt, *case, true));
+    }
+}
+
+/// Behind 0 and 2147483647, another slot of one byte overflows, and one without bytes is appended.
+#[test]
+fn empty_slot_is_joined_behind_the_greatest_offset(rt: HostRuntime) {
+    let (alloc, ends) = (rt.alloc(), [0, 2147483647].as_slice());
+    let mut offsets = offsets_of::<i32>(alloc, ends).expect(&rt, "offsets");
+    let byte = offsets_of::<i32>(alloc, [5, 6].as_slice()).expect(&rt, "offsets");
+    let of_byte = tells(offsets.try_extend_from_self(&byte));
+    drop(byte);
+    let is_unchanged = are_offsets(offsets.as_slice(), ends);
+    let empty = offsets_of::<i32>(alloc, [7, 7].as_slice()).expect(&rt, "offsets");
+    let of_empty = tells(offsets.try_extend_from_self(&empty));
+    drop(empty);
+    let is_appended = are_offsets(offsets.as_slice(), [0, 2147483647, 2147483647].as_slice());
+    drop(offsets);
+    assert_eq!(rt; [of_byte, of_empty], ["overflow", "made"]);
+    assert_eq!(rt; [is_unchanged, is_appended], [true, true]);
 }

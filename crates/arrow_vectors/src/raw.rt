@@ -1,123 +1,114 @@
-//! Arrays and builders of bytes and of text that are made of raw parts, and comparisons of their parts.
+//! Arrays and builders of bytes and of text that are made of raw parts, and what is seen of them.
 use arrow_byte_array::{ByteArray, MutableByteArray, MutableByteValuesArray};
 use arrow_bytes::ByteKind;
 use arrow_memory::buffer::Buffer;
-use arrow_testing::{assert_text, frozen_mask, frozen_offsets, growing_mask, offsets_of};
+use arrow_testing::{are_offsets, frozen_mask, frozen_offsets, growing_mask, is_mask, offsets_of};
 use arrow_types::data_type::DataType;
 use arrow_types::error::Error;
 use arrow_types::offset::Offset;
+use std::alloc::Global;
 use std::process::Abort;
 
-/// Offsets, bytes, and a mask as a text of `1` and `0`, or `none`.
+/// Offsets as numbers, bytes, and a mask as a text of '1' and '0', or as `none` where none is held.
 pub(crate) type Parts = (&'static [usize], &'static [u8], &'static str);
 
-/// Compares offsets with numbers.
-pub(crate) fn check_offsets<O: Offset>(
-    rt: &(impl Abort + AllocGlobal),
-    case: &str,
-    offsets: &[O],
-    expected: &[usize],
-) {
-    let mut numbers = Vec::new(rt.alloc());
-    for offset in offsets {
-        let number = offset.try_to_usize().expect(rt, case);
-        numbers.push(number).expect(rt, "memory");
-    }
-    assert_text::value(numbers.as_slice(), expected).expect(rt, case);
-    drop(numbers);
+/// Whether an array has these parts.
+pub(crate) fn shows<K: ByteKind, O: Offset>(array: &ByteArray<K, O>, parts: Parts) -> bool {
+    let (offsets, bytes, mask) = parts;
+    let marks = match array.validity() {
+        Some(marks) => Some(marks.iter()),
+        None => None,
+    };
+    let are_bytes = array.values().as_slice() == bytes && is_mask(marks, mask);
+    are_bytes && are_offsets(array.offsets().buffer().as_slice(), offsets)
 }
 
-/// Compares the parts of an array.
-pub(crate) fn check_array<K: ByteKind, O: Offset>(
-    rt: &(impl Abort + AllocGlobal),
-    case: &str,
-    array: &ByteArray<K, O>,
-    (offsets, bytes, mask): Parts,
-) {
-    check_offsets(rt, case, array.offsets().buffer().as_slice(), offsets);
-    assert_text::value(array.values().as_slice(), bytes).expect(rt, case);
-    assert_text::mask(array.validity(), mask).expect(rt, case);
-}
-
-/// Compares the parts of a builder.
-pub(crate) fn check_builder<K: ByteKind, O: Offset>(
-    rt: &(impl Abort + AllocGlobal),
-    case: &str,
+/// Whether a builder has these parts.
+pub(crate) fn builds<K: ByteKind, O: Offset>(
     builder: &MutableByteArray<K, O>,
-    (offsets, bytes, mask): Parts,
-) {
-    check_offsets(rt, case, builder.offsets().as_slice(), offsets);
-    assert_text::value(builder.values().as_slice(), bytes).expect(rt, case);
-    assert_text::growing_mask(builder.validity(), mask).expect(rt, case);
+    parts: Parts,
+) -> bool {
+    let (offsets, bytes, mask) = parts;
+    let marks = match builder.validity() {
+        Some(marks) => Some(marks.iter()),
+        None => None,
+    };
+    let are_bytes = builder.values().as_slice() == bytes && is_mask(marks, mask);
+    are_bytes && are_offsets(builder.offsets().as_slice(), offsets)
 }
 
-/// Compares the parts of a builder without nulls, except for the mask.
-pub(crate) fn check_values<K: ByteKind, O: Offset>(
-    rt: &(impl Abort + AllocGlobal),
-    case: &str,
+/// Whether a builder without nulls has these parts, of which no mask is one.
+pub(crate) fn holds<K: ByteKind, O: Offset>(
     builder: &MutableByteValuesArray<K, O>,
-    (offsets, bytes, _): Parts,
-) {
-    check_offsets(rt, case, builder.offsets().as_slice(), offsets);
-    assert_text::value(builder.values().as_slice(), bytes).expect(rt, case);
+    parts: Parts,
+) -> bool {
+    let (offsets, bytes, _) = parts;
+    builder.values().as_slice() == bytes && are_offsets(builder.offsets().as_slice(), offsets)
 }
 
-/// Creates an array of parts.
+/// The array of such parts.
 pub(crate) fn array_of<K: ByteKind, O: Offset>(
-    rt: &(impl Abort + AllocGlobal),
+    alloc: Global,
+    rt: &impl Abort,
     data_type: DataType,
-    (offsets, bytes, mask): Parts,
+    parts: Parts,
 ) -> Result<ByteArray<K, O>, Error> {
-    let offsets = frozen_offsets(rt.alloc(), offsets).expect(rt, "offsets");
-    let values = bytes.to_vec(rt.alloc()).expect(rt, "memory");
-    let values = Buffer::from_vec(values).expect(rt, "memory");
-    let validity = frozen_mask(rt.alloc(), mask).expect(rt, "memory");
+    let (offsets, bytes, mask) = parts;
+    let offsets = frozen_offsets(alloc, offsets).expect(rt, "offsets");
+    let values = Buffer::from_vec(bytes.to_vec(alloc).expect(rt, "memory")).expect(rt, "memory");
+    let validity = frozen_mask(alloc, mask).expect(rt, "memory");
     ByteArray::try_new(data_type, offsets, values, validity)
 }
 
-/// Creates a builder of parts.
+/// The builder of such parts.
 pub(crate) fn builder_of<K: ByteKind, O: Offset>(
-    rt: &(impl Abort + AllocGlobal),
+    alloc: Global,
+    rt: &impl Abort,
     data_type: DataType,
-    (offsets, bytes, mask): Parts,
+    parts: Parts,
 ) -> Result<MutableByteArray<K, O>, Error> {
-    let offsets = offsets_of(rt.alloc(), offsets).expect(rt, "offsets");
-    let values = bytes.to_vec(rt.alloc()).expect(rt, "memory");
-    let validity = growing_mask(rt.alloc(), mask).expect(rt, "memory");
+    let (offsets, bytes, mask) = parts;
+    let offsets = offsets_of(alloc, offsets).expect(rt, "offsets");
+    let values = bytes.to_vec(alloc).expect(rt, "memory");
+    let validity = growing_mask(alloc, mask).expect(rt, "memory");
     MutableByteArray::try_new(data_type, offsets, values, validity)
 }
 
-/// Creates a builder without nulls of parts, except for the mask.
+/// The builder without nulls of such parts, of which no mask is one.
 pub(crate) fn values_of<K: ByteKind, O: Offset>(
-    rt: &(impl Abort + AllocGlobal),
+    alloc: Global,
+    rt: &impl Abort,
     data_type: DataType,
-    (offsets, bytes, _): Parts,
+    parts: Parts,
 ) -> Result<MutableByteValuesArray<K, O>, Error> {
-    let offsets = offsets_of(rt.alloc(), offsets).expect(rt, "offsets");
-    let values = bytes.to_vec(rt.alloc()).expect(rt, "memory");
+    let (offsets, bytes, _) = parts;
+    let offsets = offsets_of(alloc, offsets).expect(rt, "offsets");
+    let values = bytes.to_vec(alloc).expect(rt, "memory");
     MutableByteValuesArray::try_new(data_type, offsets, values)
 }
 
-/// Creates an array of parts that fit, of the default data type.
+/// The array of such parts, of its kind's own type.
 pub(crate) fn own_array<K: ByteKind, O: Offset>(
-    rt: &(impl Abort + AllocGlobal),
+    alloc: Global,
+    rt: &impl Abort,
     parts: Parts,
 ) -> ByteArray<K, O> {
-    array_of(rt, K::default_type(O::IS_LARGE), parts).expect(rt, "parts that fit")
+    array_of(alloc, rt, K::default_type(O::IS_LARGE), parts).expect(rt, "parts that fit")
 }
 
-/// Creates a builder of parts that fit, of the default data type.
+/// The builder of such parts, of its kind's own type.
 pub(crate) fn own_builder<K: ByteKind, O: Offset>(
-    rt: &(impl Abort + AllocGlobal),
+    alloc: Global,
+    rt: &impl Abort,
     parts: Parts,
 ) -> MutableByteArray<K, O> {
-    builder_of(rt, K::default_type(O::IS_LARGE), parts).expect(rt, "parts that fit")
+    builder_of(alloc, rt, K::default_type(O::IS_LARGE), parts).expect(rt, "parts that fit")
 }
 
-/// Thaws an array that is not shared.
+/// The builder of a thawed array.
 pub(crate) fn thawed<K: ByteKind, O: Offset>(
     rt: &impl Abort,
     array: ByteArray<K, O>,
 ) -> MutableByteArray<K, O> {
-    array.into_mut().right().expect(rt, "an array alone thaws")
+    array.into_mut().right().expect(rt, "an array alone")
 }

@@ -1,90 +1,165 @@
-//! Text: where bytes can be cut into it.
-use crate::raw::{check_array, own_array};
+//! Text: which slots offsets cut out of bytes, and what a builder that begins with other bytes keeps.
+use crate::Tiny;
+use crate::raw::{Parts, builds, own_array, own_builder, shows, thawed};
 use arrow_bytes::Utf8;
 use arrow_memory::buffer::Buffer;
-use arrow_testing::{Tiny, assert_text, frozen_offsets, tells};
+use arrow_testing::{frozen_offsets, tells};
+use arrow_types::error::Error;
 use arrow_types::offset::Offset;
-use arrow_utf8::Utf8Array;
+use arrow_utf8::{MutableUtf8Array, Utf8Array};
+use std::alloc::Global;
 use std::process::Abort;
 
-/// Compares an array of three slots.
-fn nulls_store_no_byte<O: Offset>(rt: &(impl Abort + AllocGlobal)) {
-    let slots = [Some("hi"), None, Some("there")];
-    let array = Utf8Array::<O>::from(rt.alloc(), slots.as_slice()).expect(rt, "memory");
+const SLOTS: [Option<&str>; 3] = [Some("hi"), None, Some("there")];
+
+/// Whether the items of three slots come in order, an empty one for a null, and then none.
+fn gives<O: Offset>(array: &Utf8Array<O>) -> bool {
     let mut items = array.values_iter();
-    let came = [items.next(), items.next(), items.next(), items.next()];
-    let expected = [Some("hi"), Some(""), Some("there"), None];
-    assert_text::value(came, expected).expect(rt, "values_iter");
-    check_array(rt, "parts", &array, (&[0, 2, 2, 7], b"hithere", "101"));
-    drop(array);
+    let all = [items.next(), items.next(), items.next(), items.next()];
+    all == [Some("hi"), Some(""), Some("there"), None]
 }
 
-/// Two characters of two bytes, and one of four.
-const ACCENTS: &[u8] = b"\xC3\xA9\xC3\xA8";
+/// Whether slots are stored as bytes between offsets, under marks.
+fn is_stored<O: Offset>(alloc: Global, rt: &impl Abort) -> bool {
+    let array = Utf8Array::<O>::from(alloc, SLOTS.as_slice()).expect(rt, "memory");
+    let is_stored = gives(&array) & shows(&array, (&[0, 2, 2, 7], b"hithere", "101"));
+    drop(array);
+    is_stored
+}
 
-const FOUR: &[u8] = b"\xF0\x9F\x98\x80";
+#[test]
+fn a_null_stores_no_byte_under_a_clear_mark(rt: HostRuntime) {
+    let narrow = is_stored::<i32>(rt.alloc(), &rt);
+    let wide = is_stored::<i64>(rt.alloc(), &rt);
+    assert!(rt; narrow & wide & is_stored::<Tiny>(rt.alloc(), &rt));
+}
 
-/// A name, offsets, bytes, and the texts between the offsets.
-const CUTS: &[(&str, &[usize], &[u8], &str)] = &[
-    ("accents", &[0, 2, 4], ACCENTS, "[\"é\" \"è\"]"),
-    ("no byte in an accent", &[1, 1], ACCENTS, "[\"\"]"),
-    ("no byte behind four", &[0, 4, 4], FOUR, "[\"😀\" \"\"]"),
-    ("no byte in four", &[2, 2, 2], FOUR, "[\"\" \"\"]"),
-    ("around", &[1, 2, 3], b"\xFFab\xFF", "[\"a\" \"b\"]"),
-    ("behind", &[0, 1], b"a\xFF", "[\"a\"]"),
-    ("no slot", &[2], b"\xFF\xFF\xFF", "[]"),
-    ("nothing", &[0], b"", "[]"),
+/// Offsets, bytes and a mask, and the texts that they give.
+const CUTS: &[(Parts, &[&str])] = &[
+    ((&[0, 2, 4], b"\xC3\xA9\xC3\xA8", "none"), &["é", "è"]),
+    ((&[1, 1], b"\xC3\xA9", "none"), &[""]),
+    ((&[0, 4, 4], b"\xF0\x9F\x98\x80", "none"), &["😀", ""]),
+    ((&[2, 2, 2], b"\xF0\x9F\x98\x80", "none"), &["", ""]),
+    ((&[1, 2, 3], b"\xFFab\xFF", "none"), &["a", "b"]),
+    ((&[0, 1], b"a\xFF", "none"), &["a"]),
+    ((&[2], b"\xFF\xFF\xFF", "none"), &[]),
+    ((&[0], b"", "none"), &[]),
 ];
 
-/// Compares the texts of arrays.
-fn each_slot_is_text_by_itself<O: Offset>(rt: &(impl Abort + AllocGlobal)) {
-    for (case, offsets, bytes, expected) in CUTS {
-        let array = own_array::<Utf8, O>(rt, (*offsets, *bytes, "none"));
-        assert_text::slots(array.values_iter().map(Some), *expected).expect(rt, *case);
-        drop(array);
+/// Whether the array of such parts gives these texts.
+fn is_cut<O: Offset>(alloc: Global, rt: &impl Abort, parts: Parts, texts: &[&str]) -> bool {
+    let array = own_array::<Utf8, O>(alloc, rt, parts);
+    let is_cut = array.values_iter().eq(texts.iter().copied());
+    drop(array);
+    is_cut
+}
+
+#[test]
+fn each_slot_is_text_by_itself(rt: HostRuntime) {
+    for (parts, texts) in CUTS {
+        let narrow = is_cut::<i32>(rt.alloc(), &rt, *parts, *texts);
+        let wide = is_cut::<i64>(rt.alloc(), &rt, *parts, *texts);
+        assert!(rt; narrow & wide & is_cut::<Tiny>(rt.alloc(), &rt, *parts, *texts));
     }
 }
 
 const NO_TEXT: &str = "every text between two offsets must be UTF-8";
 
-/// A name, bytes, and a `1` for each index at which they can be cut into two texts.
-const CUT_AT: &[(&str, &[u8], &str)] = &[
-    ("one byte each", b"abc", "1111"),
-    ("two bytes each", ACCENTS, "10101"),
-    ("three bytes and one", b"\xE2\x82\xACa", "10011"),
-    ("four bytes", FOUR, "10001"),
-    ("a character that ends early", b"a\xC3", "000"),
-    ("a byte of no character", b"\xFFa", "000"),
-    ("a surrogate", b"\xED\xA0\x80", "0000"),
-    ("above the last character", b"\xF4\x90\x80\x80", "00000"),
+/// Bytes, and the places at which they can be cut into two texts.
+const PLACES: &[(&[u8], &[usize])] = &[
+    (b"abc", &[0, 1, 2, 3]),
+    (b"\xC3\xA9\xC3\xA8", &[0, 2, 4]),
+    (b"\xE2\x82\xACa", &[0, 3, 4]),
+    (b"\xF0\x9F\x98\x80", &[0, 4]),
+    (b"a\xC3", &[]),
+    (b"\xFFa", &[]),
+    (b"\xED\xA0\x80", &[]),
+    (b"\xF4\x90\x80\x80", &[]),
 ];
 
-/// Compares the answers to bytes that are cut into two slots, at each index.
-fn bytes_are_cut_between_characters<O: Offset>(rt: &(impl Abort + AllocGlobal)) {
-    for (case, bytes, marks) in CUT_AT {
-        for (index, mark) in marks.as_bytes().iter().enumerate() {
-            let offsets = frozen_offsets(rt.alloc(), [0, index, bytes.len()].as_slice());
-            let offsets = offsets.expect(rt, "offsets");
-            let values = bytes.to_vec(rt.alloc()).expect(rt, "memory");
-            let values = Buffer::from_vec(values).expect(rt, "memory");
-            let data_type = Utf8Array::<O>::default_data_type();
-            let array = Utf8Array::<O>::try_new(data_type, offsets, values, None);
-            let expected = if *mark == b'1' { "made" } else { NO_TEXT };
-            assert_text::value((index, tells(array)), (index, expected)).expect(rt, *case);
-        }
-    }
+/// The array of two slots that bytes are cut into at a place.
+fn cut_at<O: Offset>(
+    alloc: Global,
+    rt: &impl Abort,
+    bytes: &[u8],
+    place: usize,
+) -> Result<Utf8Array<O>, Error> {
+    let offsets = frozen_offsets(alloc, [0, place, bytes.len()].as_slice()).expect(rt, "offsets");
+    let values = Buffer::from_vec(bytes.to_vec(alloc).expect(rt, "memory")).expect(rt, "memory");
+    Utf8Array::<O>::try_new(Utf8Array::<O>::default_data_type(), offsets, values, None)
 }
 
-/// Compares text over a type of offsets.
-fn check<O: Offset>(rt: &(impl Abort + AllocGlobal)) {
-    nulls_store_no_byte::<O>(rt);
-    each_slot_is_text_by_itself::<O>(rt);
-    bytes_are_cut_between_characters::<O>(rt);
+/// Whether bytes are cut into two texts at these places, and at no other.
+fn is_cut_at<O: Offset>(alloc: Global, rt: &impl Abort, bytes: &[u8], places: &[usize]) -> bool {
+    for place in 0..bytes.len() + 1 {
+        let answer = if places.contains(&place) {
+            "made"
+        } else {
+            NO_TEXT
+        };
+        if tells(cut_at::<O>(alloc, rt, bytes, place)) != answer {
+            return false;
+        }
+    }
+    true
 }
 
 #[test]
-fn bytes_are_cut_into_text_by_each_offset(rt: HostRuntime) {
-    check::<i32>(&rt);
-    check::<i64>(&rt);
-    check::<Tiny>(&rt);
+fn bytes_are_cut_between_characters(rt: HostRuntime) {
+    for (bytes, places) in PLACES {
+        let narrow = is_cut_at::<i32>(rt.alloc(), &rt, *bytes, *places);
+        let wide = is_cut_at::<i64>(rt.alloc(), &rt, *bytes, *places);
+        assert!(rt; narrow & wide & is_cut_at::<Tiny>(rt.alloc(), &rt, *bytes, *places));
+    }
+}
+
+/// Whether a text that is pushed stands behind a builder's slot.
+fn grows<O: Offset>(rt: &impl Abort, builder: &mut MutableUtf8Array<O>) -> bool {
+    let is_cut = builds(builder, (&[0, 1], b"a", "none"));
+    builder.push(Some("b")).expect(rt, "memory");
+    is_cut & builds(builder, (&[0, 1, 2], b"ab", "none"))
+}
+
+/// Whether it does behind that of a thawed array, where other bytes were.
+fn thaws_and_grows<O: Offset>(alloc: Global, rt: &impl Abort) -> bool {
+    let array = own_array::<Utf8, O>(alloc, rt, (&[0, 1], b"a\xFF", "none"));
+    let mut builder = thawed(rt, array);
+    let is_grown = grows(rt, &mut builder);
+    drop(builder);
+    is_grown
+}
+
+#[test]
+fn bytes_behind_a_thawed_array_do_not_come_back(rt: HostRuntime) {
+    let narrow = thaws_and_grows::<i32>(rt.alloc(), &rt);
+    let wide = thaws_and_grows::<i64>(rt.alloc(), &rt);
+    assert!(rt; narrow & wide & thaws_and_grows::<Tiny>(rt.alloc(), &rt));
+}
+
+/// Three texts, with another byte before them.
+const BEHIND: Parts = (&[1, 2, 3, 4], b"\xFFabc", "none");
+
+/// The builder of the parts of another.
+fn again<O: Offset>(rt: &impl Abort, builder: MutableUtf8Array<O>) -> MutableUtf8Array<O> {
+    let (data_type, offsets, values, validity) = builder.into_data();
+    let answer = MutableUtf8Array::<O>::try_new(data_type, offsets, values, validity);
+    answer.expect(rt, "parts that fit")
+}
+
+/// Whether a third text stands behind two, and the parts are accepted again.
+fn pushes_behind<O: Offset>(alloc: Global, rt: &impl Abort) -> bool {
+    let mut builder = own_builder::<Utf8, O>(alloc, rt, (&[1, 2, 3], b"\xFFab", "none"));
+    builder.push(Some("c")).expect(rt, "memory");
+    let is_pushed = builds(&builder, BEHIND);
+    let again = again(rt, builder);
+    let is_again = builds(&again, BEHIND);
+    drop(again);
+    is_pushed & is_again
+}
+
+#[test]
+fn a_builder_keeps_the_bytes_before_its_slots(rt: HostRuntime) {
+    let narrow = pushes_behind::<i32>(rt.alloc(), &rt);
+    let wide = pushes_behind::<i64>(rt.alloc(), &rt);
+    assert!(rt; narrow & wide & pushes_behind::<Tiny>(rt.alloc(), &rt));
 }

@@ -85,11 +85,13 @@ fn takes_keep_slots_at_keys(rt: HostRuntime) {
     }
 }
 
-/// An array, and the offset and length of a slice of it.
-type Slice = (Booleans, usize, usize);
-
-/// Creates a slice.
-fn sliced(rt: &(impl Abort + AllocGlobal), (array, offset, len): Slice) -> BooleanArray {
+/// Creates a slice, which has to lie within the array.
+fn sliced(
+    rt: &(impl Abort + AllocGlobal),
+    array: Booleans,
+    offset: usize,
+    len: usize,
+) -> BooleanArray {
     let array = bools(rt, array);
     assert!(rt; offset <= array.len() && len <= array.len() - offset);
     array.sliced(offset, len)
@@ -97,6 +99,9 @@ fn sliced(rt: &(impl Abort + AllocGlobal), (array, offset, len): Slice) -> Boole
 
 /// Twelve booleans, the second and the ninth of which are null.
 const TWELVE: Booleans = ("110010101011", "101111110111");
+
+/// An array, and the offset and length of a slice of it.
+type Slice = (Booleans, usize, usize);
 
 /// A name, slices, and their concatenation.
 #[rattlefmt::skip]
@@ -116,8 +121,9 @@ const CONCATENATIONS: &[(&str, &[Slice], Booleans)] = &[
 fn concatenations_have_all_slots_in_order(rt: HostRuntime) {
     for (case, slices, expected) in CONCATENATIONS {
         let mut arrays = Vec::new(rt.alloc());
-        for slice in *slices {
-            arrays.push(sliced(&rt, *slice)).expect(&rt, "memory");
+        for (array, offset, len) in *slices {
+            let slice = sliced(&rt, *array, *offset, *len);
+            arrays.push(slice).expect(&rt, "memory");
         }
         assert!(rt; !arrays.is_empty());
         let joined = concat_boolean(rt.alloc(), &arrays).expect(&rt, "memory");
@@ -126,25 +132,25 @@ fn concatenations_have_all_slots_in_order(rt: HostRuntime) {
     }
 }
 
-/// A name, a slice, and how many of its slots are valid and true.
-const COUNTS: &[(&str, Slice, usize)] = &[
-    ("a null", (("1101", "1011"), 0, 4), 2),
-    ("no mask", (("110", "none"), 0, 3), 2),
-    ("a needless mask", (("110", "111"), 0, 3), 2),
-    ("no slot", (("", ""), 0, 0), 0),
-    ("three words", (LONG, 0, 130), 4),
-    ("three words from the second slot", (LONG, 1, 129), 3),
-    ("no true slot", (LONG, 1, 62), 0),
-    ("one word", (LONG, 0, 64), 2),
-    ("the border of two words", (LONG, 63, 2), 2),
-    ("three words, no mask", ((TRUE_AT_FIVE, "none"), 0, 130), 5),
-    ("two words, no mask", ((TRUE_AT_FIVE, "none"), 1, 64), 3),
+/// A name, an array, the offset and length of a slice, and how many of its slots are valid and true.
+const COUNTS: &[(&str, Booleans, usize, usize, usize)] = &[
+    ("a null", ("1101", "1011"), 0, 4, 2),
+    ("no mask", ("110", "none"), 0, 3, 2),
+    ("a needless mask", ("110", "111"), 0, 3, 2),
+    ("no slot", ("", ""), 0, 0, 0),
+    ("three words", LONG, 0, 130, 4),
+    ("three words from the second slot", LONG, 1, 129, 3),
+    ("no true slot", LONG, 1, 62, 0),
+    ("one word", LONG, 0, 64, 2),
+    ("the border of two words", LONG, 63, 2, 2),
+    ("three words, no mask", (TRUE_AT_FIVE, "none"), 0, 130, 5),
+    ("two words, no mask", (TRUE_AT_FIVE, "none"), 1, 64, 3),
 ];
 
 #[test]
 fn true_slots_are_counted(rt: HostRuntime) {
-    for (case, slice, expected) in COUNTS {
-        let array = sliced(&rt, *slice);
+    for (case, array, offset, len, expected) in COUNTS {
+        let array = sliced(&rt, *array, *offset, *len);
         let count = true_count(&array);
         drop(array);
         assert_text::value(count, *expected).expect(&rt, *case);

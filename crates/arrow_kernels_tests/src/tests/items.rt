@@ -2,7 +2,9 @@
 use super::*;
 use arrow_byte_array::ByteArray;
 use arrow_bytes::{Binary, ByteKind, Utf8};
-use arrow_kernels::*;
+use arrow_kernels::{
+    concat_binary, concat_utf8, filter_binary, filter_utf8, take_binary, take_utf8,
+};
 use arrow_memory::buffer::Buffer;
 use arrow_testing::{Tiny, frozen_offsets};
 use arrow_types::offset::Offset;
@@ -39,9 +41,12 @@ pub(super) fn check<K: ByteKind, O: Offset>(
     let numbers = numbers.filter_map(|offset| offset.try_to_usize());
     let numbers: Vec<usize> = numbers.collect(rt.alloc()).expect(rt, "memory");
     let data_type = K::default_type(O::IS_LARGE);
-    assert_text::value(array.data_type(), &data_type).expect(rt, case);
-    assert_text::value(numbers.as_slice(), offsets).expect(rt, case);
-    assert_text::value(array.values().as_slice(), bytes).expect(rt, case);
+    let came = (
+        array.data_type(),
+        numbers.as_slice(),
+        array.values().as_slice(),
+    );
+    assert_text::value(came, (&data_type, offsets, bytes)).expect(rt, case);
     assert_text::mask(array.validity(), mask).expect(rt, case);
     drop(data_type);
     drop(numbers);
@@ -118,15 +123,16 @@ fn filters_keep_slots_at_true(rt: HostRuntime) {
     check_filters::<Tiny>(&rt);
 }
 
-/// An item of forty bytes, and as many bytes as `Tiny` can count.
-const FORTY: Items = (
-    &[0, 40],
-    b"xxxxxxxxxxxxxxxxxxxxxxxxxxxxxxxxxxxxxxxx",
-    "none",
-);
+/// Forty bytes, twice as many, and as many as `Tiny` can count.
+const X40: &[u8] = b"xxxxxxxxxxxxxxxxxxxxxxxxxxxxxxxxxxxxxxxx";
+
+const X80: &[u8] =
+    b"xxxxxxxxxxxxxxxxxxxxxxxxxxxxxxxxxxxxxxxxxxxxxxxxxxxxxxxxxxxxxxxxxxxxxxxxxxxxxxxx";
 
 const X100: &[u8] =
     b"xxxxxxxxxxxxxxxxxxxxxxxxxxxxxxxxxxxxxxxxxxxxxxxxxxxxxxxxxxxxxxxxxxxxxxxxxxxxxxxxxxxxxxxxxxxxxxxxxxxx";
+
+const FORTY: Items = (&[0, 40], X40, "none");
 
 /// A name, an array, keys, and the slots at them.
 type Take = (&'static str, Items, &'static [i64], Result<Items, Error>);
@@ -135,16 +141,7 @@ type Take = (&'static str, Items, &'static [i64], Result<Items, Error>);
 const TAKES: &[Take] = &[
     ("an item twice", THREE, &[2, 2, 0], Ok((&[0, 2, 4, 5], b"bbbba", "none"))),
     ("a null that stores a letter", (&[0, 1, 2], b"ab", "01"), &[0], Ok((&[0, 1], b"a", "0"))),
-    (
-        "80 bytes",
-        FORTY,
-        &[0, 0],
-        Ok((
-            &[0, 40, 80],
-            b"xxxxxxxxxxxxxxxxxxxxxxxxxxxxxxxxxxxxxxxxxxxxxxxxxxxxxxxxxxxxxxxxxxxxxxxxxxxxxxxx",
-            "none",
-        )),
-    ),
+    ("80 bytes", FORTY, &[0, 0], Ok((&[0, 40, 80], X80, "none"))),
 ];
 
 #[rattlefmt::skip]

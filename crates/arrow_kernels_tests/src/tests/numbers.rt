@@ -17,9 +17,9 @@ fn dates(rt: &(impl Abort + AllocGlobal), values: &[i64], mask: &str) -> Primiti
 
 /// Compares an array of dates with its parts, and drops it.
 fn check(rt: &impl Abort, case: &str, array: PrimitiveArray<i64>, values: &[i64], mask: &str) {
-    assert_text::value(array.data_type(), &DataType::Date64).expect(rt, case);
     assert_text::value(array.values().as_slice(), values).expect(rt, case);
     assert_text::mask(array.validity(), mask).expect(rt, case);
+    assert_text::value(array.data_type(), &DataType::Date64).expect(rt, case);
     drop(array);
 }
 
@@ -130,11 +130,12 @@ const CONCATENATIONS: &[(&str, &[Slice], Numbers)] = &[
 fn concatenations_have_all_slots_in_order(rt: HostRuntime) {
     for (case, slices, expected) in CONCATENATIONS {
         let mut arrays = Vec::new(rt.alloc());
-        for (array, offset, len) in *slices {
-            let array = dates(&rt, array.0, array.1);
+        for ((values, mask), offset, len) in *slices {
+            let array = dates(&rt, *values, *mask);
             assert!(rt; *offset <= array.len() && *len <= array.len() - *offset);
-            let slice = array.sliced(*offset, *len);
-            arrays.push(slice).expect(&rt, "memory");
+            arrays
+                .push(array.sliced(*offset, *len))
+                .expect(&rt, "memory");
         }
         assert!(rt; !arrays.is_empty());
         let joined = concat_primitive(rt.alloc(), &arrays).expect(&rt, "memory");

@@ -46,7 +46,7 @@ fn slots_stay_at_either_width(rt: HostRuntime) {
     check_widths!("no text", none, widen_utf8, narrow_utf8, NO_SLOT);
     let letters = named_letters(&rt);
     check_widths!(
-        "the default type",
+        "the type becomes the default one",
         letters,
         widen_utf8,
         narrow_utf8,

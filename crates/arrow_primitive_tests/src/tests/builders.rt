@@ -54,6 +54,7 @@ fn same_values<T: NativeType>(values: Vec<T>) -> Vec<T>
 fn check_growth<T: NativeType + Debug>(
     rt: &(impl Abort + AllocGlobal),
     first: &[Option<T>],
+    null: &[Option<T>],
     value: &[T],
     expected: &[T],
 ) {
@@ -63,8 +64,8 @@ fn check_growth<T: NativeType + Debug>(
         push(value.first().copied());
         try_push(None);
         push_null();
-        extend([true].iter().map(|_| None));
-        try_extend([true].iter().map(|_| None));
+        extend(null.iter().copied());
+        try_extend(null.iter().copied());
         extend_values(value.iter().copied());
         extend_from_slice(value);
         extend_constant(2, value.first().copied());
@@ -77,10 +78,10 @@ fn check_growth<T: NativeType + Debug>(
 
 #[test]
 fn builders_with_a_mask_grow_and_freeze(rt: HostRuntime) {
-    check_growth::<i32>(&rt, &[Some(2)], &[1], &[2, 1, 0, 0, 0, 0, 1, 1, 1]);
+    check_growth::<i32>(&rt, &[Some(2)], &[None], &[1], &[2, 1, 0, 0, 0, 0, 1, 1, 1]);
     let (first, value, zero) = (i256(1, 2), i256(0, 1), i256(0, 0));
     let expected = [first, value, zero, zero, zero, zero, value, value, value];
-    check_growth(&rt, &[Some(first)], &[value], expected.as_slice());
+    check_growth(&rt, &[Some(first)], &[None], &[value], expected.as_slice());
 }
 
 #[test]

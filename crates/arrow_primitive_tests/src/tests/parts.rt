@@ -79,6 +79,7 @@ fn arrays_are_made_of_parts(rt: HostRuntime) {
 /// Compares the slots that are popped from builders that are made of parts, and with other ones.
 fn check_built<T: NativeType + Debug>(rt: &(impl Abort + AllocGlobal), values: &[T], others: &[T]) {
     assert!(rt; values.len() == 3 && others.len() == 3);
+    let rest = &others[..1];
     let builder = MutablePrimitiveArray::<T>::with_capacity(rt.alloc(), 2);
     let mut builder = builder.expect(rt, "memory");
     builder.try_push(Some(values[0])).expect(rt, "memory");
@@ -100,7 +101,7 @@ fn check_built<T: NativeType + Debug>(rt: &(impl Abort + AllocGlobal), values: &
     builder.set_validity(Some(mask));
     let popped = (builder.pop(), builder.pop());
     assert_text::value(popped, (None, Some(others[1]))).expect(rt, "set_values, set_validity");
-    check_builder(rt, "the rest", Ok(builder), &others[..1], "1");
+    check_builder(rt, "the rest", Ok(builder), rest, "1");
 }
 
 #[test]
