@@ -12,7 +12,7 @@ fn main(rt: HostRuntime) -> ExitCode {
     let mut output = Counted::new(rt.stdout());
     let outcome = session(rt.alloc(), &mut input, &mut output);
     if outcome != Outcome::Done {
-        // Where standard error fails too, the status still tells.
+        // If standard error fails too, the status still reports the outcome.
         let _ = eprintln!(rt; "{outcome}");
     }
     ExitCode::from(outcome.status())

@@ -17,7 +17,7 @@ map-replicate h (suc n) x = ap (λ rest. h x ∷ rest) (map-replicate h n x)
 
 pub ruleset seen_lists = (map-slice_set, map-replicate)
 
--- so many are turned round from both ends
+-- this many are swapped from both ends
 pub record TurnedSoFar (i : ℕ) (old new : List Bool) : Type 0 where
   pub count : length new ≡ length old
   pub low : (k : ℕ) → k < i → get_or new k false ≡ get_or old (length old - 1 - k) false

@@ -1,4 +1,4 @@
--- Seeing a column over what slots store, whatever their sort, commutes with filtering it and with taking rows of it.
+-- A column over what slots store, of any value kind, commutes with filtering it and with taking rows of it.
 use Rattle.std.proofs.Common.{◌≡◌, ℕ, ℤ, Bool, true, false, not, List, [], ◌∷◌, length, map, Option, Some, None, refl}
 use Rattle.std.proofs.Common.{sym, subst, ap, ap₂, ◌∙◌, arith}
 use Rattle.std.specs.Prelude.{⊤, find, nat_lt, MatchBool, MatchOption}
@@ -20,11 +20,11 @@ use Rattle.arrow_entry.specs.Entry.{erase_type, native_value, boolean_value, byt
 use Rattle.arrow_model.specs.Answer.{done, refused}
 use Rattle.arrow_model.specs.Change.{with_column}
 use Rattle.arrow_model.specs.Kind.{ValueKind, native, boolean, var_binary, shaped, frozen}
-use Rattle.arrow_model.specs.Row.{answers, leaves, memory}
-use Rattle.arrow_model.specs.Row as model
+use Rattle.arrow_model.specs.Transition.{answers, leaves, memory}
+use Rattle.arrow_model.specs.Transition as model
 use Rattle.arrow_model.specs.Step.{Taken, unless_over}
 use Rattle.arrow_model.specs.Value.{Value}
-use Rattle.arrow_model.specs.Item.{Stored, value, bit, bytes_item, bytes_in}
+use Rattle.arrow_model.specs.Item.{Stored, value, bit, bytes_item, stored_bytes}
 use Rattle.arrow_entry.proofs.CallerLemmas.{frozen-seen, length-seen}
 
 module _ {A S T : Type 0} (around : A → Around) (stored : S → Stored T) (nothing : A)
@@ -61,15 +61,15 @@ module _ {A S T : Type 0} (around : A → Around) (stored : S → Stored T) (not
       (sym (keys-map (λ (r : Row S). (stored r.0, r.1)) (λ key. key) keys column.rows))
 
 module _ {A S T : Type 0} (around : A → Around) (stored : S → Stored T) (column : ColumnWith A S) where
-  -- as many slots are there, so the same key is the first that tells none
+  -- as many slots are there, so the same key is the first that is out of bounds
   out_of_bounds-seen : (keys : List ℤ) → first_out_of_bounds (λ key. key) (erase_type around stored column) keys
       ≡ first_out_of_bounds (λ key. key) column keys
   out_of_bounds-seen keys = ap (λ n. find (λ (key : ℤ). not (in_bounds n key)) keys) (length-seen around stored column)
 
 -- what has no bytes never has too many
-module _ {S T : Type 0} (stored : S → Stored T) (none : (x : S) → bytes_in (stored x) ≡ []) where
+module _ {S T : Type 0} (stored : S → Stored T) (none : (x : S) → stored_bytes (stored x) ≡ []) where
   rows-none : (rows : List (Row S)) → map (λ (r : Row (List ℕ)). r.0)
-      (map (λ (r : Row (Stored T)). (bytes_in r.0, r.1)) (map (λ (r : Row S). (stored r.0, r.1)) rows))
+      (map (λ (r : Row (Stored T)). (stored_bytes r.0, r.1)) (map (λ (r : Row S). (stored r.0, r.1)) rows))
       ≡ map (λ (r : Row S). []) rows
   rows-none [] = refl
   rows-none (r ∷ rows) = ap₂ (λ (x : List ℕ) rest. x ∷ rest) (none r.0) (rows-none rows)
@@ -94,7 +94,7 @@ rows-bits T [] = refl
 rows-bits T ((b, mark) ∷ rows) = ap (λ rest. (b, mark) ∷ rest) (rows-bits T rows)
 
 rows-bytes : (T : Type 0) (is_text : Bool) (rows : List (Row (List ℕ)))
-    → map (λ (r : Row (Stored T)). (bytes_in r.0, r.1)) (map (λ (r : Row (List ℕ)). (bytes_item is_text r.0, r.1)) rows)
+    → map (λ (r : Row (Stored T)). (stored_bytes r.0, r.1)) (map (λ (r : Row (List ℕ)). (bytes_item is_text r.0, r.1)) rows)
     ≡ rows
 rows-bytes T is_text [] = refl
 rows-bytes T is_text ((bytes, mark) ∷ rows) = ap (λ rest. (bytes, mark) ∷ rest) (rows-bytes T is_text rows)
@@ -142,7 +142,7 @@ found-none : (found : Option ℤ) (over : Bool) (X R : Type 0) (S : ℤ → Type
 found-none None over X R S none is made = rw is made
 found-none (Some key) over X R S none is made = absurd none
 
-refused-so : {T : Type 0} (e : Error) (found : Option ℤ) (over : Bool) (row : model.Row T)
+refused-so : {T : Type 0} (e : Error) (found : Option ℤ) (over : Bool) (row : model.Transition T)
     → MatchOption found ⊤ (λ key. refusal e ≡ key_refusal key) → (found ≡ None → e ≡ refused_growth over)
     → MatchOption found (unless_over None over (memory None row) (refused (refusal e)) None)
     (λ key. answers {T = T} None (refused (key_refusal key)) (refused (refusal e)) None)

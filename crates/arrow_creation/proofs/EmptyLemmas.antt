@@ -1,4 +1,4 @@
--- Arrays and builders with no slot, and arrays of nulls: seeing them over what slots store, whatever their sort.
+-- Arrays and builders with no slot, and arrays of nulls: seeing them over what slots store, of any value kind.
 use Rattle.std.proofs.Common.{◌≡◌, ℕ, zero, suc, true, false, [], ◌∷◌, map, replicate, Some, None, refl, ap}
 use Rattle.std.specs.List.{zip}
 use Rattle.arrow_types.specs.Types.{LogicalType}

@@ -19,7 +19,7 @@ use Rattle.arrow_model.specs.Answer.{Answer, done, refused, is_memory}
 use Rattle.arrow_model.specs.Change.{grown, fitting, slot_over, frozen_value, empty_value, slots_start}
 use Rattle.arrow_model.specs.Item.{Stored}
 use Rattle.arrow_model.specs.Kind.{Group, ValueKind, shaped, frozen, with_nulls, values_alone, same_group, is_boolean}
-use Rattle.arrow_model.specs.Row.{Row}
+use Rattle.arrow_model.specs.Transition.{Transition}
 use Rattle.arrow_model.specs.Step.{Extends, Filled, all_fit}
 use Rattle.arrow_model.specs.Value.{Value, Types, default_item}
 
@@ -204,7 +204,7 @@ module _ {T : Type 0} (c : Types T) (sort : ValueKind) where
       (subst (λ v. Extends c v (map Some items) (refused (refusal (refused_growth over))) new) is h))
 
 -- a builder that was frozen, or not
-pub frozen-built : {T O : Type 0} (row : Row T) (w : Value T) (result : Result (Entry T O) Error)
+pub frozen-built : {T O : Type 0} (row : Transition T) (w : Value T) (result : Result (Entry T O) Error)
     → IfOk result (λ array. value_of array ≡ frozen_value w) → OnlyOutOfMemory result
     → row done (Some (frozen_value w)) → row (refused out_of_memory) None → BuiltBy value_of result row
 frozen-built row w (Ok array) ok err made wanting = subst (λ (v : Value _). row done (Some v)) (sym ok) made

@@ -27,9 +27,9 @@ use Rattle.arrow_model.specs.Kind.{Group, frozen, with_nulls, values_alone, nati
 use Rattle.arrow_model.specs.Kind.{is_frozen, is_var_binary, is_text, is_values_alone}
 use Rattle.arrow_model.specs.Request.{Packed, make, packed, parts, cut_pieces}
 use Rattle.arrow_model.specs.Request as given
-use Rattle.arrow_model.specs.Parts.{BitsFit, PartsCost, PartsRow, accepted, bits_test, boolean_tests, marks_in}
-use Rattle.arrow_model.specs.Parts.{offsets_test, pieces_tests, wrong_type}
-use Rattle.arrow_model.specs.Row.{memory}
+use Rattle.arrow_model.specs.Parts.{BitsFit, PartsCost, PartsTransition, accepted, bits_test, boolean_tests, marks_in}
+use Rattle.arrow_model.specs.Parts.{offsets_test, pieces_tests, wrong_type_of}
+use Rattle.arrow_model.specs.Transition.{memory}
 use Rattle.arrow_creation.specs.Outcome.{BuiltBy, IsKindOf, built_answer}
 use Rattle.arrow_entry.proofs.CallerLemmas.{parts-seen}
 
@@ -53,12 +53,12 @@ module _ {T : Type 0} (v : Value T) (tests : Tests) where
   said-row shown column (Err error.Overflow) is says = inr (refusal error.Overflow, says.err, (refl, refl))
   said-row shown column (Err error.OutOfMemory) is says = refl
 
--- native values and truth values of parts: what `try_new` says of the tests makes their row
+-- native values and booleans of parts: what `try_new` says of the tests makes their row
 module _ {T : Type 0} (c : Types T) (group : Group) (t : LogicalType) (mask : Option Packed)
     (marks : Option (List Bool)) (fit : IfSome mask BitsFit) (is-marks : marks ≡ option_map marks_in mask) where
   pub values-made : (xs values : List T) (result : Result (Column T) Error) → values ≡ xs
       → Says (primitive.parts_tests c.primitive t values marks) (column_of_parts t values marks) result
-      → BuiltBy (native_value group) result (PartsRow c (shaped group native) t mask (given.values xs))
+      → BuiltBy (native_value group) result (PartsTransition c (shaped group native) t mask (given.values xs))
   values-made xs values result is-values says =
       let tests = primitive.parts_tests c.primitive t values marks in
       let v : Value T = native_value group (column_of_parts t values marks) in
@@ -69,7 +69,7 @@ module _ {T : Type 0} (c : Types T) (group : Group) (t : LogicalType) (mask : Op
 
   pub bits-made : (p : Packed) (values : List Bool) (result : Result (Column Bool) Error) → BitsFit p
       → values ≡ marks_in p → Says (boolean_tests group t values marks) (column_of_parts t values marks) result
-      → BuiltBy (boolean_value group) result (PartsRow c (shaped group boolean) t mask (packed p))
+      → BuiltBy (boolean_value group) result (PartsTransition c (shaped group boolean) t mask (packed p))
   bits-made p values result fits is-values says =
       let tests = boolean_tests group t values marks in
       let column = column_of_parts t values marks in
@@ -90,7 +90,7 @@ text-sort : (group : Group) (text : Bool) → is_text (shaped group (var_binary 
 text-sort group true = refl
 text-sort group false = refl
 
--- no test is refused for want of memory
+-- no test fails since an allocation fails
 abbrev NoMemory : Tests → Type 0
 NoMemory accept = ⊤
 NoMemory (test P why tests) = (why ≡ out_of_memory → ⊥) × NoMemory tests
@@ -106,7 +106,7 @@ not-memory T tests column (Err (error.OutOfSpec text)) other says = refl
 not-memory T tests column (Err error.Overflow) other says = refl
 not-memory T tests column (Err error.OutOfMemory) other says = absurd (never tests other says.err)
 
-wrong-other : (text is_frozen : Bool) → wrong_type (var_binary text) is_frozen ≡ out_of_memory → ⊥
+wrong-other : (text is_frozen : Bool) → wrong_type_of (var_binary text) is_frozen ≡ out_of_memory → ⊥
 wrong-other true true e = cc
 wrong-other true false e = cc
 wrong-other false true e = cc
@@ -137,7 +137,7 @@ module _ {T : Type 0} (c : Types T) (group : Group) (text : Bool) (t : LogicalTy
     (byte_column t offsets bytes marks) result) where
   pub pieces-made : (not (is_values_alone (shaped group (var_binary text))) || is_none mask) ≡ true
       → BuiltBy (bytes_value group text) result
-      (PartsRow c (shaped group (var_binary text)) t mask (cut_pieces numbers held))
+      (PartsTransition c (shaped group (var_binary text)) t mask (cut_pieces numbers held))
   pieces-made unmasked =
       let tests = pieces_tests c group text t offsets bytes marks in
       let column = byte_column t offsets bytes marks in
@@ -188,7 +188,7 @@ module _ {T : Type 0} (c : Types T) (group : Group) (text : Bool) (t : LogicalTy
 pub of-kind : {T A : Type 0} (c : Types T) (text array : Bool) (lies : PhysicalType) (wrong : Refusal)
     (tests : PhysicalType → Refusal → Tests) (column : A) (result : Result A Error)
     → IsKindOf c (var_binary text) array lies wrong → Says (tests lies wrong) column result
-    → Says (tests (layout c (var_binary text)) (wrong_type (var_binary text) array)) column result
+    → Says (tests (layout c (var_binary text)) (wrong_type_of (var_binary text) array)) column result
 of-kind c text array lies wrong tests column result of-sort says =
     subst₂ (λ (lies : PhysicalType) (wrong : Refusal). Says (tests lies wrong) column result) of-sort.0 of-sort.1 says
 
@@ -197,7 +197,7 @@ pub unmet-pieces : {T : Type 0} (c : Types T) (k : Kind) (t : LogicalType) (mask
     (held : List ℕ)
     → (k ≡ kind.Binary → ⊥) → (k ≡ kind.Utf8 → ⊥) → (k ≡ kind.MutableBinary → ⊥) → (k ≡ kind.MutableUtf8 → ⊥)
     → (k ≡ kind.BinaryValues → ⊥) → (k ≡ kind.Utf8Values → ⊥)
-    → PartsRow c (shape k) t mask (cut_pieces numbers held) not_met None
+    → PartsTransition c (shape k) t mask (cut_pieces numbers held) not_met None
 unmet-pieces c kind.Primitive t mask numbers held a b d e f g = (refl, refl)
 unmet-pieces c kind.Boolean t mask numbers held a b d e f g = (refl, refl)
 unmet-pieces c kind.MutablePrimitive t mask numbers held a b d e f g = (refl, refl)

@@ -1,19 +1,14 @@
 -- What is put into an empty entry is a step of the whole table.
 use Rattle.std.proofs.Common.{◌≡◌, ℕ, true, false, List, map, is_some, slice_get, slice_set, Option, Some, None}
 use Rattle.std.proofs.Common.{option_map, refl, arith}
-use Rattle.arrow_check.specs.Reading.{Cost}
 use Rattle.arrow_entry.specs.declared.entry.Entry.{Entry}
 use Rattle.arrow_entry.specs.Entry.{value_of}
 use Rattle.arrow_entry.proofs.CallerLemmas.{at-row, stays-row}
 use Rattle.arrow_model.specs.Answer.{Answer, not_met}
-use Rattle.arrow_model.specs.Kind.{Shape}
-use Rattle.arrow_model.specs.Request.{Source, make}
-use Rattle.arrow_model.specs.Row.{Row}
-use Rattle.arrow_model.specs.Step.{AtEntry, Makes, IntoEmpty, StepCosts}
-use Rattle.arrow_model.specs.Value.{Types, Value}
-use Rattle.arrow_model.proofs.CallerLemmas.{costs-anywhere}
+use Rattle.arrow_model.specs.Transition.{Transition}
+use Rattle.arrow_model.specs.Step.{AtEntry, IntoEmpty}
 
-module _ {T O : Type 0} (row : Row T) where
+module _ {T O : Type 0} (row : Transition T) where
   -- where something is, the condition fails
   some-unmet : (x : Option (Entry T O)) → is_some x ≡ true
       → IntoEmpty row (option_map value_of x) not_met (option_map value_of x)
@@ -49,16 +44,3 @@ module _ {T O : Type 0} (row : Row T) where
     empty-filled y reply none h = at-row (option_map value_of) (IntoEmpty row) entries (slice_set entries e y) e x y
         reply
         there refl (none-puts x y reply none h)
-
--- what raw parts make in an entry, whether they are given or lent
-pub placed : {T O : Type 0} (c : Types T) (entries : List (Option (Entry T O))) (e : ℕ) (s : Shape)
-    (source : Source T) (x y : Option (Entry T O)) (reply : Answer T) (old new : Cost)
-    → slice_get entries e ≡ Some x → IntoEmpty (Makes c s source) (option_map value_of x) reply (option_map value_of y)
-    → StepCosts (make 0 s source) reply old new
-    → AtEntry (map (option_map value_of) entries) e (IntoEmpty (Makes c s source)) reply
-    (map (option_map value_of) (slice_set entries e y)) × StepCosts (make e s source) reply old new
-placed c entries e s source x y reply old new there row exact = (
-  at-row (option_map value_of) (IntoEmpty (Makes c s source)) entries (slice_set entries e y) e x y reply there refl
-      row,
-  costs-anywhere 0 e s source reply old new exact,
-)

@@ -1,13 +1,12 @@
 //! Arrays and builders with no slot.
-ghost use Rattle.std.specs.Prelude.{◌≡◌, [], IfOk, Some};
-ghost use Rattle.arrow_column.specs.Column.{column_of_parts};
-ghost use Rattle.arrow_creation.specs.Outcome.{builder_group};
-ghost use Rattle.arrow_entry.specs.Entry.{value_of};
-ghost use Rattle.arrow_model.specs.Change.{empty_value, slots_start};
-ghost use Rattle.arrow_model.specs.Kind.{shape, shaped};
-ghost use Rattle.arrow_model.specs.Value.{types};
+ghost use Rattle.std.specs.Prelude.{[], ◌≡◌, Some};
 ghost use Rattle.arrow_types.specs.Failures.{OnlyOutOfMemory};
 ghost use Rattle.arrow_types.specs.Types.{default_logical_type};
+ghost use Rattle.arrow_column.specs.Column.{column_of_parts};
+ghost use Rattle.arrow_creation.specs.Outcome.{IfMade, builder_shape};
+ghost use Rattle.arrow_model.specs.Change.{empty_value, slots_start};
+ghost use Rattle.arrow_model.specs.Kind.{shape};
+ghost use Rattle.arrow_model.specs.Value.{types_of};
 
 use crate::kinds::builder_kind;
 use arrow_binary::{BinaryArray, MutableBinaryArray, MutableBinaryValuesArray};
@@ -32,8 +31,7 @@ pub fn empty_entry<T: NativeType, O: Offset>(
     alloc: Global,
     kind: Kind,
 ) -> Result<Entry<T, O>, Error>
-    ensures ok { IfOk result (λ made.
-        value_of made ≡ empty_value (types T.zero T.PRIMITIVE O.most O.IS_LARGE) (shape kind)) }
+    ensures ok { IfMade result (empty_value (types_of T.NativeType O.Offset) (shape kind)) }
     ensures err { OnlyOutOfMemory result }
 {
     Ok(match kind {
@@ -68,8 +66,7 @@ pub fn slots_builder<T: NativeType, O: Offset>(
     alloc: Global,
     kind: Kind,
 ) -> Result<Entry<T, O>, Error>
-    ensures ok { IfOk result (λ made. value_of made ≡ slots_start (types T.zero T.PRIMITIVE O.most O.IS_LARGE)
-        (shaped (builder_group (shape kind).group) (shape kind).value_kind)) }
+    ensures ok { IfMade result (slots_start (types_of T.NativeType O.Offset) (builder_shape (shape kind))) }
     ensures err { OnlyOutOfMemory result }
 {
     match kind {

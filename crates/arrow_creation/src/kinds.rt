@@ -1,7 +1,7 @@
 //! What is known of a kind.
 ghost use Rattle.std.specs.Prelude.{◌≡◌};
-ghost use Rattle.arrow_creation.specs.Outcome.{builder_group};
-ghost use Rattle.arrow_model.specs.Kind.{is_frozen, is_values_alone, shape, shaped};
+ghost use Rattle.arrow_creation.specs.Outcome.{builder_shape};
+ghost use Rattle.arrow_model.specs.Kind.{is_frozen, is_values_alone, shape};
 
 use arrow_model::Kind;
 
@@ -24,7 +24,7 @@ pub fn holds_values_alone(kind: Kind) -> bool
 
 /// Returns the kind of builder in which the values of a kind are made.
 pub fn builder_kind(kind: Kind) -> Kind
-    ensures { shape result ≡ shaped (builder_group (shape kind).group) (shape kind).value_kind }
+    ensures { shape result ≡ builder_shape (shape kind) }
 {
     match kind {
         Kind::Primitive => Kind::MutablePrimitive,

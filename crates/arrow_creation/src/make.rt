@@ -1,10 +1,8 @@
 //! The trait of commands that fill an empty entry, and how such a command is run on an entry of a table.
-ghost use Rattle.std.specs.Prelude.{◌≡◌, None, option_map};
-ghost use Rattle.arrow_creation.specs.Outcome.{MadeBy};
-ghost use Rattle.arrow_model.specs.Answer.{outcome};
+ghost use Rattle.arrow_creation.specs.Outcome.{MadeBy, PutsAt};
 ghost use Rattle.arrow_entry.specs.Entry.{state_of};
-ghost use Rattle.arrow_model.specs.Row.{Row};
-ghost use Rattle.arrow_model.specs.Step.{AtEntry, IntoEmpty};
+ghost use Rattle.arrow_model.specs.Answer.{outcome};
+ghost use Rattle.arrow_model.specs.Transition.{Transition};
 ghost use Rattle.arrow_model.specs.Value.{State};
 
 use arrow_entry::{Entry, replace};
@@ -17,7 +15,7 @@ use std::alloc::Global;
 /// A command that makes what an empty entry is to hold.
 pub trait MakesEntry<T: NativeType, O: Offset>: Drop {
     /// What the command may answer, given what the entries hold, and what the entry then is.
-    ghost makes: { Self → State T → Row T };
+    ghost makes: { Self → State T → Transition T };
 
     /// Creates what the entry is to hold; `None` if the command's condition fails. Memory is allocated by `alloc`.
     ///
@@ -31,7 +29,7 @@ pub trait MakesEntry<T: NativeType, O: Offset>: Drop {
         ensures { MadeBy result (makes self.now (state_of entries.now.items)) };
 }
 
-/// Puts what a command makes into the entry of a number; the command's condition fails if that is not empty or
+/// Puts what a command makes into the entry at an index; the command's condition fails if that is not empty or
 /// past the table.
 ///
 /// # Errors
@@ -42,8 +40,7 @@ pub fn put_at<T: NativeType, O: Offset, R: MakesEntry<T, O>>(
     e: usize,
     command: R,
 ) -> Result<Reply<T>, Error>
-    ensures { AtEntry (state_of entries.old.items) e (IntoEmpty (R.makes command (state_of entries.old.items)))
-        (outcome result) (state_of entries.new.items) }
+    ensures { PutsAt e (R.makes command) entries.old.items (outcome result) entries.new.items }
 {
     if e >= entries.len() {
         return Ok(Reply::NotMet);

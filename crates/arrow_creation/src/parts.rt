@@ -1,13 +1,10 @@
 //! An array or a builder from raw parts.
-ghost use Rattle.std.specs.Prelude.{◌∷◌, [], option_map};
-ghost use Rattle.arrow_creation.specs.Outcome.{MadeBy, made_answer};
+ghost use Rattle.std.specs.Prelude.{[], ◌∷◌};
+ghost use Rattle.arrow_creation.specs.Outcome.{MadeBy, MakesParts, PartsStep, PutsParts, made_answer};
 ghost use Rattle.arrow_model.specs.Answer.{outcome};
-ghost use Rattle.arrow_entry.specs.Entry.{table_of, value_of};
-ghost use Rattle.arrow_model.specs.Kind.{shape};
-ghost use Rattle.arrow_model.specs.Request.{parts_asked, source_of};
+ghost use Rattle.arrow_model.specs.Request.{parts_request};
 ghost use Rattle.arrow_model.specs.Run.{CostsAtMost};
-ghost use Rattle.arrow_model.specs.Step.{IsStep, Makes, IntoEmpty, StepCosts};
-ghost use Rattle.arrow_model.specs.Value.{types};
+ghost use Rattle.arrow_model.specs.Step.{StepCosts};
 
 mod boolean;
 mod bytes;
@@ -23,7 +20,7 @@ use arrow_types::native_type::NativeType;
 use arrow_types::offset::Offset;
 use boolean::bits_from_parts;
 use bytes::bytes_from_parts;
-use lent::put_lent_parts;
+use lent::{fits_kind, parts_copied};
 use native::natives_from_parts;
 
 /// Creates what raw parts make; `None` if the command's condition fails. What the test of text costs is added to the
@@ -35,10 +32,9 @@ fn entry_from_parts<T: NativeType, O: Offset>(
     given: Parts<T, O>,
     cost: &mut TextCost,
 ) -> Result<Option<Entry<T, O>>, Error>
-    ensures row { MadeBy result (Makes (types T.zero T.PRIMITIVE O.most O.IS_LARGE) (shape given.kind)
-        (source_of O.number given)) }
-    ensures exact { StepCosts (parts_asked O.number 0 given) (made_answer result) cost.old cost.new }
-    ensures most { CostsAtMost (parts_asked O.number 0 given ∷ []) cost.old cost.new }
+    ensures row { MadeBy result (MakesParts T.NativeType O.Offset given) }
+    ensures exact { StepCosts (parts_request O.number 0 given) (made_answer result) cost.old cost.new }
+    ensures most { CostsAtMost (parts_request O.number 0 given ∷ []) cost.old cost.new }
 {
     let Parts {
         kind,
@@ -64,10 +60,9 @@ fn put_parts<T: NativeType, O: Offset>(
     given: Parts<T, O>,
     cost: &mut TextCost,
 ) -> Result<Reply<T>, Error>
-    ensures row { IntoEmpty (Makes (types T.zero T.PRIMITIVE O.most O.IS_LARGE) (shape given.kind)
-        (source_of O.number given)) (option_map value_of entry.old) (outcome result) (option_map value_of entry.new) }
-    ensures exact { StepCosts (parts_asked O.number 0 given) (outcome result) cost.old cost.new }
-    ensures most { CostsAtMost (parts_asked O.number 0 given ∷ []) cost.old cost.new }
+    ensures row { PutsParts T.NativeType O.Offset given entry.old (outcome result) entry.new }
+    ensures exact { StepCosts (parts_request O.number 0 given) (outcome result) cost.old cost.new }
+    ensures most { CostsAtMost (parts_request O.number 0 given ∷ []) cost.old cost.new }
 {
     if entry.is_some() {
         return Ok(Reply::NotMet);
@@ -81,7 +76,7 @@ fn put_parts<T: NativeType, O: Offset>(
     }
 }
 
-/// Puts what raw parts make into the entry of a number; the command's condition fails if that is not empty or
+/// Puts what raw parts make into the entry at an index; the command's condition fails if that is not empty or
 /// past the table. What the test of text costs is added to the counts.
 ///
 /// # Errors
@@ -93,9 +88,9 @@ pub fn parts_at<T: NativeType, O: Offset>(
     given: Parts<T, O>,
     cost: &mut TextCost,
 ) -> Result<Reply<T>, Error>
-    ensures step { IsStep (types T.zero T.PRIMITIVE O.most O.IS_LARGE) (table_of entries.old.items cost.old)
-        (parts_asked O.number e given) (outcome result) (table_of entries.new.items cost.new) }
-    ensures costs { CostsAtMost (parts_asked O.number e given ∷ []) cost.old cost.new }
+    ensures step { PartsStep T.NativeType O.Offset e given entries.old.items (outcome result) entries.new.items }
+    ensures exact { StepCosts (parts_request O.number e given) (outcome result) cost.old cost.new }
+    ensures most { CostsAtMost (parts_request O.number e given ∷ []) cost.old cost.new }
 {
     if e >= entries.len() {
         return Ok(Reply::NotMet);
@@ -104,7 +99,7 @@ pub fn parts_at<T: NativeType, O: Offset>(
     put_parts(entry, given, cost)
 }
 
-/// Does the same as [`parts_at`] with borrowed parts, which are copied only if the command's condition holds.
+/// Does the same as [`parts_at`] with borrowed parts, which are copied if the entry is empty and they fit their kind.
 ///
 /// # Errors
 /// The refusal that the command is answered with; the entries are then as before.
@@ -114,13 +109,19 @@ pub fn lent_parts_at<T: NativeType, O: Offset>(
     given: &Parts<T, O>,
     cost: &mut TextCost,
 ) -> Result<Reply<T>, Error>
-    ensures step { IsStep (types T.zero T.PRIMITIVE O.most O.IS_LARGE) (table_of entries.old.items cost.old)
-        (parts_asked O.number e given.now) (outcome result) (table_of entries.new.items cost.new) }
-    ensures costs { CostsAtMost (parts_asked O.number e given.now ∷ []) cost.old cost.new }
+    ensures step { PartsStep T.NativeType O.Offset e given.now entries.old.items (outcome result) entries.new.items }
+    ensures exact { StepCosts (parts_request O.number e given.now) (outcome result) cost.old cost.new }
+    ensures most { CostsAtMost (parts_request O.number e given.now ∷ []) cost.old cost.new }
 {
     if e >= entries.len() {
         return Ok(Reply::NotMet);
     }
-    let entry = &mut entries[e];
-    put_lent_parts(entry, given, cost)
+    if entries[e].is_some() {
+        return Ok(Reply::NotMet);
+    }
+    if !fits_kind(given) {
+        return Ok(Reply::NotMet);
+    }
+    let copy = parts_copied(given)?;
+    parts_at(entries, e, copy, cost)
 }

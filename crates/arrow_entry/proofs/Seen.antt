@@ -12,7 +12,7 @@ use Rattle.arrow_column.specs.Column.{all_valid, cut_with, append_slot, append_s
 use Rattle.arrow_column.specs.Column.{last_slot, without_last, without_needless_mask, joined, with_slot, with_mask}
 use Rattle.arrow_column.specs.Column.{with_stored, with_type}
 use Rattle.arrow_bytes.specs.Pieces.{Around, nothing_around, around_cut}
-use Rattle.arrow_model.specs.Item.{Stored, value, bit, bytes_item, bytes_in}
+use Rattle.arrow_model.specs.Item.{Stored, value, bit, bytes_item, stored_bytes}
 use Rattle.arrow_bytes.specs.Column.{ByteColumn}
 use Rattle.arrow_entry.specs.Entry.{erase_type}
 
@@ -291,58 +291,58 @@ module _ {A B S T : Type 0} (around : A → Around) (around₂ : B → Around) (
 
 -- the bytes that items take up
 pub pieces-again : (T : Type 0) (is_text : Bool) (xs : List (List ℕ))
-    → map (bytes_in {T = T}) (map (bytes_item is_text) xs) ≡ xs
+    → map (stored_bytes {T = T}) (map (bytes_item is_text) xs) ≡ xs
 pieces-again T is_text [] = refl
 pieces-again T is_text (x ∷ xs) = ap (λ rest. x ∷ rest) (pieces-again T is_text xs)
 
-pub no-bytes-value : {T : Type 0} (xs : List T) → concat (map bytes_in (map value xs)) ≡ []
+pub no-bytes-value : {T : Type 0} (xs : List T) → concat (map stored_bytes (map value xs)) ≡ []
 no-bytes-value [] = refl
 no-bytes-value (x ∷ xs) = no-bytes-value xs
 
-pub no-bytes-bit : (T : Type 0) (xs : List Bool) → concat (map (bytes_in {T = T}) (map bit xs)) ≡ []
+pub no-bytes-bit : (T : Type 0) (xs : List Bool) → concat (map (stored_bytes {T = T}) (map bit xs)) ≡ []
 no-bytes-bit T [] = refl
 no-bytes-bit T (x ∷ xs) = no-bytes-bit T xs
 
-module _ (T : Type 0) {X : Type 0} (stored : X → Stored T) (none : (x : X) → bytes_in (stored x) ≡ []) where
-  none-all : (ys : List X) → concat (map bytes_in (map stored ys)) ≡ []
+module _ (T : Type 0) {X : Type 0} (stored : X → Stored T) (none : (x : X) → stored_bytes (stored x) ≡ []) where
+  none-all : (ys : List X) → concat (map stored_bytes (map stored ys)) ≡ []
   none-all [] = refl
   none-all (y ∷ ys) = ap₂ (λ a b. a ++ b) (none y) (none-all ys)
 
-  none-front : (ys : List X) (m : ℕ) → concat (take m (map bytes_in (map stored ys))) ≡ []
+  none-front : (ys : List X) (m : ℕ) → concat (take m (map stored_bytes (map stored ys))) ≡ []
   none-front ys zero = refl
   none-front [] (suc m) = refl
   none-front (y ∷ ys) (suc m) = ap₂ (λ a b. a ++ b) (none y) (none-front ys m)
 
-  none-back : (ys : List X) (m : ℕ) → concat (drop m (map bytes_in (map stored ys))) ++ [] ≡ []
+  none-back : (ys : List X) (m : ℕ) → concat (drop m (map stored_bytes (map stored ys))) ++ [] ≡ []
   none-back ys zero = ap (λ a. a ++ []) (none-all ys)
   none-back [] (suc m) = refl
   none-back (y ∷ ys) (suc m) = none-back ys m
 
-  cut-none : (xs : List X) (i n : ℕ) → nothing_around ≡ around_cut nothing_around (map bytes_in (map stored xs)) i n
+  cut-none : (xs : List X) (i n : ℕ) → nothing_around ≡ around_cut nothing_around (map stored_bytes (map stored xs)) i n
   cut-none xs i n = λ k. record { lead = sym (none-front xs i) k; tail = sym (none-back xs (i + n)) k }
 
 module _ (T : Type 0) where
   pub cut-pieces : (is_text : Bool) (c : ByteColumn) (i n : ℕ)
       → erase_type {T = T} (λ around. around) (bytes_item is_text) (cut_with around_cut c i n)
-      ≡ cut_with (λ around items. around_cut around (map bytes_in items))
+      ≡ cut_with (λ around items. around_cut around (map stored_bytes items))
       (erase_type {T = T} (λ around. around) (bytes_item is_text) c) i n
   cut-pieces is_text c i n = cut-seen (λ around. around) (bytes_item is_text) around_cut
-      (λ around items. around_cut around (map bytes_in items))
+      (λ around items. around_cut around (map stored_bytes items))
       (λ a xs i n. ap (λ ys. around_cut a ys i n) (sym (pieces-again T is_text xs))) c i n
 
   pub cut-value : (c : Column T) (i n : ℕ)
       → erase_type {T = T} (λ _. nothing_around) value (cut c i n)
-      ≡ cut_with (λ around items. around_cut around (map bytes_in items))
+      ≡ cut_with (λ around items. around_cut around (map stored_bytes items))
       (erase_type {T = T} (λ _. nothing_around) value c) i n
   cut-value c i n = cut-seen (λ _. nothing_around) value (λ a _ _ _. a)
-      (λ around items. around_cut around (map bytes_in items)) (λ a xs i n. cut-none T value (λ x. refl) xs i n) c i n
+      (λ around items. around_cut around (map stored_bytes items)) (λ a xs i n. cut-none T value (λ x. refl) xs i n) c i n
 
   pub cut-bit : (c : Column Bool) (i n : ℕ)
       → erase_type {T = T} (λ _. nothing_around) bit (cut c i n)
-      ≡ cut_with (λ around items. around_cut around (map bytes_in items))
+      ≡ cut_with (λ around items. around_cut around (map stored_bytes items))
       (erase_type {T = T} (λ _. nothing_around) bit c) i n
   cut-bit c i n = cut-seen (λ _. nothing_around) bit (λ a _ _ _. a)
-      (λ around items. around_cut around (map bytes_in items)) (λ a xs i n. cut-none T bit (λ x. refl) xs i n) c i n
+      (λ around items. around_cut around (map stored_bytes items)) (λ a xs i n. cut-none T bit (λ x. refl) xs i n) c i n
 
 -- a builder has no tail
 pub thaw-pieces : {S T : Type 0} (stored : S → Stored T) (c : ColumnWith Around S)
@@ -391,7 +391,7 @@ bit_back (bit b) = Some b
 bit_back _ = None
 
 bytes_back : {T : Type 0} → Stored T → Option (List ℕ)
-bytes_back x = Some (bytes_in x)
+bytes_back x = Some (stored_bytes x)
 
 value-again : {T : Type 0} (x : T) → value_back (value x) ≡ Some x
 unfolding value_back

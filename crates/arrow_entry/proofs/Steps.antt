@@ -7,7 +7,7 @@ use Rattle.std.proofs.lemmas.Option.{slice_get-map}
 use Rattle.arrow_model.specs.Answer.{Answer}
 use Rattle.arrow_entry.specs.Entry.{value_of}
 use Rattle.arrow_model.specs.Value.{Value}
-use Rattle.arrow_model.specs.Row.{Row}
+use Rattle.arrow_model.specs.Transition.{Transition}
 use Rattle.arrow_model.specs.Step.{AtEntry, entry_at, other_at}
 use Rattle.arrow_entry.proofs.Seen.{map-slice_set}
 
@@ -25,7 +25,7 @@ set-same [] e x is = refl
 set-same (z ∷ xs) zero x is = ap (λ y. y ∷ xs) (some-same x z (sym is))
 set-same (z ∷ xs) (suc e) x is = ap (λ rest. z ∷ rest) (set-same xs e x is)
 
-module _ {T E : Type 0} (f : E → Option (Value T)) (row : Option (Value T) → Row T) where
+module _ {T E : Type 0} (f : E → Option (Value T)) (row : Option (Value T) → Transition T) where
   pub at-row : (xs ys : List E) (e : ℕ) (x y : E) (reply : Answer T) → slice_get xs e ≡ Some x → ys ≡ slice_set xs e y
       → row (f x) reply (f y) → AtEntry (map f xs) e row reply (map f ys)
   at-row xs ys e x y reply is set h =

@@ -1,7 +1,7 @@
 //! The entries of a table.
 ghost use Rattle.arrow_entry.specs.Entry.{value_of};
 ghost use Rattle.arrow_model.specs.Values.{IsValue};
-ghost use Rattle.arrow_model.specs.Value.{types};
+ghost use Rattle.arrow_model.specs.Value.{types_of};
 
 use arrow_binary::{BinaryArray, MutableBinaryArray, MutableBinaryValuesArray};
 use arrow_boolean::{BooleanArray, MutableBooleanArray};
@@ -40,7 +40,7 @@ impl<T: NativeType, O: Offset> Entry<T, O> {
     /// they should.
     #[inline(always)]
     pub fn prove_value(&self)
-        ensures { IsValue (types T.zero T.PRIMITIVE O.most O.IS_LARGE) (value_of self.now) }
+        ensures { IsValue (types_of T.NativeType O.Offset) (value_of self.now) }
     {
         match self {
             Entry::Primitive(array) => {

@@ -1,12 +1,11 @@
 //! Slots that are appended to an entry.
-ghost use Rattle.std.specs.Prelude.{◌≡◌, ◌∷◌, ◌&&◌, ◌||◌, [], false, if◌then◌else◌, is_none, not, None, Some, IfErr};
-ghost use Rattle.std.specs.Prelude.{IsTrue, OnOk};
-ghost use Rattle.arrow_column.specs.Column.{refused_growth};
-ghost use Rattle.arrow_entry.specs.Entry.{value_of};
-ghost use Rattle.arrow_model.specs.Change.{grown, null_in, slot_over};
-ghost use Rattle.arrow_model.specs.Item.{fits, slot_fits, stored_item, stored_slot};
-ghost use Rattle.arrow_model.specs.Kind.{is_builder, is_nullable};
-ghost use Rattle.arrow_model.specs.Value.{types};
+ghost use Rattle.std.specs.Prelude.{◌≡◌, IsTrue, OnOk, Some};
+ghost use Rattle.arrow_types.specs.Failures.{OutOfMemoryKeeps};
+ghost use Rattle.arrow_entry.specs.Entry.{Pushes, RefusedPushKeeps, value_of};
+ghost use Rattle.arrow_model.specs.Change.{null_pushed};
+ghost use Rattle.arrow_model.specs.Item.{can_push, fits, stored_item, stored_slot};
+ghost use Rattle.arrow_model.specs.Kind.{is_builder};
+ghost use Rattle.arrow_model.specs.Value.{types_of};
 
 use crate::{Entry, Item};
 use arrow_types::error::Error;
@@ -19,9 +18,7 @@ impl<T: NativeType, O: Offset> Entry<T, O> {
     /// null only if the builder has nulls.
     #[inline(always)]
     pub fn takes(&self, slot: &Option<Item<T>>) -> bool
-        ensures { result ≡ (is_builder (value_of self.now).shape
-            && (slot_fits (value_of self.now).shape.value_kind (stored_slot slot.now)
-            && (is_nullable (value_of self.now).shape || not (is_none (stored_slot slot.now))))) }
+        ensures { result ≡ can_push (value_of self.now).shape (stored_slot slot.now) }
     {
         match slot {
             None => matches!(
@@ -48,11 +45,8 @@ impl<T: NativeType, O: Offset> Entry<T, O> {
     #[inline(always)]
     pub fn push_null(&mut self) -> Result<(), Error>
         requires { IsTrue (is_builder (value_of self.old).shape) }
-        ensures ok { OnOk result (value_of self.new
-            ≡ grown (types T.zero T.PRIMITIVE O.most O.IS_LARGE) (value_of self.old)
-            ((if is_nullable (value_of self.old).shape then None
-            else Some (null_in (types T.zero T.PRIMITIVE O.most O.IS_LARGE) (value_of self.old))) ∷ [])) }
-        ensures err { IfErr result (λ e. (e ≡ Error.OutOfMemory) × (value_of self.new ≡ value_of self.old)) }
+        ensures ok { OnOk result (value_of self.new ≡ null_pushed (types_of T.NativeType O.Offset) (value_of self.old)) }
+        ensures err { OutOfMemoryKeeps result (value_of self.old) (value_of self.new) }
     {
         match self {
             Entry::MutablePrimitive(builder) => builder.push_null(),
@@ -73,15 +67,8 @@ impl<T: NativeType, O: Offset> Entry<T, O> {
     pub fn push_item(&mut self, item: &Item<T>) -> Result<(), Error>
         requires builder { IsTrue (is_builder (value_of self.old).shape) }
         requires fits { IsTrue (fits (value_of self.old).shape.value_kind (stored_item item.now)) }
-        ensures ok { OnOk result
-            ((slot_over (types T.zero T.PRIMITIVE O.most O.IS_LARGE) (value_of self.old) (Some (stored_item item.now))
-            ≡ false)
-            × (value_of self.new ≡ grown (types T.zero T.PRIMITIVE O.most O.IS_LARGE) (value_of self.old)
-            (Some (stored_item item.now) ∷ []))) }
-        ensures err { IfErr result (λ e.
-            (e ≡ refused_growth (slot_over (types T.zero T.PRIMITIVE O.most O.IS_LARGE) (value_of self.old)
-            (Some (stored_item item.now))))
-            × (value_of self.new ≡ value_of self.old)) }
+        ensures ok { Pushes T.NativeType O.Offset result self.old (Some (stored_item item.now)) self.new }
+        ensures err { RefusedPushKeeps T.NativeType O.Offset result self.old (Some (stored_item item.now)) self.new }
     {
         match item {
             Item::Value(x) => match self {
@@ -111,18 +98,9 @@ impl<T: NativeType, O: Offset> Entry<T, O> {
     /// `Overflow` if offsets can't express its end, or else `OutOfMemory`; the builder is then as before.
     #[inline(always)]
     pub fn push_slot(&mut self, slot: &Option<Item<T>>) -> Result<(), Error>
-        requires { IsTrue (is_builder (value_of self.old).shape
-            && (slot_fits (value_of self.old).shape.value_kind (stored_slot slot.now)
-            && (is_nullable (value_of self.old).shape || not (is_none (stored_slot slot.now))))) }
-        ensures ok { OnOk result
-            ((slot_over (types T.zero T.PRIMITIVE O.most O.IS_LARGE) (value_of self.old) (stored_slot slot.now)
-            ≡ false)
-            × (value_of self.new ≡ grown (types T.zero T.PRIMITIVE O.most O.IS_LARGE) (value_of self.old)
-            (stored_slot slot.now ∷ []))) }
-        ensures err { IfErr result (λ e.
-            (e ≡ refused_growth (slot_over (types T.zero T.PRIMITIVE O.most O.IS_LARGE) (value_of self.old)
-            (stored_slot slot.now)))
-            × (value_of self.new ≡ value_of self.old)) }
+        requires { IsTrue (can_push (value_of self.old).shape (stored_slot slot.now)) }
+        ensures ok { Pushes T.NativeType O.Offset result self.old (stored_slot slot.now) self.new }
+        ensures err { RefusedPushKeeps T.NativeType O.Offset result self.old (stored_slot slot.now) self.new }
     {
         match slot {
             None => self.push_null(),

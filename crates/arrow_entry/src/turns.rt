@@ -1,14 +1,13 @@
 //! Iterators over what slots store, asked from both ends.
-ghost use Rattle.std.specs.Prelude.{◌≡◌, ◌∷◌, IfOk, List, map, option_map, ⊤};
+ghost use Rattle.std.specs.Prelude.{◌≡◌, IfOk, List, map, option_map, ⊤};
 ghost use Rattle.std.specs.Iterator.{YieldsFirstBy, YieldsLastBy};
 ghost use Rattle.std.specs.Slice.Iter.{iter_rest};
 ghost use Rattle.arrow_column.specs.Column.{stored_values};
 ghost use Rattle.arrow_entry.specs.Entry.{value_of};
 ghost use Rattle.arrow_entry.specs.Slot.{stored_ref};
 ghost use Rattle.arrow_memory.specs.Items.{SkipsThenFirstBy};
-ghost use Rattle.arrow_model.specs.Change.{turns_of};
+ghost use Rattle.arrow_model.specs.Change.{TurnGives, turns_of};
 ghost use Rattle.arrow_model.specs.Item.{Stored, stored_slot};
-ghost use Rattle.arrow_model.specs.declared.item.Turn.{Turn};
 
 use crate::{Entry, Item, SlotRef, Turn};
 use arrow_binary::{BinaryArray, MutableBinaryArray, MutableBinaryValuesArray};
@@ -322,8 +321,7 @@ fn turn_of<'a, T: NativeType, I: SlotIterator<'a, T>>(
 ) -> Option<SlotRef<'a, T>>
     requires { I.can_turn items.old }
     ensures keeps { I.can_turn items.new }
-    ensures gives { (more : List Turn)
-        → turns_of (turn ∷ more) (I.left items.old) ≡ option_map stored_ref result ∷ turns_of more (I.left items.new) }
+    ensures gives { TurnGives turn (I.left items.old) (option_map stored_ref result) (I.left items.new) }
 {
     match turn {
         Turn::Front => items.first(),

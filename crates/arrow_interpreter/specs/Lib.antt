@@ -1,2 +1,3 @@
 pub mod Replies
-pub mod Gap
+pub mod Listing
+pub mod Dispatch

@@ -1,8 +1,6 @@
 //! The interpreter of the program's lines: what each line is, how it is run on the tables, and the text of its reply.
 #![tactic(auto)]
 
-mod both;
-mod dispatch;
 pub mod interpreter;
 mod line;
 mod lines;

@@ -1,12 +1,11 @@
 //! The text of all slots of an entry, which are read where they lie, so that none of them is copied.
-ghost use Rattle.std.specs.Prelude.{◌≡◌, ◌++◌, ◌<◌, ◌∷◌, [], MatchOption, OnOk, length, map, option_copied, slice_get};
+ghost use Rattle.std.specs.Prelude.{◌<◌, ◌∷◌, [], OnOk, length, option_copied};
 ghost use Rattle.std.specs.List.{join_with_byte};
-ghost use Rattle.arrow_column.specs.Column.{slots_of};
 ghost use Rattle.arrow_entry.specs.Entry.{value_of};
 ghost use Rattle.arrow_entry.specs.Slot.{stored_ref};
-ghost use Rattle.arrow_syntax.specs.Text.{Grows, bracketed, item_text, slot_text, text_of};
+ghost use Rattle.arrow_syntax.specs.Text.{AppendsText, answers_text, bracketed, item_text};
 ghost use Rattle.arrow_syntax.specs.Words.{space};
-ghost use Rattle.arrow_interpreter.specs.Gap.{gap};
+ghost use Rattle.arrow_interpreter.specs.Listing.{AppendsSlotText, gap, slot_texts};
 ghost use Rattle.arrow_table.specs.Listed.{listed};
 
 use arrow_entry::{Entry, SlotRef};
@@ -17,7 +16,7 @@ use std::alloc::AllocError;
 /// Appends the text of what a slot stores.
 #[inline(always)]
 fn push_slot_ref(text: &mut String, item: SlotRef<'_, i64>) -> Result<(), AllocError>
-    ensures { OnOk result (Grows text.old text.new (item_text (stored_ref item.entry))) }
+    ensures { OnOk result (AppendsText text.old text.new (item_text (stored_ref item.entry))) }
 {
     match item {
         SlotRef::Value(number) => push_value(text, number),
@@ -32,23 +31,22 @@ fn push_slot_ref(text: &mut String, item: SlotRef<'_, i64>) -> Result<(), AllocE
 #[inline(always)]
 fn push_slot_at<O: Offset>(
     text: &mut String,
-    held: &Entry<i64, O>,
+    entry: &Entry<i64, O>,
     i: usize,
 ) -> Result<(), AllocError>
-    requires { i < length (value_of held.now).column.rows }
-    ensures { OnOk result (MatchOption (slice_get (slots_of (value_of held.now).column) i) ⊥
-        (λ slot. Grows text.old text.new (slot_text slot))) }
+    requires { i < length (value_of entry.now).column.rows }
+    ensures { OnOk result (AppendsSlotText (value_of entry.now) i text.old text.new) }
 {
-    if held.is_null(i) {
+    if entry.is_null(i) {
         return text.push_str("_");
     }
-    push_slot_ref(text, held.slot_ref(i))
+    push_slot_ref(text, entry.slot_ref(i))
 }
 
 /// Appends the space before a slot; the first slot has none.
 #[inline(always)]
 fn push_gap(text: &mut String, i: usize) -> Result<(), AllocError>
-    ensures { OnOk result (Grows text.old text.new (gap i)) }
+    ensures { OnOk result (AppendsText text.old text.new (gap i)) }
 {
     if i == 0 {
         return Ok(());
@@ -57,37 +55,35 @@ fn push_gap(text: &mut String, i: usize) -> Result<(), AllocError>
 }
 
 /// Appends the text of all slots, with a space between each two.
-fn push_joined<O: Offset>(text: &mut String, held: &Entry<i64, O>) -> Result<(), AllocError>
-    ensures { let slots = map slot_text (slots_of (value_of held.now).column) in
-        OnOk result (Grows text.old text.new (join_with_byte space slots)) }
+fn push_joined<O: Offset>(text: &mut String, entry: &Entry<i64, O>) -> Result<(), AllocError>
+    ensures { OnOk result (AppendsText text.old text.new (join_with_byte space (slot_texts (value_of entry.now)))) }
 {
-    for i in 0..held.len() {
+    for i in 0..entry.len() {
         push_gap(text, i)?;
-        push_slot_at(text, held, i)?;
+        push_slot_at(text, entry, i)?;
     }
     Ok(())
 }
 
 /// Appends the text of all slots of what an entry holds, in brackets.
-fn push_slots<O: Offset>(text: &mut String, held: &Entry<i64, O>) -> Result<(), AllocError>
-    ensures { let slots = map slot_text (slots_of (value_of held.now).column) in
-        OnOk result (Grows text.old text.new (bracketed slots)) }
+fn push_slots<O: Offset>(text: &mut String, entry: &Entry<i64, O>) -> Result<(), AllocError>
+    ensures { OnOk result (AppendsText text.old text.new (bracketed (slot_texts (value_of entry.now)))) }
 {
     text.push_str("[")?;
-    push_joined(text, held)?;
+    push_joined(text, entry)?;
     text.push_str("]")
 }
 
 /// Appends the line of all slots of what an entry holds, or `not met` if it holds nothing.
 pub(crate) fn push_listed<O: Offset>(
     text: &mut String,
-    held: Option<&Entry<i64, O>>,
+    found: Option<&Entry<i64, O>>,
 ) -> Result<(), AllocError>
-    ensures { let answer = listed (option_copied held.entry) in
-        OnOk result (Grows text.old text.new (text_of (answer ∷ []))) }
+    ensures { OnOk result
+        (AppendsText text.old text.new (answers_text (listed (option_copied found.entry) ∷ []))) }
 {
-    match held {
-        Some(held) => push_slots(text, held)?,
+    match found {
+        Some(entry) => push_slots(text, entry)?,
         None => text.push_str("not met")?,
     }
     text.push_str("\n")

@@ -9,33 +9,36 @@ use Rattle.std.specs.List.{list_all}
 use Rattle.arrow_types.specs.Types.{IsRightType, LogicalType}
 use Rattle.arrow_types.specs.declared.physical_type.PhysicalType.TheVariants as physical
 use Rattle.arrow_column.specs.Acceptance.{Tests, Passes}
-use Rattle.arrow_column.specs.Column.{Column, slots_of, marks_of, stored_values, last_slot}
+use Rattle.arrow_column.specs.Column.{Column, marks_of, stored_values, last_slot}
 use Rattle.arrow_bytes.specs.Selection as kernels
 use Rattle.arrow_model.specs.Answer.{Answer, done, is_memory, not_met, refused}
-use Rattle.arrow_model.specs.Change.{frozen_value, thawed_value, empty_value, slots_start, null_in, grown, fitting}
+use Rattle.arrow_model.specs.Change.{frozen_value, empty_value, slots_start, null_in, grown, fitting}
 use Rattle.arrow_types.specs.declared.primitive_type.PrimitiveType.{PrimitiveType}
 use Rattle.arrow_model.specs.Both.{Both, BothRequest, narrow, wide, widen, narrow_to, IsBothStep, Narrows, Widens}
 use Rattle.arrow_model.specs.Both.{items_in, narrow_types, with_offset_width, wide_types}
 use Rattle.arrow_model.specs.Chosen.{array_in, filter_in}
-use Rattle.arrow_model.specs.Value.{Value, State, Held, Types, default_item, layout}
+use Rattle.arrow_model.specs.Value.{Value, State, TableState, Types, default_item, layout}
 use Rattle.arrow_model.specs.Item.{Stored, bit, value, fits, slot_fits, changed, change_fits, change_of_marks}
 use Rattle.arrow_model.specs.Kind.{Group, frozen, with_nulls, values_alone, ValueKind, native, boolean, var_binary}
 use Rattle.arrow_model.specs.Kind.{Shape, shaped, is_builder, is_boolean, is_native, is_frozen, is_nullable}
 use Rattle.arrow_model.specs.Kind.{is_var_binary, is_values_alone, same_kind}
 use Rattle.arrow_primitive.specs.Fits.{parts_tests}
-use Rattle.arrow_model.specs.Parts.{PartsRow, accepted, bits_test, boolean_tests, marks_in, offsets_test, pieces_tests}
+use Rattle.arrow_model.specs.Parts.{PartsTransition, accepted, bits_test, boolean_tests, marks_in, offsets_test, pieces_tests}
 use Rattle.arrow_model.specs.Request.{Ask, RawValues, Packed, Request, Source, make, at, clone_to, extend_from, equal}
 use Rattle.arrow_model.specs.Request.{filter_to, take_to, check_indexes}
 use Rattle.arrow_model.specs.Request as ask
-use Rattle.arrow_model.specs.Row.{gives, leaves, or_else_keep, memory, answers, unmet, require_some, where_true}
-use Rattle.arrow_model.specs.Row.{provided, of_kind, by_test}
-use Rattle.arrow_model.specs.Row as rows
+use Rattle.arrow_model.specs.Transition.{gives, leaves, or_else_keep, memory, answers, unmet, require_some, where_true}
+use Rattle.arrow_model.specs.Transition.{provided, of_kind, by_test}
+use Rattle.arrow_model.specs.Transition as rows
 use Rattle.arrow_model.specs.Run.{IsRun, Runs}
-use Rattle.arrow_model.specs.Step.{AtEntry, Changes, Clones, Compares, Compares_to, Does, Extends, Filled, Filtered}
-use Rattle.arrow_model.specs.Step.{Filters, Joins, Joins_to, Makes, IntoEmpty, Taken, Takes, copied, effect, entry_at}
+use Rattle.arrow_model.specs.Step.{AtEntry, Changes, Clones, Compares, ComparesWith, Does, Extends, Filled, Filtered}
+use Rattle.arrow_model.specs.Step.{Filters, AppendsRows, ExtendsFrom, Makes, IntoEmpty, Taken, TakesKeys, copying, effect, entry_at}
 use Rattle.arrow_model.specs.Step.{other_at, unless_over}
-use Rattle.arrow_model.specs.Values.{AreValues, IsBothRequest, IsKind, IsRequest, IsRow, IsStored, IsTextAsk}
-use Rattle.arrow_model.specs.Values.{IsTextSlot, IsTextSource, IsValue}
+use Rattle.arrow_model.specs.Both.{IsBothRequest}
+use Rattle.arrow_model.specs.Item.{IsTextSlot}
+use Rattle.arrow_model.specs.Kind.{IsKind}
+use Rattle.arrow_model.specs.Request.{IsRequest, IsTextAsk, IsTextSource}
+use Rattle.arrow_model.specs.Values.{AreValues, IsRow, IsStored, IsValue}
 use Rattle.arrow_model.proofs.AllLemmas.{and-first, and-second, get-all, keys-all, set-all, where-all}
 use Rattle.arrow_model.proofs.ValueLemmas.{IsSlot, alone-is, appended-is, changed-stored, cut-is, default-right}
 use Rattle.arrow_model.proofs.ValueLemmas.{default-stored, empty-is, fits-slots, fits-stored, frozen-is, frozen-nulls}
@@ -55,46 +58,46 @@ by-option (Some x) f g = g x refl
 
 module _ {T : Type 0} (c : Types T) where
   -- a row that leaves a value, or nothing
-  abbrev pub Fine : rows.Row T → Type 0
+  abbrev pub Fine : rows.Transition T → Type 0
   Fine row = (reply : Answer T) (new : Option (Value T)) → row reply new → IfSome new (IsValue c)
 
   fine-gives : (said : Answer T) (kept : Option (Value T)) → IfSome kept (IsValue c) → Fine (gives said kept)
   fine-gives said kept is reply new h = subst (λ (n : Option (Value T)). IfSome n (IsValue c)) (sym h.1) is
 
-  fine-may : (chosen : Answer T → Bool) (kept : Option (Value T)) (row : rows.Row T) → IfSome kept (IsValue c)
+  fine-may : (chosen : Answer T → Bool) (kept : Option (Value T)) (row : rows.Transition T) → IfSome kept (IsValue c)
       → Fine row → Fine (or_else_keep chosen kept row)
   fine-may chosen kept row is fine reply new = by-bool (chosen reply)
       (λ _ h. subst (λ (n : Option (Value T)). IfSome n (IsValue c)) (sym h) is) (λ _ h. fine reply new h)
 
-  fine-memory : (old : Option (Value T)) (row : rows.Row T) → IfSome old (IsValue c) → Fine row → Fine (memory old row)
+  fine-memory : (old : Option (Value T)) (row : rows.Transition T) → IfSome old (IsValue c) → Fine row → Fine (memory old row)
   fine-memory = fine-may is_memory
 
-  fine-test : (test : Bool) (row other : rows.Row T) → (test ≡ true → Fine row) → (test ≡ false → Fine other)
+  fine-test : (test : Bool) (row other : rows.Transition T) → (test ≡ true → Fine row) → (test ≡ false → Fine other)
       → Fine (by_test test row other)
   fine-test test row other holds fails reply new = by-bool test (λ is h. holds is reply new h)
       (λ is h. fails is reply new h)
 
-  fine-given : (old : Option (Value T)) {A : Type 0} (found : Option A) (row : A → rows.Row T)
+  fine-given : (old : Option (Value T)) {A : Type 0} (found : Option A) (row : A → rows.Transition T)
       → IfSome old (IsValue c) → ((x : A) → found ≡ Some x → Fine (row x)) → Fine (require_some old found row)
   fine-given old found row is fine reply new = by-option found (λ h. fine-gives _ old is reply new h)
       (λ x got h. fine x got reply new h)
 
-  fine-where : (old : Option (Value T)) (test : Bool) (row : rows.Row T) → IfSome old (IsValue c)
+  fine-where : (old : Option (Value T)) (test : Bool) (row : rows.Transition T) → IfSome old (IsValue c)
       → (test ≡ true → Fine row) → Fine (where_true old test row)
   fine-where old test row is fine reply new = by-bool test (λ so h. fine so reply new h)
       (λ _ h. fine-gives _ old is reply new h)
 
-  fine-over : (old : Option (Value T)) (over : Bool) (row : rows.Row T) → IfSome old (IsValue c) → Fine row
+  fine-over : (old : Option (Value T)) (over : Bool) (row : rows.Transition T) → IfSome old (IsValue c) → Fine row
       → Fine (unless_over old over row)
   fine-over old over row is fine reply new = by-bool over (λ _ h. fine-gives _ old is reply new h)
       (λ _ h. fine reply new h)
 
-  fine-provided : (old : Option (Value T)) (P : Type 0) (row : rows.Row T) → IfSome old (IsValue c) → (P → Fine row)
+  fine-provided : (old : Option (Value T)) (P : Type 0) (row : rows.Transition T) → IfSome old (IsValue c) → (P → Fine row)
       → Fine (provided old P row)
   fine-provided old P row is fine reply new (inl h) = fine h.0 reply new h.1
   fine-provided old P row is fine reply new (inr h) = fine-gives _ old is reply new h.1
 
-  fine-kind : (old : Option (Value T)) (kinds : Shape → Bool) (row : Value T → rows.Row T) → IfSome old (IsValue c)
+  fine-kind : (old : Option (Value T)) (kinds : Shape → Bool) (row : Value T → rows.Transition T) → IfSome old (IsValue c)
       → ((v : Value T) → IsValue c v → kinds v.shape ≡ true → Fine (row v)) → Fine (of_kind old kinds row)
   fine-kind None kinds row is fine = fine-given None None row is (λ w got. absurd (none w got))
     where
@@ -134,7 +137,7 @@ module _ {T : Type 0} (c : Types T) where
   fine-unmet = fine-gives not_met None tt
 
   fine-parts : (group : Group) (sort : ValueKind) (t : LogicalType) (mask : Option Packed) (raw : RawValues T)
-      → IsKind (shaped group sort) → Fine (PartsRow c (shaped group sort) t mask raw)
+      → IsKind (shaped group sort) → Fine (PartsTransition c (shaped group sort) t mask raw)
   fine-parts group native t mask (ask.values xs) kind =
       fine-memory None _ tt
       (fine-accepted (bits_test mask (parts_tests c.primitive t xs (option_map marks_in mask))) _
@@ -253,57 +256,57 @@ module _ {T : Type 0} (c : Types T) where
     fine-tells : (said : Answer T) → Fine (answers old said)
     fine-tells said = fine-gives said old is
 
-    fine-copied : (v : Value T) (row : rows.Row T) → Fine row → Fine (copied c old v row)
+    fine-copied : (v : Value T) (row : rows.Transition T) → Fine row → Fine (copying c old v row)
     fine-copied v row fine reply new = by-bool (is_var_binary v.shape)
         (λ _ h. fine-memory old row is fine reply new h) (λ _ h. fine reply new h)
 
-    fine-asks : (row : rows.Row T) → Fine row → Fine (memory old row)
+    fine-asks : (row : rows.Transition T) → Fine row → Fine (memory old row)
     fine-asks row fine = fine-memory old row is fine
 
     fine-becomes : (w : Value T) → IsValue c w → Fine (memory old (leaves w))
     fine-becomes w kept = fine-asks (leaves w) (fine-leaves w kept)
 
-    fine-row : (asked : Ask T) (v : Value T) → IsValue c v → (effect c old asked).kinds v.shape ≡ true
-        → IsTextAsk asked → Fine ((effect c old asked).row v)
-    fine-row ask.len v of for text = fine-tells _
-    fine-row (ask.value i) v of for text = fine-given old (slice_get (stored_values v.column) i) _ is
-        (λ x got. fine-copied v _ (fine-tells _))
-    fine-row (ask.get i) v of for text = fine-given old (slice_get (slots_of v.column) i) _ is
-        (λ x got. fine-copied v _ (fine-tells _))
-    fine-row (ask.is_null i) v of for text = fine-given old (slice_get (marks_of v.column) i) _ is
-        (λ x got. fine-tells _)
-    fine-row ask.null_count v of for text = fine-tells _
-    fine-row ask.all_slots v of for text = fine-asks _ (fine-tells _)
-    fine-row (ask.turns turns) v of for text = fine-asks _ (fine-tells _)
-    fine-row ask.type_of v of for text = fine-asks _ (fine-tells _)
-    fine-row ask.held v of for text = fine-tells _
-    fine-row ask.bytes v of for text = fine-asks _ (fine-tells _)
-    fine-row ask.offsets v of for text = fine-asks _ (fine-tells _)
-    fine-row (ask.slice a n) v of for text = fine-where old _ _ is (λ fit. fine-leaves _ (cut-is c v of a n for))
-    fine-row ask.empty v of for text = fine-gives done None tt
-    fine-row (ask.set_mask mask) v of for text =
+    ruleset fine-rows = (
+      fine-tells,
+      fine-asks,
+      fine-given,
+      fine-copied,
+      fine-leaves,
+      fine-becomes,
+      fine-gives,
+      fine-where,
+      fine-may,
+      fine-extends,
+      tt,
+    )
+
+    ruleset fine-values = (cut-is, frozen-is, thawed-is, nullable-is, fits-slots, nullable-nulls, items-slots, fits-stored)
+
+    fine-transition : (asks : Ask T) (v : Value T) → IsValue c v → (effect c old asks).kinds v.shape ≡ true
+        → IsTextAsk asks → Fine ((effect c old asks).row v)
+    fine-transition (ask.set_mask mask) v of for text =
         fine-where old _ _ is
         (λ fit. fine-becomes _
         (with-mask-is c v of mask (masked-nulls v.shape.group v.shape.value_kind (not (is_boolean v.shape)) for)))
-    fine-row (ask.apply_mask change) v of for text =
+    fine-transition (ask.apply_mask change) v of for text =
         fine-given old (change_of_marks change) _ is (λ of_marks got.
         fine-test v.column.held _ _
         (λ held. fine-becomes _
         (with-mask-is c v of (Some (changed of_marks (marks_of v.column)))
         (masked-nulls v.shape.group v.shape.value_kind (is_var_binary v.shape) for)))
         (λ bare. fine-leaves v of))
-    fine-row (ask.set_values xs) v of for text =
+    fine-transition (ask.set_values xs) v of for text =
         fine-where old (nat_eq (length xs) (length v.column.rows)
         && list_all (fits v.shape.value_kind) xs) _ is (λ both.
         fine-becomes _ (with-stored-is c v of xs
         (fits-stored v.shape.value_kind xs
         (and-second (nat_eq (length xs) (length v.column.rows)) (list_all (fits v.shape.value_kind) xs) both)
         text)))
-    fine-row (ask.apply_values change) v of for text =
+    fine-transition (ask.apply_values change) v of for text =
         fine-where old (change_fits v.shape.value_kind change) _ is (λ fit.
         fine-becomes _ (with-stored-is c v of (changed change (stored_values v.column))
         (changed-stored v.shape.value_kind change (stored_values v.column) fit text (stored-all c v of))))
-    fine-row (ask.set i None) v of for text =
+    fine-transition (ask.set i None) v of for text =
         fine-where old _ _ is
         (λ both. fine-becomes _ (rows-is c v of true (slice_set v.column.rows i (null_in c v, false))
         (set-all (IsRow v.shape.value_kind true) v.column.rows i (null_in c v, false)
@@ -312,7 +315,7 @@ module _ {T : Type 0} (c : Types T) where
         (λ alone. absurd (true≢false (sym alone
         ∙ nullable-nulls v.shape.group v.shape.value_kind
         (and-first (is_nullable v.shape) (not (is_var_binary v.shape)) for))))))
-    fine-row (ask.set i (Some x)) v of for text =
+    fine-transition (ask.set i (Some x)) v of for text =
         fine-where old (nat_lt i (length v.column.rows)
         && fits v.shape.value_kind x) _ is
         (λ both. fine-becomes _ (rows-is c v of v.column.held (slice_set v.column.rows i (x, true))
@@ -326,7 +329,7 @@ module _ {T : Type 0} (c : Types T) where
           marked = λ bare. refl;
         }) of.rows)
         of.unmasked))
-    fine-row (ask.write i x) v of for text =
+    fine-transition (ask.write i x) v of for text =
         fine-where old (nat_lt i (length v.column.rows) && fits v.shape.value_kind x) _ is (λ both.
         fine-may _ old _ is (fine-leaves _ (with-stored-is c v of (slice_set (stored_values v.column) i x)
         (set-all (IsStored v.shape.value_kind) (stored_values v.column) i x
@@ -334,13 +337,13 @@ module _ {T : Type 0} (c : Types T) where
           of_value_kind = and-second (nat_lt i (length v.column.rows)) (fits v.shape.value_kind x) both;
           text = text;
         }) (stored-all c v of)))))
-    fine-row (ask.push x) v of for text =
+    fine-transition (ask.push x) v of for text =
         fine-where old (slot_fits v.shape.value_kind x && (is_nullable v.shape || not (is_none x))) _ is (λ both.
         let fit = and-first (slot_fits v.shape.value_kind x) (is_nullable v.shape || not (is_none x)) both in
         let may = and-second (slot_fits v.shape.value_kind x) (is_nullable v.shape || not (is_none x)) both in
         fine-over old _ _ is (fine-becomes _
         (appended-is c v of x (slot-of v.shape x fit text (nulls-where v.shape x may)))))
-    fine-row ask.push_null v of for text =
+    fine-transition ask.push_null v of for text =
         fine-becomes _ (appended-is c v of (if is_nullable v.shape then None else Some (null_in c v))
         (null-slot v (is_nullable v.shape) refl))
       where
@@ -348,21 +351,13 @@ module _ {T : Type 0} (c : Types T) where
             → IsSlot v.shape (if nullable then None else Some (null_in c v))
         null-slot v true so = nullable-nulls v.shape.group v.shape.value_kind so
         null-slot v false other = default-stored c v.shape.value_kind
-    fine-row ask.pop v of for text =
+    fine-transition ask.pop v of for text =
         let short = rows-is c v of v.column.held (take (length v.column.rows - 1) v.column.rows)
         (All-take (IsRow v.shape.value_kind v.column.held) (length v.column.rows - 1) v.column.rows of.rows)
         of.unmasked in
         fine-test (is_some (last_slot v.column)) _ _ (λ _. fine-copied v _ (fine-gives _ (Some _) short))
         (λ _. fine-gives _ (Some _) short)
-    fine-row (ask.extend xs) v of for text =
-        fine-where old (list_all (slot_fits v.shape.value_kind) xs) _ is
-        (λ fit. fine-extends v of xs
-        (fits-slots v.shape xs (nullable-nulls v.shape.group v.shape.value_kind for) fit text))
-    fine-row (ask.extend_values xs) v of for text =
-        fine-where old (list_all (fits v.shape.value_kind) xs) _ is
-        (λ fit. fine-extends v of (map Some xs)
-        (items-slots v.shape xs (fits-stored v.shape.value_kind xs fit text)))
-    fine-row (ask.extend_constant n None) v of for text =
+    fine-transition (ask.extend_constant n None) v of for text =
         fine-where old true _ is
         (λ fit. fine-becomes _
         (rows-is c v of true (v.column.rows ++ map (λ x. (x, false)) (replicate n (null_in c v)))
@@ -373,7 +368,7 @@ module _ {T : Type 0} (c : Types T) where
         (λ alone. absurd (true≢false (sym alone
         ∙ nullable-nulls v.shape.group v.shape.value_kind
         (and-second (is_native v.shape) (is_nullable v.shape) for))))))
-    fine-row (ask.extend_constant n (Some x)) v of for text =
+    fine-transition (ask.extend_constant n (Some x)) v of for text =
         fine-where old (fits v.shape.value_kind x) _ is
         (λ fit. fine-becomes _
         (rows-is c v of v.column.held (v.column.rows ++ map (λ x. (x, true)) (replicate n x))
@@ -382,28 +377,25 @@ module _ {T : Type 0} (c : Types T) where
         (valued v.shape.value_kind v.column.held (replicate n x)
         (All-replicate (IsStored v.shape.value_kind) n x (record { of_value_kind = fit; text = text }))))
         of.unmasked))
-    fine-row ask.reserve v of for text = fine-becomes v of
-    fine-row ask.shrink v of for text = fine-becomes v of
-    fine-row ask.freeze v of for text = fine-may is_memory None _ tt (fine-leaves _ (frozen-is c v of))
-    fine-row ask.thaw v of for text = fine-may _ old _ is (fine-gives _ (Some (thawed_value v)) (thawed-is c v of))
-    fine-row ask.nullable v of for text = fine-leaves _ (nullable-is c v of for)
-    fine-row (ask.to t) v of for text =
+    fine-transition (ask.to t) v of for text =
         fine-provided old (IsRightType (layout c v.shape.value_kind) t) _ is
         (λ right. fine-becomes _
         (record { right_type = right; around = of.around; rows = of.rows; unmasked = of.unmasked }))
+    -- what is answered alone, or leaves a value that these lemmas are about
+    fine-transition _ v of for text = search (fine-rows, fine-values)
 
-    fine-does : (asked : Ask T) → IsTextAsk asked → Fine (Does c old asked)
-    fine-does asked text = fine-kind old (effect c old asked).kinds (effect c old asked).row is
-        (λ v of for. fine-row asked v of for text)
+    fine-does : (asks : Ask T) → IsTextAsk asks → Fine (Does c old asks)
+    fine-does asks text = fine-kind old (effect c old asks).kinds (effect c old asks).row is
+        (λ v of for. fine-transition asks v of for text)
 
-    fine-joins : (other : Option (Value T)) → IfSome other (IsValue c) → Fine (Joins_to c old other)
+    fine-joins : (other : Option (Value T)) → IfSome other (IsValue c) → Fine (ExtendsFrom c old other)
     fine-joins other also =
-        fine-kind old is_builder (λ v. require_some old other (Joins c old v)) is
-        (λ v of for. fine-given old other (Joins c old v) is (λ w got.
+        fine-kind old is_builder (λ v. require_some old other (AppendsRows c old v)) is
+        (λ v of for. fine-given old other (AppendsRows c old v) is (λ w got.
         fine-where old (same_kind v.shape w.shape) _ is
         (λ same. fine-over old _ _ is (fine-becomes _ (joined-is c v w of (some-is other w got also) same)))))
 
-    fine-compares : (other : Option (Value T)) → Fine (Compares_to old other)
+    fine-compares : (other : Option (Value T)) → Fine (ComparesWith old other)
     fine-compares other =
         fine-kind old is_nullable (λ v. require_some old other (Compares old v)) is
         (λ v of for. fine-given old other (Compares old v) is (λ w got.
@@ -442,7 +434,7 @@ module _ {T : Type 0} (c : Types T) where
       either true = tt
       either false = entry-is state f all
 
-  fine-entry : (state : State T) (e : ℕ) (row : Option (Value T) → rows.Row T) (reply : Answer T) (new : State T)
+  fine-entry : (state : State T) (e : ℕ) (row : Option (Value T) → rows.Transition T) (reply : Answer T) (new : State T)
       → AreValues c state
       → ((old : Option (Value T)) → IfSome old (IsValue c) → Fine (row old)) → AtEntry state e row reply new
       → AreValues c new
@@ -473,13 +465,13 @@ module _ {T : Type 0} (c : Types T) where
           none : (let it : Option (Value T) = None in it) ≡ Some v → ⊥
           none e = cc
 
-  fine-array : (from : Option (Value T)) (row : Value T → rows.Row T) → IfSome from (IsValue c)
+  fine-array : (from : Option (Value T)) (row : Value T → rows.Transition T) → IfSome from (IsValue c)
       → ((v : Value T) → IsValue c v → is_frozen v.shape ≡ true → Fine (row v))
       → Fine (require_some None (array_in from) row)
   fine-array from row is fine = fine-given None (array_in from) row tt
       (λ v got. let found = array-of from v got in fine v (some-is from v found.0 is) found.1)
 
-  fine-puts : (row : rows.Row T) (old : Option (Value T)) → IfSome old (IsValue c) → Fine row → Fine (IntoEmpty row old)
+  fine-puts : (row : rows.Transition T) (old : Option (Value T)) → IfSome old (IsValue c) → Fine row → Fine (IntoEmpty row old)
   fine-puts row old is fine = fine-where old (is_none old) row is (λ _. fine)
 
   pub fine-changes : (state : State T) (asks : Request T) (reply : Answer T) (new : State T) → IsRequest asks
@@ -487,8 +479,8 @@ module _ {T : Type 0} (c : Types T) where
   fine-changes state (make e s source) reply new text all =
       fine-entry state e (IntoEmpty (Makes c s source)) reply new all
       (λ old is. fine-puts (Makes c s source) old is (fine-makes s source text.0 text.1))
-  fine-changes state (at e asked) reply new text all =
-      fine-entry state e (λ old. Does c old asked) reply new all (λ old is. fine-does old is asked text)
+  fine-changes state (at e asks) reply new text all =
+      fine-entry state e (λ old. Does c old asks) reply new all (λ old is. fine-does old is asks text)
   fine-changes state (clone_to e f) reply new text all =
       fine-entry state f (IntoEmpty (Clones (entry_at state e))) reply new all (λ old is.
       fine-puts (Clones (entry_at state e)) old is
@@ -496,10 +488,10 @@ module _ {T : Type 0} (c : Types T) where
       (λ w got. fine-memory None _ tt
       (fine-gives done (Some w) (some-is (entry_at state e) w got (entry-is state e all))))))
   fine-changes state (extend_from e f) reply new text all =
-      fine-entry state e (λ old. Joins_to c old (other_at state e f)) reply new all
+      fine-entry state e (λ old. ExtendsFrom c old (other_at state e f)) reply new all
       (λ old is. fine-joins old is (other_at state e f) (other-is state e f all))
   fine-changes state (equal e f) reply new text all =
-      fine-entry state e (λ old. Compares_to old (entry_at state f)) reply new all
+      fine-entry state e (λ old. ComparesWith old (entry_at state f)) reply new all
       (λ old is. fine-compares old is (entry_at state f))
   fine-changes state (filter_to e f g) reply new text all =
       fine-entry state g (IntoEmpty (Filters (entry_at state e) (entry_at state f))) reply new all (λ old is.
@@ -508,17 +500,17 @@ module _ {T : Type 0} (c : Types T) where
       (λ filter got. fine-array (entry_at state e) (Filtered filter) (entry-is state e all)
       (λ v of array. fine-filtered v of filter array))))
   fine-changes state (take_to e keys g) reply new text all =
-      fine-entry state g (IntoEmpty (Takes c.most keys (entry_at state e))) reply new all (λ old is.
-      fine-puts (Takes c.most keys (entry_at state e)) old is
+      fine-entry state g (IntoEmpty (TakesKeys c.most keys (entry_at state e))) reply new all (λ old is.
+      fine-puts (TakesKeys c.most keys (entry_at state e)) old is
       (fine-array (entry_at state e) (Taken c.most keys) (entry-is state e all)
       (λ v of array. fine-taken v of c.most keys array)))
   fine-changes state (check_indexes keys n) reply new text all = λ h. subst (AreValues c) (sym h.1) all
 
   -- ---- runs
 
-  pub fine-run : (old : Held T) (requests : List (Request T)) (replies : List (Answer T)) (new : Held T)
+  pub fine-run : (old : TableState T) (requests : List (Request T)) (replies : List (Answer T)) (new : TableState T)
       → All IsRequest requests → AreValues c old.entries → IsRun c old requests replies new → AreValues c new.entries
-  fine-run old [] [] new named all run = subst (λ (held : Held T). AreValues c held.entries) (sym run) all
+  fine-run old [] [] new named all run = subst (λ (held : TableState T). AreValues c held.entries) (sym run) all
   fine-run old [] (reply ∷ replies) new named all run = absurd run
   fine-run old (asks ∷ requests) [] new named all run = absurd run
   fine-run old (asks ∷ requests) (reply ∷ replies) new named all run =
@@ -565,16 +557,16 @@ module _ {T : Type 0} where
     fine-both old (narrow asks) reply new named small large h = (
       fine-changes (narrow_types zero primitive) old.narrow.entries asks reply new.narrow.entries named small
           h.0.0,
-      subst (λ (held : Held T). AreValues (wide_types zero primitive) held.entries) (sym h.1) large,
+      subst (λ (held : TableState T). AreValues (wide_types zero primitive) held.entries) (sym h.1) large,
     )
     fine-both old (wide asks) reply new named small large h = (
-      subst (λ (held : Held T). AreValues (narrow_types zero primitive) held.entries) (sym h.1) small,
+      subst (λ (held : TableState T). AreValues (narrow_types zero primitive) held.entries) (sym h.1) small,
       fine-changes
           (wide_types zero primitive) old.wide.entries asks reply new.wide.entries named large h.0.0,
     )
     fine-both old (widen e f) reply new named small large h =
         let c = narrow_types zero primitive in let d = wide_types zero primitive in (
-          subst (λ (held : Held T). AreValues c held.entries) (sym h.2) small,
+          subst (λ (held : TableState T). AreValues c held.entries) (sym h.2) small,
           fine-entry d old.wide.entries f (IntoEmpty (Widens d (entry_at old.narrow.entries e))) reply
               new.wide.entries large
               (λ kept is. fine-puts d (Widens d (entry_at old.narrow.entries e)) kept is
@@ -586,7 +578,7 @@ module _ {T : Type 0} where
               new.narrow.entries small
               (λ kept is. fine-puts d (Narrows d (entry_at old.wide.entries e)) kept is
               (fine-narrows c d (entry_at old.wide.entries e) (entry-is c old.wide.entries e large))) h.0,
-          subst (λ (held : Held T). AreValues c held.entries) (sym h.2) large,
+          subst (λ (held : TableState T). AreValues c held.entries) (sym h.2) large,
         )
 
     pub fine-both-run : (old : Both T) (requests : List (BothRequest T)) (replies : List (Answer T)) (new : Both T)

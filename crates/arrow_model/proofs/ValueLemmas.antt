@@ -21,14 +21,15 @@ use Rattle.arrow_check.specs.Utf8.{IsWellFormed}
 use Rattle.arrow_model.specs.Change.{with_column, cut_value, frozen_value, thawed_value, empty_value, slots_start}
 use Rattle.arrow_model.specs.Change.{null_in, grown}
 use Rattle.arrow_model.specs.Value.{Value, Types, default_type, default_item, layout}
-use Rattle.arrow_model.specs.Item.{Stored, value, bit, bytes_item, bytes_in, fits, slot_fits, ListChange, fill, turn}
+use Rattle.arrow_model.specs.Item.{Stored, value, bit, bytes_item, stored_bytes, fits, slot_fits, ListChange, fill, reversal}
 use Rattle.arrow_model.specs.Item.{changed, change_fits}
 use Rattle.arrow_model.specs.Kind.{Group, frozen, with_nulls, values_alone, ValueKind, native, boolean, var_binary}
 use Rattle.arrow_model.specs.Kind.{Shape, shaped, same_value_kind, same_group, same_kind, is_builder, is_boolean}
 use Rattle.arrow_model.specs.Kind.{is_native, is_frozen, is_nullable, is_var_binary, is_values_alone}
 use Rattle.arrow_model.specs.Parts.{made, marks_in, pieces_tests}
 use Rattle.arrow_model.specs.Request.{Packed}
-use Rattle.arrow_model.specs.Values.{IsText, IsTextChange, IsTextSlot, IsStored, IsRow, IsAround, IsValue}
+use Rattle.arrow_model.specs.Item.{IsText, IsTextChange, IsTextSlot}
+use Rattle.arrow_model.specs.Values.{IsStored, IsRow, IsAround, IsValue}
 use Rattle.arrow_model.proofs.AllLemmas.{and-first, and-second, reverse-all}
 
 -- ---- kinds
@@ -145,7 +146,7 @@ module _ {T : Type 0} (sort : ValueKind) where
       (fits-stored xs (and-second (fits sort x) (list_all (fits sort) xs) fit) (All-tail IsText x xs text))
 
   -- items without bytes
-  bare-bytes : is_var_binary (shaped frozen sort) ≡ false → (x : Stored T) → IsStored sort x → bytes_in x ≡ []
+  bare-bytes : is_var_binary (shaped frozen sort) ≡ false → (x : Stored T) → IsStored sort x → stored_bytes x ≡ []
   bare-bytes plain (value x) is = refl
   bare-bytes plain (bit b) is = refl
   bare-bytes plain (bytes_item text bytes) is = absurd (none sort text plain is.of_value_kind)
@@ -238,7 +239,7 @@ module _ {T : Type 0} (sort : ValueKind) where
       → IsTextChange change → All (IsStored sort) xs → All (IsStored sort) (changed change xs)
   changed-stored (fill x) xs fit text all = All-replicate (IsStored sort) (length xs) x
       (record { of_value_kind = fit; text = text })
-  changed-stored turn xs fit text all = reverse-all (IsStored sort) xs all
+  changed-stored reversal xs fit text all = reverse-all (IsStored sort) xs all
 
 -- ---- what lies around
 
@@ -406,16 +407,16 @@ module _ {T : Type 0} (c : Types T) where
     }
 
     -- a cut: items become part of what lies around, which have no bytes where there is nothing around
-    no-bytes : is_var_binary v.shape ≡ false → All (λ (x : List ℕ). x ≡ []) (map bytes_in (stored_values v.column))
-    no-bytes plain = All-map (λ (x : List ℕ). x ≡ []) bytes_in (stored_values v.column)
-        (All-weaker (IsStored v.shape.value_kind) (λ x. bytes_in x ≡ [])
+    no-bytes : is_var_binary v.shape ≡ false → All (λ (x : List ℕ). x ≡ []) (map stored_bytes (stored_values v.column))
+    no-bytes plain = All-map (λ (x : List ℕ). x ≡ []) stored_bytes (stored_values v.column)
+        (All-weaker (IsStored v.shape.value_kind) (λ x. stored_bytes x ≡ [])
         (λ x stored. bare-bytes v.shape.value_kind plain x stored) (stored_values v.column) stored-all)
 
     pub cut-is : (a n : ℕ) → is_frozen v.shape ≡ true → IsValue c (cut_value v a n)
     cut-is a n array = record {
       right_type = is.right_type;
       around = record {
-        plain = λ plain. let none = is.around.plain plain in let items = map bytes_in (stored_values v.column) in
+        plain = λ plain. let none = is.around.plain plain in let items = map stored_bytes (stored_values v.column) in
             around-again (v.column.around.lead ++ concat (take a items)) (concat (drop (a + n) items)
             ++ v.column.around.tail)
             (ap₂ (λ (a b : List ℕ). a

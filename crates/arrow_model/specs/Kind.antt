@@ -1,5 +1,5 @@
 -- The kinds of entry: what they are, and what they store.
-use Rattle.std.specs.Prelude.{Bool, true, false, not, ◌&&◌, ◌||◌}
+use Rattle.std.specs.Prelude.{◌≡◌, Bool, true, false, not, ◌&&◌, ◌||◌}
 use Rattle.arrow_model.specs.declared.kind.Kind.{Kind}
 use Rattle.arrow_model.specs.declared.kind.Kind.TheVariants as kind
 
@@ -7,7 +7,7 @@ use Rattle.arrow_model.specs.declared.kind.Kind.TheVariants as kind
 pub data Group : Type 0 where
   frozen with_nulls values_alone : Group
 
--- what the slots store: native values, truth values, or bytes, which have to be text or may be any
+-- what the slots store: native values, booleans, or bytes, which have to be text or may be any
 pub data ValueKind : Type 0 where
   native boolean : ValueKind
   var_binary : (is_text : Bool) → ValueKind
@@ -76,3 +76,17 @@ is_var_binary s = not (is_native s || is_boolean s)
 
 abbrev pub is_text : Shape → Bool
 is_text s = same_value_kind s.value_kind (var_binary true)
+
+-- kinds whose stored values are read one by one; whose mask is replaced; and whose mask is changed
+abbrev pub reads_values : Shape → Bool
+reads_values s = is_frozen s || (is_values_alone s || (is_nullable s && is_text s))
+
+abbrev pub sets_mask : Shape → Bool
+sets_mask s = is_frozen s || (is_nullable s && not (is_boolean s))
+
+abbrev pub applies_mask : Shape → Bool
+applies_mask s = is_frozen s || (is_nullable s && is_var_binary s)
+
+-- a kind that there is: only bytes and texts have builders of values alone
+abbrev pub IsKind : Shape → Type 0
+IsKind s = is_values_alone s ≡ true → is_var_binary s ≡ true

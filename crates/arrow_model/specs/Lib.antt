@@ -3,7 +3,7 @@ pub mod Item
 pub mod Request
 pub mod Answer
 pub mod Value
-pub mod Row
+pub mod Transition
 pub mod Parts
 pub mod Change
 pub mod Chosen

@@ -22,14 +22,14 @@ use Rattle.arrow_model.specs.Item.{Stored, value, bit, bytes_item}
 use Rattle.arrow_model.specs.Request.{Packed, RawValues, values, packed, cut_pieces}
 use Rattle.arrow_model.specs.Answer.{Answer, refused, is_memory, is_not_met}
 use Rattle.arrow_model.specs.Value.{Value, Types, layout}
-use Rattle.arrow_model.specs.Row.{Row, leaves, memory, answers, where_true}
+use Rattle.arrow_model.specs.Transition.{Transition, leaves, memory, answers, where_true}
 
 -- the refusal of a type that is not right
-abbrev pub wrong_type : ValueKind → Bool → Refusal
-wrong_type native is_frozen = primitive.wrong_type
-wrong_type boolean is_frozen = if is_frozen then truth.wrong_type else truth.wrong_builder_type
-wrong_type (var_binary false) is_frozen = if is_frozen then wrong_binary_type else wrong_binary_builder_type
-wrong_type (var_binary true) is_frozen = if is_frozen then wrong_text_type else wrong_text_builder_type
+abbrev pub wrong_type_of : ValueKind → Bool → Refusal
+wrong_type_of native is_frozen = primitive.wrong_type
+wrong_type_of boolean is_frozen = if is_frozen then truth.wrong_type else truth.wrong_builder_type
+wrong_type_of (var_binary false) is_frozen = if is_frozen then wrong_binary_type else wrong_binary_builder_type
+wrong_type_of (var_binary true) is_frozen = if is_frozen then wrong_text_type else wrong_text_builder_type
 
 -- bits lie within their bytes; and the marks that they are
 abbrev pub BitsFit : Packed → Type 0
@@ -39,7 +39,7 @@ abbrev pub marks_in : Packed → List Bool
 marks_in p = marks p.bytes 0 p.length
 
 -- what passes all tests makes this value; else the refusal is that of the first test that fails, and nothing is made
-abbrev pub accepted : {T : Type 0} → Tests → Value T → Row T
+abbrev pub accepted : {T : Type 0} → Tests → Value T → Transition T
 accepted tests made reply new =
     (Passes tests × leaves made reply new) ⊎ ((why : Refusal) × IsFirstFailure tests why
     × answers None (refused why) reply new)
@@ -61,29 +61,29 @@ boolean_tests values_alone = truth.builder_tests
 module _ {T : Type 0} (c : Types T) where
   abbrev pub pieces_tests : Group → Bool → LogicalType → List ℕ → List ℕ → Option (List Bool) → Tests
   pieces_tests frozen text = byte_array.array_tests text (layout c (var_binary text))
-      (wrong_type (var_binary text) true)
+      (wrong_type_of (var_binary text) true)
   pieces_tests with_nulls text = byte_array.builder_tests text (layout c (var_binary text))
-      (wrong_type (var_binary text) false)
+      (wrong_type_of (var_binary text) false)
   pieces_tests values_alone text = λ t offsets held mask. byte_array.values_builder_tests text
-      (layout c (var_binary text)) (wrong_type (var_binary text) false) t offsets held
+      (layout c (var_binary text)) (wrong_type_of (var_binary text) false) t offsets held
 
   module _ (s : Shape) (t : LogicalType) (mask : Option Packed) where
     -- the value that they make
     abbrev pub made : Around → List (Stored T) → Value T
     made around stored = record { shape = s; column = column_with t around stored (option_map marks_in mask) }
 
-    -- raw stored values have to be of the kind's own sort, and a builder of values alone has no mask
-    abbrev pub PartsRow : RawValues T → Row T
-    PartsRow (values xs) =
+    -- raw stored values have to be of the kind's own value kind, and a builder of values alone has no mask
+    abbrev pub PartsTransition : RawValues T → Transition T
+    PartsTransition (values xs) =
         where_true None (is_native s)
         (memory None (accepted (bits_test mask (primitive.parts_tests c.primitive t xs (option_map marks_in mask)))
         (made nothing_around (map value xs))))
-    PartsRow (packed p) =
+    PartsTransition (packed p) =
         where_true None (is_boolean s)
         (memory None (accepted
         (bits_test (Some p) (bits_test mask (boolean_tests s.group t (marks_in p) (option_map marks_in mask))))
         (made nothing_around (map bit (marks_in p)))))
-    PartsRow (cut_pieces numbers held) =
+    PartsTransition (cut_pieces numbers held) =
         let offsets = map unsigned_abs numbers in
         where_true None (is_var_binary s && (not (is_values_alone s) || is_none mask))
         (memory None (accepted

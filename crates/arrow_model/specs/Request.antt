@@ -1,5 +1,5 @@
--- Commands, apart from where their items lie.
-use Rattle.std.specs.Prelude.{ℕ, ℤ, Bool, List, map, Option, option_map}
+-- Commands, apart from where their items lie; and which requests there are.
+use Rattle.std.specs.Prelude.{⊤, ℕ, ℤ, Bool, List, All, map, Option, option_map}
 use Rattle.arrow_types.specs.Types.{LogicalType, logical_type}
 use Rattle.arrow_model.specs.declared.item.Turn.{Turn}
 use Rattle.arrow_model.specs.declared.command.Command.{Command}
@@ -8,8 +8,8 @@ use Rattle.arrow_model.specs.declared.command.Bits.{Bits}
 use Rattle.arrow_model.specs.declared.command.Parts.{Parts}
 use Rattle.arrow_model.specs.declared.command.Raw.{Raw}
 use Rattle.arrow_model.specs.declared.command.Raw.TheVariants as raw
-use Rattle.arrow_model.specs.Kind.{Shape, shape}
-use Rattle.arrow_model.specs.Item.{Stored, ListChange, stored_item, stored_slot, change_of}
+use Rattle.arrow_model.specs.Kind.{Shape, shape, IsKind}
+use Rattle.arrow_model.specs.Item.{Stored, ListChange, stored_item, stored_slot, change_of, IsText, IsTextSlot, IsTextChange}
 
 -- packed bits: their bytes, and how many count
 pub record Packed : Type 0 where
@@ -69,50 +69,73 @@ module _ {T O : Type 0} (number : O → ℤ) where
   abbrev pub source_of : Parts T O → Source T
   source_of p = parts (logical_type p.data_type) (given_by p.raw) (option_map packed_bits p.mask)
 
-  abbrev pub parts_asked : ℕ → Parts T O → Request T
-  parts_asked e p = make e (shape p.kind) (source_of p)
+  abbrev pub parts_request : ℕ → Parts T O → Request T
+  parts_request e p = make e (shape p.kind) (source_of p)
 
   -- what a command asks
-  abbrev pub asked : Command T O → Request T
-  asked (command.New e kind) = make e (shape kind) nothing
-  asked (command.NewNull e kind t n) = make e (shape kind) (nulls (logical_type t) n)
-  asked (command.Parts e p) = parts_asked e p
-  asked (command.FromSlots e kind xs) = make e (shape kind) (slots (map stored_slot xs.items))
-  asked (command.FromItems e kind xs) = make e (shape kind) (items (map stored_item xs.items))
-  asked (command.Len e) = at e len
-  asked (command.Value e i) = at e (value i)
-  asked (command.Get e i) = at e (get i)
-  asked (command.IsNull e i) = at e (is_null i)
-  asked (command.NullCount e) = at e null_count
-  asked (command.Slots e) = at e all_slots
-  asked (command.Turns e ts) = at e (turns ts.items)
-  asked (command.TypeOf e) = at e type_of
-  asked (command.Held e) = at e held
-  asked (command.Bytes e) = at e bytes
-  asked (command.Offsets e) = at e offsets
-  asked (command.Slice e a n) = at e (slice a n)
-  asked (command.Clone e f) = clone_to e f
-  asked (command.Drop e) = at e empty
-  asked (command.SetMask e mask) = at e (set_mask (option_map (λ marks. marks.items) mask))
-  asked (command.ApplyMask e change) = at e (apply_mask (change_of change))
-  asked (command.SetValues e xs) = at e (set_values (map stored_item xs.items))
-  asked (command.ApplyValues e change) = at e (apply_values (change_of change))
-  asked (command.Set e i x) = at e (set i (stored_slot x))
-  asked (command.Write e i x) = at e (write i (stored_item x))
-  asked (command.Push e x) = at e (push (stored_slot x))
-  asked (command.PushNull e) = at e push_null
-  asked (command.Pop e) = at e pop
-  asked (command.Extend e xs) = at e (extend (map stored_slot xs.items))
-  asked (command.ExtendValues e xs) = at e (extend_values (map stored_item xs.items))
-  asked (command.ExtendConstant e n x) = at e (extend_constant n (stored_slot x))
-  asked (command.ExtendFromSelf e f) = extend_from e f
-  asked (command.Reserve e n b) = at e reserve
-  asked (command.Shrink e) = at e shrink
-  asked (command.Freeze e) = at e freeze
-  asked (command.Thaw e) = at e thaw
-  asked (command.Nullable e) = at e nullable
-  asked (command.To e t) = at e (to (logical_type t))
-  asked (command.Equal e f) = equal e f
-  asked (command.Filter e f g) = filter_to e f g
-  asked (command.Take e keys g) = take_to e keys.items g
-  asked (command.CheckIndexes keys n) = check_indexes keys.items n
+  abbrev pub as_request : Command T O → Request T
+  as_request (command.New e kind) = make e (shape kind) nothing
+  as_request (command.NewNull e kind t n) = make e (shape kind) (nulls (logical_type t) n)
+  as_request (command.Parts e p) = parts_request e p
+  as_request (command.FromSlots e kind xs) = make e (shape kind) (slots (map stored_slot xs.items))
+  as_request (command.FromItems e kind xs) = make e (shape kind) (items (map stored_item xs.items))
+  as_request (command.Len e) = at e len
+  as_request (command.Value e i) = at e (value i)
+  as_request (command.Get e i) = at e (get i)
+  as_request (command.IsNull e i) = at e (is_null i)
+  as_request (command.NullCount e) = at e null_count
+  as_request (command.Slots e) = at e all_slots
+  as_request (command.Turns e ts) = at e (turns ts.items)
+  as_request (command.TypeOf e) = at e type_of
+  as_request (command.Held e) = at e held
+  as_request (command.Bytes e) = at e bytes
+  as_request (command.Offsets e) = at e offsets
+  as_request (command.Slice e a n) = at e (slice a n)
+  as_request (command.Clone e f) = clone_to e f
+  as_request (command.Drop e) = at e empty
+  as_request (command.SetMask e mask) = at e (set_mask (option_map (λ marks. marks.items) mask))
+  as_request (command.ApplyMask e change) = at e (apply_mask (change_of change))
+  as_request (command.SetValues e xs) = at e (set_values (map stored_item xs.items))
+  as_request (command.ApplyValues e change) = at e (apply_values (change_of change))
+  as_request (command.Set e i x) = at e (set i (stored_slot x))
+  as_request (command.Write e i x) = at e (write i (stored_item x))
+  as_request (command.Push e x) = at e (push (stored_slot x))
+  as_request (command.PushNull e) = at e push_null
+  as_request (command.Pop e) = at e pop
+  as_request (command.Extend e xs) = at e (extend (map stored_slot xs.items))
+  as_request (command.ExtendValues e xs) = at e (extend_values (map stored_item xs.items))
+  as_request (command.ExtendConstant e n x) = at e (extend_constant n (stored_slot x))
+  as_request (command.ExtendFromSelf e f) = extend_from e f
+  as_request (command.Reserve e n b) = at e reserve
+  as_request (command.Shrink e) = at e shrink
+  as_request (command.Freeze e) = at e freeze
+  as_request (command.Thaw e) = at e thaw
+  as_request (command.Nullable e) = at e nullable
+  as_request (command.To e t) = at e (to (logical_type t))
+  as_request (command.Equal e f) = equal e f
+  as_request (command.Filter e f g) = filter_to e f g
+  as_request (command.Take e keys g) = take_to e keys.items g
+  as_request (command.CheckIndexes keys n) = check_indexes keys.items n
+
+-- the text that a source, or a command on one entry, names is UTF-8; and so is that of a request, whose kind exists
+module _ {T : Type 0} where
+  abbrev pub IsTextSource : Source T → Type 0
+  IsTextSource (slots xs) = All IsTextSlot xs
+  IsTextSource (items xs) = All IsText xs
+  IsTextSource _ = ⊤
+
+  abbrev pub IsTextAsk : Ask T → Type 0
+  IsTextAsk (set_values xs) = All IsText xs
+  IsTextAsk (apply_values change) = IsTextChange change
+  IsTextAsk (set i x) = IsTextSlot x
+  IsTextAsk (write i x) = IsText x
+  IsTextAsk (push x) = IsTextSlot x
+  IsTextAsk (extend xs) = All IsTextSlot xs
+  IsTextAsk (extend_values xs) = All IsText xs
+  IsTextAsk (extend_constant n x) = IsTextSlot x
+  IsTextAsk _ = ⊤
+
+  abbrev pub IsRequest : Request T → Type 0
+  IsRequest (make e s source) = IsKind s × IsTextSource source
+  IsRequest (at e asks) = IsTextAsk asks
+  IsRequest _ = ⊤

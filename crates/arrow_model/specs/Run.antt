@@ -1,12 +1,12 @@
 -- What a list of commands does: one step after the other; and what its tests of text cost in all.
-use Rattle.std.specs.Prelude.{◌≡◌, ℤ, ℕ, ◌+◌, ◌-◌, Bool, true, false, List, [], ◌∷◌, ◌++◌, length, map, if◌then◌else◌}
+use Rattle.std.specs.Prelude.{◌≡◌, ℕ, ℤ, ◌+◌, ◌-◌, Bool, true, false, List, [], ◌∷◌, ◌++◌, length, map, if◌then◌else◌}
 use Rattle.arrow_check.specs.Reading.{Cost, RisesAtMost}
 use Rattle.arrow_model.specs.declared.command.Command.{Command}
 use Rattle.arrow_model.specs.declared.reply.Reply.{Reply}
 use Rattle.arrow_model.specs.Kind.{is_text}
-use Rattle.arrow_model.specs.Request.{Request, asked, make, parts, cut_pieces}
+use Rattle.arrow_model.specs.Request.{Request, as_request, make, parts, cut_pieces}
 use Rattle.arrow_model.specs.Answer.{Answer, answer_of}
-use Rattle.arrow_model.specs.Value.{Held, Types}
+use Rattle.arrow_model.specs.Value.{TableState, Types, NativeMembers, OffsetMembers, types_of}
 use Rattle.arrow_model.specs.Step.{IsStep}
 
 -- commands, with a reply for each, lead from one state to another by such steps
@@ -19,15 +19,13 @@ Runs {S} Step state (command ∷ commands) (reply ∷ replies) new = (next : S) 
 
 module _ {T : Type 0} (c : Types T) where
   -- commands, with an answer for each, lead from one table to another
-  abbrev pub IsRun : Held T → List (Request T) → List (Answer T) → Held T → Type 0
+  abbrev pub IsRun : TableState T → List (Request T) → List (Answer T) → TableState T → Type 0
   IsRun = Runs (IsStep c)
 
-  -- the replies of such a run are appended to those that were there
-  abbrev pub AppendsRun : {O : Type 0} → (O → ℤ) → Held T → List (Command T O) → List (Reply T) → List (Reply T)
-      → Held T → Type 0
-  AppendsRun number table commands before after new =
-      (replies : List (Reply T)) × (after ≡ before ++ replies)
-      × IsRun table (map (asked number) commands) (map answer_of replies) new
+-- commands lead from one state to another by such steps, and the replies are appended to those that were there
+abbrev pub RunAppends : {S C A : Type 0} → (S → C → A → S → Type 0) → S → List C → List A → List A → S → Type 0
+RunAppends {S} {C} {A} Step old commands before after new =
+    (replies : List A) × (after ≡ before ++ replies) × Runs Step old commands replies new
 
 -- only raw parts are tested
 abbrev pub is_parts : {T : Type 0} → Request T → Bool
@@ -35,22 +33,38 @@ is_parts (make e s (parts t raw mask)) = true
 is_parts _ = false
 
 -- how many texts a command may test, and how many offsets stand between their slots
-abbrev pub texts_of : {T : Type 0} → Request T → ℕ
-texts_of (make e s (parts t (cut_pieces starts held) mask)) = if is_text s then 1 else 0
-texts_of _ = 0
+abbrev pub tested_texts : {T : Type 0} → Request T → ℕ
+tested_texts (make e s (parts t (cut_pieces numbers bytes) mask)) = if is_text s then 1 else 0
+tested_texts _ = 0
 
-abbrev pub inner_offsets_of : {T : Type 0} → Request T → ℕ
-inner_offsets_of (make e s (parts t (cut_pieces starts held) mask)) = if is_text s then length starts - 2 else 0
-inner_offsets_of _ = 0
+abbrev pub inner_offsets : {T : Type 0} → Request T → ℕ
+inner_offsets (make e s (parts t (cut_pieces numbers bytes) mask)) = if is_text s then length numbers - 2 else 0
+inner_offsets _ = 0
 
 -- the sum over a list of commands
-abbrev pub total : {T : Type 0} → (Request T → ℕ) → List (Request T) → ℕ
-total measure [] = 0
-total measure (command ∷ commands) = measure command + total measure commands
+abbrev pub sum_over : {T : Type 0} → (Request T → ℕ) → List (Request T) → ℕ
+sum_over measure [] = 0
+sum_over measure (command ∷ commands) = measure command + sum_over measure commands
 
 -- what a list of commands costs at most: of each text's parts one test whether bytes are ASCII, one test whether they
 -- are UTF-8, and one look for each offset between two slots
 pub record CostsAtMost {T : Type 0} (commands : List (Request T)) (old new : Cost) : Type 0 where
-  pub ascii : RisesAtMost (total texts_of commands) old.ascii_tests new.ascii_tests
-  pub whole : RisesAtMost (total texts_of commands) old.whole_tests new.whole_tests
-  pub looked : RisesAtMost (total inner_offsets_of commands) old.bytes_looked new.bytes_looked
+  pub ascii : RisesAtMost (sum_over tested_texts commands) old.ascii_tests new.ascii_tests
+  pub whole : RisesAtMost (sum_over tested_texts commands) old.whole_tests new.whole_tests
+  pub looked : RisesAtMost (sum_over inner_offsets commands) old.bytes_looked new.bytes_looked
+
+-- what a command does to a table, with what it costs at most
+abbrev pub CostedStep : {T O : Type 0} → Types T → (O → ℤ) → TableState T → Command T O → Reply T → TableState T → Type 0
+CostedStep c number old command reply new =
+    IsStep c old (as_request number command) (answer_of reply) new
+    × CostsAtMost (as_request number command ∷ []) old.cost new.cost
+
+-- the same in a contract; and what a list of commands does, whose replies are appended to those that were there
+module _ {T O : Type 0} (natives : NativeMembers T) (offset : OffsetMembers O) where
+  abbrev pub CommandStep : TableState T → Command T O → Reply T → TableState T → Type 0
+  CommandStep = CostedStep (types_of natives offset) offset.number
+
+  abbrev pub IsTableRun : TableState T → List (Command T O) → List (Reply T) → List (Reply T) → TableState T → Type 0
+  IsTableRun table commands before after new =
+      (replies : List (Reply T)) × (after ≡ before ++ replies)
+      × IsRun (types_of natives offset) table (map (as_request offset.number) commands) (map answer_of replies) new

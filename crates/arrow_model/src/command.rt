@@ -3,7 +3,7 @@ use crate::item::{Change, Item, Turn};
 use crate::kind::Kind;
 use arrow_types::data_type::DataType;
 
-/// Packed marks or truth values.
+/// Packed marks or booleans.
 #[derive(Drop)]
 pub struct Bits {
     /// The bytes.
@@ -17,7 +17,7 @@ pub struct Bits {
 pub enum Raw<T, O> {
     /// Native values.
     Values(Vec<T>),
-    /// Truth values.
+    /// Booleans.
     Bits(Bits),
     /// Offsets and bytes.
     Pieces(Vec<O>, Vec<u8>),
@@ -51,11 +51,11 @@ pub enum Command<T, O> {
     FromItems(usize, Kind, Vec<Item<T>>),
     /// The number of slots.
     Len(usize),
-    /// What the slot at a place stores, also if it is null.
+    /// What the slot at an index stores, also if it is null.
     Value(usize, usize),
-    /// The slot at a place of an array.
+    /// The slot of an array at an index.
     Get(usize, usize),
-    /// Whether the slot at a place of an array is null.
+    /// Whether the slot of an array at an index is null.
     IsNull(usize, usize),
     /// The number of nulls of an array.
     NullCount(usize),
@@ -117,7 +117,7 @@ pub enum Command<T, O> {
     To(usize, DataType),
     /// Whether two builders with nulls have the same slots.
     Equal(usize, usize),
-    /// Filters the array in the first entry by the truth values in the second, as many, into the third, which is empty.
+    /// Filters the array in the first entry by the booleans in the second, as many, into the third, which is empty.
     Filter(usize, usize, usize),
     /// Takes the rows at keys of the array in the first entry into the second, which is empty.
     Take(usize, Vec<i64>, usize),

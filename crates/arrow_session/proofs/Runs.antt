@@ -1,4 +1,4 @@
--- Lemmas on runs, and on the answers that a text has.
+-- Lemmas on runs of the lines of an input.
 use Rattle.std.proofs.Common.{◌≡◌, ℕ, ◌+◌, List, [], ◌∷◌, ◌++◌, sym, ap, subst, refl, ◌∙◌, Bool, true, false, ℤ, pos}
 use Rattle.std.specs.Option.{option_to_list}
 use Rattle.std.proofs.lemmas.Grind.{flat_map-append}
@@ -6,12 +6,12 @@ use Rattle.arrow_types.specs.declared.primitive_type.PrimitiveType.TheVariants.{
 use Rattle.arrow_model.specs.Answer.{Answer}
 use Rattle.arrow_model.specs.Both.{Both, BothRequest, IsBothStep}
 use Rattle.arrow_model.specs.Run.{Runs}
-use Rattle.arrow_interpreter.specs.Replies.{IsProgramRun, at_first, AppendsRun}
+use Rattle.arrow_interpreter.specs.Replies.{IsProgramRun, at_first, AppendsAnswers}
 use Rattle.arrow_syntax.specs.Lines.{bad_line, commands_of, asked_in, is_bad}
 use Rattle.arrow_session.specs.Session.{AreCommands, IsAnswer}
-use Rattle.arrow_syntax.specs.Text.{text_of}
+use Rattle.arrow_syntax.specs.Text.{answers_text}
 use Rattle.arrow_syntax.specs.Words.{lines_of}
-use Rattle.arrow_session.proofs.Reading.{reading_from, commands_of_is, reads_good, reads_bad, reads_all}
+use Rattle.arrow_session.proofs.Parsing.{parsed_from, commands_of_is, reads_good, reads_bad, reads_all}
 
 module _ {S C A : Type 0} (Step : S → C → A → S → Type 0) where
   -- a run, and then another
@@ -23,17 +23,16 @@ module _ {S C A : Type 0} (Step : S → C → A → S → Type 0) where
   runs_joined s m n (x ∷ first) others (r
       ∷ replies) answers h run = (h.0, h.1, runs_joined h.0 m n first others replies answers h.2 run)
 
--- so far: of these lines are left, behind some requests
+-- the state of the first pass: the number of the next line, and the lines left
 unfoldable pub IsReadTo : List ℕ → ℕ → List (List ℕ) → Type 0
-IsReadTo input n rest = (commands : List (BothRequest ℤ)) × (commands_of input ≡ reading_from n commands rest)
+IsReadTo input n rest = (commands : List (BothRequest ℤ)) × (commands_of input ≡ parsed_from n commands rest)
 
--- so far: the requests that were read, of which these lines are left, were run and left these tables, and their
--- answers are this text
+-- the state of the second pass: the lines left, and the tables and the text after a run of the requests before them
 unfoldable pub IsRunTo : List ℕ → List (List ℕ) → Both ℤ → List ℕ → Type 0
 IsRunTo input rest table text =
     (n : ℕ) × (commands : List (BothRequest ℤ)) × (answers : List (Answer ℤ))
-    × (commands_of input ≡ reading_from n commands rest) × IsProgramRun at_first commands answers table
-    × (text ≡ text_of answers)
+    × (commands_of input ≡ parsed_from n commands rest) × IsProgramRun at_first commands answers table
+    × (text ≡ answers_text answers)
 
 module _ (input : List ℕ) where
   pub read_none : IsReadTo input 1 (lines_of input)
@@ -63,7 +62,7 @@ module _ (input : List ℕ) where
     read_bad n e h = h.1 ∙ reads_bad n h.0 line rest e
 
     module _ (table : Both ℤ) (text : List ℕ) where
-      -- where each line is a command, so is the next
+      -- if all lines are commands, the next one is
       pub run_next : AreCommands input → IsRunTo input (line ∷ rest) table text → is_bad line ≡ false
       unfolding IsRunTo
       run_next all h = by_test (is_bad line) refl
@@ -73,7 +72,7 @@ module _ (input : List ℕ) where
           by_test false e = refl
 
       pub run_good : (later : Both ℤ) (grown : List ℕ) → is_bad line ≡ false
-          → AppendsRun (option_to_list (asked_in line)) table later text grown
+          → AppendsAnswers (option_to_list (asked_in line)) table later text grown
           → IsRunTo input (line ∷ rest) table text → IsRunTo input rest later grown
       unfolding IsRunTo
       run_good later grown e adds h = (
@@ -83,5 +82,5 @@ module _ (input : List ℕ) where
         h.3 ∙ reads_good h.0 h.1 line rest e,
         runs_joined (IsBothStep (pos 0) Int64) at_first table later h.1 (option_to_list (asked_in line)) h.2 adds.0
             h.4 adds.1,
-        adds.2 ∙ ap (λ before. before ++ text_of adds.0) h.5 ∙ sym (flat_map-append _ h.2 adds.0),
+        adds.2 ∙ ap (λ before. before ++ answers_text adds.0) h.5 ∙ sym (flat_map-append _ h.2 adds.0),
       )

@@ -1,8 +1,7 @@
 //! Reads of a whole input and writes of a whole text, over devices that may fail.
-ghost use Rattle.std.specs.Prelude.{◌≡◌, ◌-◌, ◌^◌, ◌<◌, ◌≤◌, IfOk, OnErr, IsErrOf, length, vec_len, OnOk};
-ghost use Rattle.std.specs.Prelude.{IsFalse, take};
+ghost use Rattle.std.specs.Prelude.{◌≡◌, ◌<◌, ◌≤◌, IfOk, IsErrOf, IsFalse, OnErr, OnOk, length, take, vec_len};
 ghost use Rattle.std.specs.Io.KnownBytes.{Appends, Keeps};
-ghost use Rattle.arrow_session.specs.Counted.{inside, fault_count, found_end, Rose};
+ghost use Rattle.arrow_session.specs.Counted.{Faulted, KeepsEnd, UnlessFaulted, fault_count, inside};
 ghost use Rattle.arrow_session.specs.Device.{Takes, IsWhole, PutsFront};
 
 use crate::counted::Counted;
@@ -42,14 +41,14 @@ fn read_piece<R: Read>(
     bytes: &mut Vec<u8>,
 ) -> Result<bool, Fault>
     requires { 0 < length piece.old }
-    ensures taken { let before = R.remaining (inside input.old) in let after = R.remaining (inside input.new) in
-        IfOk result (λ is_end. Takes before after bytes.old.items bytes.new.items is_end) }
-    ensures more { IfOk result (λ is_end. IsFalse is_end → fault_count input.old < 2 ^ 64 - 1
-        → fault_count input.new ≡ fault_count input.old → vec_len bytes.old < vec_len bytes.new) }
+    ensures taken { IfOk result
+        (Takes (R.remaining (inside input.old)) (R.remaining (inside input.new)) bytes.old.items bytes.new.items) }
+    ensures more { IfOk result (λ is_end.
+        IsFalse is_end → UnlessFaulted input.old input.new (vec_len bytes.old < vec_len bytes.new)) }
     ensures never_less { fault_count input.old ≤ fault_count input.new }
-    ensures before_end { IfOk result (λ is_end. IsFalse is_end → found_end input.new ≡ found_end input.old) }
-    ensures device { IsErrOf result Fault.Device → Rose (fault_count input.old) (fault_count input.new) }
-    ensures memory { IsErrOf result Fault.Memory → found_end input.new ≡ found_end input.old }
+    ensures before_end { IfOk result (λ is_end. IsFalse is_end → KeepsEnd input.old input.new) }
+    ensures device { IsErrOf result Fault.Device → Faulted input.old input.new }
+    ensures memory { IsErrOf result Fault.Memory → KeepsEnd input.old input.new }
 {
     match input.read(piece) {
         Ok(0) => Ok(true),
@@ -74,10 +73,10 @@ fn room(alloc: Global, len: usize) -> Result<Vec<u8>, AllocError>
 /// # Errors
 /// Returns `Fault::Device` if a read fails, and `Fault::Memory` if an allocation fails before the end is found.
 pub(crate) fn read_all<R: Read>(alloc: Global, input: &mut Counted<R>) -> Result<Vec<u8>, Fault>
-    ensures whole { let before = R.remaining (inside input.old) in let after = R.remaining (inside input.new) in
-        IfOk result (λ bytes. IsWhole before after bytes.items) }
-    ensures device { IsErrOf result Fault.Device → Rose (fault_count input.old) (fault_count input.new) }
-    ensures memory { IsErrOf result Fault.Memory → found_end input.new ≡ found_end input.old }
+    ensures whole { IfOk result (λ bytes.
+        IsWhole (R.remaining (inside input.old)) (R.remaining (inside input.new)) bytes.items) }
+    ensures device { IsErrOf result Fault.Device → Faulted input.old input.new }
+    ensures memory { IsErrOf result Fault.Memory → KeepsEnd input.old input.new }
 {
     let mut piece = room(alloc, PIECE)?;
     let mut bytes = Vec::new(alloc);
@@ -93,13 +92,12 @@ pub(crate) fn read_all<R: Read>(alloc: Global, input: &mut Counted<R>) -> Result
 fn write_piece<W: Write>(output: &mut Counted<W>, text: &[u8]) -> Result<usize, DeviceFault>
     requires { 0 < length text.now }
     ensures within { IfOk result (λ count. count ≤ length text.now) }
-    ensures taken { let before = W.contents (inside output.old) in let after = W.contents (inside output.new) in
-        IfOk result (λ count. Appends before after (take count text.now)) }
-    ensures more { IfOk result (λ count. fault_count output.old < 2 ^ 64 - 1
-        → fault_count output.new ≡ fault_count output.old → 0 < count) }
+    ensures taken { IfOk result (λ count.
+        Appends (W.contents (inside output.old)) (W.contents (inside output.new)) (take count text.now)) }
+    ensures more { IfOk result (λ count. UnlessFaulted output.old output.new (0 < count)) }
     ensures never_less { fault_count output.old ≤ fault_count output.new }
     ensures kept { OnErr result (Keeps (W.contents (inside output.old)) (W.contents (inside output.new))) }
-    ensures device { OnErr result (Rose (fault_count output.old) (fault_count output.new)) }
+    ensures device { OnErr result (Faulted output.old output.new) }
 {
     match output.write(text) {
         Ok(0) => Err(DeviceFault),
@@ -117,7 +115,7 @@ fn write_all<W: Write>(output: &mut Counted<W>, text: &[u8]) -> Result<(), Devic
     ensures whole { OnOk result (Appends (W.contents (inside output.old)) (W.contents (inside output.new)) text.now) }
     ensures front { PutsFront (W.contents (inside output.old)) (W.contents (inside output.new)) text.now }
     ensures never_less { fault_count output.old ≤ fault_count output.new }
-    ensures device { OnErr result (Rose (fault_count output.old) (fault_count output.new)) }
+    ensures device { OnErr result (Faulted output.old output.new) }
 {
     let mut rest = text;
     for _ in 0..u64::MAX {
@@ -137,7 +135,7 @@ fn write_all<W: Write>(output: &mut Counted<W>, text: &[u8]) -> Result<(), Devic
 pub(crate) fn send<W: Write>(output: &mut Counted<W>, text: &[u8]) -> Result<(), DeviceFault>
     ensures whole { OnOk result (Appends (W.contents (inside output.old)) (W.contents (inside output.new)) text.now) }
     ensures front { PutsFront (W.contents (inside output.old)) (W.contents (inside output.new)) text.now }
-    ensures device { OnErr result (Rose (fault_count output.old) (fault_count output.new)) }
+    ensures device { OnErr result (Faulted output.old output.new) }
 {
     write_all(output, text)?;
     match output.flush() {

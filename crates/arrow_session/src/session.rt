@@ -1,8 +1,8 @@
 //! A session: the input is read, every line is tested, the commands are run, and then the replies are written.
 ghost use Rattle.std.specs.Prelude.{◌≡◌, IfErr, IfOk, IfSome, MatchOption, ◌⊎◌, string_bytes};
-ghost use Rattle.arrow_session.specs.Counted.{inside, fault_count, found_end, Rose};
+ghost use Rattle.arrow_session.specs.Counted.{Faulted, KeepsEnd, inside};
 ghost use Rattle.arrow_syntax.specs.Lines.{bad_line, commands_of};
-ghost use Rattle.arrow_session.specs.Session.{AreCommands, Ends, IsAnswer, IsStop};
+ghost use Rattle.arrow_session.specs.Session.{AreCommands, EndsKnown, IsAnswer, IsStop};
 
 use crate::counted::Counted;
 use crate::device::{DeviceFault, Fault, read_all, send};
@@ -79,13 +79,11 @@ pub fn session<R: Read, W: Write>(
     output: &mut Counted<W>,
 ) -> Outcome
     // Where the bytes of the reader and the writer are known.
-    ensures known { IfSome (R.remaining (inside input.old)) (λ bytes. IfSome (W.contents (inside output.old)) (λ held.
-        Ends bytes (R.remaining (inside input.new)) held (W.contents (inside output.new)) result)) }
-    ensures device { result ≡ Outcome.Device →
-        Rose (fault_count input.old) (fault_count input.new) ⊎ Rose (fault_count output.old) (fault_count output.new) }
+    ensures known { EndsKnown R.remaining W.contents input.old input.new output.old output.new result }
+    ensures device { result ≡ Outcome.Device → Faulted input.old input.new ⊎ Faulted output.old output.new }
     // Only a refusal before the end of the input was found hides a line that is not a command.
-    ensures memory { result ≡ Outcome.Memory → (found_end input.new ≡ found_end input.old)
-        ⊎ IfSome (R.remaining (inside input.old)) AreCommands }
+    ensures memory { result ≡ Outcome.Memory →
+        KeepsEnd input.old input.new ⊎ IfSome (R.remaining (inside input.old)) AreCommands }
 {
     let bytes = match read_all(alloc, input) {
         Ok(bytes) => bytes,

@@ -2,8 +2,8 @@
 
 -- parts that are joined by spaces: the first, and then a space before each other one
 pub use Rattle.arrow_syntax.proofs.Joined.{joined}
--- a loop over the lines of a text, in which `split_line` gives what follows: how much that is, which is the loop's
--- measure, and that it is shorter than what stood before
+-- for a loop over the lines of a text by `split_line`: the length of the text that follows, which is the loop's measure,
+-- and that it is shorter than the text before
 pub use Rattle.arrow_syntax.proofs.Pieces.{after_shorter, length_after}
--- what is made of words is there where what they say is
+-- a reader whose value is converted reads the same words
 pub use Rattle.arrow_syntax.proofs.Each.{reads_some}

@@ -7,7 +7,7 @@ use Rattle.std.specs.Result.{result_ok}
 use Rattle.hex.specs.Hex.{decode_pairs, digit_or_error, hex_digit_value, is_hex_digit, ◌>>=◌}
 use Rattle.hex.specs.declared.error.FromHexError.{FromHexError}
 use Rattle.hex.proofs.HexLemmas.{decode_of-even, decode_of-odd}
-use Rattle.arrow_syntax.specs.Fields.{bytes_in}
+use Rattle.arrow_syntax.specs.Fields.{hex_bytes}
 
 -- the byte of two digits, before others
 abbrev pub joined_pair : Option ℕ → Option ℕ → Option (List ℕ) → Option (List ℕ)
@@ -15,7 +15,7 @@ joined_pair None low others = None
 joined_pair (Some a) None others = None
 joined_pair (Some a) (Some b) others = option_map (λ bytes. (a * 16 + b) ∷ bytes) others
 
--- the bytes that pairs of digits write
+-- the bytes of pairs of digits
 abbrev pub pairs : List ℕ → Option (List ℕ)
 pairs [] = Some []
 pairs (x ∷ []) = None
@@ -50,11 +50,11 @@ odd_pairs (x ∷ []) odd = refl
 odd_pairs (x ∷ y ∷ rest) odd = no_others (hex_digit_value x) (hex_digit_value y) (pairs rest)
     (odd_pairs rest (omega arith))
 
--- what digits write is what their pairs do
-pub bytes_are_pairs : (digits : List ℕ) → bytes_in digits ≡ pairs digits
+-- decoding digits is decoding their pairs
+pub bytes_are_pairs : (digits : List ℕ) → hex_bytes digits ≡ pairs digits
 bytes_are_pairs digits = by_rest (length digits % 2) refl
   where
-    by_rest : (n : ℕ) → length digits % 2 ≡ n → bytes_in digits ≡ pairs digits
+    by_rest : (n : ℕ) → length digits % 2 ≡ n → hex_bytes digits ≡ pairs digits
     by_rest zero e = ap result_ok (decode_of-even digits e) ∙ decoded_pairs 0 digits
     by_rest (suc zero) e = ap result_ok (decode_of-odd digits e) ∙ sym (odd_pairs digits e)
     by_rest (suc (suc n)) e = absurd (omega arith)
@@ -66,7 +66,7 @@ tested_pair (Some a) None others passes e = refl
 tested_pair (Some a) (Some b) None passes e = e
 tested_pair (Some a) (Some b) (Some bytes) passes e = e
 
--- an even number of digits writes bytes
+-- an even number of hexadecimal digits has bytes
 pub pairs_tested : (digits : List ℕ) → length digits % 2 ≡ 0 → is_some (pairs digits) ≡ list_all is_hex_digit digits
 pairs_tested [] even = refl
 pairs_tested (x ∷ []) even = absurd (omega arith)
@@ -74,7 +74,7 @@ pairs_tested (x ∷ y ∷ rest) even =
     tested_pair (hex_digit_value x) (hex_digit_value y) (pairs rest) (list_all is_hex_digit rest)
     (pairs_tested rest (omega arith))
 
--- twice as many, by steps of two
+-- twice a number, by steps of two
 abbrev pub twice : ℕ → ℕ
 twice zero = 0
 twice (suc n) = suc (suc (twice n))
@@ -83,7 +83,7 @@ pub twice_is : (n : ℕ) → twice n ≡ 2 * n
 twice_is zero = refl
 twice_is (suc n) = let e = twice_is n in omega (arith, e)
 
--- two digits that write a byte, before others
+-- the two digits of a first byte
 opened_pair : (high low : Option ℕ) (others : Option (List ℕ)) (bytes : List ℕ)
     → joined_pair high low others ≡ Some bytes
     → (a b : ℕ) × (rest : List ℕ) × (high ≡ Some a) × (low ≡ Some b) × (others ≡ Some rest)
@@ -107,7 +107,7 @@ joined_of : (high low : Option ℕ) (others : Option (List ℕ)) (a b : ℕ) →
     → joined_pair high low others ≡ option_map (λ all. (a * 16 + b) ∷ all) others
 joined_of high low others a b e f = rw (e, f) refl
 
--- what all digits write, where the first ones write these bytes: some of these, and what the digits behind those write
+-- digits whose first pairs have these bytes: some of these bytes, and those of the digits behind them
 pub pairs_front : (some n : ℕ) (digits bytes : List ℕ) → some ≤ n → twice n ≤ length digits
     → pairs (take (twice n) digits) ≡ Some bytes
     → pairs digits ≡ option_map (λ rest. take some bytes ++ rest) (pairs (drop (twice some) digits))
@@ -133,7 +133,7 @@ broken_pair (Some a) None front others none e = refl
 broken_pair (Some a) (Some b) None others none e = no_others (Some a) (Some b) others (none refl)
 broken_pair (Some a) (Some b) (Some bytes) others none e = absurd (cc e)
 
--- digits that begin with some that write nothing
+-- digits whose first pairs have no bytes
 pub pairs_broken : (n : ℕ) (digits : List ℕ) → twice n ≤ length digits → pairs (take (twice n) digits) ≡ None
     → pairs digits ≡ None
 pairs_broken zero digits long e = absurd (cc e)

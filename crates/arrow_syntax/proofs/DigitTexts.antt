@@ -9,7 +9,7 @@ use Rattle.std.specs.Str.{is_utf8, IsValidUpTo}
 use Rattle.std.proofs.lemmas.Bool.{and_parts, cases_lt}
 use Rattle.std.proofs.lemmas.Str.{IsUtf8-append, IsUtf8-nil, IsUtf8-drop, IsUtf8-encode, IsUtf8-from_is_utf8}
 use Rattle.std.proofs.lemmas.Str.{is_utf8-from_IsUtf8, IsCharBoundary-from_take, length-encode, len_utf8_bounds}
-use Rattle.arrow_syntax.specs.Fields.{bytes_in, text_in}
+use Rattle.arrow_syntax.specs.Fields.{hex_bytes, hex_text}
 use Rattle.arrow_syntax.proofs.DigitPairs.{pairs, pairs_front, pairs_broken, pairs_length, bytes_are_pairs}
 use Rattle.arrow_syntax.proofs.DigitPairs.{twice, twice_is}
 
@@ -17,7 +17,7 @@ use Rattle.arrow_syntax.proofs.DigitPairs.{twice, twice_is}
 abbrev as_text : List ℕ → Option (List ℕ)
 as_text bytes = cond (is_utf8 bytes) (Some bytes) None
 
-text_is : (digits : List ℕ) → text_in digits ≡ option_and_then as_text (pairs digits)
+text_is : (digits : List ℕ) → hex_text digits ≡ option_and_then as_text (pairs digits)
 text_is digits = ap (option_and_then as_text) (bytes_are_pairs digits)
 
 is_some_text : (bytes : List ℕ) → is_some (as_text bytes) ≡ is_utf8 bytes
@@ -49,23 +49,23 @@ utf8_behind front rest text = by_tests (is_utf8 (front ++ rest)) (is_utf8 rest) 
         in
         sym (is_utf8-from_IsUtf8 rest (subst IsUtf8 rest_is (IsUtf8-drop (front ++ rest) (length front) whole cut))) ∙ f
 
--- how many bytes pairs of digits write
-bytes_count : (n : ℕ) (digits bytes : List ℕ) → 2 * n ≤ length digits → bytes_in (take (2 * n) digits) ≡ Some bytes
+-- the number of bytes of pairs of digits
+bytes_count : (n : ℕ) (digits bytes : List ℕ) → 2 * n ≤ length digits → hex_bytes (take (2 * n) digits) ≡ Some bytes
     → length bytes ≡ n
 bytes_count n digits bytes long e =
     let two = pairs_length (take (2 * n) digits) bytes (sym (bytes_are_pairs (take (2 * n) digits)) ∙ e) in
     omega (arith, two, length-take-le (2 * n) digits long)
 
--- digits whose first ones write a text are a text where the others are
+-- digits whose first pairs are a text: all are a text if the others are
 pub text_behind : (some n : ℕ) (digits bytes : List ℕ) → some ≤ n → 2 * n ≤ length digits
-    → bytes_in (take (2 * n) digits) ≡ Some bytes → IsUtf8 (take some bytes)
-    → is_some (text_in digits) ≡ is_some (text_in (drop (2 * some) digits))
+    → hex_bytes (take (2 * n) digits) ≡ Some bytes → IsUtf8 (take some bytes)
+    → is_some (hex_text digits) ≡ is_some (hex_text (drop (2 * some) digits))
 text_behind some n digits bytes within long e text =
     let here = rw (← twice_is n) at (sym (bytes_are_pairs (take (2 * n) digits)) ∙ e) in
     let all = pairs_front some n digits bytes within (omega (arith, twice_is n)) here in
     ap is_some (text_is digits ∙ ap (option_and_then as_text) all) ∙ by_rest (pairs (drop (twice some) digits))
     ∙ ap is_some (sym (text_is (drop (twice some) digits)))
-    ∙ ap (λ k. is_some (text_in (drop k digits))) (twice_is some)
+    ∙ ap (λ k. is_some (hex_text (drop k digits))) (twice_is some)
   where
     by_rest : (rest : Option (List ℕ))
         → is_some (option_and_then as_text (option_map (λ behind. take some bytes ++ behind) rest))
@@ -74,24 +74,24 @@ text_behind some n digits bytes within long e text =
     by_rest (Some behind) = is_some_text (take some bytes ++ behind) ∙ utf8_behind (take some bytes) behind text
         ∙ sym (is_some_text behind)
 
--- digits whose first ones write nothing
-pub text_broken : (n : ℕ) (digits : List ℕ) → 2 * n ≤ length digits → bytes_in (take (2 * n) digits) ≡ None
-    → text_in digits ≡ None
+-- digits whose first pairs have no bytes
+pub text_broken : (n : ℕ) (digits : List ℕ) → 2 * n ≤ length digits → hex_bytes (take (2 * n) digits) ≡ None
+    → hex_text digits ≡ None
 text_broken n digits long e =
     let here = rw (← twice_is n) at (sym (bytes_are_pairs (take (2 * n) digits)) ∙ e) in
     text_is digits ∙ ap (option_and_then as_text) (pairs_broken n digits (omega (arith, twice_is n)) here)
 
--- where two texts are the same, so are their first bytes
+-- equal texts have equal first bytes
 front_of : (m : ℕ) (xs ys us vs : List ℕ) → m ≤ length xs → m ≡ length us → xs ++ ys ≡ us ++ vs → take m xs ≡ us
 front_of m xs ys us vs within is same =
     let left : take m (xs ++ ys) ≡ take m xs = take-append-le m xs ys within in
     let right : take m (us ++ vs) ≡ us = take-append-le m us vs (omega arith) ∙ take_all m us (omega arith) in
     sym left ∙ ap (take m) same ∙ right
 
--- digits whose first ones begin with no character, where these are enough for one, or all
-pub text_begins : (n : ℕ) (digits bytes : List ℕ) → 2 * n ≤ length digits → bytes_in (take (2 * n) digits) ≡ Some bytes
+-- digits whose first pairs begin with no character, if they are enough for one or are all
+pub text_begins : (n : ℕ) (digits bytes : List ℕ) → 2 * n ≤ length digits → hex_bytes (take (2 * n) digits) ≡ Some bytes
     → (n < 4 → length digits < 2 * n + 2) → (0 < length bytes → IsValidUpTo bytes 0) → 0 < length digits
-    → text_in digits ≡ None
+    → hex_text digits ≡ None
 text_begins n digits bytes long e enough none some = text_is digits ∙ by_all (pairs digits) refl
   where
     here : pairs (take (2 * n) digits) ≡ Some bytes
@@ -155,17 +155,17 @@ text_begins n digits bytes long e enough none some = text_is digits ∙ by_all (
         by_test true e = absurd (no_text all is (IsUtf8-from_is_utf8 all e))
         by_test false e = refl
 
--- the same, where what is behind is told by its length
+-- the same, where the rest is given by its length
 pub text_behind_part : (some n : ℕ) (digits bytes : List ℕ) (behind : ℕ) → some ≤ length bytes → 2 * n ≤ length digits
-    → bytes_in (take (2 * n) digits) ≡ Some bytes → IsUtf8 (take some bytes)
+    → hex_bytes (take (2 * n) digits) ≡ Some bytes → IsUtf8 (take some bytes)
     → length digits ≤ 2 * some + behind
-    → is_some (text_in digits) ≡ is_some (text_in (take behind (drop (2 * some) digits)))
+    → is_some (hex_text digits) ≡ is_some (hex_text (take behind (drop (2 * some) digits)))
 text_behind_part some n digits bytes behind within long e text all =
     text_behind some n digits bytes (omega (arith, within, bytes_count n digits bytes long e)) long e text
-    ∙ ap (λ rest. is_some (text_in rest))
+    ∙ ap (λ rest. is_some (hex_text rest))
     (sym (take_all behind (drop (2 * some) digits) (omega (arith, length-drop (2 * some) digits))))
 
 -- no digits are the empty text
-pub no_digits : (digits : List ℕ) → length digits ≡ 0 → is_some (text_in digits) ≡ true
+pub no_digits : (digits : List ℕ) → length digits ≡ 0 → is_some (hex_text digits) ≡ true
 no_digits [] e = ap is_some (text_is []) ∙ is_some_text [] ∙ is_utf8-from_IsUtf8 [] IsUtf8-nil
 no_digits (x ∷ digits) e = absurd (omega arith)

@@ -1,9 +1,9 @@
--- Lemmas on what is read one thing after the other.
+-- Lemmas on lists that are read element by element.
 use Rattle.std.proofs.Common.{◌≡◌, ℕ, List, [], ◌++◌, refl, Option, Some, None, is_some}
 use Rattle.std.specs.Prelude.{option_map}
-use Rattle.arrow_syntax.specs.Readers.{Reader, reads}
+use Rattle.arrow_syntax.specs.Readers.{Reader, map_read}
 
--- what is read of the others, behind what was read
+-- the elements read before, and then the others
 abbrev pub behind : {A : Type 0} → List A → Option (List A) → Option (List A)
 behind before others = option_map (λ ys. before ++ ys) others
 
@@ -11,7 +11,7 @@ pub behind_nothing : {A : Type 0} (others : Option (List A)) → others ≡ behi
 behind_nothing None = refl
 behind_nothing (Some ys) = refl
 
--- ---- what is made of what words say
+-- ---- converted values
 
 module _ {A B : Type 0} where
   some_map : (make : A → B) (read : Option A) → is_some (option_map make read) ≡ is_some read
@@ -19,5 +19,5 @@ module _ {A B : Type 0} where
   some_map make (Some x) = refl
 
   pub reads_some : (reader : Reader A) (make : A → B) (words : List (List ℕ))
-      → is_some (reads reader make words) ≡ is_some (reader words)
+      → is_some (map_read reader make words) ≡ is_some (reader words)
   reads_some reader make words = some_map make (reader words)

@@ -8,7 +8,7 @@ pub joined : {A : Type 0} (shown : A → List ℕ) (x : A) (xs : List A)
 joined shown x [] = sym (append-nil (shown x))
 joined shown x (y ∷ ys) = ap (λ rest. shown x ++ 32 ∷ rest) (joined shown y ys)
 
--- the same of what parts are
+-- the same of parts that are mapped twice
 pub map_twice : {A B C : Type 0} (f : B → C) (g : A → B) (xs : List A) → map (λ x. f (g x)) xs ≡ map f (map g xs)
 map_twice f g [] = refl
 map_twice f g (x ∷ xs) = ap (λ rest. f (g x) ∷ rest) (map_twice f g xs)

@@ -4,7 +4,7 @@ use Rattle.std.proofs.lemmas.List.{take_all}
 use Rattle.std.specs.Prelude.{bytes_eq}
 use Rattle.std.proofs.lemmas.Slice.Eq.{bytes_eq-Decides}
 
--- texts of one length that are the same as far as they go
+-- texts of one length whose first bytes, up to that length, are equal
 pub same_whole : (xs ys : List ℕ) (n : ℕ) → length xs ≡ length ys → length ys ≤ n → take n xs ≡ take n ys
     → true ≡ bytes_eq xs ys
 same_whole xs ys n e h same =

@@ -6,9 +6,9 @@ use Rattle.std.specs.List.{list_all}
 use Rattle.std.specs.Char.{digit_value}
 use Rattle.std.specs.Str.Parse.{digits_value_after}
 use Rattle.std.proofs.lemmas.Bool.{ltb-true, ltb-false, lt-ltb, le-ltb, and_right}
-use Rattle.arrow_syntax.specs.Words.{number_of, with_digit, is_digit}
+use Rattle.arrow_syntax.specs.Words.{parse_usize, with_digit, is_digit}
 
--- what digits write after those of a number
+-- the number of more digits behind those of a number
 abbrev pub number_after : ℕ → List ℕ → Option ℕ
 number_after n [] = Some n
 number_after n (b ∷ bs) = option_and_then (λ m. number_after m bs) (with_digit n b)
@@ -18,7 +18,7 @@ digits_value_ge : (n : ℕ) (bs : List ℕ) → n ≤ digits_value_after 10 n bs
 digits_value_ge n [] = omega arith
 digits_value_ge n (b ∷ bs) = omega (arith, digits_value_ge (n * 10 + digit_value b) bs)
 
--- all digits, and a number that fits
+-- the number of bytes that are all digits, if it fits
 abbrev whole : ℕ → List ℕ → Option ℕ
 whole n bs = cond (list_all is_digit bs
     && nat_lt (digits_value_after 10 n bs) (2 ^ 64)) (Some (digits_value_after 10 n bs)) None
@@ -39,14 +39,14 @@ pub number_after_is : (n : ℕ) (bs : List ℕ) → n < 2 ^ 64 → number_after 
 number_after_is n [] h = rw (lt-ltb n (2 ^ 64) h) refl
 number_after_is n (b ∷ bs) h = number_after-cons n b bs _ _ refl refl (number_after_is (n * 10 + digit_value b) bs)
 
-pub number_of_is : (word : List ℕ) → 0 < length word → number_of word ≡ number_after 0 word
-unfolding number_of
-number_of_is word h = rw (lt-ltb 0 (length word) h) (sym (number_after_is 0 word (omega arith)))
+pub parse_usize_is : (word : List ℕ) → 0 < length word → parse_usize word ≡ number_after 0 word
+unfolding parse_usize
+parse_usize_is word h = rw (lt-ltb 0 (length word) h) (sym (number_after_is 0 word (omega arith)))
 
-pub number_of_empty : (word : List ℕ) → length word ≡ 0 → number_of word ≡ None
-unfolding number_of
-number_of_empty word h = rw h refl
+pub parse_usize_empty : (word : List ℕ) → length word ≡ 0 → parse_usize word ≡ None
+unfolding parse_usize
+parse_usize_empty word h = rw h refl
 
--- a byte that gives no number ends all
+-- a byte that is no digit, or a digit too many, makes no number
 pub number_after_stops : (n b : ℕ) (bs : List ℕ) → with_digit n b ≡ None → number_after n (b ∷ bs) ≡ None
 number_after_stops n b bs e = ap (option_and_then (λ m. number_after m bs)) e

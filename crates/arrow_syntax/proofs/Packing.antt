@@ -6,7 +6,7 @@ use Rattle.std.proofs.lemmas.List.FromFn.{map-range_with_len_more}
 use Rattle.std.specs.List.{range_with_len}
 use Rattle.arrow_syntax.specs.Fields.{byte_of}
 
--- a number above all that so many bits write
+-- a number above all numbers of a number of bits
 abbrev above : ℕ → ℕ
 above zero = 1
 above (suc k) = 2 * above k
@@ -24,7 +24,7 @@ byte_below (suc k) (false ∷ bits) h = omega (arith, byte_below k bits (omega a
 pub byte_below_128 : (bits : List Bool) → length bits ≤ 7 → byte_of bits < 128
 byte_below_128 bits h = byte_below 7 bits h
 
--- the first eight, or as many as there are, of what lies behind a place
+-- up to eight elements behind an index
 rest_is : (bits : List Bool) (place : ℕ) → take (length bits - place) (drop place bits) ≡ drop place bits
 rest_is bits place = take_all (length bits - place) (drop place bits) (omega (arith, length-drop place bits))
 

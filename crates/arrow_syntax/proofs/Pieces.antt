@@ -2,14 +2,14 @@
 use Rattle.std.proofs.Common.{◌≡◌, ℕ, ◌+◌, ◌-◌, ◌<◌, ◌≤◌, suc, Bool, true, false, not, cond, nat_lt, List, []}
 use Rattle.std.proofs.Common.{◌∷◌, length, take, drop, refl, sym, ap, ◌∙◌, arith, Option, Some, None}
 use Rattle.std.proofs.Common.{length-drop}
-use Rattle.std.specs.Prelude.{position, IfSome, MatchOption, unwrap_or}
+use Rattle.std.specs.Prelude.{position, IfSome, unwrap_or}
 use Rattle.std.specs.List.{slice_split, onto_first, position_or_len}
 use Rattle.std.proofs.lemmas.List.{take_all}
 use Rattle.std.proofs.lemmas.List.Splits.{slice_split_first}
 use Rattle.std.proofs.lemmas.Bool.{ltb-true, ltb-false, lt-ltb}
 use Rattle.std.proofs.lemmas.Option.{cond_some}
 use denote.Ref.{Bor}
-use Rattle.arrow_syntax.specs.Words.{pieces, words_of}
+use Rattle.arrow_syntax.specs.Words.{SplitsAt, pieces, words_of}
 
 module _ (p : ℕ → Bool) where
   whole-cons : (x : ℕ) (xs : List ℕ) (b : Bool) → suc (length xs) ≤ cond (not b) (1 + position_or_len p xs) 0
@@ -18,7 +18,7 @@ module _ (p : ℕ → Bool) where
   whole-cons x xs true h rest = absurd (omega arith)
   whole-cons x xs false h rest = ap (onto_first x) (rest (omega arith))
 
-  -- a text in which nothing passes is its one piece
+  -- a text without the byte is one piece
   whole : (xs : List ℕ) → length xs ≤ position_or_len p xs → slice_split p xs ≡ xs ∷ []
   whole [] h = refl
   whole (x ∷ xs) h = whole-cons x xs (p x) h (whole xs)
@@ -40,17 +40,17 @@ module _ (p : ℕ → Bool) where
       let tail = take_all (length xs - (n + 1)) (drop (n + 1) xs) (omega (arith, length-drop (n + 1) xs)) in
       rw tail (rw same at first)
 
--- the words of what follows, where there is any
+-- the words of the text that follows, if any
 abbrev pub words_after : Option (Bor (List ℕ)) → List (List ℕ)
 words_after None = []
 words_after (Some text) = words_of text.now
 
--- how much follows
+-- the length of the text that follows, and of the byte before it
 abbrev pub length_after : Option (Bor (List ℕ)) → ℕ
 length_after None = 0
 length_after (Some text) = length text.now + 1
 
--- what follows is shorter by what stands before it
+-- the text that follows is shorter
 pub after_shorter : (after : Option (Bor (List ℕ))) (n : ℕ) → IfSome after (λ text. length text.now < n)
     → length_after after ≤ n
 after_shorter None n h = omega arith
@@ -78,17 +78,12 @@ words_end : (line word : List ℕ) → pieces 32 line ≡ word ∷ [] → length
 unfolding words_of
 words_end line word e empty = rw (e, empty) refl
 
--- the pieces of a line, where what follows its first piece is known
-abbrev pub IsCut : List ℕ → List ℕ → Option (Bor (List ℕ)) → Type 0
-IsCut line word after = MatchOption after (pieces 32 line ≡ word ∷ []) (λ rest. pieces 32 line ≡ word
-    ∷ pieces 32 rest.now)
-
-pub words_from_cut : (line word : List ℕ) (after : Option (Bor (List ℕ))) → IsCut line word after → 0 < length word
+pub words_from_cut : (line word : List ℕ) (after : Option (Bor (List ℕ))) → SplitsAt 32 line word after → 0 < length word
     → words_of line ≡ word ∷ words_after after
 words_from_cut line word None e long = words_last line word e long
 words_from_cut line word (Some rest) e long = words_first line word rest.now e long
 
-pub words_past_cut : (line word : List ℕ) (after : Option (Bor (List ℕ))) → IsCut line word after → length word ≡ 0
+pub words_past_cut : (line word : List ℕ) (after : Option (Bor (List ℕ))) → SplitsAt 32 line word after → length word ≡ 0
     → words_of line ≡ words_after after
 words_past_cut line word None e empty = words_end line word e empty
 words_past_cut line word (Some rest) e empty = words_skip line word rest.now e empty

@@ -1,4 +1,4 @@
--- Lemmas on the first place of a text that passes a test.
+-- Lemmas on the first index whose element passes a test.
 use Rattle.std.proofs.Common.{◌≡◌, ℕ, ◌<◌, Bool, true, false, List, length, refl, arith, Option, Some, None, get_or}
 use Rattle.std.specs.Prelude.{position}
 use Rattle.std.specs.List.{position_or_len}
@@ -7,7 +7,7 @@ use Rattle.std.proofs.lemmas.List.Sums.{position_or_len_is}
 use Rattle.memchr.specs.Find.{IsFirstByte}
 
 module _ (p : ℕ → Bool) (xs : List ℕ) where
-  -- no place below passes
+  -- no element before passes
   abbrev pub NoneBelow : ℕ → Type 0
   NoneBelow n = (k : ℕ) → k < n → p (get_or xs k 0) ≡ false
 
@@ -26,7 +26,7 @@ module _ (p : ℕ → Bool) (xs : List ℕ) where
   not_true true h = absurd (h refl)
   not_true false h = refl
 
-  -- the same of the answer of a search
+  -- the same of the result of a search
   pub first_is_position : (found : Option ℕ) → IsFirstByte p xs found → found ≡ position p xs
   first_is_position None h = found_nowhere (λ k below. not_true (p (get_or xs k 0)) (h k (omega arith) below))
   first_is_position (Some n) h = found_at n h.0.high

@@ -14,7 +14,7 @@ onto_passes : (p : ℕ → Bool) (x : ℕ) (ys : List (List ℕ)) → p x ≡ tr
 onto_passes p x [] h k = rw h refl
 onto_passes p x (y ∷ ys) h k = rw h k
 
--- a byte that passes, or parts two pieces
+-- a byte that passes, or separates two pieces
 module _ (p q : ℕ → Bool) where
   step : (x : ℕ) (xs : List ℕ) (passes parts : Bool) → p x ≡ passes → q x ≡ parts → (passes || parts) ≡ true
       → all_pass p (slice_split q xs) ≡ true

@@ -13,7 +13,7 @@ refused : (test : Bool) (bytes : Vec ℕ Global) → is_utf8 bytes.items ≡ tes
 refused false bytes e never = refl
 refused true bytes e never = absurd (never (IsUtf8-from_is_utf8 bytes.items e))
 
--- bytes are taken as a text where they are one
+-- bytes become a text exactly if they are UTF-8
 pub text_read : {E : Type 0} (read : Result (String Global) E) (bytes : Vec ℕ Global)
     → (IsUtf8 bytes.items → IsOk read) → IfOk read (λ text. string_vec text ≡ bytes)
     → option_map string_bytes (result_ok read) ≡ (if is_utf8 bytes.items then Some bytes.items else None)

@@ -1,4 +1,4 @@
--- What each line of the program's input asks.
+-- The lines of the program's input: how each is read, and which request it makes.
 use Rattle.std.specs.Prelude.{ℕ, ◌+◌, Bool, not, ◌&&◌, ◌||◌, ◌==◌, nat_le, codes, if◌then◌else◌, List, [], ◌∷◌}
 use Rattle.std.specs.Prelude.{◌++◌, ℤ, pos, Option, Some, None, option_and_then, option_map, bytes_eq, is_some}
 use Rattle.std.specs.Prelude.{filter, filter_map, length, position}
@@ -9,164 +9,306 @@ use Rattle.arrow_model.specs.Kind.{shape}
 use Rattle.arrow_model.specs.Request as ask
 use Rattle.arrow_model.specs.Request.{Request, make, at, clone_to, extend_from, equal, filter_to, take_to}
 use Rattle.arrow_model.specs.Request.{check_indexes}
-use Rattle.arrow_syntax.specs.Fields.{kind_of, type_of, item_of, slot_of, mask_of, turn_of, change_in, parts_in}
-use Rattle.arrow_syntax.specs.Readers.{Reader, beside, no_words, only, each, ◌▸◌, next, reads}
+use Rattle.arrow_syntax.specs.Fields.{parse_kind, parse_type, parse_item, parse_slot, parse_mask, parse_turn}
+use Rattle.arrow_syntax.specs.Fields.{parse_change, parse_parts}
+use Rattle.arrow_syntax.specs.Readers.{Reader, lookup, no_words, only, each, ◌▸◌, next, map_read}
 use Rattle.arrow_syntax.specs.Words.{line_feed, lines_of, space, words_of, is_passed_over, is_printable}
-use Rattle.arrow_syntax.specs.Words.{number_of, integer_of, offset_of}
+use Rattle.arrow_syntax.specs.Words.{parse_usize, parse_i64, parse_i32}
 
--- a line: its name, and what a number behind the name and then further words ask; the number is most often that of
--- an entry
+-- a line: its name, and the request that a number behind the name and then further words make; the number is most
+-- often that of an entry
 abbrev pub Line : Type 0
 Line = List ℕ × (ℕ → Reader (Request ℤ))
 
--- lines that make a value in an empty entry, over offsets of some width
+-- ---- lines that make a value in an empty entry
+
+abbrev pub new_line : ℕ → Reader (Request ℤ)
+new_line e = map_read (only parse_kind) (λ kind. make e (shape kind) ask.nothing)
+
+-- with the default type of the kind among these types
+abbrev pub null_line : Types ℤ → ℕ → Reader (Request ℤ)
+null_line c e =
+    map_read (parse_kind ▸ only parse_usize) (λ (kind, n).
+    make e (shape kind) (ask.nulls (default_type c (shape kind).value_kind) n))
+
+-- over offsets that are read so
+abbrev pub parts_line : (List ℕ → Option ℤ) → ℕ → Reader (Request ℤ)
+parts_line offset e = map_read (parse_parts offset) (λ (s, (t, (mask, raw))). make e s (ask.parts t raw mask))
+
+abbrev pub slots_line : ℕ → Reader (Request ℤ)
+slots_line e = map_read (parse_kind ▸ each parse_slot) (λ (kind, slots). make e (shape kind) (ask.slots slots))
+
+abbrev pub items_line : ℕ → Reader (Request ℤ)
+items_line e = map_read (parse_kind ▸ each parse_item) (λ (kind, items). make e (shape kind) (ask.items items))
+
 unfoldable pub create_lines : Types ℤ → (List ℕ → Option ℤ) → List Line
 create_lines c offset =
-    (codes "new", λ e. reads (only kind_of) (λ kind. make e (shape kind) ask.nothing))
-    ∷ (
-      codes "null",
-      λ e. reads (kind_of ▸ only number_of) (λ (kind, n).
-          make e (shape kind) (ask.nulls (default_type c (shape kind).value_kind) n)),
-    )
-    ∷ (codes "parts", λ e. reads (parts_in offset) (λ (s, (t, (mask, raw))). make e s (ask.parts t raw mask)))
-    ∷ (codes "slots", λ e. reads (kind_of ▸ each slot_of) (λ (kind, slots). make e (shape kind) (ask.slots slots)))
-    ∷ (codes "items", λ e. reads (kind_of ▸ each item_of) (λ (kind, items). make e (shape kind) (ask.items items)))
+    (codes "new", new_line)
+    ∷ (codes "null", null_line c)
+    ∷ (codes "parts", parts_line offset)
+    ∷ (codes "slots", slots_line)
+    ∷ (codes "items", items_line)
     ∷ []
 
--- lines that read one
+-- ---- lines that read a value
+
+abbrev pub len_line : ℕ → Reader (Request ℤ)
+len_line e = no_words (at e ask.len)
+
+abbrev pub value_line : ℕ → Reader (Request ℤ)
+value_line e = map_read (only parse_usize) (λ i. at e (ask.value i))
+
+abbrev pub get_line : ℕ → Reader (Request ℤ)
+get_line e = map_read (only parse_usize) (λ i. at e (ask.get i))
+
+abbrev pub is_null_line : ℕ → Reader (Request ℤ)
+is_null_line e = map_read (only parse_usize) (λ i. at e (ask.is_null i))
+
+abbrev pub nulls_line : ℕ → Reader (Request ℤ)
+nulls_line e = no_words (at e ask.null_count)
+
+abbrev pub list_line : ℕ → Reader (Request ℤ)
+list_line e = no_words (at e ask.all_slots)
+
+abbrev pub turns_line : ℕ → Reader (Request ℤ)
+turns_line e = map_read (each parse_turn) (λ turns. at e (ask.turns turns))
+
+abbrev pub type_line : ℕ → Reader (Request ℤ)
+type_line e = no_words (at e ask.type_of)
+
+abbrev pub held_line : ℕ → Reader (Request ℤ)
+held_line e = no_words (at e ask.held)
+
+abbrev pub bytes_line : ℕ → Reader (Request ℤ)
+bytes_line e = no_words (at e ask.bytes)
+
+abbrev pub offsets_line : ℕ → Reader (Request ℤ)
+offsets_line e = no_words (at e ask.offsets)
+
 unfoldable pub read_lines : List Line
 read_lines =
-    (codes "len", λ e. no_words (at e ask.len))
-    ∷ (codes "value", λ e. reads (only number_of) (λ i. at e (ask.value i)))
-    ∷ (codes "get", λ e. reads (only number_of) (λ i. at e (ask.get i)))
-    ∷ (codes "isnull", λ e. reads (only number_of) (λ i. at e (ask.is_null i)))
-    ∷ (codes "nulls", λ e. no_words (at e ask.null_count))
-    ∷ (codes "list", λ e. no_words (at e ask.all_slots))
-    ∷ (codes "turns", λ e. reads (each turn_of) (λ turns. at e (ask.turns turns)))
-    ∷ (codes "type", λ e. no_words (at e ask.type_of))
-    ∷ (codes "held", λ e. no_words (at e ask.held))
-    ∷ (codes "bytes", λ e. no_words (at e ask.bytes))
-    ∷ (codes "offsets", λ e. no_words (at e ask.offsets))
+    (codes "len", len_line)
+    ∷ (codes "value", value_line)
+    ∷ (codes "get", get_line)
+    ∷ (codes "isnull", is_null_line)
+    ∷ (codes "nulls", nulls_line)
+    ∷ (codes "list", list_line)
+    ∷ (codes "turns", turns_line)
+    ∷ (codes "type", type_line)
+    ∷ (codes "held", held_line)
+    ∷ (codes "bytes", bytes_line)
+    ∷ (codes "offsets", offsets_line)
     ∷ []
 
--- lines that cut, copy and change one
+-- ---- lines that cut, copy and change a value
+
+abbrev pub slice_line : ℕ → Reader (Request ℤ)
+slice_line e = map_read (parse_usize ▸ only parse_usize) (λ (a, n). at e (ask.slice a n))
+
+abbrev pub clone_line : ℕ → Reader (Request ℤ)
+clone_line e = map_read (only parse_usize) (λ f. clone_to e f)
+
+abbrev pub drop_line : ℕ → Reader (Request ℤ)
+drop_line e = no_words (at e ask.empty)
+
+abbrev pub mask_line : ℕ → Reader (Request ℤ)
+mask_line e = map_read (only parse_mask) (λ mask. at e (ask.set_mask mask))
+
+abbrev pub apply_mask_line : ℕ → Reader (Request ℤ)
+apply_mask_line e = map_read parse_change (λ change. at e (ask.apply_mask change))
+
+abbrev pub values_line : ℕ → Reader (Request ℤ)
+values_line e = map_read (each parse_item) (λ items. at e (ask.set_values items))
+
+abbrev pub apply_values_line : ℕ → Reader (Request ℤ)
+apply_values_line e = map_read parse_change (λ change. at e (ask.apply_values change))
+
+abbrev pub set_line : ℕ → Reader (Request ℤ)
+set_line e = map_read (parse_usize ▸ only parse_slot) (λ (i, slot). at e (ask.set i slot))
+
+abbrev pub write_line : ℕ → Reader (Request ℤ)
+write_line e = map_read (parse_usize ▸ only parse_item) (λ (i, item). at e (ask.write i item))
+
 unfoldable pub change_lines : List Line
 change_lines =
-    (codes "slice", λ e. reads (number_of ▸ only number_of) (λ (a, n). at e (ask.slice a n)))
-    ∷ (codes "clone", λ e. reads (only number_of) (λ f. clone_to e f))
-    ∷ (codes "drop", λ e. no_words (at e ask.empty))
-    ∷ (codes "mask", λ e. reads (only mask_of) (λ mask. at e (ask.set_mask mask)))
-    ∷ (codes "applymask", λ e. reads change_in (λ change. at e (ask.apply_mask change)))
-    ∷ (codes "values", λ e. reads (each item_of) (λ items. at e (ask.set_values items)))
-    ∷ (codes "applyvalues", λ e. reads change_in (λ change. at e (ask.apply_values change)))
-    ∷ (codes "set", λ e. reads (number_of ▸ only slot_of) (λ (i, slot). at e (ask.set i slot)))
-    ∷ (codes "write", λ e. reads (number_of ▸ only item_of) (λ (i, item). at e (ask.write i item)))
+    (codes "slice", slice_line)
+    ∷ (codes "clone", clone_line)
+    ∷ (codes "drop", drop_line)
+    ∷ (codes "mask", mask_line)
+    ∷ (codes "applymask", apply_mask_line)
+    ∷ (codes "values", values_line)
+    ∷ (codes "applyvalues", apply_values_line)
+    ∷ (codes "set", set_line)
+    ∷ (codes "write", write_line)
     ∷ []
 
--- lines that make one grow or shrink
+-- ---- lines that make a builder grow or shrink
+
+abbrev pub push_line : ℕ → Reader (Request ℤ)
+push_line e = map_read (only parse_slot) (λ slot. at e (ask.push slot))
+
+abbrev pub push_null_line : ℕ → Reader (Request ℤ)
+push_null_line e = no_words (at e ask.push_null)
+
+abbrev pub pop_line : ℕ → Reader (Request ℤ)
+pop_line e = no_words (at e ask.pop)
+
+abbrev pub extend_line : ℕ → Reader (Request ℤ)
+extend_line e = map_read (each parse_slot) (λ slots. at e (ask.extend slots))
+
+abbrev pub extend_values_line : ℕ → Reader (Request ℤ)
+extend_values_line e = map_read (each parse_item) (λ items. at e (ask.extend_values items))
+
+abbrev pub constant_line : ℕ → Reader (Request ℤ)
+constant_line e = map_read (parse_usize ▸ only parse_slot) (λ (n, slot). at e (ask.extend_constant n slot))
+
+abbrev pub self_line : ℕ → Reader (Request ℤ)
+self_line e = map_read (only parse_usize) (λ f. extend_from e f)
+
+abbrev pub reserve_line : ℕ → Reader (Request ℤ)
+reserve_line e = map_read (parse_usize ▸ only parse_usize) (λ _. at e ask.reserve)
+
+abbrev pub shrink_line : ℕ → Reader (Request ℤ)
+shrink_line e = no_words (at e ask.shrink)
+
 unfoldable pub grow_lines : List Line
 grow_lines =
-    (codes "push", λ e. reads (only slot_of) (λ slot. at e (ask.push slot)))
-    ∷ (codes "pushnull", λ e. no_words (at e ask.push_null))
-    ∷ (codes "pop", λ e. no_words (at e ask.pop))
-    ∷ (codes "extend", λ e. reads (each slot_of) (λ slots. at e (ask.extend slots)))
-    ∷ (codes "extendvalues", λ e. reads (each item_of) (λ items. at e (ask.extend_values items)))
-    ∷ (codes "constant", λ e. reads (number_of ▸ only slot_of) (λ (n, slot). at e (ask.extend_constant n slot)))
-    ∷ (codes "self", λ e. reads (only number_of) (λ f. extend_from e f))
-    ∷ (codes "reserve", λ e. reads (number_of ▸ only number_of) (λ (n, b). at e ask.reserve))
-    ∷ (codes "shrink", λ e. no_words (at e ask.shrink))
+    (codes "push", push_line)
+    ∷ (codes "pushnull", push_null_line)
+    ∷ (codes "pop", pop_line)
+    ∷ (codes "extend", extend_line)
+    ∷ (codes "extendvalues", extend_values_line)
+    ∷ (codes "constant", constant_line)
+    ∷ (codes "self", self_line)
+    ∷ (codes "reserve", reserve_line)
+    ∷ (codes "shrink", shrink_line)
     ∷ []
 
--- lines that convert one, and lines about two, about three, and about none
+-- ---- lines that convert a value, and lines about two values, about three, and about none
+
+abbrev pub freeze_line : ℕ → Reader (Request ℤ)
+freeze_line e = no_words (at e ask.freeze)
+
+abbrev pub thaw_line : ℕ → Reader (Request ℤ)
+thaw_line e = no_words (at e ask.thaw)
+
+abbrev pub nullable_line : ℕ → Reader (Request ℤ)
+nullable_line e = no_words (at e ask.nullable)
+
+abbrev pub to_line : ℕ → Reader (Request ℤ)
+to_line e = map_read (only parse_type) (λ t. at e (ask.to t))
+
+abbrev pub equal_line : ℕ → Reader (Request ℤ)
+equal_line e = map_read (only parse_usize) (λ f. equal e f)
+
+abbrev pub filter_line : ℕ → Reader (Request ℤ)
+filter_line e = map_read (parse_usize ▸ only parse_usize) (λ (f, g). filter_to e f g)
+
+abbrev pub take_line : ℕ → Reader (Request ℤ)
+take_line e = map_read (parse_usize ▸ each parse_i64) (λ (g, keys). take_to e keys g)
+
+-- the number is a length
+abbrev pub indexes_line : ℕ → Reader (Request ℤ)
+indexes_line n = map_read (each parse_i64) (λ keys. check_indexes keys n)
+
 unfoldable pub convert_lines : List Line
 convert_lines =
-    (codes "freeze", λ e. no_words (at e ask.freeze))
-    ∷ (codes "thaw", λ e. no_words (at e ask.thaw))
-    ∷ (codes "nullable", λ e. no_words (at e ask.nullable))
-    ∷ (codes "to", λ e. reads (only type_of) (λ t. at e (ask.to t)))
-    ∷ (codes "equal", λ e. reads (only number_of) (λ f. equal e f))
-    ∷ (codes "filter", λ e. reads (number_of ▸ only number_of) (λ (f, g). filter_to e f g))
-    ∷ (codes "take", λ e. reads (number_of ▸ each integer_of) (λ (g, keys). take_to e keys g))
-    ∷ (codes "indexes", λ n. reads (each integer_of) (λ keys. check_indexes keys n))
+    (codes "freeze", freeze_line)
+    ∷ (codes "thaw", thaw_line)
+    ∷ (codes "nullable", nullable_line)
+    ∷ (codes "to", to_line)
+    ∷ (codes "equal", equal_line)
+    ∷ (codes "filter", filter_line)
+    ∷ (codes "take", take_line)
+    ∷ (codes "indexes", indexes_line)
     ∷ []
 
 -- all lines of one table; the native values are integers of 64 bits
 abbrev pub lines : Types ℤ → (List ℕ → Option ℤ) → List Line
 lines c offset = create_lines c offset ++ (read_lines ++ (change_lines ++ (grow_lines ++ convert_lines)))
 
--- what is known of a table whose offsets are at most this, and its lines
+-- the types of a table whose offsets are at most this
 abbrev pub types_over : ℕ → Bool → Types ℤ
 types_over most is_large = types (pos 0) Int64 most is_large
 
+-- the lines of such a table
 abbrev pub lines_over : ℕ → Bool → (List ℕ → Option ℤ) → List Line
 lines_over most is_large = lines (types_over most is_large)
 
--- those of the narrow one, and of the wide one
+-- the lines of the narrow table
 unfoldable pub narrow_lines : List Line
-narrow_lines = lines (narrow_types (pos 0) Int64) offset_of
+narrow_lines = lines (narrow_types (pos 0) Int64) parse_i32
 
+-- the lines of the wide table
 unfoldable pub wide_lines : List Line
-wide_lines = lines (wide_types (pos 0) Int64) integer_of
+wide_lines = lines (wide_types (pos 0) Int64) parse_i64
 
 -- the lines whose names have a length for which p holds
 abbrev pub with_length : (ℕ → Bool) → List Line → List Line
-with_length p = filter (λ row. p (length row.0))
+with_length p = filter (λ line. p (length line.0))
 
--- what words ask behind a name and a number, where one of these lines has the name
+-- the request of the line of this name, made by the number and the words behind it
 unfoldable pub request_behind : List Line → List ℕ → ℕ → Reader (Request ℤ)
-request_behind rows name number words = option_and_then (λ reader. reader number words) (beside rows name)
+request_behind rows name number words = option_and_then (λ reader. reader number words) (lookup rows name)
 
--- what words behind a name ask
+-- the request of the line of this name, made by the words behind it
 unfoldable pub request_among : List Line → List ℕ → Reader (Request ℤ)
-request_among rows name = next number_of (request_behind rows name)
+request_among rows name = next parse_usize (request_behind rows name)
 
 -- the request of the line that these words are
 unfoldable pub request_of : List Line → Reader (Request ℤ)
 request_of rows [] = None
 request_of rows (name ∷ words) = request_among rows name words
 
--- the lines that lead from one table to the other
-abbrev pub widen_in : Reader (BothRequest ℤ)
-widen_in = reads (number_of ▸ only number_of) (λ (e, f). widen e f)
+-- the lines that copy a value from one table into the other
+abbrev pub widen_line : Reader (BothRequest ℤ)
+widen_line = map_read (parse_usize ▸ only parse_usize) (λ (e, f). widen e f)
 
-abbrev pub narrow_in : Reader (BothRequest ℤ)
-narrow_in = reads (number_of ▸ only number_of) (λ (e, f). narrow_to e f)
+abbrev pub narrow_line : Reader (BothRequest ℤ)
+narrow_line = map_read (parse_usize ▸ only parse_usize) (λ (e, f). narrow_to e f)
 
--- what a line of these words asks: `wide` stands before a command on the wide table
+-- a line of the wide table, behind `wide`
+abbrev pub on_wide : Reader (BothRequest ℤ)
+on_wide words = option_map wide (request_of wide_lines words)
+
+-- a line of the narrow table, by its name and the words behind it
+abbrev pub on_narrow : List ℕ → Reader (BothRequest ℤ)
+on_narrow name words = option_map narrow (request_among narrow_lines name words)
+
+-- the request of the line that these words are, on the two tables
 unfoldable pub both_in : Reader (BothRequest ℤ)
 both_in [] = None
 both_in (name ∷ words) =
-    if bytes_eq name (codes "wide") then option_map wide (request_of wide_lines words) else (
-    if bytes_eq name (codes "widen") then widen_in words else (
-    if bytes_eq name (codes "narrow") then narrow_in words else
-    option_map narrow (request_among narrow_lines name words)))
+    if bytes_eq name (codes "wide") then on_wide words else (
+    if bytes_eq name (codes "widen") then widen_line words else (
+    if bytes_eq name (codes "narrow") then narrow_line words else on_narrow name words))
 
--- a byte that lines may have, or the line feed behind one
+-- a byte that a line may have, or a line feed
 abbrev pub is_of_lines : ℕ → Bool
 is_of_lines b = (nat_le space b && nat_le b 126) || b == line_feed
 
--- what a line asks, where it is a command
+-- the request of a line, if it is a command
 abbrev pub request_in : List ℕ → Option (BothRequest ℤ)
 request_in line = if is_printable line then both_in (words_of line) else None
 
--- a line that is neither passed over nor a command
+-- whether a line is neither passed over nor a command
 abbrev pub is_bad : List ℕ → Bool
 is_bad line = not (is_passed_over line) && not (is_some (request_in line))
 
--- what a line asks, but for one that is passed over
+-- the request of a line, unless it is passed over
 abbrev pub asked_in : List ℕ → Option (BothRequest ℤ)
 asked_in line = if is_passed_over line then None else request_in line
 
--- what an input is: a list of requests, or bad from the line of this number on, counted from 1
-pub data Reading : Type 0 where
-  requests : List (BothRequest ℤ) → Reading
-  bad_line : ℕ → Reading
+-- an input, parsed: its requests, or the number of its first bad line, counted from 1
+pub data ParsedInput : Type 0 where
+  requests : List (BothRequest ℤ) → ParsedInput
+  bad_line : ℕ → ParsedInput
 
--- the number of a line by its place
-abbrev pub reading_at : Option ℕ → List (BothRequest ℤ) → Reading
-reading_at None asked = requests asked
-reading_at (Some place) asked = bad_line (place + 1)
+-- the same, by the index of the first bad line
+abbrev pub parsed_at : Option ℕ → List (BothRequest ℤ) → ParsedInput
+parsed_at None asked = requests asked
+parsed_at (Some place) asked = bad_line (place + 1)
 
--- the requests of the input in order, or the number of its first bad line
-unfoldable pub commands_of : List ℕ → Reading
-commands_of input = reading_at (position is_bad (lines_of input)) (filter_map asked_in (lines_of input))
+-- the requests of an input in order, or the number of its first bad line
+unfoldable pub commands_of : List ℕ → ParsedInput
+commands_of input = parsed_at (position is_bad (lines_of input)) (filter_map asked_in (lines_of input))

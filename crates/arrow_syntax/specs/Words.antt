@@ -1,11 +1,13 @@
--- Lines, the words in them, and the numbers that words stand for.
+-- Lines, the words in them, and the numbers that words write.
 use Rattle.std.specs.Prelude.{ℕ, ◌+◌, ◌*◌, ◌^◌, Bool, false, ◌&&◌, ◌||◌, nat_lt, nat_le, ◌==◌, if◌then◌else◌}
 use Rattle.std.specs.Prelude.{List, [], ◌∷◌, length, filter, ℤ, pos, neg_ℤ, Option, Some, None, option_and_then}
+use Rattle.std.specs.Prelude.{◌≡◌, MatchOption}
+use Rattle.std.specs.Borrow.{Bor}
 use Rattle.std.specs.List.{slice_split, list_all}
 use Rattle.std.specs.Char.{digit_value}
 use Rattle.std.specs.Str.Parse.{digits_value}
 
--- the bytes that mean something to lines and words, by their codes
+-- the bytes that separate or begin lines and words, by their codes
 abbrev pub line_feed : ℕ
 line_feed = 10
 
@@ -18,9 +20,14 @@ hash = 35
 abbrev pub minus : ℕ
 minus = 45
 
--- what stands between the occurrences of a byte in a text, which are one fewer
+-- the pieces of a text between the occurrences of a byte, one more than these
 unfoldable pub pieces : ℕ → List ℕ → List (List ℕ)
 pieces byte = slice_split (λ b. b == byte)
+
+-- the first piece of a text is `front`, and the text behind it has the others; `None` if there is no other
+abbrev pub SplitsAt : ℕ → List ℕ → List ℕ → Option (Bor (List ℕ)) → Type 0
+SplitsAt byte text front after =
+    MatchOption after (pieces byte text ≡ front ∷ []) (λ rest. pieces byte text ≡ front ∷ pieces byte rest.now)
 
 -- the lines of a text; after a line feed at its end an empty line follows
 abbrev pub lines_of : List ℕ → List (List ℕ)
@@ -47,8 +54,8 @@ abbrev pub is_digit : ℕ → Bool
 is_digit b = nat_le 48 b && nat_le b 57
 
 -- the number that one or more digits write, below 2 to the power 64
-unfoldable pub number_of : List ℕ → Option ℕ
-number_of word =
+unfoldable pub parse_usize : List ℕ → Option ℕ
+parse_usize word =
     if nat_lt 0 (length word) && (list_all is_digit word && nat_lt (digits_value 10 word) (2 ^ 64))
     then Some (digits_value 10 word)
     else None
@@ -57,25 +64,26 @@ number_of word =
 abbrev pub with_digit : ℕ → ℕ → Option ℕ
 with_digit n b = if is_digit b && nat_lt (n * 10 + digit_value b) (2 ^ 64) then Some (n * 10 + digit_value b) else None
 
--- a signed number of as many bits as hold twice this half: the number itself, if it is below the half
+-- the number as a signed number, if it is below this half of the type's range
 abbrev pub positive : ℕ → ℕ → Option ℤ
 positive half n = if nat_lt n half then Some (pos n) else None
 
--- its opposite, if it is at most the half
+-- its negation, if the number is at most the half
 abbrev pub negative : ℕ → ℕ → Option ℤ
 negative half n = if nat_le n half then Some (neg_ℤ (pos n)) else None
 
 -- the signed number that digits write, after a `-` if it is negative
-abbrev pub signed_of : ℕ → List ℕ → Option ℤ
-signed_of half [] = None
-signed_of half (b ∷ bs) =
+abbrev pub parse_signed : ℕ → List ℕ → Option ℤ
+parse_signed half [] = None
+parse_signed half (b ∷ bs) =
     if b == minus
-    then option_and_then (negative half) (number_of bs)
-    else option_and_then (positive half) (number_of (b ∷ bs))
+    then option_and_then (negative half) (parse_usize bs)
+    else option_and_then (positive half) (parse_usize (b ∷ bs))
 
--- such a number of 64 bits, and one of 32 bits
-abbrev pub integer_of : List ℕ → Option ℤ
-integer_of = signed_of (2 ^ 63)
+-- a signed number of 64 bits
+abbrev pub parse_i64 : List ℕ → Option ℤ
+parse_i64 = parse_signed (2 ^ 63)
 
-abbrev pub offset_of : List ℕ → Option ℤ
-offset_of = signed_of (2 ^ 31)
+-- a signed number of 32 bits
+abbrev pub parse_i32 : List ℕ → Option ℤ
+parse_i32 = parse_signed (2 ^ 31)

@@ -1,18 +1,18 @@
-//! The words that are truth values, as a list and as packed bits.
+//! The words that are booleans, as a list and as packed bits.
 ghost use Rattle.std.specs.Prelude.{◌≡◌, ◌≤◌, Bool, List, Option, is_some, length, option_map, IfOk};
 ghost use Rattle.arrow_model.specs.Request.{Packed, packed_bits};
-ghost use Rattle.arrow_syntax.specs.Fields.{bit_of, bits_of, byte_of, mask_of, packed_bytes, packed_of};
-ghost use Rattle.arrow_syntax.specs.Fields.{packed_in, packed_mask_in};
-ghost use Rattle.arrow_syntax.specs.Readers.{each};
+ghost use Rattle.arrow_syntax.specs.Fields.{parse_bit, parse_bits, byte_of, parse_mask, packed_bytes, packed_of};
+ghost use Rattle.arrow_syntax.specs.Fields.{parse_packed, parse_packed_mask};
+ghost use Rattle.arrow_syntax.specs.Readers.{ParsesAs, each};
 
 use crate::readers::Word;
 use crate::words::word_eq;
 use arrow_model::Bits;
 use std::alloc::{AllocError, Global};
 
-/// Returns the truth value of the digit `0` or `1`.
-fn bit_of(digit: u8) -> Option<bool>
-    ensures { result ≡ bit_of digit }
+/// Returns the boolean of the digit `0` or `1`.
+fn parse_bit(digit: u8) -> Option<bool>
+    ensures { result ≡ parse_bit digit }
 {
     match digit {
         b'0' => Some(false),
@@ -22,11 +22,11 @@ fn bit_of(digit: u8) -> Option<bool>
 }
 
 fn digits_of(alloc: Global, word: &[u8]) -> Result<Option<Vec<bool>>, AllocError>
-    ensures { IfOk result (λ read. option_map (λ bits. bits.items) read ≡ each bit_of word.now) }
+    ensures { ParsesAs result (λ bits. bits.items) (each parse_bit word.now) }
 {
     let mut bits = Vec::with_capacity(alloc, word.len())?;
     for digit in word {
-        let Some(bit) = bit_of(*digit) else {
+        let Some(bit) = parse_bit(*digit) else {
             return Ok(None);
         };
         bits.push(bit)?;
@@ -36,23 +36,23 @@ fn digits_of(alloc: Global, word: &[u8]) -> Result<Option<Vec<bool>>, AllocError
 
 /// Returns whether each byte of a word is such a digit.
 fn are_digits(word: &[u8]) -> bool
-    ensures { result ≡ is_some (each bit_of word.now) }
+    ensures { result ≡ is_some (each parse_bit word.now) }
 {
     for digit in word {
-        if bit_of(*digit).is_none() {
+        if parse_bit(*digit).is_none() {
             return false;
         }
     }
     true
 }
 
-// A digit for each truth value, or `.` if there are none.
+// A digit for each boolean, or `.` if there are none.
 impl Word for Vec<bool> {
     ghost Meaning = { List Bool };
 
     ghost meaning = { λ bits. bits.items };
 
-    ghost parse = { bits_of };
+    ghost parse = { parse_bits };
 
     fn of_word(alloc: Global, word: &[u8]) -> Result<Option<Self>, AllocError> {
         if word_eq(word, b".") {
@@ -72,7 +72,7 @@ impl Word for Option<Vec<bool>> {
 
     ghost meaning = { option_map (λ bits. bits.items) };
 
-    ghost parse = { mask_of };
+    ghost parse = { parse_mask };
 
     fn of_word(alloc: Global, word: &[u8]) -> Result<Option<Self>, AllocError> {
         if word_eq(word, b"-") {
@@ -89,7 +89,7 @@ impl Word for Option<Vec<bool>> {
     }
 }
 
-/// Packs up to eight truth values into a byte, the first into its lowest bit.
+/// Packs up to eight booleans into a byte, the first into its lowest bit.
 #[tactic(auto, using(crate::proofs::Packing::byte_below_128))]
 fn byte_of(bits: &[bool]) -> u8
     requires { length bits.now ≤ 8 }
@@ -101,7 +101,7 @@ fn byte_of(bits: &[bool]) -> u8
     }
 }
 
-/// Packs truth values into bytes.
+/// Packs booleans into bytes.
 #[tactic(auto, unfolding(crate::specs::Fields::packed_bytes))]
 fn packed_bytes(alloc: Global, bits: &[bool]) -> Result<Vec<u8>, AllocError>
     ensures { IfOk result (λ bytes. bytes.items ≡ packed_bytes bits.now) }
@@ -124,13 +124,13 @@ fn pack(alloc: Global, bits: &[bool]) -> Result<Bits, AllocError>
     })
 }
 
-// The same truth values, packed.
+// The same booleans, packed.
 impl Word for Bits {
     ghost Meaning = { Packed };
 
     ghost meaning = { packed_bits };
 
-    ghost parse = { packed_in };
+    ghost parse = { parse_packed };
 
     fn of_word(alloc: Global, word: &[u8]) -> Result<Option<Self>, AllocError> {
         match <Vec<bool>>::of_word(alloc, word)? {
@@ -150,7 +150,7 @@ impl Word for Option<Bits> {
 
     ghost meaning = { option_map packed_bits };
 
-    ghost parse = { packed_mask_in };
+    ghost parse = { parse_packed_mask };
 
     fn of_word(alloc: Global, word: &[u8]) -> Result<Option<Self>, AllocError> {
         match <Option<Vec<bool>>>::of_word(alloc, word)? {

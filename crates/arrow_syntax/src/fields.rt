@@ -3,11 +3,11 @@ ghost use Rattle.std.specs.Prelude.{◌≡◌, ℕ, ℤ, IfSome, Some, option_ma
 ghost use Rattle.arrow_types.specs.Types.{LogicalType, logical_type};
 ghost use Rattle.arrow_model.specs.declared.kind.Kind.{Kind};
 ghost use Rattle.arrow_model.specs.declared.item.Turn.{Turn};
-ghost use Rattle.arrow_syntax.specs.Fields.{kind_of, type_of, skip_of, turn_of};
-ghost use Rattle.arrow_syntax.specs.Readers.{first};
-ghost use Rattle.arrow_syntax.specs.Words.{number_of, integer_of, offset_of, words_of};
+ghost use Rattle.arrow_syntax.specs.Fields.{parse_kind, parse_type, parse_skip, parse_turn};
+ghost use Rattle.arrow_syntax.specs.Readers.{first, with_rest};
+ghost use Rattle.arrow_syntax.specs.Words.{parse_usize, parse_i64, parse_i32, words_of};
 
-use crate::numbers::{integer_of, number_of, offset_of, with_digit};
+use crate::numbers::{parse_i32, parse_i64, parse_usize, with_digit};
 use crate::readers::Word;
 use crate::words::{next_word, word_eq};
 use arrow_model::{Kind, Turn};
@@ -18,7 +18,7 @@ use std::alloc::{AllocError, Global};
 /// reading them so takes a third of the instructions.
 #[inline(always)]
 fn first_digit(text: &[u8]) -> Option<(usize, &[u8])>
-    ensures { IfSome result (λ x. first number_of (words_of text.now) ≡ Some (x.0, words_of x.1.now)) }
+    ensures { IfSome result (λ x. first parse_usize (words_of text.now) ≡ Some (x.0, words_of x.1.now)) }
 {
     match text {
         [digit, b' ', rest @ ..] => Some((with_digit(0, *digit)?, rest)),
@@ -29,13 +29,13 @@ fn first_digit(text: &[u8]) -> Option<(usize, &[u8])>
 /// Returns the number that the first word writes and the rest of the text, or `None` if there is none.
 #[inline(always)]
 pub fn first_number(text: &[u8]) -> Option<(usize, &[u8])>
-    ensures { option_map (λ x. (x.0, words_of x.1.now)) result ≡ first number_of (words_of text.now) }
+    ensures { option_map (with_rest (λ x. x)) result ≡ first parse_usize (words_of text.now) }
 {
     if let Some(found) = first_digit(text) {
         return Some(found);
     }
     let (word, rest) = next_word(text)?;
-    match number_of(word) {
+    match parse_usize(word) {
         Some(number) => Some((number, rest)),
         None => None,
     }
@@ -46,16 +46,16 @@ impl Word for usize {
 
     ghost meaning = { λ x. x };
 
-    ghost parse = { number_of };
+    ghost parse = { parse_usize };
 
     #[inline(always)]
     fn of_word(_alloc: Global, word: &[u8]) -> Result<Option<Self>, AllocError> {
-        Ok(number_of(word))
+        Ok(parse_usize(word))
     }
 
     #[inline(always)]
     fn is_word(word: &[u8]) -> bool {
-        number_of(word).is_some()
+        parse_usize(word).is_some()
     }
 }
 
@@ -64,14 +64,14 @@ impl Word for i64 {
 
     ghost meaning = { λ x. x };
 
-    ghost parse = { integer_of };
+    ghost parse = { parse_i64 };
 
     fn of_word(_alloc: Global, word: &[u8]) -> Result<Option<Self>, AllocError> {
-        Ok(integer_of(word))
+        Ok(parse_i64(word))
     }
 
     fn is_word(word: &[u8]) -> bool {
-        integer_of(word).is_some()
+        parse_i64(word).is_some()
     }
 }
 
@@ -80,20 +80,20 @@ impl Word for i32 {
 
     ghost meaning = { λ x. x };
 
-    ghost parse = { offset_of };
+    ghost parse = { parse_i32 };
 
     fn of_word(_alloc: Global, word: &[u8]) -> Result<Option<Self>, AllocError> {
-        Ok(offset_of(word))
+        Ok(parse_i32(word))
     }
 
     fn is_word(word: &[u8]) -> bool {
-        offset_of(word).is_some()
+        parse_i32(word).is_some()
     }
 }
 
 /// Returns the kind of array or builder that a word names.
-fn kind_of(word: &[u8]) -> Option<Kind>
-    ensures { result ≡ kind_of word.now }
+fn parse_kind(word: &[u8]) -> Option<Kind>
+    ensures { result ≡ parse_kind word.now }
 {
     if word_eq(word, b"prim") {
         return Some(Kind::Primitive);
@@ -130,10 +130,10 @@ fn kind_of(word: &[u8]) -> Option<Kind>
 
 /// Returns the kind that the first word names and the rest of the text, or `None` if there is none.
 pub fn first_kind(text: &[u8]) -> Option<(Kind, &[u8])>
-    ensures { option_map (λ x. (x.0, words_of x.1.now)) result ≡ first kind_of (words_of text.now) }
+    ensures { option_map (with_rest (λ x. x)) result ≡ first parse_kind (words_of text.now) }
 {
     let (word, rest) = next_word(text)?;
-    match kind_of(word) {
+    match parse_kind(word) {
         Some(kind) => Some((kind, rest)),
         None => None,
     }
@@ -144,20 +144,20 @@ impl Word for Kind {
 
     ghost meaning = { λ x. x };
 
-    ghost parse = { kind_of };
+    ghost parse = { parse_kind };
 
     fn of_word(_alloc: Global, word: &[u8]) -> Result<Option<Self>, AllocError> {
-        Ok(kind_of(word))
+        Ok(parse_kind(word))
     }
 
     fn is_word(word: &[u8]) -> bool {
-        kind_of(word).is_some()
+        parse_kind(word).is_some()
     }
 }
 
 /// Returns the type that a word names.
-fn type_of(word: &[u8]) -> Option<DataType>
-    ensures { option_map logical_type result ≡ type_of word.now }
+fn parse_type(word: &[u8]) -> Option<DataType>
+    ensures { option_map logical_type result ≡ parse_type word.now }
 {
     if word_eq(word, b"Boolean") {
         return Some(DataType::Boolean);
@@ -212,31 +212,31 @@ impl Word for DataType {
 
     ghost meaning = { logical_type };
 
-    ghost parse = { type_of };
+    ghost parse = { parse_type };
 
     fn of_word(_alloc: Global, word: &[u8]) -> Result<Option<Self>, AllocError> {
-        Ok(type_of(word))
+        Ok(parse_type(word))
     }
 
     fn is_word(word: &[u8]) -> bool {
-        type_of(word).is_some()
+        parse_type(word).is_some()
     }
 }
 
 /// Returns the turn that `s` and a number write, which is the number of items that are skipped.
-fn skip_of(word: &[u8]) -> Option<Turn>
-    ensures { result ≡ skip_of word.now }
+fn parse_skip(word: &[u8]) -> Option<Turn>
+    ensures { result ≡ parse_skip word.now }
 {
     let (first, rest) = word.split_first()?;
     if *first != b's' {
         return None;
     }
-    Some(Turn::Skip(number_of(rest)?))
+    Some(Turn::Skip(parse_usize(rest)?))
 }
 
 /// Returns the turn of an iterator that a word writes.
-fn turn_of(word: &[u8]) -> Option<Turn>
-    ensures { result ≡ turn_of word.now }
+fn parse_turn(word: &[u8]) -> Option<Turn>
+    ensures { result ≡ parse_turn word.now }
 {
     if word_eq(word, b"f") {
         return Some(Turn::Front);
@@ -244,7 +244,7 @@ fn turn_of(word: &[u8]) -> Option<Turn>
     if word_eq(word, b"b") {
         return Some(Turn::Back);
     }
-    skip_of(word)
+    parse_skip(word)
 }
 
 impl Word for Turn {
@@ -252,13 +252,13 @@ impl Word for Turn {
 
     ghost meaning = { λ x. x };
 
-    ghost parse = { turn_of };
+    ghost parse = { parse_turn };
 
     fn of_word(_alloc: Global, word: &[u8]) -> Result<Option<Self>, AllocError> {
-        Ok(turn_of(word))
+        Ok(parse_turn(word))
     }
 
     fn is_word(word: &[u8]) -> bool {
-        turn_of(word).is_some()
+        parse_turn(word).is_some()
     }
 }

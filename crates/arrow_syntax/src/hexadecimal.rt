@@ -4,7 +4,7 @@ ghost use Rattle.std.specs.Prelude.{is_some, length, take};
 ghost use Rattle.std.specs.List.{list_all};
 ghost use Rattle.std.specs.Str.{IsValidUpTo};
 ghost use Rattle.hex.specs.Hex.{is_hex_digit};
-ghost use Rattle.arrow_syntax.specs.Fields.{bytes_in, text_in};
+ghost use Rattle.arrow_syntax.specs.Fields.{hex_bytes, hex_text};
 
 use std::str::from_utf8;
 
@@ -27,7 +27,7 @@ fn are_all_digits(word: &[u8]) -> bool
 
 /// Returns whether hexadecimal digits write bytes.
 pub(crate) fn are_bytes(digits: &[u8]) -> bool
-    ensures { result ≡ is_some (bytes_in digits.now) }
+    ensures { result ≡ is_some (hex_bytes digits.now) }
 {
     digits.len() % 2 == 0 && are_all_digits(digits)
 }
@@ -35,7 +35,7 @@ pub(crate) fn are_bytes(digits: &[u8]) -> bool
 /// Decodes digits into `room`, which has half their length, and returns whether all are digits.
 fn decode_into(digits: &[u8], room: &mut [u8]) -> bool
     requires { length digits.now ≡ 2 * length room.old }
-    ensures { bytes_in digits.now ≡ (if result then Some room.new else None) }
+    ensures { hex_bytes digits.now ≡ (if result then Some room.new else None) }
 {
     hex::decode_to_slice(digits, room).is_ok()
 }
@@ -55,8 +55,8 @@ fn whole_characters(bytes: &[u8]) -> usize
 /// Returns the digits after the first characters that digits write, or `None` if they write no text.
 fn past_characters(digits: &[u8]) -> Option<&[u8]>
     requires { 0 < length digits.now }
-    ensures none { IfNone result (text_in digits.now ≡ None) }
-    ensures some { IfSome result (λ rest. is_some (text_in digits.now) ≡ is_some (text_in rest.now)) }
+    ensures none { IfNone result (hex_text digits.now ≡ None) }
+    ensures some { IfSome result (λ rest. is_some (hex_text digits.now) ≡ is_some (hex_text rest.now)) }
     ensures shorter { IfSome result (λ rest. length rest.now < length digits.now) }
 {
     let mut room = [0; WINDOW];
@@ -74,7 +74,7 @@ fn past_characters(digits: &[u8]) -> Option<&[u8]>
 
 /// Returns whether hexadecimal digits write a text.
 pub(crate) fn is_text(digits: &[u8]) -> bool
-    ensures { result ≡ is_some (text_in digits.now) }
+    ensures { result ≡ is_some (hex_text digits.now) }
 {
     let mut rest = digits;
     while !rest.is_empty() {

@@ -1,16 +1,16 @@
 //! The words that are items and slots, and those that name a change of a list of them.
-ghost use Rattle.std.specs.Prelude.{◌≡◌, ℕ, ℤ, true, false, List, Option, Some, None, IfOk, is_some};
+ghost use Rattle.std.specs.Prelude.{◌≡◌, ℕ, ℤ, true, false, List, Option, Some, None, is_some};
 ghost use Rattle.std.specs.Prelude.{option_map, string_bytes, if◌then◌else◌};
 ghost use Rattle.std.specs.Str.{is_utf8};
-ghost use Rattle.arrow_model.specs.Item.{Stored, value, bytes_item, ListChange, fill, turn, stored_item, stored_slot};
+ghost use Rattle.arrow_model.specs.Item.{Stored, value, bytes_item, ListChange, fill, reversal, stored_item, stored_slot};
 ghost use Rattle.arrow_model.specs.Item.{change_of};
-ghost use Rattle.arrow_syntax.specs.Fields.{bytes_in, bytes_of, change_by_name, change_in, item_by_letter};
-ghost use Rattle.arrow_syntax.specs.Fields.{item_of, slot_of, text_in};
-ghost use Rattle.arrow_syntax.specs.Readers.{only, reads, no_words};
-ghost use Rattle.arrow_syntax.specs.Words.{words_of, integer_of};
+ghost use Rattle.arrow_syntax.specs.Fields.{hex_bytes, parse_bytes, change_by_name, parse_change, item_by_letter};
+ghost use Rattle.arrow_syntax.specs.Fields.{parse_item, parse_slot, hex_text};
+ghost use Rattle.arrow_syntax.specs.Readers.{ParsesAs, map_read, no_words, only};
+ghost use Rattle.arrow_syntax.specs.Words.{words_of, parse_i64};
 
 use crate::hexadecimal::{are_bytes, is_text};
-use crate::numbers::integer_of;
+use crate::numbers::parse_i64;
 use crate::readers::{Last, Word, Words};
 use crate::words::{next_word, word_eq};
 use arrow_model::{Change, Item};
@@ -18,8 +18,8 @@ use hex::FromHexError;
 use std::alloc::{AllocError, Global};
 
 /// Returns the bytes that hexadecimal digits write.
-fn bytes_in(alloc: Global, digits: &[u8]) -> Result<Option<Vec<u8>>, AllocError>
-    ensures { IfOk result (λ read. option_map (λ bytes. bytes.items) read ≡ bytes_in digits.now) }
+fn hex_bytes(alloc: Global, digits: &[u8]) -> Result<Option<Vec<u8>>, AllocError>
+    ensures { ParsesAs result (λ bytes. bytes.items) (hex_bytes digits.now) }
 {
     match hex::decode(alloc, digits) {
         Ok(bytes) => Ok(Some(bytes)),
@@ -29,18 +29,18 @@ fn bytes_in(alloc: Global, digits: &[u8]) -> Result<Option<Vec<u8>>, AllocError>
 }
 
 /// Converts bytes into a text, or returns `None` if they are not UTF-8.
-fn text_of(bytes: Vec<u8>) -> Option<String>
+fn text_from_utf8(bytes: Vec<u8>) -> Option<String>
     ensures { option_map string_bytes result ≡ (if is_utf8 bytes.items then Some bytes.items else None) }
 {
     String::from_utf8(bytes).ok()
 }
 
 /// Returns the text whose bytes hexadecimal digits write.
-fn text_in(alloc: Global, digits: &[u8]) -> Result<Option<String>, AllocError>
-    ensures { IfOk result (λ read. option_map string_bytes read ≡ text_in digits.now) }
+fn hex_text(alloc: Global, digits: &[u8]) -> Result<Option<String>, AllocError>
+    ensures { ParsesAs result string_bytes (hex_text digits.now) }
 {
-    match bytes_in(alloc, digits)? {
-        Some(bytes) => Ok(text_of(bytes)),
+    match hex_bytes(alloc, digits)? {
+        Some(bytes) => Ok(text_from_utf8(bytes)),
         None => Ok(None),
     }
 }
@@ -51,14 +51,14 @@ impl Word for Vec<u8> {
 
     ghost meaning = { λ bytes. bytes.items };
 
-    ghost parse = { bytes_of };
+    ghost parse = { parse_bytes };
 
     fn of_word(alloc: Global, word: &[u8]) -> Result<Option<Self>, AllocError> {
         let Some((first, digits)) = word.split_first() else {
             return Ok(None);
         };
         if *first == b'x' {
-            bytes_in(alloc, digits)
+            hex_bytes(alloc, digits)
         } else {
             Ok(None)
         }
@@ -74,24 +74,24 @@ impl Word for Vec<u8> {
 
 /// Returns the native item that a number writes.
 fn read_value(digits: &[u8]) -> Option<Item<i64>>
-    ensures { option_map stored_item result ≡ option_map value (integer_of digits.now) }
+    ensures { option_map stored_item result ≡ option_map value (parse_i64 digits.now) }
 {
-    Some(Item::Value(integer_of(digits)?))
+    Some(Item::Value(parse_i64(digits)?))
 }
 
 fn read_bytes(alloc: Global, digits: &[u8]) -> Result<Option<Item<i64>>, AllocError>
-    ensures { IfOk result (λ read. option_map stored_item read ≡ option_map (bytes_item false) (bytes_in digits.now)) }
+    ensures { ParsesAs result stored_item (option_map (bytes_item false) (hex_bytes digits.now)) }
 {
-    match bytes_in(alloc, digits)? {
+    match hex_bytes(alloc, digits)? {
         Some(bytes) => Ok(Some(Item::Bytes(bytes))),
         None => Ok(None),
     }
 }
 
 fn read_text(alloc: Global, digits: &[u8]) -> Result<Option<Item<i64>>, AllocError>
-    ensures { IfOk result (λ read. option_map stored_item read ≡ option_map (bytes_item true) (text_in digits.now)) }
+    ensures { ParsesAs result stored_item (option_map (bytes_item true) (hex_text digits.now)) }
 {
-    match text_in(alloc, digits)? {
+    match hex_text(alloc, digits)? {
         Some(text) => Ok(Some(Item::Text(text))),
         None => Ok(None),
     }
@@ -99,7 +99,7 @@ fn read_text(alloc: Global, digits: &[u8]) -> Result<Option<Item<i64>>, AllocErr
 
 /// Returns the item that a word writes, by its first letter.
 fn item_by_letter(alloc: Global, word: &[u8]) -> Result<Option<Item<i64>>, AllocError>
-    ensures { IfOk result (λ read. option_map stored_item read ≡ item_by_letter word.now) }
+    ensures { ParsesAs result stored_item (item_by_letter word.now) }
 {
     let Some((first, rest)) = word.split_first() else {
         return Ok(None);
@@ -120,7 +120,7 @@ fn is_item_by_letter(word: &[u8]) -> bool
         return false;
     };
     match *first {
-        b'v' => integer_of(rest).is_some(),
+        b'v' => parse_i64(rest).is_some(),
         b'x' => are_bytes(rest),
         b't' => is_text(rest),
         _ => false,
@@ -132,7 +132,7 @@ impl Word for Item<i64> {
 
     ghost meaning = { stored_item };
 
-    ghost parse = { item_of };
+    ghost parse = { parse_item };
 
     fn of_word(alloc: Global, word: &[u8]) -> Result<Option<Self>, AllocError> {
         if word_eq(word, b"b0") {
@@ -155,7 +155,7 @@ impl Word for Option<Item<i64>> {
 
     ghost meaning = { stored_slot };
 
-    ghost parse = { slot_of };
+    ghost parse = { parse_slot };
 
     fn of_word(alloc: Global, word: &[u8]) -> Result<Option<Self>, AllocError> {
         if word_eq(word, b"_") {
@@ -174,7 +174,7 @@ impl Word for Option<Item<i64>> {
 
 /// Returns the change that fills with the item that the words write.
 fn fill_change(alloc: Global, words: &[u8]) -> Result<Option<Change<i64>>, AllocError>
-    ensures { IfOk result (λ read. option_map change_of read ≡ reads (only item_of) fill (words_of words.now)) }
+    ensures { ParsesAs result change_of (map_read (only parse_item) fill (words_of words.now)) }
 {
     match <Last<Item<i64>>>::of_words(alloc, words)? {
         Some(Last(item)) => Ok(Some(Change::Fill(item))),
@@ -184,7 +184,7 @@ fn fill_change(alloc: Global, words: &[u8]) -> Result<Option<Change<i64>>, Alloc
 
 /// Returns the change that reverses a list, if no word follows.
 fn reverse_change(words: &[u8]) -> Option<Change<i64>>
-    ensures { option_map change_of result ≡ no_words turn (words_of words.now) }
+    ensures { option_map change_of result ≡ no_words reversal (words_of words.now) }
 {
     match next_word(words) {
         Some(_) => None,
@@ -198,7 +198,7 @@ fn change_by_name(
     name: &[u8],
     words: &[u8],
 ) -> Result<Option<Change<i64>>, AllocError>
-    ensures { IfOk result (λ read. option_map change_of read ≡ change_by_name name.now (words_of words.now)) }
+    ensures { ParsesAs result change_of (change_by_name name.now (words_of words.now)) }
 {
     if word_eq(name, b"fill") {
         return fill_change(alloc, words);
@@ -225,7 +225,7 @@ impl Words for Change<i64> {
 
     ghost content = { change_of };
 
-    ghost reader = { change_in };
+    ghost reader = { parse_change };
 
     fn of_words(alloc: Global, words: &[u8]) -> Result<Option<Self>, AllocError> {
         match next_word(words) {

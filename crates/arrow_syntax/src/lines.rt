@@ -1,9 +1,9 @@
 //! The lines of the program's input, which are commands, comments or blank.
-ghost use Rattle.std.specs.Prelude.{◌≡◌, ◌==◌, ◌∷◌, [], ◌<◌, IfSome, IsTrue, MatchOption, length, position};
+ghost use Rattle.std.specs.Prelude.{◌≡◌, ◌==◌, ◌<◌, IfSome, IsTrue, length, position};
 ghost use Rattle.std.specs.List.{list_all};
 ghost use Rattle.arrow_syntax.specs.Lines.{is_of_lines};
-ghost use Rattle.arrow_syntax.specs.Words.{is_comment, is_passed_over, is_printable, line_feed, lines_of};
-ghost use Rattle.arrow_syntax.specs.Words.{pieces, space};
+ghost use Rattle.arrow_syntax.specs.Words.{SplitsAt, is_comment, is_passed_over, is_printable, line_feed, lines_of};
+ghost use Rattle.arrow_syntax.specs.Words.{space};
 
 use memchr::memchr;
 
@@ -18,8 +18,7 @@ fn line_end(text: &[u8]) -> Option<usize>
 /// Splits a text at its first line feed. Returns the first line, and what follows the line feed if there is one.
 #[inline(always)]
 pub fn split_line(text: &[u8]) -> (&[u8], Option<&[u8]>)
-    ensures pieces { MatchOption result.1 (pieces line_feed text.now ≡ result.0.now ∷ [])
-        (λ after. pieces line_feed text.now ≡ result.0.now ∷ pieces line_feed after.now) }
+    ensures pieces { SplitsAt line_feed text.now result.0.now result.1 }
     ensures shorter { IfSome result.1 (λ after. length after.now < length text.now) }
 {
     match line_end(text) {

@@ -1,6 +1,6 @@
 //! The numbers that words write.
 ghost use Rattle.std.specs.Prelude.{◌≡◌, ◌^◌};
-ghost use Rattle.arrow_syntax.specs.Words.{number_of, with_digit, positive, negative, integer_of, offset_of};
+ghost use Rattle.arrow_syntax.specs.Words.{parse_usize, with_digit, positive, negative, parse_i64, parse_i32};
 
 /// Appends a digit to a number. Returns `None` if the byte is no digit or the result overflows. A number far below the
 /// greatest `usize` cannot overflow, which spares most numbers the wide product.
@@ -20,8 +20,8 @@ pub(crate) fn with_digit(number: usize, byte: u8) -> Option<usize>
 
 /// Returns the number that one or more digits write, or `None` if it does not fit. Leading zeros are allowed.
 #[inline(always)]
-pub fn number_of(word: &[u8]) -> Option<usize>
-    ensures { result ≡ number_of word.now }
+pub fn parse_usize(word: &[u8]) -> Option<usize>
+    ensures { result ≡ parse_usize word.now }
 {
     if word.is_empty() {
         return None;
@@ -50,20 +50,20 @@ fn negative(number: usize) -> Option<i64>
 }
 
 /// Returns the `i64` that digits write, after a `-` if it is negative.
-pub fn integer_of(word: &[u8]) -> Option<i64>
-    ensures { result ≡ integer_of word.now }
+pub fn parse_i64(word: &[u8]) -> Option<i64>
+    ensures { result ≡ parse_i64 word.now }
 {
     let (first, digits) = word.split_first()?;
     if *first == b'-' {
-        negative(number_of(digits)?)
+        negative(parse_usize(digits)?)
     } else {
-        positive(number_of(word)?)
+        positive(parse_usize(word)?)
     }
 }
 
 /// Returns the `i32` that digits write, after a `-` if it is negative.
-pub fn offset_of(word: &[u8]) -> Option<i32>
-    ensures { result ≡ offset_of word.now }
+pub fn parse_i32(word: &[u8]) -> Option<i32>
+    ensures { result ≡ parse_i32 word.now }
 {
-    i32::try_from(integer_of(word)?).ok()
+    i32::try_from(parse_i64(word)?).ok()
 }

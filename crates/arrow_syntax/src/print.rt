@@ -8,7 +8,7 @@ ghost use Rattle.arrow_types.specs.Types.{logical_type};
 ghost use Rattle.arrow_model.specs.Answer.{answer_of};
 ghost use Rattle.arrow_model.specs.Item.{stored_item, stored_slot};
 ghost use Rattle.arrow_syntax.specs.Words.{space};
-ghost use Rattle.arrow_syntax.specs.Text.{Grows, answer_text, bracketed, item_text, slot_text, text_of, type_text};
+ghost use Rattle.arrow_syntax.specs.Text.{AppendsText, answer_text, bracketed, item_text, slot_text, answers_text, type_word};
 
 use arrow_model::{Item, Reply};
 use arrow_types::data_type::DataType;
@@ -18,7 +18,7 @@ use std::fmt::Write;
 
 /// Appends the digits of a number.
 fn push_number<I: Integer>(text: &mut String, number: I) -> Result<(), AllocError>
-    ensures { OnOk result (Grows text.old text.new (I.text number)) }
+    ensures { OnOk result (AppendsText text.old text.new (I.text number)) }
 {
     let mut digits = Buffer::new();
     text.push_str(digits.format(number))
@@ -26,7 +26,7 @@ fn push_number<I: Integer>(text: &mut String, number: I) -> Result<(), AllocErro
 
 /// Appends a native value: `v` and its digits.
 pub fn push_value(text: &mut String, number: i64) -> Result<(), AllocError>
-    ensures { OnOk result (Grows text.old text.new (codes "v" ++ signed_decimal number)) }
+    ensures { OnOk result (AppendsText text.old text.new (codes "v" ++ signed_decimal number)) }
 {
     text.push_str("v")?;
     push_number(text, number)
@@ -44,7 +44,7 @@ fn digit(worth: u8) -> char
 
 /// Appends the hexadecimal digits of bytes.
 fn push_hex(text: &mut String, bytes: &[u8]) -> Result<(), AllocError>
-    ensures { OnOk result (Grows text.old text.new (encode_lower bytes.now)) }
+    ensures { OnOk result (AppendsText text.old text.new (encode_lower bytes.now)) }
 {
     for byte in bytes {
         text.push(digit(*byte / 16))?;
@@ -56,21 +56,21 @@ fn push_hex(text: &mut String, bytes: &[u8]) -> Result<(), AllocError>
 /// Appends a letter and the hexadecimal digits of bytes.
 pub fn push_bytes(text: &mut String, letter: char, bytes: &[u8]) -> Result<(), AllocError>
     requires { letter < 128 }
-    ensures { OnOk result (Grows text.old text.new (letter ∷ encode_lower bytes.now)) }
+    ensures { OnOk result (AppendsText text.old text.new (letter ∷ encode_lower bytes.now)) }
 {
     text.push(letter)?;
     push_hex(text, bytes)
 }
 
-/// Appends the text of a truth value.
+/// Appends the text of a boolean.
 pub fn push_bit(text: &mut String, bit: bool) -> Result<(), AllocError>
-    ensures { OnOk result (Grows text.old text.new (if bit then codes "b1" else codes "b0")) }
+    ensures { OnOk result (AppendsText text.old text.new (if bit then codes "b1" else codes "b0")) }
 {
     text.push_str(if bit { "b1" } else { "b0" })
 }
 
 fn push_item(text: &mut String, item: &Item<i64>) -> Result<(), AllocError>
-    ensures { OnOk result (Grows text.old text.new (item_text (stored_item item.now))) }
+    ensures { OnOk result (AppendsText text.old text.new (item_text (stored_item item.now))) }
 {
     match item {
         Item::Value(number) => push_value(text, *number),
@@ -81,7 +81,7 @@ fn push_item(text: &mut String, item: &Item<i64>) -> Result<(), AllocError>
 }
 
 fn push_slot(text: &mut String, slot: &Option<Item<i64>>) -> Result<(), AllocError>
-    ensures { OnOk result (Grows text.old text.new (slot_text (stored_slot slot.now))) }
+    ensures { OnOk result (AppendsText text.old text.new (slot_text (stored_slot slot.now))) }
 {
     match slot {
         Some(item) => push_item(text, item),
@@ -96,7 +96,7 @@ trait Part {
 
     /// Appends the text of the part.
     fn push_to(&self, text: &mut String) -> Result<(), AllocError>
-        ensures { OnOk result (Grows text.old text.new (part_text self.now)) };
+        ensures { OnOk result (AppendsText text.old text.new (part_text self.now)) };
 }
 
 impl Part for Option<Item<i64>> {
@@ -117,7 +117,7 @@ impl Part for usize {
 
 /// Appends parts with a space before each.
 fn push_others<P: Part>(text: &mut String, parts: &[P]) -> Result<(), AllocError>
-    ensures { OnOk result (Grows text.old text.new (flat_map (λ x. space ∷ P.part_text x) parts.now)) }
+    ensures { OnOk result (AppendsText text.old text.new (flat_map (λ x. space ∷ P.part_text x) parts.now)) }
 {
     for each in parts {
         text.push_str(" ")?;
@@ -128,7 +128,7 @@ fn push_others<P: Part>(text: &mut String, parts: &[P]) -> Result<(), AllocError
 
 /// Appends parts with a space between each two.
 fn push_joined<P: Part>(text: &mut String, parts: &[P]) -> Result<(), AllocError>
-    ensures { OnOk result (Grows text.old text.new (join_with_byte space (map P.part_text parts.now))) }
+    ensures { OnOk result (AppendsText text.old text.new (join_with_byte space (map P.part_text parts.now))) }
 {
     let Some((first, others)) = parts.split_first() else {
         return Ok(());
@@ -138,7 +138,7 @@ fn push_joined<P: Part>(text: &mut String, parts: &[P]) -> Result<(), AllocError
 }
 
 fn push_list<P: Part>(text: &mut String, parts: &[P]) -> Result<(), AllocError>
-    ensures { OnOk result (Grows text.old text.new (bracketed (map P.part_text parts.now))) }
+    ensures { OnOk result (AppendsText text.old text.new (bracketed (map P.part_text parts.now))) }
 {
     text.push_str("[")?;
     push_joined(text, parts)?;
@@ -147,7 +147,7 @@ fn push_list<P: Part>(text: &mut String, parts: &[P]) -> Result<(), AllocError>
 
 /// Returns the word of a type, or `other` if it has none.
 fn type_word(data_type: &DataType) -> &'static str
-    ensures { result.now ≡ type_text (logical_type data_type.now) }
+    ensures { result.now ≡ type_word (logical_type data_type.now) }
 {
     match data_type {
         DataType::Boolean => "Boolean",
@@ -170,7 +170,7 @@ fn type_word(data_type: &DataType) -> &'static str
 }
 
 fn push_reply(text: &mut String, reply: &Reply<i64>) -> Result<(), AllocError>
-    ensures { OnOk result (Grows text.old text.new (answer_text (answer_of reply.now))) }
+    ensures { OnOk result (AppendsText text.old text.new (answer_text (answer_of reply.now))) }
 {
     match reply {
         Reply::Done => text.push_str("ok"),
@@ -191,7 +191,7 @@ fn push_reply(text: &mut String, reply: &Reply<i64>) -> Result<(), AllocError>
 
 /// Appends a line for each reply, in order.
 pub fn push_replies(text: &mut String, replies: &[Reply<i64>]) -> Result<(), AllocError>
-    ensures { OnOk result (Grows text.old text.new (text_of (map answer_of replies.now))) }
+    ensures { OnOk result (AppendsText text.old text.new (answers_text (map answer_of replies.now))) }
 {
     for reply in replies {
         push_reply(text, reply)?;

@@ -1,6 +1,6 @@
 //! How the words behind a line's name are read: each by its type, and none may be left over.
 ghost use Rattle.std.specs.Prelude.{◌≡◌, IfOk, ℕ, List, Option, is_some, map, option_map};
-ghost use Rattle.arrow_syntax.specs.Readers.{each, end, first, only, ◌▸◌};
+ghost use Rattle.arrow_syntax.specs.Readers.{ParsesAs, each, end, first, only, with_rest, ◌▸◌};
 ghost use Rattle.arrow_syntax.specs.Words.{words_of};
 
 use crate::words::next_word;
@@ -18,7 +18,7 @@ pub trait Word: Sized + Drop {
 
     /// Returns the value that a word writes, or `None` if the word is malformed.
     fn of_word(alloc: Global, word: &[u8]) -> Result<Option<Self>, AllocError>
-        ensures { IfOk result (λ read. option_map meaning read ≡ parse word.now) };
+        ensures { ParsesAs result meaning (parse word.now) };
 
     /// Returns whether a word is well formed. Allocates nothing.
     fn is_word(word: &[u8]) -> bool
@@ -37,7 +37,7 @@ pub trait Words: Sized + Drop {
 
     /// Returns the value that words write, or `None` if they are malformed.
     fn of_words(alloc: Global, words: &[u8]) -> Result<Option<Self>, AllocError>
-        ensures { IfOk result (λ read. option_map content read ≡ reader (words_of words.now)) };
+        ensures { ParsesAs result content (reader (words_of words.now)) };
 
     /// Returns whether words are well formed. Allocates nothing.
     fn are_words(words: &[u8]) -> bool
@@ -50,8 +50,7 @@ pub struct Last<A>(pub A);
 
 /// Reads the first word. Returns its value and the rest of the text, or `None` if the word is missing or malformed.
 pub fn next<A: Word>(alloc: Global, text: &[u8]) -> Result<Option<(A, &[u8])>, AllocError>
-    ensures { let wanted = first A.parse (words_of text.now) in
-        IfOk result (λ read. option_map (λ x. (A.meaning x.0, words_of x.1.now)) read ≡ wanted) }
+    ensures { ParsesAs result (with_rest A.meaning) (first A.parse (words_of text.now)) }
 {
     let Some((word, rest)) = next_word(text) else {
         return Ok(None);

@@ -1,6 +1,6 @@
 //! The words of a line.
 ghost use Rattle.std.specs.Prelude.{◌≡◌, ◌==◌, ◌∷◌, [], ◌<◌, IfSome, MatchOption, bytes_eq, length, position};
-ghost use Rattle.arrow_syntax.specs.Words.{pieces, words_of};
+ghost use Rattle.arrow_syntax.specs.Words.{SplitsAt, words_of};
 
 /// Returns whether a word is this name. The loop is over the name's length, which is known wherever this is called, so
 /// that the compiler unrolls it.
@@ -35,8 +35,7 @@ fn position_of(byte: u8, text: &[u8]) -> Option<usize>
 /// Splits a text at the first occurrence of a byte. Returns what precedes it, and what follows it if it occurs.
 #[inline(always)]
 fn split_at(byte: u8, text: &[u8]) -> (&[u8], Option<&[u8]>)
-    ensures pieces { MatchOption result.1 (pieces byte text.now ≡ result.0.now ∷ [])
-        (λ after. pieces byte text.now ≡ result.0.now ∷ pieces byte after.now) }
+    ensures pieces { SplitsAt byte text.now result.0.now result.1 }
     ensures shorter { IfSome result.1 (λ after. length after.now < length text.now) }
 {
     match position_of(byte, text) {

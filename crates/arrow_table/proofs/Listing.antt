@@ -1,4 +1,4 @@
--- What an entry that is lent tells is what the command that lists slots answers.
+-- The slots of a borrowed entry are those that the command `Slots` answers.
 use Rattle.std.proofs.Common.{◌≡◌, ℕ, option_and_then, slice_get, slice_set, Option, Some, None, MatchOption}
 use Rattle.std.proofs.Common.{option_map, refl, sym, arith}
 use Rattle.arrow_entry.specs.declared.entry.Entry.{Entry}

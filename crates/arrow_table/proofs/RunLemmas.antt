@@ -7,13 +7,13 @@ use Rattle.arrow_check.specs.Reading.{Cost, RisesAtMost}
 use Rattle.arrow_model.specs.declared.command.BothCommand.{BothCommand}
 use Rattle.arrow_model.specs.declared.command.Command.{Command}
 use Rattle.arrow_model.specs.declared.reply.Reply.{Reply}
-use Rattle.arrow_model.specs.Request.{Request, asked}
+use Rattle.arrow_model.specs.Request.{Request, as_request}
 use Rattle.arrow_model.specs.Answer.{Answer, answer_of}
-use Rattle.arrow_model.specs.Value.{Held, Types}
+use Rattle.arrow_model.specs.Value.{TableState, Types}
 use Rattle.arrow_model.specs.Step.{IsStep}
-use Rattle.arrow_model.specs.Run.{Runs, IsRun, CostsAtMost, total, texts_of, inner_offsets_of}
-use Rattle.arrow_model.specs.Both.{Both, BothRequest, narrow, wide, widen, narrow_to, both_asked, narrow_of, wide_of}
-use Rattle.arrow_model.specs.Both.{IsBothStep}
+use Rattle.arrow_model.specs.Run.{Runs, RunAppends, IsRun, CostedStep, CostsAtMost, sum_over, tested_texts, inner_offsets}
+use Rattle.arrow_model.specs.Both.{Both, BothRequest, narrow, wide, widen, narrow_to, both_request, narrow_of, wide_of}
+use Rattle.arrow_model.specs.Both.{IsBothStep, BothCommandStep}
 use Rattle.arrow_model.proofs.CallerLemmas.{costs-still}
 
 -- ---- any steps
@@ -30,8 +30,8 @@ module _ {S C A : Type 0} (Step : S → C → A → S → Type 0) where
   -- one more command, whose reply is appended
   pub runs-more : (s m n : S) (commands : List C) (done : ℕ) (before after : List A) (d : C) (r : A)
       → done < length commands → d ≡ slice_index_or commands done d
-      → ((added : List A) × (after ≡ before ++ added) × Runs Step s (take done commands) added m) → Step m d r n
-      → (added : List A) × (after ++ r ∷ [] ≡ before ++ added) × Runs Step s (take (done + 1) commands) added n
+      → RunAppends Step s (take done commands) before after m → Step m d r n
+      → RunAppends Step s (take (done + 1) commands) before (after ++ r ∷ []) n
   runs-more s m n commands done before after d r within is h step = (
     h.0 ++ r ∷ [],
     ap (λ rs. rs ++ r ∷ []) h.1 ∙ append_assoc before h.0 (r ∷ []),
@@ -52,10 +52,10 @@ module _ {S C A D B : Type 0} (Step : S → C → A → S → Type 0) (Other : S
 
 -- ---- costs
 
-total-join : {T : Type 0} (measure : Request T → ℕ) (cs ds : List (Request T))
-    → total measure (cs ++ ds) ≡ total measure cs + total measure ds
-total-join measure [] ds = omega arith
-total-join measure (c ∷ cs) ds = let rest = total-join measure cs ds in omega (arith, rest)
+sum_over-join : {T : Type 0} (measure : Request T → ℕ) (cs ds : List (Request T))
+    → sum_over measure (cs ++ ds) ≡ sum_over measure cs + sum_over measure ds
+sum_over-join measure [] ds = omega arith
+sum_over-join measure (c ∷ cs) ds = let rest = sum_over-join measure cs ds in omega (arith, rest)
 
 rises-more : (i j n a b d : ℕ) → n ≡ i + j → RisesAtMost i a b → RisesAtMost j b d → RisesAtMost n a d
 rises-more i j n a b d is h k = record
@@ -64,12 +64,12 @@ rises-more i j n a b d is h k = record
 costs-join : {T : Type 0} (cs ds : List (Request T)) (x y z : Cost) → CostsAtMost cs x y → CostsAtMost ds y z
     → CostsAtMost (cs ++ ds) x z
 costs-join cs ds x y z h k = record {
-  ascii = rises-more (total texts_of cs) (total texts_of ds) (total texts_of (cs ++ ds)) x.ascii_tests y.ascii_tests
-      z.ascii_tests (total-join texts_of cs ds) h.ascii k.ascii;
-  whole = rises-more (total texts_of cs) (total texts_of ds) (total texts_of (cs ++ ds)) x.whole_tests y.whole_tests
-      z.whole_tests (total-join texts_of cs ds) h.whole k.whole;
-  looked = rises-more (total inner_offsets_of cs) (total inner_offsets_of ds) (total inner_offsets_of (cs ++ ds))
-      x.bytes_looked y.bytes_looked z.bytes_looked (total-join inner_offsets_of cs ds) h.looked k.looked;
+  ascii = rises-more (sum_over tested_texts cs) (sum_over tested_texts ds) (sum_over tested_texts (cs ++ ds)) x.ascii_tests y.ascii_tests
+      z.ascii_tests (sum_over-join tested_texts cs ds) h.ascii k.ascii;
+  whole = rises-more (sum_over tested_texts cs) (sum_over tested_texts ds) (sum_over tested_texts (cs ++ ds)) x.whole_tests y.whole_tests
+      z.whole_tests (sum_over-join tested_texts cs ds) h.whole k.whole;
+  looked = rises-more (sum_over inner_offsets cs) (sum_over inner_offsets ds) (sum_over inner_offsets (cs ++ ds))
+      x.bytes_looked y.bytes_looked z.bytes_looked (sum_over-join inner_offsets cs ds) h.looked k.looked;
 }
 
 -- what the requests of a list of commands cost, where each step costs at most what its own do
@@ -89,18 +89,13 @@ module _ {S C A T : Type 0} (Step : S → C → A → S → Type 0) (cost : S �
 -- ---- a table
 
 module _ {T O : Type 0} (c : Types T) (number : O → ℤ) where
-  -- a step, and what it costs
-  abbrev pub TableStep : Held T → Command T O → Reply T → Held T → Type 0
-  TableStep old command reply new = IsStep c old (asked number command) (answer_of reply) new
-      × CostsAtMost (asked number command ∷ []) old.cost new.cost
+  pub table-runs : (s n : TableState T) (cs : List (Command T O)) (rs : List (Reply T)) → Runs (CostedStep c number) s cs rs n
+      → IsRun c s (map (as_request number) cs) (map answer_of rs) n
+  table-runs = runs-by (CostedStep c number) (IsStep c) (as_request number) answer_of (λ s n command r h. h.0)
 
-  pub table-runs : (s n : Held T) (cs : List (Command T O)) (rs : List (Reply T)) → Runs TableStep s cs rs n
-      → IsRun c s (map (asked number) cs) (map answer_of rs) n
-  table-runs = runs-by TableStep (IsStep c) (asked number) answer_of (λ s n command r h. h.0)
-
-  pub table-costs : (s n : Held T) (cs : List (Command T O)) (rs : List (Reply T)) → Runs TableStep s cs rs n
-      → CostsAtMost (map (asked number) cs) s.cost n.cost
-  table-costs = run-costs TableStep (λ s. s.cost) (map (asked number)) refl (λ command cs. refl)
+  pub table-costs : (s n : TableState T) (cs : List (Command T O)) (rs : List (Reply T)) → Runs (CostedStep c number) s cs rs n
+      → CostsAtMost (map (as_request number) cs) s.cost n.cost
+  table-costs = run-costs (CostedStep c number) (λ s. s.cost) (map (as_request number)) refl (λ command cs. refl)
       (λ s n command r h. h.1)
 
 -- ---- two tables
@@ -108,34 +103,24 @@ module _ {T O : Type 0} (c : Types T) (number : O → ℤ) where
 narrow-joins : {T : Type 0} (b : BothRequest T) (bs : List (BothRequest T))
     → narrow_of (b ∷ bs) ≡ narrow_of (b ∷ []) ++ narrow_of bs
 narrow-joins (narrow asks) bs = refl
-narrow-joins (wide asks) bs = refl
-narrow-joins (widen e f) bs = refl
-narrow-joins (narrow_to e f) bs = refl
+narrow-joins _ bs = refl
 
 wide-joins : {T : Type 0} (b : BothRequest T) (bs : List (BothRequest T))
     → wide_of (b ∷ bs) ≡ wide_of (b ∷ []) ++ wide_of bs
-wide-joins (narrow asks) bs = refl
 wide-joins (wide asks) bs = refl
-wide-joins (widen e f) bs = refl
-wide-joins (narrow_to e f) bs = refl
+wide-joins _ bs = refl
 
 module _ {T : Type 0} (zero : T) (primitive : PrimitiveType) where
-  abbrev pub TablesStep : Both T → BothCommand T → Reply T → Both T → Type 0
-  TablesStep old command reply new =
-      IsBothStep zero primitive old (both_asked command) (answer_of reply) new
-      × CostsAtMost (narrow_of (both_asked command ∷ [])) old.narrow.cost new.narrow.cost
-      × CostsAtMost (wide_of (both_asked command ∷ [])) old.wide.cost new.wide.cost
+  pub both-runs : (s n : Both T) (cs : List (BothCommand T)) (rs : List (Reply T)) → Runs (BothCommandStep zero primitive) s cs rs n
+      → Runs (IsBothStep zero primitive) s (map both_request cs) (map answer_of rs) n
+  both-runs = runs-by (BothCommandStep zero primitive) (IsBothStep zero primitive) both_request answer_of (λ s n command r h. h.0)
 
-  pub both-runs : (s n : Both T) (cs : List (BothCommand T)) (rs : List (Reply T)) → Runs TablesStep s cs rs n
-      → Runs (IsBothStep zero primitive) s (map both_asked cs) (map answer_of rs) n
-  both-runs = runs-by TablesStep (IsBothStep zero primitive) both_asked answer_of (λ s n command r h. h.0)
+  pub narrow-costs : (s n : Both T) (cs : List (BothCommand T)) (rs : List (Reply T)) → Runs (BothCommandStep zero primitive) s cs rs n
+      → CostsAtMost (narrow_of (map both_request cs)) s.narrow.cost n.narrow.cost
+  narrow-costs = run-costs (BothCommandStep zero primitive) (λ s. s.narrow.cost) (λ cs. narrow_of (map both_request cs)) refl
+      (λ command cs. narrow-joins (both_request command) (map both_request cs)) (λ s n command r h. h.1)
 
-  pub narrow-costs : (s n : Both T) (cs : List (BothCommand T)) (rs : List (Reply T)) → Runs TablesStep s cs rs n
-      → CostsAtMost (narrow_of (map both_asked cs)) s.narrow.cost n.narrow.cost
-  narrow-costs = run-costs TablesStep (λ s. s.narrow.cost) (λ cs. narrow_of (map both_asked cs)) refl
-      (λ command cs. narrow-joins (both_asked command) (map both_asked cs)) (λ s n command r h. h.1)
-
-  pub wide-costs : (s n : Both T) (cs : List (BothCommand T)) (rs : List (Reply T)) → Runs TablesStep s cs rs n
-      → CostsAtMost (wide_of (map both_asked cs)) s.wide.cost n.wide.cost
-  wide-costs = run-costs TablesStep (λ s. s.wide.cost) (λ cs. wide_of (map both_asked cs)) refl
-      (λ command cs. wide-joins (both_asked command) (map both_asked cs)) (λ s n command r h. h.2)
+  pub wide-costs : (s n : Both T) (cs : List (BothCommand T)) (rs : List (Reply T)) → Runs (BothCommandStep zero primitive) s cs rs n
+      → CostsAtMost (wide_of (map both_request cs)) s.wide.cost n.wide.cost
+  wide-costs = run-costs (BothCommandStep zero primitive) (λ s. s.wide.cost) (λ cs. wide_of (map both_request cs)) refl
+      (λ command cs. wide-joins (both_request command) (map both_request cs)) (λ s n command r h. h.2)

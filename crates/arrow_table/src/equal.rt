@@ -1,10 +1,11 @@
 //! Whether two builders with nulls have the same slots.
-ghost use Rattle.std.specs.Prelude.{◌≡◌, ◌↔◌, IsTrue, option_copied, option_map};
-ghost use Rattle.arrow_column.specs.Column.{slots_of};
-ghost use Rattle.arrow_entry.specs.Entry.{boolean_value, native_value, bytes_value, state_of, value_of};
+ghost use Rattle.std.specs.Prelude.{◌↔◌, IsTrue, option_copied};
+ghost use Rattle.arrow_entry.specs.Entry.{EntriesStep, boolean_value, bytes_value, native_value, value_in};
 ghost use Rattle.arrow_model.specs.Answer.{answer_of};
 ghost use Rattle.arrow_model.specs.Kind.{with_nulls};
-ghost use Rattle.arrow_model.specs.Step.{AtEntry, Compares_to, entry_at};
+ghost use Rattle.arrow_model.specs.Request.{equal};
+ghost use Rattle.arrow_model.specs.Step.{ComparesWith};
+ghost use Rattle.arrow_table.specs.Listed.{SameSlots};
 
 use arrow_boolean::MutableBooleanArray;
 use arrow_byte_array::MutableByteArray;
@@ -21,16 +22,14 @@ fn same_values<T: NativeType>(
     first: &MutablePrimitiveArray<T>,
     second: &MutablePrimitiveArray<T>,
 ) -> bool
-    ensures { IsTrue result ↔ slots_of (native_value with_nulls first.now).column
-        ≡ slots_of (native_value with_nulls second.now).column }
+    ensures { IsTrue result ↔ SameSlots (native_value with_nulls) first.now second.now }
 {
     *first == *second
 }
 
-/// Returns whether two builders of truth values have the same slots.
+/// Returns whether two boolean builders have the same slots.
 fn same_bits<T: NativeType>(first: &MutableBooleanArray, second: &MutableBooleanArray) -> bool
-    ensures { IsTrue result ↔ slots_of (boolean_value {T = T} with_nulls first.now).column
-        ≡ slots_of (boolean_value {T = T} with_nulls second.now).column }
+    ensures { IsTrue result ↔ SameSlots (boolean_value {T = T} with_nulls) first.now second.now }
 {
     *first == *second
 }
@@ -41,8 +40,7 @@ fn same_items<T: NativeType, K: ByteKind, O: Offset>(
     first: &MutableByteArray<K, O>,
     second: &MutableByteArray<K, O>,
 ) -> bool
-    ensures { IsTrue result ↔ slots_of (bytes_value {T = T} with_nulls K.is_text first.now).column
-        ≡ slots_of (bytes_value {T = T} with_nulls K.is_text second.now).column }
+    ensures { IsTrue result ↔ SameSlots (bytes_value {T = T} with_nulls K.is_text) first.now second.now }
 {
     *first == *second
 }
@@ -52,8 +50,8 @@ fn compare<T: NativeType, O: Offset>(
     first: &Option<Entry<T, O>>,
     second: Option<&Entry<T, O>>,
 ) -> Reply<T>
-    ensures { Compares_to (option_map value_of first.now) (option_map value_of (option_copied second.entry))
-        (answer_of result) (option_map value_of first.now) }
+    ensures { ComparesWith (value_in first.now) (value_in (option_copied second.entry)) (answer_of result)
+        (value_in first.now) }
 {
     match first {
         Some(Entry::MutablePrimitive(first)) => match second {
@@ -86,9 +84,7 @@ pub(crate) fn equal_at<T: NativeType, O: Offset>(
     e: usize,
     f: usize,
 ) -> Reply<T>
-    ensures { AtEntry (state_of entries.now.items) e
-        (λ old. Compares_to old (entry_at (state_of entries.now.items) f))
-        (answer_of result) (state_of entries.now.items) }
+    ensures { EntriesStep T.NativeType O.Offset (equal e f) entries.now.items (answer_of result) entries.now.items }
 {
     if e >= entries.len() {
         return Reply::NotMet;

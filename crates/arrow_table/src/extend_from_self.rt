@@ -1,9 +1,9 @@
 //! The rows of another builder, appended.
-ghost use Rattle.std.specs.Prelude.{option_copied, option_map};
+ghost use Rattle.std.specs.Prelude.{option_copied};
+ghost use Rattle.arrow_entry.specs.Entry.{EntriesStep};
 ghost use Rattle.arrow_model.specs.Answer.{outcome};
-ghost use Rattle.arrow_entry.specs.Entry.{state_of, value_of};
-ghost use Rattle.arrow_model.specs.Step.{AtEntry, Joins_to, other_at};
-ghost use Rattle.arrow_model.specs.Value.{types};
+ghost use Rattle.arrow_model.specs.Request.{extend_from};
+ghost use Rattle.arrow_table.specs.Listed.{ExtendsEntry};
 
 use arrow_entry::{Entry, entry_at, replace};
 use arrow_model::Reply;
@@ -20,8 +20,7 @@ fn join<T: NativeType, O: Offset>(
     entry: &mut Option<Entry<T, O>>,
     other: Option<&Entry<T, O>>,
 ) -> Result<Reply<T>, Error>
-    ensures { Joins_to (types T.zero T.PRIMITIVE O.most O.IS_LARGE) (option_map value_of entry.old)
-        (option_map value_of (option_copied other.entry)) (outcome result) (option_map value_of entry.new) }
+    ensures { ExtendsEntry T.NativeType O.Offset entry.old (option_copied other.entry) (outcome result) entry.new }
 {
     match entry {
         Some(Entry::MutablePrimitive(builder)) => match other {
@@ -59,15 +58,14 @@ pub(crate) fn extend_at<T: NativeType, O: Offset>(
     e: usize,
     f: usize,
 ) -> Result<Reply<T>, Error>
-    ensures { AtEntry (state_of entries.old.items) e
-        (λ old. Joins_to (types T.zero T.PRIMITIVE O.most O.IS_LARGE) old (other_at (state_of entries.old.items) e f))
-        (outcome result) (state_of entries.new.items) }
+    ensures { EntriesStep T.NativeType O.Offset (extend_from e f) entries.old.items (outcome result)
+        entries.new.items }
 {
     if e >= entries.len() {
         return Ok(Reply::NotMet);
     }
-    let mut held = entries[e].take();
-    let result = join(&mut held, entry_at(entries, f));
-    replace(&mut entries[e], held);
+    let mut entry = entries[e].take();
+    let result = join(&mut entry, entry_at(entries, f));
+    replace(&mut entries[e], entry);
     result
 }

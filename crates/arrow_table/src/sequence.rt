@@ -1,6 +1,6 @@
 //! The run of a list of commands, one after the other, on one table or on two.
-ghost use Rattle.std.specs.Prelude.{◌≡◌, ◌<◌, ◌≤◌, ◌++◌, List, length, take, vec_capacity, vec_len};
-ghost use Rattle.arrow_model.specs.Run.{Runs};
+ghost use Rattle.std.specs.Prelude.{◌<◌, ◌≡◌, ◌≤◌, length, take, vec_capacity, vec_len};
+ghost use Rattle.arrow_model.specs.Run.{RunAppends};
 ghost use Rattle.arrow_model.specs.declared.reply.Reply.{Reply};
 
 use crate::Reply;
@@ -28,8 +28,8 @@ pub(crate) fn run_all<T: NativeType, S: Executor<T>>(
     replies: &mut Vec<Reply<T>>,
 ) -> usize
     ensures count { result ≤ length commands.now }
-    ensures run { (added : List (Reply T)) × (replies.new.items ≡ replies.old.items ++ added)
-        × Runs S.steps_to state.old (take result commands.now) added state.new }
+    ensures run { RunAppends S.steps_to state.old (take result commands.now) replies.old.items replies.new.items
+        state.new }
     ensures full { result < length commands.now → vec_len replies.new ≡ vec_capacity replies.new }
     ensures room { vec_capacity replies.old ≤ vec_capacity replies.new }
 {

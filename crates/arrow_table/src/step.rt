@@ -1,58 +1,29 @@
 //! One command.
-ghost use Rattle.std.specs.Prelude.{◌≡◌, ◌∷◌, [], false, MatchOption};
-ghost use Rattle.arrow_model.specs.Answer.{outcome};
-ghost use Rattle.arrow_entry.specs.Entry.{state_of, table_of};
-ghost use Rattle.arrow_model.specs.Answer.{answer_of};
-ghost use Rattle.arrow_model.specs.Request.{asked, parts_asked};
+ghost use Rattle.std.specs.Prelude.{[], ◌∷◌, ◌≡◌, IfNone, IfSome, false};
+ghost use Rattle.arrow_model.specs.Answer.{answer_of, outcome};
+ghost use Rattle.arrow_model.specs.Request.{as_request, parts_request};
 ghost use Rattle.arrow_model.specs.Run.{CostsAtMost, is_parts};
-ghost use Rattle.arrow_model.specs.Step.{Changes, IsStep};
-ghost use Rattle.arrow_model.specs.Value.{types};
+ghost use Rattle.arrow_model.specs.Step.{StepCosts};
+ghost use Rattle.arrow_table.specs.Listed.{CommandChanges};
 
 use crate::check_indexes::check_indexes;
 use crate::equal::equal_at;
 use crate::extend_from_self::extend_at;
 use arrow_check::cost::TextCost;
-use arrow_commands::apply_mask::ApplyMask;
-use arrow_commands::apply_values::ApplyValues;
-use arrow_commands::bytes::Bytes;
 use arrow_commands::command::{read_at, run_at};
-use arrow_commands::drop::Empty;
-use arrow_commands::extend::Extend;
-use arrow_commands::extend_constant::ExtendConstant;
-use arrow_commands::extend_values::ExtendValues;
-use arrow_commands::freeze::Freeze;
-use arrow_commands::get::Get;
-use arrow_commands::held::Held;
-use arrow_commands::is_null::IsNull;
-use arrow_commands::len::Len;
-use arrow_commands::null_count::NullCount;
-use arrow_commands::nullable::Nullable;
-use arrow_commands::offsets::Offsets;
-use arrow_commands::pop::Pop;
-use arrow_commands::push::Push;
-use arrow_commands::push_null::PushNull;
-use arrow_commands::reserve::Reserve;
-use arrow_commands::set::Set;
-use arrow_commands::set_mask::SetMask;
-use arrow_commands::set_values::SetValues;
-use arrow_commands::shrink::Shrink;
-use arrow_commands::slice::Slice;
-use arrow_commands::slots::Slots;
-use arrow_commands::thaw::Thaw;
-use arrow_commands::to::To;
-use arrow_commands::turns::Turns;
-use arrow_commands::type_of::TypeOf;
-use arrow_commands::value::Value;
-use arrow_commands::write::Write;
-use arrow_creation::clone::Clone;
-use arrow_creation::filter::Filter;
-use arrow_creation::from_items::FromItems;
-use arrow_creation::from_slots::FromSlots;
+use arrow_commands::convert::{Empty, Freeze, Nullable, Slice, Thaw, To};
+use arrow_commands::grow::{
+    Extend, ExtendConstant, ExtendValues, Pop, Push, PushNull, Reserve, Shrink,
+};
+use arrow_commands::mask::{ApplyMask, SetMask};
+use arrow_commands::read::{
+    Bytes, Get, Held, IsNull, Len, NullCount, Offsets, Slots, Turns, TypeOf, Value,
+};
+use arrow_commands::values::{ApplyValues, Set, SetValues, Write};
+use arrow_creation::fill::{FromItems, FromSlots, New, NewNull};
 use arrow_creation::make::put_at;
-use arrow_creation::new::New;
-use arrow_creation::new_null::NewNull;
 use arrow_creation::parts::lent_parts_at;
-use arrow_creation::take::Take;
+use arrow_creation::select::{Clone, Filter, Take};
 use arrow_entry::Entry;
 use arrow_model::{Command, Parts, Reply};
 use arrow_types::error::Error;
@@ -60,7 +31,7 @@ use arrow_types::native_type::NativeType;
 use arrow_types::offset::Offset;
 use std::alloc::Global;
 
-/// Does a command that is not about raw parts. What is answered is allocated by `alloc`.
+/// Does a command that is not about raw parts. The answer is allocated by `alloc`.
 ///
 /// # Errors
 /// The refusal that the command is answered with.
@@ -70,10 +41,8 @@ fn change<T: NativeType, O: Offset>(
     entries: &mut Vec<Option<Entry<T, O>>>,
     command: &Command<T, O>,
 ) -> Result<Reply<T>, Error>
-    requires { is_parts (asked O.number command.now) ≡ false }
-    ensures { Changes (types T.zero T.PRIMITIVE O.most O.IS_LARGE) (state_of entries.old.items)
-        (asked O.number command.now)
-        (outcome result) (state_of entries.new.items) }
+    requires { is_parts (as_request O.number command.now) ≡ false }
+    ensures { CommandChanges T.NativeType O.Offset command.now entries.old.items (outcome result) entries.new.items }
 {
     match command {
         Command::New(e, kind) => put_at(alloc, entries, *e, New(*kind)),
@@ -132,8 +101,8 @@ fn change<T: NativeType, O: Offset>(
 /// Returns the entry and the parts of a command about raw parts.
 #[inline(always)]
 fn parts_of<T: NativeType, O: Offset>(command: &Command<T, O>) -> Option<(usize, &Parts<T, O>)>
-    ensures { MatchOption result (is_parts (asked O.number command.now) ≡ false)
-        (λ p. asked O.number command.now ≡ parts_asked O.number p.0 p.1.now) }
+    ensures none { IfNone result (is_parts (as_request O.number command.now) ≡ false) }
+    ensures some { IfSome result (λ p. as_request O.number command.now ≡ parts_request O.number p.0 p.1.now) }
 {
     match command {
         Command::Parts(e, parts) => Some((*e, parts)),
@@ -152,7 +121,7 @@ pub(crate) fn reply_of<T>(done: Result<Reply<T>, Error>) -> Reply<T>
     }
 }
 
-/// Does one command. What is answered is allocated by `alloc`.
+/// Does one command. The answer is allocated by `alloc`.
 #[inline(always)]
 pub(crate) fn step<T: NativeType, O: Offset>(
     alloc: Global,
@@ -160,9 +129,10 @@ pub(crate) fn step<T: NativeType, O: Offset>(
     cost: &mut TextCost,
     command: &Command<T, O>,
 ) -> Reply<T>
-    ensures step { IsStep (types T.zero T.PRIMITIVE O.most O.IS_LARGE) (table_of entries.old.items cost.old)
-        (asked O.number command.now) (answer_of result) (table_of entries.new.items cost.new) }
-    ensures costs { CostsAtMost (asked O.number command.now ∷ []) cost.old cost.new }
+    ensures step { CommandChanges T.NativeType O.Offset command.now entries.old.items (answer_of result)
+        entries.new.items }
+    ensures exact { StepCosts (as_request O.number command.now) (answer_of result) cost.old cost.new }
+    ensures most { CostsAtMost (as_request O.number command.now ∷ []) cost.old cost.new }
 {
     match parts_of(command) {
         Some((e, given)) => reply_of(lent_parts_at(entries, e, given, cost)),

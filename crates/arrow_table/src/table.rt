@@ -1,14 +1,14 @@
 //! A table, and the run of a list of commands on it.
-ghost use Rattle.std.specs.Prelude.{◌≡◌, ◌<◌, ◌≤◌, ◌∷◌, [], length, map, replicate, take, vec_capacity, vec_len};
-ghost use Rattle.std.specs.Prelude.{IfErr, IfOk, IfSome, None, option_copied, option_map};
-ghost use Rattle.arrow_check.specs.Reading.{no_cost};
+ghost use Rattle.std.specs.Prelude.{[], ◌<◌, ◌∷◌, ◌≡◌, ◌≤◌, IfOk, IfSome, length, map, option_copied, option_map, take};
+ghost use Rattle.std.specs.Prelude.{vec_capacity, vec_len};
+ghost use Rattle.arrow_types.specs.Failures.{OnlyOutOfMemory};
+ghost use Rattle.arrow_entry.specs.Entry.{value_in, value_of};
 ghost use Rattle.arrow_model.specs.Answer.{answer_of};
-ghost use Rattle.arrow_entry.specs.Entry.{table_of, value_of};
-ghost use Rattle.arrow_model.specs.Value.{types};
+ghost use Rattle.arrow_model.specs.Value.{empty_table, types_of};
 ghost use Rattle.arrow_model.specs.Item.{stored_slot};
 ghost use Rattle.arrow_model.specs.Kind.{shape};
-ghost use Rattle.arrow_model.specs.Request.{all_slots, asked, at, parts_asked, push};
-ghost use Rattle.arrow_model.specs.Run.{AppendsRun, CostsAtMost};
+ghost use Rattle.arrow_model.specs.Request.{all_slots, as_request, at, parts_request, push};
+ghost use Rattle.arrow_model.specs.Run.{CostsAtMost, IsTableRun};
 ghost use Rattle.arrow_model.specs.Step.{IsStep, entry_at};
 ghost use Rattle.arrow_model.specs.Values.{IsValue};
 ghost use Rattle.arrow_table.specs.Listed.{listed};
@@ -18,7 +18,7 @@ use crate::step::{reply_of, step};
 use crate::{Command, Entry, Item, Kind, Parts, Reply};
 use arrow_check::cost::TextCost;
 use arrow_commands::command::run_at;
-use arrow_commands::push::Push;
+use arrow_commands::grow::Push;
 use arrow_creation::parts::parts_at;
 use arrow_entry::entry_at;
 use arrow_types::error::Error;
@@ -38,9 +38,9 @@ pub struct Table<T: NativeType, O: Offset> {
 // Contracts see the values of the entries, in order, and the counts.
 impl<T: NativeType, O: Offset> Model for Table<T, O> {
     ghost use Rattle.arrow_entry.specs.Entry.{table_of};
-    ghost use Rattle.arrow_model.specs.Value.{Held};
+    ghost use Rattle.arrow_model.specs.Value.{TableState};
 
-    ghost Value = { Held T };
+    ghost Value = { TableState T };
 
     ghost view = { λ table. table_of table.entries.items table.cost };
 }
@@ -52,8 +52,8 @@ impl<T: NativeType, O: Offset> Table<T, O> {
     /// # Errors
     /// `OutOfMemory` if an allocation fails.
     pub fn new(alloc: Global, n: usize) -> Result<Self, Error>
-        ensures ok { IfOk result (λ table. table ≡ record { entries = replicate n None; cost = no_cost }) }
-        ensures err { IfErr result (λ e. e ≡ Error.OutOfMemory) }
+        ensures ok { IfOk result (λ table. table ≡ empty_table n) }
+        ensures err { OnlyOutOfMemory result }
     {
         let mut entries = Vec::with_capacity(alloc, n)?;
         for _ in 0..n {
@@ -86,17 +86,17 @@ impl<T: NativeType, O: Offset> Table<T, O> {
     /// slots are those that the command `Slots` copies.
     #[inline(always)]
     pub fn get(&self, i: usize) -> Option<&Entry<T, O>>
-        ensures held { entry_at self.now.entries i ≡ option_map value_of (option_copied result) }
-        ensures step { IsStep (types T.zero T.PRIMITIVE O.most O.IS_LARGE) self.now (at i all_slots)
+        ensures entry { entry_at self.now.entries i ≡ value_in (option_copied result) }
+        ensures step { IsStep (types_of T.NativeType O.Offset) self.now (at i all_slots)
             (listed (option_copied result)) self.now }
         ensures value { IfSome (option_copied result)
-            (λ held. IsValue (types T.zero T.PRIMITIVE O.most O.IS_LARGE) (value_of held)) }
+            (λ entry. IsValue (types_of T.NativeType O.Offset) (value_of entry)) }
     {
         match entry_at(&self.entries, i) {
-            Some(held) => {
-                // Its contract says that what is held is a value.
-                held.prove_value();
-                Some(held)
+            Some(entry) => {
+                // Its contract says that the entry holds a valid value.
+                entry.prove_value();
+                Some(entry)
             }
             None => None,
         }
@@ -106,7 +106,7 @@ impl<T: NativeType, O: Offset> Table<T, O> {
     /// made for it.
     #[inline(always)]
     pub fn push_at(&mut self, i: usize, slot: &Option<Item<T>>) -> Reply<T>
-        ensures { IsStep (types T.zero T.PRIMITIVE O.most O.IS_LARGE) self.old (at i (push (stored_slot slot.now)))
+        ensures { IsStep (types_of T.NativeType O.Offset) self.old (at i (push (stored_slot slot.now)))
             (answer_of result) self.new }
     {
         let alloc = *self.entries.allocator();
@@ -117,9 +117,9 @@ impl<T: NativeType, O: Offset> Table<T, O> {
     /// are moved into the value and not copied.
     #[inline(always)]
     pub fn parts_at(&mut self, i: usize, parts: Parts<T, O>) -> Reply<T>
-        ensures step { IsStep (types T.zero T.PRIMITIVE O.most O.IS_LARGE) self.old (parts_asked O.number i parts)
+        ensures step { IsStep (types_of T.NativeType O.Offset) self.old (parts_request O.number i parts)
             (answer_of result) self.new }
-        ensures costs { CostsAtMost (parts_asked O.number i parts ∷ []) self.old.cost self.new.cost }
+        ensures costs { CostsAtMost (parts_request O.number i parts ∷ []) self.old.cost self.new.cost }
     {
         reply_of(parts_at(&mut self.entries, i, parts, &mut self.cost))
     }
@@ -133,18 +133,11 @@ impl<T: NativeType, O: Offset> Table<T, O> {
 }
 
 impl<T: NativeType, O: Offset> Executor<T> for Table<T, O> {
-    ghost use Rattle.std.specs.Prelude.{◌∷◌, []};
-    ghost use Rattle.arrow_model.specs.Answer.{answer_of};
-    ghost use Rattle.arrow_model.specs.Value.{types};
-    ghost use Rattle.arrow_model.specs.Request.{asked};
-    ghost use Rattle.arrow_model.specs.Run.{CostsAtMost};
-    ghost use Rattle.arrow_model.specs.Step.{IsStep};
+    ghost use Rattle.arrow_model.specs.Run.{CommandStep};
 
     type Command = Command<T, O>;
 
-    ghost steps_to = { λ old command reply new. IsStep (types T.zero T.PRIMITIVE O.most O.IS_LARGE) old
-        (asked O.number command) (answer_of reply) new
-        × CostsAtMost (asked O.number command ∷ []) old.cost new.cost };
+    ghost steps_to = { CommandStep T.NativeType O.Offset };
 
     #[inline(always)]
     fn step(&mut self, alloc: Global, command: &Command<T, O>) -> Reply<T> {
@@ -160,9 +153,9 @@ pub fn run<T: NativeType, O: Offset>(
     replies: &mut Vec<Reply<T>>,
 ) -> usize
     ensures count { result ≤ length commands.now }
-    ensures run { AppendsRun (types T.zero T.PRIMITIVE O.most O.IS_LARGE) O.number table.old
-        (take result commands.now) replies.old.items replies.new.items table.new }
-    ensures costs { CostsAtMost (map (asked O.number) (take result commands.now)) table.old.cost table.new.cost }
+    ensures run { IsTableRun T.NativeType O.Offset table.old (take result commands.now) replies.old.items
+        replies.new.items table.new }
+    ensures costs { CostsAtMost (map (as_request O.number) (take result commands.now)) table.old.cost table.new.cost }
     ensures full { result < length commands.now → vec_len replies.new ≡ vec_capacity replies.new }
     ensures room { vec_capacity replies.old ≤ vec_capacity replies.new }
 {

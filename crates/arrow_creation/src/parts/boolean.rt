@@ -1,12 +1,7 @@
-//! Arrays and builders of truth values from raw parts.
-ghost use Rattle.std.specs.Prelude.{option_map};
-ghost use Rattle.arrow_creation.specs.Outcome.{BuiltBy, MadeBy};
-ghost use Rattle.arrow_entry.specs.Entry.{boolean_value};
-ghost use Rattle.arrow_model.specs.Kind.{boolean, frozen, shape, shaped, with_nulls};
-ghost use Rattle.arrow_model.specs.Parts.{PartsRow};
+//! Boolean arrays and builders from raw parts.
+ghost use Rattle.arrow_creation.specs.Outcome.{BooleanFromParts, FromParts, MadeBy};
+ghost use Rattle.arrow_model.specs.Kind.{frozen, shape, with_nulls};
 ghost use Rattle.arrow_model.specs.Request.{packed, packed_bits};
-ghost use Rattle.arrow_model.specs.Value.{types};
-ghost use Rattle.arrow_types.specs.Types.{logical_type};
 
 use crate::parts::raw::{
     bitmap_from_parts, mask_from_parts, mutable_bitmap_from_parts, mutable_mask_from_parts,
@@ -28,8 +23,7 @@ fn array_from_parts<T: NativeType, O: Offset>(
     values: Bits,
     mask: Option<Bits>,
 ) -> Result<BooleanArray, Error>
-    ensures { BuiltBy (boolean_value frozen) result (PartsRow (types T.zero T.PRIMITIVE O.most O.IS_LARGE)
-        (shaped frozen boolean) (logical_type data_type) (option_map packed_bits mask) (packed (packed_bits values))) }
+    ensures { BooleanFromParts T.NativeType O.Offset data_type mask frozen values result }
 {
     let values = bitmap_from_parts(values)?;
     let mask = mask_from_parts(mask)?;
@@ -45,16 +39,14 @@ fn builder_from_parts<T: NativeType, O: Offset>(
     values: Bits,
     mask: Option<Bits>,
 ) -> Result<MutableBooleanArray, Error>
-    ensures { BuiltBy (boolean_value with_nulls) result (PartsRow (types T.zero T.PRIMITIVE O.most O.IS_LARGE)
-        (shaped with_nulls boolean) (logical_type data_type) (option_map packed_bits mask)
-        (packed (packed_bits values))) }
+    ensures { BooleanFromParts T.NativeType O.Offset data_type mask with_nulls values result }
 {
     let values = mutable_bitmap_from_parts(values)?;
     let mask = mutable_mask_from_parts(mask)?;
     MutableBooleanArray::try_new(data_type, values, mask)
 }
 
-/// Creates what truth values and the rest of raw parts make; `None` if the kind is of another sort.
+/// Creates what booleans and the rest of raw parts make; `None` if the kind is of another value kind.
 ///
 /// # Errors
 /// `OutOfSpec` for the first test that the parts fail, or `OutOfMemory` if an allocation fails.
@@ -64,8 +56,7 @@ pub fn bits_from_parts<T: NativeType, O: Offset>(
     values: Bits,
     mask: Option<Bits>,
 ) -> Result<Option<Entry<T, O>>, Error>
-    ensures { MadeBy result (PartsRow (types T.zero T.PRIMITIVE O.most O.IS_LARGE) (shape kind) (logical_type data_type)
-        (option_map packed_bits mask) (packed (packed_bits values))) }
+    ensures { MadeBy result (FromParts T.NativeType O.Offset data_type mask (shape kind) (packed (packed_bits values))) }
 {
     match kind {
         Kind::Boolean => {

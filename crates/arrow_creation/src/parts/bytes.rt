@@ -1,14 +1,9 @@
 //! Arrays and builders of bytes and text from raw parts.
-ghost use Rattle.std.specs.Prelude.{◌∷◌, [], false, true, None, map, option_map};
-ghost use Rattle.arrow_creation.specs.Outcome.{BuiltBy, IsKindOf, MadeBy, built_answer, made_answer};
-ghost use Rattle.arrow_entry.specs.Entry.{bytes_value};
-ghost use Rattle.arrow_model.specs.Kind.{frozen, var_binary, shape, shaped, values_alone, with_nulls};
-ghost use Rattle.arrow_model.specs.Parts.{PartsCost, PartsRow};
-ghost use Rattle.arrow_model.specs.Request.{cut_pieces, make, packed_bits};
-ghost use Rattle.arrow_model.specs.Request as ask;
-ghost use Rattle.arrow_model.specs.Run.{CostsAtMost};
-ghost use Rattle.arrow_model.specs.Value.{types};
-ghost use Rattle.arrow_types.specs.Types.{logical_type};
+ghost use Rattle.std.specs.Prelude.{None, false, true};
+ghost use Rattle.arrow_creation.specs.Outcome.{BytesCost, BytesCostAtMost, BytesFromParts, FromPieces, IsKindOf};
+ghost use Rattle.arrow_creation.specs.Outcome.{MadeBy, PiecesCost, PiecesCostAtMost, made_answer};
+ghost use Rattle.arrow_model.specs.Kind.{frozen, shape, values_alone, var_binary, with_nulls};
+ghost use Rattle.arrow_model.specs.Value.{types_of};
 
 use crate::parts::raw::{mutable_pieces_from_parts, pieces_from_parts};
 use arrow_byte_array::{ByteArray, MutableByteArray, MutableByteValuesArray};
@@ -32,16 +27,13 @@ fn array_from_parts<T: NativeType, K: ByteKind, O: Offset>(
     mask: Option<Bits>,
     cost: &mut TextCost,
 ) -> Result<ByteArray<K, O>, Error>
-    requires { IsKindOf (types T.zero T.PRIMITIVE O.most O.IS_LARGE) (var_binary K.is_text) true
+    requires { IsKindOf (types_of T.NativeType O.Offset) (var_binary K.is_text) true
         (K.layout O.IS_LARGE) K.wrong_type }
-    ensures row { BuiltBy (bytes_value {T = T} frozen K.is_text) result
-        (PartsRow (types T.zero T.PRIMITIVE O.most O.IS_LARGE) (shaped frozen (var_binary K.is_text))
-        (logical_type data_type) (option_map packed_bits mask) (cut_pieces (map O.number offsets.items) bytes.items)) }
-    ensures exact { PartsCost {T = T} (shaped frozen (var_binary K.is_text)) (option_map packed_bits mask)
-        (map O.number offsets.items) bytes.items (built_answer result) cost.old cost.new }
-    ensures most { CostsAtMost {T = T} (make 0 (shaped frozen (var_binary K.is_text)) (ask.parts
-        (logical_type data_type) (cut_pieces (map O.number offsets.items) bytes.items) (option_map packed_bits mask))
-        ∷ []) cost.old cost.new }
+    ensures row { BytesFromParts T.NativeType O.Offset data_type mask frozen K.is_text offsets.items bytes.items result }
+    ensures exact { BytesCost T.NativeType O.Offset frozen K.is_text mask offsets.items bytes.items result
+        cost.old cost.new }
+    ensures most { BytesCostAtMost T.NativeType O.Offset frozen K.is_text data_type mask
+        offsets.items bytes.items cost.old cost.new }
 {
     let (offsets, bytes, mask) = pieces_from_parts(offsets, bytes, mask)?;
     ByteArray::try_new_counted(data_type, offsets, bytes, mask, cost)
@@ -58,16 +50,13 @@ fn builder_from_parts<T: NativeType, K: ByteKind, O: Offset>(
     mask: Option<Bits>,
     cost: &mut TextCost,
 ) -> Result<MutableByteArray<K, O>, Error>
-    requires { IsKindOf (types T.zero T.PRIMITIVE O.most O.IS_LARGE) (var_binary K.is_text) false
+    requires { IsKindOf (types_of T.NativeType O.Offset) (var_binary K.is_text) false
         (K.layout O.IS_LARGE) K.wrong_builder_type }
-    ensures row { BuiltBy (bytes_value {T = T} with_nulls K.is_text) result
-        (PartsRow (types T.zero T.PRIMITIVE O.most O.IS_LARGE) (shaped with_nulls (var_binary K.is_text))
-        (logical_type data_type) (option_map packed_bits mask) (cut_pieces (map O.number offsets.items) bytes.items)) }
-    ensures exact { PartsCost {T = T} (shaped with_nulls (var_binary K.is_text)) (option_map packed_bits mask)
-        (map O.number offsets.items) bytes.items (built_answer result) cost.old cost.new }
-    ensures most { CostsAtMost {T = T} (make 0 (shaped with_nulls (var_binary K.is_text)) (ask.parts
-        (logical_type data_type) (cut_pieces (map O.number offsets.items) bytes.items) (option_map packed_bits mask))
-        ∷ []) cost.old cost.new }
+    ensures row { BytesFromParts T.NativeType O.Offset data_type mask with_nulls K.is_text offsets.items bytes.items result }
+    ensures exact { BytesCost T.NativeType O.Offset with_nulls K.is_text mask offsets.items bytes.items result
+        cost.old cost.new }
+    ensures most { BytesCostAtMost T.NativeType O.Offset with_nulls K.is_text data_type mask
+        offsets.items bytes.items cost.old cost.new }
 {
     let (offsets, mask) = mutable_pieces_from_parts(offsets, mask)?;
     MutableByteArray::try_new_counted(data_type, offsets, bytes, mask, cost)
@@ -83,21 +72,19 @@ fn values_from_parts<T: NativeType, K: ByteKind, O: Offset>(
     bytes: Vec<u8>,
     cost: &mut TextCost,
 ) -> Result<MutableByteValuesArray<K, O>, Error>
-    requires { IsKindOf (types T.zero T.PRIMITIVE O.most O.IS_LARGE) (var_binary K.is_text) false
+    requires { IsKindOf (types_of T.NativeType O.Offset) (var_binary K.is_text) false
         (K.layout O.IS_LARGE) K.wrong_builder_type }
-    ensures row { BuiltBy (bytes_value {T = T} values_alone K.is_text) result
-        (PartsRow (types T.zero T.PRIMITIVE O.most O.IS_LARGE) (shaped values_alone (var_binary K.is_text))
-        (logical_type data_type) None (cut_pieces (map O.number offsets.items) bytes.items)) }
-    ensures exact { PartsCost {T = T} (shaped values_alone (var_binary K.is_text)) None
-        (map O.number offsets.items) bytes.items (built_answer result) cost.old cost.new }
-    ensures most { CostsAtMost {T = T} (make 0 (shaped values_alone (var_binary K.is_text)) (ask.parts
-        (logical_type data_type) (cut_pieces (map O.number offsets.items) bytes.items) None) ∷ []) cost.old cost.new }
+    ensures row { BytesFromParts T.NativeType O.Offset data_type None values_alone K.is_text offsets.items bytes.items result }
+    ensures exact { BytesCost T.NativeType O.Offset values_alone K.is_text None offsets.items bytes.items result
+        cost.old cost.new }
+    ensures most { BytesCostAtMost T.NativeType O.Offset values_alone K.is_text data_type None
+        offsets.items bytes.items cost.old cost.new }
 {
     let (offsets, _mask) = mutable_pieces_from_parts(offsets, None)?;
     MutableByteValuesArray::try_new_counted(data_type, offsets, bytes, cost)
 }
 
-/// Creates what offsets, bytes and the rest of raw parts make; `None` if the kind is of another sort, or if there is a
+/// Creates what offsets, bytes and the rest of raw parts make; `None` if the kind is of another value kind, or if there is a
 /// mask for a builder without nulls. What the test of text costs is added to the counts.
 ///
 /// # Errors
@@ -110,13 +97,12 @@ pub fn bytes_from_parts<T: NativeType, O: Offset>(
     mask: Option<Bits>,
     cost: &mut TextCost,
 ) -> Result<Option<Entry<T, O>>, Error>
-    ensures row { MadeBy result (PartsRow (types T.zero T.PRIMITIVE O.most O.IS_LARGE) (shape kind)
-        (logical_type data_type) (option_map packed_bits mask) (cut_pieces (map O.number offsets.items) bytes.items)) }
-    ensures exact { PartsCost {T = T} (shape kind) (option_map packed_bits mask)
-        (map O.number offsets.items) bytes.items (made_answer result) cost.old cost.new }
-    ensures most { CostsAtMost {T = T} (make 0 (shape kind) (ask.parts
-        (logical_type data_type) (cut_pieces (map O.number offsets.items) bytes.items) (option_map packed_bits mask))
-        ∷ []) cost.old cost.new }
+    ensures row { MadeBy result
+        (FromPieces T.NativeType O.Offset data_type mask (shape kind) offsets.items bytes.items) }
+    ensures exact { PiecesCost T.NativeType O.Offset (shape kind) mask
+        offsets.items bytes.items (made_answer result) cost.old cost.new }
+    ensures most { PiecesCostAtMost T.NativeType O.Offset (shape kind) data_type mask
+        offsets.items bytes.items cost.old cost.new }
 {
     match kind {
         Kind::Binary => {

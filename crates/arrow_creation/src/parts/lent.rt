@@ -1,21 +1,11 @@
-//! Borrowed raw parts, which are copied if their command is for their kind.
-ghost use Rattle.std.specs.Prelude.{◌≡◌, ◌∷◌, [], IfOk, None, false, option_map, true};
-ghost use Rattle.arrow_model.specs.Answer.{outcome};
-ghost use Rattle.arrow_entry.specs.Entry.{value_of};
+//! Borrowed raw parts: whether they fit their kind, and their copies.
+ghost use Rattle.std.specs.Prelude.{◌≡◌, IfOk, None, false, option_map, true};
+ghost use Rattle.arrow_types.specs.Types.{out_of_memory};
+ghost use Rattle.arrow_creation.specs.Outcome.{MakesParts};
 ghost use Rattle.arrow_model.specs.Answer.{not_met, refused};
-ghost use Rattle.arrow_model.specs.Kind.{shape};
-ghost use Rattle.arrow_model.specs.Request.{given_by, packed_bits, parts_asked, source_of};
-ghost use Rattle.arrow_model.specs.Request as ask;
-ghost use Rattle.arrow_model.specs.Run.{CostsAtMost};
-ghost use Rattle.arrow_model.specs.Step.{Makes, IntoEmpty, StepCosts};
-ghost use Rattle.arrow_model.specs.Value.{types};
-ghost use Rattle.arrow_types.specs.Types.{logical_type, out_of_memory};
+ghost use Rattle.arrow_model.specs.Request.{given_by, packed_bits, source_of};
 
-use crate::parts::put_parts;
-use arrow_check::cost::TextCost;
-use arrow_entry::Entry;
-use arrow_model::{Bits, Kind, Parts, Raw, Reply};
-use arrow_types::error::Error;
+use arrow_model::{Bits, Kind, Parts, Raw};
 use arrow_types::native_type::NativeType;
 use arrow_types::offset::Offset;
 use std::alloc::AllocError;
@@ -84,8 +74,8 @@ fn with_rest<T: NativeType, O: Offset>(
     given: &Parts<T, O>,
 ) -> Result<Parts<T, O>, AllocError>
     ensures kind { IfOk result (λ copy. copy.kind ≡ given.now.kind) }
-    ensures source { IfOk result (λ copy. source_of O.number copy ≡ ask.parts (logical_type given.now.data_type)
-        (given_by O.number raw) (option_map packed_bits given.now.mask)) }
+    ensures source { IfOk result (λ copy. source_of O.number copy
+        ≡ source_of O.number (record given.now { raw = raw })) }
 {
     let data_type = given.data_type.clone()?;
     let mask = mask_copied(&given.mask)?;
@@ -101,7 +91,9 @@ fn with_rest<T: NativeType, O: Offset>(
 ///
 /// # Errors
 /// `AllocError` if an allocation fails.
-fn parts_copied<T: NativeType, O: Offset>(given: &Parts<T, O>) -> Result<Parts<T, O>, AllocError>
+pub fn parts_copied<T: NativeType, O: Offset>(
+    given: &Parts<T, O>,
+) -> Result<Parts<T, O>, AllocError>
     ensures kind { IfOk result (λ copy. copy.kind ≡ given.now.kind) }
     ensures source { IfOk result (λ copy. source_of O.number copy ≡ source_of O.number given.now) }
 {
@@ -109,13 +101,11 @@ fn parts_copied<T: NativeType, O: Offset>(given: &Parts<T, O>) -> Result<Parts<T
     with_rest(raw, given)
 }
 
-/// Returns whether a command is for the kind of its parts: the raw values are of the kind's sort, and a builder without
-/// nulls has no mask. If it is not, the command's condition fails; else memory may be refused.
-fn are_for<T: NativeType, O: Offset>(given: &Parts<T, O>) -> bool
-    ensures not { result ≡ false → Makes (types T.zero T.PRIMITIVE O.most O.IS_LARGE) (shape given.now.kind)
-        (source_of O.number given.now) not_met None }
-    ensures met { result ≡ true → Makes (types T.zero T.PRIMITIVE O.most O.IS_LARGE) (shape given.now.kind)
-        (source_of O.number given.now) (refused out_of_memory) None }
+/// Returns whether raw parts fit their kind: the raw values are of its value kind, and a builder without nulls has no
+/// mask. If they don't, the command's condition fails; otherwise an allocation may fail.
+pub fn fits_kind<T: NativeType, O: Offset>(given: &Parts<T, O>) -> bool
+    ensures not { result ≡ false → MakesParts T.NativeType O.Offset given.now not_met None }
+    ensures met { result ≡ true → MakesParts T.NativeType O.Offset given.now (refused out_of_memory) None }
 {
     match &given.raw {
         Raw::Values(_) => matches!(given.kind, Kind::Primitive | Kind::MutablePrimitive),
@@ -126,30 +116,4 @@ fn are_for<T: NativeType, O: Offset>(given: &Parts<T, O>) -> bool
             _ => false,
         },
     }
-}
-
-/// Puts what raw parts make into an empty entry. They are copied if the entry is empty and the command is for
-/// their kind. What the test of text costs is added to the counts.
-///
-/// # Errors
-/// The refusal that the command is answered with; the entry is then as before.
-pub fn put_lent_parts<T: NativeType, O: Offset>(
-    entry: &mut Option<Entry<T, O>>,
-    given: &Parts<T, O>,
-    cost: &mut TextCost,
-) -> Result<Reply<T>, Error>
-    ensures row { IntoEmpty (Makes (types T.zero T.PRIMITIVE O.most O.IS_LARGE) (shape given.now.kind)
-        (source_of O.number given.now)) (option_map value_of entry.old)
-        (outcome result) (option_map value_of entry.new) }
-    ensures exact { StepCosts (parts_asked O.number 0 given.now) (outcome result) cost.old cost.new }
-    ensures most { CostsAtMost (parts_asked O.number 0 given.now ∷ []) cost.old cost.new }
-{
-    if entry.is_some() {
-        return Ok(Reply::NotMet);
-    }
-    if !are_for(given) {
-        return Ok(Reply::NotMet);
-    }
-    let copy = parts_copied(given)?;
-    put_parts(entry, copy, cost)
 }

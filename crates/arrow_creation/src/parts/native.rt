@@ -1,13 +1,7 @@
 //! Arrays and builders of native values from raw parts.
-ghost use Rattle.std.specs.Prelude.{option_map};
-ghost use Rattle.arrow_creation.specs.Outcome.{BuiltBy, MadeBy};
-ghost use Rattle.arrow_entry.specs.Entry.{native_value};
-ghost use Rattle.arrow_model.specs.Kind.{frozen, native, shape, shaped, with_nulls};
-ghost use Rattle.arrow_model.specs.Parts.{PartsRow};
-ghost use Rattle.arrow_model.specs.Request.{packed_bits};
+ghost use Rattle.arrow_creation.specs.Outcome.{FromParts, MadeBy, NativeFromParts};
+ghost use Rattle.arrow_model.specs.Kind.{frozen, shape, with_nulls};
 ghost use Rattle.arrow_model.specs.Request as ask;
-ghost use Rattle.arrow_model.specs.Value.{types};
-ghost use Rattle.arrow_types.specs.Types.{logical_type};
 
 use crate::parts::raw::{mask_from_parts, mutable_mask_from_parts};
 use arrow_entry::Entry;
@@ -28,8 +22,7 @@ fn array_from_parts<T: NativeType, O: Offset>(
     values: Vec<T>,
     mask: Option<Bits>,
 ) -> Result<PrimitiveArray<T>, Error>
-    ensures { BuiltBy (native_value frozen) result (PartsRow (types T.zero T.PRIMITIVE O.most O.IS_LARGE)
-        (shaped frozen native) (logical_type data_type) (option_map packed_bits mask) (ask.values values.items)) }
+    ensures { NativeFromParts T.NativeType O.Offset data_type mask frozen values.items result }
 {
     let values = Buffer::from_vec(values)?;
     let mask = mask_from_parts(mask)?;
@@ -45,14 +38,13 @@ fn builder_from_parts<T: NativeType, O: Offset>(
     values: Vec<T>,
     mask: Option<Bits>,
 ) -> Result<MutablePrimitiveArray<T>, Error>
-    ensures { BuiltBy (native_value with_nulls) result (PartsRow (types T.zero T.PRIMITIVE O.most O.IS_LARGE)
-        (shaped with_nulls native) (logical_type data_type) (option_map packed_bits mask) (ask.values values.items)) }
+    ensures { NativeFromParts T.NativeType O.Offset data_type mask with_nulls values.items result }
 {
     let mask = mutable_mask_from_parts(mask)?;
     MutablePrimitiveArray::try_new(data_type, values, mask)
 }
 
-/// Creates what native values and the rest of raw parts make; `None` if the kind is of another sort.
+/// Creates what native values and the rest of raw parts make; `None` if the kind is of another value kind.
 ///
 /// # Errors
 /// `OutOfSpec` for the first test that the parts fail, or `OutOfMemory` if an allocation fails.
@@ -62,8 +54,7 @@ pub fn natives_from_parts<T: NativeType, O: Offset>(
     values: Vec<T>,
     mask: Option<Bits>,
 ) -> Result<Option<Entry<T, O>>, Error>
-    ensures { MadeBy result (PartsRow (types T.zero T.PRIMITIVE O.most O.IS_LARGE) (shape kind) (logical_type data_type)
-        (option_map packed_bits mask) (ask.values values.items)) }
+    ensures { MadeBy result (FromParts T.NativeType O.Offset data_type mask (shape kind) (ask.values values.items)) }
 {
     match kind {
         Kind::Primitive => {

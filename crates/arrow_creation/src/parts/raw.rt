@@ -1,10 +1,9 @@
 //! Bitmaps, masks and offsets from raw vectors.
-ghost use Rattle.std.specs.Prelude.{◌≡◌, None, Some, IfOk, IfErr, IfSome, MatchOption, map, option_map};
-ghost use Rattle.arrow_creation.specs.Outcome.{RejectedBits, RejectedParts, UnlessMemory};
+ghost use Rattle.std.specs.Prelude.{◌≡◌, IfErr, IfOk, IfSome, None, Some, map, option_map};
+ghost use Rattle.arrow_creation.specs.Outcome.{RejectedBits, RejectedOffsets, RejectedParts};
 ghost use Rattle.arrow_memory.specs.Offsets.{first_fault, numbers_of};
 ghost use Rattle.arrow_model.specs.Parts.{BitsFit, marks_in};
 ghost use Rattle.arrow_model.specs.Request.{packed_bits};
-ghost use Rattle.arrow_types.specs.Types.{out_of_spec, refusal};
 
 use arrow_memory::bitmap::{Bitmap, MutableBitmap};
 use arrow_memory::buffer::Buffer;
@@ -19,7 +18,7 @@ use arrow_types::offset::Offset;
 /// `OutOfSpec` if the bits are past their bytes, or `OutOfMemory` if an allocation fails.
 pub fn bitmap_from_parts(bits: Bits) -> Result<Bitmap, Error>
     ensures ok { IfOk result (λ bitmap. BitsFit (packed_bits bits) × (bitmap ≡ marks_in (packed_bits bits))) }
-    ensures err { IfErr result (λ e. RejectedBits (Some (packed_bits bits)) e) }
+    ensures err { IfErr result (RejectedBits (Some (packed_bits bits))) }
 {
     Bitmap::try_new(bits.bytes, bits.length)
 }
@@ -30,7 +29,7 @@ pub fn bitmap_from_parts(bits: Bits) -> Result<Bitmap, Error>
 /// `OutOfSpec` if the bits are past their bytes, or `OutOfMemory` if an allocation fails.
 pub fn mutable_bitmap_from_parts(bits: Bits) -> Result<MutableBitmap, Error>
     ensures ok { IfOk result (λ bitmap. BitsFit (packed_bits bits) × (bitmap ≡ marks_in (packed_bits bits))) }
-    ensures err { IfErr result (λ e. RejectedBits (Some (packed_bits bits)) e) }
+    ensures err { IfErr result (RejectedBits (Some (packed_bits bits))) }
 {
     MutableBitmap::try_new(bits.bytes, bits.length)
 }
@@ -42,7 +41,7 @@ pub fn mutable_bitmap_from_parts(bits: Bits) -> Result<MutableBitmap, Error>
 pub fn mask_from_parts(mask: Option<Bits>) -> Result<Option<Bitmap>, Error>
     ensures fit { IfOk result (λ made. IfSome (option_map packed_bits mask) BitsFit) }
     ensures mask { IfOk result (λ made. made ≡ option_map marks_in (option_map packed_bits mask)) }
-    ensures err { IfErr result (λ e. RejectedBits (option_map packed_bits mask) e) }
+    ensures err { IfErr result (RejectedBits (option_map packed_bits mask)) }
 {
     match mask {
         None => Ok(None),
@@ -57,7 +56,7 @@ pub fn mask_from_parts(mask: Option<Bits>) -> Result<Option<Bitmap>, Error>
 pub fn mutable_mask_from_parts(mask: Option<Bits>) -> Result<Option<MutableBitmap>, Error>
     ensures fit { IfOk result (λ made. IfSome (option_map packed_bits mask) BitsFit) }
     ensures mask { IfOk result (λ made. made ≡ option_map marks_in (option_map packed_bits mask)) }
-    ensures err { IfErr result (λ e. RejectedBits (option_map packed_bits mask) e) }
+    ensures err { IfErr result (RejectedBits (option_map packed_bits mask)) }
 {
     match mask {
         None => Ok(None),
@@ -72,8 +71,7 @@ pub fn mutable_mask_from_parts(mask: Option<Bits>) -> Result<Option<MutableBitma
 fn offsets_from_parts<O: Offset>(offsets: Vec<O>) -> Result<OffsetsBuffer<O>, Error>
     ensures ok { IfOk result (λ made. (first_fault (map O.number offsets.items) ≡ None)
         × (made ≡ numbers_of O.number offsets.items)) }
-    ensures err { IfErr result (λ e. UnlessMemory e (MatchOption (first_fault (map O.number offsets.items)) ⊥
-        (λ fault. refusal e ≡ out_of_spec fault))) }
+    ensures err { IfErr result (RejectedOffsets (map O.number offsets.items)) }
 {
     Ok(Offsets::try_from_vec(offsets)?.freeze()?)
 }
@@ -93,7 +91,7 @@ pub fn pieces_from_parts<O: Offset>(
     ensures legal { IfOk result (λ made. first_fault (map O.number offsets.items) ≡ None) }
     ensures offsets { IfOk result (λ made. made.0 ≡ numbers_of O.number offsets.items) }
     ensures bytes { IfOk result (λ made. made.1 ≡ bytes.items) }
-    ensures err { IfErr result (λ e. RejectedParts (option_map packed_bits mask) (map O.number offsets.items) e) }
+    ensures err { IfErr result (RejectedParts (option_map packed_bits mask) (map O.number offsets.items)) }
 {
     let values = Buffer::from_vec(bytes)?;
     let shared = offsets_from_parts(offsets)?;
@@ -114,7 +112,7 @@ pub fn mutable_pieces_from_parts<O: Offset>(
     ensures mask { IfOk result (λ made. made.1 ≡ option_map marks_in (option_map packed_bits mask)) }
     ensures legal { IfOk result (λ made. first_fault (map O.number offsets.items) ≡ None) }
     ensures offsets { IfOk result (λ made. made.0 ≡ numbers_of O.number offsets.items) }
-    ensures err { IfErr result (λ e. RejectedParts (option_map packed_bits mask) (map O.number offsets.items) e) }
+    ensures err { IfErr result (RejectedParts (option_map packed_bits mask) (map O.number offsets.items)) }
 {
     let starts = Offsets::try_from_vec(offsets)?;
     let validity = mutable_mask_from_parts(mask)?;

@@ -1,9 +1,6 @@
 //! The lines that cut, copy and change a value.
-ghost use Rattle.arrow_model.specs.Request.{apply_mask, apply_values, at, clone_to, empty, set, set_mask};
-ghost use Rattle.arrow_model.specs.Request.{set_values, slice, write};
-ghost use Rattle.arrow_syntax.specs.Fields.{change_in, item_of, mask_of, slot_of};
-ghost use Rattle.arrow_syntax.specs.Readers.{each, no_words, only, reads, ◌▸◌};
-ghost use Rattle.arrow_syntax.specs.Words.{number_of};
+ghost use Rattle.arrow_syntax.specs.Lines.{apply_mask_line, apply_values_line, clone_line, drop_line, mask_line};
+ghost use Rattle.arrow_syntax.specs.Lines.{set_line, slice_line, values_line, write_line};
 ghost use Rattle.std.proofs.Common.{rules};
 
 use crate::line::{CommandLine, ParseOffset};
@@ -16,7 +13,7 @@ pub(crate) struct SliceLine;
 impl<O: ParseOffset> CommandLine<O> for SliceLine {
     type Rest = (usize, Last<usize>);
 
-    ghost reader = { λ e. reads (number_of ▸ only number_of) (λ (a, n). at e (slice a n)) };
+    ghost reader = { slice_line };
 
     ghost same = { Prim.search rules };
 
@@ -32,7 +29,7 @@ pub(crate) struct CloneLine;
 impl<O: ParseOffset> CommandLine<O> for CloneLine {
     type Rest = Last<usize>;
 
-    ghost reader = { λ e. reads (only number_of) (λ f. clone_to e f) };
+    ghost reader = { clone_line };
 
     ghost same = { Prim.search rules };
 
@@ -48,7 +45,7 @@ pub(crate) struct DropLine;
 impl<O: ParseOffset> CommandLine<O> for DropLine {
     type Rest = ();
 
-    ghost reader = { λ e. no_words (at e empty) };
+    ghost reader = { drop_line };
 
     ghost same = { Prim.search rules };
 
@@ -64,7 +61,7 @@ pub(crate) struct MaskLine;
 impl<O: ParseOffset> CommandLine<O> for MaskLine {
     type Rest = Last<Option<Vec<bool>>>;
 
-    ghost reader = { λ e. reads (only mask_of) (λ mask. at e (set_mask mask)) };
+    ghost reader = { mask_line };
 
     ghost same = { Prim.search rules };
 
@@ -80,7 +77,7 @@ pub(crate) struct ApplyMaskLine;
 impl<O: ParseOffset> CommandLine<O> for ApplyMaskLine {
     type Rest = Change<i64>;
 
-    ghost reader = { λ e. reads change_in (λ change. at e (apply_mask change)) };
+    ghost reader = { apply_mask_line };
 
     ghost same = { Prim.search rules };
 
@@ -96,7 +93,7 @@ pub(crate) struct ValuesLine;
 impl<O: ParseOffset> CommandLine<O> for ValuesLine {
     type Rest = Vec<Item<i64>>;
 
-    ghost reader = { λ e. reads (each item_of) (λ items. at e (set_values items)) };
+    ghost reader = { values_line };
 
     ghost same = { Prim.search rules };
 
@@ -112,7 +109,7 @@ pub(crate) struct ApplyValuesLine;
 impl<O: ParseOffset> CommandLine<O> for ApplyValuesLine {
     type Rest = Change<i64>;
 
-    ghost reader = { λ e. reads change_in (λ change. at e (apply_values change)) };
+    ghost reader = { apply_values_line };
 
     ghost same = { Prim.search rules };
 
@@ -128,7 +125,7 @@ pub(crate) struct SetLine;
 impl<O: ParseOffset> CommandLine<O> for SetLine {
     type Rest = (usize, Last<Option<Item<i64>>>);
 
-    ghost reader = { λ e. reads (number_of ▸ only slot_of) (λ (i, slot). at e (set i slot)) };
+    ghost reader = { set_line };
 
     ghost same = { Prim.search rules };
 
@@ -144,7 +141,7 @@ pub(crate) struct WriteLine;
 impl<O: ParseOffset> CommandLine<O> for WriteLine {
     type Rest = (usize, Last<Item<i64>>);
 
-    ghost reader = { λ e. reads (number_of ▸ only item_of) (λ (i, item). at e (write i item)) };
+    ghost reader = { write_line };
 
     ghost same = { Prim.search rules };
 

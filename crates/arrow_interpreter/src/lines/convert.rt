@@ -1,9 +1,6 @@
 //! The lines that convert a value, and those about two values, about three, and about none.
-ghost use Rattle.arrow_model.specs.Request.{at, check_indexes, equal, filter_to, freeze, nullable, take_to};
-ghost use Rattle.arrow_model.specs.Request.{thaw, to};
-ghost use Rattle.arrow_syntax.specs.Fields.{type_of};
-ghost use Rattle.arrow_syntax.specs.Readers.{each, no_words, only, reads, ◌▸◌};
-ghost use Rattle.arrow_syntax.specs.Words.{integer_of, number_of};
+ghost use Rattle.arrow_syntax.specs.Lines.{equal_line, filter_line, freeze_line, indexes_line, nullable_line};
+ghost use Rattle.arrow_syntax.specs.Lines.{take_line, thaw_line, to_line};
 ghost use Rattle.std.proofs.Common.{rules};
 
 use crate::interpreter::Interpreter;
@@ -19,7 +16,7 @@ pub(crate) struct FreezeLine;
 impl<O: ParseOffset> CommandLine<O> for FreezeLine {
     type Rest = ();
 
-    ghost reader = { λ e. no_words (at e freeze) };
+    ghost reader = { freeze_line };
 
     ghost same = { Prim.search rules };
 
@@ -35,7 +32,7 @@ pub(crate) struct ThawLine;
 impl<O: ParseOffset> CommandLine<O> for ThawLine {
     type Rest = ();
 
-    ghost reader = { λ e. no_words (at e thaw) };
+    ghost reader = { thaw_line };
 
     ghost same = { Prim.search rules };
 
@@ -51,7 +48,7 @@ pub(crate) struct NullableLine;
 impl<O: ParseOffset> CommandLine<O> for NullableLine {
     type Rest = ();
 
-    ghost reader = { λ e. no_words (at e nullable) };
+    ghost reader = { nullable_line };
 
     ghost same = { Prim.search rules };
 
@@ -65,7 +62,7 @@ impl<O: ParseOffset> CommandLine<O> for NullableLine {
 pub(crate) struct ToLine;
 
 impl<O: ParseOffset> DirectLine<O> for ToLine {
-    ghost reader = { λ e. reads (only type_of) (λ t. at e (to t)) };
+    ghost reader = { to_line };
 
     fn is_line(_number: usize, words: &[u8]) -> bool {
         <Last<DataType>>::are_words(words)
@@ -88,7 +85,7 @@ pub(crate) struct EqualLine;
 impl<O: ParseOffset> CommandLine<O> for EqualLine {
     type Rest = Last<usize>;
 
-    ghost reader = { λ e. reads (only number_of) (λ f. equal e f) };
+    ghost reader = { equal_line };
 
     ghost same = { Prim.search rules };
 
@@ -104,7 +101,7 @@ pub(crate) struct FilterLine;
 impl<O: ParseOffset> CommandLine<O> for FilterLine {
     type Rest = (usize, Last<usize>);
 
-    ghost reader = { λ e. reads (number_of ▸ only number_of) (λ (f, g). filter_to e f g) };
+    ghost reader = { filter_line };
 
     ghost same = { Prim.search rules };
 
@@ -120,7 +117,7 @@ pub(crate) struct TakeLine;
 impl<O: ParseOffset> CommandLine<O> for TakeLine {
     type Rest = (usize, Vec<i64>);
 
-    ghost reader = { λ e. reads (number_of ▸ each integer_of) (λ (g, keys). take_to e keys g) };
+    ghost reader = { take_line };
 
     ghost same = { Prim.search rules };
 
@@ -136,7 +133,7 @@ pub(crate) struct IndexesLine;
 impl<O: ParseOffset> CommandLine<O> for IndexesLine {
     type Rest = Vec<i64>;
 
-    ghost reader = { λ n. reads (each integer_of) (λ keys. check_indexes keys n) };
+    ghost reader = { indexes_line };
 
     ghost same = { Prim.search rules };
 

@@ -1,13 +1,13 @@
 //! The lines that make a value in an empty entry.
-ghost use Rattle.std.specs.Prelude.{◌≡◌, false, is_some, option_map, IfOk};
+ghost use Rattle.arrow_syntax.specs.Lines.{items_line, new_line, null_line, parts_line, slots_line, types_over};
+ghost use Rattle.std.specs.Prelude.{◌≡◌, is_some};
 ghost use Rattle.arrow_types.specs.Types.{logical_type};
 ghost use Rattle.arrow_model.specs.Value.{default_type};
-ghost use Rattle.arrow_model.specs.Kind.{boolean, native, var_binary, shape};
-ghost use Rattle.arrow_model.specs.Request.{given_by, items, make, nothing, nulls, parts, slots};
-ghost use Rattle.arrow_syntax.specs.Lines.{types_over};
-ghost use Rattle.arrow_syntax.specs.Fields.{item_of, kind_of, packed_mask_in, parts_in, raw_in, slot_of, type_of};
-ghost use Rattle.arrow_syntax.specs.Readers.{each, only, reads, ◌▸◌};
-ghost use Rattle.arrow_syntax.specs.Words.{number_of, words_of};
+ghost use Rattle.arrow_model.specs.Kind.{shape};
+ghost use Rattle.arrow_model.specs.Request.{given_by};
+ghost use Rattle.arrow_syntax.specs.Fields.{parse_packed_mask, parse_raw, parse_type};
+ghost use Rattle.arrow_syntax.specs.Readers.{ParsesAs, ◌▸◌};
+ghost use Rattle.arrow_syntax.specs.Words.{words_of};
 ghost use Rattle.std.proofs.Common.{rules};
 
 use crate::interpreter::Interpreter;
@@ -25,7 +25,7 @@ pub(crate) struct NewLine;
 impl<O: ParseOffset> CommandLine<O> for NewLine {
     type Rest = Last<Kind>;
 
-    ghost reader = { λ e. reads (only kind_of) (λ kind. make e (shape kind) nothing) };
+    ghost reader = { new_line };
 
     ghost same = { Prim.search rules };
 
@@ -41,9 +41,7 @@ pub(crate) struct NullLine;
 impl<O: ParseOffset> CommandLine<O> for NullLine {
     type Rest = (Kind, Last<usize>);
 
-    ghost reader = { λ e. reads (kind_of ▸ only number_of)
-        (λ (kind, n). make e (shape kind)
-        (nulls (default_type (types_over O.most O.IS_LARGE) (shape kind).value_kind) n)) };
+    ghost reader = { null_line (types_over O.most O.IS_LARGE) };
 
     ghost same = { Prim.search rules };
 
@@ -57,8 +55,7 @@ impl<O: ParseOffset> CommandLine<O> for NullLine {
 pub(crate) struct PartsLine;
 
 impl<O: ParseOffset> DirectLine<O> for PartsLine {
-    ghost reader = { λ e. reads (parts_in O.offset) (λ (s, (t, (mask, raw))).
-        make e s (parts t raw mask)) };
+    ghost reader = { parts_line O.offset };
 
     fn is_line(_number: usize, words: &[u8]) -> bool {
         match first_kind(words) {
@@ -78,7 +75,7 @@ impl<O: ParseOffset> DirectLine<O> for PartsLine {
         let Some((mask, words)) = next::<Option<Bits>>(alloc, words)? else {
             return Ok(false);
         };
-        let Some(raw) = raw_of::<O>(alloc, kind, words)? else {
+        let Some(raw) = parse_raw::<O>(alloc, kind, words)? else {
             return Ok(false);
         };
         let parts = Parts {
@@ -98,7 +95,7 @@ pub(crate) struct SlotsLine;
 impl<O: ParseOffset> CommandLine<O> for SlotsLine {
     type Rest = (Kind, Vec<Option<Item<i64>>>);
 
-    ghost reader = { λ e. reads (kind_of ▸ each slot_of) (λ (kind, given). make e (shape kind) (slots given)) };
+    ghost reader = { slots_line };
 
     ghost same = { Prim.search rules };
 
@@ -114,7 +111,7 @@ pub(crate) struct ItemsLine;
 impl<O: ParseOffset> CommandLine<O> for ItemsLine {
     type Rest = (Kind, Vec<Item<i64>>);
 
-    ghost reader = { λ e. reads (kind_of ▸ each item_of) (λ (kind, given). make e (shape kind) (items given)) };
+    ghost reader = { items_line };
 
     ghost same = { Prim.search rules };
 
@@ -152,69 +149,39 @@ fn default_type<O: Offset>(kind: Kind) -> DataType
 type RawBytes<O> = (Vec<u8>, OffsetWords<O>);
 
 /// Returns the raw values of a kind that words write, or `None` if they are malformed.
-fn raw_of<O: ParseOffset>(
+fn parse_raw<O: ParseOffset>(
     alloc: Global,
     kind: Kind,
     words: &[u8],
 ) -> Result<Option<Raw<i64, O>>, AllocError>
-    ensures { let wanted = raw_in O.offset (shape kind).value_kind (words_of words.now) in
-        IfOk result (λ read. option_map (given_by O.number) read ≡ wanted) }
+    ensures { ParsesAs result (given_by O.number)
+        (parse_raw O.offset (shape kind).value_kind (words_of words.now)) }
 {
     match kind {
-        Kind::Primitive | Kind::MutablePrimitive => raw_values::<O>(alloc, words),
-        Kind::Boolean | Kind::MutableBoolean => raw_bits::<O>(alloc, words),
-        Kind::Binary | Kind::MutableBinary | Kind::BinaryValues => raw_bytes::<O>(alloc, words),
-        Kind::Utf8 | Kind::MutableUtf8 | Kind::Utf8Values => raw_bytes::<O>(alloc, words),
-    }
-}
-
-fn raw_values<O: ParseOffset>(
-    alloc: Global,
-    words: &[u8],
-) -> Result<Option<Raw<i64, O>>, AllocError>
-    ensures { let wanted = raw_in O.offset native (words_of words.now) in
-        IfOk result (λ read. option_map (given_by O.number) read ≡ wanted) }
-{
-    match <Vec<i64>>::of_words(alloc, words)? {
-        Some(values) => Ok(Some(Raw::Values(values))),
-        None => Ok(None),
-    }
-}
-
-fn raw_bits<O: ParseOffset>(alloc: Global, words: &[u8]) -> Result<Option<Raw<i64, O>>, AllocError>
-    ensures { let wanted = raw_in O.offset boolean (words_of words.now) in
-        IfOk result (λ read. option_map (given_by O.number) read ≡ wanted) }
-{
-    match <Last<Bits>>::of_words(alloc, words)? {
-        Some(Last(bits)) => Ok(Some(Raw::Bits(bits))),
-        None => Ok(None),
-    }
-}
-
-fn raw_bytes<O: ParseOffset>(alloc: Global, words: &[u8]) -> Result<Option<Raw<i64, O>>, AllocError>
-    ensures { let wanted = raw_in O.offset (var_binary false) (words_of words.now) in
-        IfOk result (λ read. option_map (given_by O.number) read ≡ wanted) }
-{
-    match <RawBytes<O>>::of_words(alloc, words)? {
-        Some((bytes, OffsetWords(offsets))) => Ok(Some(Raw::Pieces(offsets, bytes))),
-        None => Ok(None),
+        Kind::Primitive | Kind::MutablePrimitive => match <Vec<i64>>::of_words(alloc, words)? {
+            Some(values) => Ok(Some(Raw::Values(values))),
+            None => Ok(None),
+        },
+        Kind::Boolean | Kind::MutableBoolean => match <Last<Bits>>::of_words(alloc, words)? {
+            Some(Last(bits)) => Ok(Some(Raw::Bits(bits))),
+            None => Ok(None),
+        },
+        _ => match <RawBytes<O>>::of_words(alloc, words)? {
+            Some((bytes, OffsetWords(offsets))) => Ok(Some(Raw::Pieces(offsets, bytes))),
+            None => Ok(None),
+        },
     }
 }
 
 /// Returns whether words are a type, a mask and raw values of a kind.
 fn are_parts<O: ParseOffset>(kind: Kind, words: &[u8]) -> bool
     ensures { result ≡ is_some
-        ((type_of ▸ packed_mask_in ▸ raw_in O.offset (shape kind).value_kind) (words_of words.now)) }
+        ((parse_type ▸ parse_packed_mask ▸ parse_raw O.offset (shape kind).value_kind) (words_of words.now)) }
 {
     match kind {
         Kind::Primitive | Kind::MutablePrimitive => <PartsOf<Vec<i64>>>::are_words(words),
         Kind::Boolean | Kind::MutableBoolean => <PartsOf<Last<Bits>>>::are_words(words),
-        Kind::Binary | Kind::MutableBinary | Kind::BinaryValues => <PartsOf<
-            RawBytes<O>,
-        >>::are_words(words),
-        Kind::Utf8 | Kind::MutableUtf8 | Kind::Utf8Values => <PartsOf<RawBytes<O>>>::are_words(
-            words,
-        ),
+        _ => <PartsOf<RawBytes<O>>>::are_words(words),
     }
 }
 

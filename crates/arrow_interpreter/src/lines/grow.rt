@@ -1,39 +1,34 @@
 //! The lines that make a builder grow or shrink.
-ghost use Rattle.std.specs.Prelude.{IfOk, option_map};
-ghost use Rattle.arrow_model.specs.Request.{at, extend, extend_constant, extend_from, extend_values, pop, push};
-ghost use Rattle.arrow_model.specs.Request.{push_null, reserve, shrink};
-ghost use Rattle.arrow_interpreter.specs.Replies.{RunsLine};
-ghost use Rattle.arrow_table.specs.Width.{on_width};
-ghost use Rattle.arrow_syntax.specs.Fields.{item_of, slot_of};
-ghost use Rattle.arrow_syntax.specs.Readers.{each, no_words, only, reads, ◌▸◌};
-ghost use Rattle.arrow_syntax.specs.Words.{number_of};
+ghost use Rattle.arrow_syntax.specs.Lines.{constant_line, extend_line, extend_values_line, pop_line, push_line};
+ghost use Rattle.arrow_syntax.specs.Lines.{push_null_line, reserve_line, self_line, shrink_line};
 ghost use Rattle.std.proofs.Common.{rules};
 
 use crate::interpreter::Interpreter;
 use crate::line::{CommandLine, DirectLine, ParseOffset};
-use arrow_syntax::readers::{Last, Word, Words};
-use arrow_syntax::words::{next_word, word_eq};
+use arrow_syntax::readers::{Last, Words};
 use arrow_table::{Command, Item};
 use std::alloc::AllocError;
 
-/// `push E SLOT`. The slot is read and pushed with no move, since these lines are the most frequent.
+/// `push E SLOT`. No command is made, since these lines are the most frequent.
 pub(crate) struct PushLine;
 
 impl<O: ParseOffset> DirectLine<O> for PushLine {
-    ghost reader = { λ e. reads (only slot_of) (λ slot. at e (push slot)) };
+    ghost reader = { push_line };
 
     fn is_line(_number: usize, words: &[u8]) -> bool {
         <Last<Option<Item<i64>>>>::are_words(words)
     }
 
+    #[inline(always)]
     fn run(interpreter: &mut Interpreter, number: usize, words: &[u8]) -> Result<bool, AllocError> {
-        let Some((word, rest)) = next_word(words) else {
-            return Ok(false);
-        };
-        if next_word(rest).is_some() {
-            return Ok(false);
+        let read = <Last<Option<Item<i64>>>>::of_words(*interpreter.text.allocator(), words)?;
+        match &read {
+            Some(Last(slot)) => {
+                interpreter.push::<O>(number, slot)?;
+                Ok(true)
+            }
+            None => Ok(false),
         }
-        push_word::<O>(interpreter, number, word)
     }
 }
 
@@ -43,7 +38,7 @@ pub(crate) struct PushNullLine;
 impl<O: ParseOffset> CommandLine<O> for PushNullLine {
     type Rest = ();
 
-    ghost reader = { λ e. no_words (at e push_null) };
+    ghost reader = { push_null_line };
 
     ghost same = { Prim.search rules };
 
@@ -59,7 +54,7 @@ pub(crate) struct PopLine;
 impl<O: ParseOffset> CommandLine<O> for PopLine {
     type Rest = ();
 
-    ghost reader = { λ e. no_words (at e pop) };
+    ghost reader = { pop_line };
 
     ghost same = { Prim.search rules };
 
@@ -75,7 +70,7 @@ pub(crate) struct ExtendLine;
 impl<O: ParseOffset> CommandLine<O> for ExtendLine {
     type Rest = Vec<Option<Item<i64>>>;
 
-    ghost reader = { λ e. reads (each slot_of) (λ slots. at e (extend slots)) };
+    ghost reader = { extend_line };
 
     ghost same = { Prim.search rules };
 
@@ -91,7 +86,7 @@ pub(crate) struct ExtendValuesLine;
 impl<O: ParseOffset> CommandLine<O> for ExtendValuesLine {
     type Rest = Vec<Item<i64>>;
 
-    ghost reader = { λ e. reads (each item_of) (λ items. at e (extend_values items)) };
+    ghost reader = { extend_values_line };
 
     ghost same = { Prim.search rules };
 
@@ -107,7 +102,7 @@ pub(crate) struct ConstantLine;
 impl<O: ParseOffset> CommandLine<O> for ConstantLine {
     type Rest = (usize, Last<Option<Item<i64>>>);
 
-    ghost reader = { λ e. reads (number_of ▸ only slot_of) (λ (n, slot). at e (extend_constant n slot)) };
+    ghost reader = { constant_line };
 
     ghost same = { Prim.search rules };
 
@@ -123,7 +118,7 @@ pub(crate) struct ExtendFromSelfLine;
 impl<O: ParseOffset> CommandLine<O> for ExtendFromSelfLine {
     type Rest = Last<usize>;
 
-    ghost reader = { λ e. reads (only number_of) (λ f. extend_from e f) };
+    ghost reader = { self_line };
 
     ghost same = { Prim.search rules };
 
@@ -139,7 +134,7 @@ pub(crate) struct ReserveLine;
 impl<O: ParseOffset> CommandLine<O> for ReserveLine {
     type Rest = (usize, Last<usize>);
 
-    ghost reader = { λ e. reads (number_of ▸ only number_of) (λ _. at e reserve) };
+    ghost reader = { reserve_line };
 
     ghost same = { Prim.search rules };
 
@@ -155,7 +150,7 @@ pub(crate) struct ShrinkLine;
 impl<O: ParseOffset> CommandLine<O> for ShrinkLine {
     type Rest = ();
 
-    ghost reader = { λ e. no_words (at e shrink) };
+    ghost reader = { shrink_line };
 
     ghost same = { Prim.search rules };
 
@@ -163,29 +158,4 @@ impl<O: ParseOffset> CommandLine<O> for ShrinkLine {
     fn command(number: usize, _end: Self::Rest) -> Command<i64, O> {
         Command::Shrink(number)
     }
-}
-
-/// Appends the slot that a word writes to a builder. Returns whether the word is well formed.
-#[inline(always)]
-fn push_word<O: ParseOffset>(
-    interpreter: &mut Interpreter,
-    entry: usize,
-    word: &[u8],
-) -> Result<bool, AllocError>
-    ensures { let request = option_map (λ slot. on_width O.IS_LARGE (at entry (push slot))) (slot_of word.now) in
-        IfOk result (RunsLine request interpreter.old interpreter.new) }
-{
-    if word_eq(word, b"_") {
-        interpreter.push::<O>(entry, &None)?;
-        return Ok(true);
-    }
-    let read = <Item<i64>>::of_word(*interpreter.text.allocator(), word);
-    let Ok(slot) = &read else {
-        return Err(AllocError);
-    };
-    if slot.is_none() {
-        return Ok(false);
-    }
-    interpreter.push::<O>(entry, slot)?;
-    Ok(true)
 }

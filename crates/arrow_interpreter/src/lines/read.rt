@@ -1,9 +1,6 @@
 //! The lines that read a value.
-ghost use Rattle.arrow_model.specs.Request.{all_slots, at, bytes, get, held, is_null, len, null_count, offsets};
-ghost use Rattle.arrow_model.specs.Request.{turns, type_of, value};
-ghost use Rattle.arrow_syntax.specs.Fields.{turn_of};
-ghost use Rattle.arrow_syntax.specs.Readers.{each, no_words, only, reads};
-ghost use Rattle.arrow_syntax.specs.Words.{number_of};
+ghost use Rattle.arrow_syntax.specs.Lines.{bytes_line, get_line, held_line, is_null_line, len_line, list_line};
+ghost use Rattle.arrow_syntax.specs.Lines.{nulls_line, offsets_line, turns_line, type_line, value_line};
 ghost use Rattle.std.proofs.Common.{rules};
 
 use crate::interpreter::Interpreter;
@@ -18,7 +15,7 @@ pub(crate) struct LenLine;
 impl<O: ParseOffset> CommandLine<O> for LenLine {
     type Rest = ();
 
-    ghost reader = { λ e. no_words (at e len) };
+    ghost reader = { len_line };
 
     ghost same = { Prim.search rules };
 
@@ -34,7 +31,7 @@ pub(crate) struct ValueLine;
 impl<O: ParseOffset> CommandLine<O> for ValueLine {
     type Rest = Last<usize>;
 
-    ghost reader = { λ e. reads (only number_of) (λ i. at e (value i)) };
+    ghost reader = { value_line };
 
     ghost same = { Prim.search rules };
 
@@ -50,7 +47,7 @@ pub(crate) struct GetLine;
 impl<O: ParseOffset> CommandLine<O> for GetLine {
     type Rest = Last<usize>;
 
-    ghost reader = { λ e. reads (only number_of) (λ i. at e (get i)) };
+    ghost reader = { get_line };
 
     ghost same = { Prim.search rules };
 
@@ -66,7 +63,7 @@ pub(crate) struct IsNullLine;
 impl<O: ParseOffset> CommandLine<O> for IsNullLine {
     type Rest = Last<usize>;
 
-    ghost reader = { λ e. reads (only number_of) (λ i. at e (is_null i)) };
+    ghost reader = { is_null_line };
 
     ghost same = { Prim.search rules };
 
@@ -82,7 +79,7 @@ pub(crate) struct NullsLine;
 impl<O: ParseOffset> CommandLine<O> for NullsLine {
     type Rest = ();
 
-    ghost reader = { λ e. no_words (at e null_count) };
+    ghost reader = { nulls_line };
 
     ghost same = { Prim.search rules };
 
@@ -96,7 +93,7 @@ impl<O: ParseOffset> CommandLine<O> for NullsLine {
 pub(crate) struct ListLine;
 
 impl<O: ParseOffset> DirectLine<O> for ListLine {
-    ghost reader = { λ e. no_words (at e all_slots) };
+    ghost reader = { list_line };
 
     fn is_line(_number: usize, words: &[u8]) -> bool {
         <()>::are_words(words)
@@ -117,7 +114,7 @@ pub(crate) struct TurnsLine;
 impl<O: ParseOffset> CommandLine<O> for TurnsLine {
     type Rest = Vec<Turn>;
 
-    ghost reader = { λ e. reads (each turn_of) (λ asked. at e (turns asked)) };
+    ghost reader = { turns_line };
 
     ghost same = { Prim.search rules };
 
@@ -133,7 +130,7 @@ pub(crate) struct TypeLine;
 impl<O: ParseOffset> CommandLine<O> for TypeLine {
     type Rest = ();
 
-    ghost reader = { λ e. no_words (at e type_of) };
+    ghost reader = { type_line };
 
     ghost same = { Prim.search rules };
 
@@ -149,7 +146,7 @@ pub(crate) struct HeldLine;
 impl<O: ParseOffset> CommandLine<O> for HeldLine {
     type Rest = ();
 
-    ghost reader = { λ e. no_words (at e held) };
+    ghost reader = { held_line };
 
     ghost same = { Prim.search rules };
 
@@ -165,7 +162,7 @@ pub(crate) struct BytesLine;
 impl<O: ParseOffset> CommandLine<O> for BytesLine {
     type Rest = ();
 
-    ghost reader = { λ e. no_words (at e bytes) };
+    ghost reader = { bytes_line };
 
     ghost same = { Prim.search rules };
 
@@ -181,7 +178,7 @@ pub(crate) struct OffsetsLine;
 impl<O: ParseOffset> CommandLine<O> for OffsetsLine {
     type Rest = ();
 
-    ghost reader = { λ e. no_words (at e offsets) };
+    ghost reader = { offsets_line };
 
     ghost same = { Prim.search rules };
 

@@ -13,7 +13,7 @@ returns-in-Some g c =
     let entries = c.args.entries.now.items in
     let within : c.args.e < length entries = omega arith in
     stays-row (option_map value_of) (λ old. Does known old (g.R.ReadsEntry.asks c.args.command)) entries c.args.e
-    (Some c.in-Some.held) (outcome c.read.result)
+    (Some c.in-Some.entry) (outcome c.read.result)
     (got entries c.args.e c.index.result.now c.index.result.now within c.index.ensures
     ∙ ap Some c.in-Some.is) c.read.ensures
 

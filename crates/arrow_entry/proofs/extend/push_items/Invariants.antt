@@ -9,13 +9,13 @@ use Rattle.arrow_entry.proofs.extend.push_items.Given as goal
 
 abbrev pub invariant-loop-item : goal.invariant-loop-item
 invariant-loop-item g l =
-    ((value_of l.held).shape ≡ (value_of l.fn.held).shape)
-    × IsTrue (list_all (fits (value_of l.held).shape.value_kind) (map stored_item l.rest))
+    ((value_of l.entry).shape ≡ (value_of l.fn.entry).shape)
+    × IsTrue (list_all (fits (value_of l.entry).shape.value_kind) (map stored_item l.rest))
     × ((reply : Answer g.row.T.Denot) (new : Option (Value g.row.T.Denot))
     → Extends (types g.T.NativeType.zero g.T.NativeType.PRIMITIVE g.O.Offset.most g.O.Offset.IS_LARGE)
-    (value_of l.held) (map Some (map stored_item l.rest)) reply new
+    (value_of l.entry) (map Some (map stored_item l.rest)) reply new
     → Extends (types g.T.NativeType.zero g.T.NativeType.PRIMITIVE g.O.Offset.most g.O.Offset.IS_LARGE)
-    (value_of l.fn.held) (map Some (map stored_item l.fn.items)) reply new)
+    (value_of l.fn.entry) (map Some (map stored_item l.fn.items)) reply new)
 
 abbrev pub decreases-loop-item : goal.decreases-loop-item
 decreases-loop-item g l = length l.rest

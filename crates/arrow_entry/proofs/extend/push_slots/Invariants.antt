@@ -9,13 +9,13 @@ use Rattle.arrow_entry.proofs.extend.push_slots.Given as goal
 
 abbrev pub invariant-loop-slot : goal.invariant-loop-slot
 invariant-loop-slot g l =
-    ((value_of l.held).shape ≡ (value_of l.fn.held).shape)
-    × IsTrue (list_all (slot_fits (value_of l.held).shape.value_kind) (map stored_slot l.rest))
+    ((value_of l.entry).shape ≡ (value_of l.fn.entry).shape)
+    × IsTrue (list_all (slot_fits (value_of l.entry).shape.value_kind) (map stored_slot l.rest))
     × ((reply : Answer g.row.T.Denot) (new : Option (Value g.row.T.Denot))
     → Extends (types g.T.NativeType.zero g.T.NativeType.PRIMITIVE g.O.Offset.most g.O.Offset.IS_LARGE)
-    (value_of l.held) (map stored_slot l.rest) reply new
+    (value_of l.entry) (map stored_slot l.rest) reply new
     → Extends (types g.T.NativeType.zero g.T.NativeType.PRIMITIVE g.O.Offset.most g.O.Offset.IS_LARGE)
-    (value_of l.fn.held) (map stored_slot l.fn.slots) reply new)
+    (value_of l.fn.entry) (map stored_slot l.fn.slots) reply new)
 
 abbrev pub decreases-loop-slot : goal.decreases-loop-slot
 decreases-loop-slot g l = length l.rest

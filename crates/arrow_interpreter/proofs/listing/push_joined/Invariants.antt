@@ -7,4 +7,4 @@ use Rattle.arrow_interpreter.proofs.listing.push_joined.Given as goal
 
 abbrev pub invariant-loop-i : goal.invariant-loop-i
 invariant-loop-i g l = string_bytes l.text ≡ string_bytes l.fn.text
-    ++ join_with_byte 32 (map slot_text (take l.i (slots_of (value_of l.fn.held).column)))
+    ++ join_with_byte 32 (map slot_text (take l.i (slots_of (value_of l.fn.entry).column)))

@@ -4,7 +4,7 @@ use Rattle.std.specs.List.{list_all}
 use Rattle.arrow_syntax.specs.Lines.{is_bad}
 use Rattle.arrow_syntax.proofs.CallerLemmas.{after_shorter, length_after}
 use Rattle.arrow_syntax.specs.Words.{is_printable}
-use Rattle.arrow_session.proofs.Reading.{all_printable_cut, lines_after, lines_cut}
+use Rattle.arrow_session.proofs.Parsing.{all_printable_cut, lines_after, lines_cut}
 use Rattle.arrow_session.proofs.Runs.{IsReadTo, read_none, read_good, read_bad, read_all}
 use Rattle.arrow_session.proofs.session.first_bad_line.Goals as goal
 

@@ -3,7 +3,7 @@ use Rattle.std.specs.Prelude.{IsTrue}
 use Rattle.std.specs.List.{list_all}
 use Rattle.arrow_syntax.proofs.CallerLemmas.{length_after}
 use Rattle.arrow_syntax.specs.Words.{is_printable}
-use Rattle.arrow_session.proofs.Reading.{lines_after}
+use Rattle.arrow_session.proofs.Parsing.{lines_after}
 use Rattle.arrow_session.proofs.Runs.{IsReadTo}
 use Rattle.arrow_session.proofs.session.first_bad_line.Given as goal
 

@@ -1,6 +1,6 @@
 use Rattle.std.proofs.Common.{◌≡◌, ◌∙◌, ap, subst, arith, string_bytes}
 use Rattle.arrow_interpreter.specs.Replies.{at_first}
-use Rattle.arrow_session.proofs.Reading.{lines_after, lines_cut}
+use Rattle.arrow_session.proofs.Parsing.{lines_after, lines_cut}
 use Rattle.arrow_session.proofs.Runs.{IsRunTo, run_none, run_next, run_good, run_to_end}
 use Rattle.arrow_session.proofs.session.run_lines.Goals as goal
 

@@ -1,6 +1,6 @@
 use Rattle.std.proofs.Common.{string_bytes}
 use Rattle.arrow_syntax.proofs.CallerLemmas.{length_after}
-use Rattle.arrow_session.proofs.Reading.{lines_after}
+use Rattle.arrow_session.proofs.Parsing.{lines_after}
 use Rattle.arrow_session.proofs.Runs.{IsRunTo}
 use Rattle.arrow_session.proofs.session.run_lines.Given as goal
 

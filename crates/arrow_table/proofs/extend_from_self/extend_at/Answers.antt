@@ -2,7 +2,7 @@ use Rattle.std.proofs.Common.{◌<◌, length, map, option_map, slice_set, ap, a
 use Rattle.arrow_entry.specs.Entry.{value_of}
 use Rattle.arrow_entry.proofs.CallerLemmas.{at-row, got, others-stay, set-twice}
 use Rattle.arrow_model.specs.Answer.{outcome}
-use Rattle.arrow_model.specs.Step.{Joins_to, other_at}
+use Rattle.arrow_model.specs.Step.{ExtendsFrom, other_at}
 use Rattle.arrow_model.specs.Value.{types}
 use Rattle.arrow_table.proofs.extend_from_self.extend_at.Goals as goal
 
@@ -11,13 +11,13 @@ returns g c =
     let entries = c.args.entries.now.items in
     let e = c.args.e in
     let within : e < length entries = omega arith in
-    let others = others-stay (option_map value_of) entries e c.args.f c.take-held.new.self
-    (ap (option_map value_of) c.take-held.ensures.after) in
+    let others = others-stay (option_map value_of) entries e c.args.f c.take-entry.new.self
+    (ap (option_map value_of) c.take-entry.ensures.after) in
     at-row (option_map value_of)
-    (λ old. Joins_to (types g.T.NativeType.zero g.T.NativeType.PRIMITIVE g.O.Offset.most g.O.Offset.IS_LARGE) old
+    (λ old. ExtendsFrom (types g.T.NativeType.zero g.T.NativeType.PRIMITIVE g.O.Offset.most g.O.Offset.IS_LARGE) old
     (other_at (map (option_map value_of) entries) e c.args.f))
-    entries (slice_set (slice_set entries e c.take-held.new.self) e c.replace.new.entry) e c.index_mut.result.now
+    entries (slice_set (slice_set entries e c.take-entry.new.self) e c.replace.new.entry) e c.index_mut.result.now
     c.replace.new.entry (outcome c.join-result.result)
     (got entries e c.index_mut.result.now c.index_mut.result.now within c.index_mut.ensures.value)
-    (set-twice entries e c.take-held.new.self c.replace.new.entry)
-    (rw (← others, c.entry_at.ensures, ← c.take-held.ensures.value, c.replace.ensures) c.join-result.ensures)
+    (set-twice entries e c.take-entry.new.self c.replace.new.entry)
+    (rw (← others, c.entry_at.ensures, ← c.take-entry.ensures.value, c.replace.ensures) c.join-result.ensures)

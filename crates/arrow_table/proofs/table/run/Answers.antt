@@ -1,7 +1,7 @@
 use Rattle.std.proofs.Common.{map}
 use Rattle.arrow_model.specs.Value.{types}
 use Rattle.arrow_model.specs.Answer.{answer_of}
-use Rattle.arrow_model.specs.Request.{asked}
+use Rattle.arrow_model.specs.Request.{as_request}
 use Rattle.arrow_table.proofs.RunLemmas.{table-runs, table-costs}
 use Rattle.arrow_table.proofs.table.run.Goals as goal
 

@@ -10,6 +10,6 @@ pub returns : goal.returns
 returns g c =
     let request = on_width g.O.Offset.IS_LARGE (at c.args.e all_slots) in
     let old = c.args.self.now in
-    text_of_step request (listed (option_copied c.get-held.result)) old.tables old.tables old.tables
+    text_of_step request (listed (option_copied c.get-entry.result)) old.tables old.tables old.tables
     (string_bytes old.text) (string_bytes c.push_listed.new.text)
-    c.push_listed.result c.get-held.ensures.step c.push_listed.ensures
+    c.push_listed.result c.get-entry.ensures.step c.push_listed.ensures

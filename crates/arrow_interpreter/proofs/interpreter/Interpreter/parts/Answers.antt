@@ -1,13 +1,13 @@
 use Rattle.std.proofs.Common.{string_bytes}
 use Rattle.arrow_model.specs.Answer.{answer_of}
-use Rattle.arrow_model.specs.Request.{parts_asked}
+use Rattle.arrow_model.specs.Request.{parts_request}
 use Rattle.arrow_table.specs.Width.{on_width}
 use Rattle.arrow_interpreter.proofs.Steps.{step_and_text}
 use Rattle.arrow_interpreter.proofs.interpreter.Interpreter.parts.Goals as goal
 
 pub returns : goal.returns
 returns g c =
-    let request = on_width g.O.Offset.IS_LARGE (parts_asked g.O.Offset.number c.args.e c.args.parts) in
+    let request = on_width g.O.Offset.IS_LARGE (parts_request g.O.Offset.number c.args.e c.args.parts) in
     let old = c.args.self.now in
     let new = c.push_reply.new.self in
     step_and_text request (answer_of c.parts-reply.result) old.tables c.parts-reply.new.tables new.tables

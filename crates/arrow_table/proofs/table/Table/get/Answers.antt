@@ -8,7 +8,7 @@ pub returns-in-Some-clause-step : goal.returns-in-Some-clause-step
 returns-in-Some-clause-step g c =
     let state = map (option_map value_of) c.self.inside.entries.items in
     let all = types g.T.NativeType.zero g.T.NativeType.PRIMITIVE g.O.Offset.most g.O.Offset.IS_LARGE in
-    rw (← c.self.view_is) (tells all state c.args.i (option_copied (Some c.in-Some.held)) c.in-Some.ensures, refl)
+    rw (← c.self.view_is) (tells all state c.args.i (option_copied (Some c.in-Some.entry)) c.in-Some.ensures, refl)
 
 pub returns-in-None-clause-step : goal.returns-in-None-clause-step
 returns-in-None-clause-step g c =

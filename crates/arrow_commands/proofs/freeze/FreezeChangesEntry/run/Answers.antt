@@ -1,4 +1,0 @@
-use Rattle.arrow_commands.proofs.freeze.FreezeChangesEntry.run.Goals as goal
-
-pub returns : goal.returns
-returns g c = rw (← c.take.ensures.value, c.replace.ensures) c.freeze_held-held.ensures
