@@ -146,6 +146,21 @@ fn an_array_thaws_once_no_clone_shares_it(rt: HostRuntime) {
     drop(builder);
 }
 
+/// There is no mask that the clone could share instead.
+#[test]
+fn a_clone_without_a_mask_shares_the_values(rt: HostRuntime) {
+    let first = BooleanArray::from_slice(rt.alloc(), [true, false].as_slice());
+    let first = first.expect(&rt, "memory");
+    let second = first.clone().expect(&rt, "memory");
+    let second = second
+        .into_mut()
+        .left()
+        .expect(&rt, "shared values stay frozen");
+    check(&rt, "the clone", &second, "tf", "10", "none");
+    drop(second);
+    drop(first);
+}
+
 #[test]
 fn builders_grow_slot_by_slot(rt: HostRuntime) {
     let mut builder = MutableBooleanArray::with_capacity(rt.alloc(), 1).expect(&rt, "memory");

@@ -171,3 +171,13 @@ fn marks_of_other_lengths_differ(rt: HostRuntime) {
     drop(none);
     assert_text::value(came, [false, true, true, false]).expect(&rt, "none and one, one and one");
 }
+
+#[test]
+fn the_allocator_serves_another_builder(rt: HostRuntime) {
+    let first = pushed(&rt, "10");
+    let mut second = MutableBitmap::new(first.allocator());
+    drop(first);
+    second.push(true).expect(&rt, "memory");
+    assert_text::marks(second.iter(), "1").expect(&rt, "another builder");
+    drop(second);
+}

@@ -1,0 +1,164 @@
+//! Bytes and text: what slots store, bytes around the slots in slices, clones, thawed arrays and builders, and parts
+//! that are taken out and accepted again.
+use super::*;
+
+/// Compares the items and the parts of arrays of two items around a null.
+fn check_nulls<O: Offset>(rt: &(impl Abort + AllocGlobal)) {
+    let array = ByteArray::<Binary, O>::from(rt.alloc(), BYTE_SLOTS).expect(rt, "memory");
+    let mut items = array.values_iter();
+    check_text(rt, "first", items.next(), "Some([104, 105])");
+    check_text(rt, "null", items.next(), "Some([])");
+    check_text(rt, "last", items.next(), "Some([116, 104, 101, 114, 101])");
+    check_text(rt, "end", items.next(), "None");
+    check_array(rt, "bytes", Ok(array), SLOTS);
+    let array = ByteArray::<Utf8, O>::from(rt.alloc(), TEXT_SLOTS).expect(rt, "memory");
+    let mut items = array.values_iter();
+    check_text(rt, "first text", items.next(), r#"Some("hi")"#);
+    check_text(rt, "null text", items.next(), r#"Some("")"#);
+    check_text(rt, "last text", items.next(), r#"Some("there")"#);
+    check_text(rt, "end of texts", items.next(), "None");
+    check_array(rt, "texts", Ok(array), SLOTS);
+}
+
+#[test]
+fn nulls_store_no_byte(rt: HostRuntime) {
+    for_each_offset!(check_nulls, &rt);
+}
+
+/// Three slots of one, no and two bytes, the second null, with bytes around them that are no text.
+const AROUND: Parts = (&[2, 3, 3, 5], b"\xFF\xFF\x01\x04\x04\xC3", "101");
+
+/// Compares the items of an array of bytes, and the slots and the parts of a slice.
+fn check_slice<O: Offset>(rt: &(impl Abort + AllocGlobal)) {
+    let mut array = own_array::<Binary, O>(rt, AROUND);
+    assert!(rt; array.len() == 3);
+    check_text(rt, "the first value", array.value(0), "[1]");
+    check_text(rt, "the value of the null", array.value(1), "[]");
+    check_text(rt, "the last value", array.value(2), "[4, 4]");
+    array.slice(1, 2);
+    assert!(rt; array.len() == 2);
+    check_text(rt, "the null", array.get(0), "None");
+    check_text(rt, "the last slot", array.get(1), "Some([4, 4])");
+    assert_text::value(array.null_count(), 1).expect(rt, "null_count of a slice");
+    check_array(rt, "a slice", Ok(array), (&[3, 3, 5], AROUND.1, "01"));
+}
+
+#[test]
+fn slices_keep_all_bytes(rt: HostRuntime) {
+    for_each_offset!(check_slice, &rt);
+}
+
+/// A name, an offset, a length, and the offsets and the mask of that slice.
+const SLICES: &[(&str, usize, usize, &[usize], &str)] = &[
+    ("all", 0, 3, &[2, 3, 3, 5], "101"),
+    ("the last two", 1, 2, &[3, 3, 5], "01"),
+    ("the first", 0, 1, &[2, 3], "1"),
+    ("none", 3, 0, &[5], ""),
+];
+
+/// Compares a builder, and another of its parts.
+fn check_again<K: ByteKind, O: Offset>(
+    rt: &(impl Abort + AllocGlobal),
+    case: &str,
+    builder: MutableByteArray<K, O>,
+    expected: Parts,
+) {
+    check_builder(rt, case, builder.clone(), expected);
+    let (data_type, offsets, bytes, mask) = builder.into_data();
+    let builder = MutableByteArray::<K, O>::try_new(data_type, offsets, bytes, mask);
+    check_builder(rt, case, builder, expected);
+}
+
+/// Compares arrays of the parts of slices, and builders of the parts of builders from which a slot was popped.
+fn check_parts<K: ByteKind, O: Offset>(rt: &(impl Abort + AllocGlobal)) {
+    for (case, offset, len, offsets, marks) in SLICES {
+        let array = own_array::<K, O>(rt, AROUND);
+        assert!(rt; *offset <= array.len() && *len <= array.len() - *offset);
+        let (data_type, ends, bytes, mask) = array.sliced(*offset, *len).into_inner();
+        let array = ByteArray::<K, O>::try_new(data_type, ends, bytes, mask);
+        check_array(rt, *case, array, (*offsets, AROUND.1, *marks));
+    }
+    let mut builder = thawed(rt, own_array::<K, O>(rt, AROUND));
+    drop(builder.pop().expect(rt, "memory"));
+    check_again(rt, "popped", builder, (&[2, 3, 3], b"\xFF\xFF\x01", "10"));
+    let parts: Parts = (&[2, 3, 5], b"\xFF\xFF\x01\x04\x04", "none");
+    let builder = values_of::<K, O>(rt, K::default_type(O::IS_LARGE), parts);
+    let mut builder = builder.expect(rt, "parts that fit");
+    drop(builder.pop().expect(rt, "memory"));
+    let (data_type, offsets, bytes) = builder.into_inner();
+    let builder = MutableByteValuesArray::<K, O>::try_new(data_type, offsets, bytes);
+    check_values(rt, "popped", builder, (&[2, 3], b"\xFF\xFF\x01", "none"));
+}
+
+#[test]
+fn parts_of_slices_and_popped_builders_are_accepted(rt: HostRuntime) {
+    for_each_kind!(check_parts, &rt);
+}
+
+/// A name, the parts of an array, and the bytes and the mask of its builder.
+const THAWS: &[(&str, Parts, &[u8], &str)] = &[
+    ("a byte behind", (&[0, 1], b"a\xFF", "none"), b"a", "none"),
+    ("bytes around", AROUND, b"\xFF\xFF\x01\x04\x04", "101"),
+    ("no slot", (&[1], b"\xFF\xFF", ""), b"\xFF", ""),
+    ("no slot at 0", (&[0], b"\xFF", "none"), b"", "none"),
+];
+
+/// Compares the builder of a thawed array, which has no bytes behind the last slot.
+fn check_thawed<K: ByteKind, O: Offset>(rt: &(impl Abort + AllocGlobal)) {
+    for (case, parts, bytes, mask) in THAWS {
+        let builder = thawed(rt, own_array::<K, O>(rt, *parts));
+        check_builder(rt, *case, Ok(builder), (parts.0, *bytes, *mask));
+    }
+}
+
+#[test]
+fn thawed_arrays_end_at_their_last_offset(rt: HostRuntime) {
+    for_each_kind!(check_thawed, &rt);
+}
+
+/// A name, and parts of three slots.
+const SHARED: &[(&str, Parts)] = &[
+    ("the last is null", (&[0, 5, 6, 6], b"hello ", "110")),
+    ("the second is null", (&[0, 2, 2, 7], b"hithere", "101")),
+];
+
+/// Compares a clone, which stays frozen while the first array lives, and then the first, which thaws.
+fn check_clone<K: ByteKind, O: Offset>(rt: &(impl Abort + AllocGlobal)) {
+    for (case, parts) in SHARED {
+        let first = own_array::<K, O>(rt, *parts);
+        let second = first.clone().expect(rt, "memory").into_mut().left();
+        let second = second.expect(rt, "a shared array stays frozen");
+        check_array(rt, *case, Ok(second), *parts);
+        check_builder(rt, *case, Ok(thawed(rt, first)), *parts);
+    }
+}
+
+#[test]
+fn an_array_thaws_once_its_clone_is_dropped(rt: HostRuntime) {
+    for_each_kind!(check_clone, &rt);
+}
+
+/// Compares builders with bytes before the slots, or thawed from arrays with bytes behind them, after a pop or a push.
+fn check_ends<O: Offset>(rt: &(impl Abort + AllocGlobal)) {
+    let mut builder = own_builder::<Binary, O>(rt, (&[1, 3], b"\x07\x08\x09", "none"));
+    let popped = builder.pop().expect(rt, "memory");
+    check_text(rt, "a popped item", popped, "Some([8, 9])");
+    check_again(rt, "what is left", builder, (&[1], b"\x07", "none"));
+    let parts: Parts = (&[0, 1], b"a\xFF", "none");
+    let pushed: Parts = (&[0, 1, 2], b"ab", "none");
+    let mut builder = thawed(rt, own_array::<Binary, O>(rt, parts));
+    builder.push(Some(b"b")).expect(rt, "memory");
+    check_again(rt, "thawed bytes", builder, pushed);
+    let mut builder = thawed(rt, own_array::<Utf8, O>(rt, parts));
+    builder.push(Some("b")).expect(rt, "memory");
+    check_again(rt, "thawed text", builder, pushed);
+    let mut builder = own_builder::<Utf8, O>(rt, (&[1, 2, 3], b"\xFFab", "none"));
+    builder.push(Some("c")).expect(rt, "memory");
+    let pushed: Parts = (&[1, 2, 3, 4], b"\xFFabc", "none");
+    check_again(rt, "behind another byte", builder, pushed);
+}
+
+#[test]
+fn items_are_popped_and_pushed_at_the_last_offset(rt: HostRuntime) {
+    for_each_offset!(check_ends, &rt);
+}
