@@ -1,3 +1,4 @@
+use crate::from_arrow2;
 use crate::parts::receive;
 use crate::push::prices;
 use crate::rows::{join, keep_range, keep_where, pick};
@@ -106,4 +107,24 @@ fn rows_are_kept(rt: HostRuntime) -> Result<(), Fail> {
     );
     assert!(rt; picked(alloc, 3).is_err());
     Ok(())
+}
+
+#[test]
+fn pieces_of_code_from_arrow2_run(rt: HostRuntime) {
+    let alloc = rt.alloc();
+    let names = from_arrow2::names(alloc).expect(&rt, "memory");
+    assert_eq!(&rt; from_arrow2::longest(&names), 3);
+    let picked = from_arrow2::picked(alloc, &names).expect(&rt, "keys in bounds");
+    assert!(&rt; picked.len() == 2);
+    assert_eq!(&rt; picked.get(1), Some("Ada"));
+    drop(picked);
+    drop(names);
+    let ages = from_arrow2::ages(alloc).expect(&rt, "memory");
+    let first = from_arrow2::first_ten(&ages).expect(&rt, "memory");
+    let both = [ages, first];
+    let joined = from_arrow2::joined(alloc, &both).expect(&rt, "memory");
+    drop(both);
+    let longer = from_arrow2::with_null(joined.expect(&rt, "two arrays")).expect(&rt, "memory");
+    assert_eq!(&rt; (longer.len(), longer.null_count()), (7, 3));
+    drop(longer);
 }
