@@ -36,14 +36,14 @@ min-zero : (x y : ℕ) → y ≡ 0 → min x y ≡ 0
 min-zero x y e = omega (arith, e)
 
 -- a bit that the other byte lets through
-kept-bit : (a k i : ℕ) → bit_at k i ≡ 1 → bit_at (bit_and a k) i ≡ bit_at a i
+pub kept-bit : (a k i : ℕ) → bit_at k i ≡ 1 → bit_at (bit_and a k) i ≡ bit_at a i
 kept-bit a k i e = bit_at_and a k i ∙ min-one (bit_at a i) (bit_at k i) (bit_at-lt a i) e
 
 -- and one that it clears
-lost-bit : (a k i : ℕ) → bit_at k i ≡ 0 → bit_at (bit_and a k) i ≡ 0
+pub lost-bit : (a k i : ℕ) → bit_at k i ≡ 0 → bit_at (bit_and a k) i ≡ 0
 lost-bit a k i e = bit_at_and a k i ∙ min-zero (bit_at a i) (bit_at k i) e
 
-bit-cases : (x : ℕ) → x < 2 → (x ≡ 0) ⊎ (x ≡ 1)
+pub bit-cases : (x : ℕ) → x < 2 → (x ≡ 0) ⊎ (x ≡ 1)
 bit-cases zero low = inl refl
 bit-cases (suc zero) low = inr refl
 bit-cases (suc (suc x)) low = absurd (omega arith)

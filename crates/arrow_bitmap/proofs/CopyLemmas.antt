@@ -233,7 +233,7 @@ get_or-piece bytes a n m k low =
     ap₂ (λ c i. get_or (take c (drop a bytes)) i 0) all here ∙ get_or-take m (drop a bytes) k 0 low
     ∙ get_or-drop a bytes k 0
 
--- ---- truth values that are packed
+-- ---- booleans that are packed
 
 -- the marks of one byte
 pub mark_at-one : (w k : ℕ) → k < 8 → mark_at (w ∷ []) k ≡ (bit_at w k == 1)

@@ -1,5 +1,6 @@
 mod AgreeLemmas
 mod CopyLemmas
+mod EqualityLemmas
 mod OpLemmas
 pub mod MarkLemmas
 pub mod ByteWords

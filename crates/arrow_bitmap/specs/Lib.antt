@@ -2,3 +2,6 @@ pub mod Items
 pub mod Marks
 pub mod Masks
 pub mod MarkWrites
+pub mod MarkEquality
+pub mod MarkText
+pub mod MarkAppends

@@ -5,7 +5,7 @@ use Rattle.std.specs.Prelude.{⊤, ◌≡◌, ◌<◌, ℕ, Bool, true, List, le
 abbrev pub FitsMask : {S : Type 0} → List S → Option (List Bool) → Type 0
 FitsMask values mask = IfSome mask (λ marks. length marks ≡ length values)
 
--- the slot at this place is valid; without a mask each is
+-- the slot at index i is valid; without a mask every slot is
 abbrev pub IsValidAt : Option (List Bool) → ℕ → Type 0
 IsValidAt None i = ⊤
 IsValidAt (Some marks) i = slice_get marks i ≡ Some true

@@ -1,6 +1,7 @@
 //! Bitmaps that cannot be changed, and whose clones and slices share memory.
 ghost use Rattle.std.specs.Prelude.{◌≡◌, ℕ, ◌+◌, ◌-◌, ◌*◌, ◌^◌, ◌≤◌, ◌<◌, ◌==◌, [], length, take, drop, count_by};
 ghost use Rattle.std.specs.Prelude.{not, replicate, false, slice_get, Some, vec_len, IfOk, IfErr, OnOk, List, Bool};
+ghost use Rattle.std.specs.Prelude.{length as list_length};
 ghost use Rattle.std.specs.Int.{bit_at};
 ghost use Rattle.either.specs.Either.{MatchEither};
 ghost use Rattle.arrow_types.specs.Failures.{OnlyOutOfMemory, OutOfMemoryKeeps};
@@ -33,16 +34,14 @@ pub struct Bitmap {
 
 // Contracts see the marks from the offset on.
 impl Model for Bitmap {
-    ghost use Rattle.std.specs.Prelude.{◌≡◌, List, Bool, ◌+◌, ◌*◌, ◌^◌, ◌≤◌, ◌<◌, count_by, not, vec_len};
-    ghost use Rattle.arrow_bitmap.specs.Marks.{marks};
+    ghost use Rattle.std.specs.Prelude.{List, Bool};
+    ghost use Rattle.arrow_bitmap.specs.Marks.{CountsClear, marks};
 
     ghost Value = { List Bool };
 
     ghost view = { λ bitmap. marks bitmap.bytes.value.items bitmap.offset bitmap.length };
 
-    ghost invariant = { λ bitmap. (bitmap.offset + bitmap.length ≤ 8 * vec_len bitmap.bytes.value)
-        × ((bitmap.offset + bitmap.length < 2 ^ 64)
-        × (bitmap.unset ≡ count_by not (marks bitmap.bytes.value.items bitmap.offset bitmap.length))) };
+    ghost invariant = { λ bitmap. CountsClear bitmap.bytes.value bitmap.offset bitmap.length bitmap.unset };
 }
 
 #[tactic(auto, using(crate::proofs::MarkLemmas::mark_steps))]
@@ -93,6 +92,7 @@ impl Bitmap {
     /// The bytes are dropped on an error.
     pub fn try_new(bytes: Vec<u8>, length: usize) -> Result<Self, Error>
         ensures ok { IfOk result (λ bitmap. (length ≤ 8 * vec_len bytes) × (bitmap ≡ marks bytes.items 0 length)) }
+        ensures count { IfOk result (λ bitmap. list_length bitmap ≡ length) }
         ensures err { IfErr result (λ e. refusal e ≡ packed_refusal (vec_len bytes) length) }
     {
         fits_bytes(bytes.len(), length)?;
@@ -112,7 +112,7 @@ impl Bitmap {
         marks.freeze()
     }
 
-    /// Creates a bitmap from truth values.
+    /// Creates a bitmap from booleans.
     ///
     /// # Errors
     /// `OutOfMemory` if an allocation fails.

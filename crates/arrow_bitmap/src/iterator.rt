@@ -238,3 +238,5 @@ impl DoubleEndedIterator for BitmapIntoIter {
         Some(self.pass_back())
     }
 }
+
+mod text;

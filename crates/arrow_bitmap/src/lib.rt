@@ -1,12 +1,15 @@
 //! Bitmaps: lists of marks, packed eight to a byte (Arrow columnar format, "Validity bitmaps"), which
-//! contracts see as lists of truth values.
+//! contracts see as lists of booleans.
 #![tactic(auto)]
 
 mod agree;
 mod bits;
 mod copy;
+mod equality;
+mod from_natural;
 mod immutable;
 mod iterator;
+pub mod laws;
 mod mark_iter;
 mod mutable;
 mod ops;

@@ -87,7 +87,7 @@ impl MutableBitmap {
         Ok(MutableBitmap { bytes, length })
     }
 
-    /// Creates a bitmap from truth values.
+    /// Creates a bitmap from booleans.
     ///
     /// # Errors
     /// `OutOfMemory` if an allocation fails.

@@ -1,11 +1,11 @@
-//! Truth values packed to marks, one byte at a time.
+//! Booleans packed to marks, one byte at a time.
 ghost use Rattle.std.specs.Prelude.{◌≡◌, ℕ, ◌*◌, ◌≤◌, ◌<◌, [], ◌∷◌, false, length, vec_len, slice_index_or, IfOk};
 ghost use Rattle.arrow_bitmap.specs.Marks.{mark_at, marks};
 
 use crate::bits::with_bit;
 use std::alloc::{AllocError, Global};
 
-/// Packs up to eight truth values into a byte.
+/// Packs up to eight booleans into a byte.
 #[inline(always)]
 fn pack_byte(values: &[bool]) -> u8
     requires { length values.now ≤ 8 }
@@ -18,7 +18,7 @@ fn pack_byte(values: &[bool]) -> u8
     byte
 }
 
-/// Packs truth values into bytes.
+/// Packs booleans into bytes.
 pub(crate) fn pack(alloc: Global, values: &[bool]) -> Result<Vec<u8>, AllocError>
     ensures room { IfOk result (λ bytes. length values.now ≤ 8 * vec_len bytes) }
     ensures ok { IfOk result (λ bytes. marks bytes.items 0 (length values.now) ≡ values.now) }

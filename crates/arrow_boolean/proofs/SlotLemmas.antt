@@ -1,4 +1,4 @@
--- Lemmas about slots, and about what a call answers.
+-- Lemmas about slots, and about what a call returns.
 use Rattle.std.proofs.Common.{◌≡◌, List, [], ◌∷◌, map, Option, Some, None, option_map, Result, Ok, Err, OnOk, refl, ap₂}
 
 same-slot : {X : Type 0} (slot : Option X) → option_map (λ x. x) slot ≡ slot

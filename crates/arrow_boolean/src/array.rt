@@ -1,4 +1,4 @@
-//! Arrays of truth values.
+//! Arrays of booleans.
 ghost use Rattle.std.specs.Prelude.{◌≡◌, ◌==◌, ◌<◌, length, not, count_by, slice_get, Some, IfOk, IfErr};
 ghost use Rattle.std.specs.Option.{option_copied};
 ghost use Rattle.arrow_types.specs.Failures.{OnlyOutOfMemory};
@@ -15,7 +15,7 @@ use arrow_types::physical_type::PhysicalType;
 use std::alloc::Global;
 use std::marker::Model;
 
-/// An immutable array of truth values, each of which may be null. A null slot stores a value too.
+/// An immutable array of booleans, each of which may be null. A null slot stores a value too.
 #[derive(Drop)]
 pub struct BooleanArray {
     pub(crate) column: FrozenColumn<Bitmap>,

@@ -1,4 +1,4 @@
-//! Builders of arrays of truth values.
+//! Builders of arrays of booleans.
 ghost use Rattle.std.specs.Prelude.{◌≡◌, ◌==◌, ◌<◌, length, not, count_by, slice_get, false, Some, None};
 ghost use Rattle.std.specs.Prelude.{OnOk, IfOk, IfErr, IsOk};
 ghost use Rattle.std.specs.Option.{option_copied};
@@ -17,7 +17,7 @@ use arrow_types::physical_type::PhysicalType;
 use std::alloc::Global;
 use std::marker::Model;
 
-/// A growing array of truth values, each of which may be null: the builder of [`BooleanArray`].
+/// A growing array of booleans, each of which may be null: the builder of [`BooleanArray`].
 #[derive(Drop)]
 pub struct MutableBooleanArray {
     pub(crate) column: GrowingColumn<MutableBitmap>,

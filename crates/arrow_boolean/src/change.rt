@@ -1,8 +1,9 @@
 //! Replacement of values and masks, and thawing of arrays.
-ghost use Rattle.std.specs.Prelude.{◌≡◌, List, Bool, Some, length, IfSome, MatchOption, OnOk, IfOk, IfErr};
+ghost use Rattle.std.specs.Prelude.{◌≡◌, List, Bool, length, IfSome, OnOk, IfOk};
 ghost use Rattle.either.specs.Either.{MatchEither};
 ghost use Rattle.arrow_types.specs.Failures.{OnlyOutOfMemory, OutOfMemoryKeeps};
 ghost use Rattle.arrow_column.specs.Column.{mask_of, stored_values, with_mask, with_stored};
+ghost use Rattle.arrow_column.specs.Changes.{ChangesMask, ReplacesStored};
 
 use crate::{BooleanArray, MutableBooleanArray};
 use arrow_memory::bitmap::{Bitmap, MutableBitmap};
@@ -34,9 +35,7 @@ impl BooleanArray {
         requires callable { IfSome (mask_of self.old) (λ marks. F.pre change marks) }
         requires keeps { IfSome (mask_of self.old) (λ marks. (changed : List Bool) → F.post change marks changed
             → length changed ≡ length marks) }
-        ensures { MatchOption (mask_of self.old) (self.new ≡ self.old) (λ marks. (changed : List Bool)
-            × F.post change marks changed × (length changed ≡ length marks)
-            × (self.new ≡ with_mask self.old (Some changed))) }
+        ensures { ChangesMask (F.post change) self.old self.new }
     {
         self.column.apply_validity(change);
     }
@@ -78,8 +77,7 @@ impl BooleanArray {
         requires callable { F.pre change (stored_values self.old) }
         requires keeps { (changed : List Bool) → F.post change (stored_values self.old) changed
             → length changed ≡ length self.old.rows }
-        ensures ok { OnOk result ((changed : List Bool) × F.post change (stored_values self.old) changed
-            × (length changed ≡ length self.old.rows) × (self.new ≡ with_stored self.old changed)) }
+        ensures ok { OnOk result (ReplacesStored (F.post change) self.old self.new) }
         ensures err { OutOfMemoryKeeps result self.old self.new }
     {
         self.column.apply_values_mut(change)

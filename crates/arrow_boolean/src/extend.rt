@@ -1,8 +1,9 @@
 //! Growth of builders by many slots.
-ghost use Rattle.std.specs.Prelude.{◌≡◌, List, Bool, Option, Some, false, map, OnOk, IfErr};
-ghost use Rattle.std.specs.Iterator.{Drains, IsFinite, Yields};
+ghost use Rattle.std.specs.Prelude.{◌≡◌, false, OnOk, IfErr};
+ghost use Rattle.std.specs.Iterator.{IsFinite};
 ghost use Rattle.arrow_types.specs.Failures.{OutOfMemoryKeeps};
-ghost use Rattle.arrow_column.specs.Column.{append_slots, cut, FitsCut, joined};
+ghost use Rattle.arrow_column.specs.Column.{cut, FitsCut, joined};
+ghost use Rattle.arrow_column.specs.Appends.{ExtendsAll, ExtendsUntil, ExtendsAllValues, ExtendsValuesUntil};
 
 use crate::{BooleanArray, MutableBooleanArray};
 use arrow_types::error::Error;
@@ -16,10 +17,8 @@ impl MutableBooleanArray {
     pub fn extend<I: Iterator<Item = Option<bool>>>(&mut self, iter: I) -> Result<(), Error>
         requires can { I.can_next iter }
         requires ends { IsFinite (I.remaining iter) }
-        ensures ok { OnOk result ((items : List (Option Bool)) × Drains I.next_gives iter items
-            × (self.new ≡ append_slots false self.old items)) }
-        ensures err { IfErr result (λ e. (e ≡ Error.OutOfMemory) × ((begun : List (Option Bool)) × (rest : I)
-            × Yields I.next_gives iter begun rest × (self.new ≡ append_slots false self.old begun))) }
+        ensures ok { OnOk result (ExtendsAll false I.next_gives iter self.old self.new) }
+        ensures err { IfErr result (ExtendsUntil false I.next_gives iter self.old self.new) }
     {
         self.column.extend(iter)
     }
@@ -31,10 +30,8 @@ impl MutableBooleanArray {
     pub fn try_extend<I: Iterator<Item = Option<bool>>>(&mut self, iter: I) -> Result<(), Error>
         requires can { I.can_next iter }
         requires ends { IsFinite (I.remaining iter) }
-        ensures ok { OnOk result ((items : List (Option Bool)) × Drains I.next_gives iter items
-            × (self.new ≡ append_slots false self.old items)) }
-        ensures err { IfErr result (λ e. (e ≡ Error.OutOfMemory) × ((begun : List (Option Bool)) × (rest : I)
-            × Yields I.next_gives iter begun rest × (self.new ≡ append_slots false self.old begun))) }
+        ensures ok { OnOk result (ExtendsAll false I.next_gives iter self.old self.new) }
+        ensures err { IfErr result (ExtendsUntil false I.next_gives iter self.old self.new) }
     {
         self.extend(iter)
     }
@@ -47,10 +44,8 @@ impl MutableBooleanArray {
     pub fn extend_values<I: Iterator<Item = bool>>(&mut self, iter: I) -> Result<(), Error>
         requires can { I.can_next iter }
         requires ends { IsFinite (I.remaining iter) }
-        ensures ok { OnOk result ((items : List Bool) × Drains I.next_gives iter items
-            × (self.new ≡ append_slots false self.old (map Some items))) }
-        ensures err { IfErr result (λ e. (e ≡ Error.OutOfMemory) × ((begun : List Bool) × (rest : I)
-            × Yields I.next_gives iter begun rest × (self.new ≡ append_slots false self.old (map Some begun)))) }
+        ensures ok { OnOk result (ExtendsAllValues false I.next_gives iter self.old self.new) }
+        ensures err { IfErr result (ExtendsValuesUntil false I.next_gives iter self.old self.new) }
     {
         self.column.extend_values(iter)
     }

@@ -1,10 +1,11 @@
 //! Arrays and builders made of values or of slots.
-ghost use Rattle.std.specs.Prelude.{◌≡◌, List, Bool, Option, Some, None, false, replicate, IfOk, IfErr};
-ghost use Rattle.std.specs.Iterator.{Drains, IsFinite};
+ghost use Rattle.std.specs.Prelude.{◌≡◌, None, false, IfOk};
+ghost use Rattle.std.specs.Iterator.{IsFinite};
 ghost use Rattle.arrow_types.specs.Failures.{OnlyOutOfMemory};
 ghost use Rattle.arrow_types.specs.Types.{logical_type, IsRightType};
-ghost use Rattle.arrow_column.specs.Column.{append_slots, column_of_parts, empty_column};
+ghost use Rattle.arrow_column.specs.Column.{append_slots, column_of_parts, empty_column, null_column};
 ghost use Rattle.arrow_boolean.specs.Fits.{boolean_type};
+ghost use Rattle.arrow_column.specs.Appends.{ExtendsAll};
 
 use crate::{BooleanArray, MutableBooleanArray};
 use arrow_column::GrowingColumn;
@@ -50,8 +51,7 @@ impl MutableBooleanArray {
     ) -> Result<Self, Error>
         requires can { I.can_next iter }
         requires ends { IsFinite (I.remaining iter) }
-        ensures ok { IfOk result (λ builder. (items : List (Option Bool)) × Drains I.next_gives iter items
-            × (builder ≡ append_slots false (empty_column boolean_type) items)) }
+        ensures ok { IfOk result (ExtendsAll false I.next_gives iter (empty_column boolean_type)) }
         ensures err { OnlyOutOfMemory result }
     {
         let mut builder = MutableBooleanArray::new(alloc);
@@ -106,8 +106,7 @@ impl BooleanArray {
     ) -> Result<Self, Error>
         requires can { I.can_next iter }
         requires ends { IsFinite (I.remaining iter) }
-        ensures ok { IfOk result (λ array. (items : List (Option Bool)) × Drains I.next_gives iter items
-            × (array ≡ append_slots false (empty_column boolean_type) items)) }
+        ensures ok { IfOk result (ExtendsAll false I.next_gives iter (empty_column boolean_type)) }
         ensures err { OnlyOutOfMemory result }
     {
         MutableBooleanArray::from_iter(alloc, iter)?.freeze()
@@ -120,8 +119,7 @@ impl BooleanArray {
     /// `OutOfMemory` if an allocation fails.
     pub fn new_null(alloc: Global, data_type: DataType, length: usize) -> Result<Self, Error>
         requires { IsRightType PhysicalType.Boolean (logical_type data_type) }
-        ensures ok { IfOk result (λ array. array ≡ column_of_parts (logical_type data_type) (replicate length false)
-            (Some (replicate length false))) }
+        ensures ok { IfOk result (λ array. array ≡ null_column (logical_type data_type) tt false length) }
         ensures err { OnlyOutOfMemory result }
     {
         let values = Bitmap::new_zeroed(alloc, length)?;

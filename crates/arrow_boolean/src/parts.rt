@@ -1,9 +1,7 @@
 //! Arrays and builders made of parts from outside, which are checked.
-ghost use Rattle.std.specs.Prelude.{◌≡◌, IfOk, IfErr};
-ghost use Rattle.arrow_types.specs.Types.{logical_type, refusal};
-ghost use Rattle.arrow_column.specs.Acceptance.{IsFirstFailure, Passes};
-ghost use Rattle.arrow_column.specs.Column.{column_of_parts};
-ghost use Rattle.arrow_boolean.specs.Fits.{array_tests, builder_tests};
+ghost use Rattle.arrow_types.specs.Types.{logical_type};
+ghost use Rattle.arrow_column.specs.Validation.{AcceptsParts, RefusesParts};
+ghost use Rattle.arrow_boolean.specs.Fits.{boolean_array_tests, boolean_builder_tests};
 
 use crate::{BooleanArray, MutableBooleanArray};
 use arrow_column::{GrowingColumn, is_growing_mask_of, is_mask_of};
@@ -34,11 +32,8 @@ impl BooleanArray {
         values: Bitmap,
         validity: Option<Bitmap>,
     ) -> Result<Self, Error>
-        ensures ok { let t = logical_type data_type in IfOk result (λ array.
-            Passes (array_tests t values validity)
-            × (array ≡ column_of_parts t values validity)) }
-        ensures err { let t = logical_type data_type in IfErr result (λ e.
-            IsFirstFailure (array_tests t values validity) (refusal e)) }
+        ensures ok { AcceptsParts boolean_array_tests (logical_type data_type) values validity result }
+        ensures err { RefusesParts boolean_array_tests (logical_type data_type) values validity result }
     {
         if !is_mask_of(&validity, values.len()) {
             return Err(Error::OutOfSpec(UNFIT_MASK));
@@ -61,11 +56,8 @@ impl MutableBooleanArray {
         values: MutableBitmap,
         validity: Option<MutableBitmap>,
     ) -> Result<Self, Error>
-        ensures ok { let t = logical_type data_type in IfOk result (λ builder.
-            Passes (builder_tests t values validity)
-            × (builder ≡ column_of_parts t values validity)) }
-        ensures err { let t = logical_type data_type in IfErr result (λ e.
-            IsFirstFailure (builder_tests t values validity) (refusal e)) }
+        ensures ok { AcceptsParts boolean_builder_tests (logical_type data_type) values validity result }
+        ensures err { RefusesParts boolean_builder_tests (logical_type data_type) values validity result }
     {
         if !is_growing_mask_of(&validity, values.len()) {
             return Err(Error::OutOfSpec(UNFIT_MASK));

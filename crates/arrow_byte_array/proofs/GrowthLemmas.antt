@@ -1,4 +1,4 @@
--- Lemmas about answers of growths, which may be refused.
+-- Lemmas about results of growths, which may fail.
 use Rattle.std.proofs.Common.{◌≡◌, Bool, true, false, refl}
 use Rattle.std.specs.Prelude.{⊤}
 use Rattle.arrow_types.specs.declared.error.Error.{Error}

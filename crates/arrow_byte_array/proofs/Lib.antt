@@ -1,3 +1,3 @@
-mod AcceptanceLemmas
+mod ValidationLemmas
 mod AgainLemmas
 mod GrowthLemmas

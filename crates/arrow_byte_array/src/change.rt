@@ -1,8 +1,9 @@
 //! Replacement of masks, and thawing of arrays.
-ghost use Rattle.std.specs.Prelude.{◌≡◌, List, Bool, Some, length, IfSome, MatchOption};
+ghost use Rattle.std.specs.Prelude.{◌≡◌, List, Bool, length, IfSome};
 ghost use Rattle.either.specs.Either.{MatchEither};
 ghost use Rattle.arrow_column.specs.Column.{mask_of, with_mask};
 ghost use Rattle.arrow_bytes.specs.Column.{column_without_tail};
+ghost use Rattle.arrow_column.specs.Changes.{ChangesMask};
 
 use crate::{ByteArray, MutableByteArray};
 use arrow_bytes::{ByteKind, into_mut_values};
@@ -36,9 +37,7 @@ impl<K: ByteKind, O: Offset> ByteArray<K, O> {
         requires callable { IfSome (mask_of self.old) (λ marks. F.pre change marks) }
         requires keeps { IfSome (mask_of self.old) (λ marks. (changed : List Bool) → F.post change marks changed
             → length changed ≡ length marks) }
-        ensures { MatchOption (mask_of self.old) (self.new ≡ self.old) (λ marks. (changed : List Bool)
-            × F.post change marks changed × (length changed ≡ length marks)
-            × (self.new ≡ with_mask self.old (Some changed))) }
+        ensures { ChangesMask (F.post change) self.old self.new }
     {
         self.column.apply_validity(change);
     }
@@ -86,9 +85,7 @@ impl<K: ByteKind, O: Offset> MutableByteArray<K, O> {
         requires callable { IfSome (mask_of self.old) (λ marks. F.pre change marks) }
         requires keeps { IfSome (mask_of self.old) (λ marks. (changed : List Bool) → F.post change marks changed
             → length changed ≡ length marks) }
-        ensures { MatchOption (mask_of self.old) (self.new ≡ self.old) (λ marks. (changed : List Bool)
-            × F.post change marks changed × (length changed ≡ length marks)
-            × (self.new ≡ with_mask self.old (Some changed))) }
+        ensures { ChangesMask (F.post change) self.old self.new }
     {
         self.column.apply_validity(change);
     }

@@ -11,14 +11,13 @@ use arrow_types::offset::Offset;
 impl<K: ByteKind, O: Offset> PartialEq for MutableByteArray<K, O> {
     ghost use Rattle.std.specs.Cmp.{decided, on_per, partial_equiv_from_equiv};
     ghost use Rattle.arrow_column.specs.Column.{slots_of};
-    ghost use Rattle.arrow_column.specs.SlotEquality.{same_slots, same_slots-Decides};
-    ghost use Rattle.arrow_bytes.specs.Equality.{same_bytes, same_bytes-Decides};
+    ghost use Rattle.arrow_column.specs.SlotEquality.{same_slots};
+    ghost use Rattle.arrow_bytes.specs.Equality.{same_bytes, same_byte_slots-Decides};
 
     ghost eq = { λ first second. same_slots same_bytes (slots_of first) (slots_of second) };
 
-    ghost laws = { on_per slots_of
-        (partial_equiv_from_equiv
-        (decided (same_slots same_bytes) (same_slots-Decides same_bytes same_bytes-Decides))) };
+    ghost laws = { on_per slots_of (partial_equiv_from_equiv
+        (decided (same_slots same_bytes) same_byte_slots-Decides)) };
 
     /// Returns whether both have the same slots. Data types, held masks and values under nulls are
     /// not compared.
@@ -33,9 +32,8 @@ impl<K: ByteKind, O: Offset> PartialEq for MutableByteArray<K, O> {
 impl<K: ByteKind, O: Offset> Eq for MutableByteArray<K, O> {
     ghost use Rattle.std.specs.Cmp.{decided, on_equiv};
     ghost use Rattle.arrow_column.specs.Column.{slots_of};
-    ghost use Rattle.arrow_column.specs.SlotEquality.{same_slots, same_slots-Decides};
-    ghost use Rattle.arrow_bytes.specs.Equality.{same_bytes, same_bytes-Decides};
+    ghost use Rattle.arrow_column.specs.SlotEquality.{same_slots};
+    ghost use Rattle.arrow_bytes.specs.Equality.{same_bytes, same_byte_slots-Decides};
 
-    ghost laws = { on_equiv slots_of
-        (decided (same_slots same_bytes) (same_slots-Decides same_bytes same_bytes-Decides)) };
+    ghost laws = { on_equiv slots_of (decided (same_slots same_bytes) same_byte_slots-Decides) };
 }

@@ -1,11 +1,12 @@
 //! Growth of builders by many slots.
-ghost use Rattle.std.specs.Prelude.{Option, [], OnOk, IfErr};
+ghost use Rattle.std.specs.Prelude.{OnOk, IfErr};
 ghost use Rattle.std.specs.Iterator.{IsFinite};
-ghost use Rattle.arrow_column.specs.Appends.{ExtendsByItems, ExtendsBySlots, StopsInItems, StopsInSlots};
 ghost use Rattle.arrow_column.specs.Column.{cut_with, FitsCut, joined};
 ghost use Rattle.arrow_column.specs.Growth.{Grows, GrowthKeeps};
-ghost use Rattle.arrow_bytes.specs.Column.{item_overflows, joins_overflow};
+ghost use Rattle.arrow_bytes.specs.Column.{joins_overflow};
 ghost use Rattle.arrow_bytes.specs.Pieces.{around_cut};
+ghost use Rattle.arrow_bytes.specs.Appends.{JoinsBytes, JoinKeepsBytes, BytesBySlots, BytesByItems, BytesStopInSlots};
+ghost use Rattle.arrow_bytes.specs.Appends.{BytesStopInItems};
 
 use crate::{ByteArray, MutableByteArray, MutableByteValuesArray};
 use arrow_bytes::{ByteItem, ByteKind, ItemError};
@@ -27,10 +28,9 @@ impl<K: ByteKind, O: Offset> MutableByteArray<K, O> {
     ) -> Result<(), X::Error>
         requires can { I.can_next iter }
         requires ends { IsFinite (I.remaining iter) }
-        ensures ok { OnOk result (ExtendsBySlots (item_overflows X.bytes O.most) X.bytes [] I.next_gives iter
-            self.old self.new) }
-        ensures err { IfErr result (λ e. StopsInSlots (item_overflows X.bytes O.most) X.bytes [] I.next_gives iter
-            self.old self.new (X.error e)) }
+        ensures ok { OnOk result (BytesBySlots X.bytes O.most I.next_gives iter self.old self.new) }
+        ensures err { IfErr result (λ e. BytesStopInSlots X.bytes O.most I.next_gives iter self.old self.new
+            (X.error e)) }
     {
         match self.column.extend(iter) {
             Ok(()) => Ok(()),
@@ -48,10 +48,9 @@ impl<K: ByteKind, O: Offset> MutableByteArray<K, O> {
     ) -> Result<(), X::Error>
         requires can { I.can_next iter }
         requires ends { IsFinite (I.remaining iter) }
-        ensures ok { OnOk result (ExtendsBySlots (item_overflows X.bytes O.most) X.bytes [] I.next_gives iter
-            self.old self.new) }
-        ensures err { IfErr result (λ e. StopsInSlots (item_overflows X.bytes O.most) X.bytes [] I.next_gives iter
-            self.old self.new (X.error e)) }
+        ensures ok { OnOk result (BytesBySlots X.bytes O.most I.next_gives iter self.old self.new) }
+        ensures err { IfErr result (λ e. BytesStopInSlots X.bytes O.most I.next_gives iter self.old self.new
+            (X.error e)) }
     {
         self.extend(iter)
     }
@@ -70,10 +69,9 @@ impl<K: ByteKind, O: Offset> MutableByteArray<K, O> {
     ) -> Result<(), X::Error>
         requires can { I.can_next iter }
         requires ends { IsFinite (I.remaining iter) }
-        ensures ok { OnOk result (ExtendsByItems (item_overflows X.bytes O.most) X.bytes [] I.next_gives iter
-            self.old self.new) }
-        ensures err { IfErr result (λ e. StopsInItems (item_overflows X.bytes O.most) X.bytes [] I.next_gives iter
-            self.old self.new (X.error e)) }
+        ensures ok { OnOk result (BytesByItems X.bytes O.most I.next_gives iter self.old self.new) }
+        ensures err { IfErr result (λ e. BytesStopInItems X.bytes O.most I.next_gives iter self.old self.new
+            (X.error e)) }
     {
         match self.column.extend_values(iter) {
             Ok(()) => Ok(()),
@@ -112,10 +110,8 @@ impl<K: ByteKind, O: Offset> MutableByteArray<K, O> {
         len: usize,
     ) -> Result<(), Error>
         requires { FitsCut array.now offset len }
-        ensures ok { let added = cut_with around_cut array.now offset len in
-            Grows result (joins_overflow O.most self.old added) self.new (joined self.old added) }
-        ensures err { let added = cut_with around_cut array.now offset len in
-            GrowthKeeps result (joins_overflow O.most self.old added) self.old self.new }
+        ensures ok { JoinsBytes result O.most self.old (cut_with around_cut array.now offset len) self.new }
+        ensures err { JoinKeepsBytes result O.most self.old (cut_with around_cut array.now offset len) self.new }
     {
         self.column.extend_from_frozen(&array.column, offset, len)
     }
@@ -136,10 +132,9 @@ impl<K: ByteKind, O: Offset> MutableByteValuesArray<K, O> {
     ) -> Result<(), X::Error>
         requires can { I.can_next iter }
         requires ends { IsFinite (I.remaining iter) }
-        ensures ok { OnOk result (ExtendsByItems (item_overflows X.bytes O.most) X.bytes [] I.next_gives iter
-            self.old self.new) }
-        ensures err { IfErr result (λ e. StopsInItems (item_overflows X.bytes O.most) X.bytes [] I.next_gives iter
-            self.old self.new (X.error e)) }
+        ensures ok { OnOk result (BytesByItems X.bytes O.most I.next_gives iter self.old self.new) }
+        ensures err { IfErr result (λ e. BytesStopInItems X.bytes O.most I.next_gives iter self.old self.new
+            (X.error e)) }
     {
         match self.column.extend_unmasked(iter) {
             Ok(()) => Ok(()),
@@ -157,10 +152,9 @@ impl<K: ByteKind, O: Offset> MutableByteValuesArray<K, O> {
     ) -> Result<(), X::Error>
         requires can { I.can_next iter }
         requires ends { IsFinite (I.remaining iter) }
-        ensures ok { OnOk result (ExtendsByItems (item_overflows X.bytes O.most) X.bytes [] I.next_gives iter
-            self.old self.new) }
-        ensures err { IfErr result (λ e. StopsInItems (item_overflows X.bytes O.most) X.bytes [] I.next_gives iter
-            self.old self.new (X.error e)) }
+        ensures ok { OnOk result (BytesByItems X.bytes O.most I.next_gives iter self.old self.new) }
+        ensures err { IfErr result (λ e. BytesStopInItems X.bytes O.most I.next_gives iter self.old self.new
+            (X.error e)) }
     {
         self.extend(iter)
     }

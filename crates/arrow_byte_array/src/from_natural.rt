@@ -1,15 +1,13 @@
 //! Arrays and builders made of items or of slots.
-ghost use Rattle.std.specs.Prelude.{◌≡◌, Option, Some, [], false, ⊤, replicate, IfOk, IfErr};
+ghost use Rattle.std.specs.Prelude.{◌≡◌, [], IfOk, IfErr};
 ghost use Rattle.std.specs.Iterator.{IsFinite};
 ghost use Rattle.arrow_types.specs.Failures.{OnlyOutOfMemory};
 ghost use Rattle.arrow_types.specs.Types.{logical_type, IsRightType};
-ghost use Rattle.arrow_memory.specs.Offsets.{MatchGrowth};
-ghost use Rattle.arrow_column.specs.Appends.{AppendsSlots, ExtendsByItems, ExtendsBySlots, FreezesBySlots};
-ghost use Rattle.arrow_column.specs.Appends.{FreezesItems, FreezesSlots, GivesTooManyItems, GivesTooManySlots};
-ghost use Rattle.arrow_column.specs.Appends.{ItemsOverflow, SlotsOverflow};
-ghost use Rattle.arrow_column.specs.Column.{column_with};
+ghost use Rattle.arrow_column.specs.Column.{null_column};
 ghost use Rattle.arrow_bytes.specs.Pieces.{nothing_around};
-ghost use Rattle.arrow_bytes.specs.Column.{empty_bytes, item_overflows};
+ghost use Rattle.arrow_bytes.specs.Appends.{MadeOfSlots, FrozenOfSlots, FrozenOfItems, SlotsRefused, ItemsRefused};
+ghost use Rattle.arrow_bytes.specs.Appends.{MadeOfGivenSlots, MadeOfGivenItems, FrozenOfGivenSlots, GivenSlotsRefused};
+ghost use Rattle.arrow_bytes.specs.Appends.{GivenItemsRefused};
 
 use crate::{ByteArray, MutableByteArray, MutableByteValuesArray};
 use arrow_bytes::{ByteItem, ByteKind, ByteValues, ItemError};
@@ -28,11 +26,8 @@ impl<K: ByteKind, O: Offset> MutableByteArray<K, O> {
     /// - `Overflow` if the bytes of a slot would end past the greatest offset.
     /// - `OutOfMemory` if an allocation fails.
     pub fn from<X: ByteItem<K>>(alloc: Global, slots: &[Option<X>]) -> Result<Self, Error>
-        ensures ok { IfOk result (λ builder. AppendsSlots (item_overflows X.bytes O.most) X.bytes []
-            (empty_bytes (K.default_type O.IS_LARGE)) slots.now builder) }
-        ensures err { IfErr result (λ e.
-            MatchGrowth e (SlotsOverflow (item_overflows X.bytes O.most) X.bytes [] slots.now
-            (empty_bytes (K.default_type O.IS_LARGE))) ⊤) }
+        ensures ok { IfOk result (MadeOfSlots X.bytes O.most (K.default_type O.IS_LARGE) slots.now) }
+        ensures err { IfErr result (SlotsRefused X.bytes O.most (K.default_type O.IS_LARGE) slots.now) }
     {
         let mut builder = MutableByteArray::<K, O>::new(alloc)?;
         builder.column.extend_from_slots(slots)?;
@@ -51,11 +46,9 @@ impl<K: ByteKind, O: Offset> MutableByteArray<K, O> {
     ) -> Result<Self, X::Error>
         requires can { I.can_next iter }
         requires ends { IsFinite (I.remaining iter) }
-        ensures ok { IfOk result (λ builder. ExtendsBySlots (item_overflows X.bytes O.most) X.bytes [] I.next_gives
-            iter (empty_bytes (K.default_type O.IS_LARGE)) builder) }
-        ensures err { IfErr result (λ e.
-            MatchGrowth (X.error e) (GivesTooManySlots (item_overflows X.bytes O.most) X.bytes [] I.next_gives iter
-            (empty_bytes (K.default_type O.IS_LARGE))) ⊤) }
+        ensures ok { IfOk result (MadeOfGivenSlots X.bytes O.most (K.default_type O.IS_LARGE) I.next_gives iter) }
+        ensures err { IfErr result (λ e. GivenSlotsRefused X.bytes O.most (K.default_type O.IS_LARGE) I.next_gives iter
+            (X.error e)) }
     {
         let mut builder = match MutableByteArray::<K, O>::new(alloc) {
             Ok(builder) => builder,
@@ -79,11 +72,9 @@ impl<K: ByteKind, O: Offset> MutableByteArray<K, O> {
     ) -> Result<Self, X::Error>
         requires can { I.can_next iter }
         requires ends { IsFinite (I.remaining iter) }
-        ensures ok { IfOk result (λ builder. ExtendsByItems (item_overflows X.bytes O.most) X.bytes [] I.next_gives
-            iter (empty_bytes (K.default_type O.IS_LARGE)) builder) }
-        ensures err { IfErr result (λ e.
-            MatchGrowth (X.error e) (GivesTooManyItems (item_overflows X.bytes O.most) X.bytes [] I.next_gives iter
-            (empty_bytes (K.default_type O.IS_LARGE))) ⊤) }
+        ensures ok { IfOk result (MadeOfGivenItems X.bytes O.most (K.default_type O.IS_LARGE) I.next_gives iter) }
+        ensures err { IfErr result (λ e. GivenItemsRefused X.bytes O.most (K.default_type O.IS_LARGE) I.next_gives iter
+            (X.error e)) }
     {
         let mut builder = match MutableByteArray::<K, O>::new(alloc) {
             Ok(builder) => builder,
@@ -109,11 +100,9 @@ impl<K: ByteKind, O: Offset> MutableByteValuesArray<K, O> {
     ) -> Result<Self, X::Error>
         requires can { I.can_next iter }
         requires ends { IsFinite (I.remaining iter) }
-        ensures ok { IfOk result (λ builder. ExtendsByItems (item_overflows X.bytes O.most) X.bytes [] I.next_gives
-            iter (empty_bytes (K.default_type O.IS_LARGE)) builder) }
-        ensures err { IfErr result (λ e.
-            MatchGrowth (X.error e) (GivesTooManyItems (item_overflows X.bytes O.most) X.bytes [] I.next_gives iter
-            (empty_bytes (K.default_type O.IS_LARGE))) ⊤) }
+        ensures ok { IfOk result (MadeOfGivenItems X.bytes O.most (K.default_type O.IS_LARGE) I.next_gives iter) }
+        ensures err { IfErr result (λ e. GivenItemsRefused X.bytes O.most (K.default_type O.IS_LARGE) I.next_gives iter
+            (X.error e)) }
     {
         let mut builder = match MutableByteValuesArray::<K, O>::new(alloc) {
             Ok(builder) => builder,
@@ -135,11 +124,9 @@ impl<K: ByteKind, O: Offset> MutableByteValuesArray<K, O> {
     ) -> Result<Self, X::Error>
         requires can { I.can_next iter }
         requires ends { IsFinite (I.remaining iter) }
-        ensures ok { IfOk result (λ builder. ExtendsByItems (item_overflows X.bytes O.most) X.bytes [] I.next_gives
-            iter (empty_bytes (K.default_type O.IS_LARGE)) builder) }
-        ensures err { IfErr result (λ e.
-            MatchGrowth (X.error e) (GivesTooManyItems (item_overflows X.bytes O.most) X.bytes [] I.next_gives iter
-            (empty_bytes (K.default_type O.IS_LARGE))) ⊤) }
+        ensures ok { IfOk result (MadeOfGivenItems X.bytes O.most (K.default_type O.IS_LARGE) I.next_gives iter) }
+        ensures err { IfErr result (λ e. GivenItemsRefused X.bytes O.most (K.default_type O.IS_LARGE) I.next_gives iter
+            (X.error e)) }
     {
         MutableByteValuesArray::<K, O>::from_iter(alloc, iter)
     }
@@ -152,11 +139,8 @@ impl<K: ByteKind, O: Offset> ByteArray<K, O> {
     /// - `Overflow` if an item would end past the greatest offset.
     /// - `OutOfMemory` if an allocation fails.
     pub fn from_slice<X: ByteItem<K>>(alloc: Global, slice: &[X]) -> Result<Self, Error>
-        ensures ok { IfOk result (λ array. FreezesItems (item_overflows X.bytes O.most) X.bytes []
-            (empty_bytes (K.default_type O.IS_LARGE)) slice.now array) }
-        ensures err { IfErr result (λ e.
-            MatchGrowth e (ItemsOverflow (item_overflows X.bytes O.most) X.bytes [] slice.now
-            (empty_bytes (K.default_type O.IS_LARGE))) ⊤) }
+        ensures ok { IfOk result (FrozenOfItems X.bytes O.most (K.default_type O.IS_LARGE) slice.now) }
+        ensures err { IfErr result (ItemsRefused X.bytes O.most (K.default_type O.IS_LARGE) slice.now) }
     {
         let mut builder = MutableByteArray::<K, O>::new(alloc)?;
         builder.column.extend_from_values(slice)?;
@@ -170,11 +154,8 @@ impl<K: ByteKind, O: Offset> ByteArray<K, O> {
     /// - `Overflow` if the bytes of a slot would end past the greatest offset.
     /// - `OutOfMemory` if an allocation fails.
     pub fn from<X: ByteItem<K>>(alloc: Global, slots: &[Option<X>]) -> Result<Self, Error>
-        ensures ok { IfOk result (λ array. FreezesSlots (item_overflows X.bytes O.most) X.bytes []
-            (empty_bytes (K.default_type O.IS_LARGE)) slots.now array) }
-        ensures err { IfErr result (λ e.
-            MatchGrowth e (SlotsOverflow (item_overflows X.bytes O.most) X.bytes [] slots.now
-            (empty_bytes (K.default_type O.IS_LARGE))) ⊤) }
+        ensures ok { IfOk result (FrozenOfSlots X.bytes O.most (K.default_type O.IS_LARGE) slots.now) }
+        ensures err { IfErr result (SlotsRefused X.bytes O.most (K.default_type O.IS_LARGE) slots.now) }
     {
         MutableByteArray::<K, O>::from(alloc, slots)?.freeze()
     }
@@ -191,11 +172,9 @@ impl<K: ByteKind, O: Offset> ByteArray<K, O> {
     ) -> Result<Self, X::Error>
         requires can { I.can_next iter }
         requires ends { IsFinite (I.remaining iter) }
-        ensures ok { IfOk result (λ array. FreezesBySlots (item_overflows X.bytes O.most) X.bytes [] I.next_gives
-            iter (empty_bytes (K.default_type O.IS_LARGE)) array) }
-        ensures err { IfErr result (λ e.
-            MatchGrowth (X.error e) (GivesTooManySlots (item_overflows X.bytes O.most) X.bytes [] I.next_gives iter
-            (empty_bytes (K.default_type O.IS_LARGE))) ⊤) }
+        ensures ok { IfOk result (FrozenOfGivenSlots X.bytes O.most (K.default_type O.IS_LARGE) I.next_gives iter) }
+        ensures err { IfErr result (λ e. GivenSlotsRefused X.bytes O.most (K.default_type O.IS_LARGE) I.next_gives iter
+            (X.error e)) }
     {
         let builder = MutableByteArray::<K, O>::from_iter(alloc, iter)?;
         match builder.freeze() {
@@ -216,11 +195,9 @@ impl<K: ByteKind, O: Offset> ByteArray<K, O> {
     ) -> Result<Self, X::Error>
         requires can { I.can_next iter }
         requires ends { IsFinite (I.remaining iter) }
-        ensures ok { IfOk result (λ array. ExtendsByItems (item_overflows X.bytes O.most) X.bytes [] I.next_gives
-            iter (empty_bytes (K.default_type O.IS_LARGE)) array) }
-        ensures err { IfErr result (λ e.
-            MatchGrowth (X.error e) (GivesTooManyItems (item_overflows X.bytes O.most) X.bytes [] I.next_gives iter
-            (empty_bytes (K.default_type O.IS_LARGE))) ⊤) }
+        ensures ok { IfOk result (MadeOfGivenItems X.bytes O.most (K.default_type O.IS_LARGE) I.next_gives iter) }
+        ensures err { IfErr result (λ e. GivenItemsRefused X.bytes O.most (K.default_type O.IS_LARGE) I.next_gives iter
+            (X.error e)) }
     {
         let builder = MutableByteValuesArray::<K, O>::from_iter(alloc, iter)?;
         match builder.freeze() {
@@ -236,8 +213,7 @@ impl<K: ByteKind, O: Offset> ByteArray<K, O> {
     /// `OutOfMemory` if an allocation fails.
     pub fn new_null(alloc: Global, data_type: DataType, length: usize) -> Result<Self, Error>
         requires { IsRightType (K.layout O.IS_LARGE) (logical_type data_type) }
-        ensures ok { IfOk result (λ array. array ≡ column_with (logical_type data_type) nothing_around
-            (replicate length []) (Some (replicate length false))) }
+        ensures ok { IfOk result (λ array. array ≡ null_column (logical_type data_type) nothing_around [] length) }
         ensures err { OnlyOutOfMemory result }
     {
         let values = ByteValues::new_empty_items(alloc, length)?;

@@ -1,8 +1,7 @@
 //! The items of arrays and builders, borrowed as their kind has them: `&[u8]` or `&str`.
-ghost use Rattle.std.specs.Prelude.{◌≡◌, ◌<◌, [], length, slice_get, Some, option_map};
-ghost use Rattle.arrow_column.specs.Column.{append_slot, slot_overflows, slots_of, stored_values};
-ghost use Rattle.arrow_column.specs.Growth.{Grows, GrowthKeeps};
-ghost use Rattle.arrow_bytes.specs.Column.{item_overflows};
+ghost use Rattle.std.specs.Prelude.{◌≡◌, ◌<◌, length, slice_get, Some, option_map};
+ghost use Rattle.arrow_column.specs.Column.{slots_of, stored_values};
+ghost use Rattle.arrow_bytes.specs.Appends.{PushesSlot, PushesItem, PushKeepsSlots, PushKeepsItems};
 
 use crate::{ByteArray, MutableByteArray, MutableByteValuesArray};
 use arrow_bytes::{BorrowItem, ByteItem};
@@ -156,10 +155,8 @@ impl<'a, K: BorrowItem<'a>, O: Offset> MutableByteArray<K, O> {
     /// The builder is unchanged on an error.
     #[inline(always)]
     pub fn push(&mut self, value: Option<K::Borrowed>) -> Result<(), Error>
-        ensures ok { Grows result (slot_overflows (item_overflows K.Borrowed.bytes O.most) self.old value)
-            self.new (append_slot [] self.old (option_map K.Borrowed.bytes value)) }
-        ensures err { GrowthKeeps result (slot_overflows (item_overflows K.Borrowed.bytes O.most) self.old value)
-            self.old self.new }
+        ensures ok { PushesSlot K.Borrowed.bytes O.most result self.old value self.new }
+        ensures err { PushKeepsSlots K.Borrowed.bytes O.most result self.old value self.new }
     {
         self.column.push(value)
     }
@@ -170,10 +167,8 @@ impl<'a, K: BorrowItem<'a>, O: Offset> MutableByteArray<K, O> {
     /// As `push`.
     #[inline(always)]
     pub fn try_push(&mut self, value: Option<K::Borrowed>) -> Result<(), Error>
-        ensures ok { Grows result (slot_overflows (item_overflows K.Borrowed.bytes O.most) self.old value)
-            self.new (append_slot [] self.old (option_map K.Borrowed.bytes value)) }
-        ensures err { GrowthKeeps result (slot_overflows (item_overflows K.Borrowed.bytes O.most) self.old value)
-            self.old self.new }
+        ensures ok { PushesSlot K.Borrowed.bytes O.most result self.old value self.new }
+        ensures err { PushKeepsSlots K.Borrowed.bytes O.most result self.old value self.new }
     {
         // Not by `push`: a call by a bound that names a lifetime gets no proof beside the `'static` text of `Error`.
         self.column.push::<K::Borrowed>(value)
@@ -199,12 +194,8 @@ impl<'a, K: BorrowItem<'a>, O: Offset> MutableByteValuesArray<K, O> {
     /// The builder is unchanged on an error.
     #[inline(always)]
     pub fn push(&mut self, value: K::Borrowed) -> Result<(), Error>
-        ensures ok { Grows result
-            (item_overflows K.Borrowed.bytes O.most self.old.around (stored_values self.old) value)
-            self.new (append_slot [] self.old (Some (K.Borrowed.bytes value))) }
-        ensures err { GrowthKeeps result
-            (item_overflows K.Borrowed.bytes O.most self.old.around (stored_values self.old) value)
-            self.old self.new }
+        ensures ok { PushesItem K.Borrowed.bytes O.most result self.old value self.new }
+        ensures err { PushKeepsItems K.Borrowed.bytes O.most result self.old value self.new }
     {
         self.column.push_unmasked(value)
     }
@@ -215,12 +206,8 @@ impl<'a, K: BorrowItem<'a>, O: Offset> MutableByteValuesArray<K, O> {
     /// As `push`.
     #[inline(always)]
     pub fn try_push(&mut self, value: K::Borrowed) -> Result<(), Error>
-        ensures ok { Grows result
-            (item_overflows K.Borrowed.bytes O.most self.old.around (stored_values self.old) value)
-            self.new (append_slot [] self.old (Some (K.Borrowed.bytes value))) }
-        ensures err { GrowthKeeps result
-            (item_overflows K.Borrowed.bytes O.most self.old.around (stored_values self.old) value)
-            self.old self.new }
+        ensures ok { PushesItem K.Borrowed.bytes O.most result self.old value self.new }
+        ensures err { PushKeepsItems K.Borrowed.bytes O.most result self.old value self.new }
     {
         // Not by `push`, for the same reason as above.
         self.column.push_unmasked(value)

@@ -1,21 +1,17 @@
 //! Laws of arrays and builders of bytes and of text, stated over the definitions for all values.
 //! Each is the contract of a function with an empty body.
-ghost use Rattle.std.specs.Prelude.{◌≡◌, ◌∷◌, [], ℕ, ◌≤◌, Bool, length, None};
-ghost use Rattle.arrow_types.specs.Types.{IsRightType, Refusal};
+ghost use Rattle.std.specs.Prelude.{◌≡◌, Bool, None};
+ghost use Rattle.arrow_types.specs.Types.{Refusal};
 ghost use Rattle.arrow_types.specs.declared.physical_type.PhysicalType.{PhysicalType};
-ghost use Rattle.arrow_column.specs.Acceptance.{Passes};
-ghost use Rattle.arrow_column.specs.Column.{IsColumn, mask_of, stored_values};
+ghost use Rattle.arrow_column.specs.Column.{IsColumn, mask_of};
 ghost use Rattle.arrow_bytes.specs.Column.{ByteColumn, byte_column, bytes_held, offsets_held};
-ghost use Rattle.arrow_bytes.specs.Kinds.{AreItems};
-ghost use Rattle.arrow_bytes.specs.Acceptance.{array_tests, builder_tests, values_builder_tests};
+ghost use Rattle.arrow_bytes.specs.Validation.{PassesAsArray, PassesAsBuilder, PassesAsValuesBuilder};
 
 /// The parts of an array, which `into_inner` returns, pass the tests of `try_new` and make the same
 /// array again.
 pub fn array_again()
     ensures accepted { (text : Bool) (layout : PhysicalType) (wrong_type : Refusal) (c : ByteColumn)
-        → AreItems text (stored_values c) → IsRightType layout c.data_type
-        → Passes (array_tests text layout wrong_type c.data_type
-        (offsets_held c) (bytes_held c) (mask_of c)) }
+        → PassesAsArray text layout wrong_type c }
     ensures same { (c : ByteColumn) → IsColumn c
         → byte_column c.data_type (offsets_held c) (bytes_held c) (mask_of c) ≡ c }
 {}
@@ -24,9 +20,7 @@ pub fn array_again()
 /// the same builder again.
 pub fn builder_again()
     ensures accepted { (text : Bool) (layout : PhysicalType) (wrong_type : Refusal) (c : ByteColumn)
-        → c.around.tail ≡ [] → AreItems text (stored_values c) → IsRightType layout c.data_type
-        → Passes (builder_tests text layout wrong_type c.data_type
-        (offsets_held c) (bytes_held c) (mask_of c)) }
+        → PassesAsBuilder text layout wrong_type c }
     ensures same { (c : ByteColumn) → IsColumn c
         → byte_column c.data_type (offsets_held c) (bytes_held c) (mask_of c) ≡ c }
 {}
@@ -34,10 +28,8 @@ pub fn builder_again()
 /// The parts of a builder without nulls, after whose last item no byte lies, pass the tests of
 /// `try_new` and make the same builder again.
 pub fn values_builder_again()
-    ensures accepted { (text : Bool) (layout : PhysicalType) (wrong_type : Refusal) (c : ByteColumn)
-        → c.around.tail ≡ [] → AreItems text (stored_values c) → IsRightType layout c.data_type
-        → Passes (values_builder_tests text layout wrong_type c.data_type
-        (offsets_held c) (bytes_held c)) }
+    ensures accepted { (text : Bool) (layout : PhysicalType) (wrong : Refusal) (c : ByteColumn)
+        → PassesAsValuesBuilder text layout wrong c }
     ensures same { (c : ByteColumn) → IsColumn c → mask_of c ≡ None
         → byte_column c.data_type (offsets_held c) (bytes_held c) None ≡ c }
 {}

@@ -2,7 +2,9 @@
 //! columnar format, "Variable-size Binary Layout").
 #![tactic(auto)]
 
+mod any_array;
 mod array;
+mod array_equality;
 mod binary;
 mod builder;
 mod change;
@@ -12,6 +14,7 @@ mod from_natural;
 mod items;
 pub mod laws;
 mod parts;
+mod text;
 mod utf8;
 mod values_builder;
 

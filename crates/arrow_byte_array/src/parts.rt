@@ -1,12 +1,12 @@
 //! Arrays and builders made of parts from outside, which are checked.
-ghost use Rattle.std.specs.Prelude.{◌≡◌, None, IfOk, IfErr};
-ghost use Rattle.arrow_types.specs.Types.{logical_type, refusal};
-ghost use Rattle.arrow_column.specs.Acceptance.{IsFirstFailure, Passes, accept};
+ghost use Rattle.std.specs.Prelude.{◌≡◌, IfOk, IfErr};
+ghost use Rattle.arrow_types.specs.Types.{refusal};
+ghost use Rattle.arrow_column.specs.Validation.{IsFirstFailure, Passes, accept};
 ghost use Rattle.arrow_bytes.specs.Pieces.{pieces_of};
-ghost use Rattle.arrow_bytes.specs.Column.{byte_column};
 ghost use Rattle.arrow_bytes.specs.Kinds.{BuilderCosts, Costs, TestsOnce};
-ghost use Rattle.arrow_bytes.specs.Acceptance.{array_tests, builder_tests, typed_tests};
-ghost use Rattle.arrow_bytes.specs.Acceptance.{values_builder_tests, values_tests};
+ghost use Rattle.arrow_bytes.specs.Validation.{AcceptsArray, RefusesArray, AcceptsBuilder, RefusesBuilder};
+ghost use Rattle.arrow_bytes.specs.Validation.{AcceptsValuesBuilder, RefusesValuesBuilder, AcceptsItems};
+ghost use Rattle.arrow_bytes.specs.Validation.{values_tests};
 
 use crate::{ByteArray, MutableByteArray, MutableByteValuesArray};
 use arrow_bytes::{ByteKind, ByteValues, MutableByteValues};
@@ -60,14 +60,10 @@ impl<K: ByteKind, O: Offset> ByteArray<K, O> {
         values: Buffer<u8>,
         validity: Option<Bitmap>,
     ) -> Result<Self, Error>
-        ensures ok { let t = logical_type data_type in IfOk result (λ array.
-            Passes (array_tests K.is_text (K.layout O.IS_LARGE) K.wrong_type t
-            offsets values validity)
-            × (array ≡ byte_column t offsets values validity)) }
-        ensures err { let t = logical_type data_type in IfErr result (λ e. IsFirstFailure
-            (array_tests K.is_text (K.layout O.IS_LARGE) K.wrong_type t
-            offsets values validity)
-            (refusal e)) }
+        ensures ok { AcceptsArray K.is_text (K.layout O.IS_LARGE) K.wrong_type data_type offsets values validity
+            result }
+        ensures err { RefusesArray K.is_text (K.layout O.IS_LARGE) K.wrong_type data_type offsets values validity
+            result }
     {
         let mut cost = TextCost::new();
         ByteArray::try_new_counted(data_type, offsets, values, validity, &mut cost)
@@ -86,14 +82,10 @@ impl<K: ByteKind, O: Offset> ByteArray<K, O> {
         validity: Option<Bitmap>,
         cost: &mut TextCost,
     ) -> Result<Self, Error>
-        ensures ok { let t = logical_type data_type in IfOk result (λ array.
-            Passes (array_tests K.is_text (K.layout O.IS_LARGE) K.wrong_type t
-            offsets values validity)
-            × (array ≡ byte_column t offsets values validity)) }
-        ensures err { let t = logical_type data_type in IfErr result (λ e. IsFirstFailure
-            (array_tests K.is_text (K.layout O.IS_LARGE) K.wrong_type t
-            offsets values validity)
-            (refusal e)) }
+        ensures ok { AcceptsArray K.is_text (K.layout O.IS_LARGE) K.wrong_type data_type offsets values validity
+            result }
+        ensures err { RefusesArray K.is_text (K.layout O.IS_LARGE) K.wrong_type data_type offsets values validity
+            result }
         ensures counted { TestsOnce offsets values cost.old cost.new }
         ensures exact { Costs K.is_text offsets values cost.old cost.new }
     {
@@ -118,14 +110,10 @@ fn builder_values<K: ByteKind, O: Offset>(
     values: Vec<u8>,
     cost: &mut TextCost,
 ) -> Result<MutableByteValues<K, O>, Error>
-    ensures ok { let t = logical_type data_type.now in IfOk result (λ stored.
-        Passes (typed_tests K.is_text (K.layout O.IS_LARGE) K.wrong_builder_type t
-        offsets values.items accept)
-        × (stored ≡ pieces_of offsets values.items)) }
-    ensures err { let t = logical_type data_type.now in IfErr result (λ e. IsFirstFailure
-        (typed_tests K.is_text (K.layout O.IS_LARGE) K.wrong_builder_type t
-        offsets values.items accept)
-        (refusal e)) }
+    ensures ok { AcceptsItems K.is_text (K.layout O.IS_LARGE) K.wrong_builder_type data_type.now offsets values.items
+        result }
+    ensures err { RefusesValuesBuilder K.is_text (K.layout O.IS_LARGE) K.wrong_builder_type data_type.now offsets
+        values.items result }
     ensures counted { TestsOnce offsets values.items cost.old cost.new }
     ensures exact { BuilderCosts K.is_text offsets values.items cost.old cost.new }
 {
@@ -151,14 +139,10 @@ impl<K: ByteKind, O: Offset> MutableByteArray<K, O> {
         values: Vec<u8>,
         validity: Option<MutableBitmap>,
     ) -> Result<Self, Error>
-        ensures ok { let t = logical_type data_type in IfOk result (λ builder.
-            Passes (builder_tests K.is_text (K.layout O.IS_LARGE) K.wrong_builder_type t
-            offsets values.items validity)
-            × (builder ≡ byte_column t offsets values.items validity)) }
-        ensures err { let t = logical_type data_type in IfErr result (λ e. IsFirstFailure
-            (builder_tests K.is_text (K.layout O.IS_LARGE) K.wrong_builder_type t
-            offsets values.items validity)
-            (refusal e)) }
+        ensures ok { AcceptsBuilder K.is_text (K.layout O.IS_LARGE) K.wrong_builder_type data_type offsets values.items
+            validity result }
+        ensures err { RefusesBuilder K.is_text (K.layout O.IS_LARGE) K.wrong_builder_type data_type offsets values.items
+            validity result }
     {
         let mut cost = TextCost::new();
         MutableByteArray::try_new_counted(data_type, offsets, values, validity, &mut cost)
@@ -177,14 +161,10 @@ impl<K: ByteKind, O: Offset> MutableByteArray<K, O> {
         validity: Option<MutableBitmap>,
         cost: &mut TextCost,
     ) -> Result<Self, Error>
-        ensures ok { let t = logical_type data_type in IfOk result (λ builder.
-            Passes (builder_tests K.is_text (K.layout O.IS_LARGE) K.wrong_builder_type t
-            offsets values.items validity)
-            × (builder ≡ byte_column t offsets values.items validity)) }
-        ensures err { let t = logical_type data_type in IfErr result (λ e. IsFirstFailure
-            (builder_tests K.is_text (K.layout O.IS_LARGE) K.wrong_builder_type t
-            offsets values.items validity)
-            (refusal e)) }
+        ensures ok { AcceptsBuilder K.is_text (K.layout O.IS_LARGE) K.wrong_builder_type data_type offsets values.items
+            validity result }
+        ensures err { RefusesBuilder K.is_text (K.layout O.IS_LARGE) K.wrong_builder_type data_type offsets values.items
+            validity result }
         ensures counted { TestsOnce offsets values.items cost.old cost.new }
         ensures exact { BuilderCosts K.is_text offsets values.items cost.old cost.new }
     {
@@ -207,14 +187,10 @@ impl<K: ByteKind, O: Offset> MutableByteValuesArray<K, O> {
     /// every item is one of the kind (text is UTF-8 by itself); the data type has the builder's
     /// physical type.
     pub fn try_new(data_type: DataType, offsets: Offsets<O>, values: Vec<u8>) -> Result<Self, Error>
-        ensures ok { let t = logical_type data_type in IfOk result (λ builder.
-            Passes (values_builder_tests K.is_text (K.layout O.IS_LARGE) K.wrong_builder_type t
-            offsets values.items)
-            × (builder ≡ byte_column t offsets values.items None)) }
-        ensures err { let t = logical_type data_type in IfErr result (λ e. IsFirstFailure
-            (values_builder_tests K.is_text (K.layout O.IS_LARGE) K.wrong_builder_type t
-            offsets values.items)
-            (refusal e)) }
+        ensures ok { AcceptsValuesBuilder K.is_text (K.layout O.IS_LARGE) K.wrong_builder_type data_type offsets
+            values.items result }
+        ensures err { RefusesValuesBuilder K.is_text (K.layout O.IS_LARGE) K.wrong_builder_type data_type offsets
+            values.items result }
     {
         let mut cost = TextCost::new();
         MutableByteValuesArray::try_new_counted(data_type, offsets, values, &mut cost)
@@ -232,14 +208,10 @@ impl<K: ByteKind, O: Offset> MutableByteValuesArray<K, O> {
         values: Vec<u8>,
         cost: &mut TextCost,
     ) -> Result<Self, Error>
-        ensures ok { let t = logical_type data_type in IfOk result (λ builder.
-            Passes (values_builder_tests K.is_text (K.layout O.IS_LARGE) K.wrong_builder_type t
-            offsets values.items)
-            × (builder ≡ byte_column t offsets values.items None)) }
-        ensures err { let t = logical_type data_type in IfErr result (λ e. IsFirstFailure
-            (values_builder_tests K.is_text (K.layout O.IS_LARGE) K.wrong_builder_type t
-            offsets values.items)
-            (refusal e)) }
+        ensures ok { AcceptsValuesBuilder K.is_text (K.layout O.IS_LARGE) K.wrong_builder_type data_type offsets
+            values.items result }
+        ensures err { RefusesValuesBuilder K.is_text (K.layout O.IS_LARGE) K.wrong_builder_type data_type offsets
+            values.items result }
         ensures counted { TestsOnce offsets values.items cost.old cost.new }
         ensures exact { BuilderCosts K.is_text offsets values.items cost.old cost.new }
     {

@@ -1,4 +1,4 @@
--- What a check of texts tells of bytes in which the offsets lie.
+-- What a check of texts says of bytes in which the offsets lie.
 use Rattle.std.proofs.Common.{◌≡◌, ◌≤◌, ◌∙◌, ap, List, ℕ, length, Result, Ok, Err, OnOk, IfErr, sym, subst}
 use Rattle.std.proofs.Common.{true, if◌then◌else◌}
 use Rattle.std.proofs.lemmas.Bool.{le-ltb}

@@ -26,15 +26,15 @@ offsets_held column = offsets_of (length column.around.lead) (stored_values colu
 abbrev pub bytes_held : ByteColumn → List ℕ
 bytes_held column = bytes_of column.around.lead (stored_values column) column.around.tail
 
--- the same column with nothing behind its slots
+-- the same column with no bytes after its slots
 abbrev pub column_without_tail : ByteColumn → ByteColumn
 column_without_tail column = record column { around = record column.around { tail = [] } }
 
--- whether an item is more than offsets up to a greatest number can tell the end of; shown are its bytes
+-- whether the end of an item would be above the greatest offset; shown are the item's bytes
 abbrev pub item_overflows : {X : Type 0} → (X → List ℕ) → ℕ → Around → List (List ℕ) → X → Bool
 item_overflows shown most around items item = overflows_by most around items (length (shown item))
 
--- whether the slots of another column are more than offsets up to a greatest number can tell the end of
+-- whether the end of another column's slots would be above the greatest offset
 abbrev pub joins_overflow : ℕ → ByteColumn → ByteColumn → Bool
 joins_overflow most column other = overflows_by most column.around (stored_values column)
     (length (concat (stored_values other)))

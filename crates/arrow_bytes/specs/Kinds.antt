@@ -1,10 +1,10 @@
 -- The two kinds of items, bytes and text: which bytes are an item, how the values of arrays and builders lie in memory,
--- and what is said of types that don't fit. Text is told by a truth value, and so are large offsets.
+-- and the errors of other types. Booleans say whether items are text, and whether offsets are large.
 use Rattle.std.specs.Prelude.{⊤, ◌≡◌, ◌≢◌, true, false, ℕ, ◌-◌, ◌≤◌, Bool, List, length, codes, if◌then◌else◌}
 use Rattle.arrow_types.specs.Types.{LogicalType, Refusal, binary, large_binary, large_utf8, out_of_spec, plain, utf8}
 use Rattle.arrow_types.specs.declared.physical_type.PhysicalType.{PhysicalType}
 use Rattle.arrow_types.specs.declared.physical_type.PhysicalType.TheVariants as physical
-use Rattle.arrow_memory.specs.Offsets.{last_of}
+use Rattle.arrow_memory.specs.Offsets.{last_of, IsOffsets}
 use Rattle.arrow_check.specs.Pieces.{items_of}
 use Rattle.arrow_check.specs.Texts.{AreTexts}
 use Rattle.arrow_check.specs.Utf8.{IsWellFormed}
@@ -24,6 +24,16 @@ AreItems false items = ⊤
 -- the offsets lie within the bytes, and what lies between two of them is an item
 abbrev pub CutItems : Bool → List ℕ → List ℕ → Type 0
 CutItems text offsets bytes = (last_of offsets ≤ length bytes) × AreItems text (items_of offsets bytes)
+
+-- the offsets are legal and lie within the bytes, and what lies between two of them is an item
+abbrev pub LegalItems : Bool → List ℕ → List ℕ → Type 0
+LegalItems text offsets bytes = IsOffsets offsets × (last_of offsets ≤ length bytes)
+    × AreItems text (items_of offsets bytes)
+
+-- the offsets are legal and end where the bytes do, and what lies between two of them is an item
+abbrev pub LegalEndItems : Bool → List ℕ → List ℕ → Type 0
+LegalEndItems text offsets bytes = IsOffsets offsets × (last_of offsets ≡ length bytes)
+    × AreItems text (items_of offsets bytes)
 
 -- from some counts of what text checks cost to later ones: of these bytes the window was tested once at most,
 -- whether it

@@ -1,7 +1,10 @@
 pub mod Column
+pub mod Appends
 pub mod Cuts
 pub mod Equality
 pub mod Kinds
 pub mod Pieces
 pub mod Selection
-pub mod Acceptance
+pub mod Validation
+pub mod ItemText
+pub mod KeyedItems

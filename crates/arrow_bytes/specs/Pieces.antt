@@ -1,9 +1,9 @@
 -- Stored values of bytes: items, and what lies around them.
-use Rattle.std.specs.Prelude.{ℕ, ◌+◌, Bool, nat_lt, List, [], ◌++◌, length, take, drop}
+use Rattle.std.specs.Prelude.{◌≡◌, ℕ, ◌+◌, Bool, nat_lt, List, [], ◌++◌, length, take, drop}
 use Rattle.std.specs.List.{concat}
-use Rattle.arrow_check.specs.Pieces.{items_of, lead_of, tail_of}
+use Rattle.arrow_check.specs.Pieces.{bytes_of, items_of, lead_of, offsets_of, tail_of}
 
--- what lies around items: the bytes before the first of them, and those behind the last
+-- what lies around items: the bytes before the first of them, and those after the last
 pub record Around : Type 0 where
   pub lead : List ℕ
   pub tail : List ℕ
@@ -25,18 +25,24 @@ around_of offsets bytes = record { lead = lead_of offsets bytes; tail = tail_of 
 abbrev pub pieces_of : List ℕ → List ℕ → Pieces
 pieces_of offsets bytes = record { around = around_of offsets bytes; items = items_of offsets bytes }
 
--- what lies around n of these items from place a on: the items before them are then part of the lead, and those
--- behind them part of the tail
+-- the offsets and the bytes of items and of what lies around them cut out the same pieces
+abbrev pub PiecesAgain : Around → List (List ℕ) → Type 0
+PiecesAgain around items =
+    pieces_of (offsets_of (length around.lead) items) (bytes_of around.lead items around.tail)
+    ≡ record { around = around; items = items }
+
+-- what lies around n of these items from index a on: the items before them are then part of the lead, and those
+-- after them part of the tail
 abbrev pub around_cut : Around → List (List ℕ) → ℕ → ℕ → Around
 around_cut around items a n = record {
   lead = around.lead ++ concat (take a items);
   tail = concat (drop (a + n) items) ++ around.tail;
 }
 
--- the same items with nothing behind them
+-- the same items with nothing after them
 abbrev pub without_tail : Pieces → Pieces
 without_tail pieces = record pieces { around = record pieces.around { tail = [] } }
 
--- whether so many bytes more behind these items would end past the greatest number of an offset
+-- whether `added` bytes more after these items would end above the greatest offset
 abbrev pub overflows_by : ℕ → Around → List (List ℕ) → ℕ → Bool
 overflows_by most around items added = nat_lt most (length around.lead + length (concat items) + added)

@@ -1,5 +1,5 @@
 //! Growing lists of byte strings.
-ghost use Rattle.std.specs.Prelude.{◌≡◌, ◌<◌, ◌≤◌, [], length, slice_get, Some, IfOk, IfErr};
+ghost use Rattle.std.specs.Prelude.{◌≡◌, ◌<◌, ◌≤◌, [], length, slice_get, Some, IfOk};
 ghost use Rattle.arrow_types.specs.Failures.{OnlyOutOfMemory};
 ghost use Rattle.arrow_memory.specs.Offsets.{last_of, IsOffsets};
 ghost use Rattle.arrow_check.specs.Pieces.{bytes_of, items_of, offsets_of};
@@ -28,18 +28,14 @@ pub struct MutableByteValues<K: ByteKind, O: Offset> {
 
 // Contracts see three pieces: the items, and what lies before and behind them.
 impl<K: ByteKind, O: Offset> Model for MutableByteValues<K, O> {
-    ghost use Rattle.std.specs.Prelude.{◌≡◌, length};
-    ghost use Rattle.arrow_memory.specs.Offsets.{last_of, IsOffsets};
-    ghost use Rattle.arrow_check.specs.Pieces.{items_of};
-    ghost use Rattle.arrow_bytes.specs.Kinds.{AreItems};
+    ghost use Rattle.arrow_bytes.specs.Kinds.{LegalEndItems};
     ghost use Rattle.arrow_bytes.specs.Pieces.{Pieces, pieces_of};
 
     ghost Value = { Pieces };
 
     ghost view = { λ values. pieces_of values.offsets values.bytes.items };
 
-    ghost invariant = { λ values. IsOffsets values.offsets × (last_of values.offsets ≡ length values.bytes.items)
-        × AreItems K.is_text (items_of values.offsets values.bytes.items) };
+    ghost invariant = { λ values. LegalEndItems K.is_text values.offsets values.bytes.items };
 }
 
 #[tactic(auto, using(crate::proofs::PieceLemmas::piece_reads, crate::proofs::PieceLemmas::piece_growth, crate::proofs::KindLemmas::kind_growth))]

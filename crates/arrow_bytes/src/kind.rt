@@ -65,8 +65,8 @@ pub trait ByteKind {
         requires keeps { KeepsOffsets O.number O.most offsets.now }
         requires within { last_of (numbers_of O.number offsets.now) ≤ length bytes.now }
         ensures ok { OnOk result (AreItems is_text (items_of (numbers_of O.number offsets.now) bytes.now)) }
-        ensures err { IfErr result (λ e. (AreItems is_text (items_of (numbers_of O.number offsets.now) bytes.now)
-            → ⊥) × (refusal e ≡ not_text)) }
+        ensures err { IfErr result (λ e. (¬ AreItems is_text (items_of (numbers_of O.number offsets.now) bytes.now))
+            × (refusal e ≡ not_text)) }
         ensures counted { TestsOnce (numbers_of O.number offsets.now) bytes.now cost.old cost.new }
         ensures exact { Costs is_text (numbers_of O.number offsets.now) bytes.now cost.old cost.new };
 

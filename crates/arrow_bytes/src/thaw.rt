@@ -1,7 +1,7 @@
 //! Thawing of stored byte strings together with their mask.
-ghost use Rattle.std.specs.Prelude.{◌≡◌};
 ghost use Rattle.either.specs.Either.{MatchEither};
 ghost use Rattle.arrow_bytes.specs.Pieces.{without_tail};
+ghost use Rattle.arrow_memory.specs.Thaw.{AreParts};
 
 use crate::{ByteKind, ByteValues, MutableByteValues};
 use arrow_memory::bitmap::{Bitmap, MutableBitmap};
@@ -18,8 +18,7 @@ pub fn into_mut_values<K: ByteKind, O: Offset>(
     values: ByteValues<K, O>,
     validity: Option<Bitmap>,
 ) -> Either<(ByteValues<K, O>, Option<Bitmap>), (MutableByteValues<K, O>, Option<MutableBitmap>)>
-    ensures { MatchEither result (λ parts. (parts.0 ≡ values) × (parts.1 ≡ validity)) (λ parts.
-        (parts.0 ≡ without_tail values) × (parts.1 ≡ validity)) }
+    ensures { MatchEither result (AreParts values validity) (AreParts (without_tail values) validity) }
 {
     let ByteValues { offsets, bytes, .. } = values;
     match into_mut_bytes(offsets, bytes, validity) {

@@ -4,5 +4,6 @@ pub mod WindowLemmas
 mod CountLemmas
 mod InnerLemmas
 mod KeyLemmas
+mod PlaceLemmas
 mod AsciiLemmas
 pub mod CallerLemmas

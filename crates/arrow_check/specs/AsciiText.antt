@@ -1,8 +1,8 @@
--- Bytes that are all ASCII are text.
-use Rattle.std.specs.Prelude.{◌≡◌, ℕ, ◌<◌, List, [], ◌∷◌, refl}
+-- Bytes that are all ASCII: the answer of a test, and that they are text.
+use Rattle.std.specs.Prelude.{◌≡◌, ℕ, ◌<◌, Bool, List, [], ◌∷◌, refl, MatchBool}
 use Rattle.std.proofs.Common.{suc, ap, inl, arith}
 use Rattle.std.specs.List.{concat, AllByRecursion}
-use Rattle.std.specs.Str.{IsAscii}
+use Rattle.std.specs.Str.{IsAscii, IsNotAscii}
 use Rattle.arrow_check.specs.Utf8.{IsCharacter, IsWellFormed}
 
 -- each byte by itself
@@ -22,3 +22,7 @@ concat-singles (byte ∷ bytes) = ap (λ rest. byte ∷ rest) (concat-singles by
 
 pub ascii_is_text : (bytes : List ℕ) → IsAscii bytes → IsWellFormed bytes
 ascii_is_text bytes ascii = (singles bytes, singles_are_characters bytes ascii, concat-singles bytes)
+
+-- the boolean is whether the bytes are ASCII
+abbrev pub TellsAscii : Bool → List ℕ → Type 0
+TellsAscii answer bytes = MatchBool answer (IsAscii bytes) (IsNotAscii bytes)

@@ -7,6 +7,6 @@ module _ {A S : Type 0} (items : A → List S) where
   abbrev pub rest_of : ArrayValuesIter A → List S
   rest_of s = take (s.end - s.index) (drop s.index (items s.array.now))
 
-  -- the places of the iterator lie in the array
+  -- the indexes of the iterator are within the array
   abbrev pub IsWithin : ArrayValuesIter A → Type 0
   IsWithin s = (s.index ≤ s.end) × (s.end ≤ length (items s.array.now))

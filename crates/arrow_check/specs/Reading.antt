@@ -20,7 +20,7 @@ no_cost = record { ascii_tests = 0; whole_tests = 0; bytes_looked = 0 }
 abbrev pub one_more : ℕ → ℕ
 one_more count = if nat_lt count (2 ^ 64 - 1) then count + 1 else count
 
--- so many more, one after the other
+-- `steps` more, one after the other
 abbrev pub many_more : ℕ → ℕ → ℕ
 many_more zero count = count
 many_more (suc steps) count = one_more (many_more steps count)
@@ -37,22 +37,22 @@ after_whole_test r = record r { cost = record r.cost { whole_tests = one_more r.
 abbrev pub after_look : Reading → Reading
 after_look r = record r { cost = record r.cost { bytes_looked = one_more r.cost.bytes_looked } }
 
--- after so many looks, at a byte each
+-- after `looks` looks, at a byte each
 abbrev pub after_looks : ℕ → Reading → Reading
 after_looks looks r = record r { cost = record r.cost { bytes_looked = many_more looks r.cost.bytes_looked } }
 
--- from one reading to a later one: looks alone, at most so many
+-- from one reading to a later one: looks alone, at most `most` of them
 pub record LooksAtMost (most : ℕ) (old new : Reading) : Type 0 where
   pub looks : ℕ
   pub few : looks ≤ most
   pub is : new ≡ after_looks looks old
 
--- a count is as before or higher, by so many at most
+-- a count is as before or higher, by at most `steps`
 pub record RisesAtMost (steps old new : ℕ) : Type 0 where
   pub never_falls : old ≤ new
   pub most : new ≤ old + steps
 
--- from one reading to a later one: the same bytes, and each act was done so often at most
+-- from one reading to a later one: the same bytes, and at most this many of each act
 pub record ReadsAtMost (ascii_tests whole_tests looks : ℕ) (old new : Reading) : Type 0 where
   pub bytes : new.bytes ≡ old.bytes
   pub ascii : RisesAtMost ascii_tests old.cost.ascii_tests new.cost.ascii_tests

@@ -33,6 +33,6 @@ character_rows =
 abbrev pub IsCharacter : List ℕ → Type 0
 IsCharacter = AreInSome character_rows
 
--- the bytes are text: characters, one behind the other
+-- the bytes are text: characters, one after the other
 abbrev pub IsWellFormed : List ℕ → Type 0
 IsWellFormed bytes = (characters : List (List ℕ)) × AllByRecursion IsCharacter characters × (concat characters ≡ bytes)

@@ -1,11 +1,10 @@
 //! Checks that keys are indexes of items.
-ghost use Rattle.std.specs.Prelude.{◌≡◌, ◌<◌, not, find, All, IfNone, IsOk, IsErrAnd, IsSomeAnd, MatchOption, OnOk};
+ghost use Rattle.std.specs.Prelude.{◌≡◌, IfNone, OnOk};
 ghost use Rattle.std.specs.Prelude.{length, Some};
 ghost use Rattle.std.specs.Option.{option_copied};
-ghost use Rattle.arrow_types.specs.IndexKey.{index_of};
 ghost use Rattle.arrow_types.specs.Types.{refusal};
 ghost use Rattle.arrow_memory.specs.Rows.{FitsMask};
-ghost use Rattle.arrow_check.specs.Indexes.{in_bounds, key_refusal, valid_keys};
+ghost use Rattle.arrow_check.specs.Indexes.{in_bounds, key_refusal, valid_keys, first_bad_key, AllInBounds, ChecksKeys};
 
 use arrow_memory::bitmap::Bitmap;
 use arrow_types::error::Error;
@@ -37,8 +36,8 @@ fn key_fault<K: IndexKey>(key: &K) -> Error
 /// Returns the first key that is no index below `len`.
 #[inline(always)]
 fn first_out_of_bounds<K: IndexKey>(keys: &[K], len: usize) -> Option<&K>
-    ensures first { option_copied result ≡ find (λ key. not (in_bounds len (K.number key))) keys.now }
-    ensures none { IfNone result (All (λ key. IsSomeAnd (index_of (K.number key)) (λ index. index < len)) keys.now) }
+    ensures first { option_copied result ≡ first_bad_key K.number len keys.now }
+    ensures none { IfNone result (AllInBounds K.number len keys.now) }
 {
     keys.iter().find(|key| !points_at_item(*key, len))
 }
@@ -50,9 +49,8 @@ fn first_out_of_bounds<K: IndexKey>(keys: &[K], len: usize) -> Option<&K>
 /// `OutOfSpec` with the fault of the first key that is no such index: it is negative or does not
 /// fit in a `usize`, or else it is not below `len`.
 pub fn check_indexes<K: IndexKey>(keys: &[K], len: usize) -> Result<(), Error>
-    ensures first { MatchOption (find (λ key. not (in_bounds len (K.number key))) keys.now) (IsOk result) (λ key.
-        IsErrAnd result (λ e. refusal e ≡ key_refusal (K.number key))) }
-    ensures ok { OnOk result (All (λ key. IsSomeAnd (index_of (K.number key)) (λ index. index < len)) keys.now) }
+    ensures first { ChecksKeys K.number len keys.now result }
+    ensures ok { OnOk result (AllInBounds K.number len keys.now) }
 {
     match first_out_of_bounds(keys, len) {
         Some(key) => Err(key_fault(key)),
@@ -64,11 +62,8 @@ pub fn check_indexes<K: IndexKey>(keys: &[K], len: usize) -> Result<(), Error>
 /// that is not.
 fn check_marked<K: IndexKey>(keys: &[K], marks: &Bitmap, len: usize) -> Result<(), Error>
     requires { length marks.now ≡ length keys.now }
-    ensures first { MatchOption (find (λ key. not (in_bounds len (K.number key)))
-        (valid_keys keys.now (Some marks.now))) (IsOk result) (λ key.
-        IsErrAnd result (λ e. refusal e ≡ key_refusal (K.number key))) }
-    ensures ok { OnOk result (All (λ key. IsSomeAnd (index_of (K.number key)) (λ index. index < len))
-        (valid_keys keys.now (Some marks.now))) }
+    ensures first { ChecksKeys K.number len (valid_keys keys.now (Some marks.now)) result }
+    ensures ok { OnOk result (AllInBounds K.number len (valid_keys keys.now (Some marks.now))) }
 {
     for index in 0..keys.len() {
         let key = &keys[index];
@@ -90,11 +85,8 @@ pub fn check_slots<K: IndexKey>(
     len: usize,
 ) -> Result<(), Error>
     requires { FitsMask keys.now (option_copied validity) }
-    ensures first { MatchOption (find (λ key. not (in_bounds len (K.number key)))
-        (valid_keys keys.now (option_copied validity.entry))) (IsOk result) (λ key.
-        IsErrAnd result (λ e. refusal e ≡ key_refusal (K.number key))) }
-    ensures ok { OnOk result (All (λ key. IsSomeAnd (index_of (K.number key)) (λ index. index < len))
-        (valid_keys keys.now (option_copied validity.entry))) }
+    ensures first { ChecksKeys K.number len (valid_keys keys.now (option_copied validity.entry)) result }
+    ensures ok { OnOk result (AllInBounds K.number len (valid_keys keys.now (option_copied validity.entry))) }
 {
     match validity {
         None => check_indexes(keys, len),

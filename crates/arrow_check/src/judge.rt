@@ -1,8 +1,9 @@
 //! Judges: bytes that text checks read by counted acts alone, under a rule of which bytes are text.
-ghost use Rattle.std.specs.Prelude.{◌≡◌, ◌+◌, ◌<◌, ◌≤◌, ◌↔◌, ℕ, List, IsTrue, MatchBool, length, take, drop};
+ghost use Rattle.std.specs.Prelude.{◌≡◌, ◌+◌, ◌<◌, ◌≤◌, ◌↔◌, ℕ, List, IsTrue, length, take, drop};
 ghost use Rattle.std.specs.Prelude.{slice_get, Some};
-ghost use Rattle.std.specs.Str.{IsAscii, IsNotAscii};
+ghost use Rattle.std.specs.Str.{IsAscii};
 ghost use Rattle.arrow_check.specs.Reading.{Reading, after_ascii, after_whole_test, after_look};
+ghost use Rattle.arrow_check.specs.AsciiText.{TellsAscii};
 
 /// Bytes of which only their number and the answers of three acts can be read. Each act is counted.
 /// The type fixes which bytes are text.
@@ -20,8 +21,7 @@ pub trait Judge {
     /// Returns whether the `len` bytes from `offset` on are ASCII: all below 80 (hexadecimal).
     fn ascii(&mut self, offset: usize, len: usize) -> bool
         requires { offset + len ≤ length (reading self.old).bytes }
-        ensures answer { MatchBool result (IsAscii (take len (drop offset (reading self.old).bytes)))
-            (IsNotAscii (take len (drop offset (reading self.old).bytes))) }
+        ensures answer { TellsAscii result (take len (drop offset (reading self.old).bytes)) }
         ensures counted { reading self.new ≡ after_ascii (reading self.old) };
 
     /// Returns whether the `len` bytes from `offset` on are text.

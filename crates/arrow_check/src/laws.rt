@@ -1,12 +1,11 @@
 //! Laws of text, stated over the definitions for all values. Each is the contract of a function
 //! with an empty body.
-ghost use Rattle.std.specs.Prelude.{ℕ, ◌↔◌, ◌≤◌, ◌++◌, List, length, take, drop};
+ghost use Rattle.std.specs.Prelude.{ℕ, ◌↔◌, ◌≤◌, ◌++◌, List, length};
 ghost use Rattle.std.specs.Str.{IsUtf8};
-ghost use Rattle.arrow_memory.specs.Offsets.{last_of, IsOffsets};
-ghost use Rattle.arrow_check.specs.Pieces.{items_of};
-ghost use Rattle.arrow_check.specs.Texts.{AreTexts};
+ghost use Rattle.arrow_check.specs.Pieces.{items_of, ForFitOffsets};
+ghost use Rattle.arrow_check.specs.Texts.{AreTexts, SplitsText};
 ghost use Rattle.arrow_check.specs.Utf8.{IsWellFormed};
-ghost use Rattle.arrow_check.specs.Windows.{window_of, CutsBetween, InnerCutBetween};
+ghost use Rattle.arrow_check.specs.Windows.{CutsBetween, WindowCutsTexts};
 
 /// Bytes are text by Unicode's table exactly if they are by Rattle's library, which encodes scalar
 /// values.
@@ -24,9 +23,8 @@ pub fn texts_join()
 /// Both parts of a text are text if it is cut at its end or at a byte that is no continuation byte.
 #[inline(always)]
 pub fn text_is_cut()
-    ensures { (bytes : List ℕ) (place : ℕ) → IsWellFormed bytes → place ≤ length bytes
-        → CutsBetween (length bytes) bytes place → IsWellFormed (take place bytes)
-        × IsWellFormed (drop place bytes) }
+    ensures { (text : List ℕ) (i : ℕ) → IsWellFormed text → i ≤ length text → CutsBetween (length text) text i
+        → SplitsText text i }
 {}
 
 /// Every item between legal offsets within bytes is text exactly if the window from the first to
@@ -34,7 +32,5 @@ pub fn text_is_cut()
 /// no continuation byte.
 #[inline(always)]
 pub fn texts_by_window()
-    ensures { (offsets bytes : List ℕ) → IsOffsets offsets → last_of offsets ≤ length bytes
-        → AreTexts (items_of offsets bytes) ↔ (IsWellFormed (window_of offsets bytes)
-        × InnerCutBetween offsets bytes) }
+    ensures { ForFitOffsets (λ offsets bytes. AreTexts (items_of offsets bytes) ↔ WindowCutsTexts offsets bytes) }
 {}

@@ -7,5 +7,6 @@ pub mod cost;
 pub mod indexes;
 pub mod judge;
 pub mod laws;
+pub mod places;
 pub mod text;
 pub mod values_iter;

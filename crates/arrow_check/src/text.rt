@@ -1,14 +1,14 @@
 //! Checks that the items between offsets are text.
-ghost use Rattle.std.specs.Prelude.{◌≡◌, ◌+◌, ◌-◌, ◌<◌, ◌≤◌, ◌↔◌, IfErr, IsTrue, MatchBool, OnOk, length, slice_index};
-ghost use Rattle.std.specs.Str.{IsAscii, IsNotAscii};
-ghost use Rattle.arrow_types.specs.Types.{refusal};
+ghost use Rattle.std.specs.Prelude.{◌≡◌, ◌+◌, ◌-◌, ◌≤◌, ◌↔◌, IfErr, IsTrue, OnOk, length};
 ghost use Rattle.arrow_memory.specs.Offsets.{last_of, numbers_of};
 ghost use Rattle.arrow_check.specs.Bounds.{AreLegal};
 ghost use Rattle.arrow_check.specs.Reading.{LooksAtMost, ReadsAtMost, after_ascii, after_looks, after_whole_test};
-ghost use Rattle.arrow_check.specs.Texts.{CutTexts, text_refusal};
+ghost use Rattle.arrow_check.specs.Texts.{CutTexts, RefusesText};
 ghost use Rattle.arrow_check.specs.Utf8.{IsWellFormed};
 ghost use Rattle.arrow_check.specs.Windows.{window_of, inner_before_end, AllBegin, InnerCutBetween, IsContinuation};
-ghost use Rattle.arrow_check.specs.Windows.{LieAt, LieBefore, PassesWhole, ReadsOnce};
+ghost use Rattle.arrow_check.specs.Windows.{after_cut_test, StopsAtWindow, StopsAfterAscii, ReadsOnceFor};
+ghost use Rattle.arrow_check.specs.Windows.{LieAt, LieBefore, PassesWhole};
+ghost use Rattle.arrow_check.specs.AsciiText.{TellsAscii};
 
 use crate::bounds::{check_bounds, last_number, number_at};
 use crate::cost::TextBytes;
@@ -21,9 +21,7 @@ use arrow_types::offset::Offset;
 fn is_ascii_window<O: Offset, J: Judge>(offsets: &[O], text: &mut J) -> bool
     requires legal { AreLegal O.number offsets.now }
     requires within { last_of (numbers_of O.number offsets.now) ≤ length (J.reading text.old).bytes }
-    ensures answer { MatchBool result
-        (IsAscii (window_of (numbers_of O.number offsets.now) (J.reading text.old).bytes))
-        (IsNotAscii (window_of (numbers_of O.number offsets.now) (J.reading text.old).bytes)) }
+    ensures answer { TellsAscii result (window_of (numbers_of O.number offsets.now) (J.reading text.old).bytes) }
     ensures counted { J.reading text.new ≡ after_ascii (J.reading text.old) }
 {
     let start = number_at(offsets, 0);
@@ -140,11 +138,10 @@ fn is_cut_text<O: Offset, J: Judge>(offsets: &[O], text: &mut J) -> bool
         (J.reading text.old).bytes }
     ensures counted { LooksAtMost (length offsets.now - 2) (after_whole_test (J.reading text.old))
         (J.reading text.new) }
-    ensures looks { IsTrue result
-        → J.reading text.new ≡ after_looks (inner_before_end (numbers_of O.number offsets.now))
-        (after_whole_test (J.reading text.old)) }
-    ensures rejected { ¬ J.accepts (window_of (numbers_of O.number offsets.now) (J.reading text.old).bytes)
-        → J.reading text.new ≡ after_whole_test (J.reading text.old) }
+    ensures looks { IsTrue result → J.reading text.new ≡ after_cut_test (numbers_of O.number offsets.now)
+        (J.reading text.old) }
+    ensures rejected { StopsAtWindow J.accepts (numbers_of O.number offsets.now) (J.reading text.old)
+        (J.reading text.new) }
 {
     is_text_window(offsets, text) && is_cut_between(offsets, text)
 }
@@ -166,15 +163,13 @@ fn is_cut_text<O: Offset, J: Judge>(offsets: &[O], text: &mut J) -> bool
 pub fn check_text<O: Offset, J: Judge>(offsets: &[O], text: &mut J) -> Result<(), Error>
     requires { AreLegal O.number offsets.now }
     ensures ok { OnOk result (PassesWhole J.accepts (numbers_of O.number offsets.now) (J.reading text.old).bytes) }
-    ensures err { IfErr result (λ e.
-        (¬ (PassesWhole J.accepts (numbers_of O.number offsets.now) (J.reading text.old).bytes))
-        × (refusal e ≡ text_refusal (numbers_of O.number offsets.now) (J.reading text.old).bytes)) }
+    ensures err { IfErr result (RefusesText (PassesWhole J.accepts) (numbers_of O.number offsets.now)
+        (J.reading text.old).bytes) }
     ensures counted { ReadsAtMost 1 1 (length offsets.now - 2) (J.reading text.old) (J.reading text.new) }
-    ensures exact { ReadsOnce (PassesWhole J.accepts (numbers_of O.number offsets.now) (J.reading text.old).bytes)
-        (numbers_of O.number offsets.now) (J.reading text.old) (J.reading text.new) }
-    ensures rejected { last_of (numbers_of O.number offsets.now) ≤ length (J.reading text.old).bytes
-        → ¬ J.accepts (window_of (numbers_of O.number offsets.now) (J.reading text.old).bytes)
-        → J.reading text.new ≡ after_whole_test (after_ascii (J.reading text.old)) }
+    ensures exact { ReadsOnceFor (PassesWhole J.accepts) (numbers_of O.number offsets.now) (J.reading text.old)
+        (J.reading text.new) }
+    ensures rejected { StopsAfterAscii J.accepts (numbers_of O.number offsets.now) (J.reading text.old)
+        (J.reading text.new) }
 {
     check_bounds(offsets, text.len())?;
     if is_ascii_window(offsets, text) {
@@ -197,14 +192,10 @@ pub fn check_text<O: Offset, J: Judge>(offsets: &[O], text: &mut J) -> Result<()
 pub fn check_utf8<O: Offset>(offsets: &[O], text: &mut TextBytes<'_>) -> Result<(), Error>
     requires { AreLegal O.number offsets.now }
     ensures ok { OnOk result (CutTexts (numbers_of O.number offsets.now) text.old.bytes) }
-    ensures err { IfErr result (λ e. (¬ (CutTexts (numbers_of O.number offsets.now) text.old.bytes))
-        × (refusal e ≡ text_refusal (numbers_of O.number offsets.now) text.old.bytes)) }
+    ensures err { IfErr result (RefusesText CutTexts (numbers_of O.number offsets.now) text.old.bytes) }
     ensures counted { ReadsAtMost 1 1 (length offsets.now - 2) text.old text.new }
-    ensures exact { ReadsOnce (CutTexts (numbers_of O.number offsets.now) text.old.bytes)
-        (numbers_of O.number offsets.now) text.old text.new }
-    ensures rejected { last_of (numbers_of O.number offsets.now) ≤ length text.old.bytes
-        → ¬ IsWellFormed (window_of (numbers_of O.number offsets.now) text.old.bytes)
-        → text.new ≡ after_whole_test (after_ascii text.old) }
+    ensures exact { ReadsOnceFor CutTexts (numbers_of O.number offsets.now) text.old text.new }
+    ensures rejected { StopsAfterAscii IsWellFormed (numbers_of O.number offsets.now) text.old text.new }
 {
     check_text(offsets, text)
 }

@@ -2,6 +2,7 @@ mod AgreeLemmas
 pub mod CallerLemmas
 pub mod ColumnLemmas
 mod CutLemmas
+mod EqualityLemmas
 mod RangeLemmas
 mod RowLemmas
 mod SlotLemmas

@@ -2,7 +2,7 @@
 use Rattle.std.proofs.Common.{length-append, ◌≡◌, ℕ, zero, suc, ◌+◌, ◌-◌, ◌<◌, Bool, true, false, not, ◌&&◌, ◌||◌}
 use Rattle.std.proofs.Common.{length-take, length-drop, cond, IsTrue, if◌then◌else◌, List, [], ◌∷◌, ◌++◌, length}
 use Rattle.std.proofs.Common.{map, take, drop, min, replicate, count_by, slice_get, slice_set, Option, Some, None}
-use Rattle.std.proofs.Common.{Result, Ok, Err, OnOk, option_map, option_and_then, IfSome, unwrap_or, subst, is_some}
+use Rattle.std.proofs.Common.{Result, Ok, Err, OnOk, option_map, option_and_then, IfSome, unwrap_or, is_some}
 use Rattle.std.proofs.Common.{IfNone, refl, sym, ap, ap₂, ◌∙◌, zero-add, arith}
 use Rattle.std.specs.List.{zip, list_all}
 use Rattle.std.proofs.lemmas.Bool.{true≢false}

@@ -1,9 +1,9 @@
 -- Lemmas about what the slots of appended rows and of cuts show.
 use Rattle.std.proofs.Common.{◌≡◌, ℕ, zero, suc, ◌+◌, ◌-◌, ◌<◌, ◌≤◌, Bool, true, false, if◌then◌else◌, List, [], ◌∷◌}
-use Rattle.std.proofs.Common.{◌++◌, length, map, take, drop, replicate, slice_get, Option, Some, None, option_map}
+use Rattle.std.proofs.Common.{◌++◌, length, map, take, drop, replicate, slice_get, Option, Some, None}
 use Rattle.std.proofs.Common.{refl, sym, ap, ◌∙◌, arith, append_assoc, zero-add}
 use Rattle.std.proofs.lemmas.List.{map-append, append-nil, length-map, take-map, drop-map}
-use Rattle.std.proofs.lemmas.Option.{slice_get-map, slice_get_within}
+use Rattle.std.proofs.lemmas.Option.{slice_get_within}
 use Rattle.arrow_memory.proofs.CallerLemmas.{length-piece}
 use Rattle.arrow_memory.specs.Rows.{FitsMask, Row, rows_of, slot}
 use Rattle.arrow_column.specs.Column.{ColumnWith, append_slot, append_slots, slots_of}

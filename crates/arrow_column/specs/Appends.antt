@@ -1,10 +1,12 @@
--- Slots and items that are appended one after the other, where any growth may be refused: `overflows` says which
--- item is more
--- than can be counted, `shown` what is stored of an item, and `default` what a null stores.
-use Rattle.std.specs.Prelude.{◌≡◌, Bool, true, List, ◌∷◌, ◌++◌, map, Option, Some, option_map}
-use Rattle.std.specs.Iterator.{Drains, YieldsThen}
+-- Slots and items that are appended one after the other, where any growth may fail: `overflows` says which item
+-- is more than can be counted, `shown` what is stored of an item, and `default` what a null stores.
+use Rattle.std.specs.Prelude.{◌≡◌, Bool, true, List, ◌∷◌, ◌++◌, map, Option, None, Some, option_map}
+use Rattle.std.specs.Iterator.{Drains, Yields, YieldsThen}
+use Rattle.arrow_types.specs.Types.{LogicalType}
 use Rattle.arrow_types.specs.declared.error.Error.{Error}
-use Rattle.arrow_column.specs.Column.{ColumnWith, append_slots, refused_growth, slot_overflows, slots_fit}
+use Rattle.arrow_types.specs.declared.error.Error.TheVariants as error
+use Rattle.arrow_column.specs.Column.{Column, ColumnWith, append_slots, array_of_slots, column_of_parts, refused_growth}
+use Rattle.arrow_column.specs.Column.{slot_overflows, slots_fit}
 use Rattle.arrow_column.specs.Column.{stored_values, without_needless_mask}
 
 module _ {A S X : Type 0} (overflows : A → List S → X → Bool) (shown : X → S) (default : S) where
@@ -17,7 +19,7 @@ module _ {A S X : Type 0} (overflows : A → List S → X → Bool) (shown : X �
   AppendsItems old items new = (slots_fit overflows shown default old (map Some items) ≡ true)
       × (new ≡ append_slots default old (map (λ x. Some (shown x)) items))
 
-  -- an array of all of these behind those of a column, which holds a mask exactly where a slot is null
+  -- an array of the slots of a column followed by these, which holds a mask exactly if a slot is null
   abbrev pub FreezesSlots : ColumnWith A S → List (Option X) → ColumnWith A S → Type 0
   FreezesSlots old slots array =
       (slots_fit overflows shown default old slots ≡ true)
@@ -63,7 +65,7 @@ module _ {A S X : Type 0} (overflows : A → List S → X → Bool) (shown : X �
       × (slots_fit overflows shown default old (map Some begun) ≡ true)
       × (slot_overflows overflows (append_slots default old (map (λ x. Some (shown x)) begun)) (Some last) ≡ true)
 
-  -- the same of what an iterator gives, which may give more than it is asked for
+  -- the same of what an iterator gives, which may have more left
   module _ {I : Type 0} where
     abbrev pub ExtendsBySlots : (I → Option (Option X) → I → Type 0) → I → ColumnWith A S → ColumnWith A S → Type 0
     ExtendsBySlots gives iter old new = (slots : List (Option X)) × Drains gives iter slots × AppendsSlots old slots new
@@ -97,3 +99,37 @@ module _ {A S X : Type 0} (overflows : A → List S → X → Bool) (shown : X �
         (begun : List X) × (last : X) × (rest : I) × YieldsThen gives iter begun (Some last) rest
         × (slots_fit overflows shown default old (map Some begun) ≡ true)
         × (slot_overflows overflows (append_slots default old (map (λ x. Some (shown x)) begun)) (Some last) ≡ true)
+
+-- what an iterator gives is appended to a column that never overflows
+module _ {A S I : Type 0} (default : S) where
+  -- all its slots
+  abbrev pub ExtendsAll : (I → Option (Option S) → I → Type 0) → I → ColumnWith A S → ColumnWith A S → Type 0
+  ExtendsAll gives iter old new = (items : List (Option S)) × Drains gives iter items
+      × (new ≡ append_slots default old items)
+
+  -- the slots that it gave before an allocation failed
+  abbrev pub ExtendsUntil : (I → Option (Option S) → I → Type 0) → I → ColumnWith A S → ColumnWith A S → Error → Type 0
+  ExtendsUntil gives iter old new e = (e ≡ error.OutOfMemory) × ((begun : List (Option S)) × (rest : I)
+      × Yields gives iter begun rest × (new ≡ append_slots default old begun))
+
+  -- all its values, in valid slots
+  abbrev pub ExtendsAllValues : (I → Option S → I → Type 0) → I → ColumnWith A S → ColumnWith A S → Type 0
+  ExtendsAllValues gives iter old new = (items : List S) × Drains gives iter items
+      × (new ≡ append_slots default old (map Some items))
+
+  -- the values that it gave before an allocation failed
+  abbrev pub ExtendsValuesUntil : (I → Option S → I → Type 0) → I → ColumnWith A S → ColumnWith A S → Error → Type 0
+  ExtendsValuesUntil gives iter old new e = (e ≡ error.OutOfMemory) × ((begun : List S) × (rest : I)
+      × Yields gives iter begun rest × (new ≡ append_slots default old (map Some begun)))
+
+-- an array of this type is all that an iterator gives
+module _ {S I : Type 0} where
+  -- the array of this type of all slots that an iterator gives, which holds a mask exactly if one is null
+  abbrev pub CollectsSlots : S → LogicalType → (I → Option (Option S) → I → Type 0) → I → Column S → Type 0
+  CollectsSlots default t gives iter array = (items : List (Option S)) × Drains gives iter items
+      × (array ≡ array_of_slots default t items)
+
+  -- the array of this type of all values that an iterator gives, without a mask
+  abbrev pub CollectsValues : LogicalType → (I → Option S → I → Type 0) → I → Column S → Type 0
+  CollectsValues t gives iter array = (items : List S) × Drains gives iter items
+      × (array ≡ column_of_parts t items None)

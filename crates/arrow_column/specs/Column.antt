@@ -1,6 +1,6 @@
--- A column: what an array or a builder is, apart from how it is kept.
+-- A column: what contracts see of an array or a builder, without its memory.
 use Rattle.std.specs.Prelude.{⊤, ◌≡◌, ◌||◌, ◌&&◌, slice_set, option_map, ℕ, ◌-◌, ◌≤◌, Bool, true, false}
-use Rattle.std.specs.Prelude.{not, List, [], ◌∷◌, ◌++◌, length, map, take, drop, Option, Some, None}
+use Rattle.std.specs.Prelude.{replicate, not, List, [], ◌∷◌, ◌++◌, length, map, take, drop, Option, Some, None}
 use Rattle.std.specs.Prelude.{option_and_then, is_some, slice_get, codes, if◌then◌else◌, IsTrue}
 use Rattle.std.specs.List.{fold, list_all, zip}
 use Rattle.arrow_types.specs.Types.{LogicalType, Refusal, out_of_spec}
@@ -16,7 +16,7 @@ unfit_mask = out_of_spec (codes "validity mask length must match the number of v
 abbrev pub unfit_builder_mask : Refusal
 unfit_builder_mask = out_of_spec (codes "validity's length must be equal to the number of values")
 
--- a column whose slots each store an S: its type, what is kept around the stored values, its rows in order, and
+-- a column whose slots each store an S: its type, what lies around the stored values, its rows in order, and
 -- whether a mask is held
 pub record ColumnWith (A S : Type 0) : Type 0 where
   pub data_type : LogicalType
@@ -42,6 +42,10 @@ column_with t around values mask = record {
 -- the same with nothing around the stored values
 abbrev pub column_of_parts : {S : Type 0} → LogicalType → List S → Option (List Bool) → Column S
 column_of_parts t values mask = column_with t tt values mask
+
+-- the column of these values without a mask
+abbrev pub unmasked : {A S : Type 0} → LogicalType → A → List S → ColumnWith A S
+unmasked t around values = column_with t around values None
 
 -- the stored values, those under nulls too
 abbrev pub stored_values : {A S : Type 0} → ColumnWith A S → List S
@@ -71,11 +75,19 @@ IsColumn column = column.held ≡ false → IsTrue (all_valid column)
 abbrev pub empty_column : {S : Type 0} → LogicalType → Column S
 empty_column t = column_of_parts t [] None
 
--- n rows are there from place a on
+-- a column of this type with no slot, but a mask
+abbrev pub empty_masked : {S : Type 0} → LogicalType → Column S
+empty_masked t = column_of_parts t [] (Some [])
+
+-- the column of n null slots, which store the default
+abbrev pub null_column : {A S : Type 0} → LogicalType → A → S → ℕ → ColumnWith A S
+null_column t around default n = column_with t around (replicate n default) (Some (replicate n false))
+
+-- there are n rows from index a on
 abbrev pub FitsCut : {A S : Type 0} → ColumnWith A S → ℕ → ℕ → Type 0
 FitsCut column a n = (a ≤ length column.rows) × (n ≤ length column.rows - a)
 
--- the n rows from place a on; the type stays, and so does whether a mask is held; what is then around the stored
+-- the n rows from index a on; the type stays, and so does whether a mask is held; what is then around the stored
 -- values depends on what was around them, on them, a and n
 abbrev pub cut_with : {A S : Type 0} → (A → List S → ℕ → ℕ → A) → ColumnWith A S → ℕ → ℕ → ColumnWith A S
 cut_with around column a n = record column {
@@ -117,11 +129,35 @@ append_values column values = record column { rows = column.rows ++ rows_of valu
 abbrev pub append_nulls : {A S : Type 0} → ColumnWith A S → List S → ColumnWith A S
 append_nulls column values = record column { rows = column.rows ++ map (λ value. (value, false)) values; held = true }
 
--- the rows of another column behind those of the first; a mask is held where either held one
+-- one more slot; shown is what is stored of an item
+abbrev pub push_slot : {A S X : Type 0} → (X → S) → S → ColumnWith A S → Option X → ColumnWith A S
+push_slot shown default column x = append_slot default column (option_map shown x)
+
+-- one more valid slot; shown is what is stored of an item
+abbrev pub push_item : {A S X : Type 0} → (X → S) → S → ColumnWith A S → X → ColumnWith A S
+push_item shown default column x = append_slot default column (Some (shown x))
+
+-- more valid slots, one after the other; shown is what is stored of an item
+abbrev pub push_items : {A S X : Type 0} → (X → S) → S → ColumnWith A S → List X → ColumnWith A S
+push_items shown default column xs = append_slots default column (map (λ x. Some (shown x)) xs)
+
+-- the array of these slots, which holds a mask exactly if one is null
+abbrev pub array_of_slots : {S : Type 0} → S → LogicalType → List (Option S) → Column S
+array_of_slots default t slots = without_needless_mask (append_slots default (empty_masked t) slots)
+
+-- n null slots more, one after the other
+abbrev pub push_nulls : {A S : Type 0} → S → ColumnWith A S → ℕ → ColumnWith A S
+push_nulls default column n = append_slots default column (replicate n None)
+
+-- the same column with a mask
+abbrev pub masked : {A S : Type 0} → ColumnWith A S → ColumnWith A S
+masked column = record column { held = true }
+
+-- the rows of the first column followed by those of another; a mask is held if either held one
 abbrev pub joined : {A B S : Type 0} → ColumnWith A S → ColumnWith B S → ColumnWith A S
 joined column other = record column { rows = column.rows ++ other.rows; held = column.held || other.held }
 
--- another slot at a place: a null stores the default, and a mask is held from then on
+-- another slot at index i: a null stores the default, and a mask is held from then on
 abbrev pub with_slot : {A S : Type 0} → S → ColumnWith A S → ℕ → Option S → ColumnWith A S
 with_slot default column i (Some x) = record column { rows = slice_set column.rows i (x, true) }
 with_slot default column i None = record column { rows = slice_set column.rows i (default, false); held = true }
@@ -147,6 +183,10 @@ with_type column t = record column { data_type = t }
 -- why a growth was refused: there would be more than can be counted, or else for memory
 abbrev pub refused_growth : Bool → Error
 refused_growth overflows = if overflows then error.Overflow else error.OutOfMemory
+
+-- whether a column overflows by what is appended: a test of what lies around its stored values, of these and of that
+abbrev pub column_overflows : {A S X : Type 0} → (A → List S → X → Bool) → ColumnWith A S → X → Bool
+column_overflows overflows column more = overflows column.around (stored_values column) more
 
 -- whether one more slot is more than can be counted; a null never is
 abbrev pub slot_overflows : {A S X : Type 0} → (A → List S → X → Bool) → ColumnWith A S → Option X → Bool

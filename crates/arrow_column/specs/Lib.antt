@@ -1,6 +1,11 @@
-pub mod Acceptance
+pub mod Validation
 pub mod Column
+pub mod Changes
+pub mod Slots
 pub mod Growth
 pub mod Masks
 pub mod SlotEquality
 pub mod Appends
+pub mod ArrayEquality
+pub mod SlotText
+pub mod SlotOrder

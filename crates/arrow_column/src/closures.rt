@@ -1,10 +1,11 @@
 //! Changes of columns by closures.
-ghost use Rattle.std.specs.Prelude.{◌≡◌, List, Bool, Some, length, IfSome, IsTrue, MatchOption, OnOk, IfErr, vec_len};
+ghost use Rattle.std.specs.Prelude.{◌≡◌, List, Bool, length, IfSome, IsTrue, OnOk};
 ghost use Rattle.std.specs.Bool.{OnFalse};
 ghost use Rattle.std.specs.Borrow.{MutBor};
 ghost use Rattle.std.specs.Fn.{FnOnceReturnsAtMut};
 ghost use Rattle.arrow_types.specs.Failures.{OutOfMemoryKeeps};
-ghost use Rattle.arrow_column.specs.Column.{mask_of, stored_values, with_mask, with_stored};
+ghost use Rattle.arrow_column.specs.Column.{mask_of, stored_values};
+ghost use Rattle.arrow_column.specs.Changes.{ChangesMask, ReplacesStored, WritesStored, KeepsCount, ReplacesVec};
 
 use crate::values::{MutableValues, Values};
 use crate::{FrozenColumn, GrowingColumn};
@@ -21,9 +22,7 @@ impl<V: Values> FrozenColumn<V> {
         requires callable { IfSome (mask_of self.old) (λ marks. F.pre change marks) }
         requires keeps { IfSome (mask_of self.old) (λ marks. (changed : List Bool) → F.post change marks changed
             → length changed ≡ length marks) }
-        ensures { MatchOption (mask_of self.old) (self.new ≡ self.old) (λ marks. (changed : List Bool)
-            × F.post change marks changed × (length changed ≡ length marks)
-            × (self.new ≡ with_mask self.old (Some changed))) }
+        ensures { ChangesMask (F.post change) self.old self.new }
     {
         if let Some(validity) = self.validity.take() {
             self.validity = Some(change(validity));
@@ -38,9 +37,7 @@ impl<V: MutableValues> GrowingColumn<V> {
         requires callable { IfSome (mask_of self.old) (λ marks. F.pre change marks) }
         requires keeps { IfSome (mask_of self.old) (λ marks. (changed : List Bool) → F.post change marks changed
             → length changed ≡ length marks) }
-        ensures { MatchOption (mask_of self.old) (self.new ≡ self.old) (λ marks. (changed : List Bool)
-            × F.post change marks changed × (length changed ≡ length marks)
-            × (self.new ≡ with_mask self.old (Some changed))) }
+        ensures { ChangesMask (F.post change) self.old self.new }
     {
         if let Some(validity) = self.validity.take() {
             self.validity = Some(change(validity));
@@ -53,11 +50,8 @@ impl<T: NativeType> GrowingColumn<Vec<T>> {
     /// Replaces the stored values by what the closure returns for them. The marks stay.
     pub fn apply_values<F: Fn(Vec<T>) -> Vec<T>>(&mut self, change: F)
         requires callable { (values : _) → values.items ≡ stored_values self.old → F.pre change values }
-        requires keeps { (values changed : _) → values.items ≡ stored_values self.old → F.post change values changed
-            → vec_len changed ≡ length self.old.rows }
-        ensures { (values : _) × (changed : _) × (values.items ≡ stored_values self.old)
-            × F.post change values changed × (vec_len changed ≡ length self.old.rows)
-            × (self.new ≡ with_stored self.old changed.items) }
+        requires keeps { KeepsCount (F.post change) self.old }
+        ensures { ReplacesVec (F.post change) self.old self.new }
     {
         let alloc = *self.values.allocator();
         let values = mem::replace(&mut self.values, Vec::new(alloc));
@@ -70,9 +64,7 @@ impl<T: NativeType> FrozenColumn<Buffer<T>> {
     /// Calls `change` on the stored values if they are not shared, and returns whether it did.
     pub fn get_mut_values<F: FnOnce(&mut [T]) + Drop>(&mut self, change: F) -> bool
         requires { (values : MutBor (List T)) → values.now ≡ stored_values self.old → F.pre change values }
-        ensures changed { IsTrue result
-            → (ws : List T) × FnOnceReturnsAtMut F.FnOnce change (stored_values self.old) tt ws
-            × (length ws ≡ length self.old.rows) × (self.new ≡ with_stored self.old ws) }
+        ensures changed { IsTrue result → WritesStored (FnOnceReturnsAtMut F.FnOnce change) self.old self.new }
         ensures unchanged { OnFalse result (self.new ≡ self.old) }
     {
         self.values.get_mut_slice(change)
@@ -81,7 +73,7 @@ impl<T: NativeType> FrozenColumn<Buffer<T>> {
 
 #[tactic(auto, using(crate::proofs::RowLemmas::row_steps))]
 impl FrozenColumn<Bitmap> {
-    /// Replaces the stored truth values by what the closure returns for them. Shared values are
+    /// Replaces the stored booleans by what the closure returns for them. Shared values are
     /// copied first. The marks stay. All memory is allocated before the closure is called.
     ///
     /// # Errors
@@ -94,8 +86,7 @@ impl FrozenColumn<Bitmap> {
         requires callable { F.pre change (stored_values self.old) }
         requires keeps { (changed : List Bool) → F.post change (stored_values self.old) changed
             → length changed ≡ length self.old.rows }
-        ensures ok { OnOk result ((changed : List Bool) × F.post change (stored_values self.old) changed
-            × (length changed ≡ length self.old.rows) × (self.new ≡ with_stored self.old changed)) }
+        ensures ok { OnOk result (ReplacesStored (F.post change) self.old self.new) }
         ensures err { OutOfMemoryKeeps result self.old self.new }
     {
         self.values.apply_mut(change)?;

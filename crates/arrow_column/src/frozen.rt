@@ -1,11 +1,12 @@
 //! Immutable columns, of which arrays are made.
-ghost use Rattle.std.specs.Prelude.{IsTrue, None, ◌≡◌, ◌==◌, ◌-◌, ◌<◌, length, not, count_by, slice_get, Some};
+ghost use Rattle.std.specs.Prelude.{IsTrue, None, ◌≡◌, ◌==◌, ◌<◌, length, not, count_by, slice_get, Some};
 ghost use Rattle.std.specs.Prelude.{IfSome, map, take, drop};
 ghost use Rattle.std.specs.Option.{option_copied};
 ghost use Rattle.arrow_types.specs.Types.{logical_type};
 ghost use Rattle.arrow_memory.specs.Rows.{FitsMask, rows_of, slot};
 ghost use Rattle.arrow_column.specs.Column.{slots_of, ColumnWith, FitsCut, IsColumn, column_with, cut_with};
 ghost use Rattle.arrow_column.specs.Column.{marks_of, mask_of, stored_values, with_mask, with_type};
+ghost use Rattle.arrow_column.specs.Slots.{ShowsStored};
 
 use crate::mask::slice_mask;
 use crate::values::Values;
@@ -162,8 +163,7 @@ impl<V: Values> FrozenColumn<V> {
         requires { i < length self.now.rows }
         ensures mark { slice_get (marks_of self.now) i ≡ Some (not result) }
         ensures null { IsTrue result → slice_get (slots_of self.now) i ≡ Some None }
-        ensures valid { IsTrue (not result) → (value : V.Stored) → slice_get (stored_values self.now) i ≡ Some value
-            → slice_get (slots_of self.now) i ≡ Some (Some value) }
+        ensures valid { IsTrue (not result) → ShowsStored self.now i }
     {
         !self.is_valid(i)
     }

@@ -1,6 +1,6 @@
 //! Growth of columns by many slots at once.
-ghost use Rattle.arrow_column.specs.Column.{append_nulls, append_values, cut_with, FitsCut, joined, stored_values};
-ghost use Rattle.arrow_column.specs.Growth.{Grows, GrowthKeeps};
+ghost use Rattle.arrow_column.specs.Column.{append_nulls, append_values, cut_with, FitsCut, column_overflows};
+ghost use Rattle.arrow_column.specs.Growth.{Grows, GrowthKeeps, JoinGrows, JoinKeeps};
 
 use crate::mask::{extend_null_marks, extend_valid_marks, join_marks, join_marks_of_range};
 use crate::values::{Grow, GrowFrom, MutableValues, Values};
@@ -20,10 +20,9 @@ impl<V: MutableValues> GrowingColumn<V> {
     pub fn grow_valid<X>(&mut self, values: X) -> Result<(), Error>
     where
         V: Grow<X>,
-        ensures ok { Grows result (V.overgrows self.old.around (stored_values self.old) values)
-            self.new (append_values self.old (V.given values)) }
-        ensures err { GrowthKeeps result (V.overgrows self.old.around (stored_values self.old) values)
-            self.old self.new }
+        ensures ok { Grows result (column_overflows V.overgrows self.old values) self.new
+            (append_values self.old (V.given values)) }
+        ensures err { GrowthKeeps result (column_overflows V.overgrows self.old values) self.old self.new }
     {
         let before = self.values.count();
         let count = self.values.grow(values)?;
@@ -43,10 +42,9 @@ impl<V: MutableValues> GrowingColumn<V> {
     pub fn grow_null<X>(&mut self, values: X) -> Result<(), Error>
     where
         V: Grow<X>,
-        ensures ok { Grows result (V.overgrows self.old.around (stored_values self.old) values)
-            self.new (append_nulls self.old (V.given values)) }
-        ensures err { GrowthKeeps result (V.overgrows self.old.around (stored_values self.old) values)
-            self.old self.new }
+        ensures ok { Grows result (column_overflows V.overgrows self.old values) self.new
+            (append_nulls self.old (V.given values)) }
+        ensures err { GrowthKeeps result (column_overflows V.overgrows self.old values) self.old self.new }
     {
         let before = self.values.count();
         let alloc = self.values.allocated_by();
@@ -69,10 +67,8 @@ impl<V: MutableValues> GrowingColumn<V> {
     ///
     /// The column is unchanged on an error.
     pub fn try_extend_from_self(&mut self, other: &Self) -> Result<(), Error>
-        ensures ok { Grows result (V.join_overflows self.old.around (stored_values self.old) (stored_values other.now))
-            self.new (joined self.old other.now) }
-        ensures err { GrowthKeeps result
-            (V.join_overflows self.old.around (stored_values self.old) (stored_values other.now)) self.old self.new }
+        ensures ok { JoinGrows result V.join_overflows self.old other.now self.new }
+        ensures err { JoinKeeps result V.join_overflows self.old other.now self.new }
     {
         let before = self.values.count();
         let alloc = self.values.allocated_by();
@@ -106,12 +102,8 @@ impl<V: MutableValues> GrowingColumn<V> {
     where
         V: GrowFrom<F>,
         requires { FitsCut other.now offset len }
-        ensures ok { let added = cut_with F.cut_around other.now offset len in
-            Grows result (V.join_overflows self.old.around (stored_values self.old) (stored_values added))
-            self.new (joined self.old added) }
-        ensures err { let added = cut_with F.cut_around other.now offset len in
-            GrowthKeeps result (V.join_overflows self.old.around (stored_values self.old) (stored_values added))
-            self.old self.new }
+        ensures ok { JoinGrows result V.join_overflows self.old (cut_with F.cut_around other.now offset len) self.new }
+        ensures err { JoinKeeps result V.join_overflows self.old (cut_with F.cut_around other.now offset len) self.new }
     {
         let before = self.values.count();
         let alloc = self.values.allocated_by();

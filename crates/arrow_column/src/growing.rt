@@ -1,14 +1,16 @@
 //! Growing columns, of which builders are made.
 ghost use Rattle.std.specs.Prelude.{IsTrue, slice_get, not, is_some, count_by, ◌≡◌, ◌==◌, ◌<◌, ◌-◌, length, Some};
-ghost use Rattle.std.specs.Prelude.{None, OnOk, IfOk, IfErr, IfSome, option_map};
+ghost use Rattle.std.specs.Prelude.{None, OnOk, IfOk, IfSome};
 ghost use Rattle.std.specs.Option.{option_copied};
 ghost use Rattle.arrow_types.specs.Failures.{OnlyOutOfMemory, OutOfMemoryKeeps};
 ghost use Rattle.arrow_types.specs.Types.{logical_type};
 ghost use Rattle.arrow_memory.specs.Rows.{FitsMask, rows_of};
 ghost use Rattle.arrow_column.specs.Column.{slots_of, all_valid, marks_of, slot_overflows, IsColumn, append_slot};
+ghost use Rattle.arrow_column.specs.Column.{push_slot, push_item, column_overflows};
 ghost use Rattle.arrow_column.specs.Column.{column_with, last_slot, mask_of, stored_values};
 ghost use Rattle.arrow_column.specs.Column.{with_mask, with_type, without_last};
 ghost use Rattle.arrow_column.specs.Growth.{Grows, GrowthKeeps};
+ghost use Rattle.arrow_column.specs.Slots.{ShowsStored, LastShowsStored};
 
 use crate::mask::{freeze_mask, pop_mark, push_null_mark, push_valid};
 use crate::values::{MutableValues, PushValue};
@@ -177,10 +179,9 @@ impl<V: MutableValues> GrowingColumn<V> {
     where
         V: PushValue<X>,
         ensures data_type { self.new.data_type ≡ self.old.data_type }
-        ensures ok { Grows result (V.overflows self.old.around (stored_values self.old) value)
-            self.new (append_slot V.default self.old (Some (V.shown value))) }
-        ensures err { GrowthKeeps result (V.overflows self.old.around (stored_values self.old) value)
-            self.old self.new }
+        ensures ok { Grows result (column_overflows V.overflows self.old value) self.new
+            (push_item V.shown V.default self.old value) }
+        ensures err { GrowthKeeps result (column_overflows V.overflows self.old value) self.old self.new }
     {
         let before = self.values.count();
         self.values.push_value(value)?;
@@ -205,8 +206,8 @@ impl<V: MutableValues> GrowingColumn<V> {
     where
         V: PushValue<X>,
         ensures data_type { self.new.data_type ≡ self.old.data_type }
-        ensures ok { Grows result (slot_overflows V.overflows self.old slot)
-            self.new (append_slot V.default self.old (option_map V.shown slot)) }
+        ensures ok { Grows result (slot_overflows V.overflows self.old slot) self.new
+            (push_slot V.shown V.default self.old slot) }
         ensures err { GrowthKeeps result (slot_overflows V.overflows self.old slot) self.old self.new }
     {
         match slot {
@@ -221,9 +222,7 @@ impl<V: MutableValues> GrowingColumn<V> {
         requires { 0 < length self.old.rows }
         ensures mark { slice_get (marks_of self.old) (length self.old.rows - 1) ≡ Some result }
         ensures null { IsTrue (not result) → last_slot self.old ≡ None }
-        ensures valid { IsTrue result → (value : V.Stored)
-            → slice_get (stored_values self.old) (length self.old.rows - 1) ≡ Some value
-            → last_slot self.old ≡ Some value }
+        ensures valid { IsTrue result → LastShowsStored self.old }
         ensures rest { self.new ≡ without_last self.old }
     {
         self.values.drop_last();
@@ -248,8 +247,7 @@ impl<V: MutableValues> GrowingColumn<V> {
         requires { i < length self.now.rows }
         ensures mark { slice_get (marks_of self.now) i ≡ Some (not result) }
         ensures null { IsTrue result → slice_get (slots_of self.now) i ≡ Some None }
-        ensures valid { IsTrue (not result) → (value : V.Stored) → slice_get (stored_values self.now) i ≡ Some value
-            → slice_get (slots_of self.now) i ≡ Some (Some value) }
+        ensures valid { IsTrue (not result) → ShowsStored self.now i }
     {
         !self.is_valid(i)
     }

@@ -1,24 +1,27 @@
 //! Laws of columns, stated over the definitions for all values. Each is the contract of a function
 //! with an empty body.
 ghost use Rattle.std.specs.Prelude.{true, false, not, replicate, ◌<◌, ◌||◌, is_some, ◌≡◌, ℕ, ◌+◌, ◌≤◌, Bool, []};
-ghost use Rattle.std.specs.Prelude.{List, Option, Some, None, length, map, slice_get, option_map, if◌then◌else◌};
+ghost use Rattle.std.specs.Prelude.{List, Option, Some, None, length, map, slice_get};
 ghost use Rattle.std.specs.Prelude.{take, drop};
 ghost use Rattle.std.specs.Prelude.{◌↔◌, ◌++◌, ◌∷◌, IsTrue, IsNone};
 ghost use Rattle.arrow_types.specs.Types.{LogicalType};
 ghost use Rattle.arrow_memory.specs.Rows.{FitsMask, rows_of};
-ghost use Rattle.arrow_column.specs.Column.{Column, ColumnWith, cut, append_nulls, append_slots, append_values, column_with};
+ghost use Rattle.arrow_column.specs.Column.{Column, ColumnWith, cut, append_nulls, append_slots, append_values};
+ghost use Rattle.arrow_column.specs.Column.{column_with, unmasked, push_items, push_nulls, masked};
 ghost use Rattle.arrow_column.specs.Column.{cut_with, joined, with_mask, with_slot, with_stored, with_type};
 ghost use Rattle.arrow_column.specs.Column.{FitsCut, mask_of, marks_of, slots_of, stored_values, all_valid};
 ghost use Rattle.arrow_column.specs.Column.{IsColumn, append_slot, last_slot, without_last, without_needless_mask};
+ghost use Rattle.arrow_column.specs.Slots.{AgreesFrom, mark_of, StoresAt, ShowsAt, ShowsByMarks, ShowsByMask};
+ghost use Rattle.arrow_column.specs.Slots.{ShowsUnmasked, ForParts, ForFitParts, PartsShown, NullsShown, ForCuts};
+ghost use Rattle.arrow_column.specs.Slots.{CutTwiceIsOnce};
+ghost use Rattle.arrow_column.specs.SlotOrder.{first_slots};
 
 use crate::Values;
 
 /// A cut of a cut is one cut, of the rows and of what lies around them, for stored values of every
 /// kind.
 pub fn cut_of_cut<V: Values>()
-    ensures { (column : ColumnWith V.Around V.Stored) (a n b m : ℕ) → FitsCut column a n
-        → FitsCut (cut_with V.cut_around column a n) b m
-        → cut_with V.cut_around (cut_with V.cut_around column a n) b m ≡ cut_with V.cut_around column (a + b) m }
+    ensures { (c : ColumnWith V.Around V.Stored) → CutTwiceIsOnce V.cut_around c }
 {}
 
 /// An empty cut fits at every place up to the length, and has no row.
@@ -31,8 +34,8 @@ pub fn empty_cut<A, S>()
 /// The bits of a mask are the marks in order.
 pub fn mask_bits<A, S>()
     ensures whole { (column : ColumnWith A S) (mask : List Bool) → mask_of column ≡ Some mask → mask ≡ marks_of column }
-    ensures at_place { (column : ColumnWith A S) (mask : List Bool) (i : ℕ) → mask_of column ≡ Some mask
-        → slice_get mask i ≡ option_map (λ row. row.1) (slice_get column.rows i) }
+    ensures at_place { (c : ColumnWith A S) (mask : List Bool) (i : ℕ) → mask_of c ≡ Some mask
+        → slice_get mask i ≡ mark_of c i }
 {}
 
 /// If no mask is held, every mark is set and no slot is null.
@@ -53,16 +56,15 @@ pub fn rows_by_parts<A, S>()
 /// same column.
 pub fn parts_again<A, S>()
     ensures fits { (column : ColumnWith A S) → FitsMask (stored_values column) (mask_of column) }
-    ensures same { (column : ColumnWith A S) → IsColumn column
-        → column_with column.data_type column.around (stored_values column) (mask_of column) ≡ column }
+    ensures same { (c : ColumnWith A S) → IsColumn c → column_with c.data_type c.around (stored_values c) (mask_of c)
+        ≡ c }
 {}
 
 /// When a mask is held: as given with the parts or set; after a null is appended or written; in a
 /// column of joined rows if either held one; in a frozen column exactly if a slot is null. Other
 /// changes leave it as it was.
 pub fn held_masks<A, S>()
-    ensures parts { (t : LogicalType) (around : A) (values : List S) (mask : Option (List Bool))
-        → (column_with t around values mask).held ≡ is_some mask }
+    ensures parts { ForParts A S (λ c values mask. c.held ≡ is_some mask) }
     ensures set { (column : ColumnWith A S) (mask : Option (List Bool)) → (with_mask column mask).held ≡ is_some mask }
     ensures null { (default : S) (column : ColumnWith A S) → (append_slot default column None).held ≡ true }
     ensures nulls { (column : ColumnWith A S) (values : List S) → (append_nulls column values).held ≡ true }
@@ -73,8 +75,8 @@ pub fn held_masks<A, S>()
     ensures value { (default : S) (column : ColumnWith A S) (value : S)
         → (append_slot default column (Some value)).held ≡ column.held }
     ensures values { (column : ColumnWith A S) (values : List S) → (append_values column values).held ≡ column.held }
-    ensures value_in_place { (default : S) (column : ColumnWith A S) (i : ℕ) (value : S)
-        → (with_slot default column i (Some value)).held ≡ column.held }
+    ensures value_in_place { (default : S) (c : ColumnWith A S) (i : ℕ) (value : S)
+        → (with_slot default c i (Some value)).held ≡ c.held }
     ensures stored { (column : ColumnWith A S) (values : List S) → (with_stored column values).held ≡ column.held }
     ensures renamed { (column : ColumnWith A S) (t : LogicalType) → (with_type column t).held ≡ column.held }
     ensures shorter { (column : ColumnWith A S) → (without_last column).held ≡ column.held }
@@ -84,12 +86,8 @@ pub fn held_masks<A, S>()
 
 /// A slot is its stored value where its mark is set or no mask is held, and null otherwise.
 pub fn slot_by_value<A, S>()
-    ensures masked { (column : ColumnWith A S) (mask : List Bool) (i : ℕ) (value : S) (mark : Bool)
-        → mask_of column ≡ Some mask
-        → slice_get (stored_values column) i ≡ Some value → slice_get mask i ≡ Some mark
-        → slice_get (slots_of column) i ≡ Some (if mark then Some value else None) }
-    ensures bare { (column : ColumnWith A S) (i : ℕ) (value : S) → IsColumn column → mask_of column ≡ None
-        → slice_get (stored_values column) i ≡ Some value → slice_get (slots_of column) i ≡ Some (Some value) }
+    ensures masked { (c : ColumnWith A S) → ShowsByMask c }
+    ensures bare { (c : ColumnWith A S) → ShowsUnmasked c }
 {}
 
 /// A frozen column has no mask exactly if no slot is null.
@@ -101,23 +99,21 @@ pub fn freeze_drops_mask<A, S>()
 /// stored of items, and nulls, which store the default. Appending nulls at once holds a mask even
 /// if there are none.
 pub fn one_by_one<A, S, X>()
-    ensures values { (default : S) (column : ColumnWith A S) (values : List S)
-        → append_slots default column (map Some values) ≡ append_values column values }
-    ensures items { (shown : X → S) (default : S) (column : ColumnWith A S) (items : List X)
-        → append_slots default column (map (λ item. Some (shown item)) items)
-        ≡ append_values column (map shown items) }
-    ensures nulls { (default : S) (column : ColumnWith A S) (n : ℕ) → 0 < n
-        → append_slots default column (replicate n None) ≡ append_nulls column (replicate n default) }
-    ensures masked { (default : S) (column : ColumnWith A S) (n : ℕ)
-        → append_slots default (record column { held = true }) (replicate n None)
-        ≡ append_nulls column (replicate n default) }
+    ensures values { (default : S) (c : ColumnWith A S) (values : List S)
+        → append_slots default c (map Some values) ≡ append_values c values }
+    ensures items { (f : X → S) (default : S) (c : ColumnWith A S) (xs : List X)
+        → push_items f default c xs ≡ append_values c (map f xs) }
+    ensures nulls { (default : S) (c : ColumnWith A S) (n : ℕ) → 0 < n
+        → push_nulls default c n ≡ append_nulls c (replicate n default) }
+    ensures masked { (default : S) (c : ColumnWith A S) (n : ℕ)
+        → push_nulls default (masked c) n ≡ append_nulls c (replicate n default) }
 {}
 
 /// A column of values without a mask is an empty column to which they are appended, and it holds no
 /// needless mask.
 pub fn bare_column<A, S>()
-    ensures appended { (t : LogicalType) (around : A) (values : List S)
-        → append_values (column_with t around [] None) values ≡ column_with t around values None }
+    ensures appended { (t : LogicalType) (around : A) (xs : List S)
+        → append_values (unmasked t around []) xs ≡ unmasked t around xs }
     ensures needless { (column : ColumnWith A S) → IsColumn column → column.held ≡ false
         → without_needless_mask column ≡ column }
     ensures bare { (t : LogicalType) (around : A) (values : List S) → IsColumn (column_with t around values None) }
@@ -127,62 +123,55 @@ pub fn bare_column<A, S>()
 pub fn push_then_pop<A, S>()
     ensures slot { (default : S) (column : ColumnWith A S) (slot : Option S)
         → last_slot (append_slot default column slot) ≡ slot }
-    ensures rows { (default : S) (column : ColumnWith A S) (slot : Option S)
-        → (without_last (append_slot default column slot)).rows ≡ column.rows }
+    ensures rows { (default : S) (c : ColumnWith A S) (slot : Option S)
+        → (without_last (append_slot default c slot)).rows ≡ c.rows }
 {}
 
 /// The column of parts that fit: its stored values are the values, it has as many rows, and its
 /// marks are those of the mask, or all set if there is none.
 pub fn rows_of_parts<A, S>()
-    ensures is_column { (t : LogicalType) (around : A) (values : List S) (mask : Option (List Bool))
-        → IsColumn (column_with t around values mask) }
-    ensures values { (t : LogicalType) (around : A) (values : List S) (mask : Option (List Bool))
-        → FitsMask values mask → stored_values (column_with t around values mask) ≡ values }
-    ensures count { (t : LogicalType) (around : A) (values : List S) (mask : Option (List Bool))
-        → FitsMask values mask → length (column_with t around values mask).rows ≡ length values }
-    ensures mask { (t : LogicalType) (around : A) (values : List S) (mask : Option (List Bool))
-        → FitsMask values mask → mask_of (column_with t around values mask) ≡ mask }
-    ensures marks { (t : LogicalType) (around : A) (values : List S) (mask : Option (List Bool)) (marks : List Bool)
-        → FitsMask values mask → mask ≡ Some marks → marks_of (column_with t around values mask) ≡ marks }
-    ensures all_set { (t : LogicalType) (around : A) (values : List S) (mask : Option (List Bool)) → mask ≡ None
-        → marks_of (column_with t around values mask) ≡ replicate (length values) true }
+    ensures is_column { ForParts A S (λ c values mask. IsColumn c) }
+    ensures values { ForFitParts A S (λ c values mask. stored_values c ≡ values) }
+    ensures count { ForFitParts A S (λ c values mask. length c.rows ≡ length values) }
+    ensures mask { ForFitParts A S (λ c values mask. mask_of c ≡ mask) }
+    ensures marks { ForParts A S (λ c values mask. (marks : List Bool) → FitsMask values mask → mask ≡ Some marks
+        → marks_of c ≡ marks) }
+    ensures all_set { ForParts A S (λ c values mask. mask ≡ None → marks_of c ≡ replicate (length values) true) }
 {}
 
 /// The slots of the column of parts that fit: each value where its mark is set and a null
 /// elsewhere, and all values if there is no mask.
 pub fn slots_of_parts<A, S>()
-    ensures masked { (t : LogicalType) (around : A) (values : List S) (mask : Option (List Bool)) (marks : List Bool)
-        (i : ℕ) (value : S) (mark : Bool) → FitsMask values mask → mask ≡ Some marks
-        → slice_get values i ≡ Some value → slice_get marks i ≡ Some mark
-        → slice_get (slots_of (column_with t around values mask)) i ≡ Some (if mark then Some value else None) }
-    ensures null { (t : LogicalType) (around : A) (values : List S) (mask : Option (List Bool)) (marks : List Bool)
-        (i : ℕ) → FitsMask values mask → mask ≡ Some marks → slice_get marks i ≡ Some false
-        → slice_get (slots_of (column_with t around values mask)) i ≡ Some None }
-    ensures bare { (t : LogicalType) (around : A) (values : List S) (mask : Option (List Bool)) → mask ≡ None
-        → slots_of (column_with t around values mask) ≡ map Some values }
+    ensures masked { ForParts A S PartsShown }
+    ensures null { ForParts A S NullsShown }
+    ensures bare { ForParts A S (λ c values mask. mask ≡ None → slots_of c ≡ map Some values) }
 {}
 
 /// There is a slot for each row, and a slot that shows a value stores it.
 pub fn slots_by_rows<A, S>()
     ensures count { (column : ColumnWith A S) → length (slots_of column) ≡ length column.rows }
-    ensures stored { (column : ColumnWith A S) (i : ℕ) (value : S) → slice_get (slots_of column) i ≡ Some (Some value)
-        → slice_get (stored_values column) i ≡ Some value }
-    ensures by_mark { (column : ColumnWith A S) (i : ℕ) (value : S) (mark : Bool)
-        → slice_get (stored_values column) i ≡ Some value → slice_get (marks_of column) i ≡ Some mark
-        → slice_get (slots_of column) i ≡ Some (if mark then Some value else None) }
+    ensures stored { (c : ColumnWith A S) (i : ℕ) (value : S) → ShowsAt c i (Some value) → StoresAt c i value }
+    ensures by_mark { (c : ColumnWith A S) → ShowsByMarks c }
+{}
+
+/// A loop over all slots: those up to slot `i` and this one, and, once `i` has reached the number of rows, all of them.
+pub fn slots_in_order<A, S>()
+    ensures next { (c : ColumnWith A S) (i : ℕ) (x : Option S) → ShowsAt c i x
+        → first_slots c (i + 1) ≡ first_slots c i ++ x ∷ [] }
+    ensures all { (c : ColumnWith A S) (i : ℕ) → length c.rows ≤ i → first_slots c i ≡ slots_of c }
 {}
 
 /// A builder shows what was appended to it, behind what it showed before, and a frozen column shows
 /// what the builder did.
 pub fn appended_slots<A, S>()
-    ensures one { (default : S) (column : ColumnWith A S) (slot : Option S)
-        → slots_of (append_slot default column slot) ≡ slots_of column ++ slot ∷ [] }
-    ensures many { (default : S) (column : ColumnWith A S) (slots : List (Option S))
-        → slots_of (append_slots default column slots) ≡ slots_of column ++ slots }
-    ensures values { (column : ColumnWith A S) (values : List S)
-        → slots_of (append_values column values) ≡ slots_of column ++ map Some values }
-    ensures nulls { (column : ColumnWith A S) (values : List S)
-        → slots_of (append_nulls column values) ≡ slots_of column ++ replicate (length values) None }
+    ensures one { (default : S) (c : ColumnWith A S) (slot : Option S)
+        → slots_of (append_slot default c slot) ≡ slots_of c ++ slot ∷ [] }
+    ensures many { (default : S) (c : ColumnWith A S) (xs : List (Option S))
+        → slots_of (append_slots default c xs) ≡ slots_of c ++ xs }
+    ensures values { (c : ColumnWith A S) (values : List S)
+        → slots_of (append_values c values) ≡ slots_of c ++ map Some values }
+    ensures nulls { (c : ColumnWith A S) (values : List S)
+        → slots_of (append_nulls c values) ≡ slots_of c ++ replicate (length values) None }
     ensures frozen { (column : ColumnWith A S) → slots_of (without_needless_mask column) ≡ slots_of column }
 {}
 
@@ -195,14 +184,10 @@ pub fn joined_slots<A, B, S>()
 /// A cut that fits has as many rows as were asked for, and its slot `i` is slot `a + i` of the
 /// column, whatever lies around its stored values.
 pub fn cut_slots<A, S>()
-    ensures count { (around : A → List S → ℕ → ℕ → A) (column : ColumnWith A S) (a n : ℕ) → FitsCut column a n
-        → length (cut_with around column a n).rows ≡ n }
-    ensures slot { (around : A → List S → ℕ → ℕ → A) (column : ColumnWith A S) (a n i : ℕ) → i < n
-        → slice_get (slots_of (cut_with around column a n)) i ≡ slice_get (slots_of column) (a + i) }
-    ensures value { (around : A → List S → ℕ → ℕ → A) (column : ColumnWith A S) (a n i : ℕ) → i < n
-        → slice_get (stored_values (cut_with around column a n)) i ≡ slice_get (stored_values column) (a + i) }
-    ensures all { (around : A → List S → ℕ → ℕ → A) (column : ColumnWith A S) (a n : ℕ)
-        → slots_of (cut_with around column a n) ≡ take n (drop a (slots_of column)) }
+    ensures count { ForCuts A S (λ c a n piece. FitsCut c a n → length piece.rows ≡ n) }
+    ensures slot { ForCuts A S (λ c a n piece. AgreesFrom a n (slots_of c) (slots_of piece)) }
+    ensures value { ForCuts A S (λ c a n piece. AgreesFrom a n (stored_values c) (stored_values piece)) }
+    ensures all { ForCuts A S (λ c a n piece. slots_of piece ≡ take n (drop a (slots_of c))) }
 {}
 
 /// The same of a column with nothing around its stored values.

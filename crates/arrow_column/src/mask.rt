@@ -1,11 +1,12 @@
 //! Optional masks.
 ghost use Rattle.std.specs.Prelude.{IsTrue, ◌↔◌, slice_set, ◌≡◌, ◌<◌, true, false, [], ◌∷◌, ◌++◌, replicate, Some};
-ghost use Rattle.std.specs.Prelude.{option_map, unwrap_or, length, take, drop, ◌+◌, ◌≤◌, IfSome, OnOk, IfOk, IfErr};
+ghost use Rattle.std.specs.Prelude.{option_map, unwrap_or, length, take, drop, ◌+◌, ◌≤◌, IfSome, OnOk, IfOk};
 ghost use Rattle.std.specs.Prelude.{IsOk};
 ghost use Rattle.arrow_types.specs.Failures.{OnlyOutOfMemory, OutOfMemoryKeeps};
 ghost use Rattle.arrow_memory.specs.MarkWrites.{TakesLastMark};
 ghost use Rattle.arrow_memory.specs.Rows.{IsValidAt};
 ghost use Rattle.arrow_column.specs.Masks.{joined_mask, mask_with_nulls};
+ghost use Rattle.arrow_memory.specs.Changes.{cut_of};
 
 use arrow_memory::bitmap::{Bitmap, MutableBitmap};
 use arrow_types::error::Error;
@@ -219,7 +220,7 @@ pub(crate) fn join_marks_of_range(
 ) -> Result<(), Error>
     requires { IfSome others.now (λ marks. offset + len ≤ length marks) }
     ensures ok { OnOk result (validity.new ≡ joined_mask validity.old slots
-        (option_map (λ marks. take len (drop offset marks)) others.now) len) }
+        (option_map (cut_of offset len) others.now) len) }
     ensures err { OutOfMemoryKeeps result validity.old validity.new }
 {
     match validity {

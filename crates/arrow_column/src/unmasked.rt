@@ -3,7 +3,7 @@ ghost use Rattle.std.specs.Prelude.{◌≡◌, false, Some, OnOk, IfErr};
 ghost use Rattle.std.specs.Iterator.{IsFinite};
 ghost use Rattle.arrow_types.specs.Failures.{OutOfMemoryKeeps};
 ghost use Rattle.arrow_column.specs.Appends.{ExtendsByItems, StopsInItems};
-ghost use Rattle.arrow_column.specs.Column.{append_slot, stored_values};
+ghost use Rattle.arrow_column.specs.Column.{append_slot, push_item, column_overflows};
 ghost use Rattle.arrow_column.specs.Growth.{Grows, GrowthKeeps};
 
 use crate::GrowingColumn;
@@ -23,10 +23,9 @@ impl<V: MutableValues> GrowingColumn<V> {
         requires { self.old.held ≡ false }
         ensures data_type { self.new.data_type ≡ self.old.data_type }
         ensures held { self.new.held ≡ false }
-        ensures ok { Grows result (V.overflows self.old.around (stored_values self.old) value)
-            self.new (append_slot V.default self.old (Some (V.shown value))) }
-        ensures err { GrowthKeeps result (V.overflows self.old.around (stored_values self.old) value)
-            self.old self.new }
+        ensures ok { Grows result (column_overflows V.overflows self.old value) self.new
+            (push_item V.shown V.default self.old value) }
+        ensures err { GrowthKeeps result (column_overflows V.overflows self.old value) self.old self.new }
     {
         self.values.push_value(value)
     }

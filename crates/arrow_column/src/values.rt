@@ -1,8 +1,9 @@
 //! Stored values, of which columns are made.
 ghost use Rattle.std.specs.Prelude.{refl, slice_set, replicate, ◌<◌, IfOk, ◌≡◌, ℕ, ◌+◌, ◌-◌, ◌≤◌, List, Bool};
-ghost use Rattle.std.specs.Prelude.{false, [], ◌∷◌, ◌++◌, length, take, drop, OnOk, IfErr, IsOk};
+ghost use Rattle.std.specs.Prelude.{false, [], ◌∷◌, ◌++◌, length, take, drop, OnOk, IsOk};
 ghost use Rattle.arrow_types.specs.Failures.{OnlyOutOfMemory, OutOfMemoryKeeps};
-ghost use Rattle.arrow_column.specs.Growth.{Grows, GrowthKeeps};
+ghost use Rattle.arrow_column.specs.Growth.{StoredGrow, StoredGrowBy, StoredKept, StoredJoin, AroundCutTwice};
+ghost use Rattle.arrow_memory.specs.Changes.{cut_of};
 
 use arrow_memory::bitmap::{Bitmap, MutableBitmap};
 use arrow_memory::buffer::Buffer;
@@ -47,8 +48,7 @@ pub trait Values: Drop {
         ensures err { OnlyOutOfMemory result };
 
     /// A cut of a cut has around it what one cut has.
-    ghost cut_twice: { (before : Self.Around) (values : List Self.Stored) (a n b m : ℕ) → b + m ≤ n
-        → cut_around (cut_around before values a n) (take n (drop a values)) b m ≡ cut_around before values (a + b) m };
+    ghost cut_twice: { AroundCutTwice cut_around };
 }
 
 impl<T: Drop> Values for Buffer<T> {
@@ -165,11 +165,9 @@ pub trait MutableValues: Drop {
     ///
     /// The values are unchanged on an error.
     fn append(&mut self, other: &Self) -> Result<(), Error>
-        ensures ok { Grows result (join_overflows (around self.old) (stored self.old) (stored other.now))
-            (stored self.new) (stored self.old ++ stored other.now) }
+        ensures ok { StoredJoin stored around join_overflows result self.old self.new (stored other.now) }
         ensures around { around self.new ≡ around self.old }
-        ensures err { GrowthKeeps result (join_overflows (around self.old) (stored self.old) (stored other.now))
-            (stored self.old) (stored self.new) };
+        ensures err { StoredKept stored around join_overflows result self.old self.new (stored other.now) };
 
     /// Reserves room for at least `additional` more values.
     ///
@@ -215,11 +213,9 @@ pub trait PushValue<X>: MutableValues {
     ///
     /// The values are unchanged on an error.
     fn push_value(&mut self, value: X) -> Result<(), Error>
-        ensures ok { Grows result (overflows (Self.around self.old) (Self.stored self.old) value)
-            (Self.stored self.new) (Self.stored self.old ++ shown value ∷ []) }
+        ensures ok { StoredGrow Self.stored Self.around overflows result self.old self.new value (shown value ∷ []) }
         ensures around { Self.around self.new ≡ Self.around self.old }
-        ensures err { GrowthKeeps result (overflows (Self.around self.old) (Self.stored self.old) value)
-            (Self.stored self.old) (Self.stored self.new) };
+        ensures err { StoredKept Self.stored Self.around overflows result self.old self.new value };
 }
 
 /// Values to which many values can be appended at once.
@@ -238,11 +234,9 @@ pub trait Grow<X>: MutableValues {
     ///
     /// The values are unchanged on an error.
     fn grow(&mut self, values: X) -> Result<usize, Error>
-        ensures ok { IfOk result (λ count. (overgrows (Self.around self.old) (Self.stored self.old) values ≡ false)
-            × (count ≡ length (given values)) × (Self.stored self.new ≡ Self.stored self.old ++ given values)) }
+        ensures ok { StoredGrowBy Self.stored Self.around overgrows result self.old self.new values (given values) }
         ensures around { Self.around self.new ≡ Self.around self.old }
-        ensures err { GrowthKeeps result (overgrows (Self.around self.old) (Self.stored self.old) values)
-            (Self.stored self.old) (Self.stored self.new) };
+        ensures err { StoredKept Self.stored Self.around overgrows result self.old self.new values };
 }
 
 /// Values to which a range of those of an array can be appended.
@@ -253,12 +247,11 @@ pub trait GrowFrom<F: Values<Stored = Self::Stored>>: MutableValues {
     /// As [`MutableValues::append`].
     fn grow_from(&mut self, other: &F, offset: usize, len: usize) -> Result<(), Error>
         requires { offset + len ≤ length (F.stored other.now) }
-        ensures ok { Grows result (Self.join_overflows (Self.around self.old) (Self.stored self.old)
-            (take len (drop offset (F.stored other.now))))
-            (Self.stored self.new) (Self.stored self.old ++ take len (drop offset (F.stored other.now))) }
+        ensures ok { StoredJoin Self.stored Self.around Self.join_overflows result self.old self.new
+            (cut_of offset len (F.stored other.now)) }
         ensures around { Self.around self.new ≡ Self.around self.old }
-        ensures err { GrowthKeeps result (Self.join_overflows (Self.around self.old) (Self.stored self.old)
-            (take len (drop offset (F.stored other.now)))) (Self.stored self.old) (Self.stored self.new) };
+        ensures err { StoredKept Self.stored Self.around Self.join_overflows result self.old self.new
+            (cut_of offset len (F.stored other.now)) };
 }
 
 impl<T: NativeType> MutableValues for Vec<T> {

@@ -1,4 +1,4 @@
--- Lemmas about some of a list: those with a set mark, and those at the places that keys tell.
+-- Lemmas about some elements of a list: those with a set mark, and those at the indexes that keys are.
 use Rattle.std.proofs.Common.{◌≡◌, ℕ, zero, suc, ◌+◌, ◌-◌, ◌<◌, ◌≤◌, ℤ, Bool, true, false, ◌&&◌, cond, IsTrue}
 use Rattle.std.proofs.Common.{if◌then◌else◌, List, [], ◌∷◌, ◌++◌, length, map, take, drop, get_or, slice_get}
 use Rattle.std.proofs.Common.{Option, Some, None, option_and_then, option_map, refl, zero-add, sym, subst, ap, ap₂}

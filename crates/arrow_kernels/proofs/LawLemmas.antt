@@ -1,4 +1,4 @@
--- Lemmas for the laws: how many items marks and keys leave, and which stands where.
+-- Lemmas for the laws: how many items marks and keys select, and their order.
 use Rattle.std.proofs.Common.{◌≡◌, ℕ, zero, suc, ◌+◌, ◌<◌, ℤ, Bool, true, false, not, cond, List, [], ◌∷◌, length}
 use Rattle.std.proofs.Common.{if◌then◌else◌, slice_get, Option, Some, None, option_and_then, refl, zero-add, sym, ap, ◌∙◌, arith}
 use Rattle.std.specs.Prelude.{count_by, find, nat_lt, unwrap_or}

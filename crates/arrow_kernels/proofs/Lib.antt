@@ -1,9 +1,10 @@
 pub mod BitLemmas
 pub mod CallerLemmas
 pub mod ChoiceLemmas
-pub mod CountLemmas
+mod CountLemmas
 pub mod ItemLemmas
 pub mod JoinLemmas
 pub mod RunLemmas
 pub mod WordLemmas
+mod KeyLemmas
 mod LawLemmas

@@ -1,4 +1,4 @@
--- Lemmas about runs of set bits of words, and about runs of rows that are asked for.
+-- Lemmas about runs of set bits of words, and about runs of rows that a filter selects.
 use Rattle.std.proofs.Common.{◌≡◌, ℕ, zero, suc, ◌+◌, ◌-◌, ◌*◌, ◌/◌, ◌%◌, ◌^◌, ◌<◌, ◌≤◌, ◌==◌, min, bit_and, w64}
 use Rattle.std.proofs.Common.{Bool, true, false, List, [], ◌∷◌, ◌++◌, length, replicate, take, drop, slice_get, Some}
 use Rattle.std.proofs.Common.{refl, sym, subst, ap, ap₂, ◌∙◌, inl, inr, arith, add_comm, append_assoc}

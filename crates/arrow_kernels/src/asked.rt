@@ -1,6 +1,6 @@
 //! The rows that a filter selects.
 ghost use Rattle.std.specs.Prelude.{◌≡◌, ℕ, ◌+◌, ◌*◌, ◌^◌, ◌<◌, ◌≤◌, ◌==◌, true, false, not, count_by, length};
-ghost use Rattle.std.specs.Prelude.{drop, slice_get, Some, IfOk, IfErr};
+ghost use Rattle.std.specs.Prelude.{slice_get, Some, IfOk, IfErr};
 ghost use Rattle.std.specs.Int.{bit_at};
 ghost use Rattle.arrow_types.specs.Failures.{OnlyOutOfMemory};
 ghost use Rattle.arrow_bytes.specs.Selection.{asked, set_in_both};
@@ -58,74 +58,12 @@ fn asked_rows(alloc: Global, filter: &BooleanArray) -> Result<Bitmap, Error>
     mark_both(alloc, filter.values(), validity)
 }
 
-/// Returns the number of set marks, in constant time.
-fn count_set(marks: &Bitmap) -> usize
-    ensures { result ≡ count_by (λ mark. mark) marks.now }
-{
-    marks.len() - marks.unset_bits()
-}
-
-/// Counts the marks that are set in both of two short lists of equal length, one by one.
-fn count_few(values: &Bitmap, validity: &Bitmap) -> usize
-    requires { length validity.now ≡ length values.now }
-    ensures { result ≡ count_by (λ mark. mark) (set_in_both values.now validity.now) }
-{
-    let mut count = 0;
-    for i in 0..values.len() {
-        if is_set_in_both(values, validity, i) {
-            count += 1;
-        }
-    }
-    count
-}
-
-/// Counts the marks from `from` on, fewer than 64, that are set in both of two lists of equal
-/// length, which have at least 64 marks.
-fn count_last(values: &Bitmap, validity: &Bitmap, from: usize) -> usize
-    requires same { length validity.now ≡ length values.now }
-    requires long { 64 ≤ length values.now }
-    requires within { from ≤ length values.now }
-    requires few { length values.now < from + 64 }
-    ensures { result ≡ count_by (λ mark. mark) (drop from (set_in_both values.now validity.now)) }
-{
-    if from == values.len() {
-        return 0;
-    }
-    // The last word begins before `from`, so the marks up to there are shifted out.
-    let place = values.len() - 64;
-    let word = values.word(place) & validity.word(place);
-    (word >> (from - place)).count_ones() as usize
-}
-
-/// Counts the marks that are set in both of two lists of equal length, 64 at a time.
-fn count_both(values: &Bitmap, validity: &Bitmap) -> usize
-    requires { length validity.now ≡ length values.now }
-    ensures { result ≡ count_by (λ mark. mark) (set_in_both values.now validity.now) }
-{
-    if values.len() < 64 {
-        return count_few(values, validity);
-    }
-    let mut count = 0;
-    let words = values.len() / 64;
-    for at in 0..words {
-        let word = values.word(64 * at) & validity.word(64 * at);
-        count += word.count_ones() as usize;
-    }
-    count + count_last(values, validity, 64 * words)
-}
-
 /// Returns the number of slots that are valid and true, which is the number of rows that the array
 /// leaves as a filter. Does not allocate.
 pub fn true_count(array: &BooleanArray) -> usize
     ensures { result ≡ count_by (λ mark. mark) (asked array.now) }
 {
-    let Some(validity) = array.validity() else {
-        return count_set(array.values());
-    };
-    if validity.unset_bits() == 0 {
-        return count_set(array.values());
-    }
-    count_both(array.values(), validity)
+    array.true_count()
 }
 
 /// The rows that a filter selects, as a mark for each row.

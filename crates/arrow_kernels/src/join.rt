@@ -35,7 +35,7 @@ pub(crate) fn join_values<T: NativeType>(
     Ok(joined)
 }
 
-/// Returns the stored truth values. Room is reserved once.
+/// Returns the stored booleans. Room is reserved once.
 pub(crate) fn join_truths(alloc: Global, arrays: &[BooleanArray]) -> Result<Bitmap, Error>
     ensures ok { IfOk result (λ joined. joined ≡ flat_map stored_values arrays.now) }
     ensures err { OnlyOutOfMemory result }

@@ -1,6 +1,6 @@
 //! The stored values, marks and items that a selection keeps.
-ghost use Rattle.std.specs.Prelude.{◌≡◌, ℕ, ◌+◌, ◌-◌, ◌*◌, ◌^◌, ◌<◌, ◌≤◌, true, count_by, length, not, option_map, take};
-ghost use Rattle.std.specs.Prelude.{slice_get, Some, IfErr, IfOk, IfSome, OnOk};
+ghost use Rattle.std.specs.Prelude.{◌≡◌, ℕ, ◌+◌, ◌-◌, ◌*◌, ◌^◌, ◌<◌, ◌≤◌, true, count_by, length, not, option_map};
+ghost use Rattle.std.specs.Prelude.{slice_get, Some, IfOk, IfSome, OnOk};
 ghost use Rattle.std.specs.List.{concat};
 ghost use Rattle.std.specs.Option.{option_copied};
 ghost use Rattle.std.specs.Vec.{vec_capacity};
@@ -12,7 +12,7 @@ ghost use Rattle.arrow_memory.specs.Offsets.{first_of, last_of};
 ghost use Rattle.arrow_check.specs.Pieces.{items_of, offsets_of};
 ghost use Rattle.arrow_bytes.specs.Kinds.{CutItems};
 ghost use Rattle.arrow_bytes.specs.Pieces.{around_of, nothing_around};
-ghost use Rattle.arrow_bytes.specs.Selection.{where_set};
+ghost use Rattle.arrow_bytes.specs.Selection.{where_set, set_before};
 
 use crate::asked::Asked;
 use crate::mask::needed_mask;
@@ -40,10 +40,10 @@ fn keep_value_runs<T: NativeType>(
     requires same { length asked.now ≡ length values.now }
     requires within { row + 64 ≤ length asked.now }
     requires fits { length asked.now < 2 ^ 64 }
-    requires so_far { kept.old.items ≡ where_set (take row asked.now) (take row values.now) }
+    requires so_far { kept.old.items ≡ set_before row asked.now values.now }
     requires room { length asked.now ≤ vec_capacity kept.old + count_by not asked.now }
     ensures next { IfOk result (λ next. (row + 64 ≤ next) × (next ≤ length asked.now)) }
-    ensures so_far { IfOk result (λ next. kept.new.items ≡ where_set (take next asked.now) (take next values.now)) }
+    ensures so_far { IfOk result (λ next. kept.new.items ≡ set_before next asked.now values.now) }
     ensures room { OnOk result (length asked.now ≤ vec_capacity kept.new + count_by not asked.now) }
     ensures err { OnlyOutOfMemory result }
 {
@@ -63,9 +63,9 @@ fn keep_each_of_word<T: NativeType>(kept: &mut Vec<T>, values: &[T], asked: &Ask
     requires same { length asked.now ≡ length values.now }
     requires within { row + 64 ≤ length asked.now }
     requires fits { length asked.now < 2 ^ 64 }
-    requires so_far { kept.old.items ≡ where_set (take row asked.now) (take row values.now) }
+    requires so_far { kept.old.items ≡ set_before row asked.now values.now }
     requires room { length asked.now ≤ vec_capacity kept.old + count_by not asked.now }
-    ensures so_far { kept.new.items ≡ where_set (take (row + 64) asked.now) (take (row + 64) values.now) }
+    ensures so_far { kept.new.items ≡ set_before (row + 64) asked.now values.now }
     ensures room { length asked.now ≤ vec_capacity kept.new + count_by not asked.now }
 {
     let mut left = asked.word(row);
@@ -88,10 +88,10 @@ fn keep_word<T: NativeType>(
     requires same { length asked.now ≡ length values.now }
     requires within { row + 64 ≤ length asked.now }
     requires fits { length asked.now < 2 ^ 64 }
-    requires so_far { kept.old.items ≡ where_set (take row asked.now) (take row values.now) }
+    requires so_far { kept.old.items ≡ set_before row asked.now values.now }
     requires room { length asked.now ≤ vec_capacity kept.old + count_by not asked.now }
     ensures next { IfOk result (λ next. (row + 64 ≤ next) × (next ≤ length asked.now)) }
-    ensures so_far { IfOk result (λ next. kept.new.items ≡ where_set (take next asked.now) (take next values.now)) }
+    ensures so_far { IfOk result (λ next. kept.new.items ≡ set_before next asked.now values.now) }
     ensures room { OnOk result (length asked.now ≤ vec_capacity kept.new + count_by not asked.now) }
     ensures err { OnlyOutOfMemory result }
 {
@@ -106,7 +106,7 @@ fn keep_word<T: NativeType>(
 fn keep_last<T: NativeType>(kept: &mut Vec<T>, values: &[T], asked: &Asked, start: usize)
     requires same { length asked.now ≡ length values.now }
     requires within { start ≤ length asked.now }
-    requires so_far { kept.old.items ≡ where_set (take start asked.now) (take start values.now) }
+    requires so_far { kept.old.items ≡ set_before start asked.now values.now }
     requires room { length asked.now ≤ vec_capacity kept.old + count_by not asked.now }
     ensures { kept.new.items ≡ where_set asked.now values.now }
 {
@@ -220,8 +220,8 @@ fn keep_word_marks(
     requires same { length asked.now ≡ length marks.now }
     requires within { 64 * at + 64 ≤ length asked.now }
     requires fits { length asked.now < 2 ^ 64 }
-    requires so_far { kept.old ≡ where_set (take (64 * at) asked.now) (take (64 * at) marks.now) }
-    ensures ok { OnOk result (kept.new ≡ where_set (take (64 * at + 64) asked.now) (take (64 * at + 64) marks.now)) }
+    requires so_far { kept.old ≡ set_before (64 * at) asked.now marks.now }
+    ensures ok { OnOk result (kept.new ≡ set_before (64 * at + 64) asked.now marks.now) }
     ensures err { OnlyOutOfMemory result }
 {
     let (bits, count) = kept_word(asked.word(64 * at), marks.word(64 * at));
@@ -240,7 +240,7 @@ fn keep_last_marks(
 ) -> Result<(), Error>
     requires same { length asked.now ≡ length marks.now }
     requires within { start ≤ length asked.now }
-    requires so_far { kept.old ≡ where_set (take start asked.now) (take start marks.now) }
+    requires so_far { kept.old ≡ set_before start asked.now marks.now }
     ensures ok { OnOk result (kept.new ≡ where_set asked.now marks.now) }
     ensures err { OnlyOutOfMemory result }
 {
@@ -323,14 +323,11 @@ fn keep_run<O: Offset>(
     requires order { first ≤ end }
     requires within { end ≤ length asked.now }
     requires set { (k : ℕ) → first ≤ k → k < end → slice_get asked.now k ≡ Some true }
-    requires ends { kept.old
-        ≡ offsets_of 0 (where_set (take first asked.now) (take first (items_of offsets.now bytes.now))) }
-    requires joined { kept_bytes.old.items
-        ≡ concat (where_set (take first asked.now) (take first (items_of offsets.now bytes.now))) }
-    ensures ends { OnOk result (kept.new
-        ≡ offsets_of 0 (where_set (take end asked.now) (take end (items_of offsets.now bytes.now)))) }
-    ensures joined { OnOk result (kept_bytes.new.items
-        ≡ concat (where_set (take end asked.now) (take end (items_of offsets.now bytes.now)))) }
+    requires ends { kept.old ≡ offsets_of 0 (set_before first asked.now (items_of offsets.now bytes.now)) }
+    requires joined { kept_bytes.old.items ≡ concat (set_before first asked.now (items_of offsets.now bytes.now)) }
+    ensures ends { OnOk result (kept.new ≡ offsets_of 0 (set_before end asked.now (items_of offsets.now bytes.now))) }
+    ensures joined { OnOk result (kept_bytes.new.items ≡ concat
+        (set_before end asked.now (items_of offsets.now bytes.now))) }
     ensures err { OnlyOutOfMemory result }
 {
     // Some items of an array cannot end past the greatest offset, so the error is a failed allocation.
@@ -355,15 +352,13 @@ fn keep_runs<O: Offset>(
     requires held { last_of offsets.now ≤ length bytes.now }
     requires within { row + 64 ≤ length asked.now }
     requires fits { length asked.now < 2 ^ 64 }
-    requires ends { kept.old
-        ≡ offsets_of 0 (where_set (take row asked.now) (take row (items_of offsets.now bytes.now))) }
-    requires joined { kept_bytes.old.items
-        ≡ concat (where_set (take row asked.now) (take row (items_of offsets.now bytes.now))) }
+    requires ends { kept.old ≡ offsets_of 0 (set_before row asked.now (items_of offsets.now bytes.now)) }
+    requires joined { kept_bytes.old.items ≡ concat (set_before row asked.now (items_of offsets.now bytes.now)) }
     ensures next { IfOk result (λ next. (row + 64 ≤ next) × (next ≤ length asked.now)) }
-    ensures ends { IfOk result (λ next. kept.new
-        ≡ offsets_of 0 (where_set (take next asked.now) (take next (items_of offsets.now bytes.now)))) }
+    ensures ends { IfOk result (λ next. kept.new ≡ offsets_of 0
+        (set_before next asked.now (items_of offsets.now bytes.now))) }
     ensures joined { IfOk result (λ next. kept_bytes.new.items
-        ≡ concat (where_set (take next asked.now) (take next (items_of offsets.now bytes.now)))) }
+        ≡ concat (set_before next asked.now (items_of offsets.now bytes.now))) }
     ensures err { OnlyOutOfMemory result }
 {
     let past = row + 64;
@@ -390,15 +385,12 @@ fn keep_each_item<O: Offset>(
     requires held { last_of offsets.now ≤ length bytes.now }
     requires within { row + 64 ≤ length asked.now }
     requires fits { length asked.now < 2 ^ 64 }
-    requires ends { kept.old
-        ≡ offsets_of 0 (where_set (take row asked.now) (take row (items_of offsets.now bytes.now))) }
-    requires joined { kept_bytes.old.items
-        ≡ concat (where_set (take row asked.now) (take row (items_of offsets.now bytes.now))) }
-    ensures ends { OnOk result (kept.new
-        ≡ offsets_of 0 (where_set (take (row + 64) asked.now)
-        (take (row + 64) (items_of offsets.now bytes.now)))) }
-    ensures joined { OnOk result (kept_bytes.new.items
-        ≡ concat (where_set (take (row + 64) asked.now) (take (row + 64) (items_of offsets.now bytes.now)))) }
+    requires ends { kept.old ≡ offsets_of 0 (set_before row asked.now (items_of offsets.now bytes.now)) }
+    requires joined { kept_bytes.old.items ≡ concat (set_before row asked.now (items_of offsets.now bytes.now)) }
+    ensures ends { OnOk result (kept.new ≡ offsets_of 0 (set_before (row + 64) asked.now
+        (items_of offsets.now bytes.now))) }
+    ensures joined { OnOk result (kept_bytes.new.items ≡ concat
+        (set_before (row + 64) asked.now (items_of offsets.now bytes.now))) }
     ensures err { OnlyOutOfMemory result }
 {
     let mut left = asked.word(row);
@@ -430,15 +422,13 @@ fn keep_word_items<O: Offset>(
     requires held { last_of offsets.now ≤ length bytes.now }
     requires within { row + 64 ≤ length asked.now }
     requires fits { length asked.now < 2 ^ 64 }
-    requires ends { kept.old
-        ≡ offsets_of 0 (where_set (take row asked.now) (take row (items_of offsets.now bytes.now))) }
-    requires joined { kept_bytes.old.items
-        ≡ concat (where_set (take row asked.now) (take row (items_of offsets.now bytes.now))) }
+    requires ends { kept.old ≡ offsets_of 0 (set_before row asked.now (items_of offsets.now bytes.now)) }
+    requires joined { kept_bytes.old.items ≡ concat (set_before row asked.now (items_of offsets.now bytes.now)) }
     ensures next { IfOk result (λ next. (row + 64 ≤ next) × (next ≤ length asked.now)) }
-    ensures ends { IfOk result (λ next. kept.new
-        ≡ offsets_of 0 (where_set (take next asked.now) (take next (items_of offsets.now bytes.now)))) }
+    ensures ends { IfOk result (λ next. kept.new ≡ offsets_of 0
+        (set_before next asked.now (items_of offsets.now bytes.now))) }
     ensures joined { IfOk result (λ next. kept_bytes.new.items
-        ≡ concat (where_set (take next asked.now) (take next (items_of offsets.now bytes.now)))) }
+        ≡ concat (set_before next asked.now (items_of offsets.now bytes.now))) }
     ensures err { OnlyOutOfMemory result }
 {
     if has_few_runs(asked.word(row)) {
@@ -461,10 +451,8 @@ fn keep_last_items<O: Offset>(
     requires count { length asked.now + 1 ≡ length offsets.now }
     requires held { last_of offsets.now ≤ length bytes.now }
     requires within { start ≤ length asked.now }
-    requires ends { kept.old
-        ≡ offsets_of 0 (where_set (take start asked.now) (take start (items_of offsets.now bytes.now))) }
-    requires joined { kept_bytes.old.items
-        ≡ concat (where_set (take start asked.now) (take start (items_of offsets.now bytes.now))) }
+    requires ends { kept.old ≡ offsets_of 0 (set_before start asked.now (items_of offsets.now bytes.now)) }
+    requires joined { kept_bytes.old.items ≡ concat (set_before start asked.now (items_of offsets.now bytes.now)) }
     ensures ends { OnOk result (kept.new ≡ offsets_of 0 (where_set asked.now (items_of offsets.now bytes.now))) }
     ensures joined { OnOk result (kept_bytes.new.items
         ≡ concat (where_set asked.now (items_of offsets.now bytes.now))) }

@@ -1,11 +1,11 @@
 //! The marks and masks of arrays, one array after the other.
-ghost use Rattle.std.specs.Prelude.{◌≡◌, ◌++◌, List, Bool, Some, length, not, count_by, replicate, true, flat_map};
+ghost use Rattle.std.specs.Prelude.{◌≡◌, ◌++◌, List, Bool, Some, length, not, count_by, flat_map};
 ghost use Rattle.std.specs.Prelude.{◌-◌, ◌^◌, min};
-ghost use Rattle.std.specs.Prelude.{IfOk, IfErr, IfSome, MatchOption, OnOk};
+ghost use Rattle.std.specs.Prelude.{IfOk, OnOk};
 ghost use Rattle.std.specs.List.{list_all};
 ghost use Rattle.std.specs.Option.{option_copied};
 ghost use Rattle.arrow_types.specs.Failures.{OnlyOutOfMemory};
-ghost use Rattle.arrow_column.specs.Masks.{mask_with_nulls};
+ghost use Rattle.arrow_column.specs.Masks.{mask_with_nulls, AppendsMask};
 
 use arrow_boolean::BooleanArray;
 use arrow_byte_array::ByteArray;
@@ -31,8 +31,7 @@ fn extend_mask(
     validity: Option<&Bitmap>,
     slots: usize,
 ) -> Result<(), Error>
-    ensures ok { OnOk result (MatchOption (option_copied validity.entry)
-        (joined.new ≡ joined.old ++ replicate slots true) (λ marks. joined.new ≡ joined.old ++ marks)) }
+    ensures ok { OnOk result (AppendsMask slots (option_copied validity.entry) joined.old joined.new) }
     ensures err { OnlyOutOfMemory result }
 {
     match validity {

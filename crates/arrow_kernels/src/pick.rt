@@ -12,7 +12,8 @@ ghost use Rattle.arrow_memory.specs.Offsets.{last_of};
 ghost use Rattle.arrow_check.specs.Pieces.{items_of, offsets_of};
 ghost use Rattle.arrow_bytes.specs.Kinds.{CutItems};
 ghost use Rattle.arrow_bytes.specs.Pieces.{around_of, nothing_around};
-ghost use Rattle.arrow_bytes.specs.Selection.{at_keys, taking_overflows};
+ghost use Rattle.arrow_bytes.specs.Selection.{at_keys, taking_overflows, taken_length};
+ghost use Rattle.arrow_check.specs.Indexes.{AllInBounds};
 
 use crate::mask::needed_mask;
 use crate::pieces::item_at;
@@ -46,7 +47,7 @@ pub(crate) fn pick_values<T: NativeType, K: IndexKey>(
     values: &[T],
     keys: &[K],
 ) -> Result<Vec<T>, Error>
-    requires { All (λ key. IsSomeAnd (index_of (K.number key)) (λ index. index < length values.now)) keys.now }
+    requires { AllInBounds K.number (length values.now) keys.now }
     ensures ok { IfOk result (λ picked. picked.items ≡ at_keys K.number keys.now values.now) }
     ensures err { OnlyOutOfMemory result }
 {
@@ -61,7 +62,7 @@ pub(crate) fn pick_values<T: NativeType, K: IndexKey>(
 #[inline(always)]
 fn picked_word<K: IndexKey>(marks: &Bitmap, keys: &[K]) -> u64
     requires few { length keys.now ≤ 64 }
-    requires keys { All (λ key. IsSomeAnd (index_of (K.number key)) (λ index. index < length marks.now)) keys.now }
+    requires keys { AllInBounds K.number (length marks.now) keys.now }
     ensures { bits_of result (length keys.now) ≡ at_keys K.number keys.now marks.now }
 {
     let mut word = 0;
@@ -81,7 +82,7 @@ pub(crate) fn pick_marks<K: IndexKey>(
     marks: &Bitmap,
     keys: &[K],
 ) -> Result<Bitmap, Error>
-    requires { All (λ key. IsSomeAnd (index_of (K.number key)) (λ index. index < length marks.now)) keys.now }
+    requires { AllInBounds K.number (length marks.now) keys.now }
     ensures ok { IfOk result (λ picked. picked ≡ at_keys K.number keys.now marks.now) }
     ensures err { OnlyOutOfMemory result }
 {
@@ -103,8 +104,7 @@ pub(crate) fn pick_mask<K: IndexKey>(
     validity: Option<&Bitmap>,
     keys: &[K],
 ) -> Result<Option<Bitmap>, Error>
-    requires { IfSome (option_copied validity) (λ marks.
-        All (λ key. IsSomeAnd (index_of (K.number key)) (λ index. index < length marks)) keys.now) }
+    requires { IfSome (option_copied validity) (λ marks. AllInBounds K.number (length marks) keys.now) }
     ensures ok { IfOk result (λ mask.
         mask ≡ mask_with_nulls (option_map (at_keys K.number keys.now) (option_copied validity.entry))) }
     ensures err { OnlyOutOfMemory result }
@@ -129,10 +129,10 @@ fn picked_length<O: Offset, K: IndexKey>(
     requires keys { All (λ key. IsSomeAnd (index_of (K.number key)) (λ index. index + 1 < length offsets.now))
         keys.now }
     requires within { last_of offsets.now ≤ length bytes.now }
-    ensures ok { IfOk result (λ total. (total ≤ O.most)
-        × (total ≡ length (concat (at_keys K.number keys.now (items_of offsets.now bytes.now))))) }
+    ensures ok { IfOk result (λ total. (total ≤ O.most) × (total
+        ≡ taken_length K.number keys.now offsets.now bytes.now)) }
     ensures err { IfErr result (λ e. (e ≡ Error.Overflow)
-        × (O.most < length (concat (at_keys K.number keys.now (items_of offsets.now bytes.now))))) }
+        × (O.most < taken_length K.number keys.now offsets.now bytes.now)) }
 {
     let most = O::max().to_usize();
     let mut total = 0;
@@ -154,7 +154,7 @@ pub(crate) fn items_length<K: ByteKind, O: Offset, I: IndexKey>(
     array: &ByteArray<K, O>,
     keys: &[I],
 ) -> Result<usize, Error>
-    requires { All (λ key. IsSomeAnd (index_of (I.number key)) (λ index. index < length array.now.rows)) keys.now }
+    requires { AllInBounds I.number (length array.now.rows) keys.now }
     ensures ok { OnOk result (taking_overflows O.most I.number array.now keys.now ≡ false) }
     ensures err { IfErr result (λ e. (e ≡ Error.Overflow)
         × (taking_overflows O.most I.number array.now keys.now ≡ true)) }
@@ -201,7 +201,7 @@ pub(crate) fn picked_pieces<K: ByteKind, O: Offset, I: IndexKey>(
     keys: &[I],
     room: usize,
 ) -> Result<(OffsetsBuffer<O>, Buffer<u8>), Error>
-    requires { All (λ key. IsSomeAnd (index_of (I.number key)) (λ index. index < length array.now.rows)) keys.now }
+    requires { AllInBounds I.number (length array.now.rows) keys.now }
     ensures cut { IfOk result (λ picked. CutItems K.is_text picked.0 picked.1) }
     ensures around { IfOk result (λ picked. around_of picked.0 picked.1 ≡ nothing_around) }
     ensures items { IfOk result (λ picked.

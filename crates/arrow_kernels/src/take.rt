@@ -2,15 +2,12 @@
 //! values stay; the new array has no bytes around its slots, and holds a mask exactly if one of
 //! them is null. All keys are checked, and the lengths of all items added, before memory is
 //! allocated.
-ghost use Rattle.std.specs.Prelude.{◌≡◌, ◌<◌, ⊤, false, length, All, None, IfOk, IfErr, IsErrAnd, IsSomeAnd};
+ghost use Rattle.std.specs.Prelude.{◌≡◌, ⊤, length, None, IfOk, IfErr};
 ghost use Rattle.std.specs.Prelude.{MatchOption};
 ghost use Rattle.arrow_types.specs.Failures.{OnlyOutOfMemory};
-ghost use Rattle.arrow_types.specs.IndexKey.{index_of};
-ghost use Rattle.arrow_types.specs.Types.{refusal};
-ghost use Rattle.arrow_column.specs.Column.{refused_growth};
-ghost use Rattle.arrow_check.specs.Indexes.{key_refusal};
+ghost use Rattle.arrow_check.specs.Indexes.{AllInBounds, FailsAt};
 ghost use Rattle.arrow_bytes.specs.Pieces.{nothing_around};
-ghost use Rattle.arrow_bytes.specs.Selection.{first_out_of_bounds, taken, taking_overflows};
+ghost use Rattle.arrow_bytes.specs.Selection.{first_out_of_bounds, taken, TakesItems, TakeRefused};
 
 use crate::pick::{items_length, pick_marks, pick_mask, pick_values, picked_pieces};
 use arrow_binary::BinaryArray;
@@ -38,8 +35,7 @@ pub fn take_primitive<T: NativeType, K: IndexKey>(
     array: &PrimitiveArray<T>,
     keys: &[K],
 ) -> Result<PrimitiveArray<T>, Error>
-    ensures out_of_bounds { MatchOption (first_out_of_bounds K.number array.now keys.now) ⊤ (λ key.
-        IsErrAnd result (λ e. refusal e ≡ key_refusal (K.number key))) }
+    ensures out_of_bounds { MatchOption (first_out_of_bounds K.number array.now keys.now) ⊤ (FailsAt K.number result) }
     ensures ok { IfOk result (λ made. made ≡ taken tt K.number array.now keys.now) }
     ensures err { IfErr result (λ e. first_out_of_bounds K.number array.now keys.now ≡ None → e ≡ Error.OutOfMemory) }
 {
@@ -60,8 +56,7 @@ pub fn take_boolean<K: IndexKey>(
     array: &BooleanArray,
     keys: &[K],
 ) -> Result<BooleanArray, Error>
-    ensures out_of_bounds { MatchOption (first_out_of_bounds K.number array.now keys.now) ⊤ (λ key.
-        IsErrAnd result (λ e. refusal e ≡ key_refusal (K.number key))) }
+    ensures out_of_bounds { MatchOption (first_out_of_bounds K.number array.now keys.now) ⊤ (FailsAt K.number result) }
     ensures ok { IfOk result (λ made. made ≡ taken tt K.number array.now keys.now) }
     ensures err { IfErr result (λ e. first_out_of_bounds K.number array.now keys.now ≡ None → e ≡ Error.OutOfMemory) }
 {
@@ -80,7 +75,7 @@ fn taken_items<K: ByteKind, O: Offset, I: IndexKey>(
     keys: &[I],
     room: usize,
 ) -> Result<ByteArray<K, O>, Error>
-    requires { All (λ key. IsSomeAnd (index_of (I.number key)) (λ index. index < length array.now.rows)) keys.now }
+    requires { AllInBounds I.number (length array.now.rows) keys.now }
     ensures ok { IfOk result (λ made. made ≡ taken nothing_around I.number array.now keys.now) }
     ensures err { OnlyOutOfMemory result }
 {
@@ -102,12 +97,9 @@ pub fn take_items<K: ByteKind, O: Offset, I: IndexKey>(
     array: &ByteArray<K, O>,
     keys: &[I],
 ) -> Result<ByteArray<K, O>, Error>
-    ensures out_of_bounds { MatchOption (first_out_of_bounds I.number array.now keys.now) ⊤ (λ key.
-        IsErrAnd result (λ e. refusal e ≡ key_refusal (I.number key))) }
-    ensures ok { IfOk result (λ made. (taking_overflows O.most I.number array.now keys.now ≡ false)
-        × (made ≡ taken nothing_around I.number array.now keys.now)) }
-    ensures err { IfErr result (λ e. first_out_of_bounds I.number array.now keys.now ≡ None
-        → e ≡ refused_growth (taking_overflows O.most I.number array.now keys.now)) }
+    ensures out_of_bounds { MatchOption (first_out_of_bounds I.number array.now keys.now) ⊤ (FailsAt I.number result) }
+    ensures ok { IfOk result (TakesItems O.most I.number array.now keys.now) }
+    ensures err { IfErr result (TakeRefused O.most I.number array.now keys.now) }
 {
     check_indexes(keys, array.len())?;
     let room = items_length(array, keys)?;
@@ -123,12 +115,9 @@ pub fn take_binary<O: Offset, K: IndexKey>(
     array: &BinaryArray<O>,
     keys: &[K],
 ) -> Result<BinaryArray<O>, Error>
-    ensures out_of_bounds { MatchOption (first_out_of_bounds K.number array.now keys.now) ⊤ (λ key.
-        IsErrAnd result (λ e. refusal e ≡ key_refusal (K.number key))) }
-    ensures ok { IfOk result (λ made. (taking_overflows O.most K.number array.now keys.now ≡ false)
-        × (made ≡ taken nothing_around K.number array.now keys.now)) }
-    ensures err { IfErr result (λ e. first_out_of_bounds K.number array.now keys.now ≡ None
-        → e ≡ refused_growth (taking_overflows O.most K.number array.now keys.now)) }
+    ensures out_of_bounds { MatchOption (first_out_of_bounds K.number array.now keys.now) ⊤ (FailsAt K.number result) }
+    ensures ok { IfOk result (TakesItems O.most K.number array.now keys.now) }
+    ensures err { IfErr result (TakeRefused O.most K.number array.now keys.now) }
 {
     take_items(alloc, array, keys)
 }
@@ -142,12 +131,9 @@ pub fn take_utf8<O: Offset, K: IndexKey>(
     array: &Utf8Array<O>,
     keys: &[K],
 ) -> Result<Utf8Array<O>, Error>
-    ensures out_of_bounds { MatchOption (first_out_of_bounds K.number array.now keys.now) ⊤ (λ key.
-        IsErrAnd result (λ e. refusal e ≡ key_refusal (K.number key))) }
-    ensures ok { IfOk result (λ made. (taking_overflows O.most K.number array.now keys.now ≡ false)
-        × (made ≡ taken nothing_around K.number array.now keys.now)) }
-    ensures err { IfErr result (λ e. first_out_of_bounds K.number array.now keys.now ≡ None
-        → e ≡ refused_growth (taking_overflows O.most K.number array.now keys.now)) }
+    ensures out_of_bounds { MatchOption (first_out_of_bounds K.number array.now keys.now) ⊤ (FailsAt K.number result) }
+    ensures ok { IfOk result (TakesItems O.most K.number array.now keys.now) }
+    ensures err { IfErr result (TakeRefused O.most K.number array.now keys.now) }
 {
     take_items(alloc, array, keys)
 }

@@ -11,7 +11,7 @@ use Rattle.std.proofs.lemmas.List.{take_more_set, take_more, take_all, take_at, 
 use Rattle.std.proofs.lemmas.Int.{ints}
 use Rattle.std.specs.List.{drop-map}
 use Rattle.arrow_memory.proofs.PieceLemmas.{length-piece}
-use Rattle.arrow_memory.specs.Offsets.{first_of, last_of, NeverFalls, IsOffsets, falls_after, first_fault}
+use Rattle.arrow_memory.specs.Offsets.{file_offsets, first_of, last_of, NeverFalls, IsOffsets, falls_after, first_fault}
 use Rattle.arrow_memory.specs.Offsets.{numbers_of, KeepsOffsets, moved_behind}
 
 -- ---- integers that are handed in
@@ -76,6 +76,11 @@ faultless-legal (pos n ∷ zs) h = record {
   order =
       order-after n zs (no-fault-2 (nat_lt n 0) (falls_after (pos n) zs) _ _ h);
 }
+
+-- a file that has legal offsets means these
+pub file-same : (zs : List ℤ) → first_fault zs ≡ None → file_offsets zs ≡ zs
+file-same [] h = absurd (cc)
+file-same (z ∷ zs) h = refl
 
 never-after : (n : ℕ) (ns : List ℕ) → NeverFalls (n ∷ ns) → falls_after (pos n) (map pos ns) ≡ false
 never-after n [] order = refl

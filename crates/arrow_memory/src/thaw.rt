@@ -1,7 +1,8 @@
 //! Thawing the parts of an array together: all of them, or none.
-ghost use Rattle.std.specs.Prelude.{◌≡◌, ◌≤◌, length, take, MatchOption, IsTrue};
+ghost use Rattle.std.specs.Prelude.{◌≡◌, ◌≤◌, length, IsTrue, IfSome, IfNone};
 ghost use Rattle.either.specs.Either.{MatchEither};
 ghost use Rattle.arrow_memory.specs.Offsets.{last_of};
+ghost use Rattle.arrow_memory.specs.Thaw.{AreParts, AreThreeParts, AreValueParts, AreSlotParts, AreMaskedSlotParts};
 
 use crate::buffer::Buffer;
 use crate::offset::{Offsets, OffsetsBuffer};
@@ -18,8 +19,8 @@ fn take_two<S, T>(
     first: &mut Rc<Vec<S>>,
     second: &mut Rc<Vec<T>>,
 ) -> Option<(Vec<S>, Vec<T>)>
-    ensures { MatchOption result ((first.new.value ≡ first.old.value) × (second.new.value ≡ second.old.value))
-        (λ taken. IsTrue asked × (taken.0 ≡ first.old.value) × (taken.1 ≡ second.old.value)) }
+    ensures none { IfNone result ((first.new.value ≡ first.old.value) × (second.new.value ≡ second.old.value)) }
+    ensures some { IfSome result (λ taken. IsTrue asked × AreParts first.old.value second.old.value taken) }
 {
     if !asked {
         return None;
@@ -45,9 +46,10 @@ fn take_three<S, T, U>(
     second: &mut Rc<Vec<T>>,
     third: &mut Rc<Vec<U>>,
 ) -> Option<(Vec<S>, Vec<T>, Vec<U>)>
-    ensures { MatchOption result ((first.new.value ≡ first.old.value) × (second.new.value ≡ second.old.value)
-        × (third.new.value ≡ third.old.value)) (λ taken. IsTrue asked × (taken.0 ≡ first.old.value)
-        × (taken.1 ≡ second.old.value) × (taken.2 ≡ third.old.value)) }
+    ensures none { IfNone result ((first.new.value ≡ first.old.value) × (second.new.value ≡ second.old.value)) }
+    ensures third { IfNone result (third.new.value ≡ third.old.value) }
+    ensures some { IfSome result (λ taken. IsTrue asked × AreThreeParts first.old.value second.old.value third.old.value
+        taken) }
 {
     if !asked {
         return None;
@@ -76,8 +78,7 @@ fn thaw_values<T: Drop>(
     values: Buffer<T>,
     mask: Bitmap,
 ) -> Either<(Buffer<T>, Bitmap), (Vec<T>, MutableBitmap)>
-    ensures { MatchEither result (λ parts. (parts.0 ≡ values) × (parts.1 ≡ mask)) (λ parts. (parts.0.items ≡ values)
-        × (parts.1 ≡ mask)) }
+    ensures { MatchEither result (AreParts values mask) (AreValueParts values mask) }
 {
     let (mut items, offset, length) = values.into_parts();
     let (mut bytes, first, marks, unset) = mask.into_parts();
@@ -98,8 +99,7 @@ pub fn into_mut_values<T: Drop>(
     values: Buffer<T>,
     validity: Option<Bitmap>,
 ) -> Either<(Buffer<T>, Option<Bitmap>), (Vec<T>, Option<MutableBitmap>)>
-    ensures { MatchEither result (λ parts. (parts.0 ≡ values) × (parts.1 ≡ validity)) (λ parts.
-        (parts.0.items ≡ values) × (parts.1 ≡ validity)) }
+    ensures { MatchEither result (AreParts values validity) (AreValueParts values validity) }
 {
     match validity {
         None => match values.into_mut() {
@@ -113,13 +113,12 @@ pub fn into_mut_values<T: Drop>(
     }
 }
 
-/// Thaws truth values and their mask.
+/// Thaws booleans and their mask.
 fn thaw_bits(
     values: Bitmap,
     mask: Bitmap,
 ) -> Either<(Bitmap, Bitmap), (MutableBitmap, MutableBitmap)>
-    ensures { MatchEither result (λ parts. (parts.0 ≡ values) × (parts.1 ≡ mask)) (λ parts. (parts.0 ≡ values)
-        × (parts.1 ≡ mask)) }
+    ensures { MatchEither result (AreParts values mask) (AreParts values mask) }
 {
     let (mut bits, offset, length, clear) = values.into_parts();
     let (mut bytes, first, marks, unset) = mask.into_parts();
@@ -141,8 +140,7 @@ pub fn into_mut_bits(
     values: Bitmap,
     validity: Option<Bitmap>,
 ) -> Either<(Bitmap, Option<Bitmap>), (MutableBitmap, Option<MutableBitmap>)>
-    ensures { MatchEither result (λ parts. (parts.0 ≡ values) × (parts.1 ≡ validity)) (λ parts. (parts.0 ≡ values)
-        × (parts.1 ≡ validity)) }
+    ensures { MatchEither result (AreParts values validity) (AreParts values validity) }
 {
     match validity {
         None => match values.into_mut() {
@@ -162,8 +160,7 @@ fn thaw_slots<O: Offset>(
     values: Buffer<u8>,
 ) -> Either<(OffsetsBuffer<O>, Buffer<u8>), (Offsets<O>, Vec<u8>)>
     requires { last_of offsets ≤ length values }
-    ensures { MatchEither result (λ parts. (parts.0 ≡ offsets) × (parts.1 ≡ values)) (λ parts. (parts.0 ≡ offsets)
-        × (parts.1.items ≡ take (last_of offsets) values)) }
+    ensures { MatchEither result (AreParts offsets values) (AreSlotParts offsets values) }
 {
     let end = offsets.last().to_usize();
     let OffsetsBuffer { offsets } = offsets;
@@ -193,8 +190,7 @@ fn thaw_slots_with_mask<O: Offset>(
     mask: Bitmap,
 ) -> Either<(OffsetsBuffer<O>, Buffer<u8>, Bitmap), (Offsets<O>, Vec<u8>, MutableBitmap)>
     requires { last_of offsets ≤ length values }
-    ensures { MatchEither result (λ parts. (parts.0 ≡ offsets) × (parts.1 ≡ values) × (parts.2 ≡ mask)) (λ parts.
-        (parts.0 ≡ offsets) × (parts.1.items ≡ take (last_of offsets) values) × (parts.2 ≡ mask)) }
+    ensures { MatchEither result (AreThreeParts offsets values mask) (AreMaskedSlotParts offsets values mask) }
 {
     let end = offsets.last().to_usize();
     let OffsetsBuffer { offsets } = offsets;
@@ -233,8 +229,7 @@ pub fn into_mut_bytes<O: Offset>(
     (Offsets<O>, Vec<u8>, Option<MutableBitmap>),
 >
     requires { last_of offsets ≤ length values }
-    ensures { MatchEither result (λ parts. (parts.0 ≡ offsets) × (parts.1 ≡ values) × (parts.2 ≡ validity))
-        (λ parts. (parts.0 ≡ offsets) × (parts.1.items ≡ take (last_of offsets) values) × (parts.2 ≡ validity)) }
+    ensures { MatchEither result (AreThreeParts offsets values validity) (AreMaskedSlotParts offsets values validity) }
 {
     match validity {
         None => match thaw_slots(offsets, values) {

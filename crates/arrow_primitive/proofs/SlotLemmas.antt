@@ -1,4 +1,4 @@
--- Lemmas about slots, and about what a call answers.
+-- Lemmas about slots, and about what a call returns.
 use Rattle.std.proofs.Common.{◌≡◌, ℕ, zero, suc, List, [], ◌∷◌, length, map, replicate, Option, Some, None}
 use Rattle.std.proofs.Common.{option_map, Result, Ok, Err, OnOk, IfErr, refl, ap, ap₂, false, take, ◌++◌, ◌-◌, ◌∙◌}
 use Rattle.std.proofs.Common.{arith}

@@ -1,10 +1,11 @@
 //! Replacement of values and masks, and thawing of arrays.
-ghost use Rattle.std.specs.Prelude.{◌≡◌, List, Bool, Some, length, IfSome, IsTrue, MatchOption, vec_len};
+ghost use Rattle.std.specs.Prelude.{◌≡◌, List, Bool, length, IfSome, IsTrue};
 ghost use Rattle.std.specs.Bool.{OnFalse};
 ghost use Rattle.std.specs.Borrow.{MutBor};
 ghost use Rattle.std.specs.Fn.{FnOnceReturnsAtMut};
 ghost use Rattle.either.specs.Either.{MatchEither};
 ghost use Rattle.arrow_column.specs.Column.{mask_of, stored_values, with_mask, with_stored};
+ghost use Rattle.arrow_column.specs.Changes.{ChangesMask, WritesStored, KeepsCount, ReplacesVec};
 
 use crate::{MutablePrimitiveArray, PrimitiveArray};
 use arrow_column::LendValues;
@@ -38,9 +39,7 @@ impl<T: NativeType> PrimitiveArray<T> {
         requires callable { IfSome (mask_of self.old) (λ marks. F.pre change marks) }
         requires keeps { IfSome (mask_of self.old) (λ marks. (changed : List Bool) → F.post change marks changed
             → length changed ≡ length marks) }
-        ensures { MatchOption (mask_of self.old) (self.new ≡ self.old) (λ marks. (changed : List Bool)
-            × F.post change marks changed × (length changed ≡ length marks)
-            × (self.new ≡ with_mask self.old (Some changed))) }
+        ensures { ChangesMask (F.post change) self.old self.new }
     {
         self.column.apply_validity(change);
     }
@@ -66,9 +65,7 @@ impl<T: NativeType> PrimitiveArray<T> {
     /// marks stay.
     pub fn get_mut_values<F: FnOnce(&mut [T]) + Drop>(&mut self, change: F) -> bool
         requires { (values : MutBor (List T)) → values.now ≡ stored_values self.old → F.pre change values }
-        ensures changed { IsTrue result
-            → (ws : List T) × FnOnceReturnsAtMut F.FnOnce change (stored_values self.old) tt ws
-            × (length ws ≡ length self.old.rows) × (self.new ≡ with_stored self.old ws) }
+        ensures changed { IsTrue result → WritesStored (FnOnceReturnsAtMut F.FnOnce change) self.old self.new }
         ensures unchanged { OnFalse result (self.new ≡ self.old) }
     {
         self.column.get_mut_values(change)
@@ -108,11 +105,8 @@ impl<T: NativeType> MutablePrimitiveArray<T> {
     /// The marks stay.
     pub fn apply_values<F: Fn(Vec<T>) -> Vec<T>>(&mut self, change: F)
         requires callable { (values : _) → values.items ≡ stored_values self.old → F.pre change values }
-        requires keeps { (values changed : _) → values.items ≡ stored_values self.old → F.post change values changed
-            → vec_len changed ≡ length self.old.rows }
-        ensures { (values : _) × (changed : _) × (values.items ≡ stored_values self.old)
-            × F.post change values changed × (vec_len changed ≡ length self.old.rows)
-            × (self.new ≡ with_stored self.old changed.items) }
+        requires keeps { KeepsCount (F.post change) self.old }
+        ensures { ReplacesVec (F.post change) self.old self.new }
     {
         self.column.apply_values(change);
     }

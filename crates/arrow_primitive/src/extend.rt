@@ -1,8 +1,9 @@
 //! Growth of builders by many slots.
-ghost use Rattle.std.specs.Prelude.{◌≡◌, List, Option, Some, None, map, replicate, IfSome, IfNone, OnOk, IfErr};
-ghost use Rattle.std.specs.Iterator.{Drains, IsFinite, Yields};
+ghost use Rattle.std.specs.Prelude.{◌≡◌, replicate, IfSome, IfNone, OnOk, IfErr};
+ghost use Rattle.std.specs.Iterator.{IsFinite};
 ghost use Rattle.arrow_types.specs.Failures.{OutOfMemoryKeeps};
-ghost use Rattle.arrow_column.specs.Column.{append_nulls, append_slots, append_values, cut, FitsCut, joined};
+ghost use Rattle.arrow_column.specs.Column.{append_nulls, append_values, cut, FitsCut, joined};
+ghost use Rattle.arrow_column.specs.Appends.{ExtendsAll, ExtendsUntil, ExtendsAllValues, ExtendsValuesUntil};
 
 use crate::{MutablePrimitiveArray, PrimitiveArray};
 use arrow_column::Repeated;
@@ -19,10 +20,8 @@ impl<T: NativeType> MutablePrimitiveArray<T> {
     pub fn extend<I: Iterator<Item = Option<T>>>(&mut self, iter: I) -> Result<(), Error>
         requires can { I.can_next iter }
         requires ends { IsFinite (I.remaining iter) }
-        ensures ok { OnOk result ((items : List (Option T)) × Drains I.next_gives iter items
-            × (self.new ≡ append_slots T.zero self.old items)) }
-        ensures err { IfErr result (λ e. (e ≡ Error.OutOfMemory) × ((begun : List (Option T)) × (rest : I)
-            × Yields I.next_gives iter begun rest × (self.new ≡ append_slots T.zero self.old begun))) }
+        ensures ok { OnOk result (ExtendsAll T.zero I.next_gives iter self.old self.new) }
+        ensures err { IfErr result (ExtendsUntil T.zero I.next_gives iter self.old self.new) }
     {
         self.column.extend(iter)
     }
@@ -34,10 +33,8 @@ impl<T: NativeType> MutablePrimitiveArray<T> {
     pub fn try_extend<I: Iterator<Item = Option<T>>>(&mut self, iter: I) -> Result<(), Error>
         requires can { I.can_next iter }
         requires ends { IsFinite (I.remaining iter) }
-        ensures ok { OnOk result ((items : List (Option T)) × Drains I.next_gives iter items
-            × (self.new ≡ append_slots T.zero self.old items)) }
-        ensures err { IfErr result (λ e. (e ≡ Error.OutOfMemory) × ((begun : List (Option T)) × (rest : I)
-            × Yields I.next_gives iter begun rest × (self.new ≡ append_slots T.zero self.old begun))) }
+        ensures ok { OnOk result (ExtendsAll T.zero I.next_gives iter self.old self.new) }
+        ensures err { IfErr result (ExtendsUntil T.zero I.next_gives iter self.old self.new) }
     {
         self.extend(iter)
     }
@@ -50,11 +47,8 @@ impl<T: NativeType> MutablePrimitiveArray<T> {
     pub fn extend_values<I: Iterator<Item = T>>(&mut self, iter: I) -> Result<(), Error>
         requires can { I.can_next iter }
         requires ends { IsFinite (I.remaining iter) }
-        ensures ok { OnOk result ((items : List T) × Drains I.next_gives iter items
-            × (self.new ≡ append_slots T.zero self.old (map Some items))) }
-        ensures err { IfErr result (λ e. (e ≡ Error.OutOfMemory)
-            × ((begun : List T) × (rest : I) × Yields I.next_gives iter begun rest
-            × (self.new ≡ append_slots T.zero self.old (map Some begun)))) }
+        ensures ok { OnOk result (ExtendsAllValues T.zero I.next_gives iter self.old self.new) }
+        ensures err { IfErr result (ExtendsValuesUntil T.zero I.next_gives iter self.old self.new) }
     {
         self.column.extend_values(iter)
     }

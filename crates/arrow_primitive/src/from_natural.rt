@@ -1,9 +1,10 @@
 //! Arrays and builders made of values or of slots.
-ghost use Rattle.std.specs.Prelude.{◌≡◌, List, Option, Some, None, [], false, replicate, IfOk, IfErr};
-ghost use Rattle.std.specs.Iterator.{Drains, IsFinite};
+ghost use Rattle.std.specs.Prelude.{◌≡◌, None, IfOk};
+ghost use Rattle.std.specs.Iterator.{IsFinite};
 ghost use Rattle.arrow_types.specs.Failures.{OnlyOutOfMemory};
 ghost use Rattle.arrow_types.specs.Types.{logical_type, IsRightType, default_logical_type};
-ghost use Rattle.arrow_column.specs.Column.{append_slots, column_of_parts, without_needless_mask};
+ghost use Rattle.arrow_column.specs.Column.{append_slots, column_of_parts, empty_masked, null_column, array_of_slots};
+ghost use Rattle.arrow_column.specs.Appends.{ExtendsAll, CollectsSlots, CollectsValues};
 
 use crate::{MutablePrimitiveArray, PrimitiveArray};
 use arrow_memory::bitmap::{Bitmap, MutableBitmap};
@@ -18,7 +19,7 @@ use std::alloc::Global;
 impl<T: NativeType> MutablePrimitiveArray<T> {
     /// Creates a builder of no slots that holds a mask of no marks.
     fn masked(alloc: Global) -> Self
-        ensures { result ≡ column_of_parts (default_logical_type T.PRIMITIVE) [] (Some []) }
+        ensures { result ≡ empty_masked (default_logical_type T.PRIMITIVE) }
     {
         let mut builder = MutablePrimitiveArray::new(alloc);
         builder.set_validity(Some(MutableBitmap::new(alloc)));
@@ -31,9 +32,8 @@ impl<T: NativeType> MutablePrimitiveArray<T> {
     /// # Errors
     /// `OutOfMemory` if an allocation fails.
     pub fn from(alloc: Global, slots: &[Option<T>]) -> Result<Self, Error>
-        ensures ok { IfOk result (λ builder.
-            builder ≡ append_slots T.zero (column_of_parts (default_logical_type T.PRIMITIVE) [] (Some []))
-            slots.now) }
+        ensures ok { IfOk result (λ builder. builder ≡ append_slots T.zero
+            (empty_masked (default_logical_type T.PRIMITIVE)) slots.now) }
         ensures err { OnlyOutOfMemory result }
     {
         let mut builder = MutablePrimitiveArray::masked(alloc);
@@ -49,9 +49,8 @@ impl<T: NativeType> MutablePrimitiveArray<T> {
     pub fn from_iter<I: Iterator<Item = Option<T>>>(alloc: Global, iter: I) -> Result<Self, Error>
         requires can { I.can_next iter }
         requires ends { IsFinite (I.remaining iter) }
-        ensures ok { IfOk result (λ builder. (items : List (Option T)) × Drains I.next_gives iter items
-            × (builder ≡ append_slots T.zero (column_of_parts (default_logical_type T.PRIMITIVE) [] (Some []))
-            items)) }
+        ensures ok { IfOk result (ExtendsAll T.zero I.next_gives iter
+            (empty_masked (default_logical_type T.PRIMITIVE))) }
         ensures err { OnlyOutOfMemory result }
     {
         let mut builder = MutablePrimitiveArray::masked(alloc);
@@ -116,8 +115,7 @@ impl<T: NativeType> PrimitiveArray<T> {
     pub fn from_values<I: Iterator<Item = T>>(alloc: Global, iter: I) -> Result<Self, Error>
         requires can { I.can_next iter }
         requires ends { IsFinite (I.remaining iter) }
-        ensures ok { IfOk result (λ array. (items : List T) × Drains I.next_gives iter items
-            × (array ≡ column_of_parts (default_logical_type T.PRIMITIVE) items None)) }
+        ensures ok { IfOk result (CollectsValues (default_logical_type T.PRIMITIVE) I.next_gives iter) }
         ensures err { OnlyOutOfMemory result }
     {
         let mut builder = MutablePrimitiveArray::new(alloc);
@@ -131,9 +129,7 @@ impl<T: NativeType> PrimitiveArray<T> {
     /// # Errors
     /// `OutOfMemory` if an allocation fails.
     pub fn from(alloc: Global, slots: &[Option<T>]) -> Result<Self, Error>
-        ensures ok { IfOk result (λ array.
-            array ≡ without_needless_mask (append_slots T.zero (column_of_parts (default_logical_type T.PRIMITIVE)
-            [] (Some [])) slots.now)) }
+        ensures ok { IfOk result (λ array. array ≡ array_of_slots T.zero (default_logical_type T.PRIMITIVE) slots.now) }
         ensures err { OnlyOutOfMemory result }
     {
         MutablePrimitiveArray::from(alloc, slots)?.freeze()
@@ -147,9 +143,7 @@ impl<T: NativeType> PrimitiveArray<T> {
     pub fn from_iter<I: Iterator<Item = Option<T>>>(alloc: Global, iter: I) -> Result<Self, Error>
         requires can { I.can_next iter }
         requires ends { IsFinite (I.remaining iter) }
-        ensures ok { IfOk result (λ array. (items : List (Option T)) × Drains I.next_gives iter items
-            × (array ≡ without_needless_mask
-            (append_slots T.zero (column_of_parts (default_logical_type T.PRIMITIVE) [] (Some [])) items))) }
+        ensures ok { IfOk result (CollectsSlots T.zero (default_logical_type T.PRIMITIVE) I.next_gives iter) }
         ensures err { OnlyOutOfMemory result }
     {
         MutablePrimitiveArray::from_iter(alloc, iter)?.freeze()
@@ -162,9 +156,7 @@ impl<T: NativeType> PrimitiveArray<T> {
     /// `OutOfMemory` if an allocation fails.
     pub fn new_null(alloc: Global, data_type: DataType, length: usize) -> Result<Self, Error>
         requires { IsRightType (PhysicalType.Primitive T.PRIMITIVE) (logical_type data_type) }
-        ensures ok { IfOk result (λ array.
-            array ≡ column_of_parts (logical_type data_type) (replicate length T.zero)
-            (Some (replicate length false))) }
+        ensures ok { IfOk result (λ array. array ≡ null_column (logical_type data_type) tt T.zero length) }
         ensures err { OnlyOutOfMemory result }
     {
         let mut values = Vec::new(alloc);

@@ -1,8 +1,6 @@
 //! Arrays and builders made of parts from outside, which are checked.
-ghost use Rattle.std.specs.Prelude.{◌≡◌, IfOk, IfErr};
-ghost use Rattle.arrow_types.specs.Types.{logical_type, refusal};
-ghost use Rattle.arrow_column.specs.Acceptance.{IsFirstFailure, Passes};
-ghost use Rattle.arrow_column.specs.Column.{column_of_parts};
+ghost use Rattle.arrow_types.specs.Types.{logical_type};
+ghost use Rattle.arrow_column.specs.Validation.{AcceptsParts, RefusesParts};
 ghost use Rattle.arrow_primitive.specs.Fits.{parts_tests};
 
 use crate::{MutablePrimitiveArray, PrimitiveArray};
@@ -32,10 +30,8 @@ impl<T: NativeType> PrimitiveArray<T> {
         values: Buffer<T>,
         validity: Option<Bitmap>,
     ) -> Result<Self, Error>
-        ensures ok { let t = logical_type data_type in IfOk result (λ array.
-            Passes (parts_tests T.PRIMITIVE t values validity) × (array ≡ column_of_parts t values validity)) }
-        ensures err { IfErr result (λ e.
-            IsFirstFailure (parts_tests T.PRIMITIVE (logical_type data_type) values validity) (refusal e)) }
+        ensures ok { AcceptsParts (parts_tests T.PRIMITIVE) (logical_type data_type) values validity result }
+        ensures err { RefusesParts (parts_tests T.PRIMITIVE) (logical_type data_type) values validity result }
     {
         if !is_mask_of(&validity, values.len()) {
             return Err(Error::OutOfSpec(UNFIT_MASK));
@@ -55,10 +51,8 @@ impl<T: NativeType> PrimitiveArray<T> {
         values: Buffer<T>,
         validity: Option<Bitmap>,
     ) -> Result<Self, Error>
-        ensures ok { let t = logical_type data_type in IfOk result (λ array.
-            Passes (parts_tests T.PRIMITIVE t values validity) × (array ≡ column_of_parts t values validity)) }
-        ensures err { IfErr result (λ e.
-            IsFirstFailure (parts_tests T.PRIMITIVE (logical_type data_type) values validity) (refusal e)) }
+        ensures ok { AcceptsParts (parts_tests T.PRIMITIVE) (logical_type data_type) values validity result }
+        ensures err { RefusesParts (parts_tests T.PRIMITIVE) (logical_type data_type) values validity result }
     {
         PrimitiveArray::try_new(data_type, values, validity)
     }
@@ -75,11 +69,8 @@ impl<T: NativeType> MutablePrimitiveArray<T> {
         values: Vec<T>,
         validity: Option<MutableBitmap>,
     ) -> Result<Self, Error>
-        ensures ok { let t = logical_type data_type in IfOk result (λ builder.
-            Passes (parts_tests T.PRIMITIVE t values.items validity)
-            × (builder ≡ column_of_parts t values.items validity)) }
-        ensures err { IfErr result (λ e.
-            IsFirstFailure (parts_tests T.PRIMITIVE (logical_type data_type) values.items validity) (refusal e)) }
+        ensures ok { AcceptsParts (parts_tests T.PRIMITIVE) (logical_type data_type) values.items validity result }
+        ensures err { RefusesParts (parts_tests T.PRIMITIVE) (logical_type data_type) values.items validity result }
     {
         if !is_growing_mask_of(&validity, values.len()) {
             return Err(Error::OutOfSpec(UNFIT_MASK));

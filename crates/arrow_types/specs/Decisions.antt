@@ -4,7 +4,7 @@ use Rattle.std.specs.Bool.{Decides}
 use Rattle.std.specs.Cmp.{unsigned_Decides}
 use Rattle.std.proofs.Common.{sym, ◌∙◌, ap, true≢false}
 
--- where a number tells each value apart, comparing the numbers decides equality
+-- if each value has its own number, comparing the numbers decides equality
 pub place-Decides : {A : Type 0} (place : A → ℕ) (at : ℕ → A) → ((x : A) → at (place x) ≡ x) → (x y : A)
     → Decides (place x == place y) (x ≡ y)
 place-Decides place at again x y =

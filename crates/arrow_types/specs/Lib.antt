@@ -2,5 +2,8 @@ pub mod Failures
 pub mod Types
 pub mod Decisions
 pub mod TypeEquality
+pub mod NativeEquality
 pub mod IndexKey
 pub mod TypeText
+pub mod ListText
+pub mod LeBytes

@@ -16,7 +16,7 @@ use Rattle.arrow_types.specs.Types.{Base, Extension, LogicalType, boolean, int8,
 use Rattle.arrow_types.specs.Types.{uint32, uint64, date32, date64, time32, time64, timestamp, duration, interval}
 use Rattle.arrow_types.specs.Types.{decimal, decimal256, binary, large_binary, utf8, large_utf8}
 
--- the place of a unit of time, and the unit at a place
+-- the index of a unit of time, and the unit at an index
 time_unit_place : TimeUnit → ℕ
 time_unit_place time_unit.Second = 0
 time_unit_place time_unit.Millisecond = 1
@@ -43,7 +43,7 @@ same_time_unit-Decides : (t u : TimeUnit) → Decides (same_time_unit t u) (t �
 unfolding same_time_unit
 same_time_unit-Decides = place-Decides time_unit_place time_unit_at time_unit_again
 
--- the place of a unit of intervals, and the unit at a place
+-- the index of a unit of intervals, and the unit at an index
 interval_unit_place : IntervalUnit → ℕ
 interval_unit_place interval_unit.YearMonth = 0
 interval_unit_place interval_unit.DayTime = 1

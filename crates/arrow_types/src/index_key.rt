@@ -100,3 +100,14 @@ impl IndexKey for u64 {
         Some(*self as usize)
     }
 }
+
+impl IndexKey for usize {
+    ghost use Rattle.std.specs.Prelude.{pos};
+
+    ghost number = { λ x. pos x };
+
+    #[inline(always)]
+    fn to_index(&self) -> Option<usize> {
+        Some(*self)
+    }
+}

@@ -1,12 +1,16 @@
 //! The ghost members of each native type, offset type and key type as plain values. Each law is the
 //! contract of a function with an empty body.
-ghost use Rattle.std.specs.Prelude.{◌≡◌, ℕ, ℤ, pos, true, false};
+ghost use Rattle.std.specs.Prelude.{◌≡◌, ℕ, ℤ, List, pos, true, false};
+ghost use Rattle.std.specs.Int.{from_le_bytes, w128, w16, w32, w64, w8};
 ghost use Rattle.arrow_types.specs.declared.primitive_type.PrimitiveType.TheVariants.{Int8, Int16, Int32, Int64};
 ghost use Rattle.arrow_types.specs.declared.primitive_type.PrimitiveType.TheVariants.{Int128, Int256, UInt8};
 ghost use Rattle.arrow_types.specs.declared.primitive_type.PrimitiveType.TheVariants.{UInt16, UInt32, UInt64};
 ghost use Rattle.arrow_types.specs.declared.primitive_type.PrimitiveType.TheVariants.{DaysMs, MonthDayNano};
+ghost use Rattle.arrow_types.specs.LeBytes.{days_ms_of_bytes, i256_of_bytes, months_days_ns_of_bytes};
+ghost use Rattle.arrow_types.specs.LeBytes.{signed_of_bytes};
 
 use crate::index_key::IndexKey;
+use crate::le_bytes::FromLeBytes;
 use crate::native_type::{NativeType, days_ms, i256, months_days_ns};
 use crate::offset::Offset;
 
@@ -110,4 +114,36 @@ pub fn keys()
     ensures u16 { (x : ℕ) → ⟦<u16 as IndexKey>⟧.number x ≡ pos x }
     ensures u32 { (x : ℕ) → ⟦<u32 as IndexKey>⟧.number x ≡ pos x }
     ensures u64 { (x : ℕ) → ⟦<u64 as IndexKey>⟧.number x ≡ pos x }
+{}
+
+/// The number of bytes of a value of each native type.
+pub fn byte_counts()
+    ensures i8 { ⟦<i8 as FromLeBytes>⟧.SIZE ≡ 1 }
+    ensures i16 { ⟦<i16 as FromLeBytes>⟧.SIZE ≡ 2 }
+    ensures i32 { ⟦<i32 as FromLeBytes>⟧.SIZE ≡ 4 }
+    ensures i64 { ⟦<i64 as FromLeBytes>⟧.SIZE ≡ 8 }
+    ensures i128 { ⟦<i128 as FromLeBytes>⟧.SIZE ≡ 16 }
+    ensures i256 { ⟦<i256 as FromLeBytes>⟧.SIZE ≡ 32 }
+    ensures u8 { ⟦<u8 as FromLeBytes>⟧.SIZE ≡ 1 }
+    ensures u16 { ⟦<u16 as FromLeBytes>⟧.SIZE ≡ 2 }
+    ensures u32 { ⟦<u32 as FromLeBytes>⟧.SIZE ≡ 4 }
+    ensures u64 { ⟦<u64 as FromLeBytes>⟧.SIZE ≡ 8 }
+    ensures days_ms { ⟦<days_ms as FromLeBytes>⟧.SIZE ≡ 8 }
+    ensures months_days_ns { ⟦<months_days_ns as FromLeBytes>⟧.SIZE ≡ 16 }
+{}
+
+/// The value of bytes of each native type, the least significant first.
+pub fn values_of_bytes()
+    ensures i8 { (bytes : List ℕ) → ⟦<i8 as FromLeBytes>⟧.of_bytes bytes ≡ signed_of_bytes w8 bytes }
+    ensures i16 { (bytes : List ℕ) → ⟦<i16 as FromLeBytes>⟧.of_bytes bytes ≡ signed_of_bytes w16 bytes }
+    ensures i32 { (bytes : List ℕ) → ⟦<i32 as FromLeBytes>⟧.of_bytes bytes ≡ signed_of_bytes w32 bytes }
+    ensures i64 { (bytes : List ℕ) → ⟦<i64 as FromLeBytes>⟧.of_bytes bytes ≡ signed_of_bytes w64 bytes }
+    ensures i128 { (bytes : List ℕ) → ⟦<i128 as FromLeBytes>⟧.of_bytes bytes ≡ signed_of_bytes w128 bytes }
+    ensures i256 { (bytes : List ℕ) → ⟦<i256 as FromLeBytes>⟧.of_bytes bytes ≡ i256_of_bytes bytes }
+    ensures u8 { (bytes : List ℕ) → ⟦<u8 as FromLeBytes>⟧.of_bytes bytes ≡ from_le_bytes w8 bytes }
+    ensures u16 { (bytes : List ℕ) → ⟦<u16 as FromLeBytes>⟧.of_bytes bytes ≡ from_le_bytes w16 bytes }
+    ensures u32 { (bytes : List ℕ) → ⟦<u32 as FromLeBytes>⟧.of_bytes bytes ≡ from_le_bytes w32 bytes }
+    ensures u64 { (bytes : List ℕ) → ⟦<u64 as FromLeBytes>⟧.of_bytes bytes ≡ from_le_bytes w64 bytes }
+    ensures days_ms { (bytes : List ℕ) → ⟦<days_ms as FromLeBytes>⟧.of_bytes bytes ≡ days_ms_of_bytes bytes }
+    ensures months_days_ns { (bytes : List ℕ) → ⟦<months_days_ns as FromLeBytes>⟧.of_bytes bytes ≡ months_days_ns_of_bytes bytes }
 {}

@@ -5,6 +5,8 @@ pub mod data_type;
 pub mod error;
 pub mod index_key;
 pub mod laws;
+pub mod le_bytes;
+pub mod list_text;
 pub mod native_type;
 pub mod offset;
 pub mod physical_type;

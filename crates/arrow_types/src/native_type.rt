@@ -205,9 +205,7 @@ pub struct months_days_ns(pub i32, pub i32, pub i64);
 
 impl NativeType for i256 {
     ghost use Rattle.std.specs.Prelude.{pos};
-    ghost use Rattle.std.proofs.Common.{ap};
-    ghost use Rattle.std.specs.Cmp.{signed_Decides, unsigned_Decides};
-    ghost use Rattle.arrow_types.specs.Decisions.{both-Decides};
+    ghost use Rattle.arrow_types.specs.NativeEquality.{i256-Decides};
     ghost use Rattle.arrow_types.specs.declared.primitive_type.PrimitiveType.TheVariants.{Int256};
 
     ghost PRIMITIVE = { Int256 };
@@ -216,9 +214,7 @@ impl NativeType for i256 {
 
     ghost zero = { record { 0 = pos 0; 1 = 0 } };
 
-    ghost same = { λ x y.
-        let d = both-Decides (signed_Decides x.0 y.0) (unsigned_Decides x.1 y.1) in
-        (λ h. let p = d.0 h in λ i. record { 0 = p.0 i; 1 = p.1 i }, λ e. d.1 (ap (λ v. v.0) e, ap (λ v. v.1) e)) };
+    ghost same = { i256-Decides };
 
     #[inline(always)]
     fn default() -> i256 {
@@ -228,9 +224,7 @@ impl NativeType for i256 {
 
 impl NativeType for days_ms {
     ghost use Rattle.std.specs.Prelude.{pos};
-    ghost use Rattle.std.proofs.Common.{ap};
-    ghost use Rattle.std.specs.Cmp.{signed_Decides};
-    ghost use Rattle.arrow_types.specs.Decisions.{both-Decides};
+    ghost use Rattle.arrow_types.specs.NativeEquality.{days_ms-Decides};
     ghost use Rattle.arrow_types.specs.declared.primitive_type.PrimitiveType.TheVariants.{DaysMs};
 
     ghost PRIMITIVE = { DaysMs };
@@ -239,9 +233,7 @@ impl NativeType for days_ms {
 
     ghost zero = { record { 0 = pos 0; 1 = pos 0 } };
 
-    ghost same = { λ x y.
-        let d = both-Decides (signed_Decides x.0 y.0) (signed_Decides x.1 y.1) in
-        (λ h. let p = d.0 h in λ i. record { 0 = p.0 i; 1 = p.1 i }, λ e. d.1 (ap (λ v. v.0) e, ap (λ v. v.1) e)) };
+    ghost same = { days_ms-Decides };
 
     #[inline(always)]
     fn default() -> days_ms {
@@ -251,9 +243,7 @@ impl NativeType for days_ms {
 
 impl NativeType for months_days_ns {
     ghost use Rattle.std.specs.Prelude.{pos};
-    ghost use Rattle.std.proofs.Common.{ap};
-    ghost use Rattle.std.specs.Cmp.{signed_Decides};
-    ghost use Rattle.arrow_types.specs.Decisions.{both-Decides};
+    ghost use Rattle.arrow_types.specs.NativeEquality.{months_days_ns-Decides};
     ghost use Rattle.arrow_types.specs.declared.primitive_type.PrimitiveType.TheVariants.{MonthDayNano};
 
     ghost PRIMITIVE = { MonthDayNano };
@@ -262,12 +252,7 @@ impl NativeType for months_days_ns {
 
     ghost zero = { record { 0 = pos 0; 1 = pos 0; 2 = pos 0 } };
 
-    ghost same = { λ x y.
-        let d = both-Decides (signed_Decides x.0 y.0) (both-Decides (signed_Decides x.1 y.1) (signed_Decides x.2 y.2)) in (
-          λ h. let p = d.0 h in λ i. record { 0 = p.0 i; 1 = p.1.0 i; 2 = p.1.1 i },
-          λ e. d.1
-              (ap (λ v. v.0) e, (ap (λ v. v.1) e, ap (λ v. v.2) e)),
-        ) };
+    ghost same = { months_days_ns-Decides };
 
     #[inline(always)]
     fn default() -> months_days_ns {

@@ -8,7 +8,7 @@ pub use arrow_byte_array::{ByteArray, ByteItems, MutableByteArray, MutableByteVa
 pub use arrow_bytes::{Binary, BorrowItem, ByteItem, ByteKind, ItemError, Utf8};
 pub use arrow_check::accessor::ArrayAccessor;
 pub use arrow_check::values_iter::ArrayValuesIter;
-pub use arrow_column::LendValues;
+pub use arrow_column::{Array, LendValues};
 pub use arrow_primitive::{
     DaysMsArray, DaysMsVec, Int8Array, Int8Vec, Int16Array, Int16Vec, Int32Array, Int32Vec,
     Int64Array, Int64Vec, Int128Array, Int128Vec, Int256Array, Int256Vec, MonthsDaysNsArray,
@@ -19,11 +19,12 @@ pub use arrow_utf8::{
     MutableUtf8Array, MutableUtf8ValuesArray, MutableUtf8ValuesIter, Utf8Array, Utf8ValuesIter,
 };
 
-/// The tests of raw parts: offsets, keys and text.
+/// The tests of raw parts: offsets, keys and text, and the places at which they are wrong.
 pub mod specification {
     pub use arrow_check::bounds::{check_bounds, check_last};
     pub use arrow_check::cost::{TextBytes, TextCost};
     pub use arrow_check::indexes::{check_indexes, check_slots};
     pub use arrow_check::judge::Judge;
+    pub use arrow_check::places::{first_falling_offset, first_unfit_text};
     pub use arrow_check::text::{check_text, check_utf8};
 }

@@ -1,11 +1,12 @@
 //! Laws of the definitions in `specs/`, for all values, by the crate that states them. Each is a function with an empty
 //! body: a caller calls it where its proof needs the fact. A law of columns takes two types: `BytesAround` and
-//! `Buffer<u8>` for bytes and text, and `()` and `T` for native values, `T` being `bool` for truth values.
+//! `Buffer<u8>` for bytes and text, and `()` and `T` for native values, `T` being `bool` for booleans.
 pub use arrow_boolean::laws as boolean;
 pub use arrow_byte_array::laws as byte_array;
 pub use arrow_bytes::{BytesAround, laws as bytes};
 pub use arrow_check::laws as check;
 pub use arrow_column::laws as column;
 pub use arrow_kernels::laws as kernels;
+pub use arrow_memory::bitmap::laws as bitmap;
 pub use arrow_primitive::laws as primitive;
 pub use arrow_types::laws as types;

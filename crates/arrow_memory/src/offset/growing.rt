@@ -1,10 +1,10 @@
 //! Offsets that grow.
-ghost use Rattle.std.specs.Prelude.{◌≡◌, ◌+◌, ◌-◌, ◌<◌, ◌≤◌, pos, [], ◌∷◌, ◌++◌, length, map, take, replicate};
+ghost use Rattle.std.specs.Prelude.{◌≡◌, ◌+◌, ◌<◌, ◌≤◌, pos, [], ◌∷◌, ◌++◌, length, map, take, replicate, OnErr};
 ghost use Rattle.std.specs.Prelude.{slice_index, ◌==◌, None, OnOk, IfOk, IfErr, MatchOption, IsOk};
 ghost use Rattle.arrow_types.specs.Failures.{OnlyOutOfMemory, OutOfMemoryKeeps};
 ghost use Rattle.arrow_types.specs.Types.{refusal, out_of_spec};
 ghost use Rattle.arrow_memory.specs.Offsets.{first_of, last_of, IsOffsets, KeepsOffsets, first_fault, numbers_of};
-ghost use Rattle.arrow_memory.specs.Offsets.{moved_behind, MatchGrowth};
+ghost use Rattle.arrow_memory.specs.Offsets.{joined_end, AppendsEnd, AppendsOffsets, PopsOffset, EndRefused};
 
 use crate::buffer::Buffer;
 use crate::offset::OffsetsBuffer;
@@ -175,9 +175,7 @@ impl<O: Offset> Offsets<O> {
 
     /// Removes and returns the last offset; `None` if there is no slot.
     pub fn pop(&mut self) -> Option<O>
-        ensures { MatchOption result ((length self.old ≡ 1) × (self.new ≡ self.old)) (λ offset.
-            (1 < length self.old) × (O.number offset ≡ pos (last_of self.old))
-            × (self.new ≡ take (length self.old - 1) self.old)) }
+        ensures { PopsOffset O.number self.old result self.new }
     {
         if self.len_proxy() == 0 {
             None
@@ -206,11 +204,8 @@ impl<O: Offset> Offsets<O> {
     #[inline(always)]
     pub fn try_push_usize(&mut self, length: usize) -> Result<(), Error>
         ensures legal { IsOffsets self.new }
-        ensures ok { OnOk result ((last_of self.old + length ≤ O.most)
-            × (self.new ≡ self.old ++ (last_of self.old + length) ∷ [])) }
-        ensures err { IfErr result (λ e.
-            MatchGrowth e (O.most < last_of self.old + length) (last_of self.old + length ≤ O.most)
-            × (self.new ≡ self.old)) }
+        ensures ok { OnOk result (AppendsEnd O.most self.old length self.new) }
+        ensures err { IfErr result (λ e. EndRefused e O.most (last_of self.old + length) × (self.new ≡ self.old)) }
     {
         let last = self.last().to_usize();
         if length > O::max().to_usize() - last {
@@ -241,12 +236,9 @@ impl<O: Offset> Offsets<O> {
     pub(super) fn try_extend_from_slice(&mut self, other: &[O]) -> Result<(), Error>
         requires { KeepsOffsets O.number O.most other.now }
         ensures legal { IsOffsets self.new }
-        ensures ok { OnOk result (let ends = numbers_of O.number other.now in
-            (last_of self.old + (last_of ends - first_of ends) ≤ O.most)
-            × (self.new ≡ self.old ++ moved_behind (last_of self.old) ends)) }
-        ensures err { IfErr result (λ e. let ends = numbers_of O.number other.now in
-            MatchGrowth e (O.most < last_of self.old + (last_of ends - first_of ends))
-            (last_of self.old + (last_of ends - first_of ends) ≤ O.most) × (self.new ≡ self.old)) }
+        ensures ok { OnOk result (AppendsOffsets O.most self.old (numbers_of O.number other.now) self.new) }
+        ensures err { IfErr result (λ e. EndRefused e O.most (joined_end self.old (numbers_of O.number other.now))) }
+        ensures kept { OnErr result (self.new ≡ self.old) }
     {
         let last = self.last().to_usize();
         let added = number_at(other, other.len() - 1) - number_at(other, 0);
@@ -268,11 +260,9 @@ impl<O: Offset> Offsets<O> {
     /// The offsets are unchanged on an error.
     pub fn try_extend_from_self(&mut self, other: &Offsets<O>) -> Result<(), Error>
         ensures legal { IsOffsets self.new }
-        ensures ok { OnOk result ((last_of self.old + (last_of other.now - first_of other.now) ≤ O.most)
-            × (self.new ≡ self.old ++ moved_behind (last_of self.old) other.now)) }
-        ensures err { IfErr result (λ e.
-            MatchGrowth e (O.most < last_of self.old + (last_of other.now - first_of other.now))
-            (last_of self.old + (last_of other.now - first_of other.now) ≤ O.most) × (self.new ≡ self.old)) }
+        ensures ok { OnOk result (AppendsOffsets O.most self.old other.now self.new) }
+        ensures err { IfErr result (λ e. EndRefused e O.most (joined_end self.old other.now)) }
+        ensures kept { OnErr result (self.new ≡ self.old) }
     {
         self.try_extend_from_slice(other.as_slice())
     }

@@ -1,6 +1,7 @@
 //! Bytes that are appended together with the ends of their slots.
-ghost use Rattle.std.specs.Prelude.{◌≡◌, ◌+◌, ◌-◌, ◌<◌, ◌≤◌, [], ◌∷◌, ◌++◌, length, take, drop, OnOk, OnErr, IfErr};
-ghost use Rattle.arrow_memory.specs.Offsets.{first_of, last_of, IsOffsets, KeepsOffsets, MatchGrowth, moved_behind};
+ghost use Rattle.std.specs.Prelude.{◌≡◌, ◌+◌, ◌<◌, ◌≤◌, ◌++◌, length, OnOk, OnErr, IfErr};
+ghost use Rattle.arrow_memory.specs.Offsets.{last_of, IsOffsets, KeepsOffsets, window_of, slots_from, joined_end};
+ghost use Rattle.arrow_memory.specs.Offsets.{AppendsEnd, AppendsOffsets, EndRefused};
 ghost use Rattle.arrow_memory.specs.Offsets.{numbers_of};
 
 use crate::offset::numbers::number_at;
@@ -57,12 +58,10 @@ impl<O: Offset> Offsets<O> {
     #[inline(always)]
     pub fn try_push_item(&mut self, values: &mut Vec<u8>, item: &[u8]) -> Result<(), Error>
         ensures legal { IsOffsets self.new }
-        ensures ok { OnOk result ((last_of self.old + length item.now ≤ O.most)
-            × (self.new ≡ self.old ++ (last_of self.old + length item.now) ∷ [])
-            × (values.new.items ≡ values.old.items ++ item.now)) }
-        ensures err { IfErr result (λ e. MatchGrowth e (O.most < last_of self.old + length item.now)
-            (last_of self.old + length item.now ≤ O.most) × (self.new ≡ self.old)
-            × (values.new.items ≡ values.old.items)) }
+        ensures ok { OnOk result (AppendsEnd O.most self.old (length item.now) self.new) }
+        ensures bytes { OnOk result (values.new.items ≡ values.old.items ++ item.now) }
+        ensures err { IfErr result (λ e. EndRefused e O.most (last_of self.old + length item.now)) }
+        ensures kept { OnErr result ((self.new ≡ self.old) × (values.new.items ≡ values.old.items)) }
     {
         let before = self.len_proxy();
         self.try_push_usize(item.len())?;
@@ -86,15 +85,11 @@ impl<O: Offset> Offsets<O> {
         requires keeps { KeepsOffsets O.number O.most other.now }
         requires held { last_of (numbers_of O.number other.now) ≤ length others.now }
         ensures legal { IsOffsets self.new }
-        ensures ok { OnOk result (let ends = numbers_of O.number other.now in
-            (last_of self.old + (last_of ends - first_of ends) ≤ O.most)
-            × (self.new ≡ self.old ++ moved_behind (last_of self.old) ends)
-            × (values.new.items ≡ values.old.items ++ take (last_of ends - first_of ends)
-            (drop (first_of ends) others.now))) }
-        ensures err { IfErr result (λ e. let ends = numbers_of O.number other.now in
-            MatchGrowth e (O.most < last_of self.old + (last_of ends - first_of ends))
-            (last_of self.old + (last_of ends - first_of ends) ≤ O.most) × (self.new ≡ self.old)
-            × (values.new.items ≡ values.old.items)) }
+        ensures ok { OnOk result (AppendsOffsets O.most self.old (numbers_of O.number other.now) self.new) }
+        ensures bytes { OnOk result (values.new.items ≡ values.old.items
+            ++ window_of (numbers_of O.number other.now) others.now) }
+        ensures err { IfErr result (λ e. EndRefused e O.most (joined_end self.old (numbers_of O.number other.now))) }
+        ensures kept { OnErr result ((self.new ≡ self.old) × (values.new.items ≡ values.old.items)) }
     {
         let before = self.len_proxy();
         let start = number_at(other, 0);
@@ -127,14 +122,10 @@ impl<O: Offset> Offsets<O> {
         requires { last_of other.now ≤ length others.now }
         ensures legal { IsOffsets self.new }
         ensures other { IsOffsets other.now }
-        ensures ok { OnOk result ((last_of self.old + (last_of other.now - first_of other.now) ≤ O.most)
-            × (self.new ≡ self.old ++ moved_behind (last_of self.old) other.now)
-            × (values.new.items ≡ values.old.items ++ take (last_of other.now - first_of other.now)
-            (drop (first_of other.now) others.now))) }
-        ensures err { IfErr result (λ e.
-            MatchGrowth e (O.most < last_of self.old + (last_of other.now - first_of other.now))
-            (last_of self.old + (last_of other.now - first_of other.now) ≤ O.most) × (self.new ≡ self.old)
-            × (values.new.items ≡ values.old.items)) }
+        ensures ok { OnOk result (AppendsOffsets O.most self.old other.now self.new) }
+        ensures bytes { OnOk result (values.new.items ≡ values.old.items ++ window_of other.now others.now) }
+        ensures err { IfErr result (λ e. EndRefused e O.most (joined_end self.old other.now)) }
+        ensures kept { OnErr result ((self.new ≡ self.old) × (values.new.items ≡ values.old.items)) }
     {
         self.try_extend_cut(values, other.as_slice(), others)
     }
@@ -156,15 +147,11 @@ impl<O: Offset> Offsets<O> {
         requires held { last_of other.now ≤ length others.now }
         ensures legal { IsOffsets self.new }
         ensures other { IsOffsets other.now }
-        ensures ok { OnOk result (let piece = take (count + 1) (drop first other.now) in
-            (last_of self.old + (last_of piece - first_of piece) ≤ O.most)
-            × (self.new ≡ self.old ++ moved_behind (last_of self.old) piece)
-            × (values.new.items ≡ values.old.items ++ take (last_of piece - first_of piece)
-            (drop (first_of piece) others.now))) }
-        ensures err { IfErr result (λ e. let piece = take (count + 1) (drop first other.now) in
-            MatchGrowth e (O.most < last_of self.old + (last_of piece - first_of piece))
-            (last_of self.old + (last_of piece - first_of piece) ≤ O.most) × (self.new ≡ self.old)
-            × (values.new.items ≡ values.old.items)) }
+        ensures ok { OnOk result (AppendsOffsets O.most self.old (slots_from first count other.now) self.new) }
+        ensures bytes { OnOk result (values.new.items ≡ values.old.items
+            ++ window_of (slots_from first count other.now) others.now) }
+        ensures err { IfErr result (λ e. EndRefused e O.most (joined_end self.old (slots_from first count other.now))) }
+        ensures kept { OnErr result ((self.new ≡ self.old) × (values.new.items ≡ values.old.items)) }
     {
         let offsets = other.buffer().as_slice();
         self.try_extend_cut(values, &offsets[first..first + count + 1], others)

@@ -1,6 +1,6 @@
 //! The numbers of offsets that are kept as values of an offset type.
 ghost use Rattle.std.specs.Prelude.{◌≡◌, ◌+◌, ◌-◌, ◌<◌, ◌≤◌, pos, ◌++◌, length, map, take, slice_index, OnOk, OnErr};
-ghost use Rattle.arrow_memory.specs.Offsets.{first_of, last_of, numbers_of, moved_behind, KeepsOffsets};
+ghost use Rattle.arrow_memory.specs.Offsets.{first_of, last_of, numbers_of, KeepsOffsets, ends_behind, AppendsValues};
 
 use arrow_types::offset::Offset;
 use std::alloc::AllocError;
@@ -46,9 +46,7 @@ pub(super) fn append_moved<O: Offset>(
     requires last { last ≡ last_of (numbers_of O.number offsets.old.items) }
     requires within { last + (last_of (numbers_of O.number other.now) - first_of (numbers_of O.number other.now)) ≤
         O.most }
-    ensures ok { OnOk result (KeepsOffsets O.number O.most offsets.new.items
-        × (numbers_of O.number offsets.new.items ≡ numbers_of O.number offsets.old.items
-        ++ moved_behind last (numbers_of O.number other.now))) }
+    ensures ok { OnOk result (AppendsValues O.number O.most last offsets.old.items other.now offsets.new.items) }
     ensures err { OnErr result (offsets.new.items ≡ offsets.old.items) }
 {
     if number_at(other, 0) == last {
@@ -72,7 +70,7 @@ fn write_moved<O: Offset>(offsets: &mut [O], place: usize, other: &[O], last: us
     requires within { last + (last_of (numbers_of O.number other.now) - first_of (numbers_of O.number other.now)) ≤
         O.most }
     ensures { map O.number offsets.new ≡ map O.number (take place offsets.old)
-        ++ map pos (moved_behind last (numbers_of O.number other.now)) }
+        ++ map pos (ends_behind O.number last other.now) }
 {
     let first = number_at(other, 0);
     for i in 0..other.len() - 1 {

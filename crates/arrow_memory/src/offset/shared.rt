@@ -1,12 +1,15 @@
 //! Immutable offsets, whose clones and slices share memory.
 ghost use Rattle.std.specs.Prelude.{◌≡◌, ◌+◌, ◌<◌, ◌≤◌, pos, [], ◌∷◌, length, map, take, drop, slice_index, IfOk};
-ghost use Rattle.std.specs.Prelude.{◌==◌, IfErr};
+ghost use Rattle.std.specs.Prelude.{◌==◌, IfErr, MatchOption, None};
 ghost use Rattle.either.specs.Either.{MatchEither};
 ghost use Rattle.arrow_types.specs.Failures.{OnlyOutOfMemory};
-ghost use Rattle.arrow_memory.specs.Offsets.{first_of, last_of, IsOffsets, KeepsOffsets, numbers_of};
+ghost use Rattle.arrow_types.specs.Types.{out_of_spec, refusal};
+ghost use Rattle.arrow_memory.specs.FileOffsets.{IsFileFault};
+ghost use Rattle.arrow_memory.specs.Offsets.{file_offsets, first_fault, first_of, last_of, IsOffsets, KeepsOffsets, numbers_of};
 
 use crate::buffer::Buffer;
 use crate::offset::Offsets;
+use crate::offset::faults::first_broken_rule;
 use crate::offset::numbers::start_end_of;
 use arrow_types::error::Error;
 use arrow_types::offset::Offset;
@@ -43,6 +46,41 @@ impl<O: Offset> OffsetsBuffer<O> {
         ensures err { OnlyOutOfMemory result }
     {
         Offsets::new(alloc)?.freeze()
+    }
+
+    /// Creates offsets from a buffer, without copying it.
+    ///
+    /// # Errors
+    /// `OutOfSpec` with the first rule that is broken: there is at least one offset, the first is not negative, and none is
+    /// below the one before it.
+    pub fn try_from_buffer(offsets: Buffer<O>) -> Result<Self, Error>
+        ensures ok { IfOk result (λ made. (first_fault (map O.number offsets) ≡ None)
+            × (made ≡ numbers_of O.number offsets)) }
+        ensures err { IfErr result (λ e. MatchOption (first_fault (map O.number offsets)) ⊥ (λ text.
+            refusal e ≡ out_of_spec text)) }
+    {
+        match first_broken_rule(offsets.as_slice()) {
+            Some(rule) => Err(Error::OutOfSpec(rule)),
+            None => Ok(OffsetsBuffer { offsets }),
+        }
+    }
+
+    /// Creates offsets from a buffer of a file, which may have no offset if there is no slot (Arrow columnar format,
+    /// "Variable-size Binary Layout"). Such a buffer is read as one offset, 0; any other is not copied.
+    ///
+    /// # Errors
+    /// - `OutOfSpec` with the first rule that is broken: the first offset is not negative, and none is below the one
+    ///   before it.
+    /// - `OutOfMemory` if there is no offset and an allocation fails.
+    pub fn try_from_file_buffer(alloc: Global, offsets: Buffer<O>) -> Result<Self, Error>
+        ensures ok { IfOk result (λ made. map pos made ≡ file_offsets (map O.number offsets)) }
+        ensures err { IfErr result (IsFileFault O.number offsets) }
+    {
+        if offsets.is_empty() {
+            drop(offsets);
+            return OffsetsBuffer::new(alloc);
+        }
+        OffsetsBuffer::try_from_buffer(offsets)
     }
 
     /// Returns a clone that shares the offsets.

@@ -2,7 +2,7 @@ use Rattle.std.proofs.Common.{◌≡◌, ap, length, arith}
 use Rattle.std.proofs.lemmas.Result.{err_from_is_err_and}
 use Rattle.arrow_types.specs.Types.{logical_type, refusal}
 use Rattle.arrow_memory.specs.Offsets.{numbers_of}
-use Rattle.arrow_byte_array.proofs.AcceptanceLemmas.{typed-failed}
+use Rattle.arrow_byte_array.proofs.ValidationLemmas.{typed-failed}
 use Rattle.arrow_byte_array.proofs.parts.builder_values.Goals as goal
 
 pub returns-in_err-check_items-clause-err : goal.returns-in_err-check_items-clause-err

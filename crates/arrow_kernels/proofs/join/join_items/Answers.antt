@@ -23,15 +23,15 @@ loop-array-preserved g c =
     let so_far = flat_map stored_values (take i arrays) in
     let bytes = c.as_slice-bytes.ensures ∙ c.values.ensures.value in
     let slots = c.try_extend_slots.ensures in
-    let pushed = c.in-Ok.ensures.ok in
+    let pushed = c.in-Ok.ensures in
     let was = c.loop-array.invariant in
     let more = joined-more stored_values arrays i array c.loop-array-test.true c.array-item.is in
     record {
       ends = offsets-behind array so_far c.offsets.result.now c.as_slice-bytes.result.now c.loop-array.joined _
           c.loop-array.joined_bytes.items _ c.len.result slots.other c.offsets.ensures bytes c.len.ensures was.ends
-          was.bytes slots.legal pushed.1 pushed.2 ∙ ap (offsets_of 0) (sym more);
+          was.bytes slots.legal pushed.ok.1 pushed.bytes ∙ ap (offsets_of 0) (sym more);
       bytes = bytes-behind array so_far c.offsets.result.now c.as_slice-bytes.result.now c.loop-array.joined _
           c.loop-array.joined_bytes.items _ c.len.result slots.other c.offsets.ensures bytes c.len.ensures was.ends
-          was.bytes slots.legal pushed.1 pushed.2 ∙ ap concat (sym more);
+          was.bytes slots.legal pushed.ok.1 pushed.bytes ∙ ap concat (sym more);
       items = kinds-append g.K.ByteKind.is_text so_far (stored_values array) _ was.items c.values.ensures.items more;
     }

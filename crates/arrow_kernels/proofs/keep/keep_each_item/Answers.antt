@@ -28,11 +28,11 @@ loop-left-preserved g c =
     let so_far = where_set (take upto asked) (take upto items) in
     let more = word-grown asked c.args.row left (omega arith) (omega arith) c.loop-left.invariant.marked items
     so_far _ item c.item_at-item.ensures refl refl in
-    let pushed = c.in-Ok.ensures.ok in
+    let pushed = c.in-Ok.ensures in
     record {
       marked = left-next asked c.args.row left (omega arith) (omega arith) c.loop-left.invariant.marked;
-      ends = offsets-more c.loop-left.kept _ so_far item c.loop-left.invariant.ends pushed.1 ∙ ap (offsets_of 0) more;
-      joined = bytes-more c.loop-left.kept_bytes.items _ so_far item c.loop-left.invariant.joined pushed.2
+      ends = offsets-more c.loop-left.kept _ so_far item c.loop-left.invariant.ends pushed.ok.1 ∙ ap (offsets_of 0) more;
+      joined = bytes-more c.loop-left.kept_bytes.items _ so_far item c.loop-left.invariant.joined pushed.bytes
           ∙ ap concat more;
     }
 

@@ -30,12 +30,12 @@ loop-i-preserved g c =
     let so_far = where_set (take i asked) (take i items) in
     let more = sym (where-next asked items i c.next-i-in-loop-i.result item (c.loop-i.invariant.marked low)
     c.item_at-item.ensures next.low next.clear) in
-    let pushed = c.in-Ok.ensures.ok in
+    let pushed = c.in-Ok.ensures in
     record {
       within = next.high;
       marked = next.set;
-      ends = offsets-more c.loop-i.kept _ so_far item c.loop-i.invariant.ends pushed.1 ∙ ap (offsets_of 0) more;
-      joined = bytes-more c.loop-i.kept_bytes.items _ so_far item c.loop-i.invariant.joined pushed.2 ∙ ap concat more;
+      ends = offsets-more c.loop-i.kept _ so_far item c.loop-i.invariant.ends pushed.ok.1 ∙ ap (offsets_of 0) more;
+      joined = bytes-more c.loop-i.kept_bytes.items _ so_far item c.loop-i.invariant.joined pushed.bytes ∙ ap concat more;
     }
 
 pub returns-clause-ends : goal.returns-clause-ends

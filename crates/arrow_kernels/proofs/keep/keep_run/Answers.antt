@@ -16,7 +16,7 @@ returns-in-Ok-clause-ends g c =
     let first = c.args.first in
     let count = c.args.end - c.args.first in
     let slots = c.try_extend_slots.ensures in
-    let more = c.in-Ok.ensures.ok in
+    let more = c.in-Ok.ensures in
     let items = items_of offsets bytes in
     let so_far = where_set (take first c.args.asked.now) (take first items) in
     let window : c.args.first + (c.args.end - c.args.first) < length c.args.offsets.now = omega (
@@ -33,7 +33,7 @@ returns-in-Ok-clause-ends g c =
     omega (arith, c.requires.count, length-items offsets bytes (omega (arith, c.requires.count))) in
     offsets-run so_far (take (count + 1) (drop first offsets)) bytes c.args.kept.now c.try_extend_slots.new.self
     c.args.kept_bytes.now.items c.try_extend_slots.new.values.items legal held c.requires.ends c.requires.joined
-    slots.legal more.1 more.2
+    slots.legal more.ok.1 more.bytes
     ∙ ap (offsets_of 0) (ap (λ rest. so_far ++ rest) (items-cut first count offsets bytes)
     ∙ rows-more c.args.asked.now items first c.args.end same c.requires.order c.requires.within c.requires.set)
 
@@ -44,7 +44,7 @@ returns-in-Ok-clause-joined g c =
     let first = c.args.first in
     let count = c.args.end - c.args.first in
     let slots = c.try_extend_slots.ensures in
-    let more = c.in-Ok.ensures.ok in
+    let more = c.in-Ok.ensures in
     let items = items_of offsets bytes in
     let so_far = where_set (take first c.args.asked.now) (take first items) in
     let window : c.args.first + (c.args.end - c.args.first) < length c.args.offsets.now = omega (
@@ -61,6 +61,6 @@ returns-in-Ok-clause-joined g c =
     omega (arith, c.requires.count, length-items offsets bytes (omega (arith, c.requires.count))) in
     bytes-run so_far (take (count + 1) (drop first offsets)) bytes c.args.kept.now c.try_extend_slots.new.self
     c.args.kept_bytes.now.items c.try_extend_slots.new.values.items legal held c.requires.ends c.requires.joined
-    slots.legal more.1 more.2
+    slots.legal more.ok.1 more.bytes
     ∙ ap concat (ap (λ rest. so_far ++ rest) (items-cut first count offsets bytes)
     ∙ rows-more c.args.asked.now items first c.args.end same c.requires.order c.requires.within c.requires.set)

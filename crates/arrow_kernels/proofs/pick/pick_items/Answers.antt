@@ -17,7 +17,7 @@ loop-key-preserved g c =
     let found = key-place items (number c.key-item.result) c.place_of.result item c.place_of.ensures.place
     c.item_at-item.ensures in
     let more = sym (keys-more number keys items i c.key-item.result item c.loop-key-test.true c.key-item.is found) in
-    let pushed = c.in-Ok.ensures.ok in (
-      offsets-more c.loop-key.picked _ so_far item c.loop-key.invariant.0 pushed.1 ∙ ap (offsets_of 0) more,
-      bytes-more c.loop-key.picked_bytes.items _ so_far item c.loop-key.invariant.1 pushed.2 ∙ ap concat more,
+    let pushed = c.in-Ok.ensures in (
+      offsets-more c.loop-key.picked _ so_far item c.loop-key.invariant.0 pushed.ok.1 ∙ ap (offsets_of 0) more,
+      bytes-more c.loop-key.picked_bytes.items _ so_far item c.loop-key.invariant.1 pushed.bytes ∙ ap concat more,
     )

@@ -1,6 +1,6 @@
 use Rattle.std.proofs.lemmas.Result.{err_from_is_err_and}
 use Rattle.arrow_types.specs.Types.{logical_type, refusal}
-use Rattle.arrow_byte_array.proofs.AcceptanceLemmas.{builder-first}
+use Rattle.arrow_byte_array.proofs.ValidationLemmas.{builder-first}
 use Rattle.arrow_byte_array.proofs.builder.MutableByteArray.try_new_counted.Goals as goal
 
 pub returns-in_err-values-clause-err : goal.returns-in_err-values-clause-err

@@ -38,6 +38,18 @@ returns-clause-ok g c =
     in
     rw piece at c.try_extend_cut.ensures.ok
 
+pub returns-clause-bytes : goal.returns-clause-bytes
+returns-clause-bytes g c =
+    let number = g.O.Offset.number in
+    let e : c.args.first + c.args.count + 1 - c.args.first ≡ c.args.count + 1 = omega arith in
+    let piece : numbers_of number (take (c.args.first + c.args.count + 1 - c.args.first)
+    (drop c.args.first c.as_slice-offsets.result.now))
+    ≡ take (c.args.count + 1) (drop c.args.first c.args.other.now) =
+    rw (e, c.as_slice-offsets.ensures) (numbers-piece number c.buffer.result.now c.args.first (c.args.count + 1)
+    ∙ ap (λ ns. take (c.args.count + 1) (drop c.args.first ns)) c.buffer.ensures.numbers)
+    in
+    rw piece at c.try_extend_cut.ensures.bytes
+
 pub returns-clause-err : goal.returns-clause-err
 returns-clause-err g c =
     let number = g.O.Offset.number in

@@ -1,0 +1,78 @@
+-- Lemmas about marks that agree, a word at a time.
+use Rattle.std.proofs.Common.{◌≡◌, ℕ, zero, suc, ◌+◌, ◌-◌, ◌^◌, ◌<◌, ◌≤◌, ◌↔◌, ◌==◌, Bool, true, List}
+use Rattle.std.proofs.Common.{slice_get, Some, Option, unwrap_or, refl, sym, ap, subst, ◌∙◌, inl, inr, bit_and, nat_eq}
+use Rattle.std.proofs.Common.{arith, true≢false}
+use Rattle.std.specs.Int.{bit_at}
+use Rattle.std.proofs.lemmas.Bool.{cases_lt, eqb-true, eq-eqb}
+use Rattle.std.proofs.lemmas.Nat.Bits.{bit_at-lt, bit_at_above, bit_at_ones, same_from_bits}
+use Rattle.arrow_bitmap.specs.Masks.{IsValidAt}
+use Rattle.arrow_bitmap.proofs.AgreeLemmas.{bit-cases, kept-bit, lost-bit}
+
+-- two words that have the same bits where a third has set bits
+pub same-word : (a b k : ℕ) → k < 2 ^ 64 → (nat_eq (bit_and a k) (bit_and b k) ≡ true) ↔ ((i : ℕ) → i < 64
+    → bit_at k i ≡ 1 → bit_at a i ≡ bit_at b i)
+same-word a b k small = (
+  λ e i low kept. sym (kept-bit a k i kept) ∙ ap (λ n. bit_at n i) (eqb-true (bit_and a k) (bit_and b k) e)
+      ∙ kept-bit b k i kept,
+  λ same. eq-eqb (bit_and a k) (bit_and b k) (same_from_bits (bit_and a k) (bit_and b k) (λ i.
+      elim (bit-cases (bit_at k i) (bit_at-lt k i)) [
+        | inl lost ↦ lost-bit a k i lost ∙ sym (lost-bit b k i lost)
+        | inr kept ↦ kept-bit a k i kept ∙ same i (place i kept) kept ∙ sym (kept-bit b k i kept)
+      ])),
+)
+  where
+    place : (i : ℕ) → bit_at k i ≡ 1 → i < 64
+    place i kept = elim (cases_lt i 64) [
+      | inl low ↦ low
+      | inr past ↦ absurd (omega (arith, kept, bit_at_above k 64 i small past))
+    ]
+
+pub all-word_bits : (i : ℕ) → i < 64 → bit_at 18446744073709551615 i ≡ 1
+all-word_bits i low = bit_at_ones 64 i low
+
+-- a set mark is a set bit
+pub set-mark : (x : ℕ) → x < 2 → (x ≡ 1) ↔ (Some (x == 1) ≡ Some true)
+set-mark zero low = (λ e. absurd (omega (arith, e)), λ e. absurd (true≢false (sym (ap (λ o. unwrap_or o true) e))))
+set-mark (suc zero) low = (λ e. refl, λ e. refl)
+set-mark (suc (suc x)) low = absurd (omega arith)
+
+-- bits that are the same mark
+same-bit : (x y : ℕ) → x < 2 → y < 2 → Some (x == 1) ≡ Some (y == 1) → x ≡ y
+same-bit zero zero low high e = refl
+same-bit zero (suc zero) low high e = absurd (true≢false (sym (ap (λ o. unwrap_or o true) e)))
+same-bit (suc zero) zero low high e = absurd (true≢false (ap (λ o. unwrap_or o true) e))
+same-bit (suc zero) (suc zero) low high e = refl
+same-bit (suc (suc x)) y low high e = absurd (omega (arith, low))
+same-bit zero (suc (suc y)) low high e = absurd (omega (arith, high))
+same-bit (suc zero) (suc (suc y)) low high e = absurd (omega (arith, high))
+
+-- 64 places of two lists of marks that have the bits of two words, of which a third tells the valid ones
+module _ (first second : List Bool) (mask : Option (List Bool)) (place a b valid : ℕ)
+    (firsts : (k : ℕ) → k < 64 → slice_get first (place + k) ≡ Some (bit_at a k == 1))
+    (seconds : (k : ℕ) → k < 64 → slice_get second (place + k) ≡ Some (bit_at b k == 1))
+    (valids : (k : ℕ) → k < 64 → (bit_at valid k ≡ 1) ↔ IsValidAt mask (place + k)) where
+  pub word-agrees : ((k : ℕ) → k < 64 → bit_at valid k ≡ 1 → bit_at a k ≡ bit_at b k)
+      ↔ ((k : ℕ) → k < 64 → IsValidAt mask (place + k) → slice_get first (place + k) ≡ slice_get second (place + k))
+  word-agrees = (
+    λ bits k low is. firsts k low ∙ ap (λ x. Some (x == 1)) (bits k low ((valids k low).1 is)) ∙ sym (seconds k low),
+    λ marks k low set.
+        same-bit (bit_at a k) (bit_at b k) (bit_at-lt a k) (bit_at-lt b k)
+        (sym (firsts k low) ∙ marks k low ((valids k low).0 set) ∙ seconds k low),
+  )
+
+-- places that agree up to one, and 64 more from one at or below it
+module _ {X : Type 0} (first second : List X) (mask : Option (List Bool)) where
+  Same : ℕ → Type 0
+  Same i = IsValidAt mask i → slice_get first i ≡ slice_get second i
+
+  pub more-places : (done place : ℕ) → place ≤ done → ((i : ℕ) → i < done → IsValidAt mask i
+      → slice_get first i ≡ slice_get second i) → ((k : ℕ) → k < 64 → IsValidAt mask (place + k)
+      → slice_get first (place + k) ≡ slice_get second (place + k)) → (i : ℕ) → i < place + 64 → IsValidAt mask i
+      → slice_get first i ≡ slice_get second i
+  unfolding Same
+  more-places done place le before more i low = elim (cases_lt i done) [
+    | inl early ↦ before i early
+    | inr late ↦
+        let here : place + (i - place) ≡ i = omega (arith, late, le) in
+        subst Same here (more (i - place) (omega (arith, low, late, le)))
+  ]

@@ -1,0 +1,144 @@
+//! Equality of bitmaps, and comparison of frozen marks under a mask, 64 marks at a time.
+ghost use Rattle.std.specs.Prelude.{◌≡◌, ℕ, ◌+◌, ◌<◌, ◌≤◌, ◌↔◌, IsTrue, IfSome, length, slice_get};
+ghost use Rattle.std.specs.Int.{bit_at};
+ghost use Rattle.arrow_bitmap.specs.Masks.{AgreeWhere, FitsMask, IsValidAt};
+ghost use Rattle.arrow_bitmap.specs.MarkEquality.{AgreeWhereIn, same_marks};
+
+use crate::{Bitmap, MutableBitmap};
+
+/// Returns whether two words have the same bits wherever `kept` has a set bit.
+#[inline(always)]
+fn same_word(first: u64, second: u64, kept: u64) -> bool
+    ensures { IsTrue result ↔ ((i : ℕ) → i < 64 → bit_at kept i ≡ 1 → bit_at first i ≡ bit_at second i) }
+{
+    first & kept == second & kept
+}
+
+/// Returns 64 marks of a mask, from `place` on, as the bits of a word. Without a mask all are set.
+#[inline(always)]
+fn mask_word(mask: &Option<Bitmap>, place: usize) -> u64
+    requires { IfSome mask.now (λ marks. place + 64 ≤ length marks) }
+    ensures { (k : ℕ) → k < 64 → (bit_at result k ≡ 1) ↔ IsValidAt mask.now (place + k) }
+{
+    match mask {
+        None => u64::MAX,
+        Some(marks) => marks.word(place),
+    }
+}
+
+/// Returns whether two bitmaps have the same mark wherever a mask has a set mark, among the 64
+/// marks from `place` on.
+fn agree_in_word(first: &Bitmap, second: &Bitmap, mask: &Option<Bitmap>, place: usize) -> bool
+    requires first { place + 64 ≤ length first.now }
+    requires second { place + 64 ≤ length second.now }
+    requires mask { IfSome mask.now (λ marks. place + 64 ≤ length marks) }
+    ensures { IsTrue result ↔ AgreeWhereIn mask.now place 64 first.now second.now }
+{
+    same_word(
+        first.word(place),
+        second.word(place),
+        mask_word(mask, place),
+    )
+}
+
+/// Returns whether a mask has a set mark at `i`; without a mask every slot is valid.
+#[inline(always)]
+fn is_valid_at(mask: &Option<Bitmap>, i: usize) -> bool
+    requires { IfSome mask.now (λ marks. i < length marks) }
+    ensures { IsTrue result ↔ IsValidAt mask.now i }
+{
+    match mask {
+        None => true,
+        Some(marks) => marks.get_bit(i),
+    }
+}
+
+/// Returns whether two bitmaps of equal length agree wherever a mask has a set mark, one mark at a
+/// time.
+fn agree_one_by_one(first: &Bitmap, second: &Bitmap, mask: &Option<Bitmap>) -> bool
+    requires same { length first.now ≡ length second.now }
+    requires fits { FitsMask first.now mask.now }
+    ensures { IsTrue result ↔ AgreeWhere mask.now first.now second.now }
+{
+    for i in 0..first.len() {
+        if is_valid_at(mask, i) {
+            if first.get_bit(i) != second.get_bit(i) {
+                return false;
+            }
+        }
+    }
+    true
+}
+
+impl Bitmap {
+    /// Returns whether two bitmaps of equal length have the same mark wherever `mask` has a set
+    /// mark, or everywhere without a mask. Compares 64 marks at a time.
+    pub fn agrees_where(&self, other: &Self, mask: &Option<Bitmap>) -> bool
+        requires same { length self.now ≡ length other.now }
+        requires fits { FitsMask self.now mask.now }
+        ensures { IsTrue result ↔ AgreeWhere mask.now self.now other.now }
+    {
+        let count = self.len();
+        if count < 64 {
+            return agree_one_by_one(self, other, mask);
+        }
+        for word in 0..count / 64 {
+            if !agree_in_word(self, other, mask, 64 * word) {
+                return false;
+            }
+        }
+        // The last 64 marks, some of which may be compared a second time.
+        agree_in_word(self, other, mask, count - 64)
+    }
+}
+
+impl PartialEq for Bitmap {
+    ghost use Rattle.std.specs.Cmp.{decided, partial_equiv_from_equiv};
+    ghost use Rattle.arrow_bitmap.specs.MarkEquality.{same_marks, same_marks-Decides};
+
+    ghost eq = { same_marks };
+
+    ghost laws = { partial_equiv_from_equiv (decided same_marks same_marks-Decides) };
+
+    /// Returns whether both have the same marks.
+    fn eq(&self, other: &Self) -> bool
+        ensures value { result ≡ same_marks self.now other.now }
+        ensures decides { IsTrue result ↔ self.now ≡ other.now }
+    {
+        if self.len() != other.len() {
+            return false;
+        }
+        self.agrees_where(other, &None)
+    }
+}
+
+impl Eq for Bitmap {
+    ghost use Rattle.std.specs.Cmp.{decided};
+    ghost use Rattle.arrow_bitmap.specs.MarkEquality.{same_marks, same_marks-Decides};
+
+    ghost laws = { decided same_marks same_marks-Decides };
+}
+
+impl PartialEq for MutableBitmap {
+    ghost use Rattle.std.specs.Cmp.{decided, partial_equiv_from_equiv};
+    ghost use Rattle.arrow_bitmap.specs.MarkEquality.{same_marks, same_marks-Decides};
+
+    ghost eq = { same_marks };
+
+    ghost laws = { partial_equiv_from_equiv (decided same_marks same_marks-Decides) };
+
+    /// Returns whether both have the same marks, as [`MutableBitmap::has_marks_of`].
+    fn eq(&self, other: &Self) -> bool
+        ensures value { result ≡ same_marks self.now other.now }
+        ensures decides { IsTrue result ↔ self.now ≡ other.now }
+    {
+        self.has_marks_of(other)
+    }
+}
+
+impl Eq for MutableBitmap {
+    ghost use Rattle.std.specs.Cmp.{decided};
+    ghost use Rattle.arrow_bitmap.specs.MarkEquality.{same_marks, same_marks-Decides};
+
+    ghost laws = { decided same_marks same_marks-Decides };
+}

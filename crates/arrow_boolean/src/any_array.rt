@@ -1,0 +1,38 @@
+//! Arrays of booleans as arrays of any kind.
+use crate::BooleanArray;
+use arrow_column::Array;
+use arrow_memory::bitmap::Bitmap;
+use arrow_types::data_type::DataType;
+
+impl Array for BooleanArray {
+    type Around = ();
+
+    type Stored = bool;
+
+    ghost column = { λ array. array };
+
+    #[inline(always)]
+    fn len(&self) -> usize {
+        self.len()
+    }
+
+    #[inline(always)]
+    fn data_type(&self) -> &DataType {
+        self.data_type()
+    }
+
+    #[inline(always)]
+    fn validity(&self) -> Option<&Bitmap> {
+        self.validity()
+    }
+
+    #[inline(always)]
+    fn null_count(&self) -> usize {
+        self.null_count()
+    }
+
+    #[inline(always)]
+    fn is_null(&self, i: usize) -> bool {
+        self.is_null(i)
+    }
+}

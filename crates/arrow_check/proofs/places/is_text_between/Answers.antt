@@ -1,0 +1,10 @@
+use Rattle.std.proofs.Common.{ap, ◌∙◌}
+use Rattle.std.specs.Str.{is_utf8}
+use Rattle.arrow_check.proofs.PlaceLemmas.{is-text, range-within}
+use Rattle.arrow_check.proofs.places.is_text_between.Goals as goal
+
+pub returns : goal.returns
+returns c =
+    is-text c.is_utf8.result _ c.is_utf8.ensures
+    ∙ ap is_utf8 (range-within c.args.bytes.now c.args.start c.args.end c.min.result c.min-2.result c.min.ensures
+    c.min-2.ensures c.requires)

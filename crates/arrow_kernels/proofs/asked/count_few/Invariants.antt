@@ -1,6 +1,0 @@
-use Rattle.std.proofs.Common.{◌≡◌, count_by, take}
-use Rattle.arrow_bytes.specs.Selection.{set_in_both}
-use Rattle.arrow_kernels.proofs.asked.count_few.Given as goal
-
-abbrev pub invariant-loop-i : goal.invariant-loop-i
-invariant-loop-i l = l.count ≡ count_by (λ mark. mark) (take l.i (set_in_both l.values l.validity))
