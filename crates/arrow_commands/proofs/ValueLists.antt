@@ -1,8 +1,8 @@
 -- Seeing stored values through what is done to lists of them, and lists that are changed in place.
-use Rattle.std.proofs.Common.{◌≡◌, ◌∙◌, ℕ, zero, suc, ◌+◌, ◌-◌, ◌/◌, ◌<◌, ◌≤◌, Bool, false, List, [], ◌∷◌, ◌++◌}
+use Rattle.std.proofs.Common.{◌≡◌, ◌∙◌, ℕ, zero, suc, ◌+◌, ◌-◌, ◌/◌, ◌<◌, ◌≤◌, Bool, true, false, ◌&&◌, nat_eq, List, [], ◌∷◌, ◌++◌}
 use Rattle.std.proofs.Common.{length, map, set, reverse, replicate, get_or, slice_get, Some, refl, sym, ap, subst}
 use Rattle.std.proofs.Common.{inl, inr, arith, get_or-set_same, get_or-set_other, length-set}
-use Rattle.std.proofs.lemmas.Bool.{cases_lt}
+use Rattle.std.proofs.lemmas.Bool.{cases_lt, eqb-true}
 use Rattle.std.proofs.lemmas.List.{ext_get_or, get_or-reverse, length-map, length-reverse, map-append, reverse-append}
 use Rattle.std.proofs.lemmas.Option.{get_or_from_slice_get}
 use Rattle.arrow_column.specs.Column.{ColumnWith, stored_values, with_stored}
@@ -16,6 +16,16 @@ map-replicate h zero x = refl
 map-replicate h (suc n) x = ap (λ rest. h x ∷ rest) (map-replicate h n x)
 
 pub ruleset seen_lists = (map-slice_set, map-replicate)
+
+-- items that can replace stored values are as many as these
+pub replaced-count : {A Y : Type 0} (f : A → Y) (values : List A) (items : List Y) (count : ℕ) (fit : Bool)
+    → map f values ≡ items → (nat_eq (length items) count && fit) ≡ true → length values ≡ count
+replaced-count f values items count fit is can =
+    sym (length-map values f) ∙ ap length is ∙ eqb-true (length items) count (first (nat_eq (length items) count) can)
+  where
+    first : (same : Bool) → (same && fit) ≡ true → same ≡ true
+    first true both = refl
+    first false both = both
 
 -- this many are swapped from both ends
 pub record TurnedSoFar (i : ℕ) (old new : List Bool) : Type 0 where

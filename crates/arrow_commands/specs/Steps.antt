@@ -1,10 +1,10 @@
 -- What the code of a command does to an array or a builder of one kind, and what it returns of one of bytes or text.
-use Rattle.std.specs.Prelude.{◌≡◌, false, Bool, List, Option, Some, Result, MatchOption, IsTrue}
+use Rattle.std.specs.Prelude.{◌≡◌, false, List, Option, Some, Result, MatchOption, IsTrue}
 use Rattle.arrow_types.specs.declared.error.Error.{Error}
 use Rattle.arrow_column.specs.Column.{Column}
 use Rattle.arrow_memory.specs.Offsets.{KeepsOffsets, numbers_of}
 use Rattle.arrow_entry.specs.declared.entry.Entry.{Entry}
-use Rattle.arrow_entry.specs.Entry.{native_value, boolean_value, value_of}
+use Rattle.arrow_entry.specs.Entry.{native_value, value_of}
 use Rattle.arrow_model.specs.declared.reply.Reply.{Reply}
 use Rattle.arrow_model.specs.Answer.{outcome}
 use Rattle.arrow_model.specs.Change.{all_offsets}
@@ -13,16 +13,11 @@ use Rattle.arrow_model.specs.Request.{Ask}
 use Rattle.arrow_model.specs.Step.{Does}
 use Rattle.arrow_model.specs.Value.{Value, NativeMembers, OffsetMembers, types_of}
 
--- what is asked is done to native values, or to booleans
-module _ {T O : Type 0} (natives : NativeMembers T) (offset : OffsetMembers O) (group : Group) (asks : Ask T) where
-  abbrev pub NativeStep : Column T → Result (Reply T) Error → Column T → Type 0
-  NativeStep old result new =
-      Does (types_of natives offset) (Some (native_value group old)) asks (outcome result) (Some (native_value group new))
-
-  abbrev pub BooleanStep : Column Bool → Result (Reply T) Error → Column Bool → Type 0
-  BooleanStep old result new =
-      Does (types_of natives offset) (Some (boolean_value group old)) asks (outcome result)
-      (Some (boolean_value group new))
+-- what is asked is done to native values
+abbrev pub NativeStep : {T O : Type 0} → NativeMembers T → OffsetMembers O → Group → Ask T → Column T
+    → Result (Reply T) Error → Column T → Type 0
+NativeStep natives offset group asks old result new =
+    Does (types_of natives offset) (Some (native_value group old)) asks (outcome result) (Some (native_value group new))
 
 -- this is found exactly in an entry of bytes or text
 abbrev pub FoundInBytes : {T O A : Type 0} → Entry T O → Option A → (A → Type 0) → Type 0

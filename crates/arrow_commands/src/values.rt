@@ -1,20 +1,21 @@
 //! Commands that replace or change stored values, or a slot.
-ghost use Rattle.std.specs.Prelude.{◌<◌, ◌≡◌, IfOk, IfSome, IsTrue, OnOk, is_some, length, map, option_map, replicate};
-ghost use Rattle.std.specs.Prelude.{reverse, slice_set};
+ghost use Rattle.std.specs.Prelude.{◌<◌, ◌≡◌, IfOk, IfSome, IsTrue, OnOk, Some, is_some, length, map, option_map};
+ghost use Rattle.std.specs.Prelude.{replicate, reverse, slice_set};
 ghost use Rattle.std.specs.Bool.{OnFalse};
 ghost use Rattle.std.specs.List.{list_all};
 ghost use Rattle.arrow_types.specs.Failures.{OnlyOutOfMemory, OutOfMemoryKeeps};
 ghost use Rattle.arrow_column.specs.Column.{stored_values, with_stored};
-ghost use Rattle.arrow_commands.specs.Steps.{BooleanStep, NativeStep};
+ghost use Rattle.arrow_commands.specs.ValueSteps.{CanReplace, StepOfHeld};
+ghost use Rattle.arrow_entry.specs.Entry.{value_of};
 ghost use Rattle.arrow_model.specs.Item.{bit, can_replace, change_of, fits, slot_fits, stored_item, stored_slot, value};
-ghost use Rattle.arrow_model.specs.Kind.{boolean, frozen, native, shape, with_nulls};
+ghost use Rattle.arrow_model.specs.Kind.{boolean, native, shape};
 ghost use Rattle.arrow_model.specs.Request as ask;
 
 use crate::command::ChangesEntry;
-use arrow_boolean::{BooleanArray, MutableBooleanArray};
+use arrow_boolean::BooleanArray;
 use arrow_column::LendValues;
 use arrow_entry::{Entry, items_fit};
-use arrow_memory::bitmap::{Bitmap, MutableBitmap};
+use arrow_memory::bitmap::MutableBitmap;
 use arrow_memory::buffer::Buffer;
 use arrow_model::{Change, Item, Kind, Reply};
 use arrow_primitive::{MutablePrimitiveArray, PrimitiveArray};
@@ -75,81 +76,26 @@ fn bits<T>(alloc: Global, items: &[Item<T>]) -> Result<MutableBitmap, Error>
     Ok(bits)
 }
 
-/// Returns the native values that items are, in a shared buffer.
+/// Replaces the stored values of an entry by as many items, which fit its kind. The condition fails if the entry is not
+/// of native values, nor an array of booleans.
 ///
 /// # Errors
-/// `OutOfMemory` if an allocation fails.
-fn shared_natives<T: NativeType>(alloc: Global, items: &[Item<T>]) -> Result<Buffer<T>, Error>
-    requires { IsTrue (list_all (fits native) (map stored_item items.now)) }
-    ensures ok { IfOk result (λ values. map value values ≡ map stored_item items.now) }
-    ensures err { OnlyOutOfMemory result }
-{
-    Buffer::from_vec(natives(alloc, items)?)
-}
-
-/// Returns the booleans that items are, in a shared bitmap.
-///
-/// # Errors
-/// `OutOfMemory` if an allocation fails.
-fn shared_bits<T>(alloc: Global, items: &[Item<T>]) -> Result<Bitmap, Error>
-    requires { IsTrue (list_all (fits boolean) (map stored_item items.now)) }
-    ensures ok { IfOk result (λ bits. map bit bits ≡ map stored_item items.now) }
-    ensures err { OnlyOutOfMemory result }
-{
-    bits(alloc, items)?.freeze()
-}
-
-/// Replaces the stored values of an array of native values.
+/// `OutOfMemory` if an allocation fails; the entry is then as before.
 #[tactic(auto, using(arrow_entry::proofs::CallerLemmas::seen_reads, arrow_entry::proofs::CallerLemmas::seen_changes))]
-fn set_array<T: NativeType, O: Offset>(
+fn replace_values<T: NativeType, O: Offset>(
     alloc: Global,
-    array: &mut PrimitiveArray<T>,
+    entry: &mut Entry<T, O>,
     items: &[Item<T>],
 ) -> Result<Reply<T>, Error>
-    ensures { NativeStep T.NativeType O.Offset frozen (ask.set_values (map stored_item items.now))
-        array.old result array.new }
+    requires { CanReplace entry.old (map stored_item items.now) }
+    ensures { StepOfHeld T.NativeType O.Offset (ask.set_values (map stored_item items.now)) entry.old result entry.new }
 {
-    if !all_fit(Kind::Primitive, items, array.len()) {
-        return Ok(Reply::NotMet);
+    match entry {
+        Entry::Primitive(array) => array.set_values(Buffer::from_vec(natives(alloc, items)?)?),
+        Entry::MutablePrimitive(builder) => builder.set_values(natives(alloc, items)?),
+        Entry::Boolean(array) => array.set_values(bits(alloc, items)?.freeze()?),
+        _ => return Ok(Reply::NotMet),
     }
-    let values = shared_natives(alloc, items)?;
-    array.set_values(values);
-    Ok(Reply::Done)
-}
-
-/// Replaces the stored values of a builder of native values.
-#[tactic(auto, using(arrow_entry::proofs::CallerLemmas::seen_reads, arrow_entry::proofs::CallerLemmas::seen_changes))]
-fn set_builder<T: NativeType, O: Offset>(
-    alloc: Global,
-    builder: &mut MutablePrimitiveArray<T>,
-    items: &[Item<T>],
-) -> Result<Reply<T>, Error>
-    ensures { NativeStep T.NativeType O.Offset with_nulls (ask.set_values (map stored_item items.now))
-        builder.old result builder.new }
-{
-    if !all_fit(Kind::MutablePrimitive, items, builder.len()) {
-        return Ok(Reply::NotMet);
-    }
-    let values = natives(alloc, items)?;
-    builder.set_values(values);
-    Ok(Reply::Done)
-}
-
-/// Replaces the stored values of a boolean array.
-#[tactic(auto, using(arrow_entry::proofs::CallerLemmas::seen_reads, arrow_entry::proofs::CallerLemmas::seen_changes))]
-fn set_bits<T: NativeType, O: Offset>(
-    alloc: Global,
-    array: &mut BooleanArray,
-    items: &[Item<T>],
-) -> Result<Reply<T>, Error>
-    ensures { BooleanStep T.NativeType O.Offset frozen (ask.set_values (map stored_item items.now))
-        array.old result array.new }
-{
-    if !all_fit(Kind::Boolean, items, array.len()) {
-        return Ok(Reply::NotMet);
-    }
-    let values = shared_bits(alloc, items)?;
-    array.set_values(values);
     Ok(Reply::Done)
 }
 
@@ -165,12 +111,13 @@ impl<'a, T: NativeType, O: Offset> ChangesEntry<T, O> for SetValues<'a, T> {
     ghost asks = { λ command. set_values (map stored_item command.0.now) };
 
     fn run(&self, alloc: Global, entry: &mut Option<Entry<T, O>>) -> Result<Reply<T>, Error> {
-        match entry {
-            Some(Entry::Primitive(array)) => set_array::<T, O>(alloc, array, self.0),
-            Some(Entry::MutablePrimitive(builder)) => set_builder::<T, O>(alloc, builder, self.0),
-            Some(Entry::Boolean(array)) => set_bits::<T, O>(alloc, array, self.0),
-            _ => Ok(Reply::NotMet),
+        let Some(entry) = entry else {
+            return Ok(Reply::NotMet);
+        };
+        if !all_fit(entry.kind(), self.0, entry.len()) {
+            return Ok(Reply::NotMet);
         }
+        replace_values(alloc, entry, self.0)
     }
 }
 
@@ -210,28 +157,6 @@ fn reversed_marks(mut marks: MutableBitmap) -> MutableBitmap
     marks
 }
 
-/// Changes the stored values of a builder of native values.
-#[tactic(auto, using(arrow_entry::proofs::CallerLemmas::seen_reads, arrow_entry::proofs::CallerLemmas::seen_changes, crate::proofs::ValueLists::seen_turns))]
-fn change_builder<T: NativeType, O: Offset>(
-    builder: &mut MutablePrimitiveArray<T>,
-    change: &Change<T>,
-) -> Result<Reply<T>, Error>
-    ensures { NativeStep T.NativeType O.Offset with_nulls (ask.apply_values (change_of change.now))
-        builder.old result builder.new }
-{
-    match change {
-        Change::Fill(Item::Value(x)) => {
-            fill_values(builder, *x);
-            Ok(Reply::Done)
-        }
-        Change::Reverse => {
-            reverse_values(builder);
-            Ok(Reply::Done)
-        }
-        _ => Ok(Reply::NotMet),
-    }
-}
-
 /// Gives every slot of a builder the same stored value.
 fn fill_values<T: NativeType>(builder: &mut MutablePrimitiveArray<T>, x: T)
     ensures { builder.new ≡ with_stored builder.old (replicate (length (stored_values builder.old)) x) }
@@ -247,28 +172,6 @@ fn reverse_values<T: NativeType>(builder: &mut MutablePrimitiveArray<T>)
         values.reverse();
         values
     })
-}
-
-/// Changes the stored values of a boolean array.
-#[tactic(auto, using(arrow_entry::proofs::CallerLemmas::seen_reads, arrow_entry::proofs::CallerLemmas::seen_changes, crate::proofs::ValueLists::seen_turns))]
-fn change_bits<T: NativeType, O: Offset>(
-    array: &mut BooleanArray,
-    change: &Change<T>,
-) -> Result<Reply<T>, Error>
-    ensures { BooleanStep T.NativeType O.Offset frozen (ask.apply_values (change_of change.now))
-        array.old result array.new }
-{
-    match change {
-        Change::Fill(Item::Bit(x)) => {
-            fill_bits(array, *x)?;
-            Ok(Reply::Done)
-        }
-        Change::Reverse => {
-            reverse_bits(array)?;
-            Ok(Reply::Done)
-        }
-        _ => Ok(Reply::NotMet),
-    }
 }
 
 /// Gives every slot of an array the same stored value.
@@ -293,8 +196,34 @@ fn reverse_bits(array: &mut BooleanArray) -> Result<(), Error>
     array.apply_values_mut(|marks| reversed_marks(marks))
 }
 
-/// Changes the stored values of a builder of native values, or of a boolean array: all become equal, or
-/// are reversed.
+/// Changes the stored values of a builder of native values, or of a boolean array: all become equal, or are reversed.
+///
+/// # Errors
+/// `OutOfMemory` if an allocation fails; the entry is then as before.
+#[tactic(auto, using(arrow_entry::proofs::CallerLemmas::seen_reads, arrow_entry::proofs::CallerLemmas::seen_changes, crate::proofs::ValueLists::seen_turns))]
+fn change_values<T: NativeType, O: Offset>(
+    entry: &mut Entry<T, O>,
+    change: &Change<T>,
+) -> Result<Reply<T>, Error>
+    ensures { StepOfHeld T.NativeType O.Offset (ask.apply_values (change_of change.now)) entry.old result entry.new }
+{
+    match entry {
+        Entry::MutablePrimitive(builder) => match change {
+            Change::Fill(Item::Value(x)) => fill_values(builder, *x),
+            Change::Reverse => reverse_values(builder),
+            _ => return Ok(Reply::NotMet),
+        },
+        Entry::Boolean(array) => match change {
+            Change::Fill(Item::Bit(x)) => fill_bits(array, *x)?,
+            Change::Reverse => reverse_bits(array)?,
+            _ => return Ok(Reply::NotMet),
+        },
+        _ => return Ok(Reply::NotMet),
+    }
+    Ok(Reply::Done)
+}
+
+/// Changes the stored values of a builder of native values, or of a boolean array: all become equal, or are reversed.
 #[derive(Drop)]
 pub struct ApplyValues<'a, T>(pub &'a Change<T>);
 
@@ -306,9 +235,8 @@ impl<'a, T: NativeType, O: Offset> ChangesEntry<T, O> for ApplyValues<'a, T> {
 
     fn run(&self, _alloc: Global, entry: &mut Option<Entry<T, O>>) -> Result<Reply<T>, Error> {
         match entry {
-            Some(Entry::MutablePrimitive(builder)) => change_builder::<T, O>(builder, self.0),
-            Some(Entry::Boolean(array)) => change_bits::<T, O>(array, self.0),
-            _ => Ok(Reply::NotMet),
+            Some(entry) => change_values(entry, self.0),
+            None => Ok(Reply::NotMet),
         }
     }
 }
@@ -337,43 +265,30 @@ fn bit_slot<T: NativeType>(slot: &Option<Item<T>>) -> Option<Option<bool>>
     }
 }
 
-/// Replaces a slot of a builder of native values.
+/// Replaces the slot at an index of a builder of native values or booleans.
+///
+/// # Errors
+/// `OutOfMemory` if an allocation fails; the builder is then as before.
 #[tactic(auto, using(arrow_entry::proofs::CallerLemmas::seen_reads, arrow_entry::proofs::CallerLemmas::seen_changes))]
-fn set_native<T: NativeType, O: Offset>(
-    builder: &mut MutablePrimitiveArray<T>,
+fn set_slot<T: NativeType, O: Offset>(
+    entry: &mut Entry<T, O>,
     i: usize,
     slot: &Option<Item<T>>,
 ) -> Result<Reply<T>, Error>
-    ensures { NativeStep T.NativeType O.Offset with_nulls (ask.set i (stored_slot slot.now))
-        builder.old result builder.new }
+    requires { i < length (value_of entry.old).column.rows }
+    ensures { StepOfHeld T.NativeType O.Offset (ask.set i (stored_slot slot.now)) entry.old result entry.new }
 {
-    if i >= builder.len() {
-        return Ok(Reply::NotMet);
+    match entry {
+        Entry::MutablePrimitive(builder) => match native_slot(slot) {
+            Some(slot) => builder.set(i, slot)?,
+            None => return Ok(Reply::NotMet),
+        },
+        Entry::MutableBoolean(builder) => match bit_slot(slot) {
+            Some(slot) => builder.set(i, slot)?,
+            None => return Ok(Reply::NotMet),
+        },
+        _ => return Ok(Reply::NotMet),
     }
-    let Some(slot) = native_slot(slot) else {
-        return Ok(Reply::NotMet);
-    };
-    builder.set(i, slot)?;
-    Ok(Reply::Done)
-}
-
-/// Replaces a slot of a boolean builder.
-#[tactic(auto, using(arrow_entry::proofs::CallerLemmas::seen_reads, arrow_entry::proofs::CallerLemmas::seen_changes))]
-fn set_bit<T: NativeType, O: Offset>(
-    builder: &mut MutableBooleanArray,
-    i: usize,
-    slot: &Option<Item<T>>,
-) -> Result<Reply<T>, Error>
-    ensures { BooleanStep T.NativeType O.Offset with_nulls (ask.set i (stored_slot slot.now))
-        builder.old result builder.new }
-{
-    if i >= builder.len() {
-        return Ok(Reply::NotMet);
-    }
-    let Some(slot) = bit_slot(slot) else {
-        return Ok(Reply::NotMet);
-    };
-    builder.set(i, slot)?;
     Ok(Reply::Done)
 }
 
@@ -388,11 +303,13 @@ impl<'a, T: NativeType, O: Offset> ChangesEntry<T, O> for Set<'a, T> {
     ghost asks = { λ command. set command.0 (stored_slot command.1.now) };
 
     fn run(&self, _alloc: Global, entry: &mut Option<Entry<T, O>>) -> Result<Reply<T>, Error> {
-        match entry {
-            Some(Entry::MutablePrimitive(builder)) => set_native::<T, O>(builder, self.0, self.1),
-            Some(Entry::MutableBoolean(builder)) => set_bit::<T, O>(builder, self.0, self.1),
-            _ => Ok(Reply::NotMet),
+        let Some(entry) = entry else {
+            return Ok(Reply::NotMet);
+        };
+        if self.0 >= entry.len() {
+            return Ok(Reply::NotMet);
         }
+        set_slot(entry, self.0, self.1)
     }
 }
 
@@ -413,51 +330,29 @@ fn write_to<T: NativeType>(builder: &mut MutablePrimitiveArray<T>, i: usize, x: 
     builder.values_mut_slice()[i] = x;
 }
 
-/// Writes a stored value of an array of native values.
+/// Writes the stored value at an index of native values.
 #[tactic(auto, using(arrow_entry::proofs::CallerLemmas::seen_reads, arrow_entry::proofs::CallerLemmas::seen_changes, crate::proofs::ValueLists::seen_lists))]
-fn write_array<T: NativeType, O: Offset>(
-    array: &mut PrimitiveArray<T>,
+fn write_item<T: NativeType, O: Offset>(
+    entry: &mut Entry<T, O>,
     i: usize,
     item: &Item<T>,
 ) -> Result<Reply<T>, Error>
-    ensures { NativeStep T.NativeType O.Offset frozen (ask.write i (stored_item item.now))
-        array.old result array.new }
+    requires { i < length (value_of entry.old).column.rows }
+    ensures { StepOfHeld T.NativeType O.Offset (ask.write i (stored_item item.now)) entry.old result entry.new }
 {
-    if i >= array.len() {
+    let Item::Value(x) = item else {
         return Ok(Reply::NotMet);
-    }
-    match item {
-        Item::Value(x) => {
-            if write_over(array, i, *x) {
-                Ok(Reply::Done)
-            } else {
-                Ok(Reply::NotGiven)
+    };
+    match entry {
+        Entry::Primitive(array) => {
+            if !write_over(array, i, *x) {
+                return Ok(Reply::NotGiven);
             }
         }
-        _ => Ok(Reply::NotMet),
+        Entry::MutablePrimitive(builder) => write_to(builder, i, *x),
+        _ => return Ok(Reply::NotMet),
     }
-}
-
-/// Writes a stored value of a builder of native values.
-#[tactic(auto, using(arrow_entry::proofs::CallerLemmas::seen_reads, arrow_entry::proofs::CallerLemmas::seen_changes, crate::proofs::ValueLists::seen_lists))]
-fn write_builder<T: NativeType, O: Offset>(
-    builder: &mut MutablePrimitiveArray<T>,
-    i: usize,
-    item: &Item<T>,
-) -> Result<Reply<T>, Error>
-    ensures { NativeStep T.NativeType O.Offset with_nulls (ask.write i (stored_item item.now))
-        builder.old result builder.new }
-{
-    if i >= builder.len() {
-        return Ok(Reply::NotMet);
-    }
-    match item {
-        Item::Value(x) => {
-            write_to(builder, i, *x);
-            Ok(Reply::Done)
-        }
-        _ => Ok(Reply::NotMet),
-    }
+    Ok(Reply::Done)
 }
 
 /// Writes the stored value at an index of native values.
@@ -471,12 +366,12 @@ impl<'a, T: NativeType, O: Offset> ChangesEntry<T, O> for Write<'a, T> {
     ghost asks = { λ command. write command.0 (stored_item command.1.now) };
 
     fn run(&self, _alloc: Global, entry: &mut Option<Entry<T, O>>) -> Result<Reply<T>, Error> {
-        match entry {
-            Some(Entry::Primitive(array)) => write_array::<T, O>(array, self.0, self.1),
-            Some(Entry::MutablePrimitive(builder)) => write_builder::<T, O>(
-                builder, self.0, self.1,
-            ),
-            _ => Ok(Reply::NotMet),
+        let Some(entry) = entry else {
+            return Ok(Reply::NotMet);
+        };
+        if self.0 >= entry.len() {
+            return Ok(Reply::NotMet);
         }
+        write_item(entry, self.0, self.1)
     }
 }

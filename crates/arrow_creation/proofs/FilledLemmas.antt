@@ -5,7 +5,7 @@ use Rattle.std.proofs.Common.{Option, Some, None, if◌then◌else◌, refl, sym
 use Rattle.std.proofs.lemmas.Bool.{eqb-true}
 use Rattle.std.proofs.lemmas.List.{take_all}
 use Rattle.std.proofs.lemmas.List.Folds.{list_all-append}
-use Rattle.std.specs.Prelude.{IfOk, MatchBool, Result, Ok, Err}
+use Rattle.std.specs.Prelude.{IfErr, IfOk, OnOk, MatchBool, Result, Ok, Err}
 use Rattle.arrow_types.specs.Failures.{OnlyOutOfMemory}
 use Rattle.arrow_types.specs.Types.{out_of_memory, overflow, refusal}
 use Rattle.arrow_types.specs.declared.error.Error.{Error}
@@ -19,6 +19,7 @@ use Rattle.arrow_model.specs.Answer.{Answer, done, refused, is_memory}
 use Rattle.arrow_model.specs.Change.{grown, fitting, slot_over, frozen_value, empty_value, slots_start}
 use Rattle.arrow_model.specs.Item.{Stored}
 use Rattle.arrow_model.specs.Kind.{Group, ValueKind, shaped, frozen, with_nulls, values_alone, same_group, is_boolean}
+use Rattle.arrow_model.specs.Kind.{is_builder}
 use Rattle.arrow_model.specs.Transition.{Transition}
 use Rattle.arrow_model.specs.Step.{Extends, Filled, all_fit}
 use Rattle.arrow_model.specs.Value.{Value, Types, default_item}
@@ -203,9 +204,37 @@ module _ {T : Type 0} (c : Types T) (sort : ValueKind) where
       (filled-refused c start (map Some items) (λ w. if same_group group frozen then frozen_value w else w) over new
       (subst (λ v. Extends c v (map Some items) (refused (refusal (refused_growth over))) new) is h))
 
--- a builder that was frozen, or not
-pub frozen-built : {T O : Type 0} (row : Transition T) (w : Value T) (result : Result (Entry T O) Error)
-    → IfOk result (λ array. value_of array ≡ frozen_value w) → OnlyOutOfMemory result
-    → row done (Some (frozen_value w)) → row (refused out_of_memory) None → BuiltBy value_of result row
-frozen-built row w (Ok array) ok err made wanting = subst (λ (v : Value _). row done (Some v)) (sym ok) made
-frozen-built row w (Err e) ok err made wanting = subst (λ (e : Error). row (refused (refusal e)) None) (sym err) wanting
+-- a builder that slots were appended to, and what became of it: an array of them, or the builder; or none, if not all of
+-- them could be appended
+pub finish-built : {T O R : Type 0} (c : Types T) (v w : Value T) (slots : List (Option (Stored T)))
+    (row : Transition T) (array : Bool) (filled : Result R Error) (result : Result (Entry T O) Error)
+    → OnOk filled (Extends c v slots done (Some w))
+    → IfErr filled (λ e. (over : Bool) × (e ≡ refused_growth over) × Extends c v slots (refused (refusal e)) (Some w))
+    → IfOk result (λ made. value_of made ≡ (if array then frozen_value w else w))
+    → IfErr filled (λ e. result ≡ Err e) → OnOk filled (OnlyOutOfMemory result)
+    → (Extends c v slots done (Some w) → row done (Some (if array then frozen_value w else w)))
+    → ((over : Bool) → Extends c v slots (refused (refusal (refused_growth over))) (Some w)
+    → row (refused (refusal (refused_growth over))) None)
+    → row (refused out_of_memory) None → BuiltBy value_of result row
+finish-built c v w slots row array (Ok r) (Ok made) all until ok stopped err done-so refused-so wanting =
+    subst (λ (v : Value _). row done (Some v)) (sym ok) (done-so all)
+finish-built c v w slots row array (Ok r) (Err e) all until ok stopped err done-so refused-so wanting =
+    subst (λ (e : Error). row (refused (refusal e)) None) (sym err) wanting
+finish-built c v w slots row array (Err e) result all until ok stopped err done-so refused-so wanting =
+    subst (λ (r : Result (Entry _ _) Error). BuiltBy value_of r row) (sym stopped)
+    (subst (λ (e : Error). row (refused (refusal e)) None) (sym until.1)
+    (refused-so until.0
+    (subst (λ (e : Error). Extends c v slots (refused (refusal e)) (Some w)) until.1 until.2)))
+
+-- what slots were appended to is a builder
+pub builder-is : {T : Type 0} (c : Types T) (group : Group) (sort : ValueKind) (v w : Value T)
+    (slots : List (Option (Stored T))) → v.shape ≡ shaped (builder_group group) sort → Extends c v slots done (Some w)
+    → is_builder w.shape ≡ true
+builder-is c group sort v w slots is h =
+    ap (λ (w : Value _). is_builder w.shape) (some-same w (grown c v (take (fitting c v slots) slots)) h.1)
+    ∙ ap is_builder is ∙ of-group group
+  where
+    of-group : (group : Group) → is_builder (shaped (builder_group group) sort) ≡ true
+    of-group frozen = refl
+    of-group with_nulls = refl
+    of-group values_alone = refl

@@ -7,7 +7,7 @@ use Rattle.arrow_types.specs.Types.{LogicalType, Refusal, refusal, out_of_spec, 
 use Rattle.arrow_types.specs.declared.error.Error.{Error}
 use Rattle.arrow_types.specs.declared.error.Error.TheVariants as error
 use Rattle.arrow_types.specs.declared.physical_type.PhysicalType.{PhysicalType}
-use Rattle.arrow_column.specs.Acceptance.{Tests, accept, test, Passes, IsFirstFailure}
+use Rattle.arrow_column.specs.Validation.{Tests, accept, test, Passes, IsFirstFailure}
 use Rattle.arrow_column.specs.Column.{Column, column_of_parts}
 use Rattle.arrow_memory.specs.Marks.{bits_past_bytes}
 use Rattle.arrow_memory.specs.Offsets.{first_fault}

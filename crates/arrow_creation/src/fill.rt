@@ -1,13 +1,13 @@
 //! Commands that make a value of what they name: an empty one, nulls, slots, or items.
-ghost use Rattle.std.specs.Prelude.{◌≡◌, IsTrue, false, map};
+ghost use Rattle.std.specs.Prelude.{◌≡◌, Err, IfErr, IfOk, IsTrue, false, if◌then◌else◌, map};
 ghost use Rattle.std.specs.List.{list_all};
 ghost use Rattle.arrow_types.specs.Failures.{OnlyOutOfMemory};
 ghost use Rattle.arrow_types.specs.Types.{IsRightType, logical_type};
 ghost use Rattle.arrow_creation.specs.Outcome.{BuiltBy, IfMade};
 ghost use Rattle.arrow_entry.specs.Entry.{value_of};
-ghost use Rattle.arrow_model.specs.Change.{nulls_value};
+ghost use Rattle.arrow_model.specs.Change.{frozen_value, nulls_value};
 ghost use Rattle.arrow_model.specs.Item.{fits, slot_fits, stored_item, stored_slot};
-ghost use Rattle.arrow_model.specs.Kind.{is_frozen, is_values_alone, shape};
+ghost use Rattle.arrow_model.specs.Kind.{is_builder, is_frozen, is_values_alone, shape};
 ghost use Rattle.arrow_model.specs.Step.{ItemsFill, SlotsFill};
 ghost use Rattle.arrow_model.specs.Value.{layout, types_of};
 
@@ -132,6 +132,38 @@ impl<'a, T: NativeType, O: Offset> MakesEntry<T, O> for NewNull<'a> {
     }
 }
 
+/// Returns what a builder of a kind's values becomes once it is filled: an array if the kind is an array's, or else the
+/// builder.
+///
+/// # Errors
+/// The error at which filling the builder stopped, if it did, or else `OutOfMemory` if an allocation fails.
+fn finish<T: NativeType, O: Offset>(
+    kind: Kind,
+    builder: Entry<T, O>,
+    filled: Result<(), Error>,
+) -> Result<Entry<T, O>, Error>
+    requires { IfOk filled (λ _. IsTrue (is_builder (value_of builder).shape)) }
+    ensures ok { IfMade result
+        (if is_frozen (shape kind) then frozen_value (value_of builder) else value_of builder) }
+    ensures stopped { IfErr filled (λ e. result ≡ Err e) }
+    ensures err { IfOk filled (λ _. OnlyOutOfMemory result) }
+{
+    match filled {
+        Ok(()) => {
+            if is_array(kind) {
+                frozen(builder)
+            } else {
+                Ok(builder)
+            }
+        }
+        Err(refused) => {
+            // By a call: without one, what each of the ten kinds drops would be proved again here.
+            drop(builder);
+            Err(refused)
+        }
+    }
+}
+
 /// Makes an array or a builder of slots.
 #[derive(Drop)]
 pub struct FromSlots<'a, T>(pub Kind, pub &'a [Option<Item<T>>]);
@@ -151,20 +183,8 @@ fn entry_from_slots<T: NativeType, O: Offset>(
         (SlotsFill (types_of T.NativeType O.Offset) (shape kind) (map stored_slot slots.now)) }
 {
     let mut made = slots_builder(alloc, kind)?;
-    match push_slots(&mut made, slots) {
-        Ok(()) => {
-            if is_array(kind) {
-                frozen(made)
-            } else {
-                Ok(made)
-            }
-        }
-        Err(refused) => {
-            // By a call: without one, what each of the ten kinds drops would be proved again here.
-            drop(made);
-            Err(refused)
-        }
-    }
+    let filled = push_slots(&mut made, slots);
+    finish(kind, made, filled)
 }
 
 impl<'a, T: NativeType, O: Offset> MakesEntry<T, O> for FromSlots<'a, T> {
@@ -209,20 +229,8 @@ fn entry_from_items<T: NativeType, O: Offset>(
         (ItemsFill (types_of T.NativeType O.Offset) (shape kind) (map stored_item items.now)) }
 {
     let mut made = empty_entry(alloc, builder_kind(kind))?;
-    match push_items(&mut made, items) {
-        Ok(()) => {
-            if is_array(kind) {
-                frozen(made)
-            } else {
-                Ok(made)
-            }
-        }
-        Err(refused) => {
-            // By a call: without one, what each of the ten kinds drops would be proved again here.
-            drop(made);
-            Err(refused)
-        }
-    }
+    let filled = push_items(&mut made, items);
+    finish(kind, made, filled)
 }
 
 impl<'a, T: NativeType, O: Offset> MakesEntry<T, O> for FromItems<'a, T> {

@@ -62,7 +62,7 @@ impl<T: NativeType, O: Offset> MakesEntry<T, O> for Clone {
     }
 }
 
-/// Makes an array of the rows of one entry where another, an boolean array of the same length, is valid and true.
+/// Makes an array of the rows of one entry where another, a boolean array of the same length, is valid and true.
 #[derive(Drop)]
 pub struct Filter(pub usize, pub usize);
 

@@ -1,8 +1,4 @@
 //! Commands that make an array over offsets of the other width.
-ghost use Rattle.std.specs.Prelude.{Some};
-ghost use Rattle.arrow_creation.specs.Outcome.{MadeBy};
-ghost use Rattle.arrow_entry.specs.Entry.{value_of};
-ghost use Rattle.arrow_model.specs.Both.{Narrows, Widens, narrow_types, wide_types};
 
 use crate::make::MakesEntry;
 use arrow_entry::{Entry, entry_at};
@@ -16,42 +12,7 @@ use std::alloc::Global;
 #[derive(Drop)]
 pub struct OtherWidth<'a, T: NativeType, O: Offset>(pub &'a Vec<Option<Entry<T, O>>>, pub usize);
 
-/// Copies an array of bytes or text to offsets of 64 bits; `None` if the entry is not one.
-///
-/// # Errors
-/// `OutOfMemory` if an allocation fails.
 #[tactic(auto, using(arrow_entry::proofs::CallerLemmas::seen_changes))]
-fn widened<T: NativeType>(
-    alloc: Global,
-    entry: &Entry<T, i32>,
-) -> Result<Option<Entry<T, i64>>, Error>
-    ensures { MadeBy result (Widens (wide_types T.zero T.PRIMITIVE) (Some (value_of entry.now))) }
-{
-    match entry {
-        Entry::Binary(array) => Ok(Some(Entry::Binary(widen_binary(alloc, array)?))),
-        Entry::Utf8(array) => Ok(Some(Entry::Utf8(widen_utf8(alloc, array)?))),
-        _ => Ok(None),
-    }
-}
-
-/// Copies an array of bytes or text to offsets of 32 bits; `None` if the entry is not one.
-///
-/// # Errors
-/// `Overflow` if such offsets can't express the end of the items, or else `OutOfMemory` if an allocation fails.
-#[tactic(auto, using(arrow_entry::proofs::CallerLemmas::seen_changes, crate::proofs::Chosen::seen_choices))]
-fn narrowed<T: NativeType>(
-    alloc: Global,
-    entry: &Entry<T, i64>,
-) -> Result<Option<Entry<T, i32>>, Error>
-    ensures { MadeBy result (Narrows (narrow_types T.zero T.PRIMITIVE) (Some (value_of entry.now))) }
-{
-    match entry {
-        Entry::Binary(array) => Ok(Some(Entry::Binary(narrow_binary(alloc, array)?))),
-        Entry::Utf8(array) => Ok(Some(Entry::Utf8(narrow_utf8(alloc, array)?))),
-        _ => Ok(None),
-    }
-}
-
 impl<'a, T: NativeType> MakesEntry<T, i64> for OtherWidth<'a, T, i32> {
     ghost use Rattle.arrow_entry.specs.Entry.{state_of};
     ghost use Rattle.arrow_model.specs.Both.{Widens, wide_types};
@@ -66,12 +27,14 @@ impl<'a, T: NativeType> MakesEntry<T, i64> for OtherWidth<'a, T, i32> {
         _entries: &Vec<Option<Entry<T, i64>>>,
     ) -> Result<Option<Entry<T, i64>>, Error> {
         match entry_at(self.0, self.1) {
-            Some(from) => widened(alloc, from),
-            None => Ok(None),
+            Some(Entry::Binary(array)) => Ok(Some(Entry::Binary(widen_binary(alloc, array)?))),
+            Some(Entry::Utf8(array)) => Ok(Some(Entry::Utf8(widen_utf8(alloc, array)?))),
+            _ => Ok(None),
         }
     }
 }
 
+#[tactic(auto, using(arrow_entry::proofs::CallerLemmas::seen_changes, crate::proofs::Chosen::seen_choices))]
 impl<'a, T: NativeType> MakesEntry<T, i32> for OtherWidth<'a, T, i64> {
     ghost use Rattle.arrow_entry.specs.Entry.{state_of};
     ghost use Rattle.arrow_model.specs.Both.{Narrows, narrow_types};
@@ -86,8 +49,9 @@ impl<'a, T: NativeType> MakesEntry<T, i32> for OtherWidth<'a, T, i64> {
         _entries: &Vec<Option<Entry<T, i32>>>,
     ) -> Result<Option<Entry<T, i32>>, Error> {
         match entry_at(self.0, self.1) {
-            Some(from) => narrowed(alloc, from),
-            None => Ok(None),
+            Some(Entry::Binary(array)) => Ok(Some(Entry::Binary(narrow_binary(alloc, array)?))),
+            Some(Entry::Utf8(array)) => Ok(Some(Entry::Utf8(narrow_utf8(alloc, array)?))),
+            _ => Ok(None),
         }
     }
 }

@@ -1,5 +1,4 @@
 pub mod CallerLemmas
-pub mod EntryLemmas
 pub mod Grown
 pub mod Rules
 pub mod Seen

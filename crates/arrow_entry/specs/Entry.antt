@@ -1,4 +1,4 @@
--- The value that an entry is: its column, over what slots store whatever their sort.
+-- The value that an entry is: its column, over what slots store, of whichever kind.
 use Rattle.std.specs.Prelude.{◌≡◌, ℕ, Bool, true, false, List, [], ◌∷◌, map, Option, Some, option_map, Result, OnOk}
 use Rattle.std.specs.Prelude.{IfErr}
 use Rattle.arrow_types.specs.Failures.{FailureKeeps}
@@ -28,7 +28,7 @@ erase_type around stored column = record {
   held = column.held;
 }
 
--- the value of a column of native values, of truth values, or of bytes
+-- the value of a column of native values, of booleans, or of bytes
 module _ {T : Type 0} where
   abbrev pub native_value : Group → Column T → Value T
   native_value group column = record

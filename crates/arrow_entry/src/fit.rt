@@ -1,4 +1,4 @@
-//! Whether items and slots fit a kind: native values, truth values, bytes or text.
+//! Whether items and slots fit a kind: native values, booleans, bytes or text.
 ghost use Rattle.std.specs.Prelude.{◌≡◌, map};
 ghost use Rattle.std.specs.List.{list_all};
 ghost use Rattle.arrow_model.specs.Item.{fits, slot_fits, stored_item, stored_slot};

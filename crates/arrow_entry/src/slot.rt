@@ -11,7 +11,7 @@ use std::alloc::{AllocError, Global};
 pub enum SlotRef<'a, T> {
     /// A native value.
     Value(T),
-    /// A truth value.
+    /// A boolean.
     Bit(bool),
     /// Bytes.
     Bytes(&'a [u8]),

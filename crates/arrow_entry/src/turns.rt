@@ -62,24 +62,15 @@ impl<'a, T: NativeType> SlotIterator<'a, T> for Iter<'a, T> {
     ghost left = { λ items. map value (iter_rest items) };
 
     fn first(&mut self) -> Option<SlotRef<'a, T>> {
-        match self.next() {
-            Some(item) => Some(SlotRef::Value(*item)),
-            None => None,
-        }
+        Some(SlotRef::Value(*self.next()?))
     }
 
     fn last(&mut self) -> Option<SlotRef<'a, T>> {
-        match self.next_back() {
-            Some(item) => Some(SlotRef::Value(*item)),
-            None => None,
-        }
+        Some(SlotRef::Value(*self.next_back()?))
     }
 
     fn skip_to(&mut self, n: usize) -> Option<SlotRef<'a, T>> {
-        match nth_of(self, n) {
-            Some(item) => Some(SlotRef::Value(*item)),
-            None => None,
-        }
+        Some(SlotRef::Value(*nth_of(self, n)?))
     }
 }
 
@@ -91,24 +82,15 @@ impl<'a, T: NativeType> SlotIterator<'a, T> for BitmapIter<'a> {
     ghost left = { λ marks. map bit marks };
 
     fn first(&mut self) -> Option<SlotRef<'a, T>> {
-        match self.next() {
-            Some(item) => Some(SlotRef::Bit(item)),
-            None => None,
-        }
+        Some(SlotRef::Bit(self.next()?))
     }
 
     fn last(&mut self) -> Option<SlotRef<'a, T>> {
-        match self.next_back() {
-            Some(item) => Some(SlotRef::Bit(item)),
-            None => None,
-        }
+        Some(SlotRef::Bit(self.next_back()?))
     }
 
     fn skip_to(&mut self, n: usize) -> Option<SlotRef<'a, T>> {
-        match self.nth(n) {
-            Some(item) => Some(SlotRef::Bit(item)),
-            None => None,
-        }
+        Some(SlotRef::Bit(self.nth(n)?))
     }
 }
 
@@ -124,24 +106,15 @@ impl<'a, T: NativeType, O: Offset> SlotIterator<'a, T> for ArrayValuesIter<'a, B
     ghost can_turn = { IsWithin stored_values };
 
     fn first(&mut self) -> Option<SlotRef<'a, T>> {
-        match self.next() {
-            Some(item) => Some(SlotRef::Bytes(item)),
-            None => None,
-        }
+        Some(SlotRef::Bytes(self.next()?))
     }
 
     fn last(&mut self) -> Option<SlotRef<'a, T>> {
-        match self.next_back() {
-            Some(item) => Some(SlotRef::Bytes(item)),
-            None => None,
-        }
+        Some(SlotRef::Bytes(self.next_back()?))
     }
 
     fn skip_to(&mut self, n: usize) -> Option<SlotRef<'a, T>> {
-        match self.nth(n) {
-            Some(item) => Some(SlotRef::Bytes(item)),
-            None => None,
-        }
+        Some(SlotRef::Bytes(self.nth(n)?))
     }
 }
 
@@ -158,24 +131,15 @@ impl<'a, T: NativeType, O: Offset> SlotIterator<'a, T>
     ghost can_turn = { IsWithin stored_values };
 
     fn first(&mut self) -> Option<SlotRef<'a, T>> {
-        match self.next() {
-            Some(item) => Some(SlotRef::Bytes(item)),
-            None => None,
-        }
+        Some(SlotRef::Bytes(self.next()?))
     }
 
     fn last(&mut self) -> Option<SlotRef<'a, T>> {
-        match self.next_back() {
-            Some(item) => Some(SlotRef::Bytes(item)),
-            None => None,
-        }
+        Some(SlotRef::Bytes(self.next_back()?))
     }
 
     fn skip_to(&mut self, n: usize) -> Option<SlotRef<'a, T>> {
-        match self.nth(n) {
-            Some(item) => Some(SlotRef::Bytes(item)),
-            None => None,
-        }
+        Some(SlotRef::Bytes(self.nth(n)?))
     }
 }
 
@@ -192,24 +156,15 @@ impl<'a, T: NativeType, O: Offset> SlotIterator<'a, T>
     ghost can_turn = { IsWithin stored_values };
 
     fn first(&mut self) -> Option<SlotRef<'a, T>> {
-        match self.next() {
-            Some(item) => Some(SlotRef::Bytes(item)),
-            None => None,
-        }
+        Some(SlotRef::Bytes(self.next()?))
     }
 
     fn last(&mut self) -> Option<SlotRef<'a, T>> {
-        match self.next_back() {
-            Some(item) => Some(SlotRef::Bytes(item)),
-            None => None,
-        }
+        Some(SlotRef::Bytes(self.next_back()?))
     }
 
     fn skip_to(&mut self, n: usize) -> Option<SlotRef<'a, T>> {
-        match self.nth(n) {
-            Some(item) => Some(SlotRef::Bytes(item)),
-            None => None,
-        }
+        Some(SlotRef::Bytes(self.nth(n)?))
     }
 }
 
@@ -225,24 +180,15 @@ impl<'a, T: NativeType, O: Offset> SlotIterator<'a, T> for ArrayValuesIter<'a, U
     ghost can_turn = { IsWithin stored_values };
 
     fn first(&mut self) -> Option<SlotRef<'a, T>> {
-        match self.next() {
-            Some(item) => Some(SlotRef::Text(item)),
-            None => None,
-        }
+        Some(SlotRef::Text(self.next()?))
     }
 
     fn last(&mut self) -> Option<SlotRef<'a, T>> {
-        match self.next_back() {
-            Some(item) => Some(SlotRef::Text(item)),
-            None => None,
-        }
+        Some(SlotRef::Text(self.next_back()?))
     }
 
     fn skip_to(&mut self, n: usize) -> Option<SlotRef<'a, T>> {
-        match self.nth(n) {
-            Some(item) => Some(SlotRef::Text(item)),
-            None => None,
-        }
+        Some(SlotRef::Text(self.nth(n)?))
     }
 }
 
@@ -259,24 +205,15 @@ impl<'a, T: NativeType, O: Offset> SlotIterator<'a, T>
     ghost can_turn = { IsWithin stored_values };
 
     fn first(&mut self) -> Option<SlotRef<'a, T>> {
-        match self.next() {
-            Some(item) => Some(SlotRef::Text(item)),
-            None => None,
-        }
+        Some(SlotRef::Text(self.next()?))
     }
 
     fn last(&mut self) -> Option<SlotRef<'a, T>> {
-        match self.next_back() {
-            Some(item) => Some(SlotRef::Text(item)),
-            None => None,
-        }
+        Some(SlotRef::Text(self.next_back()?))
     }
 
     fn skip_to(&mut self, n: usize) -> Option<SlotRef<'a, T>> {
-        match self.nth(n) {
-            Some(item) => Some(SlotRef::Text(item)),
-            None => None,
-        }
+        Some(SlotRef::Text(self.nth(n)?))
     }
 }
 
@@ -293,24 +230,15 @@ impl<'a, T: NativeType, O: Offset> SlotIterator<'a, T>
     ghost can_turn = { IsWithin stored_values };
 
     fn first(&mut self) -> Option<SlotRef<'a, T>> {
-        match self.next() {
-            Some(item) => Some(SlotRef::Text(item)),
-            None => None,
-        }
+        Some(SlotRef::Text(self.next()?))
     }
 
     fn last(&mut self) -> Option<SlotRef<'a, T>> {
-        match self.next_back() {
-            Some(item) => Some(SlotRef::Text(item)),
-            None => None,
-        }
+        Some(SlotRef::Text(self.next_back()?))
     }
 
     fn skip_to(&mut self, n: usize) -> Option<SlotRef<'a, T>> {
-        match self.nth(n) {
-            Some(item) => Some(SlotRef::Text(item)),
-            None => None,
-        }
+        Some(SlotRef::Text(self.nth(n)?))
     }
 }
 

@@ -4,13 +4,13 @@
 //! Both passes find a line by the same functions, over [`Pass`]. Names of one length are compared together, the most
 //! frequent first, and each length has a function: one function with an exit for each of 42 lines is expensive to prove,
 //! and a comparison by length first is the fastest.
-#![tactic(auto, unfolding(arrow_syntax::specs::Lines::create_lines, arrow_syntax::specs::Lines::read_lines, arrow_syntax::specs::Lines::change_lines, arrow_syntax::specs::Lines::grow_lines, arrow_syntax::specs::Lines::convert_lines, arrow_syntax::specs::Lines::request_behind, arrow_syntax::specs::Lines::request_among))]
+#![tactic(auto, unfolding(arrow_syntax::specs::Lines::create_lines, arrow_syntax::specs::Lines::read_lines, arrow_syntax::specs::Lines::change_lines, arrow_syntax::specs::Lines::grow_lines, arrow_syntax::specs::Lines::convert_lines, arrow_syntax::specs::Lines::numbered_request, arrow_syntax::specs::Lines::named_request))]
 
 ghost use Rattle.std.specs.Prelude.{◌≡◌, IsFalse, IsTrue, OnOk, not};
 ghost use Rattle.std.specs.Option.{option_to_list};
 ghost use Rattle.arrow_interpreter.specs.Dispatch.{any_line, len_3_line, len_4_line, len_5_line, len_6_line, len_7_line};
 ghost use Rattle.arrow_interpreter.specs.Replies.{RunsRequests};
-ghost use Rattle.arrow_syntax.specs.Lines.{asked_in, both_in, is_bad, on_wide};
+ghost use Rattle.arrow_syntax.specs.Lines.{line_request, parsed_request, is_bad, on_wide};
 ghost use Rattle.arrow_syntax.specs.Words.{is_printable, words_of};
 
 use crate::interpreter::Interpreter;
@@ -62,7 +62,7 @@ pub fn is_line(line: &[u8], printable: bool) -> bool
 #[inline(always)]
 pub fn run_line(interpreter: &mut Interpreter, line: &[u8]) -> Result<(), AllocError>
     requires { IsFalse (is_bad line.now) }
-    ensures { OnOk result (RunsRequests (option_to_list (asked_in line.now)) interpreter.old interpreter.new) }
+    ensures { OnOk result (RunsRequests (option_to_list (line_request line.now)) interpreter.old interpreter.new) }
 {
     if !is_passed_over(line) {
         dispatch_words(interpreter, line)?;
@@ -71,10 +71,10 @@ pub fn run_line(interpreter: &mut Interpreter, line: &[u8]) -> Result<(), AllocE
 }
 
 /// Handles the words of a line.
-#[tactic(auto, unfolding(arrow_syntax::specs::Lines::both_in, arrow_syntax::specs::Lines::narrow_lines))]
+#[tactic(auto, unfolding(arrow_syntax::specs::Lines::parsed_request, arrow_syntax::specs::Lines::lines_of_narrow_table))]
 #[inline(always)]
 fn dispatch_words<P: Pass>(pass: &mut P, words: &[u8]) -> Result<bool, AllocError>
-    ensures { P.Handles (both_in (words_of words.now)) pass.old pass.new result }
+    ensures { P.Handles (parsed_request (words_of words.now)) pass.old pass.new result }
 {
     let Some((name, words)) = next_word(words) else {
         return pass.none();
@@ -92,7 +92,7 @@ fn dispatch_words<P: Pass>(pass: &mut P, words: &[u8]) -> Result<bool, AllocErro
 }
 
 /// Handles the words behind `wide`, which are a line of the wide table.
-#[tactic(auto, unfolding(arrow_syntax::specs::Lines::request_of, arrow_syntax::specs::Lines::wide_lines))]
+#[tactic(auto, unfolding(arrow_syntax::specs::Lines::request_of, arrow_syntax::specs::Lines::lines_of_wide_table))]
 #[inline(never)]
 fn dispatch_wide<P: Pass>(pass: &mut P, words: &[u8]) -> Result<bool, AllocError>
     ensures { P.Handles (on_wide (words_of words.now)) pass.old pass.new result }

@@ -2,6 +2,9 @@
 
 -- Costs of commands that test nothing, and of parts in any entry.
 pub use Rattle.arrow_model.proofs.Costs.{costs-still, costs-anywhere, most-anywhere, untested, unmet-costs}
--- Tests that hold both; and what lies around items of no bytes.
-pub use Rattle.arrow_model.proofs.AllLemmas.{and-first, and-second}
-pub use Rattle.arrow_model.proofs.ValueLemmas.{nothing-around}
+-- That a step keeps the entries of a table values, on one table and on two; that each command is a request, of which
+-- this is so; and the value in one entry.
+pub use Rattle.arrow_model.proofs.StepLemmas.{fine-changes, fine-both, entry-is}
+pub use Rattle.arrow_model.proofs.RequestLemmas.{request-is}
+-- Tests that hold both.
+pub use Rattle.arrow_model.proofs.AllLemmas.{and-second}

@@ -8,7 +8,7 @@ use Rattle.std.specs.Prelude.{All, IfSome, MatchBool, MatchOption}
 use Rattle.std.specs.List.{list_all}
 use Rattle.arrow_types.specs.Types.{IsRightType, LogicalType}
 use Rattle.arrow_types.specs.declared.physical_type.PhysicalType.TheVariants as physical
-use Rattle.arrow_column.specs.Acceptance.{Tests, Passes}
+use Rattle.arrow_column.specs.Validation.{Tests, Passes}
 use Rattle.arrow_column.specs.Column.{Column, marks_of, stored_values, last_slot}
 use Rattle.arrow_bytes.specs.Selection as kernels
 use Rattle.arrow_model.specs.Answer.{Answer, done, is_memory, not_met, refused}
@@ -283,7 +283,7 @@ module _ {T : Type 0} (c : Types T) where
     ruleset fine-values = (cut-is, frozen-is, thawed-is, nullable-is, fits-slots, nullable-nulls, items-slots, fits-stored)
 
     fine-transition : (asks : Ask T) (v : Value T) → IsValue c v → (effect c old asks).kinds v.shape ≡ true
-        → IsTextAsk asks → Fine ((effect c old asks).row v)
+        → IsTextAsk asks → Fine ((effect c old asks).transition v)
     fine-transition (ask.set_mask mask) v of for text =
         fine-where old _ _ is
         (λ fit. fine-becomes _
@@ -385,7 +385,7 @@ module _ {T : Type 0} (c : Types T) where
     fine-transition _ v of for text = search (fine-rows, fine-values)
 
     fine-does : (asks : Ask T) → IsTextAsk asks → Fine (Does c old asks)
-    fine-does asks text = fine-kind old (effect c old asks).kinds (effect c old asks).row is
+    fine-does asks text = fine-kind old (effect c old asks).kinds (effect c old asks).transition is
         (λ v of for. fine-transition asks v of for text)
 
     fine-joins : (other : Option (Value T)) → IfSome other (IsValue c) → Fine (ExtendsFrom c old other)
@@ -419,7 +419,7 @@ module _ {T : Type 0} (c : Types T) where
 
   -- ---- the table
 
-  entry-is : (state : State T) (e : ℕ) → AreValues c state → IfSome (entry_at state e) (IsValue c)
+  pub entry-is : (state : State T) (e : ℕ) → AreValues c state → IfSome (entry_at state e) (IsValue c)
   entry-is state e all = found (slice_get state e) refl
     where
       found : (entry : Option (Option (Value T))) → slice_get state e ≡ entry

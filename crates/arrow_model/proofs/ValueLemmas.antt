@@ -12,7 +12,7 @@ use Rattle.arrow_types.specs.declared.primitive_type.PrimitiveType.TheVariants a
 use Rattle.arrow_types.specs.declared.physical_type.PhysicalType.TheVariants as physical
 use Rattle.arrow_memory.specs.Offsets.{last_of}
 use Rattle.arrow_memory.specs.Rows.{Row, rows_of}
-use Rattle.arrow_column.specs.Acceptance.{Passes}
+use Rattle.arrow_column.specs.Validation.{Passes}
 use Rattle.arrow_column.specs.Column.{all_valid, marks_of, stored_values}
 use Rattle.arrow_bytes.specs.Kinds.{AreItems, binary_type, text_type, binary_layout, text_layout}
 use Rattle.arrow_bytes.specs.Pieces.{Around, nothing_around, around_of}

@@ -37,7 +37,7 @@ abbrev pub outcome : {T : Type 0} → Result (Reply T) Error → Answer T
 outcome (Ok reply) = answer_of reply
 outcome (Err e) = refused (refusal e)
 
--- the three answers that are freely chosen, each where its row allows it
+-- the three answers that are freely chosen, each where its transition allows it
 abbrev pub is_memory : {T : Type 0} → Answer T → Bool
 is_memory (refused out_of_memory) = true
 is_memory _ = false

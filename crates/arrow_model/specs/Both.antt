@@ -77,7 +77,7 @@ module _ {T : Type 0} (zero : T) (primitive : PrimitiveType) where
   abbrev pub wide_types : Types T
   wide_types = types zero primitive 9223372036854775807 true
 
-  -- one command: a step of one half, or a row of an entry of one half, which is empty; the other half stays
+  -- one command: a step of one half, or a transition of an entry of one half, which is empty; the other half stays
   abbrev pub IsBothStep : Both T → BothRequest T → Answer T → Both T → Type 0
   IsBothStep old (narrow asks) reply new = IsStep narrow_types old.narrow asks reply new.narrow × (new.wide ≡ old.wide)
   IsBothStep old (wide asks) reply new = IsStep wide_types old.wide asks reply new.wide × (new.narrow ≡ old.narrow)

@@ -46,8 +46,8 @@ module _ {T : Type 0} where
   abbrev pub trimmed_column : Value T → ColumnWith Around (Stored T)
   trimmed_column v = record v.column { around = record v.column.around { tail = [] } }
 
-  -- the array of the same slots, with nothing behind them: a mask is held exactly where a slot is null; of truth
-  -- values, where it was
+  -- the array of the same slots, with nothing behind them: a mask is held exactly where a slot is null; of
+  -- booleans, where it was
   abbrev pub frozen_value : Value T → Value T
   frozen_value v = record {
     shape = shaped frozen v.shape.value_kind;

@@ -4,7 +4,7 @@ use Rattle.std.specs.Prelude.{◌≡◌, ℕ, ◌*◌, ◌≤◌, ℤ, Bool, tru
 use Rattle.std.specs.Prelude.{Option, Some, None, option_map, IfSome, is_none, if◌then◌else◌, MatchBool, unsigned_abs}
 use Rattle.std.specs.Prelude.{unwrap_or}
 use Rattle.arrow_types.specs.Types.{LogicalType, Refusal, out_of_spec}
-use Rattle.arrow_column.specs.Acceptance.{Tests, test, Passes, IsFirstFailure}
+use Rattle.arrow_column.specs.Validation.{Tests, test, Passes, IsFirstFailure}
 use Rattle.arrow_column.specs.Column.{column_with}
 use Rattle.arrow_memory.specs.Marks.{marks, bits_past_bytes}
 use Rattle.arrow_memory.specs.Offsets.{first_fault}
@@ -13,9 +13,9 @@ use Rattle.arrow_check.specs.Reading.{Cost}
 use Rattle.arrow_bytes.specs.Pieces.{Around, nothing_around, around_of}
 use Rattle.arrow_bytes.specs.Kinds.{Costs, BuilderCosts, wrong_binary_type, wrong_binary_builder_type}
 use Rattle.arrow_bytes.specs.Kinds.{wrong_text_type, wrong_text_builder_type}
-use Rattle.arrow_bytes.specs.Acceptance as byte_array
+use Rattle.arrow_bytes.specs.Validation as byte_array
 use Rattle.arrow_primitive.specs.Fits as primitive
-use Rattle.arrow_boolean.specs.Fits as truth
+use Rattle.arrow_boolean.specs.Fits as bools
 use Rattle.arrow_model.specs.Kind.{Group, frozen, with_nulls, values_alone, ValueKind, native, boolean, var_binary}
 use Rattle.arrow_model.specs.Kind.{Shape, is_frozen, is_values_alone, is_native, is_boolean, is_var_binary, is_text}
 use Rattle.arrow_model.specs.Item.{Stored, value, bit, bytes_item}
@@ -26,8 +26,8 @@ use Rattle.arrow_model.specs.Transition.{Transition, leaves, memory, answers, wh
 
 -- the refusal of a type that is not right
 abbrev pub wrong_type_of : ValueKind → Bool → Refusal
-wrong_type_of native is_frozen = primitive.wrong_type
-wrong_type_of boolean is_frozen = if is_frozen then truth.wrong_type else truth.wrong_builder_type
+wrong_type_of native is_frozen = primitive.wrong_primitive_type
+wrong_type_of boolean is_frozen = if is_frozen then bools.wrong_boolean_type else bools.wrong_boolean_builder_type
 wrong_type_of (var_binary false) is_frozen = if is_frozen then wrong_binary_type else wrong_binary_builder_type
 wrong_type_of (var_binary true) is_frozen = if is_frozen then wrong_text_type else wrong_text_builder_type
 
@@ -54,9 +54,9 @@ offsets_test numbers others = test (first_fault numbers ≡ None) (out_of_spec (
 
 -- the tests of an array's parts, and those of a builder's
 abbrev pub boolean_tests : Group → LogicalType → List Bool → Option (List Bool) → Tests
-boolean_tests frozen = truth.array_tests
-boolean_tests with_nulls = truth.builder_tests
-boolean_tests values_alone = truth.builder_tests
+boolean_tests frozen = bools.boolean_array_tests
+boolean_tests with_nulls = bools.boolean_builder_tests
+boolean_tests values_alone = bools.boolean_builder_tests
 
 module _ {T : Type 0} (c : Types T) where
   abbrev pub pieces_tests : Group → Bool → LogicalType → List ℕ → List ℕ → Option (List Bool) → Tests

@@ -1,5 +1,6 @@
--- What each command does to the entries that it names, and what it answers. Where a row allows more than one answer,
--- it says so by `or_else_keep`, or by `memory` if the other answer is out of memory.
+-- What each command does to the entries that it names, and what it answers. Where a transition allows more than one
+-- answer, it says so by `or_else_keep`, or by `memory` if the other answer is out of memory. Of the names of one letter
+-- c is the types of the table, v and w are values, e, f and g numbers of entries, t a data type, x an item or a slot.
 use Rattle.std.specs.Prelude.{◌≡◌, ◌↔◌, ℕ, ℤ, ◌-◌, ◌==◌, ◌<◌, Bool, true, false, not, ◌&&◌, ◌||◌, nat_le, nat_lt}
 use Rattle.std.specs.Prelude.{nat_eq, List, [], ◌∷◌, length, map, take, replicate, count_by, find, is_none, is_some}
 use Rattle.std.specs.Prelude.{Option, Some, None, option_and_then, MatchOption, MatchBool, IsTrue, slice_get}
@@ -33,17 +34,18 @@ use Rattle.arrow_model.specs.Change.{thawed_value, nullable_value, empty_value, 
 use Rattle.arrow_model.specs.Change.{all_offsets, null_in, grown, null_pushed, slot_over, join_over, fitting}
 use Rattle.arrow_model.specs.Chosen.{bytes_column, array_in, filter_in}
 
--- if `over` holds, the command is refused for an overflow, which takes precedence over memory; else this row
+-- if `over` holds, the command is refused for an overflow, which takes precedence over memory; else this transition
 abbrev pub unless_over : {T : Type 0} → Option (Value T) → Bool → Transition T → Transition T
-unless_over old over row reply new = MatchBool over (answers old (refused overflow) reply new) (row reply new)
+unless_over old over transition reply new =
+    MatchBool over (answers old (refused overflow) reply new) (transition reply new)
 
--- a command on one entry: the kinds that it is for, and its row for a value of such a kind
+-- a command on one entry: the kinds that it is for, and its transition for a value of such a kind
 pub record Effect (T : Type 0) : Type 1 where
   pub kinds : Shape → Bool
-  pub row : Value T → Transition T
+  pub transition : Value T → Transition T
 
 abbrev pub on : {T : Type 0} → (Shape → Bool) → (Value T → Transition T) → Effect T
-on kinds row = record { kinds = kinds; row = row }
+on kinds transition = record { kinds = kinds; transition = transition }
 
 module _ {T : Type 0} (c : Types T) where
   -- whether offsets can express the ends of all these slots
@@ -83,22 +85,23 @@ module _ {T : Type 0} (c : Types T) where
       (gives (if all_fit v slots then done else refused overflow) (Some (grown c v (take (fitting c v slots) slots)))
       reply new)
 
-  -- rows of an entry that was so before
+  -- transitions of an entry; `old` is what it held before
   module _ (old : Option (Value T)) where
     infixl 10 ◌>>=◌ ◌>>◌
     abbrev ◌>>=◌ : {A : Type 0} → Option A → (A → Transition T) → Transition T
-    found >>= row = require_some old found row
+    found >>= transition = require_some old found transition
 
     abbrev ◌>>◌ : Bool → Transition T → Transition T
-    test >> row = where_true old test row
+    test >> transition = where_true old test transition
 
     -- this is answered, and nothing changes
     abbrev pub tells : Answer T → Transition T
     tells = answers old
 
-    -- a row whose answer copies an item: copying bytes or text may fail if an allocation fails
+    -- a transition whose answer copies an item: copying bytes or text may fail if an allocation fails
     abbrev pub copying : Value T → Transition T → Transition T
-    copying v row reply new = MatchBool (is_var_binary v.shape) (memory old row reply new) (row reply new)
+    copying v transition reply new =
+        MatchBool (is_var_binary v.shape) (memory old transition reply new) (transition reply new)
 
     -- the value gets this column, unless an allocation fails
     abbrev pub becomes : Value T → ColumnWith Around (Stored T) → Transition T
@@ -109,7 +112,8 @@ module _ {T : Type 0} (c : Types T) where
     effect ask.len = on any_kind (λ v. tells (number (length v.column.rows)))
     effect (ask.value i) =
         on reads_values (λ v. slice_get (stored_values v.column) i >>= (λ x. copying v (tells (answer.slot (Some x)))))
-    effect (ask.get i) = on is_frozen (λ v. slice_get (slots_of v.column) i >>= (λ x. copying v (tells (answer.slot x))))
+    effect (ask.get i) =
+        on is_frozen (λ v. slice_get (slots_of v.column) i >>= (λ x. copying v (tells (answer.slot x))))
     effect (ask.is_null i) = on is_frozen (λ v. slice_get (marks_of v.column) i >>= (λ mark. tells (flag (not mark))))
     effect ask.null_count = on is_frozen (λ v. tells (number (count_by not (marks_of v.column))))
     effect ask.all_slots = on any_kind (λ v. memory old (tells (answer.slots (slots_of v.column))))
@@ -174,7 +178,7 @@ module _ {T : Type 0} (c : Types T) where
         (becomes v (with_type v.column t)))
 
     abbrev pub Does : Ask T → Transition T
-    Does asks = of_kind old (effect asks).kinds (effect asks).row
+    Does asks = of_kind old (effect asks).kinds (effect asks).transition
 
     -- the rows of a builder of the same kind, which another entry holds, are appended
     abbrev pub AppendsRows : Value T → Value T → Transition T
@@ -223,9 +227,9 @@ module _ {T : Type 0} where
 
   -- the condition that the entry to be filled is empty
   abbrev pub IntoEmpty : Transition T → Option (Value T) → Transition T
-  IntoEmpty row old = where_true old (is_none old) row
+  IntoEmpty transition old = where_true old (is_none old) transition
 
--- what stands in an entry; nothing where it is empty or past the table
+-- what stands in an entry; nothing where it is empty or out of bounds
 abbrev pub entry_at : {T : Type 0} → State T → ℕ → Option (Value T)
 entry_at state e = option_and_then (λ entry. entry) (slice_get state e)
 
@@ -233,11 +237,11 @@ entry_at state e = option_and_then (λ entry. entry) (slice_get state e)
 abbrev pub other_at : {T : Type 0} → State T → ℕ → ℕ → Option (Value T)
 other_at state e f = if e == f then None else entry_at state f
 
--- a row of one entry of the table: every other entry stays; past the table it is `not_met`
+-- a transition of one entry of the table: every other entry stays; if there is no such entry it is `not_met`
 abbrev pub AtEntry : {T : Type 0} → State T → ℕ → (Option (Value T) → Transition T) → Answer T → State T → Type 0
-AtEntry state e row reply new =
+AtEntry state e transition reply new =
     MatchOption (slice_get state e) ((reply ≡ not_met) × (new ≡ state)) (λ old.
-    (kept : _) × row old reply kept × (new ≡ slice_set state e kept))
+    (kept : _) × transition old reply kept × (new ≡ slice_set state e kept))
 
 -- the answer of a test of keys: the refusal of the first that is out of bounds
 abbrev pub keys_answer : {T : Type 0} → List ℤ → ℕ → Answer T

@@ -18,13 +18,13 @@ gives given kept reply new = (reply ≡ given) × (new ≡ kept)
 abbrev pub leaves : {T : Type 0} → Value T → Transition T
 leaves kept = gives done (Some kept)
 
--- by a test, one row or another
+-- by a test, one transition or another
 abbrev pub by_test : {T : Type 0} → Bool → Transition T → Transition T → Transition T
-by_test test row other reply new = MatchBool test (row reply new) (other reply new)
+by_test test transition other reply new = MatchBool test (transition reply new) (other reply new)
 
 -- a free choice: an answer of which `chosen` holds is allowed too, and the entry is then `kept`
 abbrev pub or_else_keep : {T : Type 0} → (Answer T → Bool) → Option (Value T) → Transition T → Transition T
-or_else_keep chosen kept row reply new = MatchBool (chosen reply) (new ≡ kept) (row reply new)
+or_else_keep chosen kept transition reply new = MatchBool (chosen reply) (new ≡ kept) (transition reply new)
 
 -- of an entry that was so before
 module _ {T : Type 0} (old : Option (Value T)) where
@@ -40,18 +40,18 @@ module _ {T : Type 0} (old : Option (Value T)) where
   abbrev pub memory : Transition T → Transition T
   memory = or_else_keep is_memory old
 
-  -- the condition that `found` is `Some x`, for a row of x
+  -- the condition that `found` is `Some x`, for a transition of x
   abbrev pub require_some : {A : Type 0} → Option A → (A → Transition T) → Transition T
-  require_some found row reply new = MatchOption found (unmet reply new) (λ x. row x reply new)
+  require_some found transition reply new = MatchOption found (unmet reply new) (λ x. transition x reply new)
 
   -- the condition that a test holds
   abbrev pub where_true : Bool → Transition T → Transition T
-  where_true test row reply new = MatchBool test (row reply new) (unmet reply new)
+  where_true test transition reply new = MatchBool test (transition reply new) (unmet reply new)
 
   -- the condition that something holds
   abbrev pub provided : Type 0 → Transition T → Transition T
-  provided P row reply new = (P × row reply new) ⊎ ((P → ⊥) × unmet reply new)
+  provided P transition reply new = (P × transition reply new) ⊎ ((P → ⊥) × unmet reply new)
 
-  -- the condition that an entry of such a kind is there, for a row of what it holds
+  -- the condition that an entry of such a kind is there, for a transition of what it holds
   abbrev pub of_kind : (Shape → Bool) → (Value T → Transition T) → Transition T
   of_kind test = require_some (option_and_then (λ (v : Value T). if test v.shape then Some v else None) old)

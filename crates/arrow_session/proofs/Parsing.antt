@@ -7,7 +7,7 @@ use Rattle.std.specs.List.{list_all, position_or_len, cons_option}
 use Rattle.std.specs.Option.{option_to_list}
 use denote.Ref.{Bor}
 use Rattle.arrow_model.specs.Both.{BothRequest}
-use Rattle.arrow_syntax.specs.Lines.{ParsedInput, requests, bad_line, parsed_at, commands_of, is_bad, asked_in}
+use Rattle.arrow_syntax.specs.Lines.{ParsedInput, requests, bad_line, parsed_at, commands_of, is_bad, line_request}
 use Rattle.arrow_syntax.specs.Words.{is_printable, lines_of}
 
 -- the lines of the text that follows, if any
@@ -22,7 +22,7 @@ parsed_with n before (Some place) asked = bad_line (place + n)
 
 -- an input parsed up to the line of this number, with these requests so far, and these lines left
 unfoldable pub parsed_from : ℕ → List (BothRequest ℤ) → List (List ℕ) → ParsedInput
-parsed_from n before rest = parsed_with n before (position is_bad rest) (filter_map asked_in rest)
+parsed_from n before rest = parsed_with n before (position is_bad rest) (filter_map line_request rest)
 
 from_first : (found : Option ℕ) (asked : List (BothRequest ℤ)) → parsed_at found asked ≡ parsed_with 1 [] found asked
 from_first None asked = refl
@@ -30,7 +30,7 @@ from_first (Some place) asked = refl
 
 pub commands_of_is : (input : List ℕ) → commands_of input ≡ parsed_from 1 [] (lines_of input)
 unfolding commands_of parsed_from
-commands_of_is input = from_first (position is_bad (lines_of input)) (filter_map asked_in (lines_of input))
+commands_of_is input = from_first (position is_bad (lines_of input)) (filter_map line_request (lines_of input))
 
 -- the index of the first element that passes, behind one that does not, and at one that does
 module _ {X : Type 0} (p : X → Bool) where
@@ -63,12 +63,12 @@ next_request n before asked (Some c) (Some k) = refl
 -- one line more is parsed: it is good, and may make a request, or it is bad
 module _ (n : ℕ) (before : List (BothRequest ℤ)) (line : List ℕ) (rest : List (List ℕ)) where
   pub reads_good : is_bad line ≡ false
-      → parsed_from n before (line ∷ rest) ≡ parsed_from (n + 1) (before ++ option_to_list (asked_in line)) rest
+      → parsed_from n before (line ∷ rest) ≡ parsed_from (n + 1) (before ++ option_to_list (line_request line)) rest
   unfolding parsed_from
   reads_good e =
       rw (place_later is_bad line rest e)
-      (next_number n before (filter_map asked_in (line ∷ rest)) (position is_bad rest)
-      ∙ next_request (n + 1) before (filter_map asked_in rest) (asked_in line) (position is_bad rest))
+      (next_number n before (filter_map line_request (line ∷ rest)) (position is_bad rest)
+      ∙ next_request (n + 1) before (filter_map line_request rest) (line_request line) (position is_bad rest))
 
   pub reads_bad : is_bad line ≡ true → parsed_from n before (line ∷ rest) ≡ bad_line n
   unfolding parsed_from

@@ -7,7 +7,7 @@ use Rattle.arrow_model.specs.Answer.{Answer}
 use Rattle.arrow_model.specs.Both.{Both, BothRequest, IsBothStep}
 use Rattle.arrow_model.specs.Run.{Runs}
 use Rattle.arrow_interpreter.specs.Replies.{IsProgramRun, at_first, AppendsAnswers}
-use Rattle.arrow_syntax.specs.Lines.{bad_line, commands_of, asked_in, is_bad}
+use Rattle.arrow_syntax.specs.Lines.{bad_line, commands_of, line_request, is_bad}
 use Rattle.arrow_session.specs.Session.{AreCommands, IsAnswer}
 use Rattle.arrow_syntax.specs.Text.{answers_text}
 use Rattle.arrow_syntax.specs.Words.{lines_of}
@@ -55,7 +55,7 @@ module _ (input : List ℕ) where
   module _ (line : List ℕ) (rest : List (List ℕ)) where
     pub read_good : (n : ℕ) → is_bad line ≡ false → IsReadTo input n (line ∷ rest) → IsReadTo input (n + 1) rest
     unfolding IsReadTo
-    read_good n e h = (h.0 ++ option_to_list (asked_in line), h.1 ∙ reads_good n h.0 line rest e)
+    read_good n e h = (h.0 ++ option_to_list (line_request line), h.1 ∙ reads_good n h.0 line rest e)
 
     pub read_bad : (n : ℕ) → is_bad line ≡ true → IsReadTo input n (line ∷ rest) → commands_of input ≡ bad_line n
     unfolding IsReadTo
@@ -72,15 +72,15 @@ module _ (input : List ℕ) where
           by_test false e = refl
 
       pub run_good : (later : Both ℤ) (grown : List ℕ) → is_bad line ≡ false
-          → AppendsAnswers (option_to_list (asked_in line)) table later text grown
+          → AppendsAnswers (option_to_list (line_request line)) table later text grown
           → IsRunTo input (line ∷ rest) table text → IsRunTo input rest later grown
       unfolding IsRunTo
       run_good later grown e adds h = (
         h.0 + 1,
-        h.1 ++ option_to_list (asked_in line),
+        h.1 ++ option_to_list (line_request line),
         h.2 ++ adds.0,
         h.3 ∙ reads_good h.0 h.1 line rest e,
-        runs_joined (IsBothStep (pos 0) Int64) at_first table later h.1 (option_to_list (asked_in line)) h.2 adds.0
+        runs_joined (IsBothStep (pos 0) Int64) at_first table later h.1 (option_to_list (line_request line)) h.2 adds.0
             h.4 adds.1,
         adds.2 ∙ ap (λ before. before ++ answers_text adds.0) h.5 ∙ sym (flat_map-append _ h.2 adds.0),
       )

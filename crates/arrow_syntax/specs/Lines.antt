@@ -236,29 +236,29 @@ abbrev pub lines_over : ℕ → Bool → (List ℕ → Option ℤ) → List Line
 lines_over most is_large = lines (types_over most is_large)
 
 -- the lines of the narrow table
-unfoldable pub narrow_lines : List Line
-narrow_lines = lines (narrow_types (pos 0) Int64) parse_i32
+unfoldable pub lines_of_narrow_table : List Line
+lines_of_narrow_table = lines (narrow_types (pos 0) Int64) parse_i32
 
 -- the lines of the wide table
-unfoldable pub wide_lines : List Line
-wide_lines = lines (wide_types (pos 0) Int64) parse_i64
+unfoldable pub lines_of_wide_table : List Line
+lines_of_wide_table = lines (wide_types (pos 0) Int64) parse_i64
 
 -- the lines whose names have a length for which p holds
 abbrev pub with_length : (ℕ → Bool) → List Line → List Line
 with_length p = filter (λ line. p (length line.0))
 
 -- the request of the line of this name, made by the number and the words behind it
-unfoldable pub request_behind : List Line → List ℕ → ℕ → Reader (Request ℤ)
-request_behind rows name number words = option_and_then (λ reader. reader number words) (lookup rows name)
+unfoldable pub numbered_request : List Line → List ℕ → ℕ → Reader (Request ℤ)
+numbered_request rows name number words = option_and_then (λ reader. reader number words) (lookup rows name)
 
 -- the request of the line of this name, made by the words behind it
-unfoldable pub request_among : List Line → List ℕ → Reader (Request ℤ)
-request_among rows name = next parse_usize (request_behind rows name)
+unfoldable pub named_request : List Line → List ℕ → Reader (Request ℤ)
+named_request rows name = next parse_usize (numbered_request rows name)
 
 -- the request of the line that these words are
 unfoldable pub request_of : List Line → Reader (Request ℤ)
 request_of rows [] = None
-request_of rows (name ∷ words) = request_among rows name words
+request_of rows (name ∷ words) = named_request rows name words
 
 -- the lines that copy a value from one table into the other
 abbrev pub widen_line : Reader (BothRequest ℤ)
@@ -269,16 +269,16 @@ narrow_line = map_read (parse_usize ▸ only parse_usize) (λ (e, f). narrow_to 
 
 -- a line of the wide table, behind `wide`
 abbrev pub on_wide : Reader (BothRequest ℤ)
-on_wide words = option_map wide (request_of wide_lines words)
+on_wide words = option_map wide (request_of lines_of_wide_table words)
 
 -- a line of the narrow table, by its name and the words behind it
 abbrev pub on_narrow : List ℕ → Reader (BothRequest ℤ)
-on_narrow name words = option_map narrow (request_among narrow_lines name words)
+on_narrow name words = option_map narrow (named_request lines_of_narrow_table name words)
 
 -- the request of the line that these words are, on the two tables
-unfoldable pub both_in : Reader (BothRequest ℤ)
-both_in [] = None
-both_in (name ∷ words) =
+unfoldable pub parsed_request : Reader (BothRequest ℤ)
+parsed_request [] = None
+parsed_request (name ∷ words) =
     if bytes_eq name (codes "wide") then on_wide words else (
     if bytes_eq name (codes "widen") then widen_line words else (
     if bytes_eq name (codes "narrow") then narrow_line words else on_narrow name words))
@@ -289,15 +289,15 @@ is_of_lines b = (nat_le space b && nat_le b 126) || b == line_feed
 
 -- the request of a line, if it is a command
 abbrev pub request_in : List ℕ → Option (BothRequest ℤ)
-request_in line = if is_printable line then both_in (words_of line) else None
+request_in line = if is_printable line then parsed_request (words_of line) else None
 
 -- whether a line is neither passed over nor a command
 abbrev pub is_bad : List ℕ → Bool
 is_bad line = not (is_passed_over line) && not (is_some (request_in line))
 
 -- the request of a line, unless it is passed over
-abbrev pub asked_in : List ℕ → Option (BothRequest ℤ)
-asked_in line = if is_passed_over line then None else request_in line
+abbrev pub line_request : List ℕ → Option (BothRequest ℤ)
+line_request line = if is_passed_over line then None else request_in line
 
 -- an input, parsed: its requests, or the number of its first bad line, counted from 1
 pub data ParsedInput : Type 0 where
@@ -311,4 +311,4 @@ parsed_at (Some place) asked = bad_line (place + 1)
 
 -- the requests of an input in order, or the number of its first bad line
 unfoldable pub commands_of : List ℕ → ParsedInput
-commands_of input = parsed_at (position is_bad (lines_of input)) (filter_map asked_in (lines_of input))
+commands_of input = parsed_at (position is_bad (lines_of input)) (filter_map line_request (lines_of input))

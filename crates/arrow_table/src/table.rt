@@ -35,14 +35,19 @@ pub struct Table<T: NativeType, O: Offset> {
     cost: TextCost,
 }
 
-// Contracts see the values of the entries, in order, and the counts.
+// Contracts see the values of the entries, in order, and the counts. Each entry is empty or holds a valid value, which
+// commands keep so.
 impl<T: NativeType, O: Offset> Model for Table<T, O> {
-    ghost use Rattle.arrow_entry.specs.Entry.{table_of};
-    ghost use Rattle.arrow_model.specs.Value.{TableState};
+    ghost use Rattle.arrow_entry.specs.Entry.{state_of, table_of};
+    ghost use Rattle.arrow_model.specs.Value.{TableState, types};
+    ghost use Rattle.arrow_model.specs.Values.{AreValues};
 
     ghost Value = { TableState T };
 
     ghost view = { λ table. table_of table.entries.items table.cost };
+
+    ghost invariant = { λ table. AreValues (types T.zero T.PRIMITIVE O.most O.IS_LARGE)
+        (state_of table.entries.items) };
 }
 
 #[tactic(auto, using(crate::proofs::Steps::none_yet))]
@@ -92,14 +97,7 @@ impl<T: NativeType, O: Offset> Table<T, O> {
         ensures value { IfSome (option_copied result)
             (λ entry. IsValue (types_of T.NativeType O.Offset) (value_of entry)) }
     {
-        match entry_at(&self.entries, i) {
-            Some(entry) => {
-                // Its contract says that the entry holds a valid value.
-                entry.prove_value();
-                Some(entry)
-            }
-            None => None,
-        }
+        entry_at(&self.entries, i)
     }
 
     /// Appends a slot to the builder in an entry, and returns the reply. This is the command `Push`, with no command

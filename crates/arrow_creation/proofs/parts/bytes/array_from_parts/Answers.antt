@@ -1,7 +1,7 @@
 use Rattle.std.proofs.Common.{true, option_map, map, refl}
 use Rattle.arrow_types.specs.Types.{logical_type}
 use Rattle.arrow_bytes.specs.Column.{byte_column}
-use Rattle.arrow_bytes.specs.Acceptance.{array_tests}
+use Rattle.arrow_bytes.specs.Validation.{array_tests}
 use Rattle.arrow_model.specs.Kind.{frozen}
 use Rattle.arrow_model.specs.Request.{packed_bits}
 use Rattle.arrow_model.specs.Value.{types}

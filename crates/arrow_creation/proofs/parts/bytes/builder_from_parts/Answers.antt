@@ -1,7 +1,7 @@
 use Rattle.std.proofs.Common.{false, option_map, map, refl}
 use Rattle.arrow_types.specs.Types.{logical_type}
 use Rattle.arrow_bytes.specs.Column.{byte_column}
-use Rattle.arrow_bytes.specs.Acceptance.{builder_tests}
+use Rattle.arrow_bytes.specs.Validation.{builder_tests}
 use Rattle.arrow_model.specs.Kind.{with_nulls}
 use Rattle.arrow_model.specs.Request.{packed_bits}
 use Rattle.arrow_model.specs.Value.{types}

@@ -1,7 +1,7 @@
 use Rattle.std.proofs.Common.{false, None, map, refl}
 use Rattle.arrow_types.specs.Types.{logical_type}
 use Rattle.arrow_bytes.specs.Column.{byte_column}
-use Rattle.arrow_bytes.specs.Acceptance.{values_builder_tests}
+use Rattle.arrow_bytes.specs.Validation.{values_builder_tests}
 use Rattle.arrow_model.specs.Kind.{values_alone}
 use Rattle.arrow_model.specs.Value.{types}
 use Rattle.arrow_creation.proofs.Passes.{builder-cost, of-kind, pieces-made}
