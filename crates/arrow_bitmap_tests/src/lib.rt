@@ -1,4 +1,4 @@
-//! Tests of `arrow_bitmap`, in a crate of their own, since the gate proves a crate with tests twice.
+//! Tests of `arrow_bitmap` by its public calls.
 #![tactic(auto)]
 
 #[cfg(test)]

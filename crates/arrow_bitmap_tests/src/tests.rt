@@ -1,4 +1,6 @@
 //! Bitmaps. Marks are written as texts, in which `1` is a set mark.
+mod equality;
+mod iterators;
 mod mutable;
 mod ops;
 mod ranges;
@@ -83,4 +85,9 @@ fn size_hints_count_down(rt: HostRuntime) {
         assert_text::value(came, ((left, Some(left)), left > 0)).expect(&rt, "before a mark");
     }
     drop(bitmap);
+}
+
+#[test]
+fn laws_are_callable() {
+    arrow_bitmap::laws::packed_marks();
 }

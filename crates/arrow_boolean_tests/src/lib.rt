@@ -1,4 +1,4 @@
-//! Tests of `arrow_boolean`, in a crate of their own, since the gate proves a crate with tests twice.
+//! Tests of `arrow_boolean` by its public calls.
 #![tactic(auto)]
 
 #[cfg(test)]

@@ -1,6 +1,8 @@
-//! Arrays and builders of truth values. Slots are written as texts of `t`, `f`, and `_` for a null; stored values and
+//! Arrays and builders of booleans. Slots are written as texts of `t`, `f`, and `_` for a null; stored values and
 //! marks as texts of `1` and `0`.
+mod equality;
 mod extend_from_array;
+mod true_count;
 
 ghost use Rattle.std.specs.Prelude.{◌≡◌, length};
 
@@ -198,19 +200,10 @@ fn builders_grow_by_iterators(rt: HostRuntime) {
 }
 
 /// A name, the slots of two builders, and those of the first after it took the second's.
+#[rattlefmt::skip]
 const JOINED: &[(&str, [Option<bool>; 2], [Option<bool>; 2], &str)] = &[
-    (
-        "a null in the second",
-        [Some(true), Some(false)],
-        [None, Some(true)],
-        "tf_t",
-    ),
-    (
-        "a null in the first",
-        [None, Some(true)],
-        [Some(true), Some(false)],
-        "_ttf",
-    ),
+    ("a null in the second", [Some(true), Some(false)], [None, Some(true)], "tf_t"),
+    ("a null in the first", [None, Some(true)], [Some(true), Some(false)], "_ttf"),
 ];
 
 #[test]

@@ -1,5 +1,4 @@
-//! Tests of `arrow_byte_array`, and of the stored values of `arrow_bytes`, in a crate of their own, since the gate
-//! proves a crate with tests twice.
+//! Tests of `arrow_byte_array` by its public calls, and of the stored values of `arrow_bytes`.
 #![tactic(auto)]
 
 #[cfg(test)]

@@ -22,9 +22,12 @@ macro_rules! for_all_kinds {
 mod arrays;
 mod builders;
 mod constructors;
+mod equality;
 mod extend_from_array;
 mod iterators;
 mod masks;
+mod owned;
+mod printing;
 mod text;
 
 use arrow_byte_array::{ByteArray, MutableByteArray, MutableByteValuesArray};

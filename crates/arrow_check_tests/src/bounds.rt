@@ -24,6 +24,7 @@ fn check<O: Offset>(rt: &(impl Abort + AllocGlobal), cases: &[Case]) {
     }
 }
 
+#[rattlefmt::skip]
 const NARROW: &[Case] = &[
     ("up to the values' end", &[0, 4], 4, ["made", "made"]),
     ("one past the values", &[0, 4], 3, [PAST, ELSEWHERE]),
@@ -31,27 +32,13 @@ const NARROW: &[Case] = &[
     ("past no value", &[5], 0, [PAST, ELSEWHERE]),
     ("no slot, no value", &[0], 0, ["made", "made"]),
     ("not from zero", &[1, 4], 4, ["made", "made"]),
-    (
-        "the greatest offset",
-        &[1, 1, 2147483647],
-        2147483646,
-        [PAST, ELSEWHERE],
-    ),
+    ("the greatest offset", &[1, 1, 2147483647], 2147483646, [PAST, ELSEWHERE]),
 ];
 
+#[rattlefmt::skip]
 const WIDE: &[Case] = &[
-    (
-        "the greatest offset",
-        &[0, 9223372036854775807],
-        usize::MAX,
-        ["made", ELSEWHERE],
-    ),
-    (
-        "past 32 bits",
-        &[0, 9223372036854775807],
-        4294967295,
-        [PAST, ELSEWHERE],
-    ),
+    ("the greatest offset", &[0, 9223372036854775807], usize::MAX, ["made", ELSEWHERE]),
+    ("past 32 bits", &[0, 9223372036854775807], 4294967295, [PAST, ELSEWHERE]),
 ];
 
 #[test]

@@ -27,26 +27,12 @@ fn keys_of_every_sign_and_width_are_checked(rt: HostRuntime) {
 }
 
 /// A name, keys, their marks, and the expected answer of `check_slots` for three items.
+#[rattlefmt::skip]
 const SLOTS: &[(&str, [i32; 4], [bool; 4], &str)] = &[
-    (
-        "nulls under both faults",
-        [2, 9, 0, -1],
-        [true, false, true, false],
-        "made",
-    ),
-    (
-        "a null under one fault",
-        [2, 9, 0, -1],
-        [true, false, true, true],
-        NO_INDEX,
-    ),
+    ("nulls under both faults", [2, 9, 0, -1], [true, false, true, false], "made"),
+    ("a null under one fault", [2, 9, 0, -1], [true, false, true, true], NO_INDEX),
     ("no null", [2, 9, 0, -1], [true; 4], PAST),
-    (
-        "a null under the first fault",
-        [-1, 0, 3, -1],
-        [false, true, true, true],
-        PAST,
-    ),
+    ("a null under the first fault", [-1, 0, 3, -1], [false, true, true, true], PAST),
     ("nulls alone", [3, -1, 9, -7], [false; 4], "made"),
 ];
 

@@ -1,4 +1,4 @@
-//! Tests of `arrow_check`, in a crate of their own, since the gate proves a crate with tests twice.
+//! Tests of `arrow_check` by its public calls.
 #![tactic(auto)]
 
 #[cfg(test)]
@@ -11,6 +11,8 @@ mod cost;
 mod indexes;
 #[cfg(test)]
 mod judges;
+#[cfg(test)]
+mod places;
 #[cfg(test)]
 mod text;
 #[cfg(test)]

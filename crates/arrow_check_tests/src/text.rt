@@ -62,6 +62,7 @@ fn check<J: Judge>(rt: &(impl Abort + AllocGlobal), by: &str, judge: &mut J, cas
     .expect(rt, by);
 }
 
+#[rattlefmt::skip]
 const TEXTS: &[Case] = &[
     (&[0, 2, 4], &[0xC3, 0xA9, 0xC3, 0xA8], "made", [1, 1, 1]),
     (&[0, 1, 4], &[0xC3, 0xA9, 0xC3, 0xA8], NO_TEXT, [1, 1, 1]),
@@ -75,12 +76,7 @@ const TEXTS: &[Case] = &[
     (&[0, 1], &[0x61, 0xFF], "made", [1, 0, 0]),
     (&[1, 2], &[0xFF, 0x61], "made", [1, 0, 0]),
     (&[0, 1, 3], &[0xFF, 0x61], PAST, [0, 0, 0]),
-    (
-        &[2, 2, 5, 5],
-        &[0xFF, 0xC3, 0xE2, 0x82, 0xAC, 0x80],
-        "made",
-        [1, 1, 1],
-    ),
+    (&[2, 2, 5, 5], &[0xFF, 0xC3, 0xE2, 0x82, 0xAC, 0x80], "made", [1, 1, 1]),
 ];
 
 const BY_ASCII: &[Case] = &[

@@ -1,5 +1,6 @@
 //! Kernels. What each makes was worked out by hand. Stored booleans and marks are texts of `1` and `0`; the marks are
 //! `none` without a mask.
+mod any_array;
 mod booleans;
 mod items;
 mod numbers;

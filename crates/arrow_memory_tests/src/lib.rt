@@ -1,10 +1,14 @@
-//! Tests of `arrow_memory`, in a crate of their own, since the gate proves a crate with tests twice.
+//! Tests of `arrow_memory` by its public calls.
 #![tactic(auto)]
 
 #[cfg(test)]
 mod buffer;
 #[cfg(test)]
+mod le_bytes;
+#[cfg(test)]
 mod offset;
+#[cfg(test)]
+mod printing;
 #[cfg(test)]
 mod thaw;
 #[cfg(test)]

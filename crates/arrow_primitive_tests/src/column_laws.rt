@@ -1,6 +1,6 @@
 use arrow_column::laws::{
     bare_column, cut_of_cut, empty_cut, freeze_drops_mask, held_masks, mask_bits, no_mask,
-    one_by_one, parts_again, push_then_pop, rows_by_parts, slot_by_value,
+    one_by_one, parts_again, push_then_pop, rows_by_parts, slot_by_value, slots_in_order,
 };
 use arrow_memory::buffer::Buffer;
 
@@ -18,4 +18,5 @@ fn laws_are_callable() {
     push_then_pop::<(), i64>();
     one_by_one::<(), i64, i64>();
     bare_column::<(), i64>();
+    slots_in_order::<(), i64>();
 }

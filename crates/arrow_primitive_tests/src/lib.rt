@@ -1,5 +1,5 @@
-//! Tests of `arrow_primitive`, and of the laws of `arrow_column`, in a crate of their own, since the gate proves a crate
-//! with tests twice. What columns do is tested through the arrays and builders that are made of them.
+//! Tests of `arrow_primitive` by its public calls, and of the laws of `arrow_column`. What columns do is
+//! tested through the arrays and builders that are made of them.
 #![tactic(auto)]
 
 #[cfg(test)]

@@ -1,10 +1,8 @@
-//! What is answered where memory is refused, for all crates in one, since it is built anew for each allocation that is.
-//! A test that met a refusal, and the right answer to it, fails with the word `refused`, and only so: the script
-//! `refusals` has each allocation refused in turn, until no test fails.
+//! What calls answer and leave if memory is refused. A test that met a refusal, and the right answer to it, fails with
+//! the word `refused`, and only so: the script `refusals` refuses each allocation in turn, until no test fails. All
+//! crates are tested in one, so that one build serves for all allocations.
 #![tactic(auto)]
 
-#[cfg(test)]
-mod again;
 #[cfg(test)]
 mod boolean;
 #[cfg(test)]
@@ -20,8 +18,12 @@ mod overflows;
 #[cfg(test)]
 mod primitive;
 #[cfg(test)]
+mod refusal;
+#[cfg(test)]
 mod runs;
 #[cfg(test)]
 mod session;
+#[cfg(test)]
+mod slot_text;
 #[cfg(test)]
 mod types;

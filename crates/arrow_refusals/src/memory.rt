@@ -1,191 +1,135 @@
-//! Bit maps and buffers.
+//! Bitmaps and buffers.
 ghost use Rattle.std.specs.Prelude.{◌≡◌, length};
 
-use crate::again::{Copied, Growing, Making, Shows, all_grown, all_made, copy_of};
+use crate::refusal::{changes, check_refusal, end, is_refused, results};
+use crate::slot_text::marks;
 use arrow_memory::bitmap::{Bitmap, BitmapIter, MutableBitmap, and, not, or};
 use arrow_memory::buffer::Buffer;
-use arrow_testing::{after, all_told, is_mask, told};
+use arrow_testing::{Text, assert_text};
 use arrow_types::error::Error;
 use std::alloc::Global;
 use std::cell::Cell;
+use std::process::Abort;
 use std::test::Fail;
 
-/// Marks, as a text of '1' and '0', and how many of them are clear.
-type Marks = (&'static str, usize);
-
-impl Shows for MutableBitmap {
-    type Wanted = Marks;
-
-    fn shows(&self, wanted: &Marks) -> bool {
-        let (text, clear) = *wanted;
-        is_mask(Some(self.iter()), text) & (self.unset_bits() == clear)
-    }
+/// Writes the marks of a growing bitmap, and how many are clear.
+fn growing_text(bitmap: &MutableBitmap) -> Text {
+    let marks = marks(bitmap.iter());
+    Text::of(format_args!("{}, {} clear", marks.as_str(), bitmap.unset_bits()))
 }
 
-impl Shows for Bitmap {
-    type Wanted = Marks;
-
-    fn shows(&self, wanted: &Marks) -> bool {
-        let (text, clear) = *wanted;
-        is_mask(Some(self.iter()), text) & (self.unset_bits() == clear)
-    }
+/// Writes the marks of a bitmap, and how many are clear.
+fn bitmap_text(bitmap: &Bitmap) -> Text {
+    let marks = marks(bitmap.iter());
+    Text::of(format_args!("{}, {} clear", marks.as_str(), bitmap.unset_bits()))
 }
 
-impl Shows for Buffer<i64> {
-    type Wanted = &'static [i64];
-
-    fn shows(&self, wanted: &&'static [i64]) -> bool {
-        self.as_slice() == *wanted
-    }
+/// Writes the values of a buffer.
+fn buffer_text(buffer: &Buffer<i64>) -> Text {
+    Text::of(format_args!("{:?}", buffer.as_slice()))
 }
 
-impl Copied for MutableBitmap {
-    fn copy(&self) -> Result<MutableBitmap, Error> {
-        self.clone()
-    }
-}
-
-impl Copied for Bitmap {
-    fn copy(&self) -> Result<Bitmap, Error> {
-        self.clone()
-    }
-}
-
-impl Copied for Buffer<i64> {
-    fn copy(&self) -> Result<Buffer<i64>, Error> {
-        self.clone()
-    }
-}
-
-/// Whether so many marks are given, of which every third is set, the first one too.
-fn gives_thirds(mut marks: BitmapIter<'_>, count: usize) -> bool {
+/// Compares marks with as many, of which every third is set, the first one too.
+fn check_thirds(rt: &impl Abort, case: &str, mut marks: BitmapIter<'_>, count: usize) {
     for index in 0..count {
-        if marks.next() != Some(index % 3 == 0) {
-            return false;
-        }
+        assert_text::value(marks.next(), Some(index % 3 == 0)).expect(rt, case);
     }
-    marks.next().is_none()
-}
-
-/// Whether a refused push leaves the marks, and the next try succeeds.
-fn pushes(marks: &mut MutableBitmap) -> Result<bool, Error> {
-    for index in 0..600 {
-        if let Err(refused) = marks.push(index % 3 == 0) {
-            let is_left = gives_thirds(marks.iter(), index);
-            return after(refused, marks.push(true).is_ok() & is_left);
-        }
-    }
-    Ok(gives_thirds(marks.iter(), 600))
-}
-
-/// How many marks each extension finds, and by how many it extends them.
-const EXTENSIONS: &[(usize, usize)] = &[(0, 5), (5, 100), (105, 1000)];
-
-/// Whether a refused extension leaves the marks, and the next try succeeds.
-fn extends(marks: &mut MutableBitmap, calls: &[(usize, usize)]) -> Result<bool, Error> {
-    for (length, count) in calls {
-        if let Err(refused) = marks.extend_constant(*count, true) {
-            let is_left = (marks.len() == *length) & (marks.unset_bits() == 0);
-            return after(
-                refused,
-                marks.extend_constant(*count, true).is_ok() & is_left,
-            );
-        }
-    }
-    Ok((marks.len() == 1105) & (marks.unset_bits() == 0))
-}
-
-/// The calls by which marks come from others, or room is made, or given back.
-pub(crate) enum Growth {
-    ExtendFromBitmap,
-    ExtendFromRange,
-    Reserve,
-    ShrinkToFit,
-}
-
-/// Freezes a bitmap and appends ten of its marks, from the fifth on, if it has as many.
-fn extend_from_fifth(marks: &mut MutableBitmap, other: &MutableBitmap) -> Result<(), Error> {
-    let frozen = other.clone()?.freeze()?;
-    let answer = if frozen.len() >= 15 {
-        marks.extend_from_range(&frozen, 5, 10)
-    } else {
-        Ok(())
-    };
-    drop(frozen);
-    answer
-}
-
-// A small one has one set mark, and the other a hundred clear ones.
-impl Growing for MutableBitmap {
-    type Call = Growth;
-
-    fn small(alloc: Global) -> Result<MutableBitmap, Error> {
-        MutableBitmap::from_slice(alloc, [true].as_slice())
-    }
-
-    fn is_small(&self) -> bool {
-        gives_thirds(self.iter(), 1)
-    }
-
-    fn other(alloc: Global) -> Result<MutableBitmap, Error> {
-        MutableBitmap::from_slice(alloc, [false; 100].as_slice())
-    }
-
-    fn grow(&mut self, other: &MutableBitmap, call: &Growth) -> Result<(), Error> {
-        match call {
-            Growth::ExtendFromBitmap => self.extend_from_bitmap(other),
-            Growth::ExtendFromRange => extend_from_fifth(self, other),
-            Growth::Reserve => self.reserve(1000),
-            Growth::ShrinkToFit => self.shrink_to_fit(),
-        }
-    }
-}
-
-/// Each of the calls, and the marks after it.
-const GROWTHS: &[(Growth, Marks)] = &[
-    (
-        Growth::ExtendFromBitmap,
-        (
-            "10000000000000000000000000000000000000000000000000000000000000000000000000000000000000000000000000000",
-            100,
-        ),
-    ),
-    (Growth::ExtendFromRange, ("10000000000", 10)),
-    (Growth::Reserve, ("1", 0)),
-    (Growth::ShrinkToFit, ("1", 0)),
-];
-
-/// Whether so many clear marks are refused behind one, and that one is left.
-fn are_refused(marks: &mut MutableBitmap, count: usize) -> bool {
-    let answer = marks.extend_constant(count, false);
-    matches!(answer, Err(Error::OutOfMemory)) & gives_thirds(marks.iter(), 1)
-}
-
-/// Whether more than `usize::MAX` marks are, and as many as are counted but not held.
-fn are_too_many(alloc: Global) -> Result<bool, Error> {
-    match MutableBitmap::small(alloc) {
-        Ok(mut marks) => {
-            let are_counted = are_refused(&mut marks, usize::MAX);
-            let are_held = are_refused(&mut marks, usize::MAX - 8);
-            drop(marks);
-            Ok(are_counted & are_held)
-        }
-        Err(refused) => Err(refused),
-    }
+    assert_text::value(marks.next(), None).expect(rt, case);
 }
 
 #[test]
-fn growths(rt: HostRuntime) -> Result<(), Fail> {
-    all_told(&[
-        pushes(&mut MutableBitmap::new(rt.alloc())),
-        extends(&mut MutableBitmap::new(rt.alloc()), EXTENSIONS),
-        all_grown::<MutableBitmap>(rt.alloc(), GROWTHS),
-        are_too_many(rt.alloc()),
-    ])
+fn a_refused_push_leaves_the_marks(rt: HostRuntime) -> Result<(), Fail> {
+    let mut marks = MutableBitmap::new(rt.alloc());
+    let mut is_refused = false;
+    for index in 0..600 {
+        let answer = marks.push(index % 3 == 0);
+        if answer.is_err() {
+            is_refused = true;
+            check_refusal(&rt, "push", answer);
+            check_thirds(&rt, "push, refused", marks.iter(), index);
+            marks.push(index % 3 == 0).expect(&rt, "push again");
+        }
+    }
+    check_thirds(&rt, "600 pushes", marks.iter(), 600);
+    drop(marks);
+    end(is_refused)
+}
+
+#[test]
+fn a_refused_extension_leaves_the_marks(rt: HostRuntime) -> Result<(), Fail> {
+    let mut marks = MutableBitmap::new(rt.alloc());
+    let mut is_refused = false;
+    for (length, count) in [(0, 5), (5, 100), (105, 1000)] {
+        let answer = marks.extend_constant(count, true);
+        if answer.is_err() {
+            is_refused = true;
+            check_refusal(&rt, "extend_constant", answer);
+            let left = (marks.len(), marks.unset_bits());
+            assert_text::value(left, (length, 0)).expect(&rt, "extend_constant, refused");
+            marks
+                .extend_constant(count, true)
+                .expect(&rt, "extend_constant again");
+        }
+    }
+    let came = (marks.len(), marks.unset_bits());
+    assert_text::value(came, (1105, 0)).expect(&rt, "three extensions");
+    drop(marks);
+    end(is_refused)
+}
+
+/// A set mark and a hundred clear ones, which a text writes with the number of clear marks.
+const HUNDRED_AND_ONE: &str = concat!(
+    "10000000000000000000000000000000000000000000000000",
+    "000000000000000000000000000000000000000000000000000, 100 clear"
+);
+
+/// Appends ten of the marks of a bitmap, from the fifth on.
+fn extend_from_fifth(marks: &mut MutableBitmap, other: &Bitmap) -> Result<(), Error> {
+    if other.len() < 15 {
+        return Ok(());
+    }
+    marks.extend_from_range(other, 5, 10)
+}
+
+/// Creates a hundred clear marks, growing and frozen.
+fn hundred(alloc: Global) -> Result<(MutableBitmap, Bitmap), Error> {
+    let growing = MutableBitmap::from_slice(alloc, [false; 100].as_slice())?;
+    Ok((growing, Bitmap::new_zeroed(alloc, 100)?))
+}
+
+#[test]
+fn marks_grow_or_are_left(rt: HostRuntime) -> Result<(), Fail> {
+    let alloc = rt.alloc();
+    let Ok((growing, frozen)) = hundred(alloc) else {
+        return end(true);
+    };
+    let is_refused =
+        changes! { &rt, marks: MutableBitmap::from_slice(alloc, &[true]), growing_text, "1, 0 clear";
+        marks.extend_from_bitmap(&growing) => HUNDRED_AND_ONE;
+        extend_from_fifth(marks, &frozen) => "10000000000, 10 clear";
+        marks.reserve(1000) => "1, 0 clear";
+        marks.shrink_to_fit() => "1, 0 clear";
+    };
+    drop(frozen);
+    drop(growing);
+    end(is_refused)
+}
+
+#[test]
+fn more_marks_than_memory_holds_are_refused(rt: HostRuntime) -> Result<(), Fail> {
+    let Ok(mut marks) = MutableBitmap::from_slice(rt.alloc(), [true].as_slice()) else {
+        return end(true);
+    };
+    for count in [usize::MAX, usize::MAX - 8] {
+        check_refusal(&rt, "clear marks", marks.extend_constant(count, false));
+    }
+    assert_text::text(growing_text(&marks), "1, 0 clear").expect(&rt, "refused");
+    drop(marks);
+    Ok(())
 }
 
 /// Clears the first mark, and notes that it ran.
-fn cleared(mut marks: MutableBitmap, ran: &Cell<bool>) -> MutableBitmap
+pub(crate) fn clear_first(mut marks: MutableBitmap, ran: &Cell<bool>) -> MutableBitmap
     ensures { length result ≡ length marks }
 {
     ran.set(true);
@@ -195,217 +139,112 @@ fn cleared(mut marks: MutableBitmap, ran: &Cell<bool>) -> MutableBitmap
     marks
 }
 
-/// Clears the first mark; tells whether that was done, and whether the closure ran.
-fn clear(marks: &mut Bitmap) -> (Result<(), Error>, bool) {
-    let ran = Cell::new(false);
-    let answer = marks.apply_mut(|marks| cleared(marks, &ran));
-    (answer, ran.get())
-}
-
-/// Whether a set mark is cleared, or, where that is refused, is as before, and the closure did not run.
-fn changes(marks: &mut Bitmap) -> Result<bool, Error> {
-    match clear(marks) {
-        (Ok(()), ran) => Ok(ran & (marks.unset_bits() == 1)),
-        (Err(refused), ran) => {
-            let is_left = gives_thirds(marks.iter(), 1) & !ran;
-            let is_changed = clear(marks).0.is_ok();
-            after(refused, is_left & is_changed & (marks.unset_bits() == 1))
-        }
-    }
-}
-
-/// Whether that of a clone is, and the bit map is as before.
-fn changes_clone(first: &Bitmap) -> Result<bool, Error> {
-    match first.clone() {
-        Ok(mut second) => {
-            let answer = changes(&mut second)? & gives_thirds(first.iter(), 1);
-            drop(second);
-            Ok(answer)
-        }
-        Err(refused) => Err(refused),
-    }
-}
-
-/// The same of a new one.
-fn changed(alloc: Global) -> Result<bool, Error> {
-    match Bitmap::from_slice(alloc, [true].as_slice()) {
-        Ok(marks) => {
-            let answer = changes_clone(&marks);
-            drop(marks);
-            answer
-        }
-        Err(refused) => Err(refused),
-    }
-}
-
-#[test]
-fn apply_mut(rt: HostRuntime) -> Result<(), Fail> {
-    told(changed(rt.alloc()))
-}
-
-/// The calls that make marks which can change.
-pub(crate) enum Made {
-    WithCapacity,
-    FromSlice,
-    Copy,
-}
-
 /// Three marks, the first of which is set.
-const THREE: [bool; 3] = [true, false, false];
+const THREE: &[bool] = &[true, false, false];
 
-impl Making for MutableBitmap {
-    type Maker = Made;
-
-    fn make(alloc: Global, call: &Made) -> Result<MutableBitmap, Error> {
-        match call {
-            Made::WithCapacity => MutableBitmap::with_capacity(alloc, 100),
-            Made::FromSlice => MutableBitmap::from_slice(alloc, THREE.as_slice()),
-            Made::Copy => copy_of(MutableBitmap::from_slice(alloc, THREE.as_slice())),
-        }
-    }
+/// Creates a set mark and its clone.
+fn clones(alloc: Global) -> Result<(Bitmap, Bitmap), Error> {
+    let first = Bitmap::from_slice(alloc, [true].as_slice())?;
+    let second = first.clone()?;
+    Ok((first, second))
 }
-
-/// Each of the calls, and the marks that it makes.
-const MADE: &[(Made, Marks)] = &[
-    (Made::WithCapacity, ("", 0)),
-    (Made::FromSlice, ("100", 2)),
-    (Made::Copy, ("100", 2)),
-];
-
-/// The calls that make marks which don't change.
-pub(crate) enum Frozen {
-    New,
-    TryNew,
-    FromSlice,
-    NewZeroed,
-    Freeze,
-    FreezeCounted,
-    Clone,
-    And,
-    Or,
-    Not,
-}
-
-/// Marks that are frozen, with the count of the clear ones where one is asked for.
-fn freeze(marks: Result<MutableBitmap, Error>, counts: bool) -> Result<Bitmap, Error> {
-    match marks {
-        Ok(marks) => {
-            let unset = marks.unset_bits();
-            if counts {
-                marks.freeze_counted(unset)
-            } else {
-                marks.freeze()
-            }
-        }
-        Err(refused) => Err(refused),
-    }
-}
-
-/// The first three marks of a byte.
-fn packed(alloc: Global, byte: u8) -> Result<Bitmap, Error> {
-    match [byte].to_vec(alloc) {
-        Ok(bytes) => Bitmap::try_new(bytes, 3),
-        Err(refused) => Err(Error::from(refused)),
-    }
-}
-
-/// Combines three marks with three others by a call.
-fn combined(alloc: Global, call: &Frozen) -> Result<Bitmap, Error> {
-    let first = Bitmap::from_slice(alloc, THREE.as_slice())?;
-    let answer = combined_with(alloc, &first, call);
-    drop(first);
-    answer
-}
-
-/// Applies a call to the first three marks alone.
-fn combined_with(alloc: Global, first: &Bitmap, call: &Frozen) -> Result<Bitmap, Error> {
-    let second = Bitmap::from_slice(alloc, [true, false, true].as_slice())?;
-    let answer = if first.len() != second.len() {
-        Err(Error::Overflow)
-    } else {
-        match call {
-            Frozen::And => and(alloc, first, &second),
-            Frozen::Or => or(alloc, first, &second),
-            _ => not(alloc, first),
-        }
-    };
-    drop(second);
-    answer
-}
-
-impl Making for Bitmap {
-    type Maker = Frozen;
-
-    fn make(alloc: Global, call: &Frozen) -> Result<Bitmap, Error> {
-        match call {
-            Frozen::New => Bitmap::new(alloc),
-            Frozen::TryNew => packed(alloc, 0b11111001),
-            Frozen::FromSlice => Bitmap::from_slice(alloc, THREE.as_slice()),
-            Frozen::NewZeroed => Bitmap::new_zeroed(alloc, 3),
-            Frozen::Freeze => freeze(MutableBitmap::from_slice(alloc, THREE.as_slice()), false),
-            Frozen::FreezeCounted => freeze(
-                MutableBitmap::from_slice(alloc, THREE.as_slice()),
-                true,
-            ),
-            Frozen::Clone => copy_of(Bitmap::from_slice(alloc, THREE.as_slice())),
-            Frozen::And | Frozen::Or | Frozen::Not => combined(alloc, call),
-        }
-    }
-}
-
-/// Each of the calls, and the marks that it makes.
-const FROZEN: &[(Frozen, Marks)] = &[
-    (Frozen::New, ("", 0)),
-    (Frozen::TryNew, ("100", 2)),
-    (Frozen::FromSlice, ("100", 2)),
-    (Frozen::NewZeroed, ("000", 3)),
-    (Frozen::Freeze, ("100", 2)),
-    (Frozen::FreezeCounted, ("100", 2)),
-    (Frozen::Clone, ("100", 2)),
-    (Frozen::And, ("100", 2)),
-    (Frozen::Or, ("101", 1)),
-    (Frozen::Not, ("011", 1)),
-];
-
-/// The calls that make a buffer.
-pub(crate) enum Buffered {
-    New,
-    FromVec,
-    Clone,
-}
-
-/// The buffer of two values.
-fn two(alloc: Global) -> Result<Buffer<i64>, Error> {
-    match [7, 8].to_vec(alloc) {
-        Ok(values) => Buffer::from_vec(values),
-        Err(refused) => Err(Error::from(refused)),
-    }
-}
-
-impl Making for Buffer<i64> {
-    type Maker = Buffered;
-
-    fn make(alloc: Global, call: &Buffered) -> Result<Buffer<i64>, Error> {
-        match call {
-            Buffered::New => Buffer::new(alloc),
-            Buffered::FromVec => two(alloc),
-            Buffered::Clone => copy_of(two(alloc)),
-        }
-    }
-}
-
-/// Each of the calls, and the values of the buffer that it makes.
-const BUFFERS: &[(Buffered, &'static [i64])] = &[
-    (Buffered::New, &[]),
-    (Buffered::FromVec, &[7, 8]),
-    (Buffered::Clone, &[7, 8]),
-];
 
 #[test]
-fn makers(rt: HostRuntime) -> Result<(), Fail> {
-    all_told(&[
-        all_made::<MutableBitmap>(rt.alloc(), MADE),
-        all_made::<Bitmap>(rt.alloc(), FROZEN),
-        all_made::<Buffer<i64>>(rt.alloc(), BUFFERS),
-    ])
+fn a_refused_apply_mut_does_not_run(rt: HostRuntime) -> Result<(), Fail> {
+    let Ok((first, mut second)) = clones(rt.alloc()) else {
+        return end(true);
+    };
+    let ran = Cell::new(false);
+    let answer = second.apply_mut(|marks| clear_first(marks, &ran));
+    let is_any_refused = is_refused(&rt, "apply_mut", answer);
+    assert_text::value(ran.get(), !is_any_refused).expect(&rt, "whether the change ran");
+    if is_any_refused {
+        assert_text::marks(second.iter(), "1").expect(&rt, "refused");
+        let answer = second.apply_mut(|marks| clear_first(marks, &ran));
+        answer.expect(&rt, "apply_mut again");
+    }
+    assert_text::marks(second.iter(), "0").expect(&rt, "the clone");
+    drop(second);
+    assert_text::marks(first.iter(), "1").expect(&rt, "the bitmap");
+    drop(first);
+    end(is_any_refused)
+}
+
+/// Creates a bitmap of the first three bits of a byte.
+fn packed(alloc: Global, byte: u8) -> Result<Bitmap, Error> {
+    Bitmap::try_new([byte].to_vec(alloc)?, 3)
+}
+
+/// Creates three marks and freezes them.
+fn frozen(alloc: Global) -> Result<Bitmap, Error> {
+    MutableBitmap::from_slice(alloc, THREE)?.freeze()
+}
+
+/// Creates three marks and freezes them with their number of clear ones.
+fn frozen_counted(alloc: Global) -> Result<Bitmap, Error> {
+    let marks = MutableBitmap::from_slice(alloc, THREE)?;
+    let clear = marks.unset_bits();
+    marks.freeze_counted(clear)
+}
+
+#[test]
+fn bitmaps_are_created(rt: HostRuntime) -> Result<(), Fail> {
+    let alloc = rt.alloc();
+    end(results! { &rt;
+        growing_text: MutableBitmap::with_capacity(alloc, 100) => ", 0 clear";
+        growing_text: MutableBitmap::from_slice(alloc, THREE) => "100, 2 clear";
+        bitmap_text: Bitmap::new(alloc) => ", 0 clear";
+        bitmap_text: packed(alloc, 0b11111001) => "100, 2 clear";
+        bitmap_text: Bitmap::from_slice(alloc, THREE) => "100, 2 clear";
+        bitmap_text: Bitmap::new_zeroed(alloc, 3) => "000, 3 clear";
+        bitmap_text: frozen(alloc) => "100, 2 clear";
+        bitmap_text: frozen_counted(alloc) => "100, 2 clear";
+    })
+}
+
+/// Creates three growing marks, as many frozen ones, and others.
+fn threes(alloc: Global) -> Result<(MutableBitmap, Bitmap, Bitmap), Error> {
+    let growing = MutableBitmap::from_slice(alloc, THREE)?;
+    let other = Bitmap::from_slice(alloc, [true, false, true].as_slice())?;
+    Ok((growing, Bitmap::from_slice(alloc, THREE)?, other))
+}
+
+#[test]
+fn bitmaps_are_created_from_others(rt: HostRuntime) -> Result<(), Fail> {
+    let alloc = rt.alloc();
+    let Ok((growing, first, second)) = threes(alloc) else {
+        return end(true);
+    };
+    assert!(&rt; first.len() == second.len());
+    let is_refused = results! { &rt;
+        growing_text: growing.clone() => "100, 2 clear";
+        bitmap_text: first.clone() => "100, 2 clear";
+        bitmap_text: and(alloc, &first, &second) => "100, 2 clear";
+        bitmap_text: or(alloc, &first, &second) => "101, 1 clear";
+        bitmap_text: not(alloc, &first) => "011, 1 clear";
+    };
+    drop(growing);
+    drop(first);
+    drop(second);
+    end(is_refused)
+}
+
+/// Creates a buffer of two values.
+fn pair(alloc: Global) -> Result<Buffer<i64>, Error> {
+    Buffer::from_vec([7, 8].to_vec(alloc)?)
+}
+
+#[test]
+fn buffers_are_created(rt: HostRuntime) -> Result<(), Fail> {
+    let alloc = rt.alloc();
+    let Ok(buffer) = pair(alloc) else {
+        return end(true);
+    };
+    let is_refused = results! { &rt;
+        buffer_text: Buffer::new(alloc) => "[]";
+        buffer_text: pair(alloc) => "[7, 8]";
+        buffer_text: buffer.clone() => "[7, 8]";
+    };
+    drop(buffer);
+    end(is_refused)
 }

@@ -1,11 +1,11 @@
 //! Devices that fail, and devices that have to be asked again.
-use crate::sessions::{FIRST_REPLIES, FIRST_RUN};
+use crate::sessions::{DONE, FIRST_REPLIES, FIRST_RUN, check_end};
 use arrow_session::counted::Counted;
-use arrow_session::outcome::Outcome;
 use arrow_session::session::session;
-use std::alloc::Global;
+use arrow_testing::{Text, assert_text};
 use std::io;
 use std::io::{ErrorKind, Read, Write};
+use std::process::Abort;
 
 /// Which read or write fails, counted from one, and in which way.
 #[derive(Clone, Copy)]
@@ -65,276 +65,142 @@ impl Write for Writer<'_> {
     }
 }
 
-/// What a session is to come to: its outcome, the faults of its device, its flushes, and what was written.
-#[derive(Drop)]
-struct Wanted {
-    outcome: Outcome,
-    faults: u64,
-    flushes: u32,
-    text: &'static str,
-}
+const FAULT: &str = "status 1 device fault";
 
-/// How a session over this input ends on this writer, and how many faults the writer had.
-fn session_to(alloc: Global, input: &str, writer: Writer<'_>) -> (Outcome, u64) {
-    let mut output = Counted::new(writer);
-    let mut input = Counted::new(input.as_bytes());
-    let outcome = session(alloc, &mut input, &mut output);
-    let faults = output.count();
-    drop(output);
-    (outcome, faults)
-}
-
-/// Whether a session of which one write fails so, as each flush may, comes to this.
-fn is_written(
-    alloc: Global,
+/// Compares how a session ends of which one write fails, as each flush may, its faults and flushes, and what is written.
+fn check_writes(
+    rt: &(impl Abort + AllocGlobal),
+    case: &str,
     input: &str,
     failure: Failure,
     flush_fails: bool,
-    wanted: &Wanted,
-) -> bool {
-    let mut taken = Vec::new(alloc);
-    let mut flushes = 0;
-    let writer = Writer {
+    expected: (&str, u64, u32, &str),
+) {
+    let (mut taken, mut flushes) = (Vec::new(rt.alloc()), 0);
+    let mut output = Counted::new(Writer {
         taken: &mut taken,
         flushes: &mut flushes,
         failure,
         flush_fails,
         writes: 0,
-    };
-    let (outcome, faults) = session_to(alloc, input, writer);
-    let are_counted = (faults == wanted.faults) & (flushes == wanted.flushes);
-    let is_taken = taken.as_slice() == wanted.text.as_bytes();
+    });
+    let outcome = session(rt.alloc(), &mut Counted::new(input.as_bytes()), &mut output);
+    let faults = output.count();
+    drop(output);
+    check_end(rt, case, outcome, &taken, (expected.0, expected.3));
     drop(taken);
-    are_counted & (outcome == wanted.outcome) & is_taken
+    assert_text::value((faults, flushes), (expected.1, expected.2)).expect(rt, case);
 }
 
-/// Inputs, how the second write fails, whether each flush does, and what the session comes to.
-const WRITERS: &[(&str, ErrorKind, bool, Wanted)] = &[
-    (
-        FIRST_RUN,
-        ErrorKind::Interrupted,
-        false,
-        Wanted {
-            outcome: Outcome::Done,
-            faults: 1,
-            flushes: 1,
-            text: FIRST_REPLIES,
-        },
-    ),
-    (
-        FIRST_RUN,
-        ErrorKind::Other,
-        false,
-        Wanted {
-            outcome: Outcome::Device,
-            faults: 1,
-            flushes: 0,
-            text: "ok\n",
-        },
-    ),
-    (
-        "new 0 prim",
-        ErrorKind::Other,
-        false,
-        Wanted {
-            outcome: Outcome::Done,
-            faults: 0,
-            flushes: 1,
-            text: "ok\n",
-        },
-    ),
-    (
-        "new 0 prim",
-        ErrorKind::Other,
-        true,
-        Wanted {
-            outcome: Outcome::Device,
-            faults: 1,
-            flushes: 1,
-            text: "ok\n",
-        },
-    ),
-    (
-        "# no replies\n",
-        ErrorKind::Other,
-        false,
-        Wanted {
-            outcome: Outcome::Done,
-            faults: 0,
-            flushes: 1,
-            text: "",
-        },
-    ),
-    (
-        "# no replies\n",
-        ErrorKind::Other,
-        true,
-        Wanted {
-            outcome: Outcome::Device,
-            faults: 1,
-            flushes: 1,
-            text: "",
-        },
-    ),
+/// A name, an input, how the second write fails, whether each flush does, and what the session comes to.
+type Case = (
+    &'static str,
+    &'static str,
+    ErrorKind,
+    bool,
+    (&'static str, u64, u32, &'static str),
+);
+
+#[rattlefmt::skip]
+const WRITERS: &[Case] = &[
+    ("interrupted", FIRST_RUN, ErrorKind::Interrupted, false, (DONE, 1, 1, FIRST_REPLIES)),
+    ("a fault", FIRST_RUN, ErrorKind::Other, false, (FAULT, 1, 0, "ok\n")),
+    ("no second write", "new 0 prim", ErrorKind::Other, false, (DONE, 0, 1, "ok\n")),
+    ("a flush that fails", "new 0 prim", ErrorKind::Other, true, (FAULT, 1, 1, "ok\n")),
+    ("no replies", "# no replies\n", ErrorKind::Other, false, (DONE, 0, 1, "")),
+    ("no replies, a flush that fails", "# no replies\n", ErrorKind::Other, true, (FAULT, 1, 1, "")),
 ];
 
-/// The place of the first of them that comes to something else; their number where none does.
-fn first_writer(alloc: Global, cases: &[(&str, ErrorKind, bool, Wanted)]) -> usize {
-    for (place, (input, kind, flush_fails, wanted)) in cases.iter().enumerate() {
-        let failure = Failure {
-            number: 2,
-            kind: *kind,
-        };
-        if !is_written(alloc, *input, failure, *flush_fails, wanted) {
-            return place;
-        }
-    }
-    cases.len()
-}
-
-/// A write that was interrupted is tried again, and any other failure ends the session. A session flushes once, also
-/// where it has no replies, and a flush that failed is a fault.
+/// A session flushes once, also if it has no replies, and a flush that failed is a fault.
 #[test]
-fn failing_writers(rt: HostRuntime) {
-    let place = first_writer(rt.alloc(), WRITERS);
-    assert!(rt; place == WRITERS.len());
-}
-
-/// What a session over the first run comes to where one write fails, in a way that ends it or is tried again: what was
-/// written before is a beginning.
-fn after_failure(number: usize, is_end: bool) -> Wanted {
-    let length = number.saturating_sub(1).saturating_mul(3);
-    if is_end {
-        return Wanted {
-            outcome: Outcome::Device,
-            faults: 1,
-            flushes: 0,
-            text: FIRST_REPLIES.get(..length).unwrap_or("too many"),
-        };
-    }
-    Wanted {
-        outcome: Outcome::Done,
-        faults: 1,
-        flushes: 1,
-        text: FIRST_REPLIES,
+fn a_session_flushes_once(rt: HostRuntime) {
+    for (case, input, kind, flush_fails, expected) in WRITERS {
+        let (number, kind) = (2, *kind);
+        let failure = Failure { number, kind };
+        check_writes(&rt, *case, *input, failure, *flush_fails, *expected);
     }
 }
 
-/// The first of the seventeen writes of the first run after whose failure a session comes to something else; 18 where
-/// there is none.
-fn first_write(alloc: Global, kind: ErrorKind, is_end: bool) -> usize {
+/// Each of the seventeen writes of the first run. What was written before is a beginning.
+#[test]
+fn an_interrupted_write_is_tried_again_and_another_failure_ends_the_session(rt: HostRuntime) {
     for number in 1..18 {
-        let wanted = after_failure(number, is_end);
-        if !is_written(alloc, FIRST_RUN, Failure { number, kind }, false, &wanted) {
-            return number;
+        let begun = FIRST_REPLIES.get(..3 * (number - 1));
+        let begun = begun.expect(&rt, "a beginning of the replies");
+        for (name, kind, expected) in [
+            (
+                "interrupted",
+                ErrorKind::Interrupted,
+                (DONE, 1, 1, FIRST_REPLIES),
+            ),
+            ("other", ErrorKind::Other, (FAULT, 1, 0, begun)),
+            ("broken pipe", ErrorKind::BrokenPipe, (FAULT, 1, 0, begun)),
+        ] {
+            let case = Text::of(format_args!("{name} at write {number}"));
+            let failure = Failure { number, kind };
+            check_writes(&rt, case.as_str(), FIRST_RUN, failure, false, expected);
         }
     }
-    18
 }
 
+/// Each of the sixteen reads of the first run, the last of which finds its end.
 #[test]
-fn each_write_may_fail(rt: HostRuntime) {
-    let first = [
-        first_write(rt.alloc(), ErrorKind::Other, true),
-        first_write(rt.alloc(), ErrorKind::BrokenPipe, true),
-        first_write(rt.alloc(), ErrorKind::Interrupted, false),
-    ];
-    assert!(rt; first == [18; 3]);
-}
-
-/// How a session over the first run ends that writes behind these bytes, and of which one read fails so, and how many
-/// faults the reader had.
-fn session_from(alloc: Global, failure: Failure, written: &mut Vec<u8>) -> (Outcome, u64) {
-    let mut input = Counted::new(Reader {
-        bytes: FIRST_RUN.as_bytes(),
-        failure,
-        reads: 0,
-    });
-    let mut output = Counted::new(written);
-    let outcome = session(alloc, &mut input, &mut output);
-    let faults = input.count();
-    drop(input);
-    (outcome, faults)
-}
-
-/// Whether it ends by the device, or is done, and writes this.
-fn is_read(alloc: Global, failure: Failure, is_end: bool, text: &str) -> bool {
-    let mut written = Vec::new(alloc);
-    let (outcome, faults) = session_from(alloc, failure, &mut written);
-    let is_ended = match outcome {
-        Outcome::Device => is_end,
-        Outcome::Done => !is_end,
-        _ => false,
-    };
-    let is_written = written.as_slice() == text.as_bytes();
-    drop(written);
-    is_ended & (faults == 1) & is_written
-}
-
-/// The first of the sixteen reads of the first run, the last of which finds its end, after whose failure a session ends
-/// otherwise or writes something else; 17 where there is none.
-fn first_read(alloc: Global, kind: ErrorKind, is_end: bool, text: &str) -> usize {
+fn an_interrupted_read_is_tried_again_and_another_failure_ends_the_session(rt: HostRuntime) {
     for number in 1..17 {
-        if !is_read(alloc, Failure { number, kind }, is_end, text) {
-            return number;
+        for (name, kind, ended, replies) in [
+            ("interrupted", ErrorKind::Interrupted, DONE, FIRST_REPLIES),
+            ("other", ErrorKind::Other, FAULT, ""),
+            ("broken pipe", ErrorKind::BrokenPipe, FAULT, ""),
+        ] {
+            let case = Text::of(format_args!("{name} at read {number}"));
+            let mut written = Vec::new(rt.alloc());
+            let mut input = Counted::new(Reader {
+                bytes: FIRST_RUN.as_bytes(),
+                failure: Failure { number, kind },
+                reads: 0,
+            });
+            let mut output = Counted::new(&mut written);
+            let outcome = session(rt.alloc(), &mut input, &mut output);
+            drop(output);
+            let faults = input.count();
+            drop(input);
+            check_end(&rt, case.as_str(), outcome, &written, (ended, replies));
+            drop(written);
+            assert_text::value(faults, 1).expect(&rt, case.as_str());
         }
     }
-    17
 }
 
-/// A read that was interrupted is tried again, and any other failure ends the session, whichever read it is.
 #[test]
-fn each_read_may_fail(rt: HostRuntime) {
-    let first = [
-        first_read(rt.alloc(), ErrorKind::Interrupted, false, FIRST_REPLIES),
-        first_read(rt.alloc(), ErrorKind::Other, true, ""),
-        first_read(rt.alloc(), ErrorKind::BrokenPipe, true, ""),
-    ];
-    assert!(rt; first == [17; 3]);
-}
-
-/// How a session over the first run ends on a writer into memory of this size, and how many faults the writer had.
-fn session_into(alloc: Global, room: &mut [u8]) -> (Outcome, u64) {
-    let mut output = Counted::new(room);
-    let outcome = session(alloc, &mut Counted::new(FIRST_RUN.as_bytes()), &mut output);
-    (outcome, output.count())
-}
-
-/// A writer that takes nothing more ends the session.
-#[test]
-fn full_writer(rt: HostRuntime) {
+fn a_writer_that_takes_nothing_more_ends_the_session(rt: HostRuntime) {
     let mut room = [0; 3];
-    let (outcome, faults) = session_into(rt.alloc(), &mut room);
-    assert!(rt; outcome == Outcome::Device && faults == 1 && room == *b"ok\n");
-}
-
-/// How many faults a full writer has after a write of these bytes.
-fn faults_of(piece: &str) -> u64 {
-    let mut room = [0; 0];
     let mut output = Counted::new(room.as_mut_slice());
-    let _ = output.write(piece.as_bytes());
-    output.count()
+    let mut input = Counted::new(FIRST_RUN.as_bytes());
+    let outcome = session(rt.alloc(), &mut input, &mut output);
+    let faults = output.count();
+    assert_text::value(faults, 1).expect(&rt, "faults");
+    let expected = (FAULT, "ok\n");
+    check_end(&rt, "a full writer", outcome, room.as_slice(), expected);
 }
 
-/// A writer is at fault that takes nothing of a piece, unless there was nothing to take.
 #[test]
-fn empty_piece_is_no_fault(rt: HostRuntime) {
-    assert!(rt; faults_of("") == 0 && faults_of("a") == 1);
+fn a_writer_is_at_fault_that_takes_nothing_of_something(rt: HostRuntime) {
+    for (piece, faults) in [("", 0), ("a", 1)] {
+        let mut room = [0; 0];
+        let mut output = Counted::new(room.as_mut_slice());
+        let _ = output.write(piece.as_bytes());
+        assert_text::value(output.count(), faults).expect(&rt, piece);
+    }
 }
 
-/// Whether a reader has found the end of one byte after a read of it, a read into no room, and one more read.
-fn ends_found() -> [bool; 3] {
+#[test]
+fn the_end_is_found_by_a_read_into_room(rt: HostRuntime) {
     let mut input = Counted::new("a".as_bytes());
     let mut room = [0; 1];
     let _ = input.read(&mut room);
-    let behind_it = input.has_ended();
+    assert_text::value(input.has_ended(), false).expect(&rt, "a read of the last byte");
     let _ = input.read(&mut room[..0]);
-    let no_room = input.has_ended();
+    assert_text::value(input.has_ended(), false).expect(&rt, "a read into no room");
     let _ = input.read(&mut room);
-    [behind_it, no_room, input.has_ended()]
-}
-
-#[test]
-fn end_is_found_by_a_read(rt: HostRuntime) {
-    assert!(rt; ends_found() == [false, false, true]);
+    assert_text::value(input.has_ended(), true).expect(&rt, "a read past the last byte");
 }

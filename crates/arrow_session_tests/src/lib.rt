@@ -1,5 +1,4 @@
-//! What lines, devices and outcomes do, by example, in a crate of their own, since the gate proves a crate with tests
-//! twice.
+//! What lines, devices and outcomes do, by example.
 #![tactic(auto)]
 
 #[cfg(test)]

@@ -62,7 +62,7 @@ pub fn marks<I: Iterator<Item = bool>>(bits: I, expected: &str) -> Result<(), Mi
     text(written, expected)
 }
 
-/// Compares slots of truth values with a text of `t`, `f`, and `_` for a null.
+/// Compares slots of booleans with a text of `t`, `f`, and `_` for a null.
 pub fn bools<I: Iterator<Item = Option<bool>>>(items: I, expected: &str) -> Result<(), Mismatch>
     requires can { I.can_next items }
     requires ends { IsFinite (I.remaining items) }

@@ -23,6 +23,7 @@ fn check(rt: &(impl Abort + AllocGlobal), made: &DataType, text: &str, physical:
 #[test]
 fn types_have_a_text_a_layout_and_equal_clones(rt: HostRuntime) {
     // What a type prints, the type, and what its physical type prints.
+    #[rattlefmt::skip]
     let types = [
         ("Int8", DataType::Int8, "Primitive(Int8)"),
         ("Int16", DataType::Int16, "Primitive(Int16)"),
@@ -32,68 +33,20 @@ fn types_have_a_text_a_layout_and_equal_clones(rt: HostRuntime) {
         ("UInt16", DataType::UInt16, "Primitive(UInt16)"),
         ("UInt32", DataType::UInt32, "Primitive(UInt32)"),
         ("UInt64", DataType::UInt64, "Primitive(UInt64)"),
-        (
-            "Decimal(5, 2)",
-            DataType::Decimal(5, 2),
-            "Primitive(Int128)",
-        ),
-        (
-            "Decimal(0, 18446744073709551615)",
-            DataType::Decimal(0, usize::MAX),
-            "Primitive(Int128)",
-        ),
-        (
-            "Decimal256(76, 0)",
-            DataType::Decimal256(76, 0),
-            "Primitive(Int256)",
-        ),
+        ("Decimal(5, 2)", DataType::Decimal(5, 2), "Primitive(Int128)"),
+        ("Decimal(0, 18446744073709551615)", DataType::Decimal(0, usize::MAX), "Primitive(Int128)"),
+        ("Decimal256(76, 0)", DataType::Decimal256(76, 0), "Primitive(Int256)"),
         ("Date32", DataType::Date32, "Primitive(Int32)"),
         ("Date64", DataType::Date64, "Primitive(Int64)"),
-        (
-            "Time32(Second)",
-            DataType::Time32(Second),
-            "Primitive(Int32)",
-        ),
-        (
-            "Time32(Nanosecond)",
-            DataType::Time32(Nanosecond),
-            "Primitive(Int32)",
-        ),
-        (
-            "Time64(Second)",
-            DataType::Time64(Second),
-            "Primitive(Int64)",
-        ),
-        (
-            "Time64(Microsecond)",
-            DataType::Time64(Microsecond),
-            "Primitive(Int64)",
-        ),
-        (
-            "Time64(Nanosecond)",
-            DataType::Time64(Nanosecond),
-            "Primitive(Int64)",
-        ),
-        (
-            "Duration(Millisecond)",
-            DataType::Duration(Millisecond),
-            "Primitive(Int64)",
-        ),
-        (
-            "Interval(YearMonth)",
-            DataType::Interval(YearMonth),
-            "Primitive(Int32)",
-        ),
-        (
-            "Interval(DayTime)",
-            DataType::Interval(DayTime),
-            "Primitive(DaysMs)",
-        ),
-        (
-            "Interval(MonthDayNano)",
-            DataType::Interval(MonthDayNano),
-            "Primitive(MonthDayNano)",
-        ),
+        ("Time32(Second)", DataType::Time32(Second), "Primitive(Int32)"),
+        ("Time32(Nanosecond)", DataType::Time32(Nanosecond), "Primitive(Int32)"),
+        ("Time64(Second)", DataType::Time64(Second), "Primitive(Int64)"),
+        ("Time64(Microsecond)", DataType::Time64(Microsecond), "Primitive(Int64)"),
+        ("Time64(Nanosecond)", DataType::Time64(Nanosecond), "Primitive(Int64)"),
+        ("Duration(Millisecond)", DataType::Duration(Millisecond), "Primitive(Int64)"),
+        ("Interval(YearMonth)", DataType::Interval(YearMonth), "Primitive(Int32)"),
+        ("Interval(DayTime)", DataType::Interval(DayTime), "Primitive(DaysMs)"),
+        ("Interval(MonthDayNano)", DataType::Interval(MonthDayNano), "Primitive(MonthDayNano)"),
         ("Boolean", DataType::Boolean, "Boolean"),
         ("Binary", DataType::Binary, "Binary"),
         ("LargeBinary", DataType::LargeBinary, "LargeBinary"),
@@ -167,6 +120,7 @@ fn a_type_is_right_for_its_own_layout_alone(rt: HostRuntime) {
 
 #[test]
 fn native_types_have_default_types(rt: HostRuntime) {
+    #[rattlefmt::skip]
     let types = [
         (PrimitiveType::Int8, DataType::Int8),
         (PrimitiveType::Int16, DataType::Int16),
@@ -179,10 +133,7 @@ fn native_types_have_default_types(rt: HostRuntime) {
         (PrimitiveType::UInt32, DataType::UInt32),
         (PrimitiveType::UInt64, DataType::UInt64),
         (PrimitiveType::DaysMs, DataType::Interval(DayTime)),
-        (
-            PrimitiveType::MonthDayNano,
-            DataType::Interval(MonthDayNano),
-        ),
+        (PrimitiveType::MonthDayNano, DataType::Interval(MonthDayNano)),
     ];
     for (primitive, expected) in types.iter() {
         let came = primitive.default_data_type();

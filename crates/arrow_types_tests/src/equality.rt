@@ -8,37 +8,18 @@ use std::process::Abort;
 
 #[test]
 fn equality_sees_units_and_digits(rt: HostRuntime) {
+    #[rattlefmt::skip]
     let different = [
         ("name", DataType::Int32, DataType::Date32),
         ("offsets", DataType::Binary, DataType::LargeBinary),
-        (
-            "unit",
-            DataType::Time32(Second),
-            DataType::Time32(Millisecond),
-        ),
+        ("unit", DataType::Time32(Second), DataType::Time32(Millisecond)),
         ("width", DataType::Time32(Second), DataType::Time64(Second)),
-        (
-            "unit",
-            DataType::Duration(Second),
-            DataType::Duration(Nanosecond),
-        ),
-        (
-            "unit",
-            DataType::Interval(YearMonth),
-            DataType::Interval(DayTime),
-        ),
+        ("unit", DataType::Duration(Second), DataType::Duration(Nanosecond)),
+        ("unit", DataType::Interval(YearMonth), DataType::Interval(DayTime)),
         ("digits", DataType::Decimal(5, 2), DataType::Decimal(6, 2)),
         ("scale", DataType::Decimal(5, 2), DataType::Decimal(5, 3)),
-        (
-            "digits",
-            DataType::Decimal256(6, 2),
-            DataType::Decimal256(5, 2),
-        ),
-        (
-            "scale",
-            DataType::Decimal256(5, 3),
-            DataType::Decimal256(5, 2),
-        ),
+        ("digits", DataType::Decimal256(6, 2), DataType::Decimal256(5, 2)),
+        ("scale", DataType::Decimal256(5, 3), DataType::Decimal256(5, 2)),
         ("width", DataType::Decimal(5, 2), DataType::Decimal256(5, 2)),
     ];
     for (case, first, second) in different.iter() {

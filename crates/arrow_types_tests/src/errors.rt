@@ -4,11 +4,9 @@ use arrow_types::error::Error;
 use std::alloc::AllocFailed;
 
 /// Errors, and what they print.
+#[rattlefmt::skip]
 const TEXTS: &[(Error, &str)] = &[
-    (
-        Error::OutOfSpec("offsets must never fall"),
-        "offsets must never fall",
-    ),
+    (Error::OutOfSpec("offsets must never fall"), "offsets must never fall"),
     (Error::Overflow, "overflow"),
     (Error::OutOfMemory, "out of memory"),
 ];

@@ -34,4 +34,5 @@ fn keys_give_their_index_unless_they_are_negative(rt: HostRuntime) {
     check(&rt, "u16", &65535_u16, Some(65535));
     check(&rt, "u32", &u32::MAX, Some(4294967295));
     check(&rt, "u64", &u64::MAX, Some(18446744073709551615));
+    check(&rt, "usize", &usize::MAX, Some(18446744073709551615));
 }

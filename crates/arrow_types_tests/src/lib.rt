@@ -1,5 +1,5 @@
-//! Tests of `arrow_types`, in a crate of their own, since the gate proves a crate with tests twice. Expected answers
-//! were worked out by hand from Arrow's table of logical types.
+//! Tests of `arrow_types` by its public calls. Expected answers were worked out by hand from Arrow's table of logical
+//! types.
 #![tactic(auto)]
 
 #[cfg(test)]

@@ -2,6 +2,7 @@
 ghost use Rattle.std.specs.Prelude.{◌≡◌};
 
 use arrow_testing::assert_text;
+use arrow_types::le_bytes::FromLeBytes;
 use arrow_types::native_type::{NativeType, days_ms, i256, months_days_ns};
 use arrow_types::primitive_type::PrimitiveType;
 use std::fmt::Debug;
@@ -49,4 +50,28 @@ fn nulls_store_zero_in_each_part(rt: HostRuntime) {
     check(&rt, name, null, months_days_ns(1, 0, 0));
     check(&rt, name, null, months_days_ns(0, 1, 0));
     check(&rt, name, null, months_days_ns(0, 0, 4294967296));
+}
+
+/// Compares the value of bytes, by the bound, and how many bytes it has, with these.
+fn check_bytes<T: FromLeBytes + Debug + Drop>(rt: &impl Abort, bytes: &[u8], expected: T) {
+    assert_text::value(T::SIZE, bytes.len()).expect(rt, "the number of bytes");
+    assert!(rt; bytes.len() == T::SIZE);
+    assert_text::value(T::from_le_slice(bytes), expected).expect(rt, "the value");
+}
+
+#[test]
+fn values_are_read_from_their_lowest_byte_on(rt: HostRuntime) {
+    check_bytes(&rt, &[254], -2_i8);
+    check_bytes(&rt, &[1, 128], -32767_i16);
+    check_bytes(&rt, &[1, 2, 0, 0], 513_i32);
+    check_bytes(&rt, &[0, 0, 0, 0, 1, 0, 0, 0], 4294967296_i64);
+    check_bytes(&rt, &[255; 16], -1_i128);
+    check_bytes(&rt, &[254], 254_u8);
+    check_bytes(&rt, &[1, 128], 32769_u16);
+    check_bytes(&rt, &[1, 2, 0, 128], 2147484161_u32);
+    check_bytes(&rt, &[0, 0, 0, 0, 1, 0, 0, 0], 4294967296_u64);
+    check_bytes(&rt, &[1, 0, 0, 0, 2, 0, 0, 0], days_ms(1, 2));
+    check_bytes(&rt, &[255; 32], i256(-1, u128::MAX));
+    let three = [1, 0, 0, 0, 2, 0, 0, 0, 0, 1, 0, 0, 0, 0, 0, 0];
+    check_bytes(&rt, &three, months_days_ns(1, 2, 256));
 }

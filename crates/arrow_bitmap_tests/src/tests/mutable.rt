@@ -46,26 +46,11 @@ fn the_first_mark_is_packed_lowest(rt: HostRuntime) {
 }
 
 /// A name, runs of equal marks, how many marks they are, and their bytes.
+#[rattlefmt::skip]
 const RUNS: &[(&str, &[(usize, bool)], usize, &[u8])] = &[
-    (
-        "marks 3 to 12 and 18 to 31",
-        &[(3, false), (10, true), (5, false), (14, true)],
-        32,
-        &[0xf8, 0x1f, 0xfc, 0xff],
-    ),
-    (
-        "marks 0, 8 to 15 and 32 to 39",
-        &[
-            (1, true),
-            (7, false),
-            (8, true),
-            (0, true),
-            (16, false),
-            (8, true),
-        ],
-        40,
-        &[0x01, 0xff, 0x00, 0x00, 0xff],
-    ),
+    ("marks 3 to 12 and 18 to 31", &[(3, false), (10, true), (5, false), (14, true)], 32, &[0xf8, 0x1f, 0xfc, 0xff]),
+    ("marks 0, 8 to 15 and 32 to 39", &[(1, true), (7, false), (8, true), (0, true), (16, false), (8, true)], 40,
+        &[0x01, 0xff, 0x00, 0x00, 0xff]),
 ];
 
 #[test]

@@ -22,44 +22,18 @@ const ONE: Stored = ("10", "01");
 
 const ALL: [usize; 2] = [0, 11];
 
+#[rattlefmt::skip]
 const CASES: &[Case] = &[
     ("no mask", TWO, BARE, ALL, [3, 4], ("100011", "none")),
     ("the first's", ONE, BARE, ALL, [3, 4], ("100011", "011111")),
-    (
-        "the second's",
-        TWO,
-        MASKED,
-        ALL,
-        [3, 5],
-        ("1000111", "1111011"),
-    ),
+    ("the second's", TWO, MASKED, ALL, [3, 5], ("1000111", "1111011")),
     ("both", ONE, MASKED, [1, 9], [4, 5], ("1011101", "0101110")),
-    (
-        "both, past a byte",
-        ("101010101", "111011110"),
-        MASKED,
-        ALL,
-        [2, 9],
-        ("101010101100111010", "111011110111011101"),
-    ),
-    (
-        "no null",
-        ("1", "none"),
-        MASKED,
-        [1, 10],
-        [1, 3],
-        ("1100", "1111"),
-    ),
+    ("both, past a byte", ("101010101", "111011110"), MASKED, ALL, [2, 9],
+        ("101010101100111010", "111011110111011101")),
+    ("no null", ("1", "none"), MASKED, [1, 10], [1, 3], ("1100", "1111")),
     ("nothing, masked", TWO, MASKED, ALL, [11, 0], ("10", "11")),
     ("nothing, bare", TWO, BARE, [4, 0], [0, 0], ("10", "none")),
-    (
-        "after nothing",
-        ("", "none"),
-        MASKED,
-        [2, 3],
-        [1, 0],
-        ("", ""),
-    ),
+    ("after nothing", ("", "none"), MASKED, [2, 3], [1, 0], ("", "")),
 ];
 
 /// Creates the array of these parts.

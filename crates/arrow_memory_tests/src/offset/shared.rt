@@ -1,6 +1,8 @@
 //! Frozen offsets.
+use arrow_memory::buffer::Buffer;
 use arrow_memory::offset::OffsetsBuffer;
-use arrow_testing::{assert_text, frozen_offsets};
+use arrow_testing::{Text, assert_text, frozen_offsets};
+use arrow_types::error::Error;
 use std::process::Abort;
 
 /// Slices offsets, and compares those that are left, and the number of slots, with these.
@@ -65,4 +67,41 @@ fn new_offsets_are_one_zero(rt: HostRuntime) {
     let mut offsets = OffsetsBuffer::<i32>::new(rt.alloc()).expect(&rt, "memory");
     check_slice(&rt, &mut offsets, 0, 1, [0].as_slice());
     drop(offsets);
+}
+
+/// A case, the integers of a buffer, the offsets that they are or the error, and the same of a file.
+#[rattlefmt::skip]
+const BUFFERS: &[(&str, &[i32], &str, &str)] = &[
+    ("two slots", &[0, 2, 7], "[0, 2, 7]", "[0, 2, 7]"),
+    ("one offset", &[5], "[5]", "[5]"),
+    ("no offset", &[], "offsets must have at least one element", "[0]"),
+    ("a negative offset", &[-1, 2], "the first offset must not be negative", "the first offset must not be negative"),
+    ("offsets fall", &[0, 2, 1], "offsets must never fall", "offsets must never fall"),
+];
+
+/// Creates a buffer of these integers.
+fn buffer(rt: &(impl Abort + AllocGlobal), values: &[i32]) -> Buffer<i32> {
+    Buffer::from_vec(values.to_vec(rt.alloc()).expect(rt, "memory")).expect(rt, "memory")
+}
+
+/// Returns the text of the offsets or of the error.
+fn text_of(made: Result<OffsetsBuffer<i32>, Error>) -> Text {
+    match made {
+        Ok(offsets) => {
+            let text = Text::of(format_args!("{:?}", offsets.buffer().as_slice()));
+            drop(offsets);
+            text
+        }
+        Err(error) => Text::of(format_args!("{error}")),
+    }
+}
+
+#[test]
+fn buffers_become_offsets_if_they_never_fall(rt: HostRuntime) {
+    for (case, values, expected, of_file) in BUFFERS {
+        let made = OffsetsBuffer::try_from_buffer(buffer(&rt, *values));
+        assert_text::text(text_of(made), *expected).expect(&rt, *case);
+        let made = OffsetsBuffer::try_from_file_buffer(rt.alloc(), buffer(&rt, *values));
+        assert_text::text(text_of(made), *of_file).expect(&rt, *case);
+    }
 }

@@ -1,0 +1,106 @@
+//! Equality and text of bitmaps, also of slices that begin within a byte.
+use crate::tests::{cut, frozen, pushed};
+use arrow_testing::assert_text;
+use arrow_testing::assert_text::Text;
+use std::process::Abort;
+
+/// Appends a text 24 times.
+fn repeated(rt: &(impl Abort + AllocGlobal), text: &str) -> String {
+    let mut longer = String::new(rt.alloc());
+    for _ in 0..24 {
+        longer.push_str(text).expect(rt, "memory");
+    }
+    longer
+}
+
+/// A name, two lists of marks, and whether they are equal.
+const PAIRS: &[(&str, &str, &str, bool)] = &[
+    ("none", "", "", true),
+    ("few", "10110", "10110", true),
+    ("the last", "10110", "10111", false),
+    ("one more", "10110", "101100", false),
+];
+
+/// Compares a bitmap with a slice of another, from its fourth mark on.
+fn check(rt: &(impl Abort + AllocGlobal), case: &str, first: &str, second: &str, expected: bool) {
+    let first = pushed(rt, first);
+    let mut longer = pushed(rt, "011");
+    let other = pushed(rt, second);
+    let count = other.len();
+    longer.extend_from_bitmap(&other).expect(rt, "memory");
+    assert_text::value(first == other, expected).expect(rt, case);
+    let mut second = longer.freeze().expect(rt, "memory");
+    cut(rt, &mut second, 3, count);
+    let first = first.freeze().expect(rt, "memory");
+    assert_text::value(first == second, expected).expect(rt, case);
+    drop(first);
+    drop(second);
+    drop(other);
+}
+
+#[test]
+fn bitmaps_are_equal_if_they_have_the_same_marks(rt: HostRuntime) {
+    for (case, first, second, expected) in PAIRS {
+        check(&rt, *case, *first, *second, *expected);
+        // The same pair behind 72 marks, of which words are compared.
+        let mut long = repeated(&rt, "011");
+        long.push_str(*first).expect(&rt, "memory");
+        let mut other = repeated(&rt, "011");
+        other.push_str(*second).expect(&rt, "memory");
+        check(&rt, *case, long.as_str(), other.as_str(), *expected);
+        drop(long);
+        drop(other);
+    }
+}
+
+/// A name, marks, masks, and whether the marks agree with `110..` where the mask is set.
+const MASKED: &[(&str, &str, &str, bool)] = &[
+    ("differs where it is clear", "010", "011", true),
+    ("differs where it is set", "010", "101", false),
+];
+
+#[test]
+fn marks_agree_wherever_the_mask_is_set(rt: HostRuntime) {
+    for (case, marks, mask, expected) in MASKED {
+        let marks = repeated(&rt, *marks);
+        let first = frozen(&rt, marks.as_str());
+        drop(marks);
+        let marks = repeated(&rt, "110");
+        let second = frozen(&rt, marks.as_str());
+        drop(marks);
+        let marks = repeated(&rt, *mask);
+        let mask = frozen(&rt, marks.as_str());
+        drop(marks);
+        assert!(rt; first.len() == second.len());
+        assert!(rt; first.len() == mask.len());
+        let mask = Some(mask);
+        let came = first.agrees_where(&second, &mask);
+        assert_text::value(came, *expected).expect(&rt, *case);
+        drop((first, second, mask));
+    }
+}
+
+/// A name, the first mark and the number of marks of a slice of `0110110011`, and its text.
+const TEXTS: &[(&str, usize, usize, &str)] = &[
+    ("all", 0, 10, "[0b00110110, 0b______11]"),
+    ("from the third on", 2, 8, "[0b11001101]"),
+    ("three", 1, 3, "[0b_____011]"),
+    ("none", 0, 0, "[]"),
+];
+
+#[test]
+fn text_begins_with_the_first_mark(rt: HostRuntime) {
+    for (case, offset, len, expected) in TEXTS {
+        let mut bitmap = frozen(&rt, "0110110011");
+        cut(&rt, &mut bitmap, *offset, *len);
+        let debug = Text::of(format_args!("{bitmap:?}"));
+        assert_text::text(debug, *expected).expect(&rt, *case);
+        assert_text::text(Text::of(format_args!("{bitmap}")), *expected).expect(&rt, *case);
+        drop(bitmap);
+    }
+    let marks = pushed(&rt, "10000000011");
+    let text = Text::of(format_args!("{marks} {marks:?}"));
+    let expected = "[0b00000001, 0b_____110] [0b00000001, 0b_____110]";
+    assert_text::text(text, expected).expect(&rt, "of a growing bitmap");
+    drop(marks);
+}

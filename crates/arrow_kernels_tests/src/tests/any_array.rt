@@ -1,0 +1,72 @@
+//! Arrays of any kind, by the trait alone.
+ghost use Rattle.std.specs.Prelude.{◌≡◌, ◌<◌, Some, length, not, slice_get};
+ghost use Rattle.arrow_column.specs.Column.{marks_of};
+
+use super::*;
+use arrow_binary::BinaryArray;
+use arrow_column::Array;
+use arrow_primitive::PrimitiveArray;
+use arrow_testing::Text;
+use arrow_utf8::Utf8Array;
+
+/// Returns whether a slot is null or past the last.
+fn is_null_or_past<A: Array>(array: &A, i: usize) -> bool
+    ensures { i < length (A.column array.now).rows → slice_get (marks_of (A.column array.now)) i ≡ Some (not result) }
+{
+    i >= array.len() || array.is_null(i)
+}
+
+/// Compares what the trait tells of an array of two slots, the second of which is null, and of none.
+fn check<A: Array + Drop>(rt: &impl Abort, name: &str, array: A, empty: A) {
+    let of = Text::of(format_args!("{}", array.data_type()));
+    assert_text::text(of, name).expect(rt, "the data type");
+    let sizes = (array.len(), array.is_empty(), array.null_count());
+    assert_text::value(sizes, (2, false, 1)).expect(rt, name);
+    assert_text::mask(array.validity(), "10").expect(rt, name);
+    let nulls = [0, 1, 2].map(|i| is_null_or_past(&array, i));
+    assert_text::value(nulls, [false, true, true]).expect(rt, name);
+    assert!(rt; array.len() == 2);
+    assert_text::value(array.is_valid(0), true).expect(rt, name);
+    drop(array);
+    let sizes = (empty.len(), empty.is_empty(), empty.null_count());
+    assert_text::value(sizes, (0, true, 0)).expect(rt, name);
+    assert_text::mask(empty.validity(), "none").expect(rt, name);
+    drop(empty);
+}
+
+#[test]
+fn each_kind_of_array_tells_what_all_have(rt: HostRuntime) {
+    let alloc = rt.alloc();
+    let array = PrimitiveArray::<i64>::from(alloc, [Some(7), None].as_slice());
+    let empty = PrimitiveArray::<i64>::new_empty(alloc, DataType::Int64);
+    check(
+        &rt,
+        "Int64",
+        array.expect(&rt, "memory"),
+        empty.expect(&rt, "memory"),
+    );
+    let array = BooleanArray::from(alloc, [Some(true), None].as_slice());
+    let empty = BooleanArray::new_empty(alloc, DataType::Boolean);
+    check(
+        &rt,
+        "Boolean",
+        array.expect(&rt, "memory"),
+        empty.expect(&rt, "memory"),
+    );
+    let array = Utf8Array::<i32>::from(alloc, [Some("é"), None].as_slice());
+    let empty = Utf8Array::<i32>::default(alloc);
+    check(
+        &rt,
+        "Utf8",
+        array.expect(&rt, "memory"),
+        empty.expect(&rt, "memory"),
+    );
+    let array = BinaryArray::<i64>::from(alloc, [Some(b"\xff".as_slice()), None].as_slice());
+    let empty = BinaryArray::<i64>::default(alloc);
+    check(
+        &rt,
+        "LargeBinary",
+        array.expect(&rt, "memory"),
+        empty.expect(&rt, "memory"),
+    );
+}

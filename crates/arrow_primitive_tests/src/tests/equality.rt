@@ -1,0 +1,84 @@
+//! Equality and text of arrays, and the text of builders.
+use super::*;
+use arrow_testing::assert_text::Text;
+use arrow_testing::frozen_mask;
+use arrow_types::native_type::days_ms;
+
+/// Stored values and marks, or no marks if the text is `none`.
+type Stored = (&'static [i64], &'static str);
+
+/// Creates an array of stored values and a mask.
+fn array_of(rt: &(impl Abort + AllocGlobal), (values, mask): Stored) -> PrimitiveArray<i64> {
+    let values = Vec::from_slice(rt.alloc(), values).expect(rt, "memory");
+    let values = Buffer::from_vec(values).expect(rt, "memory");
+    let mask = frozen_mask(rt.alloc(), mask).expect(rt, "memory");
+    PrimitiveArray::try_new(DataType::Int64, values, mask).expect(rt, "parts that fit")
+}
+
+/// A name, two arrays, and whether they are equal.
+#[rattlefmt::skip]
+const PAIRS: &[(&str, Stored, Stored, bool)] = &[
+    ("no slot", (&[], "none"), (&[], ""), true),
+    ("a mask of valid slots", (&[1, 2], "none"), (&[1, 2], "11"), true),
+    ("values under nulls", (&[1, 2, 3], "101"), (&[1, 5, 3], "101"), true),
+    ("another value", (&[1, 2], "none"), (&[1, 3], "none"), false),
+    ("another valid value", (&[1, 2, 3], "101"), (&[1, 2, 4], "101"), false),
+    ("a null", (&[1, 2], "none"), (&[1, 2], "10"), false),
+    ("one more", (&[1], "none"), (&[1, 2], "none"), false),
+];
+
+#[test]
+fn arrays_are_equal_if_they_have_the_same_slots(rt: HostRuntime) {
+    for (case, first, second, expected) in PAIRS {
+        let (first, second) = (array_of(&rt, *first), array_of(&rt, *second));
+        assert_text::value(first == second, *expected).expect(&rt, *case);
+        drop(second);
+        drop(first);
+    }
+}
+
+#[test]
+fn arrays_of_another_data_type_differ(rt: HostRuntime) {
+    let first = array_of(&rt, (&[1, 2], "none"));
+    let date = array_of(&rt, (&[1, 2], "none")).to(DataType::Date64);
+    assert_text::value(first == date, false).expect(&rt, "a date");
+    drop(first);
+    let text = Text::of(format_args!("{date}"));
+    assert_text::text(text, "Date64[1, 2]").expect(&rt, "a date is written as its number");
+    drop(date);
+}
+
+/// A name, an array, and its text.
+const TEXTS: &[(&str, Stored, &str)] = &[
+    ("no slot", (&[], "none"), "Int64[]"),
+    ("a null", (&[1, -2, 3], "101"), "Int64[1, None, 3]"),
+];
+
+#[test]
+fn slots_are_written_behind_the_data_type(rt: HostRuntime) {
+    for (case, stored, expected) in TEXTS {
+        let array = array_of(&rt, *stored);
+        assert_text::text(Text::of(format_args!("{array:?}")), *expected).expect(&rt, *case);
+        assert_text::text(Text::of(format_args!("{array}")), *expected).expect(&rt, *case);
+        drop(array);
+    }
+    let mut builder = MutablePrimitiveArray::new(rt.alloc());
+    builder.push(Some(days_ms(1, 2))).expect(&rt, "memory");
+    let array = builder.freeze().expect(&rt, "memory");
+    let text = Text::of(format_args!("{array:?}"));
+    assert_text::text(text, "Interval(DayTime)[days_ms(1, 2)]").expect(&rt, "an interval");
+    drop(array);
+}
+
+#[test]
+fn fields_of_builders_are_written(rt: HostRuntime) {
+    let mut builder = MutablePrimitiveArray::<i16>::new(rt.alloc());
+    builder.push(Some(-7)).expect(&rt, "memory");
+    let expected = "MutablePrimitiveArray { data_type: Int16, values: [-7], validity: None }";
+    assert_text::text(Text::of(format_args!("{builder:?}")), expected).expect(&rt, "no mask");
+    builder.push(None).expect(&rt, "memory");
+    let expected =
+        "MutablePrimitiveArray { data_type: Int16, values: [-7, 0], validity: Some([0b______01]) }";
+    assert_text::text(Text::of(format_args!("{builder}")), expected).expect(&rt, "a mask");
+    drop(builder);
+}
