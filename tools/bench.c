@@ -70,6 +70,10 @@ uint64_t rattle_flat_concat_prim(numbers, size_t, bytes, size_t, size_t rounds);
 uint64_t rattle_flat_concat_utf8(bytes, size_t, ends, size_t, bytes, size_t, size_t rounds);
 /* whole arrays, whose cost hangs on their masks alone, if on anything */
 uint64_t rattle_flat_prim_null_count(numbers, size_t, bytes, size_t, size_t rounds);
+uint64_t rattle_flat_prim_equal(numbers, size_t, bytes, size_t, size_t rounds);
+uint64_t rattle_flat_bits_equal(bytes, size_t, size_t times, size_t rounds);
+uint64_t rattle_flat_prim_print(numbers, size_t, bytes, size_t, size_t rounds);
+uint64_t rattle_flat_slice_print(numbers, size_t, size_t rounds);
 uint64_t rattle_flat_prim_freeze_thaw(numbers, size_t, bytes, size_t, size_t rounds);
 uint64_t rattle_flat_prim_thaw_push(numbers, size_t, bytes, size_t, size_t rounds);
 uint64_t rattle_flat_bin_freeze_thaw(bytes, size_t, size_t item, bytes, size_t, size_t rounds);
@@ -85,7 +89,7 @@ struct marks {
 };
 
 /* What calls are given: n numbers; keys below n; n items of ASCII, and of other text of as many bytes, and their ends;
-   and n marks each: valid slots, of which one in ten is clear, truth values at random, which are a filter too, and
+   and n marks each: valid slots, of which one in ten is clear, booleans at random, which are a filter too, and
    filters that keep most slots, 99 of 100, or runs of them. */
 struct input {
     size_t n;
@@ -211,6 +215,11 @@ static uint8_t *ones;
     MOVE(bits_extend_constant_all, 0, MASK, bits_extend_constant(n, 1, rounds))                                        \
     MOVE(bits_unset, MASK, 0, bits_unset(BITS, 1, rounds))                                                             \
     LINE(bits_freeze_unset, MASK, 0, bits_freeze_unset(BITS, 1, rounds))                                               \
+    MOVE(prim_equal, 16 * n, 0, prim_equal(VALUES, ALL_VALID, rounds))                                                 \
+    MOVE(prim_equal_null10, 16 * n + 2 * MASK, 0, prim_equal(VALUES, NULLS, rounds))                                   \
+    MOVE(bits_equal, 2 * MASK, 0, bits_equal(BITS, 1, rounds))                                                         \
+    LINE(prim_print, 8 * n, 22 * n, prim_print(VALUES, ALL_VALID, rounds))                                             \
+    LINE(slice_print, 8 * n, 22 * n, slice_print(VALUES, rounds))                                                      \
     MOVE(bits_and, MASK, MASK, bits_and(BITS, 1, rounds))                                                              \
     MOVE(bits_or, MASK, MASK, bits_or(BITS, 1, rounds))                                                                \
     MOVE(bits_not, MASK, MASK, bits_not(BITS, 1, rounds))                                                              \

@@ -397,7 +397,7 @@ class Entry:
     def thaw(self):
         """Makes the array a builder if all of its vectors are its own and shown whole; tells whether it did."""
         for name, view in self.views.items():
-            # A mask may end early, and the bits of truth values too.
+            # A mask may end early, and the bits of booleans too.
             is_shown = view.place == 0 if name == "mask" or self.sort == "b" else view.is_whole()
             if not view.is_alone() or not is_shown:
                 return False
@@ -712,7 +712,7 @@ class Table:
             self.share_marks(entry, self.entries[to])
 
     def share_marks(self, entry, made):
-        """A filter that asks for every row shows the bits of truth values, and a mask that has a null, as they are."""
+        """A filter that asks for every row shows the bits of booleans, and a mask that has a null, as they are."""
         if entry.sort == "b":
             made.show("values", entry.views["values"].again())
         if made.held:

@@ -25,7 +25,7 @@ fn marks(alloc: Global, pattern: &[u8], times: usize) -> Option<MutableBitmap> {
 }
 
 /// Creates the frozen bitmap of the same.
-fn frozen_marks(alloc: Global, pattern: &[u8], times: usize) -> Option<Bitmap> {
+pub(crate) fn frozen_marks(alloc: Global, pattern: &[u8], times: usize) -> Option<Bitmap> {
     marks(alloc, pattern, times)?.freeze().ok()
 }
 

@@ -1,4 +1,4 @@
-//! The builder and the array of truth values.
+//! The builder and the array of booleans.
 use crate::rounds::{filled_builder, make_rounds, place, read_rounds};
 use arrow_boolean::{BooleanArray, MutableBooleanArray};
 use std::alloc::Global;
@@ -11,7 +11,7 @@ fn push_all(out: &mut MutableBooleanArray, bits: &[u8]) -> Option<()> {
     Some(())
 }
 
-/// As `push_all`, where the truth values with a clear mark are null.
+/// As `push_all`, where the booleans with a clear mark are null.
 #[inline(always)]
 fn push_marked(out: &mut MutableBooleanArray, bits: &[u8], valid: &[u8]) -> Option<()> {
     for (bit, mark) in bits.iter().zip(valid) {

@@ -10,5 +10,6 @@ mod primitive;
 mod ranges;
 mod read;
 mod rounds;
+mod show;
 mod text;
 mod whole;

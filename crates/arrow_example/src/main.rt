@@ -92,7 +92,7 @@ fn accept(alloc: Global) -> Result<Utf8Array<i32>, Error> {
     Utf8Array::try_new(DataType::Utf8, cut(alloc)?, bytes, None)
 }
 
-/// Why parts are refused is told.
+/// Shows why parts are refused.
 fn refuse(rt: &impl Print, alloc: Global) -> io::Result<()> {
     match accept(alloc) {
         Ok(_) => Ok(()),
@@ -113,7 +113,7 @@ fn keep(
     filter_utf8(alloc, names, filter)
 }
 
-/// Filters by truth values, of which a null asks for no slot.
+/// Filters by booleans, of which a null asks for no slot.
 fn filter(rt: &impl Print, alloc: Global, names: &Utf8Array<i32>) -> anyhow::Result<()> {
     let filter = BooleanArray::from(alloc, &[Some(true), Some(true), None, Some(true)])?;
     read(rt, "kept", &keep(alloc, names, &filter)?)?;

@@ -13,7 +13,7 @@ use Rattle.example_record_batch.specs.AnyArrays.{Cell, number, text, truth}
 use Rattle.example_csv.specs.declared.kind.Kind.TheVariants as kind
 use Rattle.example_csv.specs.declared.builder.Builder.TheVariants as builder
 use Rattle.example_csv.specs.Builders.{GrowsBy, IsArrayOf, byte_count}
-use Rattle.example_csv.specs.Fields.{number_of, reads, slot_as, text_of, truth_of}
+use Rattle.example_csv.specs.Fields.{parsed_number, field_cell, slot_as, field_text, truth_of}
 
 -- one slot more is one cell more
 cells-more : {X : Type 0} (cell : X → Cell) (old new : List X) (slot : X) → new ≡ old ++ slot ∷ []
@@ -24,7 +24,7 @@ cells-more cell old new slot e =
     ∙ map-append Some (map cell old) (cell slot ∷ [])
 
 pub grows-int64 : (old new : Column ℤ) (field : List ℕ) (slot : Option ℤ) (zero : ℤ)
-    → slot_as number_of (text_of field) ≡ Some slot → new ≡ append_slot zero old slot
+    → slot_as parsed_number (field_text field) ≡ Some slot → new ≡ append_slot zero old slot
     → GrowsBy (builder.Int64 old) (builder.Int64 new) field
 grows-int64 old new field slot zero read e = record {
   declared = refl;
@@ -34,7 +34,7 @@ grows-int64 old new field slot zero read e = record {
 }
 
 pub grows-boolean : (old new : Column Bool) (field : List ℕ) (slot : Option Bool)
-    → slot_as truth_of (text_of field) ≡ Some slot → new ≡ append_slot false old slot
+    → slot_as truth_of (field_text field) ≡ Some slot → new ≡ append_slot false old slot
     → GrowsBy (builder.Boolean old) (builder.Boolean new) field
 grows-boolean old new field slot read e = record {
   declared = refl;
@@ -56,16 +56,16 @@ count-more rows field mark =
 
 -- a null stores no byte, and any other text its own
 bytes-more : (old : ByteColumn) (field : List ℕ)
-    → byte_count (append_slot [] old (text_of field)) ≤ byte_count old + length field
+    → byte_count (append_slot [] old (field_text field)) ≤ byte_count old + length field
 bytes-more old [] = let more = count-more old.rows [] false in omega (arith, more)
 bytes-more old (b ∷ rest) = let more = count-more old.rows (b ∷ rest) true in omega (arith, more)
 
-text-cells : (old new : ByteColumn) (field : List ℕ) → new ≡ append_slot [] old (text_of field)
-    → map Some (map text (slots_of new)) ≡ map Some (map text (slots_of old)) ++ reads kind.Utf8 field ∷ []
+text-cells : (old new : ByteColumn) (field : List ℕ) → new ≡ append_slot [] old (field_text field)
+    → map Some (map text (slots_of new)) ≡ map Some (map text (slots_of old)) ++ field_cell kind.Utf8 field ∷ []
 text-cells old new field e =
-    cells-more text (slots_of old) (slots_of new) (text_of field) (ap slots_of e ∙ one-slot [] old (text_of field))
+    cells-more text (slots_of old) (slots_of new) (field_text field) (ap slots_of e ∙ one-slot [] old (field_text field))
 
-pub grows-text : (old new : ByteColumn) (field : List ℕ) → new ≡ append_slot [] old (text_of field)
+pub grows-text : (old new : ByteColumn) (field : List ℕ) → new ≡ append_slot [] old (field_text field)
     → GrowsBy (builder.Utf8 old) (builder.Utf8 new) field
 grows-text old new field e = record {
   declared = refl;
@@ -73,7 +73,7 @@ grows-text old new field e = record {
   bytes = rw e (bytes-more old field);
 }
 
-pub grows-undeclared : (old new : ByteColumn) (field : List ℕ) → new ≡ append_slot [] old (text_of field)
+pub grows-undeclared : (old new : ByteColumn) (field : List ℕ) → new ≡ append_slot [] old (field_text field)
     → GrowsBy (builder.Undeclared old) (builder.Undeclared new) field
 grows-undeclared old new field e = record {
   declared = refl;
@@ -83,11 +83,11 @@ grows-undeclared old new field e = record {
 
 -- the slots of a column of text are the texts of the fields that its cells read as
 pub texts-of : (slots : List (Option (List ℕ))) (fields : List (List ℕ))
-    → map Some (map text slots) ≡ map (reads kind.Utf8) fields → slots ≡ map text_of fields
+    → map Some (map text slots) ≡ map (field_cell kind.Utf8) fields → slots ≡ map field_text fields
 texts-of [] [] e = refl
 texts-of [] (field ∷ fields) e = cc
 texts-of (slot ∷ slots) [] e = cc
 texts-of (slot ∷ slots) (field ∷ fields) e =
-    let first : slot ≡ text_of field = cc in
-    let rest : map Some (map text slots) ≡ map (reads kind.Utf8) fields = cc in
-    ap (λ s. s ∷ slots) first ∙ ap (λ ss. text_of field ∷ ss) (texts-of slots fields rest)
+    let first : slot ≡ field_text field = cc in
+    let rest : map Some (map text slots) ≡ map (field_cell kind.Utf8) fields = cc in
+    ap (λ s. s ∷ slots) first ∙ ap (λ ss. field_text field ∷ ss) (texts-of slots fields rest)

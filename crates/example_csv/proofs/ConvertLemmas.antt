@@ -18,7 +18,7 @@ use Rattle.example_record_batch.specs.declared.any.AnyArray.TheVariants as array
 use Rattle.example_csv.specs.declared.kind.Kind.{Kind}
 use Rattle.example_csv.specs.declared.kind.Kind.TheVariants as kind
 use Rattle.example_csv.specs.Builders.{IsArrayOf}
-use Rattle.example_csv.specs.Fields.{all_read, found_kind, number_of, reads, slot_as, text_of, truth_of}
+use Rattle.example_csv.specs.Fields.{all_read, found_kind, parsed_number, field_cell, slot_as, field_text, truth_of}
 
 take-more : {X : Type 0} (xs : List X) (i : ℕ) (x : X) → slice_get xs i ≡ Some x → take (i + 1) xs ≡ take i xs ++ x ∷ []
 take-more [] i x e = cc
@@ -56,9 +56,9 @@ valid-more : (marks : List Bool) → count_by not (true ∷ marks) ≡ count_by 
 valid-more marks = sum_by-cons (λ mark. cond (not mark) 1 0) true marks ∙ zero-add (count_by not marks)
 
 -- where all slots are null, all fields are empty
-all-empty : (rows : List (Row (List ℕ))) (fields : List (List ℕ)) → map slot rows ≡ map text_of fields
+all-empty : (rows : List (Row (List ℕ))) (fields : List (List ℕ)) → map slot rows ≡ map field_text fields
     → count_by not (map (λ (row : Row (List ℕ)). row.1) rows) ≡ length rows
-    → list_all (λ field. is_none (text_of field)) fields ≡ true
+    → list_all (λ field. is_none (field_text field)) fields ≡ true
 all-empty [] [] e n = refl
 all-empty [] (field ∷ fields) e n = cc
 all-empty (row ∷ rows) [] e n = cc
@@ -67,14 +67,14 @@ all-empty ((x, true) ∷ rows) (field ∷ fields) e n =
     let same = valid-more (map (λ (row : Row (List ℕ)). row.1) rows) in
     absurd (omega (arith, most, same, n, length-map rows (λ (row : Row (List ℕ)). row.1)))
 all-empty ((x, false) ∷ rows) ([] ∷ fields) e n =
-    let rest : map slot rows ≡ map text_of fields = cc in
+    let rest : map slot rows ≡ map field_text fields = cc in
     let more = null-more (map (λ (row : Row (List ℕ)). row.1) rows) in
     all-empty rows fields rest (omega (arith, more, n))
 all-empty ((x, false) ∷ rows) ((b ∷ field) ∷ fields) e n = cc
 
 -- where all fields are empty, all slots are null
-all-null : (rows : List (Row (List ℕ))) (fields : List (List ℕ)) → map slot rows ≡ map text_of fields
-    → list_all (λ field. is_none (text_of field)) fields ≡ true
+all-null : (rows : List (Row (List ℕ))) (fields : List (List ℕ)) → map slot rows ≡ map field_text fields
+    → list_all (λ field. is_none (field_text field)) fields ≡ true
     → count_by not (map (λ (row : Row (List ℕ)). row.1) rows) ≡ length rows
 all-null [] [] e n = refl
 all-null [] (field ∷ fields) e n = cc
@@ -82,32 +82,32 @@ all-null (row ∷ rows) [] e n = cc
 all-null ((x, true) ∷ rows) ([] ∷ fields) e n = cc
 all-null ((x, true) ∷ rows) ((b ∷ field) ∷ fields) e n = cc
 all-null ((x, false) ∷ rows) ([] ∷ fields) e n =
-    let rest : map slot rows ≡ map text_of fields = cc in
+    let rest : map slot rows ≡ map field_text fields = cc in
     let before = all-null rows fields rest n in
     let more = null-more (map (λ (row : Row (List ℕ)). row.1) rows) in
     omega (arith, before, more)
 all-null ((x, false) ∷ rows) ((b ∷ field) ∷ fields) e n = cc
 
-some-field : (rows : List (Row (List ℕ))) (fields : List (List ℕ)) → map slot rows ≡ map text_of fields
+some-field : (rows : List (Row (List ℕ))) (fields : List (List ℕ)) → map slot rows ≡ map field_text fields
     → ¬ (count_by not (map (λ (row : Row (List ℕ)). row.1) rows) ≡ length rows)
-    → list_all (λ field. is_none (text_of field)) fields ≡ false
-some-field rows fields e n = elim (cases_Bool (list_all (λ field. is_none (text_of field)) fields)) [
+    → list_all (λ field. is_none (field_text field)) fields ≡ false
+some-field rows fields e n = elim (cases_Bool (list_all (λ field. is_none (field_text field)) fields)) [
   | inl all ↦ absurd (n (all-null rows fields e all))
   | inr one ↦ one
 ]
 
 -- the cells of slots that all texts mean
 cells-of : {X : Type 0} (meaning : List ℕ → Option X) (cell : Option X → Cell) (slots : List (Option X))
-    (fields : List (List ℕ)) → map Some slots ≡ map (slot_as meaning) (map text_of fields)
-    → map Some (map cell slots) ≡ map (λ field. option_map cell (slot_as meaning (text_of field))) fields
+    (fields : List (List ℕ)) → map Some slots ≡ map (slot_as meaning) (map field_text fields)
+    → map Some (map cell slots) ≡ map (λ field. option_map cell (slot_as meaning (field_text field))) fields
 cells-of meaning cell [] [] e = refl
 cells-of meaning cell [] (field ∷ fields) e = cc
 cells-of meaning cell (s ∷ slots) [] e = cc
 cells-of meaning cell (s ∷ slots) (field ∷ fields) e =
-    let first : Some s ≡ slot_as meaning (text_of field) = cc in
-    let rest : map Some slots ≡ map (slot_as meaning) (map text_of fields) = cc in
+    let first : Some s ≡ slot_as meaning (field_text field) = cc in
+    let rest : map Some slots ≡ map (slot_as meaning) (map field_text fields) = cc in
     ap (λ c. option_map cell c ∷ map Some (map cell slots)) first
-    ∙ ap (λ cells. option_map cell (slot_as meaning (text_of field)) ∷ cells) (cells-of meaning cell slots fields rest)
+    ∙ ap (λ cells. option_map cell (slot_as meaning (field_text field)) ∷ cells) (cells-of meaning cell slots fields rest)
 
 all-some : {Y : Type 0} (read : List ℕ → Option Y) (ys : List Y) (fields : List (List ℕ))
     → map Some ys ≡ map read fields → list_all (λ field. is_some (read field)) fields ≡ true
@@ -124,41 +124,41 @@ is_some-map f None = refl
 is_some-map f (Some x) = refl
 
 read-as : {X : Type 0} (meaning : List ℕ → Option X) (cell : Option X → Cell) (fields : List (List ℕ))
-    → list_all (λ field. is_some (option_map cell (slot_as meaning (text_of field)))) fields
-    ≡ list_all (λ s. is_some (slot_as meaning s)) (map text_of fields)
+    → list_all (λ field. is_some (option_map cell (slot_as meaning (field_text field)))) fields
+    ≡ list_all (λ s. is_some (slot_as meaning s)) (map field_text fields)
 read-as meaning cell [] = refl
 read-as meaning cell (field ∷ fields) =
-    ap (λ b. b && list_all (λ f. is_some (option_map cell (slot_as meaning (text_of f)))) fields)
-    (is_some-map cell (slot_as meaning (text_of field)))
-    ∙ ap (λ b. is_some (slot_as meaning (text_of field)) && b) (read-as meaning cell fields)
+    ap (λ b. b && list_all (λ f. is_some (option_map cell (slot_as meaning (field_text f)))) fields)
+    (is_some-map cell (slot_as meaning (field_text field)))
+    ∙ ap (λ b. is_some (slot_as meaning (field_text field)) && b) (read-as meaning cell fields)
 
-module _ (rows : List (Row (List ℕ))) (fields : List (List ℕ)) (e : map slot rows ≡ map text_of fields) where
-  text-cells : map Some (map text (map slot rows)) ≡ map (reads kind.Utf8) fields
+module _ (rows : List (Row (List ℕ))) (fields : List (List ℕ)) (e : map slot rows ≡ map field_text fields) where
+  text-cells : map Some (map text (map slot rows)) ≡ map (field_cell kind.Utf8) fields
   text-cells = ap (λ slots. map Some (map text slots)) e ∙ fuse fields
     where
-      fuse : (fields : List (List ℕ)) → map Some (map text (map text_of fields)) ≡ map (reads kind.Utf8) fields
+      fuse : (fields : List (List ℕ)) → map Some (map text (map field_text fields)) ≡ map (field_cell kind.Utf8) fields
       fuse [] = refl
-      fuse (field ∷ fields) = ap (λ cells. Some (text (text_of field)) ∷ cells) (fuse fields)
+      fuse (field ∷ fields) = ap (λ cells. Some (text (field_text field)) ∷ cells) (fuse fields)
 
   -- the numbers are what the texts mean
-  number-cells : (numbers : List (Option ℤ)) → map Some numbers ≡ map (slot_as number_of) (map slot rows)
-      → map Some (map number numbers) ≡ map (reads kind.Int64) fields
-  number-cells numbers h = cells-of number_of number numbers fields (h ∙ ap (map (slot_as number_of)) e)
+  number-cells : (numbers : List (Option ℤ)) → map Some numbers ≡ map (slot_as parsed_number) (map slot rows)
+      → map Some (map number numbers) ≡ map (field_cell kind.Int64) fields
+  number-cells numbers h = cells-of parsed_number number numbers fields (h ∙ ap (map (slot_as parsed_number)) e)
 
   truth-cells : (truths : List (Option Bool)) → map Some truths ≡ map (slot_as truth_of) (map slot rows)
-      → map Some (map truth truths) ≡ map (reads kind.Boolean) fields
+      → map Some (map truth truths) ≡ map (field_cell kind.Boolean) fields
   truth-cells truths h = cells-of truth_of truth truths fields (h ∙ ap (map (slot_as truth_of)) e)
 
-  not-numbers : list_all (λ s. is_some (slot_as number_of s)) (map slot rows) ≡ false
+  not-numbers : list_all (λ s. is_some (slot_as parsed_number s)) (map slot rows) ≡ false
       → all_read kind.Int64 fields ≡ false
-  not-numbers h = read-as number_of number fields ∙ ap (list_all (λ s. is_some (slot_as number_of s))) (sym e) ∙ h
+  not-numbers h = read-as parsed_number number fields ∙ ap (list_all (λ s. is_some (slot_as parsed_number s))) (sym e) ∙ h
 
   not-truths : list_all (λ s. is_some (slot_as truth_of s)) (map slot rows) ≡ false
       → all_read kind.Boolean fields ≡ false
   not-truths h = read-as truth_of truth fields ∙ ap (list_all (λ s. is_some (slot_as truth_of s))) (sym e) ∙ h
 
 -- a column of text without a valid slot is text
-pub null-array : (column : ByteColumn) (fields : List (List ℕ)) → slots_of column ≡ map text_of fields
+pub null-array : (column : ByteColumn) (fields : List (List ℕ)) → slots_of column ≡ map field_text fields
     → count_by not (map (λ (row : Row (List ℕ)). row.1) column.rows) ≡ length column.rows
     → IsArrayOf (found_kind fields) fields (array.Utf8 column)
 null-array column fields e n =
@@ -166,23 +166,23 @@ null-array column fields e n =
     rw found (record { kind_is = refl; cells = text-cells column.rows fields e })
 
 pub number-array : (column : ByteColumn) (fields : List (List ℕ)) (numbers frozen : Column ℤ)
-    → slots_of column ≡ map text_of fields
+    → slots_of column ≡ map field_text fields
     → ¬ (count_by not (map (λ (row : Row (List ℕ)). row.1) column.rows) ≡ length column.rows)
-    → map Some (slots_of numbers) ≡ map (slot_as number_of) (slots_of column) → frozen ≡ without_needless_mask numbers
+    → map Some (slots_of numbers) ≡ map (slot_as parsed_number) (slots_of column) → frozen ≡ without_needless_mask numbers
     → IsArrayOf (found_kind fields) fields (array.Int64 frozen)
 number-array column fields numbers frozen e n h f =
     let cells = number-cells column.rows fields e (slots_of numbers) h in
     let found : found_kind fields ≡ kind.Int64 = rw (
       some-field column.rows fields e n,
-      all-some (reads kind.Int64)
+      all-some (field_cell kind.Int64)
           (map number (slots_of numbers)) fields cells,
     ) refl in
     rw (found, f) (record { kind_is = refl; cells = cells })
 
 pub truth-array : (column : ByteColumn) (fields : List (List ℕ)) (truths frozen : Column Bool)
-    → slots_of column ≡ map text_of fields
+    → slots_of column ≡ map field_text fields
     → ¬ (count_by not (map (λ (row : Row (List ℕ)). row.1) column.rows) ≡ length column.rows)
-    → list_all (λ s. is_some (slot_as number_of s)) (slots_of column) ≡ false
+    → list_all (λ s. is_some (slot_as parsed_number s)) (slots_of column) ≡ false
     → map Some (slots_of truths) ≡ map (slot_as truth_of) (slots_of column) → frozen ≡ truths
     → IsArrayOf (found_kind fields) fields (array.Boolean frozen)
 truth-array column fields truths frozen e n other h f =
@@ -191,13 +191,13 @@ truth-array column fields truths frozen e n other h f =
       some-field column.rows fields e n,
       not-numbers column.rows
           fields e other,
-      all-some (reads kind.Boolean) (map truth (slots_of truths)) fields cells,
+      all-some (field_cell kind.Boolean) (map truth (slots_of truths)) fields cells,
     ) refl in
     rw (found, f) (record { kind_is = refl; cells = cells })
 
-pub text-array : (column : ByteColumn) (fields : List (List ℕ)) → slots_of column ≡ map text_of fields
+pub text-array : (column : ByteColumn) (fields : List (List ℕ)) → slots_of column ≡ map field_text fields
     → ¬ (count_by not (map (λ (row : Row (List ℕ)). row.1) column.rows) ≡ length column.rows)
-    → list_all (λ s. is_some (slot_as number_of s)) (slots_of column) ≡ false
+    → list_all (λ s. is_some (slot_as parsed_number s)) (slots_of column) ≡ false
     → list_all (λ s. is_some (slot_as truth_of s)) (slots_of column) ≡ false
     → IsArrayOf (found_kind fields) fields (array.Utf8 column)
 text-array column fields e n no_number no_truth =

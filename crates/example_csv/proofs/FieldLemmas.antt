@@ -10,7 +10,7 @@ use Rattle.std.proofs.lemmas.Bool.{cases_Bool}
 use Rattle.std.proofs.lemmas.Fmt.{parse-signed_decimal}
 use Rattle.std.proofs.lemmas.Slice.Eq.{bytes_eq-Decides}
 use lib.Signed.{mag}
-use Rattle.example_csv.specs.Fields.{is_i64, number_of}
+use Rattle.example_csv.specs.Fields.{is_i64, parsed_number}
 
 i64-mag : (z : ℤ) → is_i64 z ≡ true → mag z < 2 ^ 63
 i64-mag (pos n) e = search rules
@@ -18,7 +18,7 @@ i64-mag (negsuc n) e = search rules
 
 -- what does not parse is not the text of a number
 pub no-number : {E : Type 0} (field : List ℕ) (r : Result ℤ E) → ParsesSigned w64 10 field r → result_ok r ≡ None
-    → number_of field ≡ None
+    → parsed_number field ≡ None
 no-number field (Ok v) h e = cc
 no-number field (Err e) h none =
     let value = signed_digits_value 10 field in

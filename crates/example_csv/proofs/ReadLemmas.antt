@@ -38,7 +38,7 @@ use Rattle.example_csv.specs.declared.error.Error.TheVariants as error
 use Rattle.example_csv.specs.declared.kind.Kind.TheVariants as kind
 use Rattle.example_csv.specs.declared.read.NamedBuilder.{NamedBuilder}
 use Rattle.example_csv.specs.Builders.{GrowsBy, built_kind, column_kind, declared_of, text_length}
-use Rattle.example_csv.specs.Fields.{header_of, reads}
+use Rattle.example_csv.specs.Fields.{header_of, field_cell}
 use Rattle.example_csv.specs.Reading.{AreBuiltOf, BeginsWith, CannotPushRow, IsBuiltOf, IsColumnOf, IsCsvError}
 use Rattle.example_csv.specs.Reading.{IsRefused, IsTableOf, column_fields}
 
@@ -58,9 +58,9 @@ built-more header fields old new field built grown = record {
   name = ap string_bytes grown.0 ∙ built.name;
   declared = grown.1.declared ∙ built.declared;
   cells = grown.1.cells
-      ∙ ap (λ cells. cells ++ reads (built_kind old.builder) field ∷ []) built.cells
-      ∙ sym (map-append (reads (built_kind old.builder)) fields (field ∷ []))
-      ∙ ap (λ declared. map (reads (unwrap_or declared kind.Utf8)) (fields ++ field ∷ [])) (sym grown.1.declared);
+      ∙ ap (λ cells. cells ++ field_cell (built_kind old.builder) field ∷ []) built.cells
+      ∙ sym (map-append (field_cell (built_kind old.builder)) fields (field ∷ []))
+      ∙ ap (λ declared. map (field_cell (unwrap_or declared kind.Utf8)) (fields ++ field ∷ [])) (sym grown.1.declared);
   bytes =
       let more : length (concat (fields ++ field ∷ [])) ≡ length (concat fields) + length field =
       ap length (concat-append fields (field ∷ []))
@@ -206,7 +206,7 @@ count-of header rows i field column =
     sym (length-cells field.array)
     ∙ sym (length-map (cells_of field.array) (λ (cell : Cell). Some cell))
     ∙ ap length column.array.cells
-    ∙ length-map (column_fields rows i) (reads (column_kind (header_of header).1 (column_fields rows i)))
+    ∙ length-map (column_fields rows i) (field_cell (column_kind (header_of header).1 (column_fields rows i)))
     ∙ length-map rows (λ (row : List (List ℕ)). get_or row i [])
 
 -- the table of columns that are frozen

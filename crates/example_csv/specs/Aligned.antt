@@ -47,8 +47,8 @@ padded on_left width text =
     if on_left then spaces ++ shown text else shown text ++ spaces
 
 -- a line of cells, each followed by two spaces, without the white space at its end
-abbrev pub line_text : List (List ℕ) → List ℕ
-line_text cells = trim_end (flat_map (λ cell. cell ++ codes "  ") cells) ++ codes "\n"
+abbrev pub cells_line : List (List ℕ) → List ℕ
+cells_line cells = trim_end (flat_map (λ cell. cell ++ codes "  ") cells) ++ codes "\n"
 
 -- the cell that shows a text of a column
 abbrev pub cell_of : ℕ → (Named → List ℕ) → Named → List ℕ
@@ -56,13 +56,13 @@ cell_of rows text column = padded (is_number column.array) (column_width rows co
 
 -- the line that shows a text of each column
 abbrev pub aligned_line : (Named → List ℕ) → Batch → List ℕ
-aligned_line text batch = line_text (map (cell_of batch.rows text) batch.columns)
+aligned_line text batch = cells_line (map (cell_of batch.rows text) batch.columns)
 
 abbrev pub names_line : Batch → List ℕ
 names_line batch = aligned_line (λ column. column.name) batch
 
 abbrev pub dashes_line : List ℕ → List ℕ
-dashes_line widths = line_text (map (λ width. replicate width 45) widths)
+dashes_line widths = cells_line (map (λ width. replicate width 45) widths)
 
 abbrev pub row_line : Batch → ℕ → List ℕ
 row_line batch i = aligned_line (λ column. cell_text (cell_at column.array i)) batch

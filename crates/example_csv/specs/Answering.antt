@@ -1,11 +1,11 @@
 -- What the program answers.
-use Rattle.std.specs.Prelude.{◌≡◌, ◌⊎◌, ℕ, Bool, true, List, ◌∷◌, if◌then◌else◌, Ok}
+use Rattle.std.specs.Prelude.{◌≡◌, ◌⊎◌, ℕ, Bool, true, List, if◌then◌else◌, Ok}
 use Rattle.std.specs.Bool.{MatchBool}
 use Rattle.example_record_batch.specs.Batches.{Batch}
 use Rattle.example_csv.specs.declared.error.Error.{Error}
 use Rattle.example_csv.specs.declared.options.Options.{Options}
 use Rattle.example_csv.specs.Aligned.{CannotWrite, aligned_text}
-use Rattle.example_csv.specs.Reading.{AreRecordsOf, IsRefused, IsTableOf}
+use Rattle.example_csv.specs.Reading.{IsRefused, IsTableOfText}
 use Rattle.example_csv.specs.Selecting.{Explains, selected}
 use Rattle.example_csv.specs.Summary.{CannotSummarize, IsSummary}
 use Rattle.example_csv.specs.Text.{CannotWriteCsv, csv_text}
@@ -18,11 +18,6 @@ table_text options table = if options.table then aligned_text table else csv_tex
 abbrev pub IsAskedOf : Options → Batch → Batch → Type 0
 IsAskedOf options table asked = (kept : Batch) × (selected options table ≡ Ok kept)
     × MatchBool options.summary (IsSummary kept asked) (asked ≡ kept)
-
--- the table of a CSV text
-abbrev pub IsTableOfText : List ℕ → Batch → Type 0
-IsTableOfText text table = (headers : List (List ℕ)) × (rows : List (List (List ℕ)))
-    × AreRecordsOf text (headers ∷ rows) × IsTableOf headers rows table
 
 -- the table that is printed for a CSV text
 abbrev pub IsAsked : Options → List ℕ → Batch → Type 0
@@ -37,3 +32,7 @@ CannotAsk options text e = IsRefused text e
 -- why a table is not written
 abbrev pub CannotPrint : Options → Error → Type 0
 CannotPrint options e = MatchBool options.table (CannotWrite e) (CannotWriteCsv e)
+
+-- what is written is the text of the table that is printed for a CSV text
+abbrev pub Prints : Options → (List ℕ → Type 0) → List ℕ → Type 0
+Prints options Writes text = (asked : Batch) × IsAsked options text asked × Writes (table_text options asked)

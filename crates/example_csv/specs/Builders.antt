@@ -13,7 +13,7 @@ use Rattle.example_csv.specs.declared.error.Error.{Error}
 use Rattle.example_csv.specs.declared.error.Error.TheVariants as error
 use Rattle.example_csv.specs.declared.builder.Builder.{Builder}
 use Rattle.example_csv.specs.declared.builder.Builder.TheVariants as builder
-use Rattle.example_csv.specs.Fields.{found_kind, reads}
+use Rattle.example_csv.specs.Fields.{found_kind, field_cell}
 
 -- the type that a column declares, if it does
 abbrev pub declared_of : Builder → Option Kind
@@ -47,20 +47,20 @@ text_length (builder.Undeclared column) = byte_count column
 -- a column grew by a field
 pub record GrowsBy (old new : Builder) (field : List ℕ) : Type 0 where
   pub declared : declared_of new ≡ declared_of old
-  pub cells : map Some (built_cells new) ≡ map Some (built_cells old) ++ reads (built_kind old) field ∷ []
+  pub cells : map Some (built_cells new) ≡ map Some (built_cells old) ++ field_cell (built_kind old) field ∷ []
   pub bytes : text_length new ≤ text_length old + length field
 
 -- the type of an array, if it is one of a table's
-abbrev pub kind_of : AnyArray → Option Kind
-kind_of (array.Int64 column) = Some kind.Int64
-kind_of (array.Boolean column) = Some kind.Boolean
-kind_of (array.Utf8 column) = Some kind.Utf8
-kind_of (array.Binary column) = None
+abbrev pub table_kind : AnyArray → Option Kind
+table_kind (array.Int64 column) = Some kind.Int64
+table_kind (array.Boolean column) = Some kind.Boolean
+table_kind (array.Utf8 column) = Some kind.Utf8
+table_kind (array.Binary column) = None
 
 -- the array of a type whose cells are what these fields read as
 pub record IsArrayOf (kind : Kind) (fields : List (List ℕ)) (array : AnyArray) : Type 0 where
-  pub kind_is : kind_of array ≡ Some kind
-  pub cells : map Some (cells_of array) ≡ map (reads kind) fields
+  pub kind_is : table_kind array ≡ Some kind
+  pub cells : map Some (cells_of array) ≡ map (field_cell kind) fields
 
 -- the type of a column: that which is declared, or else that which is found
 abbrev pub column_kind : Option Kind → List (List ℕ) → Kind
@@ -75,6 +75,10 @@ IsOutOfMemory _ = ⊥
 -- why a field is not appended: it is not of the declared type, the text is too long, or an allocation failed
 abbrev pub CannotPush : Builder → List ℕ → ℕ → Error → Type 0
 CannotPush old field place (error.Field byte column wanted) =
-    (column ≡ place) × (declared_of old ≡ Some wanted) × (reads wanted field ≡ None)
+    (column ≡ place) × (declared_of old ≡ Some wanted) × (field_cell wanted field ≡ None)
 CannotPush old field place (error.Arrow arrow.Overflow) = 2 ^ 31 ≤ text_length old + length field
 CannotPush old field place e = IsOutOfMemory e
+
+-- the cells of a growing column are what these fields read as
+abbrev pub HoldsFields : Builder → List (List ℕ) → Type 0
+HoldsFields column fields = map Some (built_cells column) ≡ map (field_cell (built_kind column)) fields

@@ -19,7 +19,7 @@ use Rattle.example_csv.specs.declared.error.Error.TheVariants as error
 use Rattle.example_csv.specs.declared.kind.Kind.{Kind}
 use Rattle.example_csv.specs.declared.read.NamedBuilder.{NamedBuilder}
 use Rattle.example_csv.specs.Builders.{CannotPush, IsArrayOf, built_cells, built_kind, column_kind, declared_of, text_length}
-use Rattle.example_csv.specs.Fields.{header_of, reads}
+use Rattle.example_csv.specs.Fields.{header_of, field_cell}
 
 -- the records of a CSV text, the header row among them
 abbrev pub AreRecordsOf : List ℕ → List (List (List ℕ)) → Type 0
@@ -70,7 +70,7 @@ IsCsvError text (csv_error.Deserialize at why) = ⊥
 -- the field at this column, from 1, is not of the type that the column declares
 abbrev pub IsBadField : List (List ℕ) → List (List ℕ) → ℕ → Kind → Type 0
 IsBadField names row column wanted = (i : ℕ) × (i < length names) × (column ≡ i + 1)
-    × ((header_of (slice_index_or names i [])).1 ≡ Some wanted) × (reads wanted (slice_index_or row i []) ≡ None)
+    × ((header_of (slice_index_or names i [])).1 ≡ Some wanted) × (field_cell wanted (slice_index_or row i []) ≡ None)
 
 -- the text of a column is longer than offsets of i32 can count
 abbrev pub IsLongColumn : List (List (List ℕ)) → Type 0
@@ -95,7 +95,7 @@ IsRefused text (error.NotTruth name) = ⊥
 pub record IsBuiltOf (header : List ℕ) (fields : List (List ℕ)) (column : NamedBuilder) : Type 0 where
   pub name : string_bytes column.name ≡ (header_of header).0
   pub declared : declared_of column.builder ≡ (header_of header).1
-  pub cells : map Some (built_cells column.builder) ≡ map (reads (built_kind column.builder)) fields
+  pub cells : map Some (built_cells column.builder) ≡ map (field_cell (built_kind column.builder)) fields
   pub bytes : text_length column.builder ≤ length (concat fields)
 
 -- growing columns of a header row and rows of fields
@@ -109,3 +109,18 @@ pub record AreBuiltOf (headers : List (List ℕ)) (rows : List (List (List ℕ))
 abbrev pub CannotPushRow : List NamedBuilder → List (List ℕ) → Error → Type 0
 CannotPushRow columns row e = (i : ℕ) × (column : NamedBuilder) × (slice_get columns i ≡ Some column)
     × CannotPush column.builder (slice_index_or row i []) (i + 1) e
+
+-- the table of a CSV text
+abbrev pub IsTableOfText : List ℕ → Batch → Type 0
+IsTableOfText text table = (headers : List (List ℕ)) × (rows : List (List (List ℕ)))
+    × AreRecordsOf text (headers ∷ rows) × IsTableOf headers rows table
+
+-- growing columns grew by a row of fields
+abbrev pub AppendsRow : List NamedBuilder → List (List ℕ) → List NamedBuilder → Type 0
+AppendsRow old row new = (headers : List (List ℕ)) (rows : List (List (List ℕ))) → AreBuiltOf headers rows old
+    → AreBuiltOf headers (rows ++ row ∷ []) new
+
+-- a fact of the header row and the rows of fields of growing columns
+abbrev pub ForBuilt : List NamedBuilder → ℕ → (List (List ℕ) → List (List (List ℕ)) → Type 0) → Type 0
+ForBuilt columns height P = (headers : List (List ℕ)) (rows : List (List (List ℕ))) → AreBuiltOf headers rows columns
+    → height ≡ length rows → P headers rows

@@ -13,10 +13,10 @@ use Rattle.example_csv.specs.declared.error.Error.TheVariants.{Arrow, NotTruth, 
 use Rattle.example_csv.specs.declared.options.Options.{Options}
 
 -- the texts of strings
-abbrev pub texts_of : Vec (String Global) Global → List (List ℕ)
-texts_of strings = map string_bytes strings.items
+abbrev pub strings_bytes : Vec (String Global) Global → List (List ℕ)
+strings_bytes strings = map string_bytes strings.items
 
--- why nothing is selected: the table has no column of this name, or not of truth values
+-- why nothing is selected: the table has no column of this name, or not of booleans
 pub data Reason : Type 0 where
   unknown : List ℕ → Reason
   not_truth : List ℕ → Reason
@@ -26,7 +26,7 @@ abbrev pub and_then : {A B : Type 0} → (A → Result B Reason) → Result A Re
 and_then f (Ok x) = f x
 and_then f (Err reason) = Err reason
 
--- the column of truth values of this name
+-- the column of booleans of this name
 abbrev pub truth_column : List ℕ → Option AnyArray → Result (Column Bool) Reason
 truth_column name (Some (Boolean column)) = Ok column
 truth_column name (Some _) = Err (not_truth name)
@@ -69,7 +69,7 @@ kept_rows options batch = rows_where (option_map string_bytes options.filter) ba
 abbrev pub selected : Options → Batch → Result Batch Reason
 selected options batch =
     and_then (λ kept. Ok (first_rows options.head kept))
-    (and_then (in_columns (option_map texts_of options.columns)) (kept_rows options batch))
+    (and_then (in_columns (option_map strings_bytes options.columns)) (kept_rows options batch))
 
 -- an error is the reason why nothing is selected, or out of memory
 abbrev pub Explains : {A : Type 0} → Result A Reason → Error → Type 0

@@ -74,3 +74,20 @@ abbrev pub CannotSummarize : Error → Type 0
 CannotSummarize (Arrow e) = (refusal e ≡ out_of_memory) ⊎ (refusal e ≡ overflow)
 CannotSummarize OutOfMemory = ⊤
 CannotSummarize _ = ⊥
+
+-- a cell for each column, with a count of its array
+abbrev pub count_cells : (AnyArray → ℕ) → List Named → List Cell
+count_cells count columns = map (λ column. number (Some (count_number (count column.array)))) columns
+
+-- the cells of an array are the texts of the least value of each column
+abbrev pub HasLeast : List Named → AnyArray → Type 0
+HasLeast columns array = (least : List (Option (List ℕ))) × AreLeast columns least
+    × (cells_of array ≡ map text least)
+
+abbrev pub HasGreatest : List Named → AnyArray → Type 0
+HasGreatest columns array = (greatest : List (Option (List ℕ))) × AreGreatest columns greatest
+    × (cells_of array ≡ map text greatest)
+
+-- a column of this name
+abbrev pub new_column : List ℕ → AnyArray → Named
+new_column name array = record { name = name; array = array }

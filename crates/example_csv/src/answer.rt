@@ -1,8 +1,7 @@
 //! The answer of the program.
 ghost use Rattle.std.specs.Prelude.{◌⊎◌, IfErr, IfOk, IfSome};
 ghost use Rattle.std.specs.Io.KnownBytes.{Appends};
-ghost use Rattle.example_record_batch.specs.Batches.{Batch};
-ghost use Rattle.example_csv.specs.Answering.{CannotAsk, CannotPrint, IsAsked, table_text};
+ghost use Rattle.example_csv.specs.Answering.{CannotAsk, CannotPrint, IsAsked, Prints, table_text};
 
 use crate::error::Error;
 use crate::options::Options;
@@ -26,9 +25,8 @@ pub fn answer<R: Read + Drop, W: Write + Drop>(
     input: R,
     output: W,
 ) -> Result<W, Error>
-    ensures ok { IfOk result (λ to. IfSome (R.remaining input) (λ text. (asked : Batch)
-        × IsAsked options.now text asked
-        × Appends (W.contents output) (W.contents to) (table_text options.now asked))) }
+    ensures ok { IfOk result (λ to. IfSome (R.remaining input)
+        (Prints options.now (Appends (W.contents output) (W.contents to)))) }
     ensures err { IfErr result (λ e. IfSome (R.remaining input) (λ text.
         CannotAsk options.now text e ⊎ CannotPrint options.now e)) }
 {

@@ -1,10 +1,9 @@
 //! Columns that grow by fields.
-ghost use Rattle.std.specs.Prelude.{◌≡◌, ℕ, List, [], Some, IfErr, IfOk, MatchOption, OnOk, false, is_some, map};
-ghost use Rattle.std.specs.List.{list_all};
+ghost use Rattle.std.specs.Prelude.{◌≡◌, ℕ, List, [], IfErr, IfOk, OnOk, map};
 ghost use Rattle.dethrugn.specs.Column.{slots_of};
-ghost use Rattle.example_csv.specs.Builders.{CannotPush, GrowsBy, IsArrayOf, IsOutOfMemory, built_cells, built_kind};
+ghost use Rattle.example_csv.specs.Builders.{CannotPush, GrowsBy, IsArrayOf, IsOutOfMemory, built_cells, HoldsFields};
 ghost use Rattle.example_csv.specs.Builders.{column_kind, declared_of, text_length};
-ghost use Rattle.example_csv.specs.Fields.{found_kind, number_of, reads, slot_as, text_of, truth_of};
+ghost use Rattle.example_csv.specs.Fields.{found_kind, parsed_number, field_text, truth_of, FindsSlots};
 
 use crate::error::Error;
 use crate::field::{number_slot, text, truth_slot};
@@ -18,7 +17,7 @@ use std::alloc::Global;
 pub enum Builder {
     /// Numbers.
     Int64(MutablePrimitiveArray<i64>),
-    /// Truth values.
+    /// Booleans.
     Boolean(MutableBooleanArray),
     /// Text.
     Utf8(MutableUtf8Array<i32>),
@@ -72,7 +71,7 @@ impl Builder {
     /// # Errors
     /// `OutOfMemory` if an allocation fails.
     pub fn freeze(self, alloc: Global) -> Result<AnyArray, Error>
-        ensures ok { (fields : List (List ℕ)) → map Some (built_cells self) ≡ map (reads (built_kind self)) fields
+        ensures ok { (fields : _) → HoldsFields self fields
             → IfOk result (IsArrayOf (column_kind (declared_of self) fields) fields) }
         ensures err { IfErr result IsOutOfMemory }
     {
@@ -99,7 +98,7 @@ fn not_of(wanted: Kind, byte: u64, column: usize) -> Error
 /// Returns the slots of a column of text under the type that is found: numbers if all valid slots are, or else truth
 /// values if all are, or else text. Without a valid slot it is text.
 fn convert(alloc: Global, column: Utf8Array<i32>) -> Result<AnyArray, Error>
-    ensures ok { (fields : List (List ℕ)) → slots_of column ≡ map text_of fields
+    ensures ok { (fields : List (List ℕ)) → slots_of column ≡ map field_text fields
         → IfOk result (IsArrayOf (found_kind fields) fields) }
     ensures err { IfErr result IsOutOfMemory }
 {
@@ -120,9 +119,7 @@ fn numbers_of(
     alloc: Global,
     column: &Utf8Array<i32>,
 ) -> Result<Option<MutablePrimitiveArray<i64>>, Error>
-    ensures ok { IfOk result (λ found. MatchOption found
-        (list_all (λ slot. is_some (slot_as number_of slot)) (slots_of column.now) ≡ false)
-        (λ numbers. map Some (slots_of numbers) ≡ map (slot_as number_of) (slots_of column.now))) }
+    ensures ok { IfOk result (λ found. FindsSlots parsed_number slots_of (slots_of column.now) found) }
     ensures err { IfErr result IsOutOfMemory }
 {
     let mut numbers = MutablePrimitiveArray::new(alloc);
@@ -135,11 +132,9 @@ fn numbers_of(
     Ok(Some(numbers))
 }
 
-/// Returns the truth values of a column of text, or `None` if a valid slot is not the text of one.
+/// Returns the booleans of a column of text, or `None` if a valid slot is not the text of one.
 fn truths_of(alloc: Global, column: &Utf8Array<i32>) -> Result<Option<MutableBooleanArray>, Error>
-    ensures ok { IfOk result (λ found. MatchOption found
-        (list_all (λ slot. is_some (slot_as truth_of slot)) (slots_of column.now) ≡ false)
-        (λ truths. map Some (slots_of truths) ≡ map (slot_as truth_of) (slots_of column.now))) }
+    ensures ok { IfOk result (λ found. FindsSlots truth_of slots_of (slots_of column.now) found) }
     ensures err { IfErr result IsOutOfMemory }
 {
     let mut truths = MutableBooleanArray::new(alloc);

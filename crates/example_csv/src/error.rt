@@ -30,7 +30,7 @@ pub enum Error {
     },
     /// No column has this name.
     UnknownColumn(String),
-    /// The column of this name does not hold truth values.
+    /// The column of this name does not hold booleans.
     NotTruth(String),
 }
 
@@ -84,13 +84,13 @@ impl fmt::Display for Error {
             Error::Field { column, wanted, .. } => {
                 let wanted = match wanted {
                     Kind::Int64 => "number",
-                    Kind::Boolean => "truth value",
+                    Kind::Boolean => "boolean",
                     Kind::Utf8 => "text",
                 };
                 write!(f, "column {column}: not a {wanted}")
             }
             Error::UnknownColumn(name) => write!(f, "no column '{name}'"),
-            Error::NotTruth(name) => write!(f, "column '{name}' does not hold truth values"),
+            Error::NotTruth(name) => write!(f, "column '{name}' does not hold booleans"),
         }
     }
 }

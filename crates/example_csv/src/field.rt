@@ -1,13 +1,13 @@
 //! What header fields and fields mean.
 ghost use Rattle.std.specs.Prelude.{◌≡◌, option_map};
-ghost use Rattle.example_csv.specs.Fields.{header_of, number_of, slot_as, text_of, truth_of};
+ghost use Rattle.example_csv.specs.Fields.{header_of, parsed_number, slot_as, field_text, truth_of};
 
 use crate::kind::Kind;
 use itoa::Buffer;
 
 /// Returns the number that prints as `field`, or `None` if none does: `007` and `+7` are not the text of a number.
 pub fn number(field: &str) -> Option<i64>
-    ensures { result ≡ number_of field.now }
+    ensures { result ≡ parsed_number field.now }
 {
     let value = field.parse::<i64>().ok()?;
     if Buffer::new().format(value) == field {
@@ -17,7 +17,7 @@ pub fn number(field: &str) -> Option<i64>
     }
 }
 
-/// Returns the truth value that prints as `field`, or `None` if none does.
+/// Returns the boolean that prints as `field`, or `None` if none does.
 pub fn truth(field: &str) -> Option<bool>
     ensures { result ≡ truth_of field.now }
 {
@@ -26,14 +26,14 @@ pub fn truth(field: &str) -> Option<bool>
 
 /// Returns the text of a field: an empty field is a null.
 pub fn text(field: &str) -> Option<&str>
-    ensures { option_map (λ s. s.now) result ≡ text_of field.now }
+    ensures { option_map (λ s. s.now) result ≡ field_text field.now }
 {
     if field.is_empty() { None } else { Some(field) }
 }
 
 /// Returns the slot that a text is as a number: a null is one, and a text that is no number is none.
 pub fn number_slot(text: Option<&str>) -> Option<Option<i64>>
-    ensures { result ≡ slot_as number_of (option_map (λ s. s.now) text.entry) }
+    ensures { result ≡ slot_as parsed_number (option_map (λ s. s.now) text.entry) }
 {
     match text {
         Some(text) => Some(Some(number(text)?)),
@@ -41,7 +41,7 @@ pub fn number_slot(text: Option<&str>) -> Option<Option<i64>>
     }
 }
 
-/// Returns the slot that a text is as a truth value: a null is one, and any other text is none.
+/// Returns the slot that a text is as a boolean: a null is one, and any other text is none.
 pub fn truth_slot(text: Option<&str>) -> Option<Option<bool>>
     ensures { result ≡ slot_as truth_of (option_map (λ s. s.now) text.entry) }
 {

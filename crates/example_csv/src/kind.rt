@@ -6,7 +6,7 @@ use std::fmt;
 pub enum Kind {
     /// Numbers of 64 bits.
     Int64,
-    /// Truth values.
+    /// Booleans.
     Boolean,
     /// Text.
     Utf8,

@@ -1,10 +1,11 @@
 //! Reads a table of CSV.
-ghost use Rattle.std.specs.Prelude.{◌≡◌, ◌∷◌, ◌++◌, ℕ, List, [], IfErr, IfOk, IfSome, OnOk, Some, length};
+ghost use Rattle.std.specs.Prelude.{◌≡◌, ℕ, List, [], IfErr, IfOk, IfSome, OnOk, Some};
 ghost use Rattle.csv.specs.Reading.{source_of, strip_bom};
 ghost use Rattle.csv.specs.Records.{fields_of};
 ghost use Rattle.example_record_batch.specs.Batches.{named};
 ghost use Rattle.example_csv.specs.Builders.{IsOutOfMemory};
-ghost use Rattle.example_csv.specs.Reading.{AreBuiltOf, AreRecordsOf, CannotPushRow, IsBuiltOf, IsColumnOf, IsRefused};
+ghost use Rattle.example_csv.specs.Reading.{AreBuiltOf, CannotPushRow, IsBuiltOf, IsColumnOf, IsRefused, IsTableOfText};
+ghost use Rattle.example_csv.specs.Reading.{AppendsRow, ForBuilt};
 ghost use Rattle.example_csv.specs.Reading.{HasReadNothing, IsTableOf};
 
 use crate::builder::Builder;
@@ -29,8 +30,7 @@ pub struct NamedBuilder {
 /// there is no record; `Field` if a field is not of the type that its column declares; `Overflow` if the text of a
 /// column is longer than offsets of `i32` can count; `OutOfMemory` if an allocation fails.
 pub fn read_table<R: Read + Drop>(alloc: Global, input: R) -> Result<RecordBatch, Error>
-    ensures ok { IfOk result (λ table. IfSome (R.remaining input) (λ text. (headers : List (List ℕ))
-        × (rows : List (List (List ℕ))) × AreRecordsOf text (headers ∷ rows) × IsTableOf headers rows table)) }
+    ensures ok { IfOk result (λ table. IfSome (R.remaining input) (λ text. IsTableOfText text table)) }
     ensures err { IfErr result (λ e. IfSome (R.remaining input) (λ text. IsRefused text e)) }
 {
     let mut reader = ReaderBuilder::new()
@@ -47,9 +47,8 @@ fn read_records<R: Read + Drop>(
     record: &mut StringRecord,
 ) -> Result<RecordBatch, Error>
     requires { HasReadNothing reader.old }
-    ensures ok { IfOk result (λ table. (text : List ℕ) → source_of R.remaining reader.old ≡ Some (strip_bom text)
-        → (headers : List (List ℕ)) × (rows : List (List (List ℕ)))
-        × AreRecordsOf text (headers ∷ rows) × IsTableOf headers rows table) }
+    ensures ok { IfOk result (λ table. (text : _) → source_of R.remaining reader.old ≡ Some (strip_bom text)
+        → IsTableOfText text table) }
     ensures err { IfErr result (λ e. (text : List ℕ) → source_of R.remaining reader.old ≡ Some (strip_bom text)
         → IsRefused text e) }
 {
@@ -91,9 +90,7 @@ fn builder_of(alloc: Global, header: &str) -> Result<NamedBuilder, Error>
 
 /// Appends a row, each field to its column.
 fn push_record(columns: &mut Vec<NamedBuilder>, row: &StringRecord) -> Result<(), Error>
-    ensures ok { OnOk result ((headers : List (List ℕ)) (rows : List (List (List ℕ)))
-        → AreBuiltOf headers rows columns.old.items
-        → AreBuiltOf headers (rows ++ fields_of row.now ∷ []) columns.new.items) }
+    ensures ok { OnOk result (AppendsRow columns.old.items (fields_of row.now) columns.new.items) }
     ensures err { IfErr result (CannotPushRow columns.old.items (fields_of row.now)) }
 {
     let byte = match row.position() {
@@ -108,8 +105,8 @@ fn push_record(columns: &mut Vec<NamedBuilder>, row: &StringRecord) -> Result<()
 
 /// Converts a growing column into one of a table.
 fn freeze_column(alloc: Global, column: NamedBuilder) -> Result<Field, Error>
-    ensures ok { (header : List ℕ) (fields : List (List ℕ)) → IsBuiltOf header fields column
-        → IfOk result (λ field. IsColumnOf header fields (named field)) }
+    ensures ok { (header : _) (fields : _) → IsBuiltOf header fields column
+        → IfOk result (λ it. IsColumnOf header fields (named it)) }
     ensures err { IfErr result IsOutOfMemory }
 {
     let NamedBuilder { name, builder } = column;
@@ -119,10 +116,8 @@ fn freeze_column(alloc: Global, column: NamedBuilder) -> Result<Field, Error>
 
 /// Creates the table of columns of `height` rows.
 fn freeze(alloc: Global, columns: Vec<NamedBuilder>, height: usize) -> Result<RecordBatch, Error>
-    ensures ok { (headers : List (List ℕ)) (rows : List (List (List ℕ))) → AreBuiltOf headers rows columns.items
-        → height ≡ length rows → IfOk result (IsTableOf headers rows) }
-    ensures err { (headers : List (List ℕ)) (rows : List (List (List ℕ))) → AreBuiltOf headers rows columns.items
-        → height ≡ length rows → IfErr result IsOutOfMemory }
+    ensures ok { ForBuilt columns.items height (λ headers rows. IfOk result (IsTableOf headers rows)) }
+    ensures err { ForBuilt columns.items height (λ headers rows. IfErr result IsOutOfMemory) }
 {
     let mut fields = Vec::new(alloc);
     for column in columns {

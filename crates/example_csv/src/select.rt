@@ -3,7 +3,7 @@ ghost use Rattle.std.specs.Prelude.{◌≡◌, Some, None, Ok, IfOk, IfErr, OnOk
 ghost use Rattle.std.specs.List.{filter_map};
 ghost use Rattle.example_record_batch.specs.Batches.{HaveRows, column_of, named};
 ghost use Rattle.example_csv.specs.Selecting.{Explains, column_named, first_rows, in_columns, rows_where};
-ghost use Rattle.example_csv.specs.Selecting.{selected, texts_of, truth_column, unknown_name};
+ghost use Rattle.example_csv.specs.Selecting.{selected, strings_bytes, truth_column, unknown_name};
 
 use crate::error::Error;
 use crate::options::Options;
@@ -12,7 +12,7 @@ use example_record_batch::any::AnyArray;
 use example_record_batch::batch::{Field, RecordBatch};
 use std::alloc::Global;
 
-/// Returns the column of truth values of a name.
+/// Returns the column of booleans of a name.
 fn truth_column<'a>(
     alloc: Global,
     table: &'a RecordBatch,
@@ -75,8 +75,8 @@ fn select_columns(
     table: RecordBatch,
     columns: &Option<Vec<String>>,
 ) -> Result<RecordBatch, Error>
-    ensures ok { IfOk result (λ kept. in_columns (option_map texts_of columns.now) table ≡ Ok kept) }
-    ensures err { IfErr result (λ e. Explains (in_columns (option_map texts_of columns.now) table) e) }
+    ensures ok { IfOk result (λ kept. in_columns (option_map strings_bytes columns.now) table ≡ Ok kept) }
+    ensures err { IfErr result (λ e. Explains (in_columns (option_map strings_bytes columns.now) table) e) }
 {
     match columns {
         Some(names) => {
@@ -103,7 +103,7 @@ fn first_rows(mut table: RecordBatch, head: Option<usize>) -> RecordBatch
 ///
 /// # Errors
 /// `UnknownColumn` with the name of the filter or the first other name that no column has,
-/// `NotTruth` if the filter does not hold truth values, `OutOfMemory` if an allocation fails.
+/// `NotTruth` if the filter does not hold booleans, `OutOfMemory` if an allocation fails.
 pub fn select(alloc: Global, table: RecordBatch, options: &Options) -> Result<RecordBatch, Error>
     ensures ok { IfOk result (λ kept. selected options.now table ≡ Ok kept) }
     ensures err { IfErr result (λ e. Explains (selected options.now table) e) }

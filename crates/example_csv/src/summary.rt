@@ -1,10 +1,11 @@
 //! A summary of a table: a row for each column.
-ghost use Rattle.std.specs.Prelude.{◌≡◌, ◌∷◌, ◌++◌, [], List, Option, Some, ℕ, length, map, option_map};
-ghost use Rattle.std.specs.Prelude.{string_bytes, IfOk, IfErr, OnOk};
-ghost use Rattle.example_record_batch.specs.AnyArrays.{cells_of, nulls_of, number, slot_count, text};
-ghost use Rattle.example_record_batch.specs.Batches.{HaveRows, IsBatch, batch_of, named};
-ghost use Rattle.example_csv.specs.Summary.{AreGreatest, AreLeast, CannotSummarize, IsGreatestOf, IsLeastOf, IsSummary};
-ghost use Rattle.example_csv.specs.Summary.{contents_of, count_number, type_name};
+ghost use Rattle.std.specs.Prelude.{◌≡◌, ◌∷◌, ◌++◌, [], Some, ℕ, length, map, option_map};
+ghost use Rattle.std.specs.Prelude.{IfOk, IfErr, OnOk};
+ghost use Rattle.example_record_batch.specs.AnyArrays.{cells_of, nulls_of, slot_count, text};
+ghost use Rattle.example_record_batch.specs.Batches.{HaveRows, batch_of, named};
+ghost use Rattle.example_csv.specs.Summary.{CannotSummarize, IsGreatestOf, IsLeastOf, IsSummary, count_cells, HasLeast};
+ghost use Rattle.example_csv.specs.Summary.{HasGreatest, new_column};
+ghost use Rattle.example_csv.specs.Summary.{count_number, type_name};
 
 use crate::error::Error;
 use crate::text::{number_text, truth_text};
@@ -111,8 +112,7 @@ fn types(alloc: Global, table: &RecordBatch) -> Result<AnyArray, Error>
 
 /// Returns the number of rows of each column.
 fn row_counts(alloc: Global, table: &RecordBatch) -> Result<AnyArray, Error>
-    ensures ok { IfOk result (λ array. cells_of array
-        ≡ map (λ column. number (Some (count_number (slot_count column.array)))) table.now.columns) }
+    ensures ok { IfOk result (λ array. cells_of array ≡ count_cells slot_count table.now.columns) }
     ensures err { IfErr result (λ e. CannotSummarize e) }
 {
     appended_slots::<(), i64>();
@@ -125,8 +125,7 @@ fn row_counts(alloc: Global, table: &RecordBatch) -> Result<AnyArray, Error>
 
 /// Returns the number of nulls of each column.
 fn null_counts(alloc: Global, table: &RecordBatch) -> Result<AnyArray, Error>
-    ensures ok { IfOk result (λ array. cells_of array
-        ≡ map (λ column. number (Some (count_number (nulls_of column.array)))) table.now.columns) }
+    ensures ok { IfOk result (λ array. cells_of array ≡ count_cells nulls_of table.now.columns) }
     ensures err { IfErr result (λ e. CannotSummarize e) }
 {
     appended_slots::<(), i64>();
@@ -139,8 +138,7 @@ fn null_counts(alloc: Global, table: &RecordBatch) -> Result<AnyArray, Error>
 
 /// Returns the text of the least value of each column.
 fn least_texts(alloc: Global, table: &RecordBatch) -> Result<AnyArray, Error>
-    ensures ok { IfOk result (λ array. (least : List (Option (List ℕ)))
-        × AreLeast table.now.columns least × (cells_of array ≡ map text least)) }
+    ensures ok { IfOk result (λ array. HasLeast table.now.columns array) }
     ensures err { IfErr result (λ e. CannotSummarize e) }
 {
     appended_slots::<BytesAround, Buffer<u8>>();
@@ -154,8 +152,7 @@ fn least_texts(alloc: Global, table: &RecordBatch) -> Result<AnyArray, Error>
 
 /// Returns the text of the greatest value of each column.
 fn greatest_texts(alloc: Global, table: &RecordBatch) -> Result<AnyArray, Error>
-    ensures ok { IfOk result (λ array. (greatest : List (Option (List ℕ)))
-        × AreGreatest table.now.columns greatest × (cells_of array ≡ map text greatest)) }
+    ensures ok { IfOk result (λ array. HasGreatest table.now.columns array) }
     ensures err { IfErr result (λ e. CannotSummarize e) }
 {
     appended_slots::<BytesAround, Buffer<u8>>();
@@ -182,8 +179,8 @@ fn push_column(
     name: &str,
     array: AnyArray,
 ) -> Result<(), Error>
-    ensures ok { OnOk result (map named columns.new.items
-        ≡ map named columns.old.items ++ record { name = name.now; array = array } ∷ []) }
+    ensures ok { OnOk result (map named columns.new.items ≡ map named columns.old.items
+        ++ new_column name.now array ∷ []) }
     ensures rows { (n : ℕ) → HaveRows columns.old.items n → slot_count array ≡ n
         → OnOk result (HaveRows columns.new.items n) }
     ensures err { IfErr result (λ e. CannotSummarize e) }

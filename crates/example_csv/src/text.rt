@@ -9,7 +9,7 @@ use example_record_batch::any::AnyArray;
 use std::alloc::AllocError;
 use std::fmt::Write;
 
-/// Returns the text of a truth value.
+/// Returns the text of a boolean.
 pub fn truth_text(value: bool) -> &'static str
     ensures { result.now ≡ truth_text value }
 {

@@ -19,7 +19,7 @@ use Rattle.std.proofs.lemmas.List.Sums.{count_by-le-length, fold_more, fold_push
 use Rattle.std.proofs.lemmas.Option.{get_or_from_slice_get, same_Some, slice_get_within}
 use Rattle.dethrugn.specs.Column.{ColumnWith, marks_of, slots_of}
 use Rattle.dethrugn.specs.Rows.{Row, slot}
-use Rattle.example_kernels.specs.Aggregates.{IsGreatest, IsLeast, greater_slot, lesser_slot, sum_of, total, valid_values}
+use Rattle.example_kernels.specs.Aggregates.{IsGreatest, IsLeast, greater_slot, lesser_slot, sum_of, sum_all, valid_values}
 
 abbrev pub valid : {X : Type 0} → List (Option X) → List X
 valid slots = filter_map (λ slot. slot) slots
@@ -268,25 +268,25 @@ valid_more slots i slot at =
     ∙ filter_map-append (λ s. s) (take i slots) (slot ∷ [])
 
 total_slot : (slots : List (Option ℤ)) (i : ℕ) (slot : Option ℤ) → slice_get slots i ≡ Some slot
-    → total (valid (take i slots)) +ℤ unwrap_or slot (pos 0) ≡ total (valid (take (i + 1) slots))
-total_slot slots i (Some x) at = sym (ap total (valid_more slots i (Some x) at)
+    → sum_all (valid (take i slots)) +ℤ unwrap_or slot (pos 0) ≡ sum_all (valid (take (i + 1) slots))
+total_slot slots i (Some x) at = sym (ap sum_all (valid_more slots i (Some x) at)
     ∙ fold_push (λ sum y. sum +ℤ y) (pos 0) (valid (take i slots)) x)
-total_slot slots i None at = +ℤ_idr (total (valid (take i slots)))
-    ∙ sym (ap total (valid_more slots i None at ∙ append-nil (valid (take i slots))))
+total_slot slots i None at = +ℤ_idr (sum_all (valid (take i slots)))
+    ∙ sym (ap sum_all (valid_more slots i None at ∙ append-nil (valid (take i slots))))
 
 pub total_more : (slots : List (Option ℤ)) (i : ℕ) (value : ℤ)
     → option_map (λ slot. unwrap_or slot (pos 0)) (slice_get slots i) ≡ Some value
-    → total (valid (take i slots)) +ℤ value ≡ total (valid (take (i + 1) slots))
+    → sum_all (valid (take i slots)) +ℤ value ≡ sum_all (valid (take (i + 1) slots))
 total_more slots i value = by_slot (slice_get slots i) refl
   where
     by_slot : (o : Option (Option ℤ)) → slice_get slots i ≡ o
         → option_map (λ slot. unwrap_or slot (pos 0)) o ≡ Some value
-        → total (valid (take i slots)) +ℤ value ≡ total (valid (take (i + 1) slots))
+        → sum_all (valid (take i slots)) +ℤ value ≡ sum_all (valid (take (i + 1) slots))
     by_slot None at e = cc
-    by_slot (Some slot) at e = ap (λ v. total (valid (take i slots)) +ℤ v)
+    by_slot (Some slot) at e = ap (λ v. sum_all (valid (take i slots)) +ℤ v)
         (sym (same_Some (unwrap_or slot (pos 0)) value e)) ∙ total_slot slots i slot at
 
-pub sum_of_some : (xs : List ℤ) → 0 < length xs → Some (total xs) ≡ sum_of xs
+pub sum_of_some : (xs : List ℤ) → 0 < length xs → Some (sum_all xs) ≡ sum_of xs
 sum_of_some [] some = absurd (omega arith)
 sum_of_some (x ∷ xs) some = refl
 

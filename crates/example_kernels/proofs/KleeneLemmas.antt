@@ -1,4 +1,4 @@
--- Lemmas about truth values that are known to be true or false, or not known.
+-- Lemmas about booleans that are known to be true or false, or not known.
 use Rattle.std.proofs.Common.{◌≡◌, ◌&&◌, ◌||◌, Bool, true, false, not, if◌then◌else◌, List, [], ◌∷◌, length, map}
 use Rattle.std.proofs.Common.{Option, Some, None, is_some, min, refl, sym, ap, ap₂, ◌∙◌, arith}
 use Rattle.std.specs.List.{zip}

@@ -1,4 +1,4 @@
--- Lemmas about arrays of truth values that are made of other arrays, slot by slot.
+-- Lemmas about arrays of booleans that are made of other arrays, slot by slot.
 use Rattle.std.proofs.Common.{◌≡◌, ◌&&◌, ◌||◌, Bool, true, false, if◌then◌else◌, List, [], ◌∷◌, length, map, Option}
 use Rattle.std.proofs.Common.{Some, None, Bor, is_some, refl, sym, ap, ap₂, ◌∙◌, arith, subst, true≢false}
 use Rattle.std.specs.Option.{option_copied}

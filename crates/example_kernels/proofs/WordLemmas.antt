@@ -1,4 +1,4 @@
--- Lemmas about truth values that are the bits of words.
+-- Lemmas about booleans that are the bits of words.
 use Rattle.std.proofs.Common.{◌≡◌, ◌≢◌, ℕ, ◌+◌, ◌*◌, ◌%◌, ◌^◌, ◌<◌, ◌≤◌, ◌==◌, max, bit_or, Bool, true, false}
 use Rattle.std.proofs.Common.{if◌then◌else◌, List, [], ◌∷◌, ◌++◌, length, map, take, drop, get_or, refl, sym, ap, ap₂, ◌∙◌}
 use Rattle.std.proofs.Common.{◌⊎◌, inl, inr, arith, zero, suc, true≢false}
@@ -20,7 +20,7 @@ use Rattle.example_kernels.specs.Comparison.{compare_scalar, compare_values}
 
 -- ---- a word of which one bit more is written
 
--- a truth value at its place in a word
+-- a boolean at its place in a word
 moved : Bool → ℕ → ℕ
 moved b i = if b then 2 ^ i else 0
 
@@ -44,7 +44,7 @@ clear zero other small is = omega arith
 clear (suc zero) other small is = absurd (true≢false is)
 clear (suc (suc bit)) other small is = absurd (omega arith)
 
--- the bits of a word are the first i of these truth values, and no bit above them is set
+-- the bits of a word are the first i of these booleans, and no bit above them is set
 abbrev pub HasBits : ℕ → List Bool → ℕ → Type 0
 HasBits word truths i = (k : ℕ) → (bit_at word k == 1) ≡ get_or (take i truths) k false
 
@@ -142,7 +142,7 @@ module _ {X : Type 0} (test : Ordering → Bool) (cmp : X → X → Ordering) wh
   scalar_at xs value i x low is = ap (λ a. test (cmp a value)) is
       ∙ sym (get_or-map (λ a. test (cmp a value)) xs i x false low)
 
--- the truth values of one piece more
+-- the booleans of one piece more
 pub one_more : (truths marks bits : List Bool) (a n b : ℕ) → marks ≡ take a truths → bits ≡ take n (drop a truths)
     → b ≡ a + n → marks ++ bits ≡ take b truths
 one_more truths marks bits a n b first next e =

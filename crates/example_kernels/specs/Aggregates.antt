@@ -1,7 +1,8 @@
 -- Sums, least and greatest values of the valid slots of arrays.
-use Rattle.std.specs.Prelude.{ℤ, pos, ◌+ℤ◌, IsTrue, List, [], ◌∷◌, All, Contains, fold, Option, Some, None}
+use Rattle.std.specs.Prelude.{ℕ, ℤ, pos, ◌+ℤ◌, IsTrue, List, [], ◌∷◌, All, Contains, fold, Option, Some, None}
 use Rattle.std.specs.List.{filter_map}
-use Rattle.std.specs.Ordering.{is_le, ord_max, ord_min}
+use Rattle.std.specs.Cmp.Lexicographic.{slice_cmp}
+use Rattle.std.specs.Ordering.{is_le, nat_cmp, ord_max, ord_min}
 use Rattle.std.specs.declared.cmp.Ordering.{Ordering}
 use Rattle.dethrugn.specs.Column.{ColumnWith, slots_of}
 
@@ -10,13 +11,13 @@ abbrev pub valid_values : {A S : Type 0} → ColumnWith A S → List S
 valid_values column = filter_map (λ slot. slot) (slots_of column)
 
 -- the sum of integers, however great
-abbrev pub total : List ℤ → ℤ
-total xs = fold (λ sum x. sum +ℤ x) (pos 0) xs
+abbrev pub sum_all : List ℤ → ℤ
+sum_all xs = fold (λ sum x. sum +ℤ x) (pos 0) xs
 
 -- their sum, or none of no integer
 abbrev pub sum_of : List ℤ → Option ℤ
 sum_of [] = None
-sum_of (x ∷ xs) = Some (total (x ∷ xs))
+sum_of (x ∷ xs) = Some (sum_all (x ∷ xs))
 
 module _ {X : Type 0} (cmp : X → X → Ordering) where
   -- one of the values, and no value is less
@@ -40,3 +41,7 @@ module _ {X : Type 0} (cmp : X → X → Ordering) where
   greater_slot None slot = slot
   greater_slot (Some x) None = Some x
   greater_slot (Some x) (Some y) = Some (ord_max cmp x y)
+
+-- the order of texts, that of their bytes
+abbrev pub text_cmp : List ℕ → List ℕ → Ordering
+text_cmp = slice_cmp nat_cmp

@@ -1,4 +1,4 @@
--- Three-valued logic (Kleene's), in which a null is a truth value that is not known.
+-- Three-valued logic (Kleene's), in which a null is a boolean that is not known.
 use Rattle.std.specs.Prelude.{◌&&◌, ◌||◌, Bool, true, false, not, List, map, Option, Some, None, unwrap_or, if◌then◌else◌}
 use Rattle.std.specs.List.{zip}
 

@@ -1,4 +1,4 @@
--- Arrays of truth values that kernels make of other arrays, slot by slot.
+-- Arrays of booleans that kernels make of other arrays, slot by slot.
 use Rattle.std.specs.Prelude.{⊤, ◌≡◌, ◌&&◌, ◌||◌, Bool, List, length, map, Option, Some, None}
 use Rattle.std.specs.List.{zip}
 use Rattle.dethrugn.specs.BooleanFits.{boolean_type}

@@ -2,11 +2,10 @@
 ghost use Rattle.std.specs.Prelude.{◌≡◌, ◌<◌, [], FitsSigned, IfOk, MatchOption, OnErr, Some, None, length};
 ghost use Rattle.std.specs.Prelude.{option_map, slice_get, unwrap_or};
 ghost use Rattle.std.specs.Int.{w64};
-ghost use Rattle.std.specs.Ordering.{bool_cmp, nat_cmp};
-ghost use Rattle.std.specs.Cmp.Lexicographic.{slice_cmp};
+ghost use Rattle.std.specs.Ordering.{bool_cmp};
 ghost use Rattle.dethrugn.specs.Column.{slots_of};
 ghost use Rattle.example_kernels.specs.Aggregates.{IsGreatest, IsLeast, greater_slot, lesser_slot, sum_of};
-ghost use Rattle.example_kernels.specs.Aggregates.{total, valid_values};
+ghost use Rattle.example_kernels.specs.Aggregates.{sum_all, text_cmp, valid_values};
 
 use dethrugn::array::{BooleanArray, PrimitiveArray, Utf8Array};
 use dethrugn::compute::filter::true_count;
@@ -48,7 +47,7 @@ fn value_or<T: NativeType>(array: &PrimitiveArray<T>, i: usize, default: T) -> T
 /// `SumOverflow` if the sum does not fit in an `i64`.
 pub fn sum_primitive(array: &PrimitiveArray<i64>) -> Result<Option<i64>, SumOverflow>
     ensures ok { IfOk result (λ sum. sum ≡ sum_of (valid_values array.now)) }
-    ensures err { OnErr result (FitsSigned w64 (total (valid_values array.now)) → ⊥) }
+    ensures err { OnErr result (FitsSigned w64 (sum_all (valid_values array.now)) → ⊥) }
 {
     if array.null_count() == array.len() {
         return Ok(None);
@@ -144,8 +143,8 @@ pub fn max_primitive<T: NativeType + Ord>(array: &PrimitiveArray<T>) -> Option<T
 /// Returns the least text of the valid slots by the order of its bytes, or `None` if no slot is
 /// valid.
 pub fn min_string<O: Offset>(array: &Utf8Array<O>) -> Option<&str>
-    ensures { MatchOption result (valid_values array.now ≡ []) (λ text. IsLeast (slice_cmp nat_cmp)
-        (valid_values array.now) text.now) }
+    ensures { MatchOption result (valid_values array.now ≡ []) (λ text.
+        IsLeast text_cmp (valid_values array.now) text.now) }
 {
     let mut least = None;
     for i in 0..array.len() {
@@ -157,8 +156,8 @@ pub fn min_string<O: Offset>(array: &Utf8Array<O>) -> Option<&str>
 /// Returns the greatest text of the valid slots by the order of its bytes, or `None` if no slot is
 /// valid.
 pub fn max_string<O: Offset>(array: &Utf8Array<O>) -> Option<&str>
-    ensures { MatchOption result (valid_values array.now ≡ []) (λ text. IsGreatest (slice_cmp nat_cmp)
-        (valid_values array.now) text.now) }
+    ensures { MatchOption result (valid_values array.now ≡ []) (λ text.
+        IsGreatest text_cmp (valid_values array.now) text.now) }
 {
     let mut greatest = None;
     for i in 0..array.len() {

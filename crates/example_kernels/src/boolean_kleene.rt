@@ -1,4 +1,4 @@
-//! `and` and `or` of three-valued logic, in which a null is a truth value that is not known.
+//! `and` and `or` of three-valued logic, in which a null is a boolean that is not known.
 ghost use Rattle.std.specs.Prelude.{◌≡◌, IfOk, length, map};
 ghost use Rattle.dethrugn.specs.BooleanFits.{boolean_type};
 ghost use Rattle.dethrugn.specs.Column.{column_of_parts, slots_of};

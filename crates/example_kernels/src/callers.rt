@@ -1,10 +1,8 @@
 //! Callers of the kernels: what each promises follows from the contracts of the calls that it makes.
 ghost use Rattle.std.specs.Prelude.{◌≡◌, IfOk, map};
-ghost use Rattle.std.specs.Ordering.{is_ge, is_lt};
 ghost use Rattle.dethrugn.specs.Column.{slots_of};
 ghost use Rattle.dethrugn.specs.Failures.{OnlyOutOfMemory};
-ghost use Rattle.example_kernels.specs.Comparison.{compare_slot};
-ghost use Rattle.example_kernels.specs.Kleene.{kleene_and};
+ghost use Rattle.example_kernels.specs.Comparison.{within_slot};
 
 use crate::boolean_kleene::and;
 use crate::comparison::{gt_eq_scalar, lt_scalar};
@@ -20,8 +18,7 @@ pub fn within<T: NativeType + Ord>(
     low: T,
     high: T,
 ) -> Result<BooleanArray, Error>
-    ensures ok { IfOk result (λ made. slots_of made
-        ≡ map (λ slot. kleene_and (compare_slot is_ge T.cmp low slot) (compare_slot is_lt T.cmp high slot))
+    ensures ok { IfOk result (λ made. slots_of made ≡ map (λ slot. within_slot T.cmp low high slot)
         (slots_of array.now)) }
     ensures err { OnlyOutOfMemory result }
 {

@@ -47,7 +47,7 @@ fn show_texts(rt: &impl Print, texts: &Utf8Array<i32>) -> io::Result<()> {
     Ok(())
 }
 
-/// Prints whether all and whether some of truth values are true.
+/// Prints whether all and whether some of booleans are true.
 fn show_truths(rt: &impl Print, truths: &BooleanArray) -> io::Result<()> {
     if let (Some(all), Some(some)) = (min_boolean(truths), max_boolean(truths)) {
         println!(rt; "all prizes were shared: {all}, and some: {some}")?;

@@ -17,7 +17,7 @@ enum Builder {
 }
 
 impl Builder {
-    /// Creates an empty column of numbers, of truth values, or of texts.
+    /// Creates an empty column of numbers, of booleans, or of texts.
     fn new(alloc: Global, kind: &str) -> Result<Self, Error> {
         Ok(match kind {
             "number" => Builder::Numbers(MutablePrimitiveArray::new(alloc)),
@@ -29,7 +29,7 @@ impl Builder {
     /// Appends a field. An empty field is a null.
     ///
     /// # Errors
-    /// `OutOfSpec` if the field is not a number or a truth value, as the column asks; `Overflow` if the texts are too
+    /// `OutOfSpec` if the field is not a number or a boolean, as the column asks; `Overflow` if the texts are too
     /// long; `OutOfMemory` if an allocation fails.
     fn push(&mut self, field: &str) -> Result<(), Error> {
         match self {
@@ -42,7 +42,7 @@ impl Builder {
             Builder::Truths(builder) => match field.parse() {
                 Ok(truth) => builder.push(Some(truth)),
                 Err(_) => Err(Error::OutOfSpec(
-                    "a field of a column of truth values must be true or false",
+                    "a field of a column of booleans must be true or false",
                 )),
             },
             Builder::Texts(builder) if field.is_empty() => builder.push(None),

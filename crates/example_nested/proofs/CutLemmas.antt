@@ -2,7 +2,7 @@
 use Rattle.std.proofs.Common.{◌≡◌, ℕ, zero, suc, ◌+◌, ◌<◌, ◌≤◌, Bool, true, List, [], ◌∷◌, length, take, drop, refl}
 use Rattle.std.proofs.Common.{option_map, Option, Some, None, ap, sym, ◌∙◌, arith}
 use Rattle.std.specs.List.{zip}
-use Rattle.dethrugn.specs.Acceptance.{Passes}
+use Rattle.dethrugn.specs.Validation.{Passes}
 use Rattle.dethrugn.specs.Offsets.{IsOffsets}
 use Rattle.dethrugn.specs.Pieces.{items_of}
 use Rattle.dethrugn.specs.Rows.{FitsMask, rows_of}

@@ -2,7 +2,7 @@
 use Rattle.std.proofs.Common.{◌≡◌, ℕ, ◌+◌, ◌∙◌, Bool, true, not, cond, count_by, mul-zero, replicate, sym, List, length}
 use Rattle.std.proofs.Common.{Option, arith}
 use Rattle.std.proofs.lemmas.List.Folds.{sum_by-replicate}
-use Rattle.dethrugn.specs.Acceptance.{Passes}
+use Rattle.dethrugn.specs.Validation.{Passes}
 use Rattle.dethrugn.specs.Offsets.{IsOffsets}
 use Rattle.dethrugn.specs.Pieces.{items_of}
 use Rattle.dethrugn.proofs.CallerLemmas.Bytes.{item-at, length-items}

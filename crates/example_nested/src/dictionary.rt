@@ -1,10 +1,9 @@
 //! Dictionary arrays: each slot is a key, the index of a value (Arrow columnar format,
 //! "Dictionary-encoded Layout").
 ghost use Rattle.std.specs.Prelude.{◌≡◌, ◌==◌, ◌<◌, Some, is_none, length, map, option_map, slice_get};
-ghost use Rattle.std.specs.Prelude.{IfOk, IfSome, IsErrAnd, IsOk, MatchOption};
+ghost use Rattle.std.specs.Prelude.{IfOk, IfSome, IsOk, MatchOption};
 ghost use Rattle.dethrugn.specs.Column.{slots_of};
-ghost use Rattle.dethrugn.specs.Types.{refusal};
-ghost use Rattle.example_nested.specs.Dictionaries.{decoded, dictionary_of, indexes_of, key_fault};
+ghost use Rattle.example_nested.specs.Dictionaries.{FailsWith, decoded, dictionary_of, indexes_of, key_fault};
 
 use crate::inner::{BorrowSlots, InnerArray};
 use crate::slots::SlotIter;
@@ -43,7 +42,7 @@ impl<K: IndexKey + NativeType, A: InnerArray> DictionaryArray<K, A> {
     /// does not fit in a `usize`, or else it is not below the number of values.
     pub fn try_new(keys: PrimitiveArray<K>, values: A) -> Result<Self, Error>
         ensures first { MatchOption (key_fault K.number keys (length (A.slots values))) (IsOk result)
-            (λ fault. IsErrAnd result (λ e. refusal e ≡ fault)) }
+            (λ fault. FailsWith result fault) }
         ensures ok { IfOk result (λ array. array ≡ dictionary_of K.number (slots_of keys) (A.slots values)) }
     {
         if keys.null_count() != keys.len() {

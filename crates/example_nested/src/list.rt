@@ -1,11 +1,10 @@
 //! List arrays: each slot is a list of slots of an inner array (Arrow columnar format, "Variable-size
 //! List Layout").
 ghost use Rattle.std.specs.Prelude.{◌≡◌, ◌==◌, ◌+◌, ◌<◌, ◌≤◌, Some, not, count_by, drop, length, map, slice_get};
-ghost use Rattle.std.specs.Prelude.{take, IfOk, IfErr};
-ghost use Rattle.dethrugn.specs.Acceptance.{IsFirstFailure, Passes};
+ghost use Rattle.std.specs.Prelude.{take};
+ghost use Rattle.dethrugn.specs.Validation.{AcceptedBy, RefusedBy};
 ghost use Rattle.dethrugn.specs.Column.{unfit_mask};
 ghost use Rattle.dethrugn.specs.Rows.{FitsMask, slot};
-ghost use Rattle.dethrugn.specs.Types.{refusal};
 ghost use Rattle.example_nested.specs.Lists.{list_tests, lists_of};
 
 use crate::inner::{BorrowSlots, InnerArray};
@@ -31,7 +30,7 @@ pub struct ListArray<O: Offset, A: InnerArray> {
 
 // Contracts see a row for each list: its slots, and whether it is valid.
 impl<O: Offset, A: InnerArray> Model for ListArray<O, A> {
-    ghost use Rattle.dethrugn.specs.Acceptance.{Passes};
+    ghost use Rattle.dethrugn.specs.Validation.{Passes};
     ghost use Rattle.dethrugn.specs.Offsets.{IsOffsets};
     ghost use Rattle.example_nested.specs.Lists.{Lists, list_tests, lists_of};
 
@@ -56,10 +55,9 @@ impl<O: Offset, A: InnerArray> ListArray<O, A> {
         values: A,
         validity: Option<Bitmap>,
     ) -> Result<Self, Error>
-        ensures ok { IfOk result (λ lists. Passes (list_tests offsets (A.slots values) validity)
-            × (lists ≡ lists_of offsets (A.slots values) validity)) }
-        ensures err { IfErr result (λ e.
-            IsFirstFailure (list_tests offsets (A.slots values) validity) (refusal e)) }
+        ensures ok { AcceptedBy (list_tests offsets (A.slots values) validity) result
+            (lists_of offsets (A.slots values) validity) }
+        ensures err { RefusedBy (list_tests offsets (A.slots values) validity) result }
     {
         check_bounds(offsets.buffer().as_slice(), values.len())?;
         if let Some(marks) = &validity {

@@ -1,7 +1,7 @@
 -- Arrays of text over offsets of 32 bits.
 use Rattle.std.specs.Prelude.{ℕ, ◌-◌, ◌^◌, false, List, None, true}
-use Rattle.dethrugn.specs.Acceptance.{Tests}
-use Rattle.dethrugn.specs.ByteAcceptance.{array_tests}
+use Rattle.dethrugn.specs.Validation.{Tests}
+use Rattle.dethrugn.specs.ByteValidation.{array_tests}
 use Rattle.dethrugn.specs.Kinds.{text_layout, text_type, wrong_text_type}
 
 -- the greatest offset

@@ -5,5 +5,6 @@ pub mod from_arrow2;
 pub mod parts;
 pub mod push;
 pub mod rows;
+pub mod slots;
 #[cfg(test)]
 mod tests;

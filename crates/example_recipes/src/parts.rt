@@ -1,6 +1,6 @@
 //! Parts that come from elsewhere.
 ghost use Rattle.std.specs.Prelude.{◌≡◌, IfErr, IfOk, None, Some, false, map, true};
-ghost use Rattle.dethrugn.specs.Acceptance.{IsFirstFailure};
+ghost use Rattle.dethrugn.specs.Validation.{IsFirstFailure};
 ghost use Rattle.dethrugn.specs.Column.{slots_of};
 ghost use Rattle.dethrugn.specs.Pieces.{items_of};
 ghost use Rattle.dethrugn.specs.Types.{refusal};

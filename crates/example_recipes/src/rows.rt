@@ -1,11 +1,10 @@
 //! Some rows of an array, by the laws of slices and kernels.
-ghost use Rattle.std.specs.Prelude.{◌≡◌, ◌+◌, ◌<◌, ◌-◌, ◌^◌, ⊤, ℕ, None, IfErr, IfOk, IsErrAnd, MatchOption, flat_map, length};
+ghost use Rattle.std.specs.Prelude.{◌≡◌, ◌+◌, ◌<◌, ◌-◌, ◌^◌, ⊤, ℕ, IfErr, IfOk, MatchOption, flat_map, length};
 ghost use Rattle.std.specs.Prelude.{slice_get};
 ghost use Rattle.dethrugn.specs.Column.{FitsCut, refused_growth, slots_of};
 ghost use Rattle.dethrugn.specs.Failures.{OnlyOutOfMemory};
-ghost use Rattle.dethrugn.specs.Indexes.{key_refusal};
-ghost use Rattle.dethrugn.specs.Types.{refusal};
-ghost use Rattle.dethrugn.specs.Selection.{asked, at_keys, concat_overflows, first_out_of_bounds, taking_overflows};
+ghost use Rattle.dethrugn.specs.Indexes.{FailsAt};
+ghost use Rattle.dethrugn.specs.Selection.{TakeRefused, asked, at_keys, concat_overflows, first_out_of_bounds};
 ghost use Rattle.dethrugn.specs.Selection.{where_set};
 ghost use Rattle.example_recipes.specs.Rows.{max_offset};
 
@@ -55,9 +54,8 @@ pub fn keep_where(
 pub fn pick(alloc: Global, names: &Utf8Array<i32>, indexes: &[i64]) -> Result<Utf8Array<i32>, Error>
     ensures ok { IfOk result (λ picked. slots_of picked ≡ at_keys (λ index. index) indexes.now (slots_of names.now)) }
     ensures out_of_bounds { MatchOption (first_out_of_bounds (λ index. index) names.now indexes.now) ⊤
-        (λ index. IsErrAnd result (λ e. refusal e ≡ key_refusal index)) }
-    ensures err { IfErr result (λ e. first_out_of_bounds (λ index. index) names.now indexes.now ≡ None
-        → e ≡ refused_growth (taking_overflows max_offset (λ index. index) names.now indexes.now)) }
+        (FailsAt (λ index. index) result) }
+    ensures err { IfErr result (TakeRefused max_offset (λ index. index) names.now indexes.now) }
 {
     taken_slots::<BytesAround, Buffer<u8>, i64>();
     take_utf8(alloc, names, indexes)

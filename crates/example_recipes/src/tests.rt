@@ -2,6 +2,7 @@ use crate::from_arrow2;
 use crate::parts::receive;
 use crate::push::prices;
 use crate::rows::{join, keep_range, keep_where, pick};
+use crate::slots::without_nulls;
 use dethrugn::array::{BooleanArray, Utf8Array};
 use dethrugn::buffer::Buffer;
 use dethrugn::error::Error;
@@ -24,6 +25,15 @@ fn has_prices(alloc: Global, rt: &impl Abort) -> bool {
 fn negative_prices_are_null(rt: HostRuntime) -> Result<(), Fail> {
     assert!(rt; has_prices(rt.alloc(), &rt));
     Ok(())
+}
+
+#[test]
+fn nulls_become_zeros(rt: HostRuntime) {
+    let array = prices(rt.alloc(), &[5, -1, 0]).expect(&rt, "memory");
+    let made = without_nulls(rt.alloc(), &array).expect(&rt, "memory");
+    assert_eq!(&rt; (made.get(1), made.null_count()), (Some(0), 0));
+    drop(made);
+    drop(array);
 }
 
 fn offsets(alloc: Global, last: i32) -> Result<OffsetsBuffer<i32>, Error> {

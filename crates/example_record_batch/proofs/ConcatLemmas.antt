@@ -15,7 +15,7 @@ use Rattle.std.proofs.lemmas.List.Concat.{length-flat_map}
 use Rattle.std.proofs.lemmas.List.Elements.{All-cons, All-head, All-nil, All-tail, All-weaker, filter_map-append}
 use Rattle.std.proofs.lemmas.List.Folds.{concat-append}
 use Rattle.std.proofs.lemmas.List.Sums.{sum_by-cons}
-use Rattle.dethrugn.specs.Acceptance.{Passes}
+use Rattle.dethrugn.specs.Validation.{Passes}
 use Rattle.dethrugn.specs.Types.{LogicalType, Refusal, out_of_memory, out_of_spec, overflow, refusal}
 use Rattle.dethrugn.specs.Error.{Error}
 use Rattle.dethrugn.specs.Column.{ColumnWith, refused_growth, stored_values}
@@ -24,7 +24,7 @@ use Rattle.dethrugn.specs.Selection.{Concatenates, concat_overflows}
 use Rattle.example_record_batch.specs.declared.any.AnyArray.{AnyArray}
 use Rattle.example_record_batch.specs.declared.any.AnyArray.TheVariants.{Int64, Boolean, Binary, Utf8}
 use Rattle.example_record_batch.specs.declared.batch.Field.{Field}
-use Rattle.example_record_batch.specs.AnyArrays.{cells_of, kind_of, slot_count, type_of}
+use Rattle.example_record_batch.specs.AnyArrays.{cells_of, array_kind, slot_count, array_type}
 use Rattle.example_record_batch.specs.Batches.{Batch, HaveRows, IsBatch, Named, batch_of, named}
 use Rattle.example_record_batch.specs.Schemas.{NamedType, fields_schema, named_type, schema_of}
 use Rattle.example_record_batch.specs.Concatenation.{AreConcats, ArraysFail, ColumnsFail, ConcatFails, HaveKind}
@@ -35,18 +35,18 @@ use Rattle.example_record_batch.proofs.LawLemmas.{cell-count, cells-concat}
 
 -- the data type of a concatenation
 joined-type : {A S : Type 0} (array : ColumnWith A S → AnyArray)
-    → ((column : ColumnWith A S) → type_of (array column) ≡ column.data_type)
+    → ((column : ColumnWith A S) → array_type (array column) ≡ column.data_type)
     → (nothing : A) (columns : List (ColumnWith A S)) (arrays : List AnyArray) (made : ColumnWith A S) (t : LogicalType)
-    → map array columns ≡ arrays → Concatenates nothing columns made → All (λ array. type_of array ≡ t) arrays
+    → map array columns ≡ arrays → Concatenates nothing columns made → All (λ array. array_type array ≡ t) arrays
     → made.data_type ≡ t
 joined-type array types nothing [] arrays made t e h each = absurd h
 joined-type array types nothing (first ∷ others) arrays made t e h each =
     ap (λ column. column.data_type) h ∙ sym (types first)
-    ∙ All-head (λ array. type_of array ≡ t) (array first) (map array others) (subst (All
-    (λ array. type_of array ≡ t)) (sym e) each)
+    ∙ All-head (λ array. array_type array ≡ t) (array first) (map array others) (subst (All
+    (λ array. array_type array ≡ t)) (sym e) each)
 
 pub type-concat : (arrays : List AnyArray) (made : AnyArray) (t : LogicalType) → IsConcatArray arrays made
-    → All (λ array. type_of array ≡ t) arrays → type_of made ≡ t
+    → All (λ array. array_type array ≡ t) arrays → array_type made ≡ t
 type-concat arrays (Int64 made) t h = joined-type Int64 (λ column. refl) tt h.0 arrays made t h.1 h.2
 type-concat arrays (Boolean made) t h = joined-type Boolean (λ column. refl) tt h.0 arrays made t h.1 h.2
 type-concat arrays (Binary made) t h = joined-type Binary (λ column. refl) _ h.0 arrays made t h.1 h.2
@@ -146,14 +146,14 @@ get-kinds fields k field e =
 
 -- what a test of names and data types decides
 pub same-named : (field other : Field) (b : Bool) (s t : LogicalType) → true ≡ string_eq field.name other.name
-    → b ≡ same_type s t → s ≡ type_of field.array → t ≡ type_of other.array
+    → b ≡ same_type s t → s ≡ array_type field.array → t ≡ array_type other.array
     → (IsTrue b → named_type (named field) ≡ named_type (named other))
     × (named_type (named field) ≡ named_type (named other) → IsTrue b)
 same-named field other b s t names types first second = (
   λ h.
       let same_names : string_bytes field.name ≡ string_bytes other.name =
       (bytes_eq-Decides (string_bytes field.name) (string_bytes other.name)).0 (sym names) in
-      let same_types : type_of field.array ≡ type_of other.array =
+      let same_types : array_type field.array ≡ array_type other.array =
       sym first ∙ (same_type-Decides s t).0 (sym types ∙ h) ∙ second in
       λ i. record { name = same_names i; data_type = same_types i },
   λ e. types ∙ (same_type-Decides s t).1 (first ∙ ap (λ column. column.data_type) e ∙ sym second),
@@ -193,22 +193,22 @@ module _ (batches : List Batch) (fields : List Field) (k : ℕ) (field : Field) 
       omega (arith, count)
 
   pub kind-at : All (λ batch. kinds_of batch ≡ fields_kinds fields) batches
-      → HaveKind (arrays_at batches k) (kind_of field.array)
+      → HaveKind (arrays_at batches k) (array_kind field.array)
   kind-at kinds =
-      at-each named_kind kind_of (λ kind. kind) (λ column. refl) (fields_kinds fields) k (named_kind (named field))
+      at-each named_kind array_kind (λ kind. kind) (λ column. refl) (fields_kinds fields) k (named_kind (named field))
       (get-kinds fields k field at-k) batches kinds
 
   pub type-at : All (λ batch. schema_of batch ≡ fields_schema fields) batches
-      → All (λ array. type_of array ≡ type_of field.array) (arrays_at batches k)
+      → All (λ array. array_type array ≡ array_type field.array) (arrays_at batches k)
   type-at schema =
-      at-each named_type type_of (λ column. column.data_type) (λ column. refl) (fields_schema fields) k
+      at-each named_type array_type (λ column. column.data_type) (λ column. refl) (fields_schema fields) k
       (named_type (named field)) (get-schema fields k field at-k) batches schema
 
 -- one more column is concatenated
 pub concat-more : (batches : List Batch) (fields made : List Field) (k : ℕ) (field new : Field)
     → AreConcats batches (take k fields) made → slice_get fields k ≡ Some field
     → string_bytes new.name ≡ string_bytes field.name
-    → All (λ array. type_of array ≡ type_of field.array) (arrays_at batches k)
+    → All (λ array. array_type array ≡ array_type field.array) (arrays_at batches k)
     → IsConcatArray (arrays_at batches k) new.array
     → AreConcats batches (take (k + 1) fields) (made ++ new ∷ [])
 concat-more batches fields made k field new are at names types joined = record {
@@ -219,7 +219,7 @@ concat-more batches fields made k field new are at names types joined = record {
   where
     same_type : named_type (named new) ≡ named_type (named field)
     same_type =
-        let same_data_type = type-concat (arrays_at batches k) new.array (type_of field.array) joined types in
+        let same_data_type = type-concat (arrays_at batches k) new.array (array_type field.array) joined types in
         λ i. record { name = names i; data_type = same_data_type i }
 
     within : k < length fields

@@ -19,7 +19,7 @@ use Rattle.example_record_batch.specs.declared.any.AnyArray.TheVariants.{Int64, 
 use Rattle.example_record_batch.specs.AnyArrays.{Cell, any_cut, any_filtered, bytes, cell_at, cells_of, number}
 use Rattle.example_record_batch.specs.AnyArrays.{slot_count, text, truth}
 use Rattle.example_record_batch.specs.Batches.{Batch, IsBatch, Named, asked_count, batch_cut, batch_filtered}
-use Rattle.example_record_batch.specs.Batches.{named_cut, named_filtered, row_at, rows_of}
+use Rattle.example_record_batch.specs.Batches.{named_cut, named_filtered, row_at, batch_rows}
 use Rattle.example_record_batch.specs.Schemas.{named_type, schema_of}
 use Rattle.example_record_batch.specs.Concatenation.{IsConcat, IsConcatArray, arrays_at}
 use Rattle.example_record_batch.proofs.IndexLemmas.{all-at, cut-values, get-drop, get-map-some, get-take, get-where}
@@ -96,7 +96,7 @@ row-cut batch a n i h = cells batch.columns
     cells (column ∷ columns) = λ j. cell column.array j ∷ cells columns j
 
 pub rows-cut : (batch : Batch) (a n : ℕ) → a + n ≤ batch.rows
-    → rows_of (batch_cut batch a n) ≡ take n (drop a (rows_of batch))
+    → batch_rows (batch_cut batch a n) ≡ take n (drop a (batch_rows batch))
 rows-cut batch a n h =
     range-values (row_at (batch_cut batch a n)) (row_at batch) 0 a n
     (λ i low. row-cut batch a n (0 + i) (omega arith) ∙ ap (row_at batch) (omega arith))
@@ -105,7 +105,7 @@ rows-cut batch a n h =
 
 -- the rows of a filtered batch
 pub rows-filtered : (batch : Batch) (filter : Column Bool) → IsBatch batch → length filter.rows ≡ batch.rows
-    → rows_of (batch_filtered batch filter) ≡ where_set (asked filter) (rows_of batch)
+    → batch_rows (batch_filtered batch filter) ≡ where_set (asked filter) (batch_rows batch)
 rows-filtered batch filter each same =
     ap (λ n. map (row_at (batch_filtered batch filter)) (range_with_len 0 n)) (sym count)
     ∙ same-values (row_at (batch_filtered batch filter)) (row_at batch) indexes 0 row-filtered
@@ -172,7 +172,7 @@ cells-at (batch ∷ batches) k =
 
 -- the rows of a concatenation
 pub rows-concat : (batches : List Batch) (made : Batch) → All IsBatch batches → IsConcat batches made
-    → rows_of made ≡ flat_map rows_of batches
+    → batch_rows made ≡ flat_map batch_rows batches
 rows-concat batches made each h =
     (λ j. map (λ i. sym (row-cells made.columns i) j) (range_with_len 0 made.rows))
     ∙ ap (λ n. map (row (cells_by_column made)) (range_with_len 0 n)) h.rows

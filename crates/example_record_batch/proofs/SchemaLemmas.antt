@@ -9,9 +9,9 @@ use Rattle.std.proofs.Output.{has_written_append}
 use Rattle.std.proofs.lemmas.List.{take_more}
 use Rattle.std.proofs.lemmas.Option.{IfSome_then}
 use Rattle.dethrugn.specs.Types.{LogicalType}
-use Rattle.example_record_batch.specs.AnyArrays.{type_of}
+use Rattle.example_record_batch.specs.AnyArrays.{array_type}
 use Rattle.example_record_batch.specs.Batches.{named}
-use Rattle.example_record_batch.specs.Schemas.{NamedType, fields_schema, line_text, named_type, schema_text}
+use Rattle.example_record_batch.specs.Schemas.{NamedType, fields_schema, column_line, named_type, schema_text}
 use Rattle.example_record_batch.specs.declared.batch.Field.{Field}
 use Rattle.example_record_batch.proofs.ConcatLemmas.{schema-more}
 
@@ -27,11 +27,11 @@ text-none (Some a) = ap Some (append-nil a)
 
 -- the text of a schema with one more column
 text-more : (columns : List NamedType) (column : NamedType)
-    → schema_text (columns ++ column ∷ []) ≡ schema_text columns ++? line_text column
-text-more [] column = text-none (line_text column)
+    → schema_text (columns ++ column ∷ []) ≡ schema_text columns ++? column_line column
+text-more [] column = text-none (column_line column)
 text-more (first ∷ columns) column =
-    ap (λ text. line_text first ++? text) (text-more columns column)
-    ∙ sym (texts_assoc (line_text first) (schema_text columns) (line_text column))
+    ap (λ text. column_line first ++? text) (text-more columns column)
+    ∙ sym (texts_assoc (column_line first) (schema_text columns) (column_line column))
 
 module _ {W : Type 0} (took : W → List ℕ → W → Type 0) (f g h : Formatter W) where
   -- a formatter that has written two texts has written both
@@ -45,18 +45,18 @@ module _ {W : Type 0} (took : W → List ℕ → W → Type 0) (f g h : Formatte
 
   -- one more line is written
   pub shows-more : (fields : List Field) (i : ℕ) (field : Field) (t : LogicalType) → i < length fields
-      → field ≡ get_or fields i field → t ≡ type_of field.array
+      → field ≡ get_or fields i field → t ≡ array_type field.array
       → IfSome (schema_text (fields_schema (take i fields))) (λ text. IsPlainFormatter f → HasWritten took f text g)
-      → DisplaysOnOk took g (Ok tt) (line_text (record { name = string_bytes field.name; data_type = t })) h
+      → DisplaysOnOk took g (Ok tt) (column_line (record { name = string_bytes field.name; data_type = t })) h
       → IfSome (schema_text (fields_schema (take (i + 1) fields)))
       (λ text. IsPlainFormatter f → HasWritten took f text h)
   shows-more fields i field t low is type first second =
       let more = take_more fields i field low ∙ ap (λ x. take i fields ++ x ∷ []) (sym is) in
-      let line = line_text (record { name = string_bytes field.name; data_type = t }) in
+      let line = column_line (record { name = string_bytes field.name; data_type = t }) in
       let whole : schema_text (fields_schema (take i fields)) ++? line ≡ schema_text (fields_schema
       (take (i + 1) fields)) =
       ap (λ t. schema_text (fields_schema (take i fields))
-      ++? line_text (record { name = string_bytes field.name; data_type = t })) type
+      ++? column_line (record { name = string_bytes field.name; data_type = t })) type
       ∙ sym (ap (λ xs. schema_text (fields_schema xs)) more ∙ ap schema_text (schema-more (take i fields) field)
       ∙ text-more (fields_schema (take i fields)) (named_type (named field))) in
       subst (λ o. IfSome o (λ text. IsPlainFormatter f → HasWritten took f text h)) whole

@@ -47,18 +47,18 @@ abbrev pub nulls_of : AnyArray → ℕ
 nulls_of array = count_by not (validity_of array)
 
 -- the data type
-abbrev pub type_of : AnyArray → LogicalType
-type_of (Int64 column) = column.data_type
-type_of (Boolean column) = column.data_type
-type_of (Binary column) = column.data_type
-type_of (Utf8 column) = column.data_type
+abbrev pub array_type : AnyArray → LogicalType
+array_type (Int64 column) = column.data_type
+array_type (Boolean column) = column.data_type
+array_type (Binary column) = column.data_type
+array_type (Utf8 column) = column.data_type
 
 -- the kind: how the values lie in memory
-abbrev pub kind_of : AnyArray → PhysicalType
-kind_of (Int64 column) = physical.Primitive primitive.Int64
-kind_of (Boolean column) = physical.Boolean
-kind_of (Binary column) = physical.Binary
-kind_of (Utf8 column) = physical.Utf8
+abbrev pub array_kind : AnyArray → PhysicalType
+array_kind (Int64 column) = physical.Primitive primitive.Int64
+array_kind (Boolean column) = physical.Boolean
+array_kind (Binary column) = physical.Binary
+array_kind (Utf8 column) = physical.Utf8
 
 -- the n slots that begin at index a
 abbrev pub any_cut : AnyArray → ℕ → ℕ → AnyArray

@@ -4,7 +4,7 @@ use Rattle.std.specs.List.{range_with_len}
 use Rattle.std.specs.Str.{bytes_eq}
 use Rattle.dethrugn.specs.Column.{Column}
 use Rattle.dethrugn.specs.Types.{Refusal, out_of_spec}
-use Rattle.dethrugn.specs.Selection.{asked}
+use Rattle.dethrugn.specs.Selection.{asked, where_set}
 use Rattle.example_record_batch.specs.declared.any.AnyArray.{AnyArray}
 use Rattle.example_record_batch.specs.declared.batch.Field.{Field}
 use Rattle.example_record_batch.specs.AnyArrays.{Cell, any_cut, any_filtered, cell_at, slot_count}
@@ -39,8 +39,8 @@ abbrev pub row_at : Batch → ℕ → List (Option Cell)
 row_at batch i = map (λ column. cell_at column.array i) batch.columns
 
 -- the rows in order
-abbrev pub rows_of : Batch → List (List (Option Cell))
-rows_of batch = map (row_at batch) (range_with_len 0 batch.rows)
+abbrev pub batch_rows : Batch → List (List (Option Cell))
+batch_rows batch = map (row_at batch) (range_with_len 0 batch.rows)
 
 -- the n slots of a column that begin at index a
 abbrev pub field_cut : ℕ → ℕ → Field → Field
@@ -76,3 +76,7 @@ column_of batch name = option_map (λ column. column.array) (find (λ column. by
 -- the refusal of columns of another length
 abbrev pub unequal_columns : Refusal
 unequal_columns = out_of_spec (codes "all columns of a batch must have the same length")
+
+-- a filter leaves the rows of a batch at which it is valid and true
+abbrev pub LeavesAsked : Batch → Column Bool → Type 0
+LeavesAsked batch filter = batch_rows (batch_filtered batch filter) ≡ where_set (asked filter) (batch_rows batch)

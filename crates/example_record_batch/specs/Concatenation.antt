@@ -2,7 +2,7 @@
 use Rattle.std.specs.Prelude.{⊤, ◌≡◌, ◌⊎◌, ℕ, ◌<◌, ◌≤◌, ◌^◌, List, [], ◌∷◌, All, codes, filter_map, flat_map}
 use Rattle.std.specs.Prelude.{length, map, Option, option_map, slice_get, Some, sum_by}
 use Rattle.std.specs.List.{concat}
-use Rattle.dethrugn.specs.Acceptance.{IsFirstFailure, Passes, Tests, accept, test}
+use Rattle.dethrugn.specs.Validation.{IsFirstFailure, Passes, Tests, accept, test}
 use Rattle.dethrugn.specs.Around.{nothing_around}
 use Rattle.dethrugn.specs.Column.{ColumnWith, stored_values}
 use Rattle.dethrugn.specs.PhysicalType.{PhysicalType}
@@ -11,13 +11,13 @@ use Rattle.dethrugn.specs.Types.{Refusal, out_of_memory, out_of_spec, overflow}
 use Rattle.example_record_batch.specs.declared.any.AnyArray.{AnyArray}
 use Rattle.example_record_batch.specs.declared.any.AnyArray.TheVariants.{Int64, Boolean, Binary, Utf8}
 use Rattle.example_record_batch.specs.declared.batch.Field.{Field}
-use Rattle.example_record_batch.specs.AnyArrays.{kind_of}
+use Rattle.example_record_batch.specs.AnyArrays.{array_kind}
 use Rattle.example_record_batch.specs.Batches.{Batch, Named, named}
 use Rattle.example_record_batch.specs.Schemas.{fields_schema, schema_of}
 
 -- the arrays are all of this kind
 abbrev pub HaveKind : List AnyArray → PhysicalType → Type 0
-HaveKind arrays kind = All (λ array. kind_of array ≡ kind) arrays
+HaveKind arrays kind = All (λ array. array_kind array ≡ kind) arrays
 
 -- the arrays are all of one kind
 abbrev pub HaveOneKind : List AnyArray → Type 0
@@ -94,7 +94,7 @@ ConcatFails batches out_of_memory = Passes (concat_tests batches)
 
 -- the kind of each column
 abbrev pub named_kind : Named → PhysicalType
-named_kind column = kind_of column.array
+named_kind column = array_kind column.array
 
 abbrev pub kinds_of : Batch → List PhysicalType
 kinds_of batch = map named_kind batch.columns

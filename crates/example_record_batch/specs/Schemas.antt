@@ -4,7 +4,7 @@ use Rattle.std.specs.Fmt.{◌++?◌}
 use Rattle.dethrugn.specs.Types.{LogicalType}
 use Rattle.dethrugn.specs.TypeText.{type_text}
 use Rattle.example_record_batch.specs.declared.batch.Field.{Field}
-use Rattle.example_record_batch.specs.AnyArrays.{type_of}
+use Rattle.example_record_batch.specs.AnyArrays.{array_type}
 use Rattle.example_record_batch.specs.Batches.{Batch, Named, named}
 
 -- the name of a column and its data type
@@ -13,7 +13,7 @@ pub record NamedType : Type 0 where
   pub data_type : LogicalType
 
 abbrev pub named_type : Named → NamedType
-named_type column = record { name = column.name; data_type = type_of column.array }
+named_type column = record { name = column.name; data_type = array_type column.array }
 
 -- the schema of a batch
 abbrev pub schema_of : Batch → List NamedType
@@ -24,10 +24,10 @@ abbrev pub fields_schema : List Field → List NamedType
 fields_schema fields = map named_type (map named fields)
 
 -- the text of a column's type: its name, a colon, and its data type
-abbrev pub line_text : NamedType → Option (List ℕ)
-line_text column = Some column.name ++? Some (codes ": ") ++? type_text column.data_type ++? Some (codes "\n")
+abbrev pub column_line : NamedType → Option (List ℕ)
+column_line column = Some column.name ++? Some (codes ": ") ++? type_text column.data_type ++? Some (codes "\n")
 
 -- the text of a schema: a line for each column
 abbrev pub schema_text : List NamedType → Option (List ℕ)
 schema_text [] = Some []
-schema_text (column ∷ columns) = line_text column ++? schema_text columns
+schema_text (column ∷ columns) = column_line column ++? schema_text columns

@@ -1,8 +1,8 @@
 //! An array of one of four kinds.
 ghost use Rattle.std.specs.Prelude.{◌≡◌, ◌<◌, length, not, slice_get, Some, IfOk};
 ghost use Rattle.dethrugn.specs.Failures.{OnlyOutOfMemory};
-ghost use Rattle.example_record_batch.specs.AnyArrays.{FitsAnyCut, any_cut, any_filtered, kind_of, nulls_of};
-ghost use Rattle.example_record_batch.specs.AnyArrays.{slot_count, type_of, validity_of};
+ghost use Rattle.example_record_batch.specs.AnyArrays.{FitsAnyCut, any_cut, any_filtered, array_kind, nulls_of};
+ghost use Rattle.example_record_batch.specs.AnyArrays.{slot_count, array_type, validity_of};
 ghost use Rattle.dethrugn.specs.Types.{IsRightType, logical_type};
 
 use dethrugn::array::{BinaryArray, BooleanArray, PrimitiveArray, Utf8Array};
@@ -16,7 +16,7 @@ use std::alloc::Global;
 pub enum AnyArray {
     /// Numbers.
     Int64(PrimitiveArray<i64>),
-    /// Truth values.
+    /// Booleans.
     Boolean(BooleanArray),
     /// Bytes.
     Binary(BinaryArray<i32>),
@@ -39,8 +39,8 @@ impl AnyArray {
 
     /// Returns the data type.
     pub fn data_type(&self) -> &datatypes::DataType
-        ensures value { logical_type result.now ≡ type_of self.now }
-        ensures right { IsRightType (kind_of self.now) (type_of self.now) }
+        ensures value { logical_type result.now ≡ array_type self.now }
+        ensures right { IsRightType (array_kind self.now) (array_type self.now) }
     {
         match self {
             AnyArray::Int64(array) => array.data_type(),

@@ -2,7 +2,7 @@
 ghost use Rattle.std.specs.Prelude.{◌≡◌, ◌≤◌, IfOk, flat_map, length, take};
 ghost use Rattle.dethrugn.specs.Failures.{OnlyOutOfMemory};
 ghost use Rattle.dethrugn.specs.Selection.{asked, where_set};
-ghost use Rattle.example_record_batch.specs.Batches.{rows_of};
+ghost use Rattle.example_record_batch.specs.Batches.{batch_rows};
 
 use crate::any::AnyArray;
 use crate::batch::{Field, RecordBatch};
@@ -39,7 +39,7 @@ fn people(
 /// Keeps the first `n` rows.
 fn keep_first(batch: &mut RecordBatch, n: usize)
     requires { n ≤ batch.old.rows }
-    ensures { rows_of batch.new ≡ take n (rows_of batch.old) }
+    ensures { batch_rows batch.new ≡ take n (batch_rows batch.old) }
 {
     rows_of_cut();
     batch.slice(0, n);
@@ -52,7 +52,7 @@ fn filter_rows(
     filter: &BooleanArray,
 ) -> Result<RecordBatch, Error>
     requires { length filter.now.rows ≡ batch.now.rows }
-    ensures { IfOk result (λ kept. rows_of kept ≡ where_set (asked filter.now) (rows_of batch.now)) }
+    ensures { IfOk result (λ kept. batch_rows kept ≡ where_set (asked filter.now) (batch_rows batch.now)) }
 {
     rows_of_filter();
     batch.filter(alloc, filter)
@@ -60,7 +60,7 @@ fn filter_rows(
 
 /// Returns the rows of the batches, one batch after the other.
 fn join_rows(alloc: Global, batches: &[RecordBatch]) -> Result<RecordBatch, Error>
-    ensures { IfOk result (λ made. rows_of made ≡ flat_map rows_of batches.now) }
+    ensures { IfOk result (λ made. batch_rows made ≡ flat_map batch_rows batches.now) }
 {
     rows_of_concat();
     RecordBatch::concat(alloc, batches)

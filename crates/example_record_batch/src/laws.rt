@@ -5,7 +5,7 @@ ghost use Rattle.dethrugn.specs.Column.{Column};
 ghost use Rattle.dethrugn.specs.Selection.{asked, where_set};
 ghost use Rattle.example_record_batch.specs.declared.any.AnyArray.{AnyArray};
 ghost use Rattle.example_record_batch.specs.AnyArrays.{any_cut, any_filtered, cells_of, slot_count};
-ghost use Rattle.example_record_batch.specs.Batches.{Batch, IsBatch, batch_cut, batch_filtered, row_at, rows_of};
+ghost use Rattle.example_record_batch.specs.Batches.{Batch, IsBatch, LeavesAsked, batch_cut, batch_rows, row_at};
 ghost use Rattle.example_record_batch.specs.Concatenation.{IsConcat, IsConcatArray};
 
 /// An array has a cell for each slot.
@@ -20,7 +20,7 @@ pub fn cells_of_cut()
 
 /// A filtered array has the cells where the filter is valid and true.
 pub fn cells_of_filter()
-    ensures { (array : AnyArray) (filter : Column Bool)
+    ensures { (array : AnyArray) (filter : _)
         → cells_of (any_filtered array filter) ≡ where_set (asked filter) (cells_of array) }
 {}
 
@@ -38,17 +38,17 @@ pub fn row_of_cut()
 /// A slice of a batch has its rows from index `a` to index `a + n`.
 pub fn rows_of_cut()
     ensures { (batch : Batch) (a n : ℕ) → a + n ≤ batch.rows
-        → rows_of (batch_cut batch a n) ≡ take n (drop a (rows_of batch)) }
+        → batch_rows (batch_cut batch a n) ≡ take n (drop a (batch_rows batch)) }
 {}
 
 /// A filtered batch has the rows where the filter is valid and true.
 pub fn rows_of_filter()
     ensures { (batch : Batch) (filter : Column Bool) → IsBatch batch → length filter.rows ≡ batch.rows
-        → rows_of (batch_filtered batch filter) ≡ where_set (asked filter) (rows_of batch) }
+        → LeavesAsked batch filter }
 {}
 
 /// A concatenation of batches has the rows of each batch, one batch after the other.
 pub fn rows_of_concat()
-    ensures { (batches : List Batch) (made : Batch) → All IsBatch batches → IsConcat batches made
-        → rows_of made ≡ flat_map rows_of batches }
+    ensures { (batches : _) (made : _) → All IsBatch batches → IsConcat batches made
+        → batch_rows made ≡ flat_map batch_rows batches }
 {}

@@ -31,7 +31,7 @@ fn clone_int64(alloc: Global, arrays: &[AnyArray]) -> Result<Vec<PrimitiveArray<
     Ok(columns)
 }
 
-/// Returns clones of arrays of truth values.
+/// Returns clones of arrays of booleans.
 fn clone_boolean(alloc: Global, arrays: &[AnyArray]) -> Result<Vec<BooleanArray>, Error>
     requires { HaveKind arrays.now physical.Boolean }
     ensures ok { IfOk result (λ columns. map Boolean columns.items ≡ arrays.now) }

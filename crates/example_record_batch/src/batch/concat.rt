@@ -1,9 +1,9 @@
 //! Concatenation of batches of one schema.
 ghost use Rattle.std.specs.Prelude.{◌≡◌, ◌<◌, ◌↔◌, All, IfErr, IfOk, IsTrue, OnOk, length, map, sum_by};
-ghost use Rattle.dethrugn.specs.Acceptance.{Passes};
+ghost use Rattle.dethrugn.specs.Validation.{Passes};
 ghost use Rattle.dethrugn.specs.Failures.{OnlyOutOfMemory};
 ghost use Rattle.dethrugn.specs.Types.{refusal};
-ghost use Rattle.example_record_batch.specs.AnyArrays.{kind_of};
+ghost use Rattle.example_record_batch.specs.AnyArrays.{array_kind};
 ghost use Rattle.example_record_batch.specs.Batches.{IsBatch, named};
 ghost use Rattle.example_record_batch.specs.Schemas.{fields_schema, named_type, schema_of};
 ghost use Rattle.example_record_batch.specs.Concatenation.{AreConcats, ColumnsFail, ConcatFails, IsConcat};
@@ -18,7 +18,7 @@ use std::alloc::Global;
 /// Returns whether two columns have the same name and data type.
 fn is_same_type(field: &Field, other: &Field) -> bool
     ensures same { IsTrue result ↔ (named_type (named field.now) ≡ named_type (named other.now)) }
-    ensures kind { IsTrue result → kind_of field.now.array ≡ kind_of other.now.array }
+    ensures kind { IsTrue result → array_kind field.now.array ≡ array_kind other.now.array }
 {
     field.name == other.name && field.array.data_type() == other.array.data_type()
 }

@@ -2,7 +2,7 @@ use Rattle.std.proofs.Common.{◌≡◌, ◌∙◌, Bool, List, Some, false, len
 use Rattle.std.specs.Prelude.{count_by, is_some, not}
 use Rattle.std.specs.List.{list_all}
 use Rattle.dethrugn.specs.Column.{marks_of, slots_of}
-use Rattle.example_csv.specs.Fields.{number_of, slot_as, truth_of}
+use Rattle.example_csv.specs.Fields.{parsed_number, slot_as, truth_of}
 use Rattle.example_csv.proofs.ConvertLemmas.{null-array, number-array, text-array, truth-array}
 use Rattle.example_csv.proofs.builder.convert.Goals as goal
 

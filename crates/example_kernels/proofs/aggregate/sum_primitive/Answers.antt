@@ -4,7 +4,7 @@ use Rattle.std.specs.Int.Signed.{nat_abs-le}
 use Rattle.std.proofs.lemmas.Int.{ints, to_z-of_z}
 use Rattle.std.proofs.lemmas.List.{nil_from_length}
 use Rattle.dethrugn.specs.Column.{slots_of}
-use Rattle.example_kernels.specs.Aggregates.{sum_of, total, valid_values}
+use Rattle.example_kernels.specs.Aggregates.{sum_of, sum_all, valid_values}
 use Rattle.example_kernels.proofs.AggregateLemmas.{all_slots, count_valid, size_of_sum, sum_of_some, total_more, valid}
 use Rattle.example_kernels.proofs.aggregate.sum_primitive.Goals as goal
 
@@ -34,6 +34,6 @@ returns-in-Ok-clause-ok c =
     let sum = to_z w128 c.loop-i.total-bits in
     let values = valid_values c.args.array.now in
     ap Some (ap (λ z. to_z w64 (of_z w64 z)) c.in-Ok.ensures.1 ∙ to_z-of_z w64 sum c.in-Ok.ensures.0
-    ∙ c.loop-i.invariant.sum ∙ ap (λ slots. total (valid slots)) (all_slots c.args.array.now c.len-i-end.result c.loop-i.i
+    ∙ c.loop-i.invariant.sum ∙ ap (λ slots. sum_all (valid slots)) (all_slots c.args.array.now c.len-i-end.result c.loop-i.i
     c.len-i-end.ensures c.loop-i-test.false))
     ∙ sum_of_some values (omega (arith, count_valid c.args.array.now))

@@ -1,6 +1,6 @@
 use Rattle.std.proofs.Common.{subst, sym, ◌∙◌}
 use Rattle.example_record_batch.specs.declared.batch.Field.{Field}
-use Rattle.example_record_batch.specs.AnyArrays.{kind_of}
+use Rattle.example_record_batch.specs.AnyArrays.{array_kind}
 use Rattle.example_record_batch.specs.Concatenation.{HaveKind, IsConcatArray}
 use Rattle.example_record_batch.proofs.ConcatLemmas.{at-k, concat-more, kind-at, some-at, type-at}
 use Rattle.example_record_batch.proofs.batch.concat.concat_fields.Goals as goal
@@ -12,8 +12,8 @@ concat-requires-clause-some c =
 
 pub concat-requires-clause-kind : goal.concat-requires-clause-kind
 concat-requires-clause-kind c = (
-  kind_of c.index-fields-k.result.array,
-  subst (λ arrays. HaveKind arrays (kind_of c.index-fields-k.result.array))
+  array_kind c.index-fields-k.result.array,
+  subst (λ arrays. HaveKind arrays (array_kind c.index-fields-k.result.array))
       (sym (c.as_slice.ensures.value ∙ c.in_ok-arrays.ensures.ok)) (kind-at c.args.batches.now c.args.fields.now
       c.loop-k.k c.index-fields-k.result c.loop-k-test.true c.index-fields-k.is c.requires.kinds),
 )
