@@ -32,7 +32,7 @@ fn the_first_offset_that_falls_is_found(rt: HostRuntime) {
     }
 }
 
-/// A name, offsets, bytes, and the first slot that is no text.
+/// A name, offsets, bytes, and the first slot that is not UTF-8.
 const UNFIT: &[(&str, &[usize], &[u8], Option<usize>)] = &[
     ("no slot", &[2], b"a\xff", None),
     ("texts", &[0, 1, 3, 3], b"a\xc3\xa9", None),

@@ -225,16 +225,3 @@ finish-built c v w slots row array (Err e) result all until ok stopped err done-
     (subst (λ (e : Error). row (refused (refusal e)) None) (sym until.1)
     (refused-so until.0
     (subst (λ (e : Error). Extends c v slots (refused (refusal e)) (Some w)) until.1 until.2)))
-
--- what slots were appended to is a builder
-pub builder-is : {T : Type 0} (c : Types T) (group : Group) (sort : ValueKind) (v w : Value T)
-    (slots : List (Option (Stored T))) → v.shape ≡ shaped (builder_group group) sort → Extends c v slots done (Some w)
-    → is_builder w.shape ≡ true
-builder-is c group sort v w slots is h =
-    ap (λ (w : Value _). is_builder w.shape) (some-same w (grown c v (take (fitting c v slots) slots)) h.1)
-    ∙ ap is_builder is ∙ of-group group
-  where
-    of-group : (group : Group) → is_builder (shaped (builder_group group) sort) ≡ true
-    of-group frozen = refl
-    of-group with_nulls = refl
-    of-group values_alone = refl

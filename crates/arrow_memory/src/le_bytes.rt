@@ -25,8 +25,8 @@ impl<T: FromLeBytes> Buffer<T> {
     /// significant byte first (Arrow columnar format, "Byte Order").
     ///
     /// # Errors
-    /// - `OutOfSpec` if the number of bytes is no multiple of the size of a value; this is checked
-    ///   first.
+    /// - `OutOfSpec` if the number of bytes is not a multiple of the size of a value; this is
+    ///   checked first.
     /// - `OutOfMemory` if an allocation fails.
     pub fn from_le_bytes(alloc: Global, bytes: &[u8]) -> Result<Self, Error>
         ensures whole { IfOk result (λ _. length bytes.now % T.SIZE ≡ 0) }

@@ -38,6 +38,7 @@ pub use Rattle.arrow_column.specs.Masks
 pub use Rattle.arrow_column.specs.Growth
 pub use Rattle.arrow_column.specs.Appends
 pub use Rattle.arrow_column.specs.SlotEquality
+pub use Rattle.arrow_column.specs.ArrayEquality
 -- tests of raw parts in order
 pub use Rattle.arrow_column.specs.Validation
 pub use Rattle.arrow_primitive.specs.Fits as PrimitiveFits

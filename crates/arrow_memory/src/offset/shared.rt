@@ -65,13 +65,13 @@ impl<O: Offset> OffsetsBuffer<O> {
         }
     }
 
-    /// Creates offsets from a buffer of a file, which may have no offset if there is no slot (Arrow columnar format,
+    /// Creates offsets from a buffer of a file, which may be empty if there are no slots (Arrow columnar format,
     /// "Variable-size Binary Layout"). Such a buffer is read as one offset, 0; any other is not copied.
     ///
     /// # Errors
     /// - `OutOfSpec` with the first rule that is broken: the first offset is not negative, and none is below the one
     ///   before it.
-    /// - `OutOfMemory` if there is no offset and an allocation fails.
+    /// - `OutOfMemory` if the buffer is empty and an allocation fails.
     pub fn try_from_file_buffer(alloc: Global, offsets: Buffer<O>) -> Result<Self, Error>
         ensures ok { IfOk result (λ made. map pos made ≡ file_offsets (map O.number offsets)) }
         ensures err { IfErr result (IsFileFault O.number offsets) }

@@ -42,8 +42,8 @@ fn check_few<O: Offset + From<i32>>(rt: &(impl Abort + AllocGlobal)) {
     drop(table);
 }
 
-/// Compares the costs of a hundred texts of two bytes, which are tested at once and again when they come again, and of
-/// what is no text, or no new one, which is never tested.
+/// Compares the costs of a hundred texts of two bytes, which are tested together, each time that they are given, and of
+/// bytes and of parts that are refused before, which are never tested.
 fn check_hundred<O: Offset + From<i32>>(rt: &(impl Abort + AllocGlobal)) {
     let mut table = Table::<i64, O>::new(rt.alloc(), 4).expect(rt, "memory");
     for (e, wanted) in [(0, [1, 1, 99]), (1, [2, 2, 198])] {
