@@ -23,7 +23,7 @@ fn mask(alloc: Global, valid: &[u8]) -> Option<Option<Bitmap>> {
 }
 
 /// Creates an array of booleans and their marks, each given as one byte.
-fn truths_array(alloc: Global, bits: &[u8], valid: &[u8]) -> Option<BooleanArray> {
+pub(crate) fn truths_array(alloc: Global, bits: &[u8], valid: &[u8]) -> Option<BooleanArray> {
     let values = mask(alloc, bits)??;
     BooleanArray::try_new(DataType::Boolean, values, mask(alloc, valid)?).ok()
 }

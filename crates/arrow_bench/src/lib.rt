@@ -5,6 +5,7 @@
 mod bits;
 mod boolean;
 mod bytes;
+mod compute;
 mod kernels;
 mod primitive;
 mod ranges;

@@ -1,12 +1,15 @@
 -- Lemmas about marks that agree, a word at a time.
-use Rattle.std.proofs.Common.{◌≡◌, ℕ, zero, suc, ◌+◌, ◌-◌, ◌^◌, ◌<◌, ◌≤◌, ◌↔◌, ◌==◌, Bool, true, List}
-use Rattle.std.proofs.Common.{slice_get, Some, Option, unwrap_or, refl, sym, ap, subst, ◌∙◌, inl, inr, bit_and, nat_eq}
+use Rattle.std.proofs.Common.{◌≡◌, ℕ, zero, suc, ◌+◌, ◌-◌, ◌*◌, ◌/◌, ◌%◌, ◌^◌, ◌<◌, ◌≤◌, ◌↔◌, ◌==◌, Bool, true, List}
+use Rattle.std.proofs.Common.{ap₂, drop, get_or, length, take, slice_get, Some, Option, unwrap_or, refl, sym, ap, subst, ◌∙◌, inl, inr, bit_and, nat_eq}
 use Rattle.std.proofs.Common.{arith, true≢false}
 use Rattle.std.specs.Int.{bit_at}
 use Rattle.std.proofs.lemmas.Bool.{cases_lt, eqb-true, eq-eqb}
 use Rattle.std.proofs.lemmas.Nat.Bits.{bit_at-lt, bit_at_above, bit_at_ones, same_from_bits}
+use Rattle.std.proofs.lemmas.List.{get_or-drop, get_or-take}
+use Rattle.arrow_bitmap.specs.Marks.{mark_at, marks}
 use Rattle.arrow_bitmap.specs.Masks.{IsValidAt}
-use Rattle.arrow_bitmap.proofs.AgreeLemmas.{bit-cases, kept-bit, lost-bit}
+use Rattle.arrow_bitmap.proofs.AgreeLemmas.{agree-all, bit-cases, kept-bit, lost-bit}
+use Rattle.arrow_bitmap.proofs.MarkLemmas.{length-marks, slice_get-marks}
 
 -- two words that have the same bits where a third has set bits
 pub same-word : (a b k : ℕ) → k < 2 ^ 64 → (nat_eq (bit_and a k) (bit_and b k) ≡ true) ↔ ((i : ℕ) → i < 64
@@ -76,3 +79,42 @@ module _ {X : Type 0} (first second : List X) (mask : Option (List Bool)) where
         let here : place + (i - place) ≡ i = omega (arith, late, le) in
         subst Same here (more (i - place) (omega (arith, low, late, le)))
   ]
+
+-- marks that begin with a byte, of which whole bytes and the last 64 are the same
+module _ (left right : List ℕ) (p q len : ℕ) (first-byte : p % 8 ≡ 0) (other-byte : q % 8 ≡ 0)
+    (bytes : take (len / 8) (drop (p / 8) left) ≡ take (len / 8) (drop (q / 8) right)) where
+  byte-of : (xs : List ℕ) (a n k : ℕ) → k < n → get_or xs (a + k) 0 ≡ get_or (take n (drop a xs)) k 0
+  byte-of xs a n k low = sym (get_or-take n (drop a xs) k 0 low ∙ get_or-drop a xs k 0)
+
+  mark-same : (k : ℕ) → k < 8 * (len / 8) → mark_at left (p + k) ≡ mark_at right (q + k)
+  unfolding mark_at
+  mark-same k low =
+      let within : k / 8 < len / 8 = omega (arith, low) in
+      let byte : (p + k) / 8 ≡ p / 8 + k / 8 = omega (arith, first-byte) in
+      let other : (q + k) / 8 ≡ q / 8 + k / 8 = omega (arith, other-byte) in
+      let bit : (p + k) % 8 ≡ (q + k) % 8 = omega (arith, first-byte, other-byte) in
+      ap₂ (λ b i. bit_at b i == 1)
+      (ap (λ i. get_or left i 0) byte ∙ byte-of left (p / 8) (len / 8) (k / 8) within
+      ∙ ap (λ xs. get_or xs (k / 8) 0) bytes ∙ sym (byte-of right (q / 8) (len / 8) (k / 8) within)
+      ∙ ap (λ i. get_or right i 0) (sym other))
+      bit
+
+  pub bytes-same : (first second : List Bool) → marks left p len ≡ first → marks right q len ≡ second → 64 ≤ len
+      → ((k : ℕ) → k < 64 → slice_get first (len - 64 + k) ≡ slice_get second (len - 64 + k)) → first ≡ second
+  bytes-same first second is is-other long last =
+      agree-all first second
+      (ap length (sym is) ∙ length-marks left p len ∙ sym (length-marks right q len) ∙ ap length is-other) each
+    where
+      each : (k : ℕ) → k < length first → slice_get first k ≡ slice_get second k
+      each k low = elim (cases_lt k (len - 64)) [
+        | inl early ↦
+            let here : k < len = omega (arith, early) in
+            let whole : k < 8 * (len / 8) = omega (arith, early, long) in
+            ap (λ xs. slice_get xs k) (sym is) ∙ slice_get-marks left p len k here ∙ ap Some (mark-same k whole)
+            ∙ sym (ap (λ xs. slice_get xs k) (sym is-other) ∙ slice_get-marks right q len k here)
+        | inr late ↦
+            let counted : k < len = omega (arith, low, ap length is, length-marks left p len) in
+            let here : len - 64 + (k - (len - 64)) ≡ k = omega (arith, late) in
+            subst (λ i. slice_get first i ≡ slice_get second i) here
+            (last (k - (len - 64)) (omega (arith, counted, late, long)))
+      ]

@@ -92,6 +92,35 @@ impl Bitmap {
     }
 }
 
+/// Returns whether two slices have the same bytes.
+fn same_slices(first: &[u8], second: &[u8]) -> bool
+    ensures { IsTrue result → first.now ≡ second.now }
+{
+    first == second
+}
+
+/// Returns whether two bitmaps of equal length, both of which begin with a byte, have the same whole bytes and the same
+/// last 64 marks. Bytes are compared at once.
+fn have_same_bytes(first: &Bitmap, second: &Bitmap) -> bool
+    requires { length first.now ≡ length second.now }
+    ensures { IsTrue result → first.now ≡ second.now }
+{
+    let count = first.len();
+    let (left, place) = first.packed_bytes();
+    let (right, other) = second.packed_bytes();
+    if count < 64 || place % 8 != 0 || other % 8 != 0 {
+        return false;
+    }
+    let (start, other_start, whole) = (place / 8, other / 8, count / 8);
+    if !same_slices(
+        &left[start..start + whole],
+        &right[other_start..other_start + whole],
+    ) {
+        return false;
+    }
+    agree_in_word(first, second, &None, count - 64)
+}
+
 impl PartialEq for Bitmap {
     ghost use Rattle.std.specs.Cmp.{decided, partial_equiv_from_equiv};
     ghost use Rattle.arrow_bitmap.specs.MarkEquality.{same_marks, same_marks-Decides};
@@ -107,6 +136,10 @@ impl PartialEq for Bitmap {
     {
         if self.len() != other.len() {
             return false;
+        }
+        // Most bitmaps that are compared are the same.
+        if have_same_bytes(self, other) {
+            return true;
         }
         self.agrees_where(other, &None)
     }

@@ -30,7 +30,7 @@ module _ {A S X : Type 0} (overflows : A → List S → X → Bool) (shown : X �
       (slots_fit overflows shown default old (map Some items) ≡ true)
       × (array ≡ without_needless_mask (append_slots default old (map (λ x. Some (shown x)) items)))
 
-  -- all before the last are appended, and that is refused: it can't be counted, or else memory is wanting
+  -- all before the last are appended, and that is refused: it can't be counted, or else an allocation fails
   abbrev pub StopsAtSlot : ColumnWith A S → List (Option X) → Option X → ColumnWith A S → Error → Type 0
   StopsAtSlot old begun last new e =
       (slots_fit overflows shown default old begun ≡ true)

@@ -75,6 +75,24 @@ impl<T: NativeType> EqualFrozenValues for Buffer<T> {
         *self == *other
     }
 
+    /// Compares the slices at once, since null slots mostly store the same value too. Otherwise values and marks are
+    /// read before either is tested, so that no branch depends on a mark alone.
+    fn are_same_where(&self, other: &Buffer<T>, mask: &Option<Bitmap>) -> bool {
+        if self.are_same(other) {
+            return true;
+        }
+        if !has_null(mask) {
+            return false;
+        }
+        for i in 0..self.len() {
+            let is_same = self.is_same_at(other, i);
+            if is_set_at(mask, i) & !is_same {
+                return false;
+            }
+        }
+        true
+    }
+
     ghost test_decides = { T.same };
 }
 

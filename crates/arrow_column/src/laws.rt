@@ -154,8 +154,11 @@ pub fn slots_by_rows<A, S>()
     ensures by_mark { (c : ColumnWith A S) → ShowsByMarks c }
 {}
 
-/// A loop over all slots: those up to slot `i` and this one, and, once `i` has reached the number of rows, all of them.
+/// A loop over all slots: none at first, those up to slot `i` and this one, and, once `i` has reached the number of
+/// rows, all of them.
 pub fn slots_in_order<A, S>()
+    ensures none { (c : ColumnWith A S) → first_slots c 0 ≡ [] }
+    ensures count { (c : ColumnWith A S) (i : ℕ) → i ≤ length c.rows → length (first_slots c i) ≡ i }
     ensures next { (c : ColumnWith A S) (i : ℕ) (x : Option S) → ShowsAt c i x
         → first_slots c (i + 1) ≡ first_slots c i ++ x ∷ [] }
     ensures all { (c : ColumnWith A S) (i : ℕ) → length c.rows ≤ i → first_slots c i ≡ slots_of c }

@@ -67,9 +67,9 @@ impl<T: NativeType, O: Offset> ChangesEntry<T, O> for Slice {
 
 /// Empties an entry.
 #[derive(Drop)]
-pub struct Empty;
+pub struct DropEntry;
 
-impl<T: NativeType, O: Offset> ChangesEntry<T, O> for Empty {
+impl<T: NativeType, O: Offset> ChangesEntry<T, O> for DropEntry {
     ghost use Rattle.arrow_model.specs.Request.{empty};
 
     ghost asks = { λ command. empty };

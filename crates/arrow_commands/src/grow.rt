@@ -32,7 +32,7 @@ impl<'a, T: NativeType, O: Offset> ChangesEntry<T, O> for Push<'a, T> {
         let Some(entry) = entry else {
             return Ok(Reply::NotMet);
         };
-        if !entry.takes(self.0) {
+        if !entry.can_push(self.0) {
             return Ok(Reply::NotMet);
         }
         entry.push_slot(self.0)?;
@@ -160,7 +160,7 @@ impl<'a, T: NativeType, O: Offset> ChangesEntry<T, O> for Extend<'a, T> {
         let Some(builder) = entry else {
             return Ok(Reply::NotMet);
         };
-        if !builder.has_nulls() {
+        if !builder.is_builder_with_nulls() {
             return Ok(Reply::NotMet);
         }
         if !slots_fit(builder.kind(), self.0) {

@@ -17,7 +17,7 @@ impl<T: NativeType, O: Offset> Entry<T, O> {
     /// Returns whether a slot can be pushed: the entry is a builder, the slot's item fits its kind, and the slot is
     /// null only if the builder has nulls.
     #[inline(always)]
-    pub fn takes(&self, slot: &Option<Item<T>>) -> bool
+    pub fn can_push(&self, slot: &Option<Item<T>>) -> bool
         ensures { result ≡ can_push (value_of self.now).shape (stored_slot slot.now) }
     {
         match slot {

@@ -39,9 +39,10 @@ pub fn taken_slots<A, S, K>()
     ensures slot { ForTakes A S K TakesEach }
 {}
 
-/// Keys that are indexes of a list take an item each, in the order of the keys; and keys that are each index once take all
-/// items of the list, in another order.
+/// Keys that are indexes of a list take an item each, in the order of the keys; keys that are each index once are
+/// indexes, and take all items of the list, in another order.
 pub fn keyed_items<X>()
+    ensures indexes { (xs : List X) (keys : List ℕ) → PermuteIndexes xs keys → AreIndexesOf xs keys }
     ensures each { (xs : List X) (d : X) (ks : List ℕ) → AreIndexesOf xs ks
         → at_indexes ks xs ≡ map (λ k. slice_index_or xs k d) ks }
     ensures permuted { (xs : List X) (d : X) (keys : List ℕ) → PermuteIndexes xs keys

@@ -1,5 +1,5 @@
--- Rows, and the words of which they are made: what a command may answer, and what the entry then is. If a command's
--- condition fails, the answer is `not_met` and nothing changes; otherwise the answer is another.
+-- Transitions, and the words of which they are made: what a command may answer, and what the entry then is. If a
+-- command's condition fails, the answer is `not_met` and nothing changes; otherwise the answer is another.
 use Rattle.std.specs.Prelude.{◌≡◌, ◌⊎◌, Bool, Option, Some, None, MatchOption, MatchBool, option_and_then}
 use Rattle.std.specs.Prelude.{if◌then◌else◌}
 use Rattle.arrow_model.specs.Kind.{Shape}

@@ -8,6 +8,8 @@ mod boolean;
 #[cfg(test)]
 mod bytes;
 #[cfg(test)]
+mod compute;
+#[cfg(test)]
 mod kernels;
 #[cfg(test)]
 mod memory;

@@ -115,6 +115,25 @@ fn marks_grow_or_are_left(rt: HostRuntime) -> Result<(), Fail> {
     end(is_refused)
 }
 
+/// Writes marks with a space before each.
+fn spaced_text(bitmap: &MutableBitmap) -> Text {
+    let mut written = Text::new();
+    for mark in bitmap.iter() {
+        written = written.and(if mark { " 1" } else { " 0" }, 2);
+    }
+    written
+}
+
+#[test]
+fn a_refused_extension_by_an_iterator_leaves_a_beginning(rt: HostRuntime) -> Result<(), Fail> {
+    let alloc = rt.alloc();
+    end(
+        changes! { &rt, marks: MutableBitmap::from_slice(alloc, &[true]), spaced_text, " 1";
+            marks.extend([true; 10].iter().copied()) => " 1 1 1 1 1 1 1 1 1 1 1", Extension;
+        },
+    )
+}
+
 #[test]
 fn more_marks_than_memory_holds_are_refused(rt: HostRuntime) -> Result<(), Fail> {
     let Ok(mut marks) = MutableBitmap::from_slice(rt.alloc(), [true].as_slice()) else {
@@ -193,9 +212,11 @@ fn bitmaps_are_created(rt: HostRuntime) -> Result<(), Fail> {
     end(results! { &rt;
         growing_text: MutableBitmap::with_capacity(alloc, 100) => ", 0 clear";
         growing_text: MutableBitmap::from_slice(alloc, THREE) => "100, 2 clear";
+        growing_text: MutableBitmap::from_iter(alloc, THREE.iter().copied()) => "100, 2 clear";
         bitmap_text: Bitmap::new(alloc) => ", 0 clear";
         bitmap_text: packed(alloc, 0b11111001) => "100, 2 clear";
         bitmap_text: Bitmap::from_slice(alloc, THREE) => "100, 2 clear";
+        bitmap_text: Bitmap::from_iter(alloc, THREE.iter().copied()) => "100, 2 clear";
         bitmap_text: Bitmap::new_zeroed(alloc, 3) => "000, 3 clear";
         bitmap_text: frozen(alloc) => "100, 2 clear";
         bitmap_text: frozen_counted(alloc) => "100, 2 clear";
@@ -229,6 +250,9 @@ fn bitmaps_are_created_from_others(rt: HostRuntime) -> Result<(), Fail> {
     end(is_refused)
 }
 
+/// The bytes of two values, the least significant first.
+const PAIR_BYTES: &[u8] = &[7, 0, 0, 0, 0, 0, 0, 0, 8, 0, 0, 0, 0, 0, 0, 0];
+
 /// Creates a buffer of two values.
 fn pair(alloc: Global) -> Result<Buffer<i64>, Error> {
     Buffer::from_vec([7, 8].to_vec(alloc)?)
@@ -243,6 +267,7 @@ fn buffers_are_created(rt: HostRuntime) -> Result<(), Fail> {
     let is_refused = results! { &rt;
         buffer_text: Buffer::new(alloc) => "[]";
         buffer_text: pair(alloc) => "[7, 8]";
+        buffer_text: Buffer::from_le_bytes(alloc, PAIR_BYTES) => "[7, 8]";
         buffer_text: buffer.clone() => "[7, 8]";
     };
     drop(buffer);

@@ -1,5 +1,6 @@
 //! Offsets.
 use crate::refusal::{changes, check_refusal, end, results};
+use arrow_memory::buffer::Buffer;
 use arrow_memory::offset::{Offsets, OffsetsBuffer};
 use arrow_testing::{Text, assert_text};
 use arrow_types::error::Error;
@@ -98,6 +99,16 @@ fn frozen(alloc: Global) -> Result<OffsetsBuffer<i32>, Error> {
     offsets_of(alloc, &[0, 2])?.freeze()
 }
 
+/// Creates offsets of the buffer of a file without slots.
+fn of_empty_file(alloc: Global) -> Result<OffsetsBuffer<i32>, Error> {
+    OffsetsBuffer::try_from_file_buffer(alloc, Buffer::new(alloc)?)
+}
+
+/// Creates offsets of a buffer.
+fn of_buffer(alloc: Global) -> Result<OffsetsBuffer<i32>, Error> {
+    OffsetsBuffer::try_from_buffer(Buffer::from_vec([0, 2].to_vec(alloc)?)?)
+}
+
 /// Creates offsets of 64 bits and narrows them.
 fn narrowed(alloc: Global) -> Result<OffsetsBuffer<i32>, Error> {
     OffsetsBuffer::<i64>::new(alloc)?.narrow()
@@ -129,6 +140,8 @@ fn offsets_are_created(rt: HostRuntime) -> Result<(), Fail> {
         frozen_text: buffer.clone() => "[0, 2]";
         frozen_text: widened_and_narrowed(alloc) => "[0, 2]";
         frozen_text: narrowed(alloc) => "[0]";
+        frozen_text: of_empty_file(alloc) => "[0]";
+        frozen_text: of_buffer(alloc) => "[0, 2]";
     };
     drop(buffer);
     drop(offsets);

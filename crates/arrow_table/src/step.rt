@@ -11,7 +11,7 @@ use crate::equal::equal_at;
 use crate::extend_from_self::extend_at;
 use arrow_check::cost::TextCost;
 use arrow_commands::command::{read_at, run_at};
-use arrow_commands::convert::{Empty, Freeze, Nullable, Slice, Thaw, To};
+use arrow_commands::convert::{DropEntry, Freeze, Nullable, Slice, Thaw, To};
 use arrow_commands::grow::{
     Extend, ExtendConstant, ExtendValues, Pop, Push, PushNull, Reserve, Shrink,
 };
@@ -69,7 +69,7 @@ fn change<T: NativeType, O: Offset>(
         Command::Offsets(e) => read_at(alloc, entries, *e, Offsets),
         Command::Slice(e, offset, length) => run_at(alloc, entries, *e, Slice(*offset, *length)),
         Command::Clone(e, f) => put_at(alloc, entries, *f, Clone(*e)),
-        Command::Drop(e) => run_at(alloc, entries, *e, Empty),
+        Command::Drop(e) => run_at(alloc, entries, *e, DropEntry),
         Command::SetMask(e, mask) => run_at(alloc, entries, *e, SetMask(mask)),
         Command::ApplyMask(e, change) => run_at(alloc, entries, *e, ApplyMask(change)),
         Command::SetValues(e, items) => run_at(alloc, entries, *e, SetValues(items)),

@@ -114,6 +114,7 @@ pub fn keys()
     ensures u16 { (x : ℕ) → ⟦<u16 as IndexKey>⟧.number x ≡ pos x }
     ensures u32 { (x : ℕ) → ⟦<u32 as IndexKey>⟧.number x ≡ pos x }
     ensures u64 { (x : ℕ) → ⟦<u64 as IndexKey>⟧.number x ≡ pos x }
+    ensures usize { (x : ℕ) → ⟦<usize as IndexKey>⟧.number x ≡ pos x }
 {}
 
 /// The number of bytes of a value of each native type.

@@ -8,3 +8,5 @@ pub use Rattle.arrow_column.proofs.CallerLemmas as Column
 pub use Rattle.arrow_bytes.proofs.CallerLemmas as Bytes
 -- kernels
 pub use Rattle.arrow_kernels.proofs.CallerLemmas as Kernels
+-- arrays that kernels make of others slot by slot
+pub use Rattle.arrow_compute.proofs.CallerLemmas as Compute

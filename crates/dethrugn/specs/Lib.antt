@@ -66,3 +66,19 @@ pub use Rattle.arrow_bytes.specs.Appends as ByteAppends
 -- what filters, takes and concatenations choose
 pub use Rattle.arrow_bytes.specs.Selection
 pub use Rattle.arrow_bytes.specs.KeyedItems
+-- arrays that kernels make of others slot by slot: comparisons, logic, arithmetic
+pub use Rattle.arrow_compute.specs.Slots as MadeSlots
+pub use Rattle.arrow_compute.specs.Comparison
+pub use Rattle.arrow_compute.specs.Logic
+pub use Rattle.arrow_compute.specs.Kleene
+pub use Rattle.arrow_integers.specs.NativeArithmetics
+pub use Rattle.arrow_arithmetics.specs.Arithmetic
+pub use Rattle.arrow_arithmetics.specs.Cast
+pub use Rattle.arrow_select.specs.Selects
+pub use Rattle.arrow_select.specs.Lengths
+-- sums, least and greatest values; groups of equal slots; orders of slots, and what sorts them
+pub use Rattle.arrow_aggregate.specs.Aggregates
+pub use Rattle.arrow_group.specs.Grouping
+pub use Rattle.arrow_group.specs.Hashes
+pub use Rattle.arrow_sort.specs.Sort
+pub use Rattle.arrow_sort.specs.Columns as SortColumns

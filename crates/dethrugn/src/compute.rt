@@ -1,16 +1,33 @@
 //! Kernels.
+pub use arrow_aggregate::aggregate;
+pub use arrow_compute::{boolean, boolean_kleene, comparison};
+pub use arrow_select::{if_then_else, length, nullif};
 
-/// Offsets of the other width.
+/// Arithmetic of arrays of integers.
+pub mod arithmetics {
+    pub use arrow_arithmetics::basic;
+    pub use arrow_integers::NativeArithmetics;
+}
+
+/// Values of another type, and offsets of the other width.
 pub mod cast {
+    pub use arrow_arithmetics::cast::{
+        CastOptions, binary_to_utf8, boolean_to_primitive, primitive_as_primitive,
+        primitive_to_boolean, primitive_to_primitive,
+    };
+    pub use arrow_arithmetics::wrap_number::WrapNumber;
     pub use arrow_kernels::{
         narrow_binary, narrow_items, narrow_utf8, widen_binary, widen_items, widen_utf8,
     };
 }
 
-/// Concatenation of arrays.
+/// Concatenation of a slice of arrays, or of references to arrays.
 pub mod concatenate {
     pub use arrow_kernels::{
         concat_binary, concat_boolean, concat_items, concat_primitive, concat_utf8,
+    };
+    pub use arrow_select::concatenate::{
+        concatenate_boolean, concatenate_items, concatenate_primitive,
     };
 }
 
@@ -21,7 +38,44 @@ pub mod filter {
     };
 }
 
-/// Takes by keys.
+/// Groups of equal slots.
+pub mod group {
+    pub use arrow_group::{Groups, group_boolean, group_primitive};
+}
+
+/// Hashes of slots, which depend on the slot alone.
+pub mod hash {
+    pub use arrow_group::{hash_boolean, hash_primitive};
+}
+
+/// Sorts of one array and over several columns.
+pub mod sort {
+    pub use arrow_sort::lexsort::{SortColumn, SortValues, lexsort_to_indices};
+    pub use arrow_sort::sort::{sort, sort_to_indices};
+    pub use arrow_sort::{SortOptions, SortableArray};
+}
+
+/// Takes by a slice of keys; the modules have those by an array of keys, some of which may be null.
 pub mod take {
     pub use arrow_kernels::{take_binary, take_boolean, take_items, take_primitive, take_utf8};
+
+    /// Slots of numbers at the keys of an array.
+    pub mod primitive {
+        pub use arrow_select::take::take_primitive as take;
+    }
+
+    /// Slots of booleans at the keys of an array.
+    pub mod boolean {
+        pub use arrow_select::take::take_boolean as take;
+    }
+
+    /// Slots of bytes at the keys of an array.
+    pub mod binary {
+        pub use arrow_select::take::take_binary as take;
+    }
+
+    /// Slots of text at the keys of an array.
+    pub mod utf8 {
+        pub use arrow_select::take::take_utf8 as take;
+    }
 }

@@ -12,7 +12,7 @@ use Rattle.example_record_batch.specs.declared.any.AnyArray.{AnyArray}
 use Rattle.example_record_batch.specs.declared.any.AnyArray.TheVariants.{Binary, Boolean, Int64, Utf8}
 use Rattle.example_record_batch.specs.AnyArrays.{Cell, cells_of, nulls_of, number, slot_count, text}
 use Rattle.example_record_batch.specs.Batches.{Batch, Named}
-use Rattle.example_kernels.specs.Aggregates.{IsGreatest, IsLeast, valid_values}
+use Rattle.dethrugn.specs.Aggregates.{IsGreatest, IsLeast, valid_values}
 use Rattle.example_csv.specs.declared.error.Error.{Error}
 use Rattle.example_csv.specs.declared.error.Error.TheVariants.{Arrow, OutOfMemory}
 use Rattle.example_csv.specs.Text.{truth_text}

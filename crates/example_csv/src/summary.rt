@@ -11,11 +11,11 @@ use crate::error::Error;
 use crate::text::{number_text, truth_text};
 use dethrugn::array::{MutablePrimitiveArray, MutableUtf8Array};
 use dethrugn::buffer::Buffer;
-use dethrugn::laws::BytesAround;
-use dethrugn::laws::column::appended_slots;
-use example_kernels::aggregate::{
+use dethrugn::compute::aggregate::{
     max_boolean, max_primitive, max_string, min_boolean, min_primitive, min_string,
 };
+use dethrugn::laws::BytesAround;
+use dethrugn::laws::column::appended_slots;
 use example_record_batch::any::AnyArray;
 use example_record_batch::batch::{Field, RecordBatch};
 use std::alloc::{AllocError, Global};

@@ -2,10 +2,10 @@
 use crate::cells::{number_at, texts};
 use anyhow::anyhow;
 use dethrugn::array::{BooleanArray, MutablePrimitiveArray, PrimitiveArray, Utf8Array};
-use dethrugn::error::Error;
-use example_kernels::aggregate::{
+use dethrugn::compute::aggregate::{
     max_boolean, max_primitive, max_string, min_boolean, min_primitive, min_string, sum_primitive,
 };
+use dethrugn::error::Error;
 use example_record_batch::any::AnyArray;
 use example_record_batch::batch::RecordBatch;
 use std::alloc::Global;

@@ -3,22 +3,11 @@ use crate::cells::numbers;
 use crate::rows::print_rows;
 use anyhow::anyhow;
 use dethrugn::array::{BooleanArray, PrimitiveArray};
-use dethrugn::bitmap::{Bitmap, not};
-use dethrugn::error::Error;
-use dethrugn::types::NativeType;
-use example_kernels::boolean_kleene::and;
-use example_kernels::comparison::gt_eq_scalar;
+use dethrugn::compute::boolean::is_null;
+use dethrugn::compute::boolean_kleene::and;
+use dethrugn::compute::comparison::gt_eq_scalar;
 use example_record_batch::batch::RecordBatch;
 use std::alloc::Global;
-
-/// Returns which slots are null, without nulls itself.
-fn is_null<T: NativeType>(alloc: Global, array: &PrimitiveArray<T>) -> Result<BooleanArray, Error> {
-    let nulls = match array.validity() {
-        Some(mask) => not(alloc, mask)?,
-        None => Bitmap::new_zeroed(alloc, array.len())?,
-    };
-    Ok(BooleanArray::new(dethrugn::datatypes::DataType::Boolean, nulls, None))
-}
 
 /// Returns the rows where a filter is valid and true.
 fn filter_rows(

@@ -1,5 +1,5 @@
 //! Reads a table of the laureates in literature from standard input, and shows on it what the crates
-//! `example_record_batch`, `example_nested` and `example_kernels` offer. Each function can be copied by itself. What is
+//! `example_record_batch` and `example_nested`, and the library's kernels, offer. Each function can be copied by itself. What is
 //! printed is in `stdout`, beside `src`.
 #![tactic(auto)]
 

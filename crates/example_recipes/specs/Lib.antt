@@ -1,3 +1,4 @@
 pub mod Prices
 pub mod Rows
 pub mod Slots
+pub mod Within

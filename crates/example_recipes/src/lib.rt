@@ -8,3 +8,4 @@ pub mod rows;
 pub mod slots;
 #[cfg(test)]
 mod tests;
+pub mod within;

@@ -3,6 +3,7 @@ use crate::parts::receive;
 use crate::push::prices;
 use crate::rows::{join, keep_range, keep_where, pick};
 use crate::slots::without_nulls;
+use crate::within::within;
 use dethrugn::array::{BooleanArray, Utf8Array};
 use dethrugn::buffer::Buffer;
 use dethrugn::error::Error;
@@ -32,6 +33,17 @@ fn nulls_become_zeros(rt: HostRuntime) {
     let array = prices(rt.alloc(), &[5, -1, 0]).expect(&rt, "memory");
     let made = without_nulls(rt.alloc(), &array).expect(&rt, "memory");
     assert_eq!(&rt; (made.get(1), made.null_count()), (Some(0), 0));
+    drop(made);
+    drop(array);
+}
+
+#[test]
+fn values_lie_between_two_others(rt: HostRuntime) {
+    let array = prices(rt.alloc(), &[1, 5, -1, 9]).expect(&rt, "memory");
+    let made = within(rt.alloc(), &array, 2, 9).expect(&rt, "memory");
+    assert!(&rt; made.len() == 4);
+    let slots = (made.get(0), made.get(1), made.get(2), made.get(3));
+    assert_eq!(&rt; slots, (Some(false), Some(true), None, Some(false)));
     drop(made);
     drop(array);
 }

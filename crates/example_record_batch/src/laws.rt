@@ -10,45 +10,45 @@ ghost use Rattle.example_record_batch.specs.Concatenation.{IsConcat, IsConcatArr
 
 /// An array has a cell for each slot.
 pub fn cell_count()
-    ensures { (array : AnyArray) → length (cells_of array) ≡ slot_count array }
+    ensures { (x : AnyArray) → length (cells_of x) ≡ slot_count x }
 {}
 
 /// A slice of an array has its cells from index `a` to index `a + n`.
 pub fn cells_of_cut()
-    ensures { (array : AnyArray) (a n : ℕ) → cells_of (any_cut array a n) ≡ take n (drop a (cells_of array)) }
+    ensures { (x : AnyArray) (a n : ℕ) → cells_of (any_cut x a n) ≡ take n (drop a (cells_of x)) }
 {}
 
 /// A filtered array has the cells where the filter is valid and true.
 pub fn cells_of_filter()
-    ensures { (array : AnyArray) (filter : _)
-        → cells_of (any_filtered array filter) ≡ where_set (asked filter) (cells_of array) }
+    ensures { (x : AnyArray) (filter : _)
+        → cells_of (any_filtered x filter) ≡ where_set (asked filter) (cells_of x) }
 {}
 
 /// A concatenation of arrays has the cells of each array, one array after the other.
 pub fn cells_of_concat()
-    ensures { (arrays : List AnyArray) (made : AnyArray) → IsConcatArray arrays made
-        → cells_of made ≡ flat_map cells_of arrays }
+    ensures { (xs : List AnyArray) (made : AnyArray) → IsConcatArray xs made
+        → cells_of made ≡ flat_map cells_of xs }
 {}
 
 /// Row `i` of a slice that begins at row `a` is row `a + i` of the batch.
 pub fn row_of_cut()
-    ensures { (batch : Batch) (a n i : ℕ) → i < n → row_at (batch_cut batch a n) i ≡ row_at batch (a + i) }
+    ensures { (b : Batch) (a n i : ℕ) → i < n → row_at (batch_cut b a n) i ≡ row_at b (a + i) }
 {}
 
 /// A slice of a batch has its rows from index `a` to index `a + n`.
 pub fn rows_of_cut()
-    ensures { (batch : Batch) (a n : ℕ) → a + n ≤ batch.rows
-        → batch_rows (batch_cut batch a n) ≡ take n (drop a (batch_rows batch)) }
+    ensures { (b : Batch) (a n : ℕ) → a + n ≤ b.rows
+        → batch_rows (batch_cut b a n) ≡ take n (drop a (batch_rows b)) }
 {}
 
 /// A filtered batch has the rows where the filter is valid and true.
 pub fn rows_of_filter()
-    ensures { (batch : Batch) (filter : Column Bool) → IsBatch batch → length filter.rows ≡ batch.rows
-        → LeavesAsked batch filter }
+    ensures { (b : Batch) (filter : Column Bool) → IsBatch b → length filter.rows ≡ b.rows
+        → LeavesAsked b filter }
 {}
 
 /// A concatenation of batches has the rows of each batch, one batch after the other.
 pub fn rows_of_concat()
-    ensures { (batches : _) (made : _) → All IsBatch batches → IsConcat batches made
-        → batch_rows made ≡ flat_map batch_rows batches }
+    ensures { (bs : _) (made : _) → All IsBatch bs → IsConcat bs made
+        → batch_rows made ≡ flat_map batch_rows bs }
 {}

@@ -12,6 +12,7 @@
 //! (milliseconds; on a busy machine 2, with 300 rounds).
 use bench::data::{self, Text};
 use bench::ops;
+use bench::plain;
 use bench::timing::{keep_memory, rounds, slice};
 use std::time::Instant;
 
@@ -51,6 +52,12 @@ mod library {
         pub fn rattle_flat_filter_utf8(d: *const u8, nd: usize, o: *const i32, no: usize, m: *const u8, nm: usize, k: *const u8, nk: usize, rounds: usize) -> u64;
         pub fn rattle_flat_take_prim(v: *const i64, nv: usize, m: *const u8, nm: usize, k: *const i64, nk: usize, rounds: usize) -> u64;
         pub fn rattle_flat_take_utf8(d: *const u8, nd: usize, o: *const i32, no: usize, m: *const u8, nm: usize, k: *const i64, nk: usize, rounds: usize) -> u64;
+        pub fn rattle_flat_cmp_lt(v: *const i64, nv: usize, w: *const i64, nw: usize, m: *const u8, nm: usize, rounds: usize) -> u64;
+        pub fn rattle_flat_cmp_lt_scalar(v: *const i64, nv: usize, m: *const u8, nm: usize, rounds: usize) -> u64;
+        pub fn rattle_flat_agg_sum(v: *const i64, nv: usize, m: *const u8, nm: usize, rounds: usize) -> u64;
+        pub fn rattle_flat_agg_min(v: *const i64, nv: usize, m: *const u8, nm: usize, rounds: usize) -> u64;
+        pub fn rattle_flat_kleene_and(b: *const u8, nb: usize, c: *const u8, nc: usize, m: *const u8, nm: usize, rounds: usize) -> u64;
+        pub fn rattle_flat_sort_prim(v: *const i64, nv: usize, m: *const u8, nm: usize, rounds: usize) -> u64;
         pub fn rattle_flat_prim_push_null(count: usize, rounds: usize) -> u64;
         pub fn rattle_flat_prim_push_pop(v: *const i64, nv: usize, m: *const u8, nm: usize, rounds: usize) -> u64;
         pub fn rattle_flat_prim_push_freeze(v: *const i64, nv: usize, m: *const u8, nm: usize, rounds: usize) -> u64;
@@ -479,6 +486,31 @@ fn main() {
                 ops::take_utf8(bytes, offsets, m, keys, kernel),
                 |r| rattle_flat_take_utf8(d, nd, o, no, m.as_ptr(), m.len(), keys.as_ptr(), K, r));
         }
+    }
+
+    // column kernels over 65,536 rows; the original's side is plain loops over slices (src/plain.rs)
+    const C: usize = 65_536;
+    let small = leak(data::keys(C, 1_000_000, 21));
+    let (values, valid, bits, ones) = (&values[..C], &valid[..C], &bits[..C], leak(data::marks(C, 50, 22)));
+    for (word, m) in [("nonull", none), ("null10", valid)] {
+        side!(out, have_cmp_lt, format!("cmp_lt_{word}"), Unit::Item(C), true,
+            plain::cmp_lt(small, values, m),
+            |r| rattle_flat_cmp_lt(small.as_ptr(), C, values.as_ptr(), C, m.as_ptr(), m.len(), r));
+        side!(out, have_cmp_lt_scalar, format!("cmp_lt_scalar_{word}"), Unit::Item(C), true,
+            plain::cmp_lt_scalar(values, m),
+            |r| rattle_flat_cmp_lt_scalar(values.as_ptr(), C, m.as_ptr(), m.len(), r));
+        side!(out, have_agg_sum, format!("agg_sum_{word}"), Unit::Item(C), true,
+            plain::agg_sum(small, m),
+            |r| rattle_flat_agg_sum(small.as_ptr(), C, m.as_ptr(), m.len(), r));
+        side!(out, have_agg_min, format!("agg_min_{word}"), Unit::Item(C), true,
+            plain::agg_min(values, m),
+            |r| rattle_flat_agg_min(values.as_ptr(), C, m.as_ptr(), m.len(), r));
+        side!(out, have_kleene_and, format!("kleene_and_{word}"), Unit::Item(C), true,
+            plain::kleene(bits, ones, m),
+            |r| rattle_flat_kleene_and(bits.as_ptr(), C, ones.as_ptr(), C, m.as_ptr(), m.len(), r));
+        side!(out, have_sort_prim, format!("sort_prim_{word}"), Unit::Item(C), true,
+            plain::sort_prim(values, m),
+            |r| rattle_flat_sort_prim(values.as_ptr(), C, m.as_ptr(), m.len(), r));
     }
     if out.differs {
         std::process::exit(1);

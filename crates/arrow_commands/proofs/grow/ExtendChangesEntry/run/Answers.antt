@@ -14,7 +14,7 @@ returns-then-not-slots_fit g c =
     let xs = map stored_slot c.args.self.now.0.now in
     unfit (types g.T.NativeType.zero g.T.NativeType.PRIMITIVE g.O.Offset.most g.O.Offset.IS_LARGE)
     (option_map value_of c.args.entry.now) (value_of c.in-Some.builder) xs
-    (ap (option_map value_of) c.in-Some.is) (sym c.if-not-has_nulls.ensures)
+    (ap (option_map value_of) c.in-Some.is) (sym c.if-not-is_builder_with_nulls.ensures)
     (subst (λ (s : Shape). list_all (slot_fits s.value_kind) xs ≡ false) c.kind.ensures
     (sym c.if-not-slots_fit.ensures))
 
@@ -23,7 +23,7 @@ returns-in-Ok g c =
     let xs = map stored_slot c.args.self.now.0.now in
     extended (types g.T.NativeType.zero g.T.NativeType.PRIMITIVE g.O.Offset.most g.O.Offset.IS_LARGE)
     (option_map value_of c.args.entry.now) (value_of c.in-Some.builder) xs
-    (ap (option_map value_of) c.in-Some.is) (sym c.if-not-has_nulls.ensures)
+    (ap (option_map value_of) c.in-Some.is) (sym c.if-not-is_builder_with_nulls.ensures)
     (subst (λ (s : Shape). list_all (slot_fits s.value_kind) xs ≡ true) c.kind.ensures (sym c.if-not-slots_fit.ensures))
     done (Some (value_of c.push_slots.new.entry)) c.in-Ok.ensures.ok
 
@@ -32,6 +32,6 @@ returns-in-Err g c =
     let xs = map stored_slot c.args.self.now.0.now in
     extended (types g.T.NativeType.zero g.T.NativeType.PRIMITIVE g.O.Offset.most g.O.Offset.IS_LARGE)
     (option_map value_of c.args.entry.now) (value_of c.in-Some.builder) xs
-    (ap (option_map value_of) c.in-Some.is) (sym c.if-not-has_nulls.ensures)
+    (ap (option_map value_of) c.in-Some.is) (sym c.if-not-is_builder_with_nulls.ensures)
     (subst (λ (s : Shape). list_all (slot_fits s.value_kind) xs ≡ true) c.kind.ensures (sym c.if-not-slots_fit.ensures))
     (refused (refusal c.in-Err.refused)) (Some (value_of c.push_slots.new.entry)) c.in-Err.ensures.err.2

@@ -1,0 +1,169 @@
+-- Lemmas about states of groups, into which the values of slots are folded one after the other.
+use Rattle.std.proofs.Common.{◌≡◌, ◌≢◌, ℕ, zero, suc, ◌+◌, ◌<◌, ◌≤◌, ◌==◌, if◌then◌else◌, List, [], ◌∷◌, ◌++◌}
+use Rattle.std.proofs.Common.{length, map, take, set, slice_get, Option, Some, None, refl, sym, ap, ap₂, ◌∙◌, inl, inr}
+use Rattle.std.proofs.Common.{arith, eq-eqb, append-nil, subst}
+use Rattle.std.specs.Prelude.{IfOk, Result, Ok, Err, fold, option_map}
+use Rattle.std.specs.List.{filter_map, zip}
+use Rattle.std.proofs.lemmas.Bool.{cases_eq, ne_eqb}
+use Rattle.std.proofs.lemmas.List.{take_more}
+use Rattle.std.proofs.lemmas.List.Elements.{filter_map-append}
+use Rattle.std.proofs.lemmas.List.Sums.{fold_push}
+use Rattle.std.proofs.lemmas.Option.{get_or_from_slice_get, none-some, same_Some, slice_get-map, slice_get_within}
+use Rattle.std.proofs.Common.{◌^◌}
+use Rattle.std.specs.Cmp.{IsTotalOrder}
+use Rattle.std.specs.declared.cmp.Ordering.{Ordering}
+use Rattle.std.specs.List.{cons_option}
+use Rattle.std.proofs.Math.Nat.{mod-eq_of_lt}
+use Rattle.std.proofs.lemmas.List.{length-map}
+use Rattle.std.proofs.lemmas.List.Folds.{fold-map}
+use Rattle.std.proofs.lemmas.Slice.Zip.{length-zip}
+use Rattle.arrow_types.specs.Types.{LogicalType}
+use Rattle.arrow_memory.specs.Rows.{slot}
+use Rattle.arrow_column.specs.Column.{Column, ColumnWith, array_of_slots, column_of_parts, empty_masked, slots_of}
+use Rattle.arrow_column.proofs.CallerLemmas.{bare-shown, many-slots}
+use Rattle.arrow_aggregate.specs.Aggregates.{greater_slot, lesser_slot}
+use Rattle.arrow_aggregate.specs.Groups.{GroupSlots, IsGreatestSlot, IsLeastSlot, count_step, fold_slot, group_values, values_at}
+use Rattle.arrow_aggregate.proofs.AggregateLemmas.{greatest_slot, least_slot, valid}
+
+pub set_same : {Y : Type 0} (states : List Y) (k : ℕ) (y : Y) → k < length states → slice_get (set states k y) k ≡ Some y
+set_same [] k y low = absurd (omega arith)
+set_same (s ∷ states) zero y low = refl
+set_same (s ∷ states) (suc k) y low = set_same states k y (omega (arith, low))
+
+pub set_other : {Y : Type 0} (states : List Y) (k g : ℕ) (y : Y) → g ≢ k → slice_get (set states k y) g ≡ slice_get states g
+set_other [] k g y apart = refl
+set_other (s ∷ states) zero zero y apart = absurd (apart refl)
+set_other (s ∷ states) zero (suc g) y apart = refl
+set_other (s ∷ states) (suc k) zero y apart = refl
+set_other (s ∷ states) (suc k) (suc g) y apart = set_other states k g y (λ e. apart (ap suc e))
+
+pub pair_at : {S : Type 0} (indices : List ℕ) (slots : List (Option S)) (i k : ℕ) (slot : Option S)
+    → slice_get indices i ≡ Some k → slice_get slots i ≡ Some slot → slice_get (zip indices slots) i ≡ Some (k, slot)
+pair_at [] slots i k slot at own = cc
+pair_at (j ∷ indices) [] i k slot at own = cc
+pair_at (j ∷ indices) (s ∷ slots) zero k slot at own = ap₂ (λ a b. Some (a, b)) (same_Some j k at) (same_Some s slot own)
+pair_at (j ∷ indices) (s ∷ slots) (suc i) k slot at own = pair_at indices slots i k slot at own
+
+-- the values of a group among one pair more
+pub values_more : {S : Type 0} (pairs : List (ℕ × Option S)) (i k g : ℕ) (slot : Option S) → slice_get pairs i ≡ Some (k, slot)
+    → values_at (take (i + 1) pairs) g ≡ values_at (take i pairs) g ++ values_at ((k, slot) ∷ []) g
+values_more pairs i k g slot at =
+    ap (λ ps. values_at ps g) (take_more pairs i (k, slot) (slice_get_within pairs i (k, slot) at)
+    ∙ ap (λ p. take i pairs ++ p ∷ []) (get_or_from_slice_get pairs i (k, slot) (k, slot) at))
+    ∙ filter_map-append (λ pair. if pair.0 == g then pair.1 else None) (take i pairs) ((k, slot) ∷ [])
+
+pub own_slot : {S : Type 0} (k : ℕ) (slot : Option S) → values_at ((k, slot) ∷ []) k ≡ filter_map (λ (pair : ℕ × Option S). pair.1) ((k, slot) ∷ [])
+own_slot {S} k slot = ap (λ b. filter_map (λ (pair : ℕ × Option S). if b then pair.1 else None) ((k, slot) ∷ [])) (eq-eqb k k refl)
+
+fold_own : {Y S : Type 0} (step : Y → S → Y) (s : Y) (values : List S) (k : ℕ) (slot : Option S)
+    → fold step s (values ++ filter_map (λ (pair : ℕ × Option S). pair.1) ((k, slot) ∷ [])) ≡ fold_slot step (fold step s values) slot
+fold_own step s values k None = ap (fold step s) (append-nil values)
+fold_own step s values k (Some v) = fold_push step s values v
+
+folded : {Y S : Type 0} (step : Y → S → Y) (s : Y) (values : List S) (k : ℕ) (slot : Option S)
+    → fold step s (values ++ values_at ((k, slot) ∷ []) k) ≡ fold_slot step (fold step s values) slot
+folded step s values k slot = ap (λ rest. fold step s (values ++ rest)) (own_slot k slot) ∙ fold_own step s values k slot
+
+-- the state of group g after one slot more, that of group k
+pub row_more : {Y S : Type 0} (step : Y → S → Y) (states : List Y) (pairs : List (ℕ × Option S)) (i k g : ℕ) (slot : Option S)
+    (current next s : Y) → slice_get pairs i ≡ Some (k, slot) → slice_get states k ≡ Some current
+    → next ≡ fold_slot step current slot → slice_get states g ≡ Some (fold step s (values_at (take i pairs) g))
+    → slice_get (set states k next) g ≡ Some (fold step s (values_at (take (i + 1) pairs) g))
+row_more step states pairs i k g slot current next s at is_current is_next before = elim (cases_eq g k) [
+  | inl e ↦ same e
+  | inr apart ↦ other apart
+]
+  where
+    same : g ≡ k → slice_get (set states k next) g ≡ Some (fold step s (values_at (take (i + 1) pairs) g))
+    same e =
+        let now : current ≡ fold step s (values_at (take i pairs) k) =
+        same_Some _ _ (sym is_current ∙ sym (ap (slice_get states) e) ∙ before ∙ ap (λ j. Some (fold step s (values_at (take i pairs) j))) e) in
+        ap (slice_get (set states k next)) e ∙ set_same states k next (slice_get_within states k current is_current)
+        ∙ ap Some (is_next ∙ ap (λ c. fold_slot step c slot) now ∙ sym (folded step s (values_at (take i pairs) k) k slot)
+        ∙ ap (fold step s) (sym (values_more pairs i k k slot at)))
+        ∙ ap (λ j. Some (fold step s (values_at (take (i + 1) pairs) j))) (sym e)
+
+    other : g ≢ k → slice_get (set states k next) g ≡ Some (fold step s (values_at (take (i + 1) pairs) g))
+    other apart =
+        let none : values_at ((k, slot) ∷ []) g ≡ [] =
+        ap (λ b. filter_map (λ (pair : ℕ × Option _). if b then pair.1 else None) ((k, slot) ∷ [])) (ne_eqb k g (λ e. apart (sym e))) in
+        set_other states k g next apart ∙ before
+        ∙ ap (λ values. Some (fold step s values)) (sym (values_more pairs i k g slot at ∙ ap (λ rest. values_at (take i pairs) g ++ rest) none
+        ∙ append-nil (values_at (take i pairs) g)))
+
+-- ---- arrays of groups
+
+pub groups_made : {Z : Type 0} (t : LogicalType) (groups : ℕ) (Holds : ℕ → Option Z → Type 0) (made : Column Z)
+    (slots : List (Option Z)) → made.data_type ≡ t → slots_of made ≡ slots → length slots ≡ groups
+    → ((g : ℕ) → g < groups → (o : Option Z) → slice_get slots g ≡ Some o → Holds g o) → GroupSlots t groups Holds made
+groups_made t groups Holds made slots is_type is_slots count each = record {
+  data_type = is_type;
+  count = sym (length-map made.rows slot) ∙ ap length is_slots ∙ count;
+  slots = λ g o at.
+      let own = sym (ap (λ s. slice_get s g) is_slots) ∙ at in
+      each g (omega (arith, count, slice_get_within slots g o own)) o own;
+}
+
+pub from_slots : {S : Type 0} (default : S) (t : LogicalType) (slots : List (Option S))
+    → slots_of (array_of_slots default t slots) ≡ slots
+from_slots default t slots = many-slots default (empty_masked t) slots
+
+-- the values of valid slots alone
+all_values : {X : Type 0} (values : List X) → valid (map Some values) ≡ values
+all_values [] = refl
+all_values (x ∷ values) = ap (λ rest. x ∷ rest) (all_values values)
+
+module _ {X : Type 0} (cmp : X → X → Ordering) (order : IsTotalOrder cmp) where
+  pub least_of : (values : List X) (o : Option X) → o ≡ fold (λ state x. lesser_slot cmp state (Some x)) None values
+      → IsLeastSlot cmp values o
+  least_of values o is = subst (λ vs. IsLeastSlot cmp vs o) (all_values values)
+      (least_slot cmp order (map Some values) o (is ∙ sym (fold-map (lesser_slot cmp) Some None values)))
+
+  pub greatest_of : (values : List X) (o : Option X) → o ≡ fold (λ state x. greater_slot cmp state (Some x)) None values
+      → IsGreatestSlot cmp values o
+  greatest_of values o is = subst (λ vs. IsGreatestSlot cmp vs o) (all_values values)
+      (greatest_slot cmp order (map Some values) o (is ∙ sym (fold-map (greater_slot cmp) Some None values)))
+
+-- ---- counts
+
+one_more : {S : Type 0} (o : Option S) (values : List S) (n : ℕ) → length values ≤ n → length (cons_option o values) ≤ suc n
+one_more None values n low = omega (arith, low)
+one_more (Some v) values n low = omega (arith, low)
+
+length-values_at : {S : Type 0} (pairs : List (ℕ × Option S)) (g : ℕ) → length (values_at pairs g) ≤ length pairs
+length-values_at [] g = omega arith
+length-values_at ((k, o) ∷ pairs) g =
+    one_more (if k == g then o else None) (values_at pairs g) (length pairs) (length-values_at pairs g)
+
+counted : {S : Type 0} (values : List S) (n : ℕ) → n + length values < 2 ^ 64 → fold count_step n values ≡ n + length values
+counted [] n small = omega arith
+counted (v ∷ values) n small = ap (λ m. fold count_step m values) (mod-eq_of_lt (omega (arith, small)))
+    ∙ counted values (n + 1) (omega (arith, small)) ∙ omega arith
+
+pub group_counted : {A S : Type 0} (column : ColumnWith A S) (indices : List ℕ) (g : ℕ) → length indices < 2 ^ 64
+    → fold count_step 0 (group_values column indices g) ≡ length (group_values column indices g)
+group_counted column indices g small =
+    let values = group_values column indices g in
+    counted values 0 (omega (arith, small, length-values_at (zip indices (slots_of column)) g, length-zip indices (slots_of column)))
+    ∙ omega arith
+
+-- ---- calls that succeed
+
+pub both_ok : {V E : Type 0} (r : Result V E) (P Q R : V → Type 0) → IfOk r P → IfOk r Q → ((v : V) → P v → Q v → R v) → IfOk r R
+both_ok (Ok v) P Q R p q both = both v p q
+both_ok (Err e) P Q R p q both = tt
+
+pub counts_made : (t : LogicalType) (groups : ℕ) (Holds : ℕ → Option ℕ → Type 0) (made : Column ℕ) (values : List ℕ)
+    → made ≡ column_of_parts t values None → length values ≡ groups
+    → ((g : ℕ) → g < groups → (n : ℕ) → slice_get values g ≡ Some n → Holds g (Some n)) → GroupSlots t groups Holds made
+counts_made t groups Holds made values is count each =
+    groups_made t groups Holds made (map Some values) (ap (λ c. c.data_type) is)
+    (ap slots_of is ∙ bare-shown values None refl) (length-map values Some ∙ count) slots
+  where
+    slots : (g : ℕ) → g < groups → (o : Option ℕ) → slice_get (map Some values) g ≡ Some o → Holds g o
+    slots g low o at = by (slice_get values g) refl
+      where
+        by : (v : Option ℕ) → slice_get values g ≡ v → Holds g o
+        by None e = absurd (none-some o (sym (sym at ∙ slice_get-map Some values g ∙ ap (option_map Some) e)))
+        by (Some n) e = subst (Holds g) (same_Some (Some n) o (sym (sym at ∙ slice_get-map Some values g ∙ ap (option_map Some) e)))
+            (each g low n e)

@@ -1,0 +1,5 @@
+pub mod AggregateLemmas
+pub mod FoldLemmas
+pub mod SumLemmas
+pub mod GroupLemmas
+pub mod GroupSumLemmas

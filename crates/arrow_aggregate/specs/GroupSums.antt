@@ -1,0 +1,50 @@
+-- Sums of the numbers of groups, as those of their high and of their low parts.
+use Rattle.std.specs.Prelude.{◌≡◌, ◌*◌, ◌<◌, ◌≤◌, ◌^◌, ℕ, ℤ, Bool, false, List, length, map, nat_lt, Option, Some, None, if◌then◌else◌, slice_get}
+use Rattle.std.specs.Prelude.{◌⊎◌, unsigned_abs}
+use Rattle.arrow_types.specs.declared.error.Error.{Error}
+use Rattle.arrow_types.specs.declared.error.Error.TheVariants as error
+use Rattle.std.specs.Prelude.{option_map}
+use Rattle.arrow_column.specs.Column.{Column, ColumnWith}
+use Rattle.arrow_aggregate.specs.Aggregates.{sum_all, sum_of}
+use Rattle.arrow_aggregate.specs.Groups.{GroupSlots, group_values}
+use Rattle.arrow_aggregate.specs.Sums.{sum_split}
+
+-- the parts of the sum of these values, at most n, and whether there is a value
+pub record IsGroupSum {T : Type 0} (number : T → ℤ) (values : List T) (n : ℕ) (parts : (ℤ × ℕ) × Bool) : Type 0 where
+  pub total : sum_split (parts.0) ≡ sum_all (map number values)
+  pub some : parts.1 ≡ nat_lt 0 (length values)
+  pub high : unsigned_abs (parts.0.0) ≤ n * 2 ^ 63
+  pub low : parts.0.1 ≤ n * (2 ^ 64)
+
+-- the number of a slot that shows a sum, none if there is no value
+abbrev pub sum_slot_of : (ℤ × ℕ) × Bool → Option ℤ
+sum_slot_of sum = if sum.1 then Some (sum_split (sum.0)) else None
+
+-- the error of a sum that does not fit
+abbrev pub SlotOverflow : (ℤ → Bool) → (ℤ × ℕ) × Bool → Error → Type 0
+SlotOverflow fits sum e = (e ≡ error.Overflow) × (fits (sum_split (sum.0)) ≡ false)
+
+-- why sums have no slots: one does not fit, or an allocation failed
+abbrev pub SlotsRefused : (ℤ → Bool) → List ((ℤ × ℕ) × Bool) → Error → Type 0
+SlotsRefused fits sums e = (e ≡ error.OutOfMemory)
+    ⊎ ((g : ℕ) × (sum : (ℤ × ℕ) × Bool) × (slice_get sums g ≡ Some sum) × SlotOverflow fits sum e)
+
+-- why groups have no sums: that of one group does not fit, or an allocation failed
+abbrev pub GroupsRefused : (ℤ → Bool) → ℕ → (ℕ → List ℤ) → Error → Type 0
+GroupsRefused fits groups numbers e = (e ≡ error.OutOfMemory)
+    ⊎ ((e ≡ error.Overflow) × ((g : ℕ) × (g < groups) × (fits (sum_all (numbers g)) ≡ false)))
+
+-- the parts of the sum of each group
+abbrev pub HasGroupSums : {A T : Type 0} → (T → ℤ) → ColumnWith A T → List ℕ → ℕ → List ((ℤ × ℕ) × Bool) → Type 0
+HasGroupSums number column indices groups sums = (g : ℕ) → g < groups → (parts : (ℤ × ℕ) × Bool)
+    × (slice_get sums g ≡ Some parts) × IsGroupSum number (group_values column indices g) (length indices) parts
+
+-- a slot for each sum, which shows it
+abbrev pub ShowsSums : {T : Type 0} → (T → ℤ) → List ((ℤ × ℕ) × Bool) → List (Option T) → Type 0
+ShowsSums {T} number sums slots = (g : ℕ) (slot : Option T) (parts : (ℤ × ℕ) × Bool) → slice_get slots g ≡ Some slot
+    → slice_get sums g ≡ Some parts → option_map number slot ≡ sum_slot_of parts
+
+-- an array of the same type with the sum of each group, null if it has no valid slot
+abbrev pub SumsGroups : {A T : Type 0} → (T → ℤ) → ColumnWith A T → List ℕ → ℕ → Column T → Type 0
+SumsGroups number column indices groups made = GroupSlots column.data_type groups (λ g slot. option_map number slot
+    ≡ sum_of (map number (group_values column indices g))) made

@@ -1,0 +1,5 @@
+pub mod Aggregates
+pub mod Folds
+pub mod Sums
+pub mod Groups
+pub mod GroupSums

@@ -1,0 +1,131 @@
+//! Sums of groups of slots.
+ghost use Rattle.std.specs.Prelude.{◌≡◌, ◌+ℤ◌, ◌+◌, ◌||◌, ◌<◌, ◌≤◌, ◌^◌, ℕ, All, IfErr, IfOk, None, Some, false};
+ghost use Rattle.std.specs.Prelude.{length, map};
+ghost use Rattle.std.specs.Prelude.{if◌then◌else◌, option_map, pos, slice_get, unsigned_abs};
+ghost use Rattle.arrow_aggregate.specs.Groups.{group_values};
+ghost use Rattle.arrow_aggregate.specs.GroupSums.{GroupsRefused, HasGroupSums, ShowsSums, SlotOverflow};
+ghost use Rattle.arrow_aggregate.specs.GroupSums.{SlotsRefused, SumsGroups, sum_slot_of};
+ghost use Rattle.arrow_aggregate.specs.Sums.{number_or_zero};
+
+use crate::aggregate::groups::array_like;
+use crate::aggregate::sum::{join_sum, split};
+use arrow_integers::NativeArithmetics;
+use arrow_primitive::PrimitiveArray;
+use arrow_types::error::Error;
+use std::alloc::Global;
+
+/// Returns the number of a valid slot, zero of a null one.
+#[inline(always)]
+fn valid_number<T: NativeArithmetics>(value: T, is_valid: bool) -> i128
+    ensures { result ≡ number_or_zero T.number (if is_valid then Some value else None) }
+{
+    let number = value.to_i128();
+    if is_valid { number } else { 0 }
+}
+
+/// Returns whether either is true.
+#[inline(always)]
+fn either(lhs: bool, rhs: bool) -> bool
+    ensures { result ≡ (lhs || rhs) }
+{
+    lhs || rhs
+}
+
+/// Adds the parts of a number to sums of parts, and notes whether there was a valid slot.
+#[inline(always)]
+fn add_parts(sum: ((i128, u128), bool), parts: (i128, u128), is_valid: bool) -> ((i128, u128), bool)
+    requires high { unsigned_abs sum.0.0 + 2 ^ 64 ≤ 2 ^ 127 }
+    requires part { unsigned_abs parts.0 ≤ 2 ^ 63 }
+    requires low { sum.0.1 + parts.1 < 2 ^ 128 }
+    ensures { result ≡ ((sum.0.0 +ℤ parts.0, sum.0.1 + parts.1), sum.1 || is_valid) }
+{
+    let is_some = either(sum.1, is_valid);
+    ((sum.0.0 + parts.0, sum.0.1 + parts.1), is_some)
+}
+
+/// Adds the number of each slot to the sum of its group.
+fn sum_rows<T: NativeArithmetics>(
+    array: &PrimitiveArray<T>,
+    indices: &[usize],
+    sums: &mut [((i128, u128), bool)],
+)
+    requires rows { length indices.now ≡ length array.now.rows }
+    requires within { All (λ g. g < length sums.old) indices.now }
+    requires zero { (g : ℕ) → g < length sums.old → slice_get sums.old g ≡ Some ((pos 0, 0), false) }
+    ensures { HasGroupSums T.number array.now indices.now (length sums.old) sums.new }
+{
+    for i in 0..indices.len() {
+        let group = indices[i];
+        let (value, is_valid) = (array.value(i), array.is_valid(i));
+        let parts = split(valid_number(value, is_valid));
+        let sum = sums[group];
+        sums[group] = add_parts(sum, parts, is_valid);
+    }
+}
+
+/// Returns the slot of a sum, null if there was no valid slot.
+fn sum_slot<T: NativeArithmetics>(sum: ((i128, u128), bool)) -> Result<Option<T>, Error>
+    ensures ok { IfOk result (λ slot. option_map T.number slot ≡ sum_slot_of sum) }
+    ensures err { IfErr result (λ e. SlotOverflow T.fits sum e) }
+{
+    if !sum.1 {
+        return Ok(None);
+    }
+    let Some(sum) = join_sum(sum.0) else {
+        return Err(Error::Overflow);
+    };
+    match T::from_i128(sum) {
+        Some(sum) => Ok(Some(sum)),
+        None => Err(Error::Overflow),
+    }
+}
+
+/// Returns the slots of sums.
+fn sum_slots<T: NativeArithmetics>(
+    alloc: Global,
+    sums: &[((i128, u128), bool)],
+) -> Result<Vec<Option<T>>, Error>
+    ensures count { IfOk result (λ slots. length slots.items ≡ length sums.now) }
+    ensures ok { IfOk result (λ slots. ShowsSums T.number sums.now slots.items) }
+    ensures err { IfErr result (SlotsRefused T.fits sums.now) }
+{
+    let mut slots = Vec::with_capacity(alloc, sums.len())?;
+    for i in 0..sums.len() {
+        slots.push(sum_slot(sums[i])?)?;
+    }
+    Ok(slots)
+}
+
+/// Returns the sum of the valid slots of each group, null for a group that has none. Only whole sums
+/// have to fit, and not those on the way to them. There are `groups` groups, and `indices` has the
+/// number of the group of each slot. The result has the data type of the array.
+///
+/// # Errors
+/// `Overflow` if the sum of a group does not fit in the type of the values, and `OutOfMemory` if an
+/// allocation fails.
+pub fn group_sum<T: NativeArithmetics>(
+    alloc: Global,
+    array: &PrimitiveArray<T>,
+    indices: &[usize],
+    groups: usize,
+) -> Result<PrimitiveArray<T>, Error>
+    requires rows { length indices.now ≡ length array.now.rows }
+    requires within { All (λ g. g < groups) indices.now }
+    ensures ok { IfOk result (SumsGroups T.number array.now indices.now groups) }
+    ensures err { IfErr result (GroupsRefused T.fits groups (λ g.
+        map T.number (group_values array.now indices.now g))) }
+{
+    let mut sums = Vec::new(alloc);
+    sums.resize(groups, ((0i128, 0u128), false))?;
+    sum_rows(array, indices, sums.as_mut_slice());
+    let slots = sum_slots(alloc, sums.as_slice());
+    drop(sums);
+    match slots {
+        Err(error) => Err(error),
+        Ok(slots) => {
+            let made = array_like(alloc, array, slots.as_slice());
+            drop(slots);
+            made
+        }
+    }
+}

@@ -1,0 +1,105 @@
+//! Aggregates of groups of numbers.
+ghost use Rattle.std.specs.Prelude.{◌<◌, All, IsTrue};
+
+use arrow_aggregate::aggregate::{group_count, group_max, group_min, group_sum};
+use arrow_memory::buffer::Buffer;
+use arrow_primitive::PrimitiveArray;
+use arrow_testing::{assert_text, frozen_mask};
+use arrow_types::data_type::DataType;
+use arrow_types::error::Error;
+use std::process::Abort;
+
+/// A name, values, marks, the number of each slot's group, the number of groups, and the slots of the
+/// counts, of the least and of the greatest values.
+#[rattlefmt::skip]
+const CASES: &[(&str, &[i64], &str, &[usize], usize, &str, &str, &str)] = &[
+    ("two groups", &[1, 2, 3, 4], "none", &[0, 1, 0, 1], 2, "[2 2]", "[1 2]", "[3 4]"),
+    ("a null", &[5, -9, 3, 9], "1010", &[0, 0, 0, 1], 2, "[2 0]", "[3 _]", "[5 _]"),
+    ("a group with no slot", &[7, 8], "none", &[2, 0], 3, "[1 0 1]", "[8 _ 7]", "[8 _ 7]"),
+    ("no group", &[], "none", &[], 0, "[]", "[]", "[]"),
+    ("one group", &[-1, -3, 0, -2], "1101", &[0, 0, 0, 0], 1, "[3]", "[-3]", "[-1]"),
+];
+
+/// Whether each of the numbers is below a bound.
+fn all_below(numbers: &[usize], bound: usize) -> bool
+    ensures { IsTrue result → All (λ n. n < bound) numbers.now }
+{
+    for number in numbers {
+        if *number >= bound {
+            return false;
+        }
+    }
+    true
+}
+
+/// Creates an array of dates.
+fn dates(rt: &(impl Abort + AllocGlobal), values: &[i64], mask: &str) -> PrimitiveArray<i64> {
+    let mask = frozen_mask(rt.alloc(), mask).expect(rt, "memory");
+    let values = values.to_vec(rt.alloc()).expect(rt, "memory");
+    let values = Buffer::from_vec(values).expect(rt, "memory");
+    PrimitiveArray::try_new(DataType::Date64, values, mask).expect(rt, "parts that fit")
+}
+
+/// Compares the slots of an array of dates with a text, and drops it.
+fn check(rt: &impl Abort, case: &str, made: PrimitiveArray<i64>, slots: &str) {
+    assert_text::slots(made.iter(), slots).expect(rt, case);
+    assert_text::value(made.data_type(), &DataType::Date64).expect(rt, case);
+    drop(made);
+}
+
+#[test]
+fn counts_of_groups(rt: HostRuntime) {
+    for (case, values, mask, indices, groups, counts, _, _) in CASES {
+        let array = dates(&rt, *values, *mask);
+        assert!(rt; indices.len() == array.len());
+        assert!(rt; all_below(*indices, *groups));
+        let made = group_count(rt.alloc(), &array, *indices, *groups).expect(&rt, "memory");
+        assert_text::slots(made.iter(), *counts).expect(&rt, *case);
+        drop(made);
+        drop(array);
+    }
+}
+
+#[test]
+fn extremes_of_groups(rt: HostRuntime) {
+    for (case, values, mask, indices, groups, _, least, greatest) in CASES {
+        let array = dates(&rt, *values, *mask);
+        assert!(rt; indices.len() == array.len());
+        assert!(rt; all_below(*indices, *groups));
+        let made = group_min(rt.alloc(), &array, *indices, *groups).expect(&rt, "memory");
+        check(&rt, *case, made, *least);
+        let made = group_max(rt.alloc(), &array, *indices, *groups).expect(&rt, "memory");
+        check(&rt, *case, made, *greatest);
+        drop(array);
+    }
+}
+
+/// A name, values, the number of each slot's group, the number of groups, and the slots of the sums.
+#[rattlefmt::skip]
+const SUMS: &[(&str, &[Option<i64>], &[usize], usize, Result<&str, Error>)] = &[
+    ("two groups", &[Some(1), Some(2), Some(3), Some(4)], &[0, 1, 0, 1], 2, Ok("[4 6]")),
+    ("a null", &[Some(5), None, Some(-3), None], &[0, 0, 0, 1], 2, Ok("[2 _]")),
+    ("a group with no slot", &[Some(7)], &[1], 3, Ok("[_ 7 _]")),
+    ("only the whole has to fit", &[Some(i64::MAX), Some(1), Some(-1)], &[0, 0, 0], 1, Ok("[9223372036854775807]")),
+    ("one group overflows", &[Some(1), Some(i64::MIN), Some(-1)], &[0, 1, 1], 2, Err(Error::Overflow)),
+    ("no group", &[], &[], 0, Ok("[]")),
+];
+
+#[test]
+fn sums_of_groups(rt: HostRuntime) {
+    for (case, slots, indices, groups, expected) in SUMS {
+        let array = PrimitiveArray::from(rt.alloc(), *slots).expect(&rt, "memory");
+        assert!(rt; indices.len() == array.len());
+        assert!(rt; all_below(*indices, *groups));
+        let made = group_sum(rt.alloc(), &array, *indices, *groups);
+        match *expected {
+            Ok(text) => {
+                let made = made.expect(&rt, *case);
+                assert_text::slots(made.iter(), text).expect(&rt, *case);
+                drop(made);
+            }
+            Err(error) => assert_text::value(made.err(), Some(error)).expect(&rt, *case),
+        }
+        drop(array);
+    }
+}

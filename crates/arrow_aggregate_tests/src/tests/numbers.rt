@@ -1,0 +1,156 @@
+//! Sums, least and greatest values of numbers.
+use arrow_aggregate::aggregate::{
+    SumOverflow, count_valid, max_primitive, min_primitive, sum_primitive,
+};
+use arrow_memory::bitmap::MutableBitmap;
+use arrow_memory::buffer::Buffer;
+use arrow_primitive::PrimitiveArray;
+use arrow_testing::{assert_text, frozen_mask};
+use arrow_types::data_type::DataType;
+use arrow_types::native_type::NativeType;
+use std::process::Abort;
+
+/// Creates an array of numbers.
+fn array<T: NativeType>(
+    rt: &(impl Abort + AllocGlobal),
+    values: &[T],
+    mask: &str,
+) -> PrimitiveArray<T> {
+    let mask = frozen_mask(rt.alloc(), mask).expect(rt, "memory");
+    let values = values.to_vec(rt.alloc()).expect(rt, "memory");
+    let values = Buffer::from_vec(values).expect(rt, "memory");
+    PrimitiveArray::try_new(T::PRIMITIVE.default_data_type(), values, mask).expect(rt, "parts")
+}
+
+/// A name, values, marks, the sum, the least and the greatest value, and how many slots are valid.
+type Row<T> = (
+    &'static str,
+    &'static [T],
+    &'static str,
+    Result<Option<T>, SumOverflow>,
+    Option<T>,
+    Option<T>,
+    usize,
+);
+
+const MIN: i64 = i64::MIN;
+
+const MAX: i64 = i64::MAX;
+
+#[rattlefmt::skip]
+const LONG: &[Row<i64>] = &[
+    ("no slot", &[], "none", Ok(None), None, None, 0),
+    ("null slots only", &[1, 2], "00", Ok(None), None, None, 0),
+    ("no null", &[3, -1, 2], "none", Ok(Some(4)), Some(-1), Some(3), 3),
+    ("a needless mask", &[3, -1, 2], "111", Ok(Some(4)), Some(-1), Some(3), 3),
+    ("extremes under nulls", &[-9, 3, 9, 5], "0101", Ok(Some(8)), Some(3), Some(5), 2),
+    ("zero is above the values", &[-3, 0, -5], "101", Ok(Some(-8)), Some(-5), Some(-3), 2),
+    ("only the whole has to fit", &[MAX, 1, -1], "none", Ok(Some(MAX)), Some(-1), Some(MAX), 3),
+    ("one too great", &[MAX, 1], "none", Err(SumOverflow), Some(1), Some(MAX), 2),
+    ("one too small", &[MIN, -1], "none", Err(SumOverflow), Some(MIN), Some(-1), 2),
+    ("least and greatest", &[MIN, MAX], "none", Ok(Some(-1)), Some(MIN), Some(MAX), 2),
+];
+
+const HUGE: i128 = i128::MAX;
+
+#[rattlefmt::skip]
+const WIDE: &[Row<i128>] = &[
+    ("a sum on the way is too great", &[HUGE, HUGE, -HUGE], "none", Ok(Some(HUGE)), Some(-HUGE), Some(HUGE), 3),
+    ("a sum on the way is too small", &[-HUGE, -HUGE, 0, HUGE], "1101", Ok(Some(-HUGE)), Some(-HUGE), Some(HUGE), 3),
+    ("the greatest number", &[HUGE - 1, 1], "none", Ok(Some(HUGE)), Some(1), Some(HUGE - 1), 2),
+    ("one more", &[HUGE, 1], "none", Err(SumOverflow), Some(1), Some(HUGE), 2),
+    ("the least number", &[-HUGE, -1], "none", Ok(Some(i128::MIN)), Some(-HUGE), Some(-1), 2),
+    ("one less", &[-HUGE, -2], "none", Err(SumOverflow), Some(-HUGE), Some(-2), 2),
+    ("far too great", &[HUGE, HUGE, HUGE, HUGE], "none", Err(SumOverflow), Some(HUGE), Some(HUGE), 4),
+];
+
+#[rattlefmt::skip]
+const BYTES: &[Row<u8>] = &[
+    ("the greatest number", &[200, 55], "none", Ok(Some(255)), Some(55), Some(200), 2),
+    ("one more", &[200, 56], "none", Err(SumOverflow), Some(56), Some(200), 2),
+    ("a null", &[200, 56, 1], "101", Ok(Some(201)), Some(1), Some(200), 2),
+];
+
+#[rattlefmt::skip]
+const NATURALS: &[Row<u64>] = &[
+    ("the greatest number", &[u64::MAX, 0], "none", Ok(Some(u64::MAX)), Some(0), Some(u64::MAX), 2),
+    ("one more", &[u64::MAX, 1], "none", Err(SumOverflow), Some(1), Some(u64::MAX), 2),
+];
+
+#[test]
+fn aggregates_of_numbers(rt: HostRuntime) {
+    for (case, values, mask, sum, least, greatest, valid) in LONG {
+        let numbers = array(&rt, *values, *mask);
+        assert_text::value(sum_primitive(&numbers), *sum).expect(&rt, *case);
+        assert_text::value(min_primitive(&numbers), *least).expect(&rt, *case);
+        assert_text::value(max_primitive(&numbers), *greatest).expect(&rt, *case);
+        assert_text::value(count_valid(&numbers), *valid).expect(&rt, *case);
+        drop(numbers);
+    }
+}
+
+#[test]
+fn an_overflow_prints_its_text(rt: HostRuntime) {
+    let printed = SumOverflow.to_string(rt.alloc()).expect(&rt, "memory");
+    assert_text::value(printed.as_str(), "the sum does not fit in its type").expect(&rt, "a sum");
+    drop(printed);
+}
+
+#[test]
+fn sums_of_128_bits(rt: HostRuntime) {
+    for (case, values, mask, sum, least, greatest, _) in WIDE {
+        let numbers = array(&rt, *values, *mask);
+        assert_text::value(sum_primitive(&numbers), *sum).expect(&rt, *case);
+        assert_text::value(min_primitive(&numbers), *least).expect(&rt, *case);
+        assert_text::value(max_primitive(&numbers), *greatest).expect(&rt, *case);
+        drop(numbers);
+    }
+}
+
+#[test]
+fn sums_of_unsigned_numbers(rt: HostRuntime) {
+    for (case, values, mask, sum, _, _, _) in BYTES {
+        let numbers = array(&rt, *values, *mask);
+        assert_text::value(sum_primitive(&numbers), *sum).expect(&rt, *case);
+        drop(numbers);
+    }
+    for (case, values, mask, sum, _, _, _) in NATURALS {
+        let numbers = array(&rt, *values, *mask);
+        assert_text::value(sum_primitive(&numbers), *sum).expect(&rt, *case);
+        drop(numbers);
+    }
+}
+
+/// A name; which of 300 slots are valid, at multiples of the first number that are not below the second;
+/// and the sum, the least and the greatest value. Each slot stores its index, null or not.
+#[rattlefmt::skip]
+const PERIODS: &[(&str, usize, usize, i32, i32, i32)] = &[
+    ("every slot", 1, 0, 44850, 0, 299),
+    ("every third", 3, 0, 14850, 0, 297),
+    ("the first is in the second word", 1, 64, 42834, 64, 299),
+    ("the first is in the rest", 1, 260, 11180, 260, 299),
+    ("only the last", 299, 1, 299, 299, 299),
+    ("one in the fourth word", 250, 1, 250, 250, 250),
+];
+
+#[test]
+fn aggregates_of_long_arrays(rt: HostRuntime) {
+    for (case, period, from, sum, least, greatest) in PERIODS {
+        assert!(rt; *period != 0);
+        let mut values = Vec::new(rt.alloc());
+        let mut marks = MutableBitmap::new(rt.alloc());
+        for i in 0..300usize {
+            values.push(i as i32).expect(&rt, "memory");
+            marks
+                .push(i % *period == 0 && i >= *from)
+                .expect(&rt, "memory");
+        }
+        let values = Buffer::from_vec(values).expect(&rt, "memory");
+        let mask = Some(marks.freeze().expect(&rt, "memory"));
+        let numbers = PrimitiveArray::try_new(DataType::Int32, values, mask).expect(&rt, "parts");
+        assert_text::value(sum_primitive(&numbers), Ok(Some(*sum))).expect(&rt, *case);
+        assert_text::value(min_primitive(&numbers), Some(*least)).expect(&rt, *case);
+        assert_text::value(max_primitive(&numbers), Some(*greatest)).expect(&rt, *case);
+        drop(numbers);
+    }
+}

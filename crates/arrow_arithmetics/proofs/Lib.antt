@@ -1,0 +1,6 @@
+pub mod CombineLemmas
+pub mod DivisionLemmas
+pub mod ListLemmas
+pub mod TextLemmas
+pub mod WordLemmas
+pub mod WrapLemmas

@@ -1,0 +1,74 @@
+use Rattle.std.proofs.Common.{◌≡◌, ◌+◌, ◌-◌, ◌*◌, ◌/◌, ◌∙◌, ap, arith, drop, length, map, sym, take}
+use Rattle.std.proofs.lemmas.List.{take_all, length-drop, length-map, length-take}
+use Rattle.arrow_column.proofs.CallerLemmas.{map-piece}
+use Rattle.arrow_memory.specs.Marks.{bits_of}
+use Rattle.arrow_arithmetics.specs.Arithmetic.{outcome_marks, outcome_values}
+use Rattle.arrow_arithmetics.proofs.ListLemmas.{all_pieces, length-outcome_marks, length-outcome_values}
+use Rattle.arrow_arithmetics.proofs.ListLemmas.{one_more, piece_marks, piece_values}
+use Rattle.arrow_arithmetics.proofs.WordLemmas.{piece_bits, rest_bits}
+use Rattle.arrow_arithmetics.proofs.combine.check_values_scalar.Goals as goal
+
+pub loop-i-preserved : goal.loop-i-preserved
+loop-i-preserved g c =
+    let make = λ (x : g.row.T.Denot). g.O.CheckedOperation.make x c.args.rhs in
+    let outcomes = map make c.args.lhs.now in
+    let count : length outcomes ≡ length c.args.lhs.now = length-map c.args.lhs.now make in
+    let values = outcome_values g.T.NativeType.zero outcomes in
+    let marks = outcome_marks outcomes in
+    let a = 64 * c.loop-i.i in
+    let n = a + 64 - a in
+    let piece = map-piece make c.args.lhs.now a n in
+    let grown : c.check_word_scalar-word.new.values.items ≡ take (64 * (c.loop-i.i + 1)) values =
+    c.check_word_scalar-word.ensures.values ∙ one_more values c.loop-i.values.items _ a n (64 * (c.loop-i.i + 1))
+    c.loop-i.invariant.values
+    (ap (outcome_values g.T.NativeType.zero) piece ∙ piece_values g.T.NativeType.zero outcomes a n) (omega arith) in
+    record {
+      values = grown;
+      marks = c.in_ok-extend_from_word.ensures.ok
+          ∙ one_more marks c.loop-i.marks (bits_of c.check_word_scalar-word.result 64) a 64 (64 * (c.loop-i.i + 1))
+          c.loop-i.invariant.marks
+          (piece_bits c.args.lhs.now marks c.check_word_scalar-word.result a n 64 (omega arith) (omega arith)
+          (c.check_word_scalar-word.ensures.marks ∙ ap outcome_marks piece ∙ piece_marks outcomes a n)) (omega arith);
+      len = let size = ap length grown in omega (
+        arith,
+        size,
+        length-take (64 * (c.loop-i.i + 1)) values,
+        count,
+        length-outcome_values g.T.NativeType.zero outcomes,
+      );
+      room = omega (arith, c.loop-i.invariant.room, c.check_word_scalar-word.ensures.room);
+    }
+
+pub returns-clause-values : goal.returns-clause-values
+returns-clause-values g c =
+    let make = λ (x : g.row.T.Denot). g.O.CheckedOperation.make x c.args.rhs in
+    let outcomes = map make c.args.lhs.now in
+    let count : length outcomes ≡ length c.args.lhs.now = length-map c.args.lhs.now make in
+    let values = outcome_values g.T.NativeType.zero outcomes in
+    let a = 64 * (length c.args.lhs.now / 64) in
+    let n = length c.args.lhs.now - a in
+    let piece = map-piece make c.args.lhs.now a n in
+    c.check_word_scalar-rest.ensures.values ∙ all_pieces values c.loop-i.values.items _ a (64 * c.loop-i.i) c.loop-i.invariant.values
+    (omega arith) (ap (outcome_values g.T.NativeType.zero) piece ∙ piece_values g.T.NativeType.zero outcomes a n
+    ∙ take_all n (drop a values) (omega (
+      arith,
+      count,
+      length-drop a values,
+      length-outcome_values g.T.NativeType.zero outcomes,
+    )))
+
+pub returns-clause-marks : goal.returns-clause-marks
+returns-clause-marks g c =
+    let make = λ (x : g.row.T.Denot). g.O.CheckedOperation.make x c.args.rhs in
+    let outcomes = map make c.args.lhs.now in
+    let marks = outcome_marks outcomes in
+    let count : length c.args.lhs.now ≡ length marks = sym (length-outcome_marks outcomes
+    ∙ length-map c.args.lhs.now make) in
+    let a = 64 * (length c.args.lhs.now / 64) in
+    let n = length c.args.lhs.now - a in
+    let piece = map-piece make c.args.lhs.now a n in
+    let rest = rest_bits c.args.lhs.now marks c.check_word_scalar-rest.result a n count (omega arith)
+    (c.check_word_scalar-rest.ensures.marks ∙ ap outcome_marks piece ∙ piece_marks outcomes a n) in
+    c.in_ok-freeze.ensures.ok ∙ c.in_ok-extend_from_word-2.ensures.ok
+    ∙ all_pieces marks c.loop-i.marks (bits_of c.check_word_scalar-rest.result n) a (64 * c.loop-i.i) c.loop-i.invariant.marks
+    (omega arith) rest

@@ -1,0 +1,290 @@
+//! Conversions of arrays between types of integers, and of booleans and integers.
+ghost use Rattle.std.specs.Prelude.{◌≡◌, ◌+◌, ◌++◌, ◌≤◌, IfOk, length, map, option_map};
+ghost use Rattle.std.specs.Vec.{vec_capacity};
+ghost use Rattle.arrow_types.specs.Failures.{OnlyOutOfMemory};
+ghost use Rattle.arrow_integers.specs.NativeArithmetics.{some_if};
+ghost use Rattle.arrow_types.specs.Types.{IsRightType, logical_type};
+ghost use Rattle.arrow_types.specs.declared.physical_type.PhysicalType.TheVariants as PhysicalType;
+ghost use Rattle.arrow_boolean.specs.Fits.{boolean_type};
+ghost use Rattle.arrow_bytes.specs.Kinds.{text_layout};
+ghost use Rattle.arrow_column.specs.Column.{stored_values, with_type};
+ghost use Rattle.arrow_memory.specs.Marks.{bits_of};
+ghost use Rattle.arrow_compute.specs.Slots.{MapsSlots};
+ghost use Rattle.arrow_arithmetics.specs.Arithmetic.{MapsSlotsIf, outcome_marks, outcome_values};
+ghost use Rattle.arrow_arithmetics.specs.Cast.{CastsSlots, FailsAsText, is_nonzero, number_of_bool, of_same_number};
+
+use crate::combine::mask_and;
+use crate::wrap_number::WrapNumber;
+use arrow_binary::BinaryArray;
+use arrow_boolean::BooleanArray;
+use arrow_byte_array::laws::array_again;
+use arrow_compute::masks::clone_mask;
+use arrow_integers::NativeArithmetics;
+use arrow_memory::bitmap::{Bitmap, MutableBitmap};
+use arrow_memory::buffer::Buffer;
+use arrow_primitive::PrimitiveArray;
+use arrow_types::data_type::DataType;
+use arrow_types::error::Error;
+use arrow_types::offset::Offset;
+use arrow_types::physical_type::PhysicalType;
+use arrow_utf8::Utf8Array;
+use std::alloc::Global;
+
+/// How numbers are converted that do not fit in their new type.
+#[derive(Clone, Copy, Debug, PartialEq, Eq)]
+pub struct CastOptions {
+    /// Whether they wrap around; otherwise they become null.
+    pub wrapped: bool,
+}
+
+/// Returns the values to which the numbers of `values` wrap.
+fn wrap_values<I: NativeArithmetics, O: WrapNumber>(
+    alloc: Global,
+    values: &[I],
+) -> Result<Vec<O>, Error>
+    ensures ok { IfOk result (λ made. made.items ≡ map (λ x. O.wrap (I.number x)) values.now) }
+    ensures err { OnlyOutOfMemory result }
+{
+    let mut made = Vec::with_capacity(alloc, values.len())?;
+    for i in 0..values.len() {
+        made.push_reserved(O::wrap_number(values[i].to_i128()));
+    }
+    Ok(made)
+}
+
+/// Converts each slot to the value of another type to which its number wraps, as Rust's `as` does.
+/// The data type must have the physical type of `O`. The result holds a mask if the array does.
+///
+/// # Errors
+/// `OutOfMemory` if an allocation fails.
+pub fn primitive_as_primitive<I: NativeArithmetics, O: WrapNumber>(
+    alloc: Global,
+    array: &PrimitiveArray<I>,
+    data_type: DataType,
+) -> Result<PrimitiveArray<O>, Error>
+    requires { IsRightType (PhysicalType.Primitive O.PRIMITIVE) (logical_type data_type) }
+    ensures ok { IfOk result (MapsSlots (logical_type data_type) (option_map (λ x. O.wrap (I.number x))) array.now) }
+    ensures err { OnlyOutOfMemory result }
+{
+    let values = Buffer::from_vec(wrap_values::<I, O>(alloc, array.values().as_slice())?)?;
+    let validity = clone_mask(array.validity())?;
+    Ok(PrimitiveArray::new(data_type, values, validity))
+}
+
+/// The numbers that fit: the values that have them, with zero where there is none, and a mark for
+/// each, which is set where there is one.
+#[derive(Drop)]
+struct Fitting<O: NativeArithmetics> {
+    values: Vec<O>,
+    marks: Bitmap,
+}
+
+/// Returns the value that has a number, or `None` if it does not fit. The value to which it wraps is
+/// compared with it, which takes fewer instructions than `from_i128` where widths are known.
+#[inline(always)]
+fn fit<O: WrapNumber>(number: i128) -> Option<O>
+    ensures { result ≡ some_if (O.fits number) (O.wrap number) }
+{
+    let value = O::wrap_number(number);
+    if value.to_i128() == number {
+        Some(value)
+    } else {
+        None
+    }
+}
+
+/// Appends the values that have the numbers of at most 64 values, and returns where there is one as
+/// the bits of a word.
+#[inline(always)]
+fn fit_word<I: NativeArithmetics, O: WrapNumber>(made: &mut Vec<O>, values: &[I]) -> u64
+    requires within { length values.now ≤ 64 }
+    requires room { length made.old.items + length values.now ≤ vec_capacity made.old }
+    ensures values { made.new.items ≡ made.old.items
+        ++ outcome_values O.zero (map (of_same_number I.number O.fits O.wrap) values.now) }
+    ensures room { vec_capacity made.new ≡ vec_capacity made.old }
+    ensures marks { bits_of result (length values.now)
+        ≡ outcome_marks (map (of_same_number I.number O.fits O.wrap) values.now) }
+{
+    let mut word = 0;
+    for i in 0..values.len() {
+        let outcome = fit::<O>(values[i].to_i128());
+        word |= u64::from(outcome.is_some()) << i;
+        made.push_reserved(outcome.unwrap_or(O::default()));
+    }
+    word
+}
+
+/// Returns the values that have the numbers of `values`. Makes 64 marks at a time.
+fn fit_values<I: NativeArithmetics, O: WrapNumber>(
+    alloc: Global,
+    values: &[I],
+) -> Result<Fitting<O>, Error>
+    ensures values { IfOk result (λ made. made.values.items
+        ≡ outcome_values O.zero (map (of_same_number I.number O.fits O.wrap) values.now)) }
+    ensures marks { IfOk result (λ made. made.marks
+        ≡ outcome_marks (map (of_same_number I.number O.fits O.wrap) values.now)) }
+    ensures err { OnlyOutOfMemory result }
+{
+    let words = values.len() / 64;
+    let mut made = Vec::with_capacity(alloc, values.len())?;
+    let mut marks = MutableBitmap::with_capacity(alloc, values.len().saturating_add(64))?;
+    for i in 0..words {
+        let word = fit_word::<I, O>(&mut made, &values[64 * i..64 * i + 64]);
+        marks.extend_from_word(word, 64)?;
+    }
+    let rest = fit_word::<I, O>(&mut made, &values[64 * words..]);
+    marks.extend_from_word(rest, values.len() - 64 * words)?;
+    Ok(Fitting {
+        values: made,
+        marks: marks.freeze()?,
+    })
+}
+
+/// Converts each slot to the value of another type that has its number: null where it does not fit.
+/// The data type must have the physical type of `O`. The result holds a mask.
+fn fit_primitive<I: NativeArithmetics, O: WrapNumber>(
+    alloc: Global,
+    array: &PrimitiveArray<I>,
+    data_type: DataType,
+) -> Result<PrimitiveArray<O>, Error>
+    requires { IsRightType (PhysicalType.Primitive O.PRIMITIVE) (logical_type data_type) }
+    ensures ok { IfOk result (MapsSlotsIf (logical_type data_type)
+        (of_same_number I.number O.fits O.wrap) array.now) }
+    ensures err { OnlyOutOfMemory result }
+{
+    let fitting = fit_values::<I, O>(alloc, array.values().as_slice())?;
+    let Fitting { values, marks } = fitting;
+    let values = Buffer::from_vec(values)?;
+    let validity = mask_and(alloc, clone_mask(array.validity())?, marks)?;
+    Ok(PrimitiveArray::new(data_type, values, Some(validity)))
+}
+
+/// Converts each slot to the value of another type that has its number. Where it does not fit, it
+/// wraps if `options` says so, and otherwise the slot is null. The data type must have the physical
+/// type of `O`. The result holds a mask, unless numbers wrap and the array holds none.
+///
+/// # Errors
+/// `OutOfMemory` if an allocation fails.
+pub fn primitive_to_primitive<I: NativeArithmetics, O: WrapNumber>(
+    alloc: Global,
+    array: &PrimitiveArray<I>,
+    options: CastOptions,
+    data_type: DataType,
+) -> Result<PrimitiveArray<O>, Error>
+    requires { IsRightType (PhysicalType.Primitive O.PRIMITIVE) (logical_type data_type) }
+    ensures ok { IfOk result (CastsSlots I.number O.fits O.wrap options.wrapped (logical_type data_type) array.now) }
+    ensures err { OnlyOutOfMemory result }
+{
+    if options.wrapped {
+        primitive_as_primitive(alloc, array, data_type)
+    } else {
+        fit_primitive(alloc, array, data_type)
+    }
+}
+
+/// Returns one for each set mark, and zero for each clear one.
+fn number_marks<O: WrapNumber>(alloc: Global, marks: &Bitmap) -> Result<Vec<O>, Error>
+    ensures ok { IfOk result (λ made. made.items ≡ map (λ b. O.wrap (number_of_bool b)) marks.now) }
+    ensures err { OnlyOutOfMemory result }
+{
+    let mut made = Vec::with_capacity(alloc, marks.len())?;
+    for i in 0..marks.len() {
+        made.push_reserved(O::wrap_number(i128::from(marks.get_bit(i))));
+    }
+    Ok(made)
+}
+
+/// Converts each slot to one where it is true, and to zero where it is false. The data type must have
+/// the physical type of `O`. The result holds a mask if the array does.
+///
+/// # Errors
+/// `OutOfMemory` if an allocation fails.
+pub fn boolean_to_primitive<O: WrapNumber>(
+    alloc: Global,
+    array: &BooleanArray,
+    data_type: DataType,
+) -> Result<PrimitiveArray<O>, Error>
+    requires { IsRightType (PhysicalType.Primitive O.PRIMITIVE) (logical_type data_type) }
+    ensures ok { IfOk result (MapsSlots (logical_type data_type)
+        (option_map (λ b. O.wrap (number_of_bool b))) array.now) }
+    ensures err { OnlyOutOfMemory result }
+{
+    let values = Buffer::from_vec(number_marks::<O>(alloc, array.values())?)?;
+    let validity = clone_mask(array.validity())?;
+    Ok(PrimitiveArray::new(data_type, values, validity))
+}
+
+/// Returns whether a value is not zero.
+#[inline(always)]
+fn is_nonzero<T: NativeArithmetics>(value: T) -> bool
+    ensures { result ≡ is_nonzero (T.number value) }
+{
+    value != T::default()
+}
+
+/// Returns which of at most 64 values are not zero as the bits of a word.
+#[inline(always)]
+fn nonzero_word<T: NativeArithmetics>(values: &[T]) -> u64
+    requires { length values.now ≤ 64 }
+    ensures { bits_of result (length values.now) ≡ map (λ x. is_nonzero (T.number x)) values.now }
+{
+    let mut word = 0;
+    for i in 0..values.len() {
+        word |= u64::from(is_nonzero(values[i])) << i;
+    }
+    word
+}
+
+/// Returns which values are not zero. Makes 64 marks at a time.
+fn nonzero_marks<T: NativeArithmetics>(alloc: Global, values: &[T]) -> Result<Bitmap, Error>
+    ensures ok { IfOk result (λ marks. marks ≡ map (λ x. is_nonzero (T.number x)) values.now) }
+    ensures err { OnlyOutOfMemory result }
+{
+    let words = values.len() / 64;
+    let mut marks = MutableBitmap::with_capacity(alloc, values.len().saturating_add(64))?;
+    for i in 0..words {
+        let word = nonzero_word(&values[64 * i..64 * i + 64]);
+        marks.extend_from_word(word, 64)?;
+    }
+    let rest = nonzero_word(&values[64 * words..]);
+    marks.extend_from_word(rest, values.len() - 64 * words)?;
+    marks.freeze()
+}
+
+/// Converts each slot to whether it is not zero. The result holds a mask if the array does.
+///
+/// # Errors
+/// `OutOfMemory` if an allocation fails.
+pub fn primitive_to_boolean<T: NativeArithmetics>(
+    alloc: Global,
+    array: &PrimitiveArray<T>,
+) -> Result<BooleanArray, Error>
+    ensures ok { IfOk result (MapsSlots boolean_type (option_map (λ x. is_nonzero (T.number x))) array.now) }
+    ensures err { OnlyOutOfMemory result }
+{
+    let marks = nonzero_marks(alloc, array.values().as_slice())?;
+    let validity = clone_mask(array.validity())?;
+    Ok(BooleanArray::new(DataType::Boolean, marks, validity))
+}
+
+/// Returns the same slots as text, without copying any: their bytes are validated once, those that
+/// null slots store too. The data type must have the physical type of an array of text. The result
+/// holds a mask if the array does.
+///
+/// # Errors
+/// `OutOfSpec` if an item is not UTF-8 by itself; `OutOfMemory` if an allocation fails.
+pub fn binary_to_utf8<O: Offset>(
+    array: &BinaryArray<O>,
+    data_type: DataType,
+) -> Result<Utf8Array<O>, Error>
+    requires { IsRightType (text_layout O.IS_LARGE) (logical_type data_type) }
+    ensures ok { IfOk result (λ made. made ≡ with_type array.now (logical_type data_type)) }
+    ensures err { FailsAsText (stored_values array.now) result }
+{
+    // The law of an array's parts.
+    array_again();
+    let offsets = array.offsets().clone()?;
+    let values = array.values().clone()?;
+    let validity = clone_mask(array.validity())?;
+    Utf8Array::try_new(data_type, offsets, values, validity)
+}

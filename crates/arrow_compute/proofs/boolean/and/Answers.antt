@@ -1,0 +1,18 @@
+use Rattle.std.proofs.Common.{◌&&◌, ap₂, ◌∙◌}
+use Rattle.arrow_compute.specs.Slots.{both_masks}
+use Rattle.arrow_compute.proofs.SlotLemmas.{combination_fits, combine_values, makes_combination}
+use Rattle.arrow_compute.proofs.boolean.and.Goals as goal
+
+pub new-requires-clause-mask : goal.new-requires-clause-mask
+new-requires-clause-mask c =
+    let values = c.in_ok-values.ensures.ok ∙ ap₂ (combine_values (λ x y. x && y)) c.values.ensures c.values-2.ensures in
+    let mask = c.in_ok-validity.ensures.ok ∙ ap₂ both_masks c.validity.ensures.mask c.validity-2.ensures.mask in
+    combination_fits (λ x y. x && y) c.args.lhs.now c.args.rhs.now c.in_ok-values.values c.in_ok-validity.validity
+    values mask c.requires
+
+pub returns-clause-ok : goal.returns-clause-ok
+returns-clause-ok c =
+    let values = c.in_ok-values.ensures.ok ∙ ap₂ (combine_values (λ x y. x && y)) c.values.ensures c.values-2.ensures in
+    let mask = c.in_ok-validity.ensures.ok ∙ ap₂ both_masks c.validity.ensures.mask c.validity-2.ensures.mask in
+    makes_combination (λ x y. x && y) c.args.lhs.now c.args.rhs.now c.in_ok-values.values c.in_ok-validity.validity
+    values mask c.validity.ensures.is_column c.validity-2.ensures.is_column c.new.result c.new.ensures

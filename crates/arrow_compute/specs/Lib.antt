@@ -1,0 +1,5 @@
+pub mod Comparison
+pub mod Kleene
+pub mod Logic
+pub mod Slots
+pub mod Words

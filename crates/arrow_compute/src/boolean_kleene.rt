@@ -1,0 +1,201 @@
+//! Logic of three values, in which a null is a boolean that is not known.
+ghost use Rattle.std.specs.Prelude.{◌≡◌, ◌==◌, ◌+◌, ◌<◌, ◌≤◌, ℕ, Bool, IfOk, Option, Some, is_some, length};
+ghost use Rattle.std.specs.Prelude.{slice_get};
+ghost use Rattle.std.specs.Int.{bit_at};
+ghost use Rattle.arrow_types.specs.Failures.{OnlyOutOfMemory};
+ghost use Rattle.arrow_boolean.specs.Fits.{boolean_type};
+ghost use Rattle.arrow_column.specs.Column.{IsColumn, marks_of, slots_of};
+ghost use Rattle.arrow_compute.specs.Kleene.{all_of, any_of, kleene_and, kleene_or, mask_of_known};
+ghost use Rattle.arrow_compute.specs.Slots.{CombinesSlots};
+ghost use Rattle.arrow_compute.specs.Words.{HoldsMarks, slot_bit};
+
+use crate::words::{MarkWords, collect_marks, word_of};
+use arrow_boolean::BooleanArray;
+use arrow_memory::bitmap::{self, Bitmap};
+use arrow_types::data_type::DataType;
+use arrow_types::error::Error;
+use std::alloc::Global;
+use std::marker::PhantomData;
+
+/// The values and the marks of 64 slots, as bits.
+#[derive(Clone, Copy)]
+struct SlotWords {
+    values: u64,
+    marks: u64,
+}
+
+/// An operation of three-valued logic.
+trait KleeneOperation {
+    /// What it makes of two slots.
+    ghost table: { Option Bool → Option Bool → Option Bool };
+
+    /// Returns which of 64 results are known, from the values and the marks of the slots.
+    fn known(left: u64, left_marks: u64, right: u64, right_marks: u64) -> u64
+        ensures { (k : ℕ) → k < 64 → (bit_at result k == 1)
+            ≡ is_some (table (slot_bit left left_marks k) (slot_bit right right_marks k)) };
+}
+
+/// False where either slot is false.
+struct KleeneAnd;
+
+impl KleeneOperation for KleeneAnd {
+    ghost use Rattle.arrow_compute.specs.Kleene.{kleene_and};
+
+    ghost table = { kleene_and };
+
+    #[inline(always)]
+    fn known(left: u64, left_marks: u64, right: u64, right_marks: u64) -> u64 {
+        (left_marks & right_marks) | (left_marks & !left) | (right_marks & !right)
+    }
+}
+
+/// True where either slot is true.
+struct KleeneOr;
+
+impl KleeneOperation for KleeneOr {
+    ghost use Rattle.arrow_compute.specs.Kleene.{kleene_or};
+
+    ghost table = { kleene_or };
+
+    #[inline(always)]
+    fn known(left: u64, left_marks: u64, right: u64, right_marks: u64) -> u64 {
+        (left_marks & right_marks) | (left_marks & left) | (right_marks & right)
+    }
+}
+
+/// Returns the `count` marks of slots from `place` on, all set if no mask is held.
+#[inline(always)]
+fn marks_word(array: &BooleanArray, place: usize, count: usize) -> u64
+    requires few { count ≤ 64 }
+    requires within { place + count ≤ length array.now.rows }
+    ensures { HoldsMarks result (marks_of array.now) place count }
+{
+    match array.validity() {
+        Some(mask) => word_of(mask, place, count),
+        None => u64::MAX,
+    }
+}
+
+/// Returns the values and the marks of `count` slots from `place` on.
+#[inline(always)]
+fn slot_words(array: &BooleanArray, place: usize, count: usize) -> SlotWords
+    requires few { count ≤ 64 }
+    requires within { place + count ≤ length array.now.rows }
+    ensures { (k : ℕ) → k < count → slice_get (slots_of array.now) (place + k)
+        ≡ Some (slot_bit result.values result.marks k) }
+{
+    SlotWords {
+        values: word_of(array.values(), place, count),
+        marks: marks_word(array, place, count),
+    }
+}
+
+/// Which slots an operation on two arrays makes known.
+#[derive(Drop)]
+struct Known<'a, K> {
+    lhs: &'a BooleanArray,
+    rhs: &'a BooleanArray,
+    operation: PhantomData<K>,
+}
+
+impl<'a, K: KleeneOperation> MarkWords for Known<'a, K> {
+    ghost use Rattle.arrow_column.specs.Column.{slots_of};
+    ghost use Rattle.arrow_compute.specs.Kleene.{known_slots};
+
+    ghost marks = { λ known. known_slots K.table (slots_of known.lhs.now) (slots_of known.rhs.now) };
+
+    #[inline(always)]
+    fn len(&self) -> usize {
+        self.lhs.len().min(self.rhs.len())
+    }
+
+    #[inline(always)]
+    fn word(&self, place: usize, count: usize) -> u64 {
+        let left = slot_words(self.lhs, place, count);
+        let right = slot_words(self.rhs, place, count);
+        K::known(left.values, left.marks, right.values, right.marks)
+    }
+}
+
+/// Returns the mask of what an operation makes of two arrays, if either holds one.
+fn known_mask<K: KleeneOperation>(
+    alloc: Global,
+    lhs: &BooleanArray,
+    rhs: &BooleanArray,
+) -> Result<Option<Bitmap>, Error>
+    requires { length lhs.now.rows ≡ length rhs.now.rows }
+    ensures ok { IfOk result (λ mask. mask ≡ mask_of_known K.table lhs.now rhs.now) }
+    ensures left { IsColumn lhs.now }
+    ensures right { IsColumn rhs.now }
+    ensures err { OnlyOutOfMemory result }
+{
+    let is_held = lhs.validity().is_some() | rhs.validity().is_some();
+    if !is_held {
+        return Ok(None);
+    }
+    let source = Known {
+        lhs,
+        rhs,
+        operation: PhantomData::<K>,
+    };
+    Ok(Some(collect_marks(alloc, &source)?.freeze()?))
+}
+
+/// Returns whether each slot of `lhs` and the slot of `rhs` at its place are true: false where
+/// either is false, also if the other is null, and null where neither is false and one is null.
+/// Both arrays must have equally many slots. The result holds a mask if either array does.
+///
+/// # Errors
+/// `OutOfMemory` if an allocation fails.
+pub fn and(alloc: Global, lhs: &BooleanArray, rhs: &BooleanArray) -> Result<BooleanArray, Error>
+    requires { length lhs.now.rows ≡ length rhs.now.rows }
+    ensures ok { IfOk result (CombinesSlots boolean_type kleene_and lhs.now rhs.now) }
+    ensures err { OnlyOutOfMemory result }
+{
+    let values = bitmap::and(alloc, lhs.values(), rhs.values())?;
+    let validity = known_mask::<KleeneAnd>(alloc, lhs, rhs)?;
+    Ok(BooleanArray::new(DataType::Boolean, values, validity))
+}
+
+/// Returns whether each slot of `lhs` or the slot of `rhs` at its place is true: true where either
+/// is true, also if the other is null, and null where neither is true and one is null. Both arrays
+/// must have equally many slots. The result holds a mask if either array does.
+///
+/// # Errors
+/// `OutOfMemory` if an allocation fails.
+pub fn or(alloc: Global, lhs: &BooleanArray, rhs: &BooleanArray) -> Result<BooleanArray, Error>
+    requires { length lhs.now.rows ≡ length rhs.now.rows }
+    ensures ok { IfOk result (CombinesSlots boolean_type kleene_or lhs.now rhs.now) }
+    ensures err { OnlyOutOfMemory result }
+{
+    let values = bitmap::or(alloc, lhs.values(), rhs.values())?;
+    let validity = known_mask::<KleeneOr>(alloc, lhs, rhs)?;
+    Ok(BooleanArray::new(DataType::Boolean, values, validity))
+}
+
+/// Returns whether a slot is true: `None` if no slot is true and one is null.
+pub fn any(array: &BooleanArray) -> Option<bool>
+    ensures { result ≡ any_of (slots_of array.now) }
+{
+    if array.true_count() > 0 {
+        Some(true)
+    } else if array.null_count() > 0 {
+        None
+    } else {
+        Some(false)
+    }
+}
+
+/// Returns whether all slots are true: `None` if no slot is false and one is null.
+pub fn all(array: &BooleanArray) -> Option<bool>
+    ensures { result ≡ all_of (slots_of array.now) }
+{
+    let nulls = array.null_count();
+    if array.true_count() < array.len() - nulls {
+        Some(false)
+    } else if nulls > 0 {
+        None
+    } else {
+        Some(true)
+    }
+}

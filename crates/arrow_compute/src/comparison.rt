@@ -1,0 +1,310 @@
+//! Comparisons of two arrays, slot by slot, and of an array with one value.
+//!
+//! They take arrays of every kind whose values have an order. The modules `primitive`, `boolean`,
+//! `binary` and `utf8` pass the same functions on.
+ghost use Rattle.std.specs.Prelude.{◌≡◌, IfOk, length};
+ghost use Rattle.std.specs.Ordering.{is_eq, is_ne, is_lt, is_le, is_gt, is_ge};
+ghost use Rattle.arrow_types.specs.Failures.{OnlyOutOfMemory};
+ghost use Rattle.arrow_boolean.specs.Fits.{boolean_type};
+ghost use Rattle.arrow_compute.specs.Comparison.{compare_slot, compare_slots, compare_stored, equal_slots};
+ghost use Rattle.arrow_compute.specs.Comparison.{unequal_slots};
+ghost use Rattle.arrow_compute.specs.Slots.{CombinesSlots, MapsSlots, booleans};
+
+pub mod binary;
+pub mod boolean;
+mod booleans;
+mod bytes;
+mod numbers;
+pub mod operators;
+pub mod ordered;
+pub mod primitive;
+pub mod utf8;
+
+use self::operators::{Comparison, Equal, Greater, GreaterOrEqual, Less, LessOrEqual, Unequal};
+use self::ordered::{OrderedArray, Scalar};
+use crate::masks::{clone_mask, mask_of_both};
+use arrow_boolean::BooleanArray;
+use arrow_memory::bitmap::{self, Bitmap};
+use arrow_types::data_type::DataType;
+use arrow_types::error::Error;
+use std::alloc::Global;
+
+/// Returns whether the comparison holds of each pair of slots of two arrays of equal length.
+fn compare<C: Comparison, A: OrderedArray>(
+    alloc: Global,
+    lhs: &A,
+    rhs: &A,
+) -> Result<BooleanArray, Error>
+    requires { length (A.column lhs.now).rows ≡ length (A.column rhs.now).rows }
+    ensures ok { IfOk result (CombinesSlots boolean_type (compare_slots C.test A.order)
+        (A.column lhs.now) (A.column rhs.now)) }
+    ensures err { OnlyOutOfMemory result }
+{
+    let truths = A::compare_stored::<C>(alloc, lhs, rhs)?;
+    let validity = mask_of_both(alloc, lhs.validity(), rhs.validity())?;
+    Ok(BooleanArray::new(DataType::Boolean, truths, validity))
+}
+
+/// Returns whether the comparison holds of each slot and `rhs`.
+fn compare_with_scalar<C: Comparison, A: OrderedArray, S: Scalar<A>>(
+    alloc: Global,
+    lhs: &A,
+    rhs: S,
+) -> Result<BooleanArray, Error>
+    ensures ok { IfOk result (MapsSlots boolean_type (compare_slot C.test A.order (S.value rhs)) (A.column lhs.now)) }
+    ensures err { OnlyOutOfMemory result }
+{
+    let truths = S::compare_stored::<C>(alloc, lhs, rhs)?;
+    let validity = clone_mask(lhs.validity())?;
+    Ok(BooleanArray::new(DataType::Boolean, truths, validity))
+}
+
+/// Returns whether each slot of `lhs` is equal to the slot of `rhs` at its place; null where either
+/// is null. Both arrays must have equally many slots. The result holds a mask if either array does.
+///
+/// # Errors
+/// `OutOfMemory` if an allocation fails.
+pub fn eq<A: OrderedArray>(alloc: Global, lhs: &A, rhs: &A) -> Result<BooleanArray, Error>
+    requires { length (A.column lhs.now).rows ≡ length (A.column rhs.now).rows }
+    ensures ok { IfOk result (CombinesSlots boolean_type (compare_slots is_eq A.order)
+        (A.column lhs.now) (A.column rhs.now)) }
+    ensures err { OnlyOutOfMemory result }
+{
+    compare::<Equal, A>(alloc, lhs, rhs)
+}
+
+/// Returns whether each slot of `lhs` is equal to `rhs`; null where the slot is null. The result
+/// holds a mask if the array does.
+///
+/// # Errors
+/// `OutOfMemory` if an allocation fails.
+pub fn eq_scalar<A: OrderedArray, S: Scalar<A>>(
+    alloc: Global,
+    lhs: &A,
+    rhs: S,
+) -> Result<BooleanArray, Error>
+    ensures ok { IfOk result (MapsSlots boolean_type (compare_slot is_eq A.order (S.value rhs)) (A.column lhs.now)) }
+    ensures err { OnlyOutOfMemory result }
+{
+    compare_with_scalar::<Equal, A, S>(alloc, lhs, rhs)
+}
+
+/// Returns whether each slot of `lhs` is different from the slot of `rhs` at its place; null where
+/// either is null. Both arrays must have equally many slots. The result holds a mask if either
+/// array does.
+///
+/// # Errors
+/// `OutOfMemory` if an allocation fails.
+pub fn neq<A: OrderedArray>(alloc: Global, lhs: &A, rhs: &A) -> Result<BooleanArray, Error>
+    requires { length (A.column lhs.now).rows ≡ length (A.column rhs.now).rows }
+    ensures ok { IfOk result (CombinesSlots boolean_type (compare_slots is_ne A.order)
+        (A.column lhs.now) (A.column rhs.now)) }
+    ensures err { OnlyOutOfMemory result }
+{
+    compare::<Unequal, A>(alloc, lhs, rhs)
+}
+
+/// Returns whether each slot of `lhs` is different from `rhs`; null where the slot is null. The
+/// result holds a mask if the array does.
+///
+/// # Errors
+/// `OutOfMemory` if an allocation fails.
+pub fn neq_scalar<A: OrderedArray, S: Scalar<A>>(
+    alloc: Global,
+    lhs: &A,
+    rhs: S,
+) -> Result<BooleanArray, Error>
+    ensures ok { IfOk result (MapsSlots boolean_type (compare_slot is_ne A.order (S.value rhs)) (A.column lhs.now)) }
+    ensures err { OnlyOutOfMemory result }
+{
+    compare_with_scalar::<Unequal, A, S>(alloc, lhs, rhs)
+}
+
+/// Returns whether each slot of `lhs` is less than the slot of `rhs` at its place; null where
+/// either is null. Both arrays must have equally many slots. The result holds a mask if either
+/// array does.
+///
+/// # Errors
+/// `OutOfMemory` if an allocation fails.
+pub fn lt<A: OrderedArray>(alloc: Global, lhs: &A, rhs: &A) -> Result<BooleanArray, Error>
+    requires { length (A.column lhs.now).rows ≡ length (A.column rhs.now).rows }
+    ensures ok { IfOk result (CombinesSlots boolean_type (compare_slots is_lt A.order)
+        (A.column lhs.now) (A.column rhs.now)) }
+    ensures err { OnlyOutOfMemory result }
+{
+    compare::<Less, A>(alloc, lhs, rhs)
+}
+
+/// Returns whether each slot of `lhs` is less than `rhs`; null where the slot is null. The result
+/// holds a mask if the array does.
+///
+/// # Errors
+/// `OutOfMemory` if an allocation fails.
+pub fn lt_scalar<A: OrderedArray, S: Scalar<A>>(
+    alloc: Global,
+    lhs: &A,
+    rhs: S,
+) -> Result<BooleanArray, Error>
+    ensures ok { IfOk result (MapsSlots boolean_type (compare_slot is_lt A.order (S.value rhs)) (A.column lhs.now)) }
+    ensures err { OnlyOutOfMemory result }
+{
+    compare_with_scalar::<Less, A, S>(alloc, lhs, rhs)
+}
+
+/// Returns whether each slot of `lhs` is less than or equal to the slot of `rhs` at its place; null
+/// where either is null. Both arrays must have equally many slots. The result holds a mask if
+/// either array does.
+///
+/// # Errors
+/// `OutOfMemory` if an allocation fails.
+pub fn lt_eq<A: OrderedArray>(alloc: Global, lhs: &A, rhs: &A) -> Result<BooleanArray, Error>
+    requires { length (A.column lhs.now).rows ≡ length (A.column rhs.now).rows }
+    ensures ok { IfOk result (CombinesSlots boolean_type (compare_slots is_le A.order)
+        (A.column lhs.now) (A.column rhs.now)) }
+    ensures err { OnlyOutOfMemory result }
+{
+    compare::<LessOrEqual, A>(alloc, lhs, rhs)
+}
+
+/// Returns whether each slot of `lhs` is less than or equal to `rhs`; null where the slot is null.
+/// The result holds a mask if the array does.
+///
+/// # Errors
+/// `OutOfMemory` if an allocation fails.
+pub fn lt_eq_scalar<A: OrderedArray, S: Scalar<A>>(
+    alloc: Global,
+    lhs: &A,
+    rhs: S,
+) -> Result<BooleanArray, Error>
+    ensures ok { IfOk result (MapsSlots boolean_type (compare_slot is_le A.order (S.value rhs)) (A.column lhs.now)) }
+    ensures err { OnlyOutOfMemory result }
+{
+    compare_with_scalar::<LessOrEqual, A, S>(alloc, lhs, rhs)
+}
+
+/// Returns whether each slot of `lhs` is greater than the slot of `rhs` at its place; null where
+/// either is null. Both arrays must have equally many slots. The result holds a mask if either
+/// array does.
+///
+/// # Errors
+/// `OutOfMemory` if an allocation fails.
+pub fn gt<A: OrderedArray>(alloc: Global, lhs: &A, rhs: &A) -> Result<BooleanArray, Error>
+    requires { length (A.column lhs.now).rows ≡ length (A.column rhs.now).rows }
+    ensures ok { IfOk result (CombinesSlots boolean_type (compare_slots is_gt A.order)
+        (A.column lhs.now) (A.column rhs.now)) }
+    ensures err { OnlyOutOfMemory result }
+{
+    compare::<Greater, A>(alloc, lhs, rhs)
+}
+
+/// Returns whether each slot of `lhs` is greater than `rhs`; null where the slot is null. The
+/// result holds a mask if the array does.
+///
+/// # Errors
+/// `OutOfMemory` if an allocation fails.
+pub fn gt_scalar<A: OrderedArray, S: Scalar<A>>(
+    alloc: Global,
+    lhs: &A,
+    rhs: S,
+) -> Result<BooleanArray, Error>
+    ensures ok { IfOk result (MapsSlots boolean_type (compare_slot is_gt A.order (S.value rhs)) (A.column lhs.now)) }
+    ensures err { OnlyOutOfMemory result }
+{
+    compare_with_scalar::<Greater, A, S>(alloc, lhs, rhs)
+}
+
+/// Returns whether each slot of `lhs` is greater than or equal to the slot of `rhs` at its place;
+/// null where either is null. Both arrays must have equally many slots. The result holds a mask if
+/// either array does.
+///
+/// # Errors
+/// `OutOfMemory` if an allocation fails.
+pub fn gt_eq<A: OrderedArray>(alloc: Global, lhs: &A, rhs: &A) -> Result<BooleanArray, Error>
+    requires { length (A.column lhs.now).rows ≡ length (A.column rhs.now).rows }
+    ensures ok { IfOk result (CombinesSlots boolean_type (compare_slots is_ge A.order)
+        (A.column lhs.now) (A.column rhs.now)) }
+    ensures err { OnlyOutOfMemory result }
+{
+    compare::<GreaterOrEqual, A>(alloc, lhs, rhs)
+}
+
+/// Returns whether each slot of `lhs` is greater than or equal to `rhs`; null where the slot is
+/// null. The result holds a mask if the array does.
+///
+/// # Errors
+/// `OutOfMemory` if an allocation fails.
+pub fn gt_eq_scalar<A: OrderedArray, S: Scalar<A>>(
+    alloc: Global,
+    lhs: &A,
+    rhs: S,
+) -> Result<BooleanArray, Error>
+    ensures ok { IfOk result (MapsSlots boolean_type (compare_slot is_ge A.order (S.value rhs)) (A.column lhs.now)) }
+    ensures err { OnlyOutOfMemory result }
+{
+    compare_with_scalar::<GreaterOrEqual, A, S>(alloc, lhs, rhs)
+}
+
+/// Returns where slots are valid in both of two arrays and their stored values are equal, and where
+/// they are null in both. `truths` says which stored values are equal.
+fn equal_or_null<A: OrderedArray>(
+    alloc: Global,
+    truths: Bitmap,
+    lhs: &A,
+    rhs: &A,
+) -> Result<Bitmap, Error>
+    requires same { length (A.column lhs.now).rows ≡ length (A.column rhs.now).rows }
+    requires truths { truths ≡ compare_stored is_eq A.order (A.column lhs.now) (A.column rhs.now) }
+    ensures ok { IfOk result (λ equal. equal ≡ equal_slots A.order (A.column lhs.now) (A.column rhs.now)) }
+    ensures err { OnlyOutOfMemory result }
+{
+    match (lhs.validity(), rhs.validity()) {
+        (None, None) => Ok(truths),
+        (Some(mask), None) => bitmap::and(alloc, &truths, mask),
+        (None, Some(mask)) => bitmap::and(alloc, &truths, mask),
+        (Some(lhs), Some(rhs)) => {
+            let equal = bitmap::and(alloc, &truths, &bitmap::and(alloc, lhs, rhs)?)?;
+            let null = bitmap::not(alloc, &bitmap::or(alloc, lhs, rhs)?)?;
+            bitmap::or(alloc, &equal, &null)
+        }
+    }
+}
+
+/// Returns whether each slot of `lhs` is equal to the slot of `rhs` at its place, where two nulls
+/// are equal, and a null and a value are not. Both arrays must have equally many slots. The result
+/// has no null and no mask.
+///
+/// # Errors
+/// `OutOfMemory` if an allocation fails.
+pub fn eq_and_validity<A: OrderedArray>(
+    alloc: Global,
+    lhs: &A,
+    rhs: &A,
+) -> Result<BooleanArray, Error>
+    requires { length (A.column lhs.now).rows ≡ length (A.column rhs.now).rows }
+    ensures ok { IfOk result (λ made. made ≡ booleans (equal_slots A.order (A.column lhs.now) (A.column rhs.now))) }
+    ensures err { OnlyOutOfMemory result }
+{
+    let truths = A::compare_stored::<Equal>(alloc, lhs, rhs)?;
+    let equal = equal_or_null(alloc, truths, lhs, rhs)?;
+    Ok(BooleanArray::new(DataType::Boolean, equal, None))
+}
+
+/// Returns whether each slot of `lhs` is different from the slot of `rhs` at its place, where two
+/// nulls are equal, and a null and a value are not. Both arrays must have equally many slots. The
+/// result has no null and no mask.
+///
+/// # Errors
+/// `OutOfMemory` if an allocation fails.
+pub fn neq_and_validity<A: OrderedArray>(
+    alloc: Global,
+    lhs: &A,
+    rhs: &A,
+) -> Result<BooleanArray, Error>
+    requires { length (A.column lhs.now).rows ≡ length (A.column rhs.now).rows }
+    ensures ok { IfOk result (λ made. made ≡ booleans (unequal_slots A.order (A.column lhs.now) (A.column rhs.now))) }
+    ensures err { OnlyOutOfMemory result }
+{
+    let truths = A::compare_stored::<Equal>(alloc, lhs, rhs)?;
+    let equal = equal_or_null(alloc, truths, lhs, rhs)?;
+    Ok(BooleanArray::new(DataType::Boolean, bitmap::not(alloc, &equal)?, None))
+}

@@ -1,0 +1,116 @@
+//! Arrays of bytes and of text as arrays whose values have an order.
+ghost use Rattle.std.specs.Prelude.{◌≡◌, ◌<◌, ◌≤◌, length, slice_get, Some};
+ghost use Rattle.arrow_column.specs.Column.{stored_values};
+
+use super::operators::Comparison;
+use super::ordered::{OrderedArray, Scalar};
+use crate::words::{Marks, Packed, collect_marks};
+use arrow_byte_array::ByteArray;
+use arrow_bytes::{ByteItem, ByteKind};
+use arrow_memory::bitmap::Bitmap;
+use arrow_types::error::Error;
+use arrow_types::offset::Offset;
+use std::alloc::Global;
+use std::marker::PhantomData;
+
+/// Returns the bytes of the item that is stored at `i`.
+#[inline(always)]
+fn item_at<K: ByteKind, O: Offset>(array: &ByteArray<K, O>, i: usize) -> &[u8]
+    requires { i < length array.now.rows }
+    ensures { slice_get (stored_values array.now) i ≡ Some result.now }
+{
+    let (start, end) = array.offsets().start_end(i);
+    &array.values().as_slice()[start..end]
+}
+
+/// Whether a comparison holds of the items at each index of two arrays.
+#[derive(Drop)]
+struct ItemPairs<'a, C, K: ByteKind, O: Offset> {
+    lhs: &'a ByteArray<K, O>,
+    rhs: &'a ByteArray<K, O>,
+    comparison: PhantomData<C>,
+}
+
+impl<'a, C: Comparison, K: ByteKind, O: Offset> Marks for ItemPairs<'a, C, K, O> {
+    ghost use Rattle.std.specs.Ordering.{nat_cmp};
+    ghost use Rattle.std.specs.Cmp.Lexicographic.{slice_cmp};
+    ghost use Rattle.arrow_column.specs.Column.{stored_values};
+    ghost use Rattle.arrow_compute.specs.Comparison.{compare_values};
+
+    ghost marks = { λ pairs. compare_values C.test (slice_cmp nat_cmp)
+        (stored_values pairs.lhs.now) (stored_values pairs.rhs.now) };
+
+    #[inline(always)]
+    fn len(&self) -> usize {
+        self.lhs.len().min(self.rhs.len())
+    }
+
+    #[inline(always)]
+    fn mark(&self, i: usize) -> bool {
+        C::test(&item_at(self.lhs, i), &item_at(self.rhs, i))
+    }
+}
+
+/// Whether a comparison holds of the item at each index of an array and another.
+#[derive(Drop)]
+struct ItemScalar<'a, C, K: ByteKind, O: Offset> {
+    lhs: &'a ByteArray<K, O>,
+    rhs: &'a [u8],
+    comparison: PhantomData<C>,
+}
+
+impl<'a, C: Comparison, K: ByteKind, O: Offset> Marks for ItemScalar<'a, C, K, O> {
+    ghost use Rattle.std.specs.Ordering.{nat_cmp};
+    ghost use Rattle.std.specs.Cmp.Lexicographic.{slice_cmp};
+    ghost use Rattle.arrow_column.specs.Column.{stored_values};
+    ghost use Rattle.arrow_compute.specs.Comparison.{compare_scalar};
+
+    ghost marks = { λ pairs. compare_scalar C.test (slice_cmp nat_cmp) (stored_values pairs.lhs.now) pairs.rhs.now };
+
+    #[inline(always)]
+    fn len(&self) -> usize {
+        self.lhs.len()
+    }
+
+    #[inline(always)]
+    fn mark(&self, i: usize) -> bool {
+        C::test(&item_at(self.lhs, i), &self.rhs)
+    }
+}
+
+impl<K: ByteKind, O: Offset> OrderedArray for ByteArray<K, O> {
+    ghost use Rattle.std.specs.Ordering.{nat_cmp};
+    ghost use Rattle.std.specs.Cmp.Lexicographic.{slice_cmp};
+
+    ghost order = { slice_cmp nat_cmp };
+
+    fn compare_stored<C: Comparison>(
+        alloc: Global,
+        lhs: &Self,
+        rhs: &Self,
+    ) -> Result<Bitmap, Error> {
+        let source = ItemPairs {
+            lhs,
+            rhs,
+            comparison: PhantomData::<C>,
+        };
+        collect_marks(alloc, &Packed { source })?.freeze()
+    }
+}
+
+impl<K: ByteKind, O: Offset, I: ByteItem<K>> Scalar<ByteArray<K, O>> for I {
+    ghost value = { I.bytes };
+
+    fn compare_stored<C: Comparison>(
+        alloc: Global,
+        lhs: &ByteArray<K, O>,
+        rhs: I,
+    ) -> Result<Bitmap, Error> {
+        let source = ItemScalar {
+            lhs,
+            rhs: rhs.bytes(),
+            comparison: PhantomData::<C>,
+        };
+        collect_marks(alloc, &Packed { source })?.freeze()
+    }
+}

@@ -1,0 +1,9 @@
+//! Kernels that make one slot of the slots at a place, under arrow2's module and function names:
+//! comparisons, logic in which a null stays null, and logic of three values.
+#![tactic(auto)]
+
+pub mod boolean;
+pub mod boolean_kleene;
+pub mod comparison;
+pub mod masks;
+mod words;

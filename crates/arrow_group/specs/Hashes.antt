@@ -1,0 +1,18 @@
+-- Hashes of slots, by the fixed hash function of std's maps.
+use Rattle.std.specs.Prelude.{◌≡◌, ℕ, List, fold, map, None, Option}
+use Rattle.arrow_types.specs.Types.{default_logical_type}
+use Rattle.arrow_types.specs.declared.primitive_type.PrimitiveType.TheVariants.{UInt64}
+use Rattle.arrow_column.specs.Column.{Column, ColumnWith, column_of_parts, slots_of}
+use Rattle.std.specs.Hash.FoldHasher as folding
+
+-- the hash of what is fed to the hash function
+abbrev pub hash_of : List (List ℕ) → ℕ
+hash_of inputs = folding.finish (fold folding.write folding.initial inputs)
+
+-- an array without a mask of the hash of each key; `input` says what of a key is fed to the hash function
+abbrev pub HashesKeys : {K : Type 0} → (K → List (List ℕ)) → List K → Column ℕ → Type 0
+HashesKeys input keys made = made ≡ column_of_parts (default_logical_type UInt64) (map (λ key. hash_of (input key)) keys) None
+
+-- the same of slots
+abbrev pub HashesSlots : {A S : Type 0} → (Option S → List (List ℕ)) → ColumnWith A S → Column ℕ → Type 0
+HashesSlots input column made = HashesKeys input (slots_of column) made

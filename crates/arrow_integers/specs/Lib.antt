@@ -1,0 +1,2 @@
+pub mod NativeArithmetics
+pub mod NativeNumbers

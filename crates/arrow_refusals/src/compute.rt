@@ -1,0 +1,87 @@
+//! Kernels that compute: comparisons, logic, arithmetic and sorts of three slots.
+use crate::boolean::array_text as boolean_text;
+use crate::primitive::array_text as number_text;
+use crate::refusal::{end, results};
+use arrow_arithmetics::basic::{add, checked_mul_scalar, negate, saturating_sub};
+use arrow_boolean::BooleanArray;
+use arrow_compute::boolean::{self, is_null};
+use arrow_compute::boolean_kleene;
+use arrow_compute::comparison::{eq_scalar, lt};
+use arrow_primitive::PrimitiveArray;
+use arrow_sort::SortOptions;
+use arrow_sort::sort::{sort, sort_to_indices};
+use arrow_testing::Text;
+use arrow_types::error::Error;
+use std::alloc::Global;
+use std::test::Fail;
+
+/// Creates three numbers, and three others.
+fn numbers(alloc: Global) -> Result<(PrimitiveArray<i64>, PrimitiveArray<i64>), Error> {
+    let first = PrimitiveArray::from_slice(alloc, [7, 8, 9].as_slice())?;
+    Ok((
+        first,
+        PrimitiveArray::from_slice(alloc, [8, 8, 8].as_slice())?,
+    ))
+}
+
+/// Writes indexes.
+fn index_text(array: &PrimitiveArray<u64>) -> Text {
+    Text::of(format_args!("{:?}", array.values().as_slice()))
+}
+
+/// The greatest first.
+const DESCENDING: SortOptions = SortOptions {
+    descending: true,
+    nulls_first: true,
+};
+
+#[test]
+fn kernels_that_compute_with_numbers_answer_again(rt: HostRuntime) -> Result<(), Fail> {
+    let alloc = rt.alloc();
+    let Ok((lhs, rhs)) = numbers(alloc) else {
+        return end(true);
+    };
+    assert!(&rt; lhs.len() == rhs.len());
+    let is_refused = results! { &rt;
+        boolean_text: lt(alloc, &lhs, &rhs) => "true false false";
+        boolean_text: eq_scalar(alloc, &lhs, 8i64) => "false true false";
+        number_text: add(alloc, &lhs, &rhs) => "15 16 17";
+        number_text: saturating_sub(alloc, &lhs, &rhs) => "-1 0 1";
+        number_text: checked_mul_scalar(alloc, &lhs, 2) => "14 16 18 under 111";
+        number_text: negate(alloc, &lhs) => "-7 -8 -9";
+        index_text: sort_to_indices(alloc, &lhs, DESCENDING, None) => "[2, 1, 0]";
+        number_text: sort(alloc, &lhs, DESCENDING, Some(2)) => "9 8";
+    };
+    drop(rhs);
+    drop(lhs);
+    end(is_refused)
+}
+
+/// Creates three booleans, and three others.
+fn booleans(alloc: Global) -> Result<(BooleanArray, BooleanArray), Error> {
+    let first = BooleanArray::from_slice(alloc, [true, true, false].as_slice())?;
+    Ok((
+        first,
+        BooleanArray::from_slice(alloc, [true, false, false].as_slice())?,
+    ))
+}
+
+#[test]
+fn kernels_that_compute_with_booleans_answer_again(rt: HostRuntime) -> Result<(), Fail> {
+    let alloc = rt.alloc();
+    let Ok((lhs, rhs)) = booleans(alloc) else {
+        return end(true);
+    };
+    assert!(&rt; lhs.len() == rhs.len());
+    let is_refused = results! { &rt;
+        boolean_text: boolean::and(alloc, &lhs, &rhs) => "true false false";
+        boolean_text: boolean::or(alloc, &lhs, &rhs) => "true true false";
+        boolean_text: boolean::not(alloc, &lhs) => "false false true";
+        boolean_text: is_null(alloc, &lhs) => "false false false";
+        boolean_text: boolean_kleene::and(alloc, &lhs, &rhs) => "true false false";
+        boolean_text: boolean_kleene::or(alloc, &lhs, &rhs) => "true true false";
+    };
+    drop(rhs);
+    drop(lhs);
+    end(is_refused)
+}

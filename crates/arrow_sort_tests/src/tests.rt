@@ -1,0 +1,165 @@
+//! Sorts. What each returns was worked out by hand.
+use arrow_boolean::BooleanArray;
+use arrow_primitive::PrimitiveArray;
+use arrow_sort::SortOptions;
+use arrow_sort::lexsort::{SortColumn, SortValues, lexsort_to_indices};
+use arrow_sort::sort::{sort, sort_to_indices};
+use arrow_testing::assert_text;
+use arrow_utf8::Utf8Array;
+
+const ASCENDING: SortOptions = SortOptions {
+    descending: false,
+    nulls_first: false,
+};
+
+const ASCENDING_NULLS_FIRST: SortOptions = SortOptions {
+    descending: false,
+    nulls_first: true,
+};
+
+const DESCENDING: SortOptions = SortOptions {
+    descending: true,
+    nulls_first: false,
+};
+
+const DESCENDING_NULLS_FIRST: SortOptions = SortOptions {
+    descending: true,
+    nulls_first: true,
+};
+
+/// A name, options, a limit, the indexes that sort, the slots there, and the mask.
+type Case = (
+    &'static str,
+    SortOptions,
+    Option<usize>,
+    &'static str,
+    &'static str,
+    &'static str,
+);
+
+#[rattlefmt::skip]
+const NUMBERS: &[Case] = &[
+    ("ascending", ASCENDING, None, "[2 4 1 3 0 5]", "[1 2 3 3 _ _]", "111100"),
+    ("ascending, nulls first", ASCENDING_NULLS_FIRST, None, "[0 5 2 4 1 3]", "[_ _ 1 2 3 3]", "001111"),
+    ("descending", DESCENDING, None, "[1 3 4 2 0 5]", "[3 3 2 1 _ _]", "111100"),
+    ("descending, nulls first", DESCENDING_NULLS_FIRST, None, "[0 5 1 3 4 2]", "[_ _ 3 3 2 1]", "001111"),
+    ("the first two", ASCENDING, Some(2), "[2 4]", "[1 2]", "none"),
+    ("none", DESCENDING, Some(0), "[]", "[]", "none"),
+    ("a limit above the length", DESCENDING_NULLS_FIRST, Some(9), "[0 5 1 3 4 2]", "[_ _ 3 3 2 1]", "001111"),
+];
+
+#[test]
+fn numbers_are_sorted(rt: HostRuntime) {
+    let slots = [None, Some(3), Some(1), Some(3), Some(2), None];
+    let array = PrimitiveArray::<i32>::from(rt.alloc(), &slots).expect(&rt, "memory");
+    for (case, options, limit, indexes, slots, mask) in NUMBERS {
+        let keys = sort_to_indices(rt.alloc(), &array, *options, *limit).expect(&rt, *case);
+        assert_text::slots(keys.iter(), *indexes).expect(&rt, *case);
+        drop(keys);
+        let sorted = sort(rt.alloc(), &array, *options, *limit).expect(&rt, *case);
+        assert_text::slots(sorted.iter(), *slots).expect(&rt, *case);
+        assert_text::mask(sorted.validity(), *mask).expect(&rt, *case);
+        drop(sorted);
+    }
+    drop(array);
+}
+
+#[test]
+fn booleans_are_sorted(rt: HostRuntime) {
+    let slots = [Some(true), None, Some(false), Some(true), Some(false)];
+    let array = BooleanArray::from(rt.alloc(), &slots).expect(&rt, "memory");
+    for (case, options, indexes, expected) in [
+        ("ascending", ASCENDING, "[2 4 0 3 1]", "fftt_"),
+        (
+            "by default, ascending, nulls first",
+            SortOptions::default(),
+            "[1 2 4 0 3]",
+            "_fftt",
+        ),
+        (
+            "descending, nulls first",
+            DESCENDING_NULLS_FIRST,
+            "[1 0 3 2 4]",
+            "_ttff",
+        ),
+    ] {
+        let keys = sort_to_indices(rt.alloc(), &array, options, None).expect(&rt, case);
+        assert_text::slots(keys.iter(), indexes).expect(&rt, case);
+        drop(keys);
+        let sorted = sort(rt.alloc(), &array, options, None).expect(&rt, case);
+        assert_text::bools(sorted.iter(), expected).expect(&rt, case);
+        drop(sorted);
+    }
+    drop(array);
+}
+
+#[test]
+fn texts_are_sorted_by_their_bytes(rt: HostRuntime) {
+    let slots = [Some("b"), Some("ab"), None, Some(""), Some("b"), Some("a")];
+    let array = Utf8Array::<i32>::from(rt.alloc(), &slots).expect(&rt, "memory");
+    for (case, options, indexes, expected) in [
+        (
+            "ascending",
+            ASCENDING,
+            "[3 5 1 0 4 2]",
+            "[\"\" \"a\" \"ab\" \"b\" \"b\" _]",
+        ),
+        (
+            "descending",
+            DESCENDING,
+            "[0 4 1 5 3 2]",
+            "[\"b\" \"b\" \"ab\" \"a\" \"\" _]",
+        ),
+    ] {
+        let keys = sort_to_indices(rt.alloc(), &array, options, None).expect(&rt, case);
+        assert_text::slots(keys.iter(), indexes).expect(&rt, case);
+        drop(keys);
+        let sorted = sort(rt.alloc(), &array, options, None).expect(&rt, case);
+        assert_text::slots(sorted.iter(), expected).expect(&rt, case);
+        drop(sorted);
+    }
+    drop(array);
+}
+
+#[test]
+fn rows_are_sorted_by_the_first_column_that_differs(rt: HostRuntime) {
+    let names = [Some("b"), Some("a"), None, Some("b"), Some("a")];
+    let names = Utf8Array::<i64>::from(rt.alloc(), &names).expect(&rt, "memory");
+    let ages = [Some(5), Some(2), Some(9), None, Some(2)];
+    let ages = PrimitiveArray::<u8>::from(rt.alloc(), &ages).expect(&rt, "memory");
+    for (case, first, second, limit, expected) in [
+        ("without options", None, None, None, "[2 1 4 3 0]"),
+        (
+            "the second descending",
+            None,
+            Some(DESCENDING),
+            None,
+            "[2 1 4 0 3]",
+        ),
+        (
+            "both descending",
+            Some(DESCENDING),
+            Some(DESCENDING),
+            None,
+            "[0 3 1 4 2]",
+        ),
+        ("the first three", None, None, Some(3), "[2 1 4]"),
+    ] {
+        let columns = [
+            SortColumn {
+                values: SortValues::LargeUtf8(&names),
+                options: first,
+            },
+            SortColumn {
+                values: SortValues::UInt8(&ages),
+                options: second,
+            },
+        ];
+        assert!(rt; names.len() == ages.len());
+        let keys = lexsort_to_indices(rt.alloc(), &columns, limit).expect(&rt, case);
+        assert_text::slots(keys.iter(), expected).expect(&rt, case);
+        drop(keys);
+    }
+    drop(ages);
+    drop(names);
+}

@@ -1,4 +1,0 @@
-pub mod Aggregates
-pub mod Comparison
-pub mod Kleene
-pub mod Slots
