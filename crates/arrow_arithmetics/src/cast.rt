@@ -267,8 +267,8 @@ pub fn primitive_to_boolean<T: NativeArithmetics>(
     Ok(BooleanArray::new(DataType::Boolean, marks, validity))
 }
 
-/// Returns the same slots as text, without copying any: their bytes are validated once, those that
-/// null slots store too. The data type must have the physical type of an array of text. The result
+/// Returns the same slots as text, without copying any. Each item has to be UTF-8 by itself, those
+/// that null slots store too. The data type must have the physical type of an array of text. The result
 /// holds a mask if the array does.
 ///
 /// # Errors

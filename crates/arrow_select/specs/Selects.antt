@@ -76,7 +76,7 @@ slots_chosen predicate lhs rhs = chosen_by predicate (slots_of lhs) (slots_of rh
 abbrev pub slots_differing : {A X : Type 0} → (X → X → Bool) → ColumnWith A X → ColumnWith A X → List (Option X)
 slots_differing same lhs rhs = slots_null_if same (slots_of lhs) (slots_of rhs)
 
--- the slots of a column at keys, and the first valid key that is no index of a slot
+-- the slots of a column at keys, and the first valid key that is out of bounds
 abbrev pub slots_taken : {A X K : Type 0} → (K → ℤ) → ColumnWith A X → Column K → List (Option X)
 slots_taken number array keys = slots_at_keys number (slots_of array) (slots_of keys)
 

@@ -21,8 +21,8 @@ use std::alloc::Global;
 /// not tested.
 ///
 /// # Errors
-/// - `OutOfSpec` with the fault of the first valid key that is no index of a slot: it is negative or
-///   does not fit in a `usize`, or else it is not below the number of slots.
+/// - `OutOfSpec` for the first valid key that is out of bounds: it is negative or does not fit in a
+///   `usize`, or else it is not below the number of slots.
 /// - `OutOfMemory` if an allocation fails.
 pub fn take_primitive<T: NativeType, K: NativeType + IndexKey>(
     alloc: Global,

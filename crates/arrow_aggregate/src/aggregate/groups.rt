@@ -1,4 +1,4 @@
-//! Aggregates of groups of slots. Which group a slot belongs to is told by a number for each slot.
+//! Aggregates by group, given the number of the group of each slot.
 ghost use Rattle.std.specs.Prelude.{◌≡◌, ◌<◌, ◌^◌, All, IfOk, length};
 ghost use Rattle.arrow_types.specs.Failures.{OnlyOutOfMemory};
 ghost use Rattle.arrow_column.specs.Column.{slots_of};
