@@ -81,7 +81,7 @@ fn equal_slots_have_equal_hashes(rt: HostRuntime) {
     let made = hash_primitive::<i32>(rt.alloc(), &array).expect(&rt, "memory");
     assert_text::mask(made.validity(), "none").expect(&rt, "no mask");
     let hashes = made.values().as_slice();
-    assert!(rt; hashes.len() == 5);
+    assert!(rt; hashes.len() == 5, "five hashes");
     assert_text::value(first_equal(hashes, hashes[2]), Some(2)).expect(&rt, "zero");
     assert_text::value(first_equal(hashes, hashes[3]), Some(0)).expect(&rt, "seven");
     assert_text::value(first_equal(hashes, hashes[4]), Some(1)).expect(&rt, "a null");
@@ -91,7 +91,7 @@ fn equal_slots_have_equal_hashes(rt: HostRuntime) {
     let array = BooleanArray::from(rt.alloc(), slots.as_slice()).expect(&rt, "memory");
     let made = hash_boolean(rt.alloc(), &array).expect(&rt, "memory");
     let hashes = made.values().as_slice();
-    assert!(rt; hashes.len() == 4);
+    assert!(rt; hashes.len() == 4, "four hashes");
     assert_text::value(first_equal(hashes, hashes[3]), Some(0)).expect(&rt, "true");
     assert_text::value(first_equal(hashes, hashes[2]), Some(2)).expect(&rt, "false");
     drop(made);

@@ -51,8 +51,8 @@ fn check(rt: &impl Abort, case: &str, made: PrimitiveArray<i64>, slots: &str) {
 fn counts_of_groups(rt: HostRuntime) {
     for (case, values, mask, indices, groups, counts, _, _) in CASES {
         let array = dates(&rt, *values, *mask);
-        assert!(rt; indices.len() == array.len());
-        assert!(rt; all_below(*indices, *groups));
+        assert!(rt; indices.len() == array.len(), "a number for each slot");
+        assert!(rt; all_below(*indices, *groups), "numbers of groups");
         let made = group_count(rt.alloc(), &array, *indices, *groups).expect(&rt, "memory");
         assert_text::slots(made.iter(), *counts).expect(&rt, *case);
         drop(made);
@@ -64,8 +64,8 @@ fn counts_of_groups(rt: HostRuntime) {
 fn extremes_of_groups(rt: HostRuntime) {
     for (case, values, mask, indices, groups, _, least, greatest) in CASES {
         let array = dates(&rt, *values, *mask);
-        assert!(rt; indices.len() == array.len());
-        assert!(rt; all_below(*indices, *groups));
+        assert!(rt; indices.len() == array.len(), "a number for each slot");
+        assert!(rt; all_below(*indices, *groups), "numbers of groups");
         let made = group_min(rt.alloc(), &array, *indices, *groups).expect(&rt, "memory");
         check(&rt, *case, made, *least);
         let made = group_max(rt.alloc(), &array, *indices, *groups).expect(&rt, "memory");
@@ -89,8 +89,8 @@ const SUMS: &[(&str, &[Option<i64>], &[usize], usize, Result<&str, Error>)] = &[
 fn sums_of_groups(rt: HostRuntime) {
     for (case, slots, indices, groups, expected) in SUMS {
         let array = PrimitiveArray::from(rt.alloc(), *slots).expect(&rt, "memory");
-        assert!(rt; indices.len() == array.len());
-        assert!(rt; all_below(*indices, *groups));
+        assert!(rt; indices.len() == array.len(), "a number for each slot");
+        assert!(rt; all_below(*indices, *groups), "numbers of groups");
         let made = group_sum(rt.alloc(), &array, *indices, *groups);
         match *expected {
             Ok(text) => {

@@ -136,7 +136,7 @@ const PERIODS: &[(&str, usize, usize, i32, i32, i32)] = &[
 #[test]
 fn aggregates_of_long_arrays(rt: HostRuntime) {
     for (case, period, from, sum, least, greatest) in PERIODS {
-        assert!(rt; *period != 0);
+        assert!(rt; *period != 0, "a period above zero");
         let mut values = Vec::new(rt.alloc());
         let mut marks = MutableBitmap::new(rt.alloc());
         for i in 0..300usize {

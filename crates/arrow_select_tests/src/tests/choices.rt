@@ -35,8 +35,14 @@ fn numbers_are_chosen(rt: HostRuntime) {
     let predicate = BooleanArray::from(rt.alloc(), &predicate).expect(&rt, "memory");
     let lhs = numbers(&rt, &[Some(1), Some(2), Some(3), None, Some(5)]);
     let rhs = numbers(&rt, &[Some(4), Some(5), Some(6), Some(7), Some(5)]);
-    assert!(rt; lhs.len() == predicate.len());
-    assert!(rt; rhs.len() == predicate.len());
+    assert!(rt;
+        lhs.len() == predicate.len(),
+        "a value for each slot of the predicate"
+    );
+    assert!(rt;
+        rhs.len() == predicate.len(),
+        "another for each slot of the predicate"
+    );
     let made = if_then_else_primitive(rt.alloc(), &predicate, &lhs, &rhs).expect(&rt, "memory");
     check_numbers(&rt, "if then else", made, "[1 _ 6 _ 5]");
     let made = nullif_primitive(rt.alloc(), &lhs, &rhs).expect(&rt, "memory");
@@ -56,8 +62,14 @@ fn booleans_are_chosen(rt: HostRuntime) {
     let lhs = lhs.expect(&rt, "memory");
     let rhs = BooleanArray::from(rt.alloc(), &[Some(false), Some(true), Some(true), None]);
     let rhs = rhs.expect(&rt, "memory");
-    assert!(rt; lhs.len() == predicate.len());
-    assert!(rt; rhs.len() == predicate.len());
+    assert!(rt;
+        lhs.len() == predicate.len(),
+        "a value for each slot of the predicate"
+    );
+    assert!(rt;
+        rhs.len() == predicate.len(),
+        "another for each slot of the predicate"
+    );
     let made = if_then_else_boolean(rt.alloc(), &predicate, &lhs, &rhs).expect(&rt, "memory");
     assert_text::bools(made.iter(), "t_t_").expect(&rt, "if then else");
     drop(made);
@@ -77,8 +89,14 @@ fn texts_are_chosen(rt: HostRuntime) {
     let lhs = lhs.expect(&rt, "memory");
     let rhs = Utf8Array::<i32>::from(rt.alloc(), &[Some("x"), Some("b"), Some("")]);
     let rhs = rhs.expect(&rt, "memory");
-    assert!(rt; lhs.len() == predicate.len());
-    assert!(rt; rhs.len() == predicate.len());
+    assert!(rt;
+        lhs.len() == predicate.len(),
+        "a value for each slot of the predicate"
+    );
+    assert!(rt;
+        rhs.len() == predicate.len(),
+        "another for each slot of the predicate"
+    );
     let made = if_then_else_utf8(rt.alloc(), &predicate, &lhs, &rhs).expect(&rt, "memory");
     check_texts(&rt, "if then else", made, "[\"a\" _ \"\"]");
     let made = nullif_utf8(rt.alloc(), &lhs, &rhs).expect(&rt, "memory");
@@ -96,8 +114,14 @@ fn bytes_are_chosen(rt: HostRuntime) {
     let lhs = lhs.expect(&rt, "memory");
     let rhs = BinaryArray::<i64>::from(rt.alloc(), &[None, Some(b"b".as_slice())]);
     let rhs = rhs.expect(&rt, "memory");
-    assert!(rt; lhs.len() == predicate.len());
-    assert!(rt; rhs.len() == predicate.len());
+    assert!(rt;
+        lhs.len() == predicate.len(),
+        "a value for each slot of the predicate"
+    );
+    assert!(rt;
+        rhs.len() == predicate.len(),
+        "another for each slot of the predicate"
+    );
     let made = if_then_else_binary(rt.alloc(), &predicate, &lhs, &rhs).expect(&rt, "memory");
     check_bytes(&rt, "if then else", made, "[_ [98]]");
     let made = nullif_binary(rt.alloc(), &lhs, &rhs).expect(&rt, "memory");
