@@ -155,7 +155,7 @@ fn rows_are_sorted_by_the_first_column_that_differs(rt: HostRuntime) {
                 options: second,
             },
         ];
-        assert!(rt; names.len() == ages.len());
+        assert!(rt; names.len() == ages.len(), "columns of one length");
         let keys = lexsort_to_indices(rt.alloc(), &columns, limit).expect(&rt, case);
         assert_text::slots(keys.iter(), expected).expect(&rt, case);
         drop(keys);

@@ -22,7 +22,7 @@ fn check_pairs<A: OrderedArray>(
     mask: &str,
 ) {
     let alloc = rt.alloc();
-    assert!(rt; lhs.len() == rhs.len());
+    assert!(rt; lhs.len() == rhs.len(), "operands of one length");
     let [equal, unequal, less, at_most, greater, at_least] = *expected;
     check(rt, case, eq(alloc, lhs, rhs), equal, mask);
     check(rt, case, neq(alloc, lhs, rhs), unequal, mask);
@@ -41,7 +41,7 @@ fn check_validity<A: OrderedArray>(
     equal: &str,
     unequal: &str,
 ) {
-    assert!(rt; lhs.len() == rhs.len());
+    assert!(rt; lhs.len() == rhs.len(), "operands of one length");
     let answer = eq_and_validity(rt.alloc(), lhs, rhs);
     check(rt, case, answer, equal, "none");
     let answer = neq_and_validity(rt.alloc(), lhs, rhs);

@@ -26,7 +26,10 @@ fn cut_bools(
 ) -> BooleanArray {
     let (values, mask) = (cycle(values, 140), cycle(mask, 140));
     let mut array = bools(rt, (values.as_str(), mask.as_str()));
-    assert!(rt; from <= array.len() && len <= array.len() - from);
+    assert!(rt;
+        from <= array.len() && len <= array.len() - from,
+        "a slice within the array"
+    );
     array.slice(from, len);
     array
 }
@@ -92,7 +95,10 @@ fn cut_numbers(rt: &(impl Abort + AllocGlobal), len: usize) -> PrimitiveArray<i1
     let array = PrimitiveArray::<i16>::from(rt.alloc(), slots.as_slice());
     drop(slots);
     let mut array = array.expect(rt, "memory");
-    assert!(rt; 1 <= array.len() && len <= array.len() - 1);
+    assert!(rt;
+        1 <= array.len() && len <= array.len() - 1,
+        "a slice within the array"
+    );
     array.slice(1, len);
     array
 }
