@@ -42,7 +42,7 @@ const SATURATING_MUL: Case = ("saturating_mul", "[127 -128 14 -14 127 _]", "1111
 #[test]
 fn slots_of_two_arrays_are_combined(rt: HostRuntime) {
     let (lhs, rhs) = (bytes(&rt, LEFT, "none"), bytes(&rt, RIGHT, "111110"));
-    assert!(rt; lhs.len() == rhs.len());
+    assert!(rt; lhs.len() == rhs.len(), "operands of one length");
     let alloc = rt.alloc();
     check(&rt, ADD.0, add(alloc, &lhs, &rhs), ADD.1, ADD.2);
     check(&rt, SUB.0, sub(alloc, &lhs, &rhs), SUB.1, SUB.2);
@@ -89,7 +89,7 @@ fn slots_of_two_arrays_are_combined(rt: HostRuntime) {
 #[test]
 fn slots_of_two_arrays_saturate_and_divide(rt: HostRuntime) {
     let (lhs, rhs) = (bytes(&rt, LEFT, "none"), bytes(&rt, RIGHT, "111110"));
-    assert!(rt; lhs.len() == rhs.len());
+    assert!(rt; lhs.len() == rhs.len(), "operands of one length");
     let alloc = rt.alloc();
     check(
         &rt,
@@ -112,7 +112,7 @@ fn slots_of_two_arrays_saturate_and_divide(rt: HostRuntime) {
         SATURATING_MUL.1,
         SATURATING_MUL.2,
     );
-    assert!(rt; !has_zero(&rhs), "a null is no divisor");
+    assert!(rt; !has_zero(&rhs), "a zero under a null");
     check(&rt, DIV.0, div(alloc, &lhs, &rhs), DIV.1, DIV.2);
     check(&rt, REM.0, rem(alloc, &lhs, &rhs), REM.1, REM.2);
     drop(lhs);
@@ -122,7 +122,7 @@ fn slots_of_two_arrays_saturate_and_divide(rt: HostRuntime) {
 #[test]
 fn a_zero_that_is_valid_divides_nothing(rt: HostRuntime) {
     let (lhs, rhs) = (bytes(&rt, &[6, 6, 6], "101"), bytes(&rt, &[0, 0, 4], "110"));
-    assert!(rt; lhs.len() == rhs.len());
+    assert!(rt; lhs.len() == rhs.len(), "operands of one length");
     assert!(rt; has_zero(&rhs), "a valid zero");
     let alloc = rt.alloc();
     check(
@@ -149,7 +149,7 @@ fn a_zero_that_is_valid_divides_nothing(rt: HostRuntime) {
     drop(lhs);
     drop(rhs);
     let (lhs, rhs) = (bytes(&rt, &[1, 2], "none"), bytes(&rt, &[3, 4], "none"));
-    assert!(rt; lhs.len() == rhs.len());
+    assert!(rt; lhs.len() == rhs.len(), "operands of one length");
     check(
         &rt,
         "without a mask",
