@@ -68,6 +68,35 @@ uint64_t rattle_flat_take_prim(numbers, size_t, bytes, size_t, numbers keys, siz
 uint64_t rattle_flat_take_utf8(bytes, size_t, ends, size_t, bytes, size_t, numbers keys, size_t, size_t rounds);
 uint64_t rattle_flat_concat_prim(numbers, size_t, bytes, size_t, size_t rounds);
 uint64_t rattle_flat_concat_utf8(bytes, size_t, ends, size_t, bytes, size_t, size_t rounds);
+/* kernels that compute: of one array, or of two, of which the second has no null */
+uint64_t rattle_flat_cmp_lt(numbers, size_t, numbers, size_t, bytes, size_t, size_t rounds);
+uint64_t rattle_flat_cmp_eq(numbers, size_t, numbers, size_t, bytes, size_t, size_t rounds);
+uint64_t rattle_flat_cmp_lt_scalar(numbers, size_t, bytes, size_t, size_t rounds);
+uint64_t rattle_flat_cmp_eq_utf8(bytes, size_t, bytes others, size_t, ends, size_t, size_t rounds);
+uint64_t rattle_flat_logic_and(bytes, size_t, bytes others, size_t, bytes, size_t, size_t rounds);
+uint64_t rattle_flat_kleene_and(bytes, size_t, bytes others, size_t, bytes, size_t, size_t rounds);
+uint64_t rattle_flat_arith_add_i64(numbers, size_t, numbers, size_t, bytes, size_t, size_t rounds);
+uint64_t rattle_flat_arith_checked_add_i64(numbers, size_t, numbers, size_t, bytes, size_t, size_t rounds);
+uint64_t rattle_flat_arith_mul_i64(numbers, size_t, numbers, size_t, bytes, size_t, size_t rounds);
+uint64_t rattle_flat_arith_add_i32(numbers, size_t, numbers, size_t, size_t rounds);
+uint64_t rattle_flat_arith_saturating_add_i32(numbers, size_t, numbers, size_t, size_t rounds);
+uint64_t rattle_flat_cast_wrap_i32(numbers, size_t, bytes, size_t, size_t rounds);
+uint64_t rattle_flat_cast_fit_i32(numbers, size_t, bytes, size_t, size_t rounds);
+uint64_t rattle_flat_cast_to_utf8(numbers, size_t, bytes, size_t, size_t rounds);
+uint64_t rattle_flat_cast_of_utf8(bytes, size_t, ends, size_t, bytes, size_t, size_t rounds);
+uint64_t rattle_flat_agg_sum(numbers, size_t, bytes, size_t, size_t rounds);
+uint64_t rattle_flat_agg_min(numbers, size_t, bytes, size_t, size_t rounds);
+uint64_t rattle_flat_agg_max(numbers, size_t, bytes, size_t, size_t rounds);
+uint64_t rattle_flat_agg_min_utf8(bytes, size_t, ends, size_t, bytes, size_t, size_t rounds);
+uint64_t rattle_flat_group_prim(numbers, size_t, bytes, size_t, size_t rounds);
+uint64_t rattle_flat_group_utf8(bytes, size_t, ends, size_t, bytes, size_t, size_t rounds);
+uint64_t rattle_flat_group_sum(numbers, size_t, numbers keys, size_t, bytes, size_t, size_t rounds);
+uint64_t rattle_flat_hash_prim(numbers, size_t, bytes, size_t, size_t rounds);
+uint64_t rattle_flat_select_take(numbers keys, size_t, numbers, size_t, bytes, size_t, size_t rounds);
+uint64_t rattle_flat_select_if_then_else(bytes, size_t, numbers, size_t, numbers, size_t, bytes, size_t, size_t rounds);
+uint64_t rattle_flat_select_nullif(numbers, size_t, numbers, size_t, bytes, size_t, size_t rounds);
+uint64_t rattle_flat_sort_prim(numbers, size_t, bytes, size_t, size_t rounds);
+uint64_t rattle_flat_sort_utf8(bytes, size_t, ends, size_t, bytes, size_t, size_t rounds);
 /* whole arrays, whose cost hangs on their masks alone, if on anything */
 uint64_t rattle_flat_prim_null_count(numbers, size_t, bytes, size_t, size_t rounds);
 uint64_t rattle_flat_prim_equal(numbers, size_t, bytes, size_t, size_t rounds);
@@ -78,7 +107,7 @@ uint64_t rattle_flat_prim_freeze_thaw(numbers, size_t, bytes, size_t, size_t rou
 uint64_t rattle_flat_prim_thaw_push(numbers, size_t, bytes, size_t, size_t rounds);
 uint64_t rattle_flat_bin_freeze_thaw(bytes, size_t, size_t item, bytes, size_t, size_t rounds);
 
-enum { ITEM = 12, TIMES = 9, SIZES = 3 };
+enum { ITEM = 12, DIGITS = 6, FEW = 100, TIMES = 9, SIZES = 3 };
 
 static const size_t sizes[SIZES] = {1 << 10, 1 << 16, 1 << 22};
 
@@ -88,14 +117,16 @@ struct marks {
     size_t set;
 };
 
-/* What calls are given: n numbers; keys below n; n items of ASCII, and of other text of as many bytes, and their ends;
-   and n marks each: valid slots, of which one in ten is clear, booleans at random, which are a filter too, and
-   filters that keep most slots, 99 of 100, or runs of them. */
+/* What calls are given: n numbers, and n others; keys below n; n items of ASCII, and of other text of as many bytes,
+   and their ends; and n marks each: valid slots, of which one in ten is clear, booleans at random, which are a filter
+   too, and filters that keep most slots, 99 of 100, or runs of them. Kernels that compute are given besides: numbers of
+   six digits, also as text with its ends; numbers of which one in ten takes more than 32 bits; two lists of few
+   different numbers, and a word for each of the first; and items of which half are those of ASCII. */
 struct input {
     size_t n;
-    int64_t *values, *keys;
-    uint8_t *ascii, *mixed;
-    int32_t *ends;
+    int64_t *values, *others, *keys, *small, *wide, *few, *other_few;
+    uint8_t *ascii, *mixed, *half_equal, *words, *digits;
+    int32_t *ends, *digit_ends;
     struct marks valid, bits, most, runs;
 };
 
@@ -139,9 +170,33 @@ static struct marks make_runs(size_t n) {
     return marks;
 }
 
+/* What the kernels that compute are given besides. */
+static void add_operands(struct input *in) {
+    const size_t n = in->n;
+    in->others = room(n * 8), in->small = room(n * 8), in->wide = room(n * 8);
+    in->few = room(n * 8), in->other_few = room(n * 8);
+    in->half_equal = room(n * ITEM), in->words = room(n * ITEM);
+    in->digits = room(n * DIGITS + 1), in->digit_ends = room((n + 1) * 4);
+    for (size_t i = 0; i < n; i++) {
+        in->others[i] = (int64_t)random_word();
+        in->small[i] = (int64_t)(100000 + random_word() % 900000);
+        in->wide[i] = i % 10 ? in->small[i] : in->values[i];
+        in->few[i] = (int64_t)(random_word() % FEW);
+        in->other_few[i] = (int64_t)(random_word() % FEW);
+        memcpy(in->half_equal + i * ITEM, in->ascii + i * ITEM, ITEM);
+        in->half_equal[i * ITEM + ITEM - 1] ^= !in->bits.of[i];
+        memcpy(in->words + i * ITEM, in->ascii + (size_t)in->few[i] * ITEM, ITEM);
+        snprintf((char *)in->digits + i * DIGITS, DIGITS + 1, "%" PRId64, in->small[i]);
+        in->digit_ends[i] = (int32_t)(i * DIGITS);
+    }
+    in->digit_ends[n] = (int32_t)(n * DIGITS);
+}
+
 static struct input make_input(size_t n) {
-    struct input in = {n, room(n * 8), room(n * 8), room(n * ITEM), room(n * ITEM), room((n + 1) * 4),
-                       make_marks(n, 1, 10), make_marks(n, 1, 2), make_marks(n, 1, 100), make_runs(n)};
+    struct input in = {.n = n, .ascii = room(n * ITEM), .mixed = room(n * ITEM), .ends = room((n + 1) * 4),
+                       .valid = make_marks(n, 1, 10), .bits = make_marks(n, 1, 2), .most = make_marks(n, 1, 100),
+                       .runs = make_runs(n)};
+    in.values = room(n * 8), in.keys = room(n * 8);
     for (size_t i = 0; i < n; i++) {
         in.values[i] = (int64_t)random_word();
         in.keys[i] = (int64_t)(random_word() % n);
@@ -153,11 +208,14 @@ static struct input make_input(size_t n) {
         memcpy(in.mixed + i * ITEM, "ab\xC3\xA9\xE2\x82\xAC" "c\xC3\xBC" "de", ITEM);
     }
     in.ends[n] = (int32_t)(n * ITEM);
+    add_operands(&in);
     return in;
 }
 
 static void drop_input(struct input in) {
     free(in.values), free(in.keys), free(in.ascii), free(in.mixed), free(in.ends);
+    free(in.others), free(in.small), free(in.wide), free(in.few), free(in.other_few);
+    free(in.half_equal), free(in.words), free(in.digits), free(in.digit_ends);
     free(in.valid.of), free(in.bits.of), free(in.most.of), free(in.runs.of);
 }
 
@@ -177,6 +235,15 @@ struct traffic {
 #define KEYS in->keys, n
 #define ITEMS in->ascii, n * ITEM
 #define ENDS in->ends, n + 1
+#define OTHERS in->others, n
+#define SMALL in->small, n
+#define WIDE in->wide, n
+#define FEW_VALUES in->few, n
+#define OTHER_FEW in->other_few, n
+#define OTHER_BITS in->runs.of, n
+#define HALF_EQUAL in->half_equal, n * ITEM
+#define WORDS in->words, n * ITEM
+#define DIGIT_TEXTS in->digits, n * DIGITS, in->digit_ends, n + 1
 
 static uint8_t *ones;
 
@@ -267,6 +334,59 @@ static uint8_t *ones;
     MOVE(concat_prim_null10, 8 * n + MASK, 8 * n + MASK, concat_prim(VALUES, NULLS, rounds))                           \
     MOVE(concat_utf8_12, TEXT, TEXT, concat_utf8(ITEMS, ENDS, ALL_VALID, rounds))                                      \
     MOVE(concat_utf8_12_null10, TEXT + MASK, TEXT + MASK, concat_utf8(ITEMS, ENDS, NULLS, rounds))                     \
+    LINE(cmp_lt, 16 * n, MASK, cmp_lt(SMALL, VALUES, ALL_VALID, rounds))                                               \
+    LINE(cmp_lt_null10, 16 * n + MASK, MASK, cmp_lt(SMALL, VALUES, NULLS, rounds))                                     \
+    LINE(cmp_lt_scalar, 8 * n, MASK, cmp_lt_scalar(VALUES, ALL_VALID, rounds))                                         \
+    LINE(cmp_lt_scalar_null10, 8 * n + MASK, MASK, cmp_lt_scalar(VALUES, NULLS, rounds))                               \
+    LINE(cmp_eq, 16 * n, MASK, cmp_eq(FEW_VALUES, OTHER_FEW, ALL_VALID, rounds))                                       \
+    LINE(cmp_eq_null10, 16 * n + MASK, MASK, cmp_eq(FEW_VALUES, OTHER_FEW, NULLS, rounds))                             \
+    LINE(cmp_eq_utf8_12, 2 * ITEM * n + 8 * (n + 1), MASK, cmp_eq_utf8(ITEMS, HALF_EQUAL, ENDS, rounds))               \
+    LINE(logic_and, 2 * MASK, MASK, logic_and(BITS, OTHER_BITS, ALL_VALID, rounds))                                    \
+    LINE(logic_and_null10, 3 * MASK, MASK, logic_and(BITS, OTHER_BITS, NULLS, rounds))                                 \
+    LINE(kleene_and, 2 * MASK, MASK, kleene_and(BITS, OTHER_BITS, ALL_VALID, rounds))                                  \
+    LINE(kleene_and_null10, 3 * MASK, 2 * MASK, kleene_and(BITS, OTHER_BITS, NULLS, rounds))                           \
+    LINE(arith_add_i64, 16 * n, 8 * n, arith_add_i64(VALUES, OTHERS, ALL_VALID, rounds))                               \
+    LINE(arith_add_i64_null10, 16 * n + MASK, 8 * n, arith_add_i64(VALUES, OTHERS, NULLS, rounds))                     \
+    LINE(arith_checked_add_i64, 16 * n, 8 * n + MASK, arith_checked_add_i64(VALUES, OTHERS, ALL_VALID, rounds))        \
+    LINE(arith_checked_add_i64_null10, 16 * n + MASK, 8 * n + MASK,                                                    \
+         arith_checked_add_i64(VALUES, OTHERS, NULLS, rounds))                                                         \
+    LINE(arith_mul_i64, 16 * n, 8 * n, arith_mul_i64(VALUES, OTHERS, ALL_VALID, rounds))                               \
+    LINE(arith_add_i32, 8 * n, 4 * n, arith_add_i32(VALUES, OTHERS, rounds))                                           \
+    LINE(arith_saturating_add_i32, 8 * n, 4 * n, arith_saturating_add_i32(VALUES, OTHERS, rounds))                     \
+    LINE(cast_wrap_i32, 8 * n, 4 * n, cast_wrap_i32(WIDE, ALL_VALID, rounds))                                          \
+    LINE(cast_wrap_i32_null10, 8 * n + MASK, 4 * n, cast_wrap_i32(WIDE, NULLS, rounds))                                \
+    LINE(cast_fit_i32, 8 * n, 4 * n + MASK, cast_fit_i32(WIDE, ALL_VALID, rounds))                                     \
+    LINE(cast_fit_i32_null10, 8 * n + MASK, 4 * n + MASK, cast_fit_i32(WIDE, NULLS, rounds))                           \
+    LINE(cast_to_utf8, 8 * n, DIGITS * n + 4 * (n + 1), cast_to_utf8(SMALL, ALL_VALID, rounds))                        \
+    LINE(cast_to_utf8_null10, 8 * n + MASK, DIGITS * in->valid.set + 4 * (n + 1) + MASK,                               \
+         cast_to_utf8(SMALL, NULLS, rounds))                                                                           \
+    LINE(cast_of_utf8, DIGITS * n + 4 * (n + 1), 8 * n, cast_of_utf8(DIGIT_TEXTS, ALL_VALID, rounds))                  \
+    LINE(cast_of_utf8_null10, DIGITS * n + 4 * (n + 1) + MASK, 8 * n + MASK, cast_of_utf8(DIGIT_TEXTS, NULLS, rounds)) \
+    LINE(agg_sum, 8 * n, 0, agg_sum(SMALL, ALL_VALID, rounds))                                                         \
+    LINE(agg_sum_null10, 8 * n + MASK, 0, agg_sum(SMALL, NULLS, rounds))                                               \
+    LINE(agg_min, 8 * n, 0, agg_min(VALUES, ALL_VALID, rounds))                                                        \
+    LINE(agg_min_null10, 8 * n + MASK, 0, agg_min(VALUES, NULLS, rounds))                                              \
+    LINE(agg_max, 8 * n, 0, agg_max(VALUES, ALL_VALID, rounds))                                                        \
+    LINE(agg_max_null10, 8 * n + MASK, 0, agg_max(VALUES, NULLS, rounds))                                              \
+    LINE(agg_min_utf8_12_null10, TEXT + MASK, 0, agg_min_utf8(ITEMS, ENDS, NULLS, rounds))                             \
+    LINE(group_few, 8 * n, 8 * n + 8 * FEW, group_prim(FEW_VALUES, ALL_VALID, rounds))                                 \
+    LINE(group_few_null10, 8 * n + MASK, 8 * n + 8 * FEW, group_prim(FEW_VALUES, NULLS, rounds))                       \
+    LINE(group_many, 8 * n, 16 * n, group_prim(VALUES, ALL_VALID, rounds))                                             \
+    LINE(group_many_null10, 8 * n + MASK, 16 * n, group_prim(VALUES, NULLS, rounds))                                   \
+    LINE(group_utf8_few, TEXT, 8 * n + 8 * FEW, group_utf8(WORDS, ENDS, ALL_VALID, rounds))                            \
+    LINE(group_sum_few, 16 * n, 8 * FEW, group_sum(SMALL, FEW_VALUES, ALL_VALID, rounds))                              \
+    LINE(group_sum_few_null10, 16 * n + MASK, 8 * FEW, group_sum(SMALL, FEW_VALUES, NULLS, rounds))                    \
+    LINE(hash_prim, 8 * n, 8 * n, hash_prim(VALUES, ALL_VALID, rounds))                                                \
+    LINE(hash_prim_null10, 8 * n + MASK, 8 * n, hash_prim(VALUES, NULLS, rounds))                                      \
+    LINE(select_take_null10, 16 * n + MASK, 8 * n, select_take(KEYS, VALUES, NULLS, rounds))                           \
+    LINE(select_if_then_else, 16 * n + MASK, 8 * n, select_if_then_else(BITS, VALUES, OTHERS, ALL_VALID, rounds))      \
+    LINE(select_if_then_else_null10, 16 * n + 2 * MASK, 8 * n + MASK,                                                  \
+         select_if_then_else(BITS, VALUES, OTHERS, NULLS, rounds))                                                     \
+    LINE(select_nullif, 16 * n, MASK, select_nullif(FEW_VALUES, OTHER_FEW, ALL_VALID, rounds))                         \
+    LINE(select_nullif_null10, 16 * n + MASK, MASK, select_nullif(FEW_VALUES, OTHER_FEW, NULLS, rounds))               \
+    LINE(sort_prim, 8 * n, 8 * n, sort_prim(VALUES, ALL_VALID, rounds))                                                \
+    LINE(sort_prim_null10, 8 * n + MASK, 8 * n, sort_prim(VALUES, NULLS, rounds))                                      \
+    LINE(sort_utf8_12, TEXT, 8 * n, sort_utf8(ITEMS, ENDS, ALL_VALID, rounds))                                         \
     LINE(prim_null_count, 0, 0, prim_null_count(VALUES, NULLS, rounds))                                                \
     LINE(prim_freeze_thaw, MASK, 0, prim_freeze_thaw(VALUES, NULLS, rounds))                                           \
     LINE(prim_thaw_push, MASK, 0, prim_thaw_push(VALUES, NULLS, rounds))                                               \

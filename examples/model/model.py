@@ -709,14 +709,16 @@ class Table:
         places = [at for at, it in enumerate(by.slots()) if it == ("b", True)]
         self.choose(entry, places, to)
         if len(places) == len(entry.stored):
-            self.share_marks(entry, self.entries[to])
+            self.share_rows(entry, self.entries[to])
 
-    def share_marks(self, entry, made):
-        """A filter that asks for every row shows the bits of booleans, and a mask that has a null, as they are."""
-        if entry.sort == "b":
-            made.show("values", entry.views["values"].again())
-        if made.held:
-            made.show("mask", entry.views["mask"].again())
+    def share_rows(self, entry, made):
+        """A filter that asks for every row shows the vectors of its array: a mask if it has a null, and items if no byte
+        lies around them."""
+        shared = {"mask"} if made.held else set()
+        if not entry.lead and not entry.tail:
+            shared |= {"values", "offsets"}
+        for name in shared & entry.views.keys():
+            made.show(name, entry.views[name].again())
 
     def do_take(self, at, to, keys):
         entry = self.entry(at, *FROZEN)

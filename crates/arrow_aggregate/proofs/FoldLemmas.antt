@@ -77,7 +77,7 @@ unmasked_rows null [] all = refl
 unmasked_rows null ((x, true) ∷ rows) all = ap (λ rest. x ∷ rest) (unmasked_rows null rows all)
 unmasked_rows null ((x, false) ∷ rows) all = absurd (true≢false (sym all))
 
-no_null : {S : Type 0} (rows : List (Row S)) → count_by not (map (λ row. row.1) rows) ≡ 0
+pub no_null : {S : Type 0} (rows : List (Row S)) → count_by not (map (λ row. row.1) rows) ≡ 0
     → IsTrue (list_all (λ row. row.1) rows)
 no_null [] none = refl
 no_null ((x, true) ∷ rows) none = no_null rows (omega (
@@ -107,7 +107,7 @@ zipped_rows : {S : Type 0} (null : S) (rows : List (Row S))
 zipped_rows null [] = refl
 zipped_rows null (row ∷ rows) = ap (λ rest. unwrap_or (slot row) null ∷ rest) (zipped_rows null rows)
 
-held_mask : (held : Bool) (marks mask : List Bool) → (if held then Some marks else None) ≡ Some mask → mask ≡ marks
+pub held_mask : (held : Bool) (marks mask : List Bool) → (if held then Some marks else None) ≡ Some mask → mask ≡ marks
 held_mask true marks mask e = sym (same_Some marks mask e)
 held_mask false marks mask e = cc
 

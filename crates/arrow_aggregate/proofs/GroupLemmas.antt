@@ -1,8 +1,8 @@
 -- Lemmas about states of groups, into which the values of slots are folded one after the other.
 use Rattle.std.proofs.Common.{◌≡◌, ◌≢◌, ℕ, zero, suc, ◌+◌, ◌<◌, ◌≤◌, ◌==◌, if◌then◌else◌, List, [], ◌∷◌, ◌++◌}
 use Rattle.std.proofs.Common.{length, map, take, set, slice_get, Option, Some, None, refl, sym, ap, ap₂, ◌∙◌, inl, inr}
-use Rattle.std.proofs.Common.{arith, eq-eqb, append-nil, subst}
-use Rattle.std.specs.Prelude.{IfOk, Result, Ok, Err, fold, option_map}
+use Rattle.std.proofs.Common.{◌%◌, Bool, true, false, not, true≢false, arith, eq-eqb, append-nil, subst}
+use Rattle.std.specs.Prelude.{Contains, fold, option_map}
 use Rattle.std.specs.List.{filter_map, zip}
 use Rattle.std.proofs.lemmas.Bool.{cases_eq, ne_eqb}
 use Rattle.std.proofs.lemmas.List.{take_more}
@@ -18,11 +18,12 @@ use Rattle.std.proofs.lemmas.List.{length-map}
 use Rattle.std.proofs.lemmas.List.Folds.{fold-map}
 use Rattle.std.proofs.lemmas.Slice.Zip.{length-zip}
 use Rattle.arrow_types.specs.Types.{LogicalType}
-use Rattle.arrow_memory.specs.Rows.{slot}
-use Rattle.arrow_column.specs.Column.{Column, ColumnWith, array_of_slots, column_of_parts, empty_masked, slots_of}
-use Rattle.arrow_column.proofs.CallerLemmas.{bare-shown, many-slots}
-use Rattle.arrow_aggregate.specs.Aggregates.{greater_slot, lesser_slot}
-use Rattle.arrow_aggregate.specs.Groups.{GroupSlots, IsGreatestSlot, IsLeastSlot, count_step, fold_slot, group_values, values_at}
+use Rattle.arrow_memory.specs.Rows.{Row, slot}
+use Rattle.arrow_column.specs.Column.{Column, ColumnWith, all_valid, column_of_parts, slots_of}
+use Rattle.arrow_column.proofs.CallerLemmas.{all-bare, bare-shown}
+use Rattle.arrow_aggregate.specs.Aggregates.{better_slot, greater_slot, lesser_slot}
+use Rattle.arrow_aggregate.specs.Groups.{BestOfGroups, GroupSlots, IsBestSlot, IsGreatestSlot, IsLeastSlot, IsMadeOf, as_seen, count_step}
+use Rattle.arrow_aggregate.specs.Groups.{fold_slot, group_values, values_at}
 use Rattle.arrow_aggregate.proofs.AggregateLemmas.{greatest_slot, least_slot, valid}
 
 pub set_same : {Y : Type 0} (states : List Y) (k : ℕ) (y : Y) → k < length states → slice_get (set states k y) k ≡ Some y
@@ -93,20 +94,17 @@ row_more step states pairs i k g slot current next s at is_current is_next befor
 
 -- ---- arrays of groups
 
-pub groups_made : {Z : Type 0} (t : LogicalType) (groups : ℕ) (Holds : ℕ → Option Z → Type 0) (made : Column Z)
-    (slots : List (Option Z)) → made.data_type ≡ t → slots_of made ≡ slots → length slots ≡ groups
+pub groups_made : {A Z : Type 0} (t : LogicalType) (groups : ℕ) (Holds : ℕ → Option Z → Type 0) (made : ColumnWith A Z)
+    (slots : List (Option Z)) → IsMadeOf t slots made → length slots ≡ groups
     → ((g : ℕ) → g < groups → (o : Option Z) → slice_get slots g ≡ Some o → Holds g o) → GroupSlots t groups Holds made
-groups_made t groups Holds made slots is_type is_slots count each = record {
-  data_type = is_type;
-  count = sym (length-map made.rows slot) ∙ ap length is_slots ∙ count;
+groups_made t groups Holds made slots is count each = record {
+  data_type = is.data_type;
+  held = is.held;
+  count = sym (length-map made.rows slot) ∙ ap length is.slots ∙ count;
   slots = λ g o at.
-      let own = sym (ap (λ s. slice_get s g) is_slots) ∙ at in
+      let own = sym (ap (λ s. slice_get s g) is.slots) ∙ at in
       each g (omega (arith, count, slice_get_within slots g o own)) o own;
 }
-
-pub from_slots : {S : Type 0} (default : S) (t : LogicalType) (slots : List (Option S))
-    → slots_of (array_of_slots default t slots) ≡ slots
-from_slots default t slots = many-slots default (empty_masked t) slots
 
 -- the values of valid slots alone
 all_values : {X : Type 0} (values : List X) → valid (map Some values) ≡ values
@@ -123,6 +121,41 @@ module _ {X : Type 0} (cmp : X → X → Ordering) (order : IsTotalOrder cmp) wh
       → IsGreatestSlot cmp values o
   greatest_of values o is = subst (λ vs. IsGreatestSlot cmp vs o) (all_values values)
       (greatest_slot cmp order (map Some values) o (is ∙ sym (fold-map (greater_slot cmp) Some None values)))
+
+  pub best_of : (greatest : Bool) (values : List X) (o : Option X)
+      → o ≡ fold (λ state x. better_slot greatest cmp state (Some x)) None values → IsBestSlot greatest cmp values o
+  best_of true values o is = greatest_of values o is
+  best_of false values o is = least_of values o is
+
+  member_of : (greatest : Bool) (values : List X) (x : X) → IsBestSlot greatest cmp values (Some x) → Contains values x
+  member_of true values x is = is.member
+  member_of false values x is = is.member
+
+  -- each slot of the best values is the best of its group, and shows one of its values
+  module _ {A : Type 0} (greatest : Bool) (column : ColumnWith A X) (indices : List ℕ) (groups : ℕ) (best : List (Option X))
+      (bests : BestOfGroups greatest cmp column indices groups best) where
+    pub best_each : (g : ℕ) → g < groups → (o : Option X) → slice_get best g ≡ Some o
+        → IsBestSlot greatest cmp (group_values column indices g) o
+    best_each g low o at = best_of greatest (group_values column indices g) o (same_Some _ _ (sym at ∙ bests g low))
+
+    pub best_picks : length best ≡ groups → (g : ℕ) (x : X) → slice_get best g ≡ Some (Some x)
+        → Contains (values_at (zip indices (slots_of column)) g) x
+    best_picks count g x at = member_of greatest (group_values column indices g) x
+        (best_each g (omega (arith, count, slice_get_within best g (Some x) at)) (Some x) at)
+
+    -- the array of the best values
+    pub bests_made : {B : Type 0} (shown : List (Option X)) (made : ColumnWith B X) → length best ≡ groups → shown ≡ best
+        → IsMadeOf column.data_type shown made
+        → GroupSlots column.data_type groups (λ g. IsBestSlot greatest cmp (group_values column indices g)) made
+    bests_made shown made count same is =
+        groups_made column.data_type groups (λ g. IsBestSlot greatest cmp (group_values column indices g)) made best
+        (subst (λ slots. IsMadeOf column.data_type slots made) same is) count best_each
+
+-- slots that are seen as they are
+pub same_slots : {X : Type 0} (slots : List (Option X)) → as_seen (λ x. x) slots ≡ slots
+same_slots [] = refl
+same_slots (None ∷ slots) = ap (λ rest. None ∷ rest) (same_slots slots)
+same_slots (Some x ∷ slots) = ap (λ rest. Some x ∷ rest) (same_slots slots)
 
 -- ---- counts
 
@@ -147,18 +180,25 @@ group_counted column indices g small =
     counted values 0 (omega (arith, small, length-values_at (zip indices (slots_of column)) g, length-zip indices (slots_of column)))
     ∙ omega arith
 
--- ---- calls that succeed
-
-pub both_ok : {V E : Type 0} (r : Result V E) (P Q R : V → Type 0) → IfOk r P → IfOk r Q → ((v : V) → P v → Q v → R v) → IfOk r R
-both_ok (Ok v) P Q R p q both = both v p q
-both_ok (Err e) P Q R p q both = tt
+-- the slot of a mark, and what it adds to a count
+pub slot_by_mark : {S : Type 0} (rows : List (Row S)) (i : ℕ) (mark : Bool) → slice_get (map (λ row. row.1) rows) i ≡ Some mark
+    → (o : Option S) × (slice_get (map slot rows) i ≡ Some o) × ((n : ℕ) → fold_slot count_step n o ≡ (if mark then (n + 1) % 2 ^ 64 else n))
+slot_by_mark [] i mark at = cc
+slot_by_mark ((x, true) ∷ rows) zero true at = (Some x, refl, λ n. refl)
+slot_by_mark ((x, true) ∷ rows) zero false at = absurd (true≢false (same_Some true false at))
+slot_by_mark ((x, false) ∷ rows) zero true at = absurd (true≢false (sym (same_Some false true at)))
+slot_by_mark ((x, false) ∷ rows) zero false at = (None, refl, λ n. refl)
+slot_by_mark ((x, m) ∷ rows) (suc i) mark at = slot_by_mark rows i mark at
 
 pub counts_made : (t : LogicalType) (groups : ℕ) (Holds : ℕ → Option ℕ → Type 0) (made : Column ℕ) (values : List ℕ)
     → made ≡ column_of_parts t values None → length values ≡ groups
     → ((g : ℕ) → g < groups → (n : ℕ) → slice_get values g ≡ Some n → Holds g (Some n)) → GroupSlots t groups Holds made
 counts_made t groups Holds made values is count each =
-    groups_made t groups Holds made (map Some values) (ap (λ c. c.data_type) is)
-    (ap slots_of is ∙ bare-shown values None refl) (length-map values Some ∙ count) slots
+    groups_made t groups Holds made (map Some values) (record {
+      data_type = ap (λ c. c.data_type) is;
+      slots = ap slots_of is ∙ bare-shown values None refl;
+      held = subst (λ c. c.held ≡ not (all_valid c)) (sym is) (ap not (sym (all-bare values)));
+    }) (length-map values Some ∙ count) slots
   where
     slots : (g : ℕ) → g < groups → (o : Option ℕ) → slice_get (map Some values) g ≡ Some o → Holds g o
     slots g low o at = by (slice_get values g) refl

@@ -3,3 +3,5 @@ pub mod FoldLemmas
 pub mod SumLemmas
 pub mod GroupLemmas
 pub mod GroupSumLemmas
+pub mod OrderedLemmas
+pub mod BestLemmas

@@ -1,5 +1,5 @@
 -- Sums, least and greatest values of the valid slots of arrays.
-use Rattle.std.specs.Prelude.{ℕ, ℤ, pos, ◌+ℤ◌, IsTrue, List, [], ◌∷◌, All, Contains, fold, Option, Some, None}
+use Rattle.std.specs.Prelude.{Bool, true, false, ℕ, ℤ, pos, ◌+ℤ◌, IsTrue, List, [], ◌∷◌, All, Contains, fold, take, Option, Some, None}
 use Rattle.std.specs.List.{filter_map}
 use Rattle.std.specs.Cmp.Lexicographic.{slice_cmp}
 use Rattle.std.specs.Ordering.{is_le, nat_cmp, ord_max, ord_min}
@@ -41,6 +41,19 @@ module _ {X : Type 0} (cmp : X → X → Ordering) where
   greater_slot None slot = slot
   greater_slot (Some x) None = Some x
   greater_slot (Some x) (Some y) = Some (ord_max cmp x y)
+
+-- the greater of two slots, or the lesser
+abbrev pub better_slot : {X : Type 0} → Bool → (X → X → Ordering) → Option X → Option X → Option X
+better_slot true cmp = greater_slot cmp
+better_slot false cmp = lesser_slot cmp
+
+-- the best of the first n slots, the greatest or the least, and null if none is valid
+abbrev pub best_before : {A X : Type 0} → Bool → (X → X → Ordering) → ColumnWith A X → ℕ → Option X
+best_before greatest cmp column n = fold (better_slot greatest cmp) None (take n (slots_of column))
+
+-- the best of all slots
+abbrev pub best_of_all : {A X : Type 0} → Bool → (X → X → Ordering) → ColumnWith A X → Option X
+best_of_all greatest cmp column = fold (better_slot greatest cmp) None (slots_of column)
 
 -- the order of texts, that of their bytes
 abbrev pub text_cmp : List ℕ → List ℕ → Ordering

@@ -2,11 +2,13 @@
 use Rattle.std.specs.Prelude.{◌≡◌, [], MatchOption, ◌+◌, ◌^◌, ◌%◌, ◌==◌, ℕ, List, length, Option, Some, None, if◌then◌else◌, slice_get}
 use Rattle.std.specs.List.{filter_map, zip}
 use Rattle.std.specs.declared.cmp.Ordering.{Ordering}
-use Rattle.std.specs.Prelude.{◌<◌, fold}
+use Rattle.std.specs.Prelude.{◌<◌, Bool, true, false, not, fold, map, option_map}
+use Rattle.std.specs.List.{sum_by}
+use Rattle.std.specs.Option.{option_map_or}
 use Rattle.arrow_types.specs.Types.{LogicalType, default_logical_type}
 use Rattle.arrow_types.specs.declared.primitive_type.PrimitiveType.TheVariants.{UInt64}
-use Rattle.arrow_column.specs.Column.{Column, ColumnWith, slots_of}
-use Rattle.arrow_aggregate.specs.Aggregates.{IsGreatest, IsLeast}
+use Rattle.arrow_column.specs.Column.{Column, ColumnWith, all_valid, slots_of}
+use Rattle.arrow_aggregate.specs.Aggregates.{IsGreatest, IsLeast, better_slot}
 
 -- the values of the slots of group g among slots and their groups
 abbrev pub values_at : {S : Type 0} → List (ℕ × Option S) → ℕ → List S
@@ -16,11 +18,29 @@ values_at pairs g = filter_map (λ pair. if pair.0 == g then pair.1 else None) p
 abbrev pub group_values : {A S : Type 0} → ColumnWith A S → List ℕ → ℕ → List S
 group_values column indices g = values_at (zip indices (slots_of column)) g
 
--- an array of this type with a slot for each group, which is as this says
-pub record GroupSlots {Z : Type 0} (t : LogicalType) (groups : ℕ) (Holds : ℕ → Option Z → Type 0) (made : Column Z) : Type 0 where
+-- the sizes of the values of the valid slots together
+abbrev pub total_size : {S : Type 0} → (S → ℕ) → List (Option S) → ℕ
+total_size size slots = sum_by (λ slot. option_map_or size slot 0) slots
+
+-- an array of this type and these slots, which holds a mask exactly if one of them is null
+pub record IsMadeOf {A S : Type 0} (t : LogicalType) (shown : List (Option S)) (made : ColumnWith A S) : Type 0 where
   pub data_type : made.data_type ≡ t
+  pub slots : slots_of made ≡ shown
+  pub held : made.held ≡ not (all_valid made)
+
+-- an array of this type with a slot for each group, which is as this says; a mask is held exactly if one is null
+pub record GroupSlots {A S : Type 0} (t : LogicalType) (groups : ℕ) (Holds : ℕ → Option S → Type 0)
+    (made : ColumnWith A S) : Type 0 where
+  pub data_type : made.data_type ≡ t
+  pub held : made.held ≡ not (all_valid made)
   pub count : length made.rows ≡ groups
-  pub slots : (g : ℕ) (slot : Option Z) → slice_get (slots_of made) g ≡ Some slot → Holds g slot
+  pub slots : (g : ℕ) (slot : Option S) → slice_get (slots_of made) g ≡ Some slot → Holds g slot
+
+-- an array of the type of another with a slot for each group, which is as this says of the group's values
+abbrev pub AggregatesGroups : {A S : Type 0} → (List S → Option S → Type 0) → ColumnWith A S → List ℕ → ℕ
+    → ColumnWith A S → Type 0
+AggregatesGroups Holds column indices groups = GroupSlots column.data_type groups
+    (λ g. Holds (group_values column indices g))
 
 -- one value more in a state, if there is one
 abbrev pub fold_slot : {Y S : Type 0} → (Y → S → Y) → Y → Option S → Y
@@ -39,15 +59,35 @@ IsLeastSlot cmp values slot = MatchOption slot (values ≡ []) (IsLeast cmp valu
 abbrev pub IsGreatestSlot : {X : Type 0} → (X → X → Ordering) → List X → Option X → Type 0
 IsGreatestSlot cmp values slot = MatchOption slot (values ≡ []) (IsGreatest cmp values)
 
--- states of groups after the values of their slots were folded into them
-abbrev pub FoldsGroups : {A S Y : Type 0} → (Y → S → Y) → ColumnWith A S → List ℕ → List Y → List Y → Type 0
-FoldsGroups {A} {S} {Y} step column indices old new = (g : ℕ) (s : Y) → slice_get old g ≡ Some s
-    → slice_get new g ≡ Some (fold step s (group_values column indices g))
+-- the same of the greatest or the least
+abbrev pub IsBestSlot : {X : Type 0} → Bool → (X → X → Ordering) → List X → Option X → Type 0
+IsBestSlot true cmp = IsGreatestSlot cmp
+IsBestSlot false cmp = IsLeastSlot cmp
 
--- the states of groups that begin with the same one
+-- states of groups, which begin with the same one, after values were folded into them, each with its group
+abbrev pub StatesOf : {S Y : Type 0} → (Y → S → Y) → Y → List (ℕ × Option S) → ℕ → List Y → Type 0
+StatesOf step start pairs groups states = (g : ℕ) → g < groups
+    → slice_get states g ≡ Some (fold step start (values_at pairs g))
+
+-- the same of the slots of a column
 abbrev pub GroupStates : {A S Y : Type 0} → (Y → S → Y) → Y → ColumnWith A S → List ℕ → ℕ → List Y → Type 0
-GroupStates step start column indices groups states = (g : ℕ) → g < groups
-    → slice_get states g ≡ Some (fold step start (group_values column indices g))
+GroupStates step start column indices groups states = StatesOf step start (zip indices (slots_of column)) groups states
+
+-- the best value of each group, the greatest or the least
+abbrev pub BestOfGroups : {A S : Type 0} → Bool → (S → S → Ordering) → ColumnWith A S → List ℕ → ℕ → List (Option S)
+    → Type 0
+BestOfGroups greatest cmp column indices groups best =
+    GroupStates (λ state value. better_slot greatest cmp state (Some value)) None column indices groups best
+
+-- what contracts see of slots
+abbrev pub as_seen : {V S : Type 0} → (V → S) → List (Option V) → List (Option S)
+as_seen seen slots = map (option_map seen) slots
+
+-- what is seen of slots is the best value of each group
+abbrev pub SeenBest : {A S V : Type 0} → Bool → (S → S → Ordering) → (V → S) → ColumnWith A S → List ℕ → ℕ
+    → List (Option V) → Type 0
+SeenBest greatest cmp seen column indices groups best =
+    BestOfGroups greatest cmp column indices groups (as_seen seen best)
 
 -- an array with the number of valid slots of each group
 abbrev pub CountsGroups : {A S : Type 0} → ColumnWith A S → List ℕ → ℕ → Column ℕ → Type 0

@@ -1,17 +1,24 @@
 //! Sums, least and greatest values of the valid slots of an array.
+mod best;
 mod booleans;
 mod count;
 mod fold;
 mod group_sums;
 mod groups;
 mod items;
+mod made;
 mod numbers;
+mod ordered;
 mod sum;
+mod whole_sums;
 
 pub use booleans::{max_boolean, min_boolean};
 pub use count::count_valid;
 pub use group_sums::group_sum;
-pub use groups::{group_count, group_max, group_min};
+pub use groups::{
+    group_count, group_max_binary, group_max_boolean, group_max_primitive, group_max_string,
+    group_min_binary, group_min_boolean, group_min_primitive, group_min_string,
+};
 pub use items::{max_binary, max_string, min_binary, min_string};
 pub use numbers::{max_primitive, min_primitive};
 pub use sum::{SumOverflow, sum_primitive};

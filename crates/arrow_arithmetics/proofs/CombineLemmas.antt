@@ -15,16 +15,16 @@ use Rattle.arrow_arithmetics.specs.Arithmetic.{of_both, of_both_if, of_pairs, ou
 use Rattle.arrow_arithmetics.proofs.ListLemmas.{length-of_pairs}
 
 -- the stored values, the marks, and whether all are set, of rows
-abbrev values : {X : Type 0} → List (Row X) → List X
+abbrev pub values : {X : Type 0} → List (Row X) → List X
 values rows = map (λ row. row.0) rows
 
-abbrev marks : {X : Type 0} → List (Row X) → List Bool
+abbrev pub marks : {X : Type 0} → List (Row X) → List Bool
 marks rows = map (λ row. row.1) rows
 
-abbrev AllValid : {X : Type 0} → List (Row X) → Type 0
+abbrev pub AllValid : {X : Type 0} → List (Row X) → Type 0
 AllValid rows = IsTrue (list_all (λ row. row.1) rows)
 
-abbrev mask : {X : Type 0} → Bool → List (Row X) → Option (List Bool)
+abbrev pub mask : {X : Type 0} → Bool → List (Row X) → Option (List Bool)
 mask held rows = if held then Some (marks rows) else None
 
 -- a mask is held where either array holds one
@@ -270,7 +270,7 @@ module _ {X Z : Type 0} (default : Z) (make : X → Option Z) where
   map_if false xs valid = bare_if xs (valid refl)
 
 -- a mask with marks has as many as there are
-length-with_marks : (held : Option (List Bool)) (set : List Bool) → FitsMarks held set
+pub length-with_marks : (held : Option (List Bool)) (set : List Bool) → FitsMarks held set
     → length (with_marks held set) ≡ length set
 length-with_marks None set fits = refl
 length-with_marks (Some held) set fits = omega (

@@ -1,5 +1,6 @@
 pub mod CombineLemmas
 pub mod DivisionLemmas
+pub mod FitLemmas
 pub mod ListLemmas
 pub mod TextLemmas
 pub mod WordLemmas

@@ -1,8 +1,6 @@
 //! Conversions of arrays between types of integers, and of booleans and integers.
-ghost use Rattle.std.specs.Prelude.{◌≡◌, ◌+◌, ◌++◌, ◌≤◌, IfOk, length, map, option_map};
-ghost use Rattle.std.specs.Vec.{vec_capacity};
+ghost use Rattle.std.specs.Prelude.{◌≡◌, ◌≤◌, IfOk, length, map, option_map};
 ghost use Rattle.arrow_types.specs.Failures.{OnlyOutOfMemory};
-ghost use Rattle.arrow_integers.specs.NativeArithmetics.{some_if};
 ghost use Rattle.arrow_types.specs.Types.{IsRightType, logical_type};
 ghost use Rattle.arrow_types.specs.declared.physical_type.PhysicalType.TheVariants as PhysicalType;
 ghost use Rattle.arrow_boolean.specs.Fits.{boolean_type};
@@ -10,7 +8,7 @@ ghost use Rattle.arrow_bytes.specs.Kinds.{text_layout};
 ghost use Rattle.arrow_column.specs.Column.{stored_values, with_type};
 ghost use Rattle.arrow_memory.specs.Marks.{bits_of};
 ghost use Rattle.arrow_compute.specs.Slots.{MapsSlots};
-ghost use Rattle.arrow_arithmetics.specs.Arithmetic.{MapsSlotsIf, outcome_marks, outcome_values};
+ghost use Rattle.arrow_arithmetics.specs.Arithmetic.{MapsSlotsIf};
 ghost use Rattle.arrow_arithmetics.specs.Cast.{CastsSlots, FailsAsText, is_nonzero, number_of_bool, of_same_number};
 
 use crate::combine::mask_and;
@@ -71,73 +69,45 @@ pub fn primitive_as_primitive<I: NativeArithmetics, O: WrapNumber>(
     Ok(PrimitiveArray::new(data_type, values, validity))
 }
 
-/// The numbers that fit: the values that have them, with zero where there is none, and a mark for
-/// each, which is set where there is one.
-#[derive(Drop)]
-struct Fitting<O: NativeArithmetics> {
-    values: Vec<O>,
-    marks: Bitmap,
-}
-
-/// Returns the value that has a number, or `None` if it does not fit. The value to which it wraps is
-/// compared with it, which takes fewer instructions than `from_i128` where widths are known.
+/// Returns whether the value to which a number wraps has that number, which takes fewer instructions
+/// than `from_i128` where widths are known.
 #[inline(always)]
-fn fit<O: WrapNumber>(number: i128) -> Option<O>
-    ensures { result ≡ some_if (O.fits number) (O.wrap number) }
+fn is_fitting<O: WrapNumber>(number: i128) -> bool
+    ensures { result ≡ O.fits number }
 {
-    let value = O::wrap_number(number);
-    if value.to_i128() == number {
-        Some(value)
-    } else {
-        None
-    }
+    O::wrap_number(number).to_i128() == number
 }
 
-/// Appends the values that have the numbers of at most 64 values, and returns where there is one as
-/// the bits of a word.
+/// Returns which of the numbers of at most 64 values fit as the bits of a word.
 #[inline(always)]
-fn fit_word<I: NativeArithmetics, O: WrapNumber>(made: &mut Vec<O>, values: &[I]) -> u64
-    requires within { length values.now ≤ 64 }
-    requires room { length made.old.items + length values.now ≤ vec_capacity made.old }
-    ensures values { made.new.items ≡ made.old.items
-        ++ outcome_values O.zero (map (of_same_number I.number O.fits O.wrap) values.now) }
-    ensures room { vec_capacity made.new ≡ vec_capacity made.old }
-    ensures marks { bits_of result (length values.now)
-        ≡ outcome_marks (map (of_same_number I.number O.fits O.wrap) values.now) }
+fn fitting_word<I: NativeArithmetics, O: WrapNumber>(values: &[I]) -> u64
+    requires { length values.now ≤ 64 }
+    ensures { bits_of result (length values.now) ≡ map (λ x. O.fits (I.number x)) values.now }
 {
     let mut word = 0;
     for i in 0..values.len() {
-        let outcome = fit::<O>(values[i].to_i128());
-        word |= u64::from(outcome.is_some()) << i;
-        made.push_reserved(outcome.unwrap_or(O::default()));
+        word |= u64::from(is_fitting::<O>(values[i].to_i128())) << i;
     }
     word
 }
 
-/// Returns the values that have the numbers of `values`. Makes 64 marks at a time.
-fn fit_values<I: NativeArithmetics, O: WrapNumber>(
+/// Returns which of the numbers of `values` fit. Makes 64 marks at a time.
+fn fitting_marks<I: NativeArithmetics, O: WrapNumber>(
     alloc: Global,
     values: &[I],
-) -> Result<Fitting<O>, Error>
-    ensures values { IfOk result (λ made. made.values.items
-        ≡ outcome_values O.zero (map (of_same_number I.number O.fits O.wrap) values.now)) }
-    ensures marks { IfOk result (λ made. made.marks
-        ≡ outcome_marks (map (of_same_number I.number O.fits O.wrap) values.now)) }
+) -> Result<Bitmap, Error>
+    ensures ok { IfOk result (λ marks. marks ≡ map (λ x. O.fits (I.number x)) values.now) }
     ensures err { OnlyOutOfMemory result }
 {
     let words = values.len() / 64;
-    let mut made = Vec::with_capacity(alloc, values.len())?;
     let mut marks = MutableBitmap::with_capacity(alloc, values.len().saturating_add(64))?;
     for i in 0..words {
-        let word = fit_word::<I, O>(&mut made, &values[64 * i..64 * i + 64]);
+        let word = fitting_word::<I, O>(&values[64 * i..64 * i + 64]);
         marks.extend_from_word(word, 64)?;
     }
-    let rest = fit_word::<I, O>(&mut made, &values[64 * words..]);
+    let rest = fitting_word::<I, O>(&values[64 * words..]);
     marks.extend_from_word(rest, values.len() - 64 * words)?;
-    Ok(Fitting {
-        values: made,
-        marks: marks.freeze()?,
-    })
+    marks.freeze()
 }
 
 /// Converts each slot to the value of another type that has its number: null where it does not fit.
@@ -152,9 +122,9 @@ fn fit_primitive<I: NativeArithmetics, O: WrapNumber>(
         (of_same_number I.number O.fits O.wrap) array.now) }
     ensures err { OnlyOutOfMemory result }
 {
-    let fitting = fit_values::<I, O>(alloc, array.values().as_slice())?;
-    let Fitting { values, marks } = fitting;
-    let values = Buffer::from_vec(values)?;
+    let numbers = array.values().as_slice();
+    let marks = fitting_marks::<I, O>(alloc, numbers)?;
+    let values = Buffer::from_vec(wrap_values::<I, O>(alloc, numbers)?)?;
     let validity = mask_and(alloc, clone_mask(array.validity())?, marks)?;
     Ok(PrimitiveArray::new(data_type, values, Some(validity)))
 }

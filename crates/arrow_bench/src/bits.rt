@@ -1,9 +1,8 @@
 //! Bit maps.
 ghost use Rattle.std.specs.Prelude.{◌≡◌, length};
 
-use crate::rounds::{
-    convert_rounds, filled_builder, make_rounds, make_rounds_of, place, read_rounds,
-};
+use crate::operation::{Operation, Probe, run};
+use crate::rounds::{convert_rounds, filled_builder, make_rounds, place, read_rounds};
 use arrow_memory::bitmap::{Bitmap, MutableBitmap, and, not, or};
 use std::alloc::Global;
 
@@ -195,8 +194,25 @@ pub extern "C" fn rattle_flat_bits_set(alloc: Global, pattern: &[u8], rounds: us
     }
 }
 
-fn count_clear(bitmap: &Bitmap, _round: usize) -> u64 {
-    bitmap.unset_bits() as u64
+impl Probe for Bitmap {
+    /// Returns the number of clear marks.
+    #[inline(always)]
+    fn probe(&self, _round: usize) -> u64 {
+        self.unset_bits() as u64
+    }
+}
+
+struct BitsAnd;
+
+impl Operation for BitsAnd {
+    type Source = Bitmap;
+
+    type Made = Bitmap;
+
+    #[inline(always)]
+    fn make(alloc: Global, marks: &Bitmap) -> Option<Bitmap> {
+        and(alloc, marks, marks).ok()
+    }
 }
 
 // sum: the clear marks of the bits combined with themselves by `and`
@@ -207,12 +223,20 @@ pub extern "C" fn rattle_flat_bits_and(
     times: usize,
     rounds: usize,
 ) -> u64 {
-    make_rounds_of(
-        frozen_marks(alloc, pattern, times),
-        rounds,
-        |marks| and(alloc, marks, marks).ok(),
-        count_clear,
-    )
+    run::<BitsAnd>(alloc, frozen_marks(alloc, pattern, times), rounds)
+}
+
+struct BitsOr;
+
+impl Operation for BitsOr {
+    type Source = Bitmap;
+
+    type Made = Bitmap;
+
+    #[inline(always)]
+    fn make(alloc: Global, marks: &Bitmap) -> Option<Bitmap> {
+        or(alloc, marks, marks).ok()
+    }
 }
 
 // sum: the clear marks of the bits combined with themselves by `or`
@@ -223,12 +247,20 @@ pub extern "C" fn rattle_flat_bits_or(
     times: usize,
     rounds: usize,
 ) -> u64 {
-    make_rounds_of(
-        frozen_marks(alloc, pattern, times),
-        rounds,
-        |marks| or(alloc, marks, marks).ok(),
-        count_clear,
-    )
+    run::<BitsOr>(alloc, frozen_marks(alloc, pattern, times), rounds)
+}
+
+struct BitsNot;
+
+impl Operation for BitsNot {
+    type Source = Bitmap;
+
+    type Made = Bitmap;
+
+    #[inline(always)]
+    fn make(alloc: Global, marks: &Bitmap) -> Option<Bitmap> {
+        not(alloc, marks).ok()
+    }
 }
 
 // sum: the clear marks of the opposite bits
@@ -239,10 +271,5 @@ pub extern "C" fn rattle_flat_bits_not(
     times: usize,
     rounds: usize,
 ) -> u64 {
-    make_rounds_of(
-        frozen_marks(alloc, pattern, times),
-        rounds,
-        |marks| not(alloc, marks).ok(),
-        count_clear,
-    )
+    run::<BitsNot>(alloc, frozen_marks(alloc, pattern, times), rounds)
 }

@@ -1,59 +1,44 @@
-//! Kernels that compute: comparisons, logic, sums, least values and sorts, over arrays that are made once.
-use crate::kernels::truths_array;
-use crate::rounds::{make_rounds_of, place, read_rounds};
+//! Comparisons and logic, over arrays that are made once.
+use crate::kernels::{texts_array, truths_array};
+use crate::operation::{Operation, run};
 use crate::whole::array_of_parts;
-use arrow_aggregate::aggregate::{min_primitive, sum_primitive};
 use arrow_boolean::BooleanArray;
-use arrow_compute::boolean_kleene::and;
-use arrow_compute::comparison::{lt, lt_scalar};
+use arrow_compute::comparison::{eq, lt, lt_scalar};
+use arrow_compute::{boolean, boolean_kleene};
 use arrow_primitive::PrimitiveArray;
-use arrow_sort::SortOptions;
-use arrow_sort::sort::sort_to_indices;
+use arrow_utf8::Utf8Array;
 use std::alloc::Global;
 
-/// Returns the number of rows, and what is stored in one that the round chooses.
-#[inline(always)]
-fn probe_truths(array: &BooleanArray, round: usize) -> u64 {
-    let rows = array.len();
-    let at = place(round, rows);
-    (rows as u64).wrapping_add(if at < rows {
-        u64::from(array.value(at))
-    } else {
-        0
-    })
-}
+/// Two arrays of values.
+pub(crate) type Pair = (PrimitiveArray<i64>, PrimitiveArray<i64>);
 
-#[inline(always)]
-fn probe_indexes(array: &PrimitiveArray<u64>, round: usize) -> u64 {
-    let rows = array.len() as u64;
-    match array.values().as_slice().get(place(round, array.len())) {
-        Some(value) => rows.wrapping_add(*value),
-        None => rows,
-    }
-}
+/// Two arrays of booleans.
+type TruthsPair = (BooleanArray, BooleanArray);
+
+/// Two arrays of texts.
+type TextsPair = (Utf8Array<i32>, Utf8Array<i32>);
 
 /// Returns two arrays of values, of which the second has no null.
-fn pair(
-    alloc: Global,
-    values: &[i64],
-    others: &[i64],
-    valid: &[u8],
-) -> Option<(PrimitiveArray<i64>, PrimitiveArray<i64>)> {
+pub(crate) fn pair(alloc: Global, values: &[i64], others: &[i64], valid: &[u8]) -> Option<Pair> {
     let first = array_of_parts(alloc, values, valid)?;
     let second = array_of_parts(alloc, others, &[])?;
     Some((first, second))
 }
 
-#[inline(always)]
-fn compare(
-    alloc: Global,
-    lhs: &PrimitiveArray<i64>,
-    rhs: &PrimitiveArray<i64>,
-) -> Option<BooleanArray> {
-    if lhs.len() != rhs.len() {
-        return None;
+struct LessThan;
+
+impl Operation for LessThan {
+    type Source = Pair;
+
+    type Made = BooleanArray;
+
+    #[inline(always)]
+    fn make(alloc: Global, (lhs, rhs): &Pair) -> Option<BooleanArray> {
+        if lhs.len() != rhs.len() {
+            return None;
+        }
+        lt(alloc, lhs, rhs).ok()
     }
-    lt(alloc, lhs, rhs).ok()
 }
 
 // lhs < rhs; the second array has no null
@@ -65,12 +50,48 @@ pub extern "C" fn rattle_flat_cmp_lt(
     valid: &[u8],
     rounds: usize,
 ) -> u64 {
-    make_rounds_of(
-        pair(alloc, values, others, valid),
-        rounds,
-        |(lhs, rhs)| compare(alloc, lhs, rhs),
-        probe_truths,
-    )
+    run::<LessThan>(alloc, pair(alloc, values, others, valid), rounds)
+}
+
+struct Equal;
+
+impl Operation for Equal {
+    type Source = Pair;
+
+    type Made = BooleanArray;
+
+    #[inline(always)]
+    fn make(alloc: Global, (lhs, rhs): &Pair) -> Option<BooleanArray> {
+        if lhs.len() != rhs.len() {
+            return None;
+        }
+        eq(alloc, lhs, rhs).ok()
+    }
+}
+
+// lhs = rhs
+#[unsafe(no_mangle)]
+pub extern "C" fn rattle_flat_cmp_eq(
+    alloc: Global,
+    values: &[i64],
+    others: &[i64],
+    valid: &[u8],
+    rounds: usize,
+) -> u64 {
+    run::<Equal>(alloc, pair(alloc, values, others, valid), rounds)
+}
+
+struct LessThanZero;
+
+impl Operation for LessThanZero {
+    type Source = PrimitiveArray<i64>;
+
+    type Made = BooleanArray;
+
+    #[inline(always)]
+    fn make(alloc: Global, array: &PrimitiveArray<i64>) -> Option<BooleanArray> {
+        lt_scalar(alloc, array, 0i64).ok()
+    }
 }
 
 // each value < 0
@@ -81,72 +102,96 @@ pub extern "C" fn rattle_flat_cmp_lt_scalar(
     valid: &[u8],
     rounds: usize,
 ) -> u64 {
-    make_rounds_of(
-        array_of_parts(alloc, values, valid),
-        rounds,
-        |array| lt_scalar(alloc, array, 0i64).ok(),
-        probe_truths,
-    )
+    run::<LessThanZero>(alloc, array_of_parts(alloc, values, valid), rounds)
 }
 
-fn add_sum(array: &PrimitiveArray<i64>, start: u64) -> u64 {
-    match sum_primitive(array) {
-        Ok(Some(sum)) => start.wrapping_add(sum.cast_unsigned()),
-        Ok(None) => start,
-        Err(_) => start.wrapping_add(1),
+/// Returns two arrays of texts between the same offsets, without nulls.
+fn texts_pair(alloc: Global, data: &[u8], others: &[u8], offsets: &[i32]) -> Option<TextsPair> {
+    let first = texts_array(alloc, data, offsets, &[])?;
+    let second = texts_array(alloc, others, offsets, &[])?;
+    Some((first, second))
+}
+
+struct EqualTexts;
+
+impl Operation for EqualTexts {
+    type Source = TextsPair;
+
+    type Made = BooleanArray;
+
+    #[inline(always)]
+    fn make(alloc: Global, (lhs, rhs): &TextsPair) -> Option<BooleanArray> {
+        if lhs.len() != rhs.len() {
+            return None;
+        }
+        eq(alloc, lhs, rhs).ok()
     }
 }
 
-// sum: the sum of the valid values, 1 where it does not fit
+// lhs = rhs, of texts between the same offsets
 #[unsafe(no_mangle)]
-pub extern "C" fn rattle_flat_agg_sum(
+pub extern "C" fn rattle_flat_cmp_eq_utf8(
     alloc: Global,
-    values: &[i64],
-    valid: &[u8],
+    data: &[u8],
+    others: &[u8],
+    offsets: &[i32],
     rounds: usize,
 ) -> u64 {
-    read_rounds(array_of_parts(alloc, values, valid), rounds, add_sum)
-}
-
-fn add_least(array: &PrimitiveArray<i64>, start: u64) -> u64 {
-    match min_primitive(array) {
-        Some(least) => start.wrapping_add(least.cast_unsigned()),
-        None => start,
-    }
-}
-
-// sum: the least of the valid values
-#[unsafe(no_mangle)]
-pub extern "C" fn rattle_flat_agg_min(
-    alloc: Global,
-    values: &[i64],
-    valid: &[u8],
-    rounds: usize,
-) -> u64 {
-    read_rounds(array_of_parts(alloc, values, valid), rounds, add_least)
+    run::<EqualTexts>(alloc, texts_pair(alloc, data, others, offsets), rounds)
 }
 
 /// Returns two arrays of booleans, of which the second has no null.
-fn truths_pair(
-    alloc: Global,
-    bits: &[u8],
-    others: &[u8],
-    valid: &[u8],
-) -> Option<(BooleanArray, BooleanArray)> {
+fn truths_pair(alloc: Global, bits: &[u8], others: &[u8], valid: &[u8]) -> Option<TruthsPair> {
     let first = truths_array(alloc, bits, valid)?;
     let second = truths_array(alloc, others, &[])?;
     Some((first, second))
 }
 
-#[inline(always)]
-fn both(alloc: Global, lhs: &BooleanArray, rhs: &BooleanArray) -> Option<BooleanArray> {
-    if lhs.len() != rhs.len() {
-        return None;
+struct LogicAnd;
+
+impl Operation for LogicAnd {
+    type Source = TruthsPair;
+
+    type Made = BooleanArray;
+
+    #[inline(always)]
+    fn make(alloc: Global, (lhs, rhs): &TruthsPair) -> Option<BooleanArray> {
+        if lhs.len() != rhs.len() {
+            return None;
+        }
+        boolean::and(alloc, lhs, rhs).ok()
     }
-    and(alloc, lhs, rhs).ok()
 }
 
-// and of three-valued logic; the second array has no null
+// and, null where a slot is null; the second array has no null
+#[unsafe(no_mangle)]
+pub extern "C" fn rattle_flat_logic_and(
+    alloc: Global,
+    bits: &[u8],
+    others: &[u8],
+    valid: &[u8],
+    rounds: usize,
+) -> u64 {
+    run::<LogicAnd>(alloc, truths_pair(alloc, bits, others, valid), rounds)
+}
+
+struct KleeneAnd;
+
+impl Operation for KleeneAnd {
+    type Source = TruthsPair;
+
+    type Made = BooleanArray;
+
+    #[inline(always)]
+    fn make(alloc: Global, (lhs, rhs): &TruthsPair) -> Option<BooleanArray> {
+        if lhs.len() != rhs.len() {
+            return None;
+        }
+        boolean_kleene::and(alloc, lhs, rhs).ok()
+    }
+}
+
+// and of three-valued logic
 #[unsafe(no_mangle)]
 pub extern "C" fn rattle_flat_kleene_and(
     alloc: Global,
@@ -155,26 +200,5 @@ pub extern "C" fn rattle_flat_kleene_and(
     valid: &[u8],
     rounds: usize,
 ) -> u64 {
-    make_rounds_of(
-        truths_pair(alloc, bits, others, valid),
-        rounds,
-        |(lhs, rhs)| both(alloc, lhs, rhs),
-        probe_truths,
-    )
-}
-
-// the indexes that sort the array, nulls first
-#[unsafe(no_mangle)]
-pub extern "C" fn rattle_flat_sort_prim(
-    alloc: Global,
-    values: &[i64],
-    valid: &[u8],
-    rounds: usize,
-) -> u64 {
-    make_rounds_of(
-        array_of_parts(alloc, values, valid),
-        rounds,
-        |array| sort_to_indices(alloc, array, SortOptions::default(), None).ok(),
-        probe_indexes,
-    )
+    run::<KleeneAnd>(alloc, truths_pair(alloc, bits, others, valid), rounds)
 }

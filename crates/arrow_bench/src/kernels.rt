@@ -1,8 +1,9 @@
 //! Kernels over arrays, which are made once.
-use crate::bytes::{self, marks};
-use crate::rounds::{make_rounds_of, read_rounds};
+use crate::bytes::marks;
+use crate::operation::{Operation, run};
+use crate::rounds::read_rounds;
 use crate::text;
-use crate::whole::{array_of_parts, probe_array};
+use crate::whole::array_of_parts;
 use arrow_boolean::BooleanArray;
 use arrow_kernels::{
     concat_primitive, concat_utf8, filter_primitive, filter_utf8, take_primitive, take_utf8,
@@ -29,7 +30,7 @@ pub(crate) fn truths_array(alloc: Global, bits: &[u8], valid: &[u8]) -> Option<B
 }
 
 /// Creates the array of texts with their marks, one byte each; a null stores its text too.
-fn texts_array(
+pub(crate) fn texts_array(
     alloc: Global,
     data: &[u8],
     offsets: &[i32],
@@ -45,16 +46,23 @@ fn with_filter<A: Drop>(alloc: Global, array: Option<A>, bits: &[u8]) -> Option<
     Some((array, filter))
 }
 
-#[inline(always)]
-fn filter_values(
-    alloc: Global,
-    array: &PrimitiveArray<i64>,
-    filter: &BooleanArray,
-) -> Option<PrimitiveArray<i64>> {
-    if filter.len() != array.len() {
-        return None;
+struct Filter;
+
+impl Operation for Filter {
+    type Source = (PrimitiveArray<i64>, BooleanArray);
+
+    type Made = PrimitiveArray<i64>;
+
+    #[inline(always)]
+    fn make(
+        alloc: Global,
+        (array, filter): &(PrimitiveArray<i64>, BooleanArray),
+    ) -> Option<PrimitiveArray<i64>> {
+        if filter.len() != array.len() {
+            return None;
+        }
+        filter_primitive(alloc, array, filter).ok()
     }
-    filter_primitive(alloc, array, filter).ok()
 }
 
 // filter by the frozen boolean array of `marks`, which has no mask
@@ -66,24 +74,27 @@ pub extern "C" fn rattle_flat_filter_prim(
     marks: &[u8],
     rounds: usize,
 ) -> u64 {
-    make_rounds_of(
-        with_filter(alloc, array_of_parts(alloc, values, valid), marks),
-        rounds,
-        |(array, filter)| filter_values(alloc, array, filter),
-        probe_array,
-    )
+    let array = array_of_parts(alloc, values, valid);
+    run::<Filter>(alloc, with_filter(alloc, array, marks), rounds)
 }
 
-#[inline(always)]
-fn filter_texts(
-    alloc: Global,
-    array: &Utf8Array<i32>,
-    filter: &BooleanArray,
-) -> Option<Utf8Array<i32>> {
-    if filter.len() != array.len() {
-        return None;
+struct FilterTexts;
+
+impl Operation for FilterTexts {
+    type Source = (Utf8Array<i32>, BooleanArray);
+
+    type Made = Utf8Array<i32>;
+
+    #[inline(always)]
+    fn make(
+        alloc: Global,
+        (array, filter): &(Utf8Array<i32>, BooleanArray),
+    ) -> Option<Utf8Array<i32>> {
+        if filter.len() != array.len() {
+            return None;
+        }
+        filter_utf8(alloc, array, filter).ok()
     }
-    filter_utf8(alloc, array, filter).ok()
 }
 
 #[unsafe(no_mangle)]
@@ -95,12 +106,31 @@ pub extern "C" fn rattle_flat_filter_utf8(
     marks: &[u8],
     rounds: usize,
 ) -> u64 {
-    make_rounds_of(
-        with_filter(alloc, texts_array(alloc, data, offsets, valid), marks),
-        rounds,
-        |(array, filter)| filter_texts(alloc, array, filter),
-        bytes::probe_array,
-    )
+    let array = texts_array(alloc, data, offsets, valid);
+    run::<FilterTexts>(alloc, with_filter(alloc, array, marks), rounds)
+}
+
+/// Returns an array and keys.
+fn with_keys<A: Drop>(alloc: Global, array: Option<A>, keys: &[i64]) -> Option<(A, Vec<i64>)> {
+    let array = array?;
+    let keys = keys.to_vec(alloc).ok()?;
+    Some((array, keys))
+}
+
+struct Take;
+
+impl Operation for Take {
+    type Source = (PrimitiveArray<i64>, Vec<i64>);
+
+    type Made = PrimitiveArray<i64>;
+
+    #[inline(always)]
+    fn make(
+        alloc: Global,
+        (array, keys): &(PrimitiveArray<i64>, Vec<i64>),
+    ) -> Option<PrimitiveArray<i64>> {
+        take_primitive(alloc, array, keys.as_slice()).ok()
+    }
 }
 
 // take; every key is below the number of rows
@@ -112,12 +142,21 @@ pub extern "C" fn rattle_flat_take_prim(
     keys: &[i64],
     rounds: usize,
 ) -> u64 {
-    make_rounds_of(
-        array_of_parts(alloc, values, valid),
-        rounds,
-        |array| take_primitive(alloc, array, keys).ok(),
-        probe_array,
-    )
+    let array = array_of_parts(alloc, values, valid);
+    run::<Take>(alloc, with_keys(alloc, array, keys), rounds)
+}
+
+struct TakeTexts;
+
+impl Operation for TakeTexts {
+    type Source = (Utf8Array<i32>, Vec<i64>);
+
+    type Made = Utf8Array<i32>;
+
+    #[inline(always)]
+    fn make(alloc: Global, (array, keys): &(Utf8Array<i32>, Vec<i64>)) -> Option<Utf8Array<i32>> {
+        take_utf8(alloc, array, keys.as_slice()).ok()
+    }
 }
 
 #[unsafe(no_mangle)]
@@ -129,29 +168,37 @@ pub extern "C" fn rattle_flat_take_utf8(
     keys: &[i64],
     rounds: usize,
 ) -> u64 {
-    make_rounds_of(
-        texts_array(alloc, data, offsets, valid),
-        rounds,
-        |array| take_utf8(alloc, array, keys).ok(),
-        bytes::probe_array,
-    )
+    let array = texts_array(alloc, data, offsets, valid);
+    run::<TakeTexts>(alloc, with_keys(alloc, array, keys), rounds)
 }
 
 /// Returns an array in two parts. The second begins at a third of its slots, so that its marks do not
 /// begin at a byte.
-fn values_parts(alloc: Global, array: PrimitiveArray<i64>) -> Option<Vec<PrimitiveArray<i64>>> {
+fn values_parts(
+    alloc: Global,
+    array: Option<PrimitiveArray<i64>>,
+) -> Option<Vec<PrimitiveArray<i64>>> {
+    let array = array?;
     let len = array.len();
     let cut = len / 3;
     let rest = array.clone().ok()?.sliced(cut, len - cut);
     Vec::from_array(alloc, [array.sliced(0, cut), rest]).ok()
 }
 
-#[inline(always)]
-fn concat_values(alloc: Global, parts: &[PrimitiveArray<i64>]) -> Option<PrimitiveArray<i64>> {
-    if parts.is_empty() {
-        return None;
+struct Concat;
+
+impl Operation for Concat {
+    type Source = Vec<PrimitiveArray<i64>>;
+
+    type Made = PrimitiveArray<i64>;
+
+    #[inline(always)]
+    fn make(alloc: Global, parts: &Vec<PrimitiveArray<i64>>) -> Option<PrimitiveArray<i64>> {
+        if parts.is_empty() {
+            return None;
+        }
+        concat_primitive(alloc, parts.as_slice()).ok()
     }
-    concat_primitive(alloc, parts).ok()
 }
 
 // concatenation of an array in two parts
@@ -162,32 +209,33 @@ pub extern "C" fn rattle_flat_concat_prim(
     valid: &[u8],
     rounds: usize,
 ) -> u64 {
-    let parts = match array_of_parts(alloc, values, valid) {
-        Some(array) => values_parts(alloc, array),
-        None => None,
-    };
-    make_rounds_of(
-        parts,
-        rounds,
-        |parts| concat_values(alloc, parts),
-        probe_array,
-    )
+    let array = array_of_parts(alloc, values, valid);
+    run::<Concat>(alloc, values_parts(alloc, array), rounds)
 }
 
 /// Returns an array of texts in two parts, as `values_parts`.
-fn texts_parts(alloc: Global, array: Utf8Array<i32>) -> Option<Vec<Utf8Array<i32>>> {
+fn texts_parts(alloc: Global, array: Option<Utf8Array<i32>>) -> Option<Vec<Utf8Array<i32>>> {
+    let array = array?;
     let len = array.len();
     let cut = len / 3;
     let rest = array.clone().ok()?.sliced(cut, len - cut);
     Vec::from_array(alloc, [array.sliced(0, cut), rest]).ok()
 }
 
-#[inline(always)]
-fn concat_texts(alloc: Global, parts: &[Utf8Array<i32>]) -> Option<Utf8Array<i32>> {
-    if parts.is_empty() {
-        return None;
+struct ConcatTexts;
+
+impl Operation for ConcatTexts {
+    type Source = Vec<Utf8Array<i32>>;
+
+    type Made = Utf8Array<i32>;
+
+    #[inline(always)]
+    fn make(alloc: Global, parts: &Vec<Utf8Array<i32>>) -> Option<Utf8Array<i32>> {
+        if parts.is_empty() {
+            return None;
+        }
+        concat_utf8(alloc, parts.as_slice()).ok()
     }
-    concat_utf8(alloc, parts).ok()
 }
 
 #[unsafe(no_mangle)]
@@ -198,16 +246,8 @@ pub extern "C" fn rattle_flat_concat_utf8(
     valid: &[u8],
     rounds: usize,
 ) -> u64 {
-    let parts = match texts_array(alloc, data, offsets, valid) {
-        Some(array) => texts_parts(alloc, array),
-        None => None,
-    };
-    make_rounds_of(
-        parts,
-        rounds,
-        |parts| concat_texts(alloc, parts),
-        bytes::probe_array,
-    )
+    let array = texts_array(alloc, data, offsets, valid);
+    run::<ConcatTexts>(alloc, texts_parts(alloc, array), rounds)
 }
 
 fn count_true(array: &BooleanArray, start: u64) -> u64 {

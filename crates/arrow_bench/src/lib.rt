@@ -2,15 +2,20 @@
 //! many times and answers a checksum (rattle_flat.h says which).
 #![tactic(auto)]
 
+mod aggregates;
+mod arithmetics;
 mod bits;
 mod boolean;
 mod bytes;
 mod compute;
+mod groups;
 mod kernels;
+mod operation;
 mod primitive;
 mod ranges;
 mod read;
 mod rounds;
+mod select;
 mod show;
 mod text;
 mod whole;

@@ -1,5 +1,6 @@
 //! Builders that take a range of an array: the slots from the fourth on, twice, so that marks move
 //! within their bytes.
+use crate::operation::{Operation, Probe, run};
 use crate::rounds::{extend_twice, make_rounds_of};
 use crate::{boolean, bytes, primitive};
 use arrow_boolean::{BooleanArray, MutableBooleanArray};
@@ -8,12 +9,20 @@ use arrow_bytes::{Binary, ByteKind, Utf8};
 use arrow_primitive::{MutablePrimitiveArray, PrimitiveArray};
 use std::alloc::Global;
 
-#[inline(always)]
-fn take_numbers(alloc: Global, array: &PrimitiveArray<i64>) -> Option<MutablePrimitiveArray<i64>> {
-    let len = array.len().checked_sub(3)?;
-    extend_twice(MutablePrimitiveArray::new(alloc), |out| {
-        out.extend_from_array(array, 3, len).ok()
-    })
+struct TakeNumbers;
+
+impl Operation for TakeNumbers {
+    type Source = PrimitiveArray<i64>;
+
+    type Made = MutablePrimitiveArray<i64>;
+
+    #[inline(always)]
+    fn make(alloc: Global, array: &PrimitiveArray<i64>) -> Option<MutablePrimitiveArray<i64>> {
+        let len = array.len().checked_sub(3)?;
+        extend_twice(MutablePrimitiveArray::new(alloc), |out| {
+            out.extend_from_array(array, 3, len).ok()
+        })
+    }
 }
 
 #[unsafe(no_mangle)]
@@ -23,20 +32,31 @@ pub extern "C" fn rattle_flat_prim_extend_array(
     valid: &[u8],
     rounds: usize,
 ) -> u64 {
-    make_rounds_of(
-        primitive::array(alloc, values, valid),
-        rounds,
-        |array| take_numbers(alloc, array),
-        primitive::probe,
-    )
+    run::<TakeNumbers>(alloc, primitive::array(alloc, values, valid), rounds)
 }
 
-#[inline(always)]
-fn take_bits(alloc: Global, array: &BooleanArray) -> Option<MutableBooleanArray> {
-    let len = array.len().checked_sub(3)?;
-    extend_twice(MutableBooleanArray::new(alloc), |out| {
-        out.extend_from_array(array, 3, len).ok()
-    })
+impl Probe for MutableBooleanArray {
+    /// Returns the number of slots and the value that is stored in one of them.
+    #[inline(always)]
+    fn probe(&self, round: usize) -> u64 {
+        boolean::probe(self, round)
+    }
+}
+
+struct TakeBits;
+
+impl Operation for TakeBits {
+    type Source = BooleanArray;
+
+    type Made = MutableBooleanArray;
+
+    #[inline(always)]
+    fn make(alloc: Global, array: &BooleanArray) -> Option<MutableBooleanArray> {
+        let len = array.len().checked_sub(3)?;
+        extend_twice(MutableBooleanArray::new(alloc), |out| {
+            out.extend_from_array(array, 3, len).ok()
+        })
+    }
 }
 
 #[unsafe(no_mangle)]
@@ -46,12 +66,7 @@ pub extern "C" fn rattle_flat_bool_extend_array(
     valid: &[u8],
     rounds: usize,
 ) -> u64 {
-    make_rounds_of(
-        boolean::array(alloc, bits, valid),
-        rounds,
-        |array| take_bits(alloc, array),
-        boolean::probe,
-    )
+    run::<TakeBits>(alloc, boolean::array(alloc, bits, valid), rounds)
 }
 
 #[inline(always)]

@@ -1,7 +1,8 @@
 //! Equality and text.
 use crate::bits::frozen_marks;
+use crate::operation::{Operation, Probe, run};
 use crate::primitive::array;
-use crate::rounds::{make_rounds_of, read_rounds};
+use crate::rounds::read_rounds;
 use arrow_memory::bitmap::Bitmap;
 use arrow_primitive::PrimitiveArray;
 use std::alloc::Global;
@@ -53,16 +54,29 @@ pub extern "C" fn rattle_flat_bits_equal(
     read_rounds(two_bitmaps(alloc, pattern, times), rounds, same_marks)
 }
 
-fn array_text(alloc: Global, array: &PrimitiveArray<i64>) -> Option<String> {
-    let mut text = String::new(alloc);
-    match write!(text, "{array}") {
-        Ok(()) => Some(text),
-        Err(_) => None,
+impl Probe for String {
+    /// Returns the number of bytes.
+    #[inline(always)]
+    fn probe(&self, _round: usize) -> u64 {
+        self.len() as u64
     }
 }
 
-fn text_length(text: &String, _round: usize) -> u64 {
-    text.len() as u64
+struct PrintArray;
+
+impl Operation for PrintArray {
+    type Source = PrimitiveArray<i64>;
+
+    type Made = String;
+
+    #[inline(always)]
+    fn make(alloc: Global, array: &PrimitiveArray<i64>) -> Option<String> {
+        let mut text = String::new(alloc);
+        match write!(text, "{array}") {
+            Ok(()) => Some(text),
+            Err(_) => None,
+        }
+    }
 }
 
 #[unsafe(no_mangle)]
@@ -72,29 +86,29 @@ pub extern "C" fn rattle_flat_prim_print(
     valid: &[u8],
     rounds: usize,
 ) -> u64 {
-    make_rounds_of(
-        array(alloc, values, valid),
-        rounds,
-        |array| array_text(alloc, array),
-        text_length,
-    )
+    run::<PrintArray>(alloc, array(alloc, values, valid), rounds)
 }
 
-fn slice_text(alloc: Global, values: &[i64]) -> Option<String> {
-    let mut text = String::new(alloc);
-    match write!(text, "{values:?}") {
-        Ok(()) => Some(text),
-        Err(_) => None,
+struct PrintSlice;
+
+impl Operation for PrintSlice {
+    type Source = Vec<i64>;
+
+    type Made = String;
+
+    #[inline(always)]
+    fn make(alloc: Global, values: &Vec<i64>) -> Option<String> {
+        let values = values.as_slice();
+        let mut text = String::new(alloc);
+        match write!(text, "{values:?}") {
+            Ok(()) => Some(text),
+            Err(_) => None,
+        }
     }
 }
 
 // as prim_print, of a slice of std
 #[unsafe(no_mangle)]
 pub extern "C" fn rattle_flat_slice_print(alloc: Global, values: &[i64], rounds: usize) -> u64 {
-    make_rounds_of(
-        Some(values),
-        rounds,
-        |values| slice_text(alloc, values),
-        text_length,
-    )
+    run::<PrintSlice>(alloc, values.to_vec(alloc).ok(), rounds)
 }

@@ -1,6 +1,7 @@
 //! Builders and arrays of text.
-use crate::bytes::{extend_self, marks_of, probe_array, probe_builder};
-use crate::rounds::{filled_builder, make_rounds, make_rounds_of, read_rounds};
+use crate::bytes::{extend_self, marks_of, probe_builder};
+use crate::operation::{Operation, run};
+use crate::rounds::{filled_builder, make_rounds, read_rounds};
 use arrow_bytes::Utf8;
 use arrow_memory::bitmap::Bitmap;
 use arrow_memory::buffer::Buffer;
@@ -32,11 +33,22 @@ pub(crate) fn array(
     Utf8Array::try_new(DataType::Utf8, offsets, bytes, mask).ok()
 }
 
-#[inline(always)]
-fn try_new(offsets: &OffsetsBuffer<i32>, bytes: &Buffer<u8>) -> Option<Utf8Array<i32>> {
-    let offsets = offsets.clone().ok()?;
-    let bytes = bytes.clone().ok()?;
-    Utf8Array::try_new(DataType::Utf8, offsets, bytes, None).ok()
+struct TryNew;
+
+impl Operation for TryNew {
+    type Source = (OffsetsBuffer<i32>, Buffer<u8>);
+
+    type Made = Utf8Array<i32>;
+
+    #[inline(always)]
+    fn make(
+        _alloc: Global,
+        (offsets, bytes): &(OffsetsBuffer<i32>, Buffer<u8>),
+    ) -> Option<Utf8Array<i32>> {
+        let offsets = offsets.clone().ok()?;
+        let bytes = bytes.clone().ok()?;
+        Utf8Array::try_new(DataType::Utf8, offsets, bytes, None).ok()
+    }
 }
 
 #[unsafe(no_mangle)]
@@ -46,12 +58,7 @@ pub extern "C" fn rattle_flat_utf8_try_new(
     offsets: &[i32],
     rounds: usize,
 ) -> u64 {
-    make_rounds_of(
-        shared_parts(alloc, data, offsets),
-        rounds,
-        |(offsets, bytes)| try_new(offsets, bytes),
-        probe_array,
-    )
+    run::<TryNew>(alloc, shared_parts(alloc, data, offsets), rounds)
 }
 
 #[inline(never)]

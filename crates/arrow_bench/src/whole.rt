@@ -1,9 +1,8 @@
 //! Builders that grow by many values, and arrays that are cloned, cut and thawed.
 use crate::bytes::marks;
+use crate::operation::{Operation, run};
 use crate::primitive::{array, probe, push_all};
-use crate::rounds::{
-    convert_rounds, extend_twice, filled_builder, make_rounds, make_rounds_of, place,
-};
+use crate::rounds::{convert_rounds, extend_twice, filled_builder, make_rounds, place};
 use arrow_primitive::{MutablePrimitiveArray, PrimitiveArray};
 use arrow_types::data_type::DataType;
 use either::{Left, Right};
@@ -68,13 +67,19 @@ pub extern "C" fn rattle_flat_prim_extend_slice(
     make_rounds(rounds, || extend_slices(alloc, values, piece), probe)
 }
 
-fn extend_by(
-    alloc: Global,
-    big: &MutablePrimitiveArray<i64>,
-) -> Option<MutablePrimitiveArray<i64>> {
-    extend_twice(MutablePrimitiveArray::new(alloc), |out| {
-        out.try_extend_from_self(big).ok()
-    })
+struct ExtendBySelf;
+
+impl Operation for ExtendBySelf {
+    type Source = MutablePrimitiveArray<i64>;
+
+    type Made = MutablePrimitiveArray<i64>;
+
+    #[inline(always)]
+    fn make(alloc: Global, big: &MutablePrimitiveArray<i64>) -> Option<MutablePrimitiveArray<i64>> {
+        extend_twice(MutablePrimitiveArray::new(alloc), |out| {
+            out.try_extend_from_self(big).ok()
+        })
+    }
 }
 
 #[unsafe(no_mangle)]
@@ -84,12 +89,7 @@ pub extern "C" fn rattle_flat_prim_extend_self(
     valid: &[u8],
     rounds: usize,
 ) -> u64 {
-    make_rounds_of(
-        of_parts(alloc, values, valid),
-        rounds,
-        |big| extend_by(alloc, big),
-        probe,
-    )
+    run::<ExtendBySelf>(alloc, of_parts(alloc, values, valid), rounds)
 }
 
 fn push_slots(slots: &mut Vec<Option<i64>>, values: &[i64], valid: &[u8]) -> Option<()> {
@@ -108,11 +108,19 @@ fn slots(alloc: Global, values: &[i64], valid: &[u8]) -> Option<Vec<Option<i64>>
     filled_builder(slots, filled)
 }
 
-#[inline(always)]
-fn extend(alloc: Global, slots: &[Option<i64>]) -> Option<MutablePrimitiveArray<i64>> {
-    let mut out = MutablePrimitiveArray::new(alloc);
-    let filled = out.extend(slots.iter().copied()).ok();
-    filled_builder(out, filled)
+struct Extend;
+
+impl Operation for Extend {
+    type Source = Vec<Option<i64>>;
+
+    type Made = MutablePrimitiveArray<i64>;
+
+    #[inline(always)]
+    fn make(alloc: Global, slots: &Vec<Option<i64>>) -> Option<MutablePrimitiveArray<i64>> {
+        let mut out = MutablePrimitiveArray::new(alloc);
+        let filled = out.extend(slots.iter().copied()).ok();
+        filled_builder(out, filled)
+    }
 }
 
 #[unsafe(no_mangle)]
@@ -122,12 +130,7 @@ pub extern "C" fn rattle_flat_prim_extend(
     valid: &[u8],
     rounds: usize,
 ) -> u64 {
-    make_rounds_of(
-        slots(alloc, values, valid),
-        rounds,
-        |slots| extend(alloc, slots),
-        probe,
-    )
+    run::<Extend>(alloc, slots(alloc, values, valid), rounds)
 }
 
 #[inline(always)]
@@ -166,6 +169,28 @@ fn slices_sum(array: &PrimitiveArray<i64>, window: usize) -> Option<u64> {
     Some(sum)
 }
 
+/// Returns an array and how many slots its slices have.
+fn with_window(
+    array: Option<PrimitiveArray<i64>>,
+    window: usize,
+) -> Option<(PrimitiveArray<i64>, usize)> {
+    let array = array?;
+    Some((array, window))
+}
+
+struct SumSlices;
+
+impl Operation for SumSlices {
+    type Source = (PrimitiveArray<i64>, usize);
+
+    type Made = u64;
+
+    #[inline(always)]
+    fn make(_alloc: Global, (array, window): &(PrimitiveArray<i64>, usize)) -> Option<u64> {
+        slices_sum(array, *window)
+    }
+}
+
 #[unsafe(no_mangle)]
 pub extern "C" fn rattle_flat_prim_slice_sum(
     alloc: Global,
@@ -174,12 +199,8 @@ pub extern "C" fn rattle_flat_prim_slice_sum(
     window: usize,
     rounds: usize,
 ) -> u64 {
-    make_rounds_of(
-        array(alloc, values, valid),
-        rounds,
-        |array| slices_sum(array, window),
-        |sum, _| *sum,
-    )
+    let source = with_window(array(alloc, values, valid), window);
+    run::<SumSlices>(alloc, source, rounds)
 }
 
 /// Returns the number of rows and the value that is stored in one of them.

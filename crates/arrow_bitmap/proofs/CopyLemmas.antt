@@ -2,22 +2,24 @@
 use Rattle.std.proofs.Common.{◌≡◌, ◌≢◌, ℕ, zero, suc, ◌+◌, ◌-◌, ◌*◌, ◌/◌, ◌%◌, ◌^◌, ◌<◌, ◌≤◌, Bool, false}
 use Rattle.std.proofs.Common.{if◌then◌else◌, subst, List, [], ◌∷◌, ◌++◌, length, get_or, set, take, drop}
 use Rattle.std.proofs.Common.{get_or-take, get_or-drop, length-take, length-drop, ap, ap₂, refl, sym, ◌∙◌, inl, inr}
-use Rattle.std.proofs.Common.{◌==◌, bit_and, bit_or, max, arith, add-zero, zero-add}
+use Rattle.std.proofs.Common.{◌==◌, bit_and, bit_or, count_by, max, not, w8, arith, add-zero, zero-add}
 use Rattle.std.specs.Int.{bit_at, div_ceil}
+use Rattle.std.specs.Int.Count.{ones}
 use Rattle.std.proofs.lemmas.List.{same_lists, get_or-append_right, get_or_default}
 use Rattle.std.proofs.lemmas.Bool.{cases_eq, cases_lt}
-use Rattle.std.proofs.lemmas.Nat.{pow_pos, shr-shr, shr_split}
+use Rattle.std.proofs.lemmas.Nat.{mod_below, one_shl, pow_pos, shr-shr, shr_split}
 use Rattle.std.proofs.lemmas.Nat.Bits.{bit_at_above, bit_at_or, bit_at-zero, bit_at_cat_low, bit_at_cat_high}
+use Rattle.std.proofs.lemmas.Nat.Bits.{bit_at-lt, bit_at_not}
 use Rattle.arrow_bitmap.specs.Marks.{mark_at, marks}
 use Rattle.arrow_bitmap.specs.MarkWrites.{CopiesMarks}
 use Rattle.arrow_bitmap.proofs.MarkLemmas.{mark_at-set_same, mark_at-append, mark_at-set_other, mark-bit_of}
 use Rattle.arrow_bitmap.proofs.MarkLemmas.{mark_of_same, length-marks, get_or-marks, marks-add, same_marks}
-use Rattle.arrow_bitmap.proofs.MarkLemmas.{top_clear, top_clear-kept}
+use Rattle.arrow_bitmap.proofs.MarkLemmas.{clear_of, clear_of-bit, ones-clear, top_clear, top_clear-kept}
 
 -- ---- bits of a byte that is shifted
 
 -- the low bits of a number
-low_bit : (w n i : ℕ) → i < w → bit_at (n % 2 ^ w) i ≡ bit_at n i
+pub low_bit : (w n i : ℕ) → i < w → bit_at (n % 2 ^ w) i ≡ bit_at n i
 low_bit w n i low = sym (bit_at_cat_low (n / 2 ^ w) w (n % 2 ^ w) i low) ∙ ap (λ m. bit_at m i) (shr_split n w)
 
 -- a number that is shifted, at a width
@@ -191,19 +193,27 @@ copies_fewer old new source n p c d le copies = record {
   copied = λ i low. copies.copied i (omega arith);
 }
 
+-- one range is copied over the end of another and behind it
+pub copies_over : (old xs ys source : List ℕ) (n p c m q d : ℕ) → n ≤ m → m ≤ n + c → p + (m - n) ≡ q
+    → CopiesMarks old xs source n p c → CopiesMarks xs ys source m q d → CopiesMarks old ys source n p (m - n + d)
+copies_over old xs ys source n p c m q d le behind f first second = record {
+  kept = λ i low. second.kept i (omega arith) ∙ first.kept i low;
+  copied = λ i low. elim (cases_lt (n + i) m) [
+    | inl here ↦ second.kept (n + i) here ∙ first.copied i (omega arith)
+    | inr past ↦
+        let there : n + i ≡ m + (n + i - m) = omega arith in
+        let from : q + (n + i - m) ≡ p + i = omega arith in
+        ap (mark_at ys) there ∙ second.copied (n + i - m) (omega arith) ∙ ap (mark_at source) from
+  ];
+}
+
 -- one range is copied behind another
 pub copies_two : (old xs ys source : List ℕ) (n p c m q d : ℕ) → n + c ≡ m → p + c ≡ q
     → CopiesMarks old xs source n p c → CopiesMarks xs ys source m q d → CopiesMarks old ys source n p (c + d)
-copies_two old xs ys source n p c m q d e f first second = record {
-  kept = λ i low. second.kept i (omega arith) ∙ first.kept i low;
-  copied = λ i low. elim (cases_lt i c) [
-    | inl here ↦ second.kept (n + i) (omega arith) ∙ first.copied i here
-    | inr past ↦
-        let there : n + i ≡ m + (i - c) = omega arith in
-        let from : q + (i - c) ≡ p + i = omega arith in
-        ap (mark_at ys) there ∙ second.copied (i - c) (omega arith) ∙ ap (mark_at source) from
-  ];
-}
+copies_two old xs ys source n p c m q d e f first second =
+    let all : m - n + d ≡ c + d = omega arith in
+    subst (CopiesMarks old ys source n p) all (copies_over old xs ys source n p c m q d (omega arith) (omega arith)
+    (omega arith) first second)
 
 pub marks-kept : (old new source : List ℕ) (n p c : ℕ) → CopiesMarks old new source n p c
     → marks new 0 n ≡ marks old 0 n
@@ -232,6 +242,25 @@ get_or-piece bytes a n m k low =
     let all : a + m - a ≡ m = omega arith in
     ap₂ (λ c i. get_or (take c (drop a bytes)) i 0) all here ∙ get_or-take m (drop a bytes) k 0 low
     ∙ get_or-drop a bytes k 0
+
+-- ---- clear marks of which there are fewer than eight
+
+one_below : (n : ℕ) → n < 8 → 1 * 2 ^ n % 256 ≡ 2 ^ n
+one_below n few = one_shl n 8 few
+
+pub some_below : (n : ℕ) → n < 8 → 1 * 2 ^ n % 256 ≢ 0
+some_below n few none = omega (arith, one_below n few, pow_pos n, none)
+
+-- those of a byte are the set bits of its opposite, below a bit
+pub clear-few : (bytes : List ℕ) (start n b : ℕ) → n < 8 → b < 256
+    → ((k : ℕ) → k < 8 → (bit_at b k == 1) ≡ mark_at bytes (start + k))
+    → ones ((255 - b) % (1 * 2 ^ n % 256)) ≡ count_by not (marks bytes start n)
+unfolding marks
+clear-few bytes start n b few small same =
+    ap (λ m. ones ((255 - b) % m)) (one_below n few)
+    ∙ sym (ones-clear (mark_at bytes) n start ((255 - b) % 2 ^ n) (mod_below (255 - b) (2 ^ n) (pow_pos n)) (λ i low.
+    low_bit n (255 - b) i low ∙ bit_at_not w8 b i small (omega arith)
+    ∙ clear_of-bit (bit_at b i) (bit_at-lt b i) ∙ ap clear_of (same i (omega arith))))
 
 -- ---- booleans that are packed
 

@@ -1,5 +1,7 @@
 mod AgreeLemmas
+mod BlockLemmas
 mod CopyLemmas
+mod CountLemmas
 mod EqualityLemmas
 mod OpLemmas
 pub mod MarkLemmas

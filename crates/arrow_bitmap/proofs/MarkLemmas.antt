@@ -360,12 +360,12 @@ pub clear-le : (bytes : List ℕ) (p n : ℕ) → count_by not (marks bytes p n)
 clear-le bytes p n = subst (λ k. count_by not (marks bytes p n) ≤ k) (length-marks bytes p n)
     (count_by-le-length not (marks bytes p n))
 
-ones-zero : ones 0 ≡ 0
+pub ones-zero : ones 0 ≡ 0
 unfolding ones ones_in
 ones-zero = refl
 
 -- where a number's bits are the opposites of marks, it has as many set bits as there are clear marks
-ones-clear : (f : ℕ → Bool) (w p m : ℕ) → m < 2 ^ w → ((i : ℕ) → i < w → bit_at m i ≡ clear_of (f (p + i)))
+pub ones-clear : (f : ℕ → Bool) (w p m : ℕ) → m < 2 ^ w → ((i : ℕ) → i < w → bit_at m i ≡ clear_of (f (p + i)))
     → count_by not (map f (range_with_len p w)) ≡ ones m
 ones-clear f zero p m small bits = sym (ap ones (let none : m ≡ 0 = omega arith in none) ∙ ones-zero)
 ones-clear f (suc w) p m small bits =
@@ -384,7 +384,7 @@ ones-clear f (suc w) p m small bits =
         ∙ ap (λ k. clear_of (f k)) (let e : p + suc i ≡ p + 1 + i = omega arith in e)
 
 -- a number's set bits and its clear bits are all its bits
-ones-zeros : (w n : ℕ) → n < 2 ^ w → ones n + ones (2 ^ w - 1 - n) ≡ w
+pub ones-zeros : (w n : ℕ) → n < 2 ^ w → ones n + ones (2 ^ w - 1 - n) ≡ w
 ones-zeros zero n small = ap₂ ◌+◌ (ap ones (let none : n ≡ 0 = omega arith in none)
     ∙ ones-zero) (ap ones (let none : 2 ^ 0 - 1 - n ≡ 0 = omega arith in none) ∙ ones-zero)
 ones-zeros (suc w) n small =
@@ -398,7 +398,7 @@ ones-zeros (suc w) n small =
     above : (2 ^ suc w - 1 - n) / 2 ≡ 2 ^ w - 1 - n / 2
     above = omega (arith, pow-suc 2 w)
 
-clear_of-bit : (x : ℕ) → x < 2 → 1 - x ≡ clear_of (x == 1)
+pub clear_of-bit : (x : ℕ) → x < 2 → 1 - x ≡ clear_of (x == 1)
 clear_of-bit zero lt = refl
 clear_of-bit (suc zero) lt = refl
 clear_of-bit (suc (suc x)) lt = absurd (omega arith)
@@ -439,7 +439,7 @@ clear_step-byte bytes a i le small = ap (λ n. count_by not (marks bytes (8 * a)
 unfoldable pub number : List ℕ → ℕ → ℕ
 number bs k = sum_through (λ i. byte_worth i (get_or bs i 0)) k
 
-pow-256 : (k : ℕ) → 256 ^ k ≡ 2 ^ (8 * k)
+pub pow-256 : (k : ℕ) → 256 ^ k ≡ 2 ^ (8 * k)
 pow-256 zero = refl
 pow-256 (suc k) =
     let more : 8 * suc k ≡ 8 * k + 8 = omega arith in
@@ -574,6 +574,19 @@ clear_step-word bytes a i = ap (λ n. count_by not (marks bytes (8 * a) n)) next
 
 pub clear-empty : (bytes : List ℕ) (p n : ℕ) → n ≡ 0 → 0 ≡ count_by not (marks bytes p n)
 clear-empty bytes p n e = omega (arith, clear-le bytes p n)
+
+-- clear marks from the first on
+pub clear_first : (bytes : List ℕ) (n end : ℕ) → n ≤ end
+    → count_by not (marks bytes 0 n) + count_by not (marks bytes n (end - n)) ≡ count_by not (marks bytes 0 end)
+clear_first bytes n end le =
+    let all : n + (end - n) ≡ end = omega (arith, le) in
+    let place : 0 + n ≡ n = omega arith in
+    omega (
+      arith,
+      clear_add bytes 0 n (end - n),
+      ap (λ m. count_by not (marks bytes 0 m)) all,
+      ap (λ p. count_by not (marks bytes p (end - n))) place,
+    )
 
 -- the clear marks of a range are those of its ends and of the whole bytes between them
 pub clear_parts : (bytes : List ℕ) (start first past end : ℕ) → start ≤ 8 * first → first ≤ past → 8 * past ≤ end

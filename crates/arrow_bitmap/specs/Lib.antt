@@ -1,4 +1,5 @@
 pub mod Items
+pub mod Blocks
 pub mod Marks
 pub mod Masks
 pub mod MarkWrites

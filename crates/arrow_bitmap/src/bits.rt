@@ -8,6 +8,8 @@ ghost use Rattle.arrow_bitmap.specs.Marks.{mark_at, marks, bits_past_bytes};
 ghost use Rattle.arrow_types.specs.Types.{refusal};
 ghost use Rattle.arrow_bitmap.specs.MarkWrites.{FillsMarks};
 
+use crate::copy::byte_at;
+use crate::counts::count_clear_turns;
 use arrow_types::error::Error;
 use std::alloc::AllocError;
 
@@ -99,19 +101,14 @@ fn fill_byte(bytes: &mut Vec<u8>, start: usize, value: bool)
     }
 }
 
-/// Counts the clear marks of a range one by one.
-fn count_clear_marks(bytes: &[u8], start: usize, end: usize) -> usize
-    requires order { start ≤ end }
-    requires within { end ≤ 8 * length bytes.now }
-    ensures { result ≡ count_by not (marks bytes.now start (end - start)) }
+/// Counts the clear marks among fewer than eight from `start` on.
+#[inline(always)]
+fn count_clear_few(bytes: &[u8], start: usize, count: usize) -> usize
+    requires { count < 8 }
+    ensures { result ≡ count_by not (marks bytes.now start count) }
 {
-    let mut clear = 0;
-    for index in start..end {
-        if !mark_of(bytes, index) {
-            clear += 1;
-        }
-    }
-    clear
+    let clear = !byte_at(bytes, start) % (1 << count);
+    clear.count_ones() as usize
 }
 
 /// Counts the clear bits of a range of bytes, one byte at a time.
@@ -153,7 +150,33 @@ fn count_clear_words(bytes: &[u8], first: usize, past: usize) -> usize
     64 * words.len() - set + count_clear_bytes(bytes, past - rest.len(), past)
 }
 
-/// Counts the clear marks of a range: those at its ends one by one, the bytes between them whole.
+/// Counts the clear bits of 256 bytes `turns` times, which may be none, from byte `first` on.
+#[inline(always)]
+fn count_clear_front(bytes: &[u8], first: usize, turns: usize) -> usize
+    requires within { first + 256 * turns ≤ length bytes.now }
+    requires fits { 2048 * turns < 2 ^ 64 }
+    ensures { result ≡ count_by not (marks bytes.now (8 * first) (2048 * turns)) }
+{
+    if turns == 0 {
+        return 0;
+    }
+    count_clear_turns(bytes, first, turns)
+}
+
+/// Counts the clear bits of a range of bytes, 256 bytes at a time, and the rest eight bytes at a time.
+fn count_clear_whole(bytes: &[u8], first: usize, past: usize) -> usize
+    requires order { first ≤ past }
+    requires within { past ≤ length bytes.now }
+    requires fits { 8 * past < 2 ^ 64 }
+    ensures { result ≡ count_by not (marks bytes.now (8 * first) (8 * (past - first))) }
+{
+    let turns = (past - first) / 256;
+    let rest = first + 256 * turns;
+    count_clear_front(bytes, first, turns) + count_clear_words(bytes, rest, past)
+}
+
+/// Counts the clear marks of a range: those of the whole bytes between its ends by blocks and words. A range that has no
+/// whole byte has at most fourteen marks.
 pub(crate) fn count_clear(bytes: &[u8], start: usize, end: usize) -> usize
     requires order { start ≤ end }
     requires within { end ≤ 8 * length bytes.now }
@@ -162,12 +185,45 @@ pub(crate) fn count_clear(bytes: &[u8], start: usize, end: usize) -> usize
     let first = start.div_ceil(8);
     let past = end / 8;
     if first < past {
-        let head = count_clear_marks(bytes, start, 8 * first);
-        let body = count_clear_words(bytes, first, past);
-        head + body + count_clear_marks(bytes, 8 * past, end)
+        let head = count_clear_few(bytes, start, 8 * first - start);
+        let body = count_clear_whole(bytes, first, past);
+        head + body + count_clear_few(bytes, 8 * past, end - 8 * past)
     } else {
-        count_clear_marks(bytes, start, end)
+        let middle = start + (end - start) / 2;
+        count_clear_few(bytes, start, middle - start) + count_clear_few(bytes, middle, end - middle)
     }
+}
+
+/// Counts the clear marks up to `end`, eight bytes at a time.
+#[inline(always)]
+fn count_clear_short(bytes: &[u8], end: usize) -> usize
+    requires { end ≤ 8 * length bytes.now }
+    ensures { result ≡ count_by not (marks bytes.now 0 end) }
+{
+    let past = end / 8;
+    count_clear_words(bytes, 0, past) + count_clear_few(bytes, 8 * past, end - 8 * past)
+}
+
+/// Counts the clear marks up to `end`, 256 bytes at a time.
+// A call, so that short ranges save no registers for it.
+#[inline(never)]
+fn count_clear_long(bytes: &[u8], end: usize) -> usize
+    requires { end ≤ 8 * length bytes.now }
+    ensures { result ≡ count_by not (marks bytes.now 0 end) }
+{
+    let past = end / 8;
+    count_clear_whole(bytes, 0, past) + count_clear_few(bytes, 8 * past, end - 8 * past)
+}
+
+/// Counts the clear marks up to `end`.
+pub(crate) fn count_clear_first(bytes: &[u8], end: usize) -> usize
+    requires { end ≤ 8 * length bytes.now }
+    ensures { result ≡ count_by not (marks bytes.now 0 end) }
+{
+    if end < 2048 {
+        return count_clear_short(bytes, end);
+    }
+    count_clear_long(bytes, end)
 }
 
 /// Writes a mark behind the first `length` marks, in a new byte if the bytes are full.

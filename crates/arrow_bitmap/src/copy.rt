@@ -1,12 +1,13 @@
 //! Copies of marks between packed bytes, whole bytes at a time, at places that need not agree
 //! within a byte.
-ghost use Rattle.std.specs.Prelude.{◌≡◌, ℕ, ◌+◌, ◌-◌, ◌*◌, ◌^◌, ◌≤◌, ◌<◌, ◌==◌, slice_index, [], ◌∷◌, length};
+ghost use Rattle.std.specs.Prelude.{◌≡◌, ℕ, ◌+◌, ◌-◌, ◌*◌, ◌/◌, ◌^◌, ◌≤◌, ◌<◌, ◌==◌, slice_index, [], ◌∷◌, length};
 ghost use Rattle.std.specs.Prelude.{vec_len, ◌++◌, OnOk, OnErr, IfErr};
 ghost use Rattle.std.specs.Int.{bit_at, div_ceil};
 ghost use Rattle.arrow_types.specs.Failures.{OutOfMemoryKeeps};
 ghost use Rattle.arrow_bitmap.specs.Marks.{mark_at, marks};
 ghost use Rattle.arrow_bitmap.specs.MarkWrites.{CopiesMarks};
 
+use crate::blocks::copy_block;
 use arrow_types::error::Error;
 use std::alloc::AllocError;
 use std::rc::Rc;
@@ -60,6 +61,53 @@ pub(crate) fn join_byte(bytes: &mut Vec<u8>, len: usize, source: &[u8], start: u
     }
 }
 
+/// Copies `count` whole bytes of marks, read from `place` on, to byte `from` and on, one byte at a time.
+#[inline(always)]
+fn copy_bytes(target: &mut [u8], from: usize, source: &[u8], place: usize, count: usize)
+    requires room { from + count ≤ length target.old }
+    requires within { place / 8 + count < length source.now }
+    ensures marks { CopiesMarks target.old target.new source.now (8 * from) place (8 * count) }
+    ensures len { length target.new ≡ length target.old }
+{
+    let first = place / 8;
+    for index in 0..count {
+        target[from + index] = between(source[first + index], source[first + index + 1], place % 8);
+    }
+}
+
+/// Copies at least 64 bytes of marks as [`copy_bytes`], 64 bytes at a time. The last 64 may overlap those before them.
+// A call, so that short ranges save no registers for it.
+#[inline(never)]
+fn copy_blocks(target: &mut [u8], from: usize, source: &[u8], place: usize, count: usize)
+    requires some { 64 ≤ count }
+    requires room { from + count ≤ length target.old }
+    requires within { place / 8 + count < length source.now }
+    ensures marks { CopiesMarks target.old target.new source.now (8 * from) place (8 * count) }
+    ensures len { length target.new ≡ length target.old }
+{
+    let (first, shift) = (place / 8, place % 8);
+    for block in 0..count / 64 {
+        copy_block(target, from + 64 * block, source, first + 64 * block, shift);
+    }
+    let rest = count - 64;
+    copy_block(target, from + rest, source, first + rest, shift);
+}
+
+/// Copies `count` whole bytes of marks, read from `place` on, to byte `from` and on.
+#[inline(always)]
+fn copy_marks(target: &mut [u8], from: usize, source: &[u8], place: usize, count: usize)
+    requires room { from + count ≤ length target.old }
+    requires within { place / 8 + count < length source.now }
+    ensures marks { CopiesMarks target.old target.new source.now (8 * from) place (8 * count) }
+    ensures len { length target.new ≡ length target.old }
+{
+    if count < 64 {
+        copy_bytes(target, from, source, place, count);
+    } else {
+        copy_blocks(target, from, source, place, count);
+    }
+}
+
 /// Writes whole bytes of marks, read from `place` on, from byte `from` on.
 fn write_bytes(target: &mut [u8], from: usize, source: &[u8], place: usize)
     requires some { from < length target.old }
@@ -68,11 +116,8 @@ fn write_bytes(target: &mut [u8], from: usize, source: &[u8], place: usize)
     ensures marks { CopiesMarks target.old target.new source.now (8 * from) place (8 * (length target.old - from)) }
     ensures len { length target.new ≡ length target.old }
 {
-    let first = place / 8;
     let last = target.len() - from - 1;
-    for index in 0..last {
-        target[from + index] = between(source[first + index], source[first + index + 1], place % 8);
-    }
+    copy_marks(target, from, source, place, last);
     target[from + last] = byte_at(source, place + 8 * last);
 }
 

@@ -8,7 +8,7 @@ ghost use Rattle.arrow_types.specs.Failures.{OnlyOutOfMemory, OutOfMemoryKeeps};
 ghost use Rattle.arrow_bitmap.specs.Marks.{marks, packed_refusal};
 ghost use Rattle.arrow_types.specs.Types.{refusal};
 
-use crate::bits::{count_clear, fits_bytes, masked_mark_of};
+use crate::bits::{count_clear, count_clear_first, fits_bytes, masked_mark_of};
 use crate::copy::own_bytes;
 use crate::words::word_at;
 use crate::{BitmapIter, MutableBitmap};
@@ -52,7 +52,7 @@ impl Bitmap {
         ensures ok { IfOk result (λ bitmap. bitmap ≡ marks bytes.items 0 length) }
         ensures err { OnlyOutOfMemory result }
     {
-        let unset = count_clear(&bytes, 0, length);
+        let unset = count_clear_first(&bytes, length);
         Bitmap::from_counted(bytes, length, unset)
     }
 

@@ -4,7 +4,9 @@
 
 mod agree;
 mod bits;
+mod blocks;
 mod copy;
+mod counts;
 mod equality;
 mod from_natural;
 mod immutable;

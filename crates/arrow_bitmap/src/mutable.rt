@@ -9,7 +9,9 @@ ghost use Rattle.arrow_bitmap.specs.Masks.{AgreeWhere};
 ghost use Rattle.arrow_types.specs.Types.{refusal};
 
 use crate::agree::agree_where;
-use crate::bits::{count_clear, extend_marks, fits_bytes, mark_of, push_mark, write_mark};
+use crate::bits::{
+    count_clear_first, extend_marks, fits_bytes, mark_of, masked_mark_of, push_mark, write_mark,
+};
 use crate::copy::extend_from_bytes;
 use crate::pack::pack;
 use crate::words::extend_from_word;
@@ -241,7 +243,7 @@ impl MutableBitmap {
             return None;
         }
         self.length -= 1;
-        Some(mark_of(&self.bytes, self.length))
+        Some(masked_mark_of(&self.bytes, self.length))
     }
 
     /// Keeps only the first `len` marks.
@@ -339,7 +341,7 @@ impl MutableBitmap {
     pub fn unset_bits(&self) -> usize
         ensures { result ≡ count_by not self.now }
     {
-        count_clear(&self.bytes, 0, self.length)
+        count_clear_first(&self.bytes, self.length)
     }
 
     /// Returns an iterator over the marks.

@@ -3,6 +3,7 @@ mod equality;
 mod iterators;
 mod mutable;
 mod ops;
+mod places;
 mod ranges;
 mod shared;
 mod words;

@@ -1,5 +1,5 @@
 -- Lemmas about the keys of valid slots, and the first of them that fails a test.
-use Rattle.std.proofs.Common.{◌≡◌, ℕ, zero, suc, ◌<◌, ℤ, Bool, true, false, not, List, [], ◌∷◌}
+use Rattle.std.proofs.Common.{◌≡◌, ◌&&◌, ℕ, zero, suc, ◌<◌, ℤ, Bool, true, false, not, List, [], ◌∷◌}
 use Rattle.std.proofs.Common.{take, find, cond, Option, Some, None, slice_get, nat_lt, length, ◌+◌, refl, sym, ap}
 use Rattle.std.proofs.Common.{ap₂, ◌∙◌, arith}
 use Rattle.std.proofs.Math.Seq.{take-length}
@@ -14,6 +14,11 @@ nothing-found : {X : Type 0} (b : Bool) (x : X) (o : Option X) → cond b (Some 
 nothing-found true x o e = cc
 nothing-found false x o e = (refl, e)
 
+-- two that are both true
+pub both-true : (a b : Bool) → (a && b) ≡ true → (a ≡ true) × (b ≡ true)
+both-true true b e = (refl, e)
+both-true false b e = cc
+
 module _ {K : Type 0} where
   -- without a mask every slot is valid
   pub valid_keys-bare : (keys : List K) → valid_keys keys None ≡ keys
@@ -24,6 +29,33 @@ module _ {K : Type 0} where
     -- whether a key is no index below the length
     abbrev fails : K → Bool
     fails key = not (in_bounds len (number key))
+
+    -- one key more that passes
+    pub find-more : (keys : List K) (i : ℕ) (key : K) → find fails (take i keys) ≡ None → slice_get keys i ≡ Some key
+        → fails key ≡ false → find fails (take (suc i) keys) ≡ None
+    find-more [] i key none e passes = refl
+    find-more (k ∷ keys) zero key none e passes =
+        let same : k ≡ key = cc in
+        ap (λ b. cond b (Some k) None) (ap fails same ∙ passes)
+    find-more (k ∷ keys) (suc i) key none e passes =
+        let before = nothing-found (fails k) k (find fails (take i keys)) none in
+        ap₂ (λ b o. cond b (Some k) o) before.0 (find-more keys i key before.1 e passes)
+
+    pub find-step : (keys : List K) (i : ℕ) (key : K) → find fails (take i keys) ≡ None → slice_get keys i ≡ Some key
+        → fails key ≡ false → find fails (take (i + 1) keys) ≡ None
+    find-step keys i key none e passes = ap (λ n. find fails (take n keys)) (let next : i + 1 ≡ suc i = omega arith in
+        next) ∙ find-more keys i key none e passes
+
+    -- where no key fails, none of a valid slot does
+    pub none-valid : (keys : List K) (marks : List Bool) → find fails keys ≡ None
+        → find fails (valid_keys keys (Some marks)) ≡ None
+    none-valid [] marks none = refl
+    none-valid (k ∷ keys) [] none = refl
+    none-valid (k ∷ keys) (true ∷ marks) none =
+        let before = nothing-found (fails k) k (find fails keys) none in
+        ap₂ (λ b o. cond b (Some k) o) before.0 (none-valid keys marks before.1)
+    none-valid (k ∷ keys) (false ∷ marks) none =
+        none-valid keys marks (nothing-found (fails k) k (find fails keys) none).1
 
     none-more : (keys : List K) (marks : List Bool) (i : ℕ) (key : K) (mark : Bool)
         → find fails (valid_keys (take i keys) (Some (take i marks))) ≡ None

@@ -3,7 +3,7 @@ use Rattle.std.proofs.Common.{◌≡◌, ℕ, zero, suc, ◌+◌, ◌-◌, ◌%�
 use Rattle.std.proofs.Common.{bit_and, bit_or, bit_xor, min, max, ap, refl, ◌∙◌, w64, arith}
 use Rattle.std.specs.Int.{bit_at}
 use Rattle.std.specs.Ordering.{bool_cmp, is_eq, is_ge, is_gt, is_le, is_lt, is_ne}
-use Rattle.std.proofs.lemmas.Nat.Bits.{bit_at-lt, bit_at-zero, bit_at_and, bit_at_not, bit_at_ones, bit_at_or, bit_at_xor}
+use Rattle.std.proofs.lemmas.Nat.Bits.{bit_at-lt, bit_at_and, bit_at_not, bit_at_ones, bit_at_or, bit_at_xor}
 
 -- ---- one bit
 
@@ -56,9 +56,6 @@ not_bit x k small low = ap (λ b. b == 1) (bit_at_not w64 x k small low) ∙ oth
 
 pub all_ones : (k : ℕ) → k < 64 → (bit_at (2 ^ 64 - 1) k == 1) ≡ true
 all_ones k low = ap (λ b. b == 1) (bit_at_ones 64 k low)
-
-pub no_ones : (k : ℕ) → (bit_at 0 k == 1) ≡ false
-no_ones k = ap (λ b. b == 1) (bit_at-zero k)
 
 -- ---- comparisons of booleans
 

@@ -8,6 +8,10 @@ use Rattle.arrow_types.specs.Types.{LogicalType}
 use Rattle.arrow_column.specs.Column.{Column, ColumnWith, slots_of}
 use Rattle.arrow_memory.specs.Rows.{rows_of, slot}
 use Rattle.arrow_compute.specs.Slots.{CombinesSlots, MapsSlots, booleans}
+-- The bits of words that are made of the bits of others, as booleans.
+pub use Rattle.arrow_compute.proofs.BitLemmas.{all_ones, and_bit, not_bit, or_bit}
+-- What a function makes of the elements of two lists at one index.
+pub use Rattle.arrow_compute.proofs.PairLemmas.{combined_at}
 
 -- ---- lengths
 

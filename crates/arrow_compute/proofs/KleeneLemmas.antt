@@ -5,15 +5,16 @@ use Rattle.std.proofs.Common.{refl, sym, ap, ap₂, ◌∙◌, arith, subst, tru
 use Rattle.std.specs.Int.{bit_at}
 use Rattle.std.specs.List.{list_all, zip}
 use Rattle.std.specs.Prelude.{IsTrue}
-use Rattle.std.proofs.lemmas.List.{length-map}
+use Rattle.std.proofs.lemmas.List.{length-map, map-id}
 use Rattle.std.proofs.lemmas.Slice.Zip.{length-zip}
 use Rattle.arrow_boolean.specs.Fits.{boolean_type}
 use Rattle.arrow_memory.specs.Rows.{FitsMask, Row, rows_of, slot}
-use Rattle.arrow_column.specs.Column.{Column, IsColumn, column_of_parts, mask_of, marks_of, slots_of, stored_values}
-use Rattle.arrow_column.proofs.CallerLemmas.{valid_by_held}
-use Rattle.arrow_compute.specs.Kleene.{kleene_and, kleene_or, known_slots}
+use Rattle.arrow_column.specs.Column.{Column, ColumnWith, IsColumn, column_of_parts, mask_of, marks_of, slots_of, stored_values}
+use Rattle.arrow_column.proofs.CallerLemmas.{slots_valid, valid_by_held}
+use Rattle.arrow_compute.specs.Kleene.{KnownBeside, kleene_and, kleene_or, known_slots, mask_of_known}
 use Rattle.arrow_compute.specs.Slots.{CombinesSlots}
 use Rattle.arrow_compute.proofs.BitLemmas.{and_bit, not_bit, or_bit}
+use Rattle.arrow_compute.proofs.NullLemmas.{mask_is}
 
 -- ---- which results are known, by bits
 
@@ -75,6 +76,98 @@ module _ (v m w n k : ℕ) where
       ∙ ap₂ ◌||◌ (or_bit (bit_and m n) (bit_and m v) k ∙ ap₂ ◌||◌ (and_bit m n k) (and_bit m v k)) (and_bit n w k)
       ∙ known_or (bit v) (bit m) (bit w) (bit n)
 
+-- ---- which results are known, of slots beside valid ones
+
+marked_or_false : (x : Row Bool) (v : Bool) → (x.1 || not v) ≡ is_some (kleene_and (slot x) (Some v))
+marked_or_false (true, true) v = refl
+marked_or_false (false, true) v = refl
+marked_or_false (u, false) true = refl
+marked_or_false (u, false) false = refl
+
+false_or_marked : (x : Row Bool) (v : Bool) → (x.1 || not v) ≡ is_some (kleene_and (Some v) (slot x))
+false_or_marked (u, true) true = refl
+false_or_marked (u, true) false = refl
+false_or_marked (u, false) true = refl
+false_or_marked (u, false) false = refl
+
+marked_or_true : (x : Row Bool) (v : Bool) → (x.1 || v) ≡ is_some (kleene_or (slot x) (Some v))
+marked_or_true (true, true) v = refl
+marked_or_true (false, true) v = refl
+marked_or_true (u, false) true = refl
+marked_or_true (u, false) false = refl
+
+true_or_marked : (x : Row Bool) (v : Bool) → (x.1 || v) ≡ is_some (kleene_or (Some v) (slot x))
+true_or_marked (u, true) true = refl
+true_or_marked (u, true) false = refl
+true_or_marked (u, false) true = refl
+true_or_marked (u, false) false = refl
+
+module _ (table : Option Bool → Option Bool → Option Bool) (decides : Bool → Bool)
+    (agrees : (x : Row Bool) (v : Bool) → (x.1 || decides v) ≡ is_some (table (slot x) (Some v)))
+    (agrees_too : (x : Row Bool) (v : Bool) → (x.1 || decides v) ≡ is_some (table (Some v) (slot x))) where
+  abbrev marked_or : List Bool → List Bool → List Bool
+  marked_or marks values = map (λ pair. pair.0 || pair.1) (zip marks (map decides values))
+
+  known_left : (rows : List (Row Bool)) (values : List Bool)
+      → marked_or (map (λ row. row.1) rows) values ≡ known_slots table (map slot rows) (map Some values)
+  known_left [] values = refl
+  known_left (x ∷ rows) [] = refl
+  known_left (x ∷ rows) (v ∷ values) = ap₂ (λ k rest. k ∷ rest) (agrees x v) (known_left rows values)
+
+  known_right : (rows : List (Row Bool)) (values : List Bool)
+      → marked_or (map (λ row. row.1) rows) values ≡ known_slots table (map Some values) (map slot rows)
+  known_right [] [] = refl
+  known_right [] (v ∷ values) = refl
+  known_right (x ∷ rows) [] = refl
+  known_right (x ∷ rows) (v ∷ values) = ap₂ (λ k rest. k ∷ rest) (agrees_too x v) (known_right rows values)
+
+  is_beside : (marks values known : List Bool) → known ≡ marked_or marks values → KnownBeside table marks values known
+  is_beside marks values known is = record {
+    left = λ rows e. is ∙ ap (λ ms. marked_or ms values) e ∙ known_left rows values;
+    right = λ rows e. is ∙ ap (λ ms. marked_or ms values) e ∙ known_right rows values;
+  }
+
+pub and_beside : (marks values known : List Bool)
+    → known ≡ map (λ pair. pair.0 || pair.1) (zip marks (map not values)) → KnownBeside kleene_and marks values known
+and_beside = is_beside kleene_and not marked_or_false false_or_marked
+
+pub or_beside : (marks values known : List Bool) → known ≡ map (λ pair. pair.0 || pair.1) (zip marks values)
+    → KnownBeside kleene_or marks values known
+or_beside marks values known is = is_beside kleene_or (λ v. v) marked_or_true true_or_marked marks values known
+    (is ∙ ap (λ vs. map (λ (pair : Bool × Bool). pair.0 || pair.1) (zip marks vs)) (sym (map-id values)))
+
+-- the mask of two arrays of which one holds none
+module _ (table : Option Bool → Option Bool → Option Bool) (lhs rhs : Column Bool) (mask values known : List Bool)
+    (beside : KnownBeside table mask values known) where
+  abbrev in_all : List Bool
+  in_all = known_slots table (slots_of lhs) (slots_of rhs)
+
+  if_held : (held : Bool) → held ≡ true → known ≡ in_all → Some known ≡ (if held then Some in_all else None)
+  if_held true set is = ap Some is
+  if_held false set is = cc
+
+  held_by : (held : Bool) (marks : List Bool) → (if held then Some marks else None) ≡ Some mask → held ≡ true
+  held_by true marks e = refl
+  held_by false marks e = cc
+
+  right_held : (held holds : Bool) → holds ≡ true → (held || holds) ≡ true
+  right_held true holds e = refl
+  right_held false holds e = e
+
+  pub mask_of_left : mask_of lhs ≡ Some mask → mask_of rhs ≡ None → IsColumn rhs → values ≡ stored_values rhs
+      → Some known ≡ mask_of_known table lhs rhs
+  mask_of_left e none is_right is = if_held (lhs.held || rhs.held)
+      (ap (λ held. held || rhs.held) (held_by lhs.held (marks_of lhs) e))
+      (beside.left lhs.rows (mask_is lhs.held (marks_of lhs) mask e) ∙ ap (known_slots table (slots_of lhs)) (ap (map Some) is
+      ∙ sym (slots_valid rhs.rows (valid_by_held rhs.held rhs.rows is_right none))))
+
+  pub mask_of_right : mask_of lhs ≡ None → mask_of rhs ≡ Some mask → IsColumn lhs → values ≡ stored_values lhs
+      → Some known ≡ mask_of_known table lhs rhs
+  mask_of_right none e is_left is = if_held (lhs.held || rhs.held)
+      (right_held lhs.held rhs.held (held_by rhs.held (marks_of rhs) e))
+      (beside.right rhs.rows (mask_is rhs.held (marks_of rhs) mask e) ∙ ap (λ ls. known_slots table ls (slots_of rhs)) (ap (map Some) is
+      ∙ sym (slots_valid lhs.rows (valid_by_held lhs.held lhs.rows is_left none))))
+
 -- ---- marks of slots
 
 all_set : {X : Type 0} (rows : List (Row X)) (i : ℕ) → IsTrue (list_all (λ row. row.1) rows) → i < length rows
@@ -84,7 +177,7 @@ all_set ((x, true) ∷ rows) zero valid low = refl
 all_set ((x, true) ∷ rows) (suc i) valid low = all_set rows i valid (omega (arith, low))
 all_set ((x, false) ∷ rows) i valid low = absurd (true≢false (sym valid))
 
-pub unheld_mark : (column : Column Bool) → IsColumn column → mask_of column ≡ None → (i : ℕ) → i < length column.rows
+pub unheld_mark : {A X : Type 0} (column : ColumnWith A X) → IsColumn column → mask_of column ≡ None → (i : ℕ) → i < length column.rows
     → slice_get (marks_of column) i ≡ Some true
 unheld_mark column is_column e i low = all_set column.rows i (valid_by_held column.held column.rows is_column e) low
 

@@ -1,7 +1,6 @@
 -- Lemmas about arrays of booleans that are made of other arrays, slot by slot.
 use Rattle.std.proofs.Common.{◌≡◌, ◌&&◌, ◌||◌, Bool, true, false, if◌then◌else◌, List, [], ◌∷◌, length, map, Option}
-use Rattle.std.proofs.Common.{Some, None, Bor, is_some, option_map, refl, sym, ap, ap₂, ◌∙◌, arith, subst, true≢false}
-use Rattle.std.specs.Option.{option_copied}
+use Rattle.std.proofs.Common.{Some, None, is_some, option_map, refl, sym, ap, ap₂, ◌∙◌, arith, subst, true≢false}
 use Rattle.std.specs.Prelude.{IsTrue}
 use Rattle.std.specs.List.{list_all, zip}
 use Rattle.std.proofs.lemmas.List.{length-map}
@@ -110,15 +109,6 @@ held_by_either false false xs ys = refl
 pub held_by_one : {X : Type 0} (held : Bool) (xs : List (Row X)) → is_some (mask held xs) ≡ held
 held_by_one true xs = refl
 held_by_one false xs = refl
-
--- what is behind an optional reference to a mask
-pub held_by_validity : {A X : Type 0} (o : Option (Bor (List Bool))) (column : ColumnWith A X)
-    → option_copied o ≡ mask_of column → is_some o ≡ column.held
-held_by_validity o column e = seen o ∙ ap is_some e ∙ held_by_one column.held column.rows
-  where
-    seen : (o : Option (Bor (List Bool))) → is_some o ≡ is_some (option_copied o)
-    seen None = refl
-    seen (Some m) = refl
 
 -- a mask has a mark for each slot
 both_fit : {X : Type 0} (held holds : Bool) (xs ys : List (Row X)) (truths : List Bool) → length xs ≡ length ys

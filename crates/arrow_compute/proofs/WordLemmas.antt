@@ -8,7 +8,7 @@ use Rattle.std.proofs.lemmas.Bool.{cases_eq, cases_lt}
 use Rattle.std.proofs.lemmas.List.{get_or_append_left, get_or-append_right, same_lists}
 use Rattle.std.proofs.lemmas.List.FromFn.{get_or-map-range_with_len, length-map-range_with_len}
 use Rattle.std.proofs.lemmas.Nat.{one_shl, pow_pos, shr-shr}
-use Rattle.std.proofs.lemmas.Nat.Bits.{bit_at_or, bit_at_cat_high, bit_at_cat_low, bit_at-pow_other}
+use Rattle.std.proofs.lemmas.Nat.Bits.{bit_at_above, bit_at_or, bit_at_cat_high, bit_at_cat_low, bit_at-pow_other}
 use Rattle.std.proofs.lemmas.Nat.Bits.{bit_at-pow_same, bit_at-zero}
 use Rattle.std.proofs.lemmas.Option.{get_or_from_slice_get}
 use Rattle.arrow_memory.specs.Marks.{mark_at, marks}
@@ -76,68 +76,213 @@ pub all_bits : (word : ℕ) (marks : List Bool) (place i n : ℕ) → n ≤ i �
     → HoldsMarks word marks place n
 all_bits word marks place i n le had k low = had.below k (omega arith)
 
--- ---- a word of two halves
+-- ---- a word that is shifted to the left
 
-half_moved : (half h : ℕ) → half < 2 ^ 32 → h < 2 → half * 2 ^ (32 * h) % 2 ^ 64 ≡ half * 2 ^ (32 * h) + 0
-half_moved half zero small low = omega arith
-half_moved half (suc zero) small low = omega arith
-half_moved half (suc (suc h)) small low = absurd (omega arith)
+low_bit : (n k : ℕ) → k < 64 → bit_at (n % 2 ^ 64) k ≡ bit_at n k
+low_bit n k low = sym (bit_at_cat_low (n / 2 ^ 64) 64 (n % 2 ^ 64) k low)
+    ∙ ap (λ m. bit_at m k) (let whole : n / 2 ^ 64 * 2 ^ 64 + n % 2 ^ 64 ≡ n = omega arith in whole)
 
-module _ (half s : ℕ) where
-  moved-low : (k : ℕ) → k < s → bit_at (half * 2 ^ s + 0) k ≡ 0
-  moved-low k low = bit_at_cat_low half s 0 k low ∙ bit_at-zero k
+module _ (word s : ℕ) where
+  nothing_behind : word * 2 ^ s ≡ word * 2 ^ s + 0
+  nothing_behind = omega arith
 
-  moved-high : (k : ℕ) → s ≤ k → bit_at (half * 2 ^ s + 0) k ≡ bit_at half (k - s)
-  moved-high k le = bit_at_cat_high half s 0 k (pow_pos s) le
+  shifted-low : (k : ℕ) → k < 64 → k < s → bit_at (word * 2 ^ s % 2 ^ 64) k ≡ 0
+  shifted-low k low below = low_bit (word * 2 ^ s) k low ∙ ap (λ m. bit_at m k) nothing_behind
+      ∙ bit_at_cat_low word s 0 k below ∙ bit_at-zero k
 
--- n marks more, which are the first bits of a half and are moved to their place; no bit of the half is set above them
-module _ (word half h from n : ℕ) (marks : List Bool) (place : ℕ) (small : half < 2 ^ 32) (low : h < 2)
-    (is : HoldsMarks half marks (place + from) n) (clear : (k : ℕ) → n ≤ k → bit_at half k ≡ 0)
-    (had : HoldsFirst word marks place from) (at_place : (n ≡ 0) ⊎ (32 * h ≡ from)) where
-  or-bit : (k : ℕ) → bit_at (bit_or word (half * 2 ^ (32 * h) % 2 ^ 64)) k
-      ≡ max (bit_at word k) (bit_at (half * 2 ^ (32 * h) + 0) k)
-  or-bit k = bit_at_or word (half * 2 ^ (32 * h) % 2 ^ 64) k
-      ∙ ap (λ m. max (bit_at word k) (bit_at m k)) (half_moved half h small low)
+  shifted-high : (k : ℕ) → k < 64 → s ≤ k → bit_at (word * 2 ^ s % 2 ^ 64) k ≡ bit_at word (k - s)
+  shifted-high k low le = low_bit (word * 2 ^ s) k low ∙ ap (λ m. bit_at m k) nothing_behind
+      ∙ bit_at_cat_high word s 0 k (pow_pos s) le
 
-  outside : (k : ℕ) → (k < 32 * h) ⊎ (n ≤ k - 32 * h) → bit_at (half * 2 ^ (32 * h) + 0) k ≡ 0
-  outside k (inl below) = moved-low half (32 * h) k below
-  outside k (inr above) = elim (cases_lt k (32 * h)) [
-    | inl below ↦ moved-low half (32 * h) k below
-    | inr past ↦ moved-high half (32 * h) k past ∙ clear (k - 32 * h) above
+  shifted-above : (k : ℕ) → 64 ≤ k → bit_at (word * 2 ^ s % 2 ^ 64) k ≡ 0
+  shifted-above k above = bit_at_above (word * 2 ^ s % 2 ^ 64) 64 k (let m : word * 2 ^ s % 2 ^ 64 < 2 ^ 64 = omega arith in m)
+      above
+
+-- ---- four words of which each holds every fourth mark
+
+-- bit 4 * m is mark 4 * m behind a place, for t of them, and no other bit is set
+pub record HoldsFourth (lane : ℕ) (marks : List Bool) (start t : ℕ) : Type 0 where
+  pub each : (m : ℕ) → m < t → slice_get marks (start + 4 * m) ≡ Some (bit_at lane (4 * m) == 1)
+  pub clear : (k : ℕ) → (k % 4 ≢ 0) ⊎ (4 * t ≤ k) → bit_at lane k ≡ 0
+
+none_held : (marks : List Bool) (start : ℕ) → HoldsFourth 0 marks start 0
+none_held marks start = record { each = λ m low. absurd (omega arith); clear = λ k out. bit_at-zero k }
+
+first_bit : (bit : ℕ) (b : Bool) → bit ≡ from_bool b → (bit_at bit 0 == 1) ≡ b
+first_bit bit true e = ap (λ n. bit_at n 0 == 1) e
+first_bit bit false e = ap (λ n. bit_at n 0 == 1) e
+
+later_bit : (bit : ℕ) (b : Bool) → bit ≡ from_bool b → (k : ℕ) → k ≢ 0 → bit_at bit k ≡ 0
+later_bit bit true e k apart = ap (λ n. bit_at n k) e ∙ bit_at-pow_other 0 k apart
+later_bit bit false e k apart = ap (λ n. bit_at n k) e ∙ bit_at-zero k
+
+-- a word that is shifted by four bits, and a bit before them
+abbrev pub behind : ℕ → ℕ → ℕ
+behind lane bit = bit_or (lane * 2 ^ 4 % 2 ^ 64) bit
+
+-- a mark before those that a word holds
+module _ (lane : ℕ) (marks : List Bool) (start t : ℕ) (b : Bool) (bit : ℕ) (few : t < 16) (is_bit : bit ≡ from_bool b)
+    (is : slice_get marks start ≡ Some b) (had : HoldsFourth lane marks (start + 4) t) where
+  either : (k : ℕ) → bit_at (behind lane bit) k ≡ max (bit_at (lane * 2 ^ 4 % 2 ^ 64) k) (bit_at bit k)
+  either k = bit_at_or (lane * 2 ^ 4 % 2 ^ 64) bit k
+
+  moved-out : (k : ℕ) → (k % 4 ≢ 0) ⊎ (4 * (t + 1) ≤ k) → bit_at (lane * 2 ^ 4 % 2 ^ 64) k ≡ 0
+  moved-out k out = elim (cases_lt k 64) [
+    | inr above ↦ shifted-above lane 4 k above
+    | inl low ↦ elim (cases_lt k 4) [
+      | inl below ↦ shifted-low lane 4 k low below
+      | inr past ↦ shifted-high lane 4 k low past ∙ had.clear (k - 4) (elim out [
+        | inl other ↦ inl (λ e. other (omega (arith, e, past)))
+        | inr end ↦ inr (omega (arith, end))
+      ])
+    ]
   ]
 
-  before : (k : ℕ) → k < from → bit_at (half * 2 ^ (32 * h) + 0) k ≡ 0
-  before k below = elim at_place [
-    | inl none ↦ outside k (inr (omega (arith, none)))
-    | inr e ↦ outside k (inl (omega (arith, e)))
-  ]
+  not_first : (k : ℕ) → (k % 4 ≢ 0) ⊎ (4 * (t + 1) ≤ k) → k ≢ 0
+  not_first k (inl other) e = other (omega (arith, e))
+  not_first k (inr end) e = absurd (omega (arith, e, end))
 
-  after : (k : ℕ) → from + n ≤ k → bit_at (half * 2 ^ (32 * h) + 0) k ≡ 0
-  after k past = elim at_place [
-    | inl none ↦ outside k (inr (omega (arith, none)))
-    | inr e ↦ outside k (inr (omega (arith, e)))
-  ]
+  each_behind : (m : ℕ) → m < t + 1 → slice_get marks (start + 4 * m) ≡ Some (bit_at (behind lane bit) (4 * m) == 1)
+  each_behind zero low =
+      let here : start + 4 * 0 ≡ start = omega arith in
+      ap (slice_get marks) here ∙ is ∙ ap Some (sym (ap (λ n. n == 1) (either 0
+      ∙ zero-max _ _ (shifted-low lane 4 0 (omega arith) (omega arith))) ∙ first_bit bit b is_bit))
+  each_behind (suc m) low =
+      let there : start + 4 * suc m ≡ start + 4 + 4 * m = omega arith in
+      let before : 4 * suc m - 4 ≡ 4 * m = omega arith in
+      ap (slice_get marks) there ∙ had.each m (omega arith) ∙ ap (λ n. Some (n == 1)) (sym (
+      either (4 * suc m) ∙ max-zero _ _ (later_bit bit b is_bit (4 * suc m) (λ e. absurd (omega (arith, e))))
+      ∙ shifted-high lane 4 (4 * suc m) (omega (arith, low, few)) (omega arith) ∙ ap (bit_at lane) before))
 
-  between : (k : ℕ) → from ≤ k → k < from + n → slice_get marks (place + k)
-      ≡ Some (bit_at (bit_or word (half * 2 ^ (32 * h) % 2 ^ 64)) k == 1)
-  between k past within = elim at_place [
-    | inl none ↦ absurd (omega (arith, none))
-    | inr e ↦
-        let j : place + k ≡ place + from + (k - from) = omega arith in
-        let moved : k - 32 * h ≡ k - from = omega (arith, e) in
-        ap (slice_get marks) j ∙ is (k - from) (omega arith) ∙ ap (λ bit. Some (bit == 1)) (sym (
-        or-bit k ∙ zero-max _ _ (had.above k past) ∙ moved-high half (32 * h) k (omega (arith, e))
-        ∙ ap (bit_at half) moved))
-  ]
-
-  pub one_half : HoldsFirst (bit_or word (half * 2 ^ (32 * h) % 2 ^ 64)) marks place (from + n)
-  one_half = record {
-    below = λ k within. elim (cases_lt k from) [
-      | inl below ↦ had.below k below ∙ ap (λ bit. Some (bit == 1)) (sym (or-bit k ∙ max-zero _ _ (before k below)))
-      | inr past ↦ between k past within
-    ];
-    above = λ k past. or-bit k ∙ max-zero _ _ (after k past) ∙ had.above k (omega arith);
+  one_before : HoldsFourth (behind lane bit) marks start (t + 1)
+  one_before = record {
+    each = each_behind;
+    clear = λ k out. either k ∙ max-zero _ _ (later_bit bit b is_bit k (not_first k out)) ∙ moved-out k out;
   }
+
+-- the words hold t of every fourth mark, from as many places on
+pub record HoldFourths (a b c d : ℕ) (marks : List Bool) (start t : ℕ) : Type 0 where
+  pub first : HoldsFourth a marks start t
+  pub second : HoldsFourth b marks (start + 1) t
+  pub third : HoldsFourth c marks (start + 2) t
+  pub fourth : HoldsFourth d marks (start + 3) t
+
+pub no_fourths : (marks : List Bool) (start : ℕ) → HoldFourths 0 0 0 0 marks start 0
+no_fourths marks start = record {
+  first = none_held marks start;
+  second = none_held marks (start + 1);
+  third = none_held marks (start + 2);
+  fourth = none_held marks (start + 3);
+}
+
+module _ (first second third fourth : ℕ) (marks : List Bool) (start t : ℕ) (few : t < 16)
+    (had : HoldFourths first second third fourth marks (start + 4) t) where
+  turned : (i : ℕ) → start + 4 + i ≡ start + i + 4
+  turned i = omega arith
+
+  pub four_before : (a b c d : Bool) (bit bit_b bit_c bit_d : ℕ) → bit ≡ from_bool a → bit_b ≡ from_bool b
+      → bit_c ≡ from_bool c → bit_d ≡ from_bool d → slice_get marks start ≡ Some a
+      → slice_get marks (start + 1) ≡ Some b → slice_get marks (start + 2) ≡ Some c
+      → slice_get marks (start + 3) ≡ Some d
+      → HoldFourths (behind first bit) (behind second bit_b) (behind third bit_c) (behind fourth bit_d) marks start (t + 1)
+  four_before a b c d bit bit_b bit_c bit_d e e_b e_c e_d is is_b is_c is_d = record {
+    first = one_before first marks start t a bit few e is had.first;
+    second = one_before second marks (start + 1) t b bit_b few e_b is_b
+        (subst (λ j. HoldsFourth second marks j t) (turned 1) had.second);
+    third = one_before third marks (start + 2) t c bit_c few e_c is_c
+        (subst (λ j. HoldsFourth third marks j t) (turned 2) had.third);
+    fourth = one_before fourth marks (start + 3) t d bit_d few e_d is_d
+        (subst (λ j. HoldsFourth fourth marks j t) (turned 3) had.fourth);
+  }
+
+-- what a word of sixteen marks says of the word of all, if it is shifted to its place
+module _ (lane : ℕ) (marks : List Bool) (place s : ℕ) (few : s < 4) (holds : HoldsFourth lane marks (place + s) 16)
+    (k : ℕ) (low : k < 64) where
+  silent : k % 4 ≢ s → bit_at (lane * 2 ^ s % 2 ^ 64) k ≡ 0
+  silent other = elim (cases_lt k s) [
+    | inl below ↦ shifted-low lane s k low below
+    | inr past ↦ shifted-high lane s k low past ∙ holds.clear (k - s) (inl (λ e. other (omega (arith, e, past))))
+  ]
+
+  said : k % 4 ≡ s → slice_get marks (place + k) ≡ Some (bit_at (lane * 2 ^ s % 2 ^ 64) k == 1)
+  said same =
+      let j : place + k ≡ place + s + 4 * (k / 4) = omega (arith, same) in
+      let at : k - s ≡ 4 * (k / 4) = omega (arith, same) in
+      ap (slice_get marks) j ∙ holds.each (k / 4) (omega (arith, low)) ∙ ap (λ bit. Some (bit == 1)) (sym (
+      shifted-high lane s k low (omega (arith, same)) ∙ ap (bit_at lane) at))
+
+module _ (first second third fourth : ℕ) (marks : List Bool) (place : ℕ)
+    (hold : HoldFourths first second third fourth marks place 16) where
+  abbrev joined : ℕ
+  joined = bit_or (bit_or (bit_or first (second * 2 ^ 1 % 2 ^ 64)) (third * 2 ^ 2 % 2 ^ 64)) (fourth * 2 ^ 3 % 2 ^ 64)
+
+  pub all_fourths : HoldsMarks joined marks place 64
+  all_fourths k low = at (k % 4) refl
+    where
+      any : bit_at joined k ≡ max (max (max (bit_at first k) (bit_at (second * 2 ^ 1 % 2 ^ 64) k))
+          (bit_at (third * 2 ^ 2 % 2 ^ 64) k)) (bit_at (fourth * 2 ^ 3 % 2 ^ 64) k)
+      any = bit_at_or (bit_or (bit_or first (second * 2 ^ 1 % 2 ^ 64)) (third * 2 ^ 2 % 2 ^ 64)) (fourth * 2 ^ 3 % 2 ^ 64) k
+          ∙ ap (λ m. max m (bit_at (fourth * 2 ^ 3 % 2 ^ 64) k))
+          (bit_at_or (bit_or first (second * 2 ^ 1 % 2 ^ 64)) (third * 2 ^ 2 % 2 ^ 64) k
+          ∙ ap (λ m. max m (bit_at (third * 2 ^ 2 % 2 ^ 64) k)) (bit_at_or first (second * 2 ^ 1 % 2 ^ 64) k))
+
+      firsts : k % 4 ≢ 0 → bit_at first k ≡ 0
+      firsts other = hold.first.clear k (inl other)
+
+      seconds : k % 4 ≢ 1 → bit_at (second * 2 ^ 1 % 2 ^ 64) k ≡ 0
+      seconds = silent second marks place 1 (omega arith) hold.second k low
+
+      thirds : k % 4 ≢ 2 → bit_at (third * 2 ^ 2 % 2 ^ 64) k ≡ 0
+      thirds = silent third marks place 2 (omega arith) hold.third k low
+
+      fourths : k % 4 ≢ 3 → bit_at (fourth * 2 ^ 3 % 2 ^ 64) k ≡ 0
+      fourths = silent fourth marks place 3 (omega arith) hold.fourth k low
+
+      apart : (i j : ℕ) → k % 4 ≡ i → i ≢ j → k % 4 ≢ j
+      apart i j same other e = other (sym same ∙ e)
+
+      at : (i : ℕ) → k % 4 ≡ i → slice_get marks (place + k) ≡ Some (bit_at joined k == 1)
+      at zero same =
+          let j : place + k ≡ place + 4 * (k / 4) = omega (arith, same) in
+          let whole : 4 * (k / 4) ≡ k = omega (arith, same) in
+          let alone : bit_at joined k ≡ bit_at first k = omega (
+            arith,
+            any,
+            same,
+            seconds (apart 0 1 same (λ e. absurd (omega (arith, e)))),
+            thirds (apart 0 2 same (λ e. absurd (omega (arith, e)))),
+            fourths (apart 0 3 same (λ e. absurd (omega (arith, e)))),
+          ) in
+          ap (slice_get marks) j ∙ hold.first.each (k / 4) (omega (arith, low))
+          ∙ ap (λ bit. Some (bit == 1)) (ap (bit_at first) whole ∙ sym alone)
+      at (suc zero) same =
+          let alone : bit_at joined k ≡ bit_at (second * 2 ^ 1 % 2 ^ 64) k = omega (
+            arith,
+            any,
+            firsts (apart 1 0 same (λ e. absurd (omega (arith, e)))),
+            thirds (apart 1 2 same (λ e. absurd (omega (arith, e)))),
+            fourths (apart 1 3 same (λ e. absurd (omega (arith, e)))),
+          ) in
+          said second marks place 1 (omega arith) hold.second k low same ∙ ap (λ bit. Some (bit == 1)) (sym alone)
+      at (suc (suc zero)) same =
+          let alone : bit_at joined k ≡ bit_at (third * 2 ^ 2 % 2 ^ 64) k = omega (
+            arith,
+            any,
+            firsts (apart 2 0 same (λ e. absurd (omega (arith, e)))),
+            seconds (apart 2 1 same (λ e. absurd (omega (arith, e)))),
+            fourths (apart 2 3 same (λ e. absurd (omega (arith, e)))),
+          ) in
+          said third marks place 2 (omega arith) hold.third k low same ∙ ap (λ bit. Some (bit == 1)) (sym alone)
+      at (suc (suc (suc zero))) same =
+          let alone : bit_at joined k ≡ bit_at (fourth * 2 ^ 3 % 2 ^ 64) k = omega (
+            arith,
+            any,
+            firsts (apart 3 0 same (λ e. absurd (omega (arith, e)))),
+            seconds (apart 3 1 same (λ e. absurd (omega (arith, e)))),
+            thirds (apart 3 2 same (λ e. absurd (omega (arith, e)))),
+          ) in
+          said fourth marks place 3 (omega arith) hold.fourth k low same ∙ ap (λ bit. Some (bit == 1)) (sym alone)
+      at (suc (suc (suc (suc i)))) same = absurd (omega (arith, same))
 
 -- ---- a word whose first bits are shifted out
 

@@ -1,6 +1,7 @@
 -- Three-valued logic (Kleene's), in which a null is a boolean that is not known.
-use Rattle.std.specs.Prelude.{◌||◌, Bool, true, false, List, [], ◌∷◌, map, Option, Some, None, is_some, if◌then◌else◌}
+use Rattle.std.specs.Prelude.{◌≡◌, ◌||◌, Bool, true, false, List, [], ◌∷◌, map, Option, Some, None, is_some, if◌then◌else◌}
 use Rattle.std.specs.List.{zip}
+use Rattle.arrow_memory.specs.Rows.{Row, slot}
 use Rattle.arrow_column.specs.Column.{Column, slots_of}
 
 -- false where either is false, true where both are true, else null
@@ -29,6 +30,13 @@ all_of (x ∷ xs) = kleene_and x (all_of xs)
 -- at which index an operation makes a boolean that is known of the slots of two lists
 abbrev pub known_slots : (Option Bool → Option Bool → Option Bool) → List (Option Bool) → List (Option Bool) → List Bool
 known_slots table xs ys = map (λ pair. is_some (table pair.0 pair.1)) (zip xs ys)
+
+-- these results of an operation are known, of slots with these marks and valid slots of these values, on either side
+pub record KnownBeside (table : Option Bool → Option Bool → Option Bool) (marks values known : List Bool) : Type 0 where
+  pub left : (rows : List (Row Bool)) → marks ≡ map (λ row. row.1) rows
+      → known ≡ known_slots table (map slot rows) (map Some values)
+  pub right : (rows : List (Row Bool)) → marks ≡ map (λ row. row.1) rows
+      → known ≡ known_slots table (map Some values) (map slot rows)
 
 -- the mask of what an operation makes of the slots of two arrays, if either holds one
 abbrev pub mask_of_known : (Option Bool → Option Bool → Option Bool) → Column Bool → Column Bool → Option (List Bool)

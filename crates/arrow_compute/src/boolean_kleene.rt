@@ -4,12 +4,12 @@ ghost use Rattle.std.specs.Prelude.{slice_get};
 ghost use Rattle.std.specs.Int.{bit_at};
 ghost use Rattle.arrow_types.specs.Failures.{OnlyOutOfMemory};
 ghost use Rattle.arrow_boolean.specs.Fits.{boolean_type};
-ghost use Rattle.arrow_column.specs.Column.{IsColumn, marks_of, slots_of};
-ghost use Rattle.arrow_compute.specs.Kleene.{all_of, any_of, kleene_and, kleene_or, mask_of_known};
+ghost use Rattle.arrow_column.specs.Column.{IsColumn, slots_of};
+ghost use Rattle.arrow_compute.specs.Kleene.{KnownBeside, all_of, any_of, kleene_and, kleene_or, known_slots, mask_of_known};
 ghost use Rattle.arrow_compute.specs.Slots.{CombinesSlots};
-ghost use Rattle.arrow_compute.specs.Words.{HoldsMarks, slot_bit};
+ghost use Rattle.arrow_compute.specs.Words.{slot_bit};
 
-use crate::words::{MarkWords, collect_marks, word_of};
+use crate::words::{MarkWords, collect_marks, marks_word, word_of};
 use arrow_boolean::BooleanArray;
 use arrow_memory::bitmap::{self, Bitmap};
 use arrow_types::data_type::DataType;
@@ -33,6 +33,13 @@ trait KleeneOperation {
     fn known(left: u64, left_marks: u64, right: u64, right_marks: u64) -> u64
         ensures { (k : ℕ) → k < 64 → (bit_at result k == 1)
             ≡ is_some (table (slot_bit left left_marks k) (slot_bit right right_marks k)) };
+
+    /// Returns which results are known of slots with the marks of `mask` and valid slots of `values`,
+    /// whichever of them are on the left.
+    fn known_beside(alloc: Global, mask: &Bitmap, values: &Bitmap) -> Result<Bitmap, Error>
+        requires { length mask.now ≡ length values.now }
+        ensures ok { IfOk result (KnownBeside table mask.now values.now) }
+        ensures err { OnlyOutOfMemory result };
 }
 
 /// False where either slot is false.
@@ -46,6 +53,11 @@ impl KleeneOperation for KleeneAnd {
     #[inline(always)]
     fn known(left: u64, left_marks: u64, right: u64, right_marks: u64) -> u64 {
         (left_marks & right_marks) | (left_marks & !left) | (right_marks & !right)
+    }
+
+    #[inline]
+    fn known_beside(alloc: Global, mask: &Bitmap, values: &Bitmap) -> Result<Bitmap, Error> {
+        bitmap::or(alloc, mask, &bitmap::not(alloc, values)?)
     }
 }
 
@@ -61,18 +73,10 @@ impl KleeneOperation for KleeneOr {
     fn known(left: u64, left_marks: u64, right: u64, right_marks: u64) -> u64 {
         (left_marks & right_marks) | (left_marks & left) | (right_marks & right)
     }
-}
 
-/// Returns the `count` marks of slots from `place` on, all set if no mask is held.
-#[inline(always)]
-fn marks_word(array: &BooleanArray, place: usize, count: usize) -> u64
-    requires few { count ≤ 64 }
-    requires within { place + count ≤ length array.now.rows }
-    ensures { HoldsMarks result (marks_of array.now) place count }
-{
-    match array.validity() {
-        Some(mask) => word_of(mask, place, count),
-        None => u64::MAX,
+    #[inline]
+    fn known_beside(alloc: Global, mask: &Bitmap, values: &Bitmap) -> Result<Bitmap, Error> {
+        bitmap::or(alloc, mask, values)
     }
 }
 
@@ -117,6 +121,24 @@ impl<'a, K: KleeneOperation> MarkWords for Known<'a, K> {
     }
 }
 
+/// Returns which results of an operation on two arrays are known.
+fn known_marks<K: KleeneOperation>(
+    alloc: Global,
+    lhs: &BooleanArray,
+    rhs: &BooleanArray,
+) -> Result<Bitmap, Error>
+    requires { length lhs.now.rows ≡ length rhs.now.rows }
+    ensures ok { IfOk result (λ known. known ≡ known_slots K.table (slots_of lhs.now) (slots_of rhs.now)) }
+    ensures err { OnlyOutOfMemory result }
+{
+    let source = Known {
+        lhs,
+        rhs,
+        operation: PhantomData::<K>,
+    };
+    collect_marks(alloc, &source)?.freeze()
+}
+
 /// Returns the mask of what an operation makes of two arrays, if either holds one.
 fn known_mask<K: KleeneOperation>(
     alloc: Global,
@@ -129,16 +151,12 @@ fn known_mask<K: KleeneOperation>(
     ensures right { IsColumn rhs.now }
     ensures err { OnlyOutOfMemory result }
 {
-    let is_held = lhs.validity().is_some() | rhs.validity().is_some();
-    if !is_held {
-        return Ok(None);
+    match (lhs.validity(), rhs.validity()) {
+        (None, None) => Ok(None),
+        (Some(mask), None) => Ok(Some(K::known_beside(alloc, mask, rhs.values())?)),
+        (None, Some(mask)) => Ok(Some(K::known_beside(alloc, mask, lhs.values())?)),
+        (Some(_), Some(_)) => Ok(Some(known_marks::<K>(alloc, lhs, rhs)?)),
     }
-    let source = Known {
-        lhs,
-        rhs,
-        operation: PhantomData::<K>,
-    };
-    Ok(Some(collect_marks(alloc, &source)?.freeze()?))
 }
 
 /// Returns whether each slot of `lhs` and the slot of `rhs` at its place are true: false where

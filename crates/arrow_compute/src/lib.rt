@@ -5,5 +5,6 @@
 pub mod boolean;
 pub mod boolean_kleene;
 pub mod comparison;
+pub mod items;
 pub mod masks;
-mod words;
+pub mod words;

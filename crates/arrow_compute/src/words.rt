@@ -1,15 +1,17 @@
-//! Bitmaps that are made 64 marks at a time.
+//! Bitmaps that are made 64 marks at a time, for kernels of this crate and of those above.
 ghost use Rattle.std.specs.Prelude.{◌≡◌, ◌==◌, ◌+◌, ◌*◌, ◌^◌, ◌<◌, ◌≤◌, ℕ, IfOk, OnOk, List, Bool, Some, length};
 ghost use Rattle.std.specs.Prelude.{slice_get, vec_len};
 ghost use Rattle.std.specs.Int.{bit_at};
 ghost use Rattle.arrow_memory.specs.Marks.{mark_at};
+ghost use Rattle.arrow_column.specs.Column.{marks_of};
 ghost use Rattle.arrow_compute.specs.Words.{HoldsMarks};
 
+use arrow_column::Array;
 use arrow_memory::bitmap::{Bitmap, MutableBitmap};
 use std::alloc::{AllocError, Global};
 
 /// Marks that can be computed at each index.
-pub(crate) trait Marks {
+pub trait Marks {
     /// The marks in order.
     ghost marks: { Self → List Bool };
 
@@ -24,7 +26,7 @@ pub(crate) trait Marks {
 }
 
 /// Marks that can be computed up to 64 at a time.
-pub(crate) trait MarkWords {
+pub trait MarkWords {
     /// The marks in order.
     ghost marks: { Self → List Bool };
 
@@ -43,8 +45,8 @@ pub(crate) trait MarkWords {
 
 /// Marks at each index, of which words are made.
 #[derive(Drop)]
-pub(crate) struct Packed<S> {
-    pub(crate) source: S,
+pub struct Packed<S> {
+    pub source: S,
 }
 
 impl<S: Marks> MarkWords for Packed<S> {
@@ -57,30 +59,44 @@ impl<S: Marks> MarkWords for Packed<S> {
 
     #[inline(always)]
     fn word(&self, place: usize, count: usize) -> u64 {
-        let mut word = 0;
-        for half in 0..2 {
-            let from = count.min(32 * half);
-            let part = (count - from).min(32);
-            word |= u64::from(pack_half(&self.source, place + from, part)) << (32 * half);
+        if count == 64 {
+            pack_whole(&self.source, place)
+        } else {
+            pack_few(&self.source, place, count)
         }
-        word
     }
 }
 
-/// Returns the `count` marks from `place` on, at most 32, as the bits of a word. The compiler makes
-/// vectors of a loop over 32 bits on every processor, of one over 64 bits only with shifts by
-/// vectors; where it knows the count, it takes the loop apart instead.
+/// Returns the 64 marks from `place` on as the bits of a word. Each of four words takes every fourth
+/// mark, from the last on, and all are shifted by as many bits: a vector of them has one comparison
+/// and one shift for four marks on every processor.
 #[inline(always)]
-fn pack_half<S: Marks>(source: &S, place: usize, count: usize) -> u32
-    requires few { count ≤ 32 }
+fn pack_whole<S: Marks>(source: &S, place: usize) -> u64
+    requires fits { place + 64 < 2 ^ 64 }
+    requires within { place + 64 ≤ length (S.marks source.now) }
+    ensures { HoldsMarks result (S.marks source.now) place 64 }
+{
+    let (mut first, mut second, mut third, mut fourth) = (0, 0, 0, 0);
+    for turn in 0..16 {
+        let from = place + (60 - 4 * turn);
+        first = first << 4 | u64::from(source.mark(from));
+        second = second << 4 | u64::from(source.mark(from + 1));
+        third = third << 4 | u64::from(source.mark(from + 2));
+        fourth = fourth << 4 | u64::from(source.mark(from + 3));
+    }
+    first | second << 1 | third << 2 | fourth << 3
+}
+
+/// Returns the `count` marks from `place` on, at most 64, as the bits of a word.
+fn pack_few<S: Marks>(source: &S, place: usize, count: usize) -> u64
+    requires few { count ≤ 64 }
     requires fits { place + count < 2 ^ 64 }
     requires within { place + count ≤ length (S.marks source.now) }
-    ensures holds { HoldsMarks result (S.marks source.now) place count }
-    ensures clear { (k : ℕ) → count ≤ k → bit_at result k ≡ 0 }
+    ensures { HoldsMarks result (S.marks source.now) place count }
 {
     let mut word = 0;
     for i in 0..count {
-        word |= u32::from(source.mark(place + i)) << i;
+        word |= u64::from(source.mark(place + i)) << i;
     }
     word
 }
@@ -100,25 +116,26 @@ fn push_word(bytes: &mut Vec<u8>, word: u64) -> Result<(), AllocError>
 
 /// Returns the bitmap of all marks. Its error says no more than that an allocation failed, so that
 /// the words of the bitmap are not moved around it.
-pub(crate) fn collect_marks<S: MarkWords>(
-    alloc: Global,
-    source: &S,
-) -> Result<MutableBitmap, AllocError>
+pub fn collect_marks<S: MarkWords>(alloc: Global, source: &S) -> Result<MutableBitmap, AllocError>
     ensures { IfOk result (λ bitmap. bitmap ≡ S.marks source.now) }
 {
     let len = source.len();
-    let words = len.div_ceil(64);
-    let mut bytes = Vec::with_capacity(alloc, 8 * words)?;
+    let mut bytes = Vec::with_capacity(alloc, 8 * len.div_ceil(64))?;
+    let words = len / 64;
     for i in 0..words {
-        let place = 64 * i;
-        push_word(&mut bytes, source.word(place, (len - place).min(64)))?;
+        push_word(&mut bytes, source.word(64 * i, 64))?;
     }
+    let place = 64 * words;
+    if place == len {
+        return Ok(MutableBitmap::from_bytes(bytes, len));
+    }
+    push_word(&mut bytes, source.word(place, len - place))?;
     Ok(MutableBitmap::from_bytes(bytes, len))
 }
 
 /// Returns the `count` marks of a bitmap from `place` on, at most 64, as the bits of a word.
 #[inline(always)]
-pub(crate) fn word_of(bitmap: &Bitmap, place: usize, count: usize) -> u64
+pub fn word_of(bitmap: &Bitmap, place: usize, count: usize) -> u64
     requires few { count ≤ 64 }
     requires within { place + count ≤ length bitmap.now }
     ensures { HoldsMarks result bitmap.now place count }
@@ -127,6 +144,20 @@ pub(crate) fn word_of(bitmap: &Bitmap, place: usize, count: usize) -> u64
         bitmap.word(place)
     } else {
         few_of(bitmap, place, count)
+    }
+}
+
+/// Returns the marks of `count` slots from `place` on, at most 64, as the bits of a word. All are set
+/// if no mask is held.
+#[inline(always)]
+pub fn marks_word<A: Array>(array: &A, place: usize, count: usize) -> u64
+    requires few { count ≤ 64 }
+    requires within { place + count ≤ length (A.column array.now).rows }
+    ensures { HoldsMarks result (marks_of (A.column array.now)) place count }
+{
+    match array.validity() {
+        Some(mask) => word_of(mask, place, count),
+        None => u64::MAX,
     }
 }
 

@@ -1,7 +1,9 @@
 -- Groups of equal slots, numbered in the order of their first slots.
-use Rattle.std.specs.Prelude.{◌≡◌, ◌≢◌, ℕ, ◌<◌, ◌++◌, ◌∷◌, [], Bool, true, false, List, length, Some, slice_get}
+use Rattle.std.specs.Prelude.{◌≡◌, ◌≢◌, ℕ, ◌+◌, ◌<◌, nat_le, Option, None, ◌++◌, ◌∷◌, ◌⊎◌, [], Bool, true, List, length, Some, slice_get}
 use Rattle.std.specs.Prelude.{if◌then◌else◌}
-use Rattle.std.specs.List.{list_any}
+use Rattle.std.specs.List.{list_any, zip}
+use Rattle.arrow_column.specs.Column.{ColumnWith, slots_of}
+use Rattle.arrow_group.specs.declared.grouper.Groups.{Groups}
 
 -- the groups of equal slots: the first slot of each, in order, and the number of each slot's group
 pub record IsGrouping {X : Type 0} (slots : List X) (first numbers : List ℕ) : Type 0 where
@@ -14,21 +16,45 @@ pub record IsGrouping {X : Type 0} (slots : List X) (first numbers : List ℕ) :
   pub news : (g f i : ℕ) → slice_get first g ≡ Some f → i < f → slice_get slots i ≢ slice_get slots f
   pub order : (g h e f : ℕ) → g < h → slice_get first g ≡ Some e → slice_get first h ≡ Some f → e < f
 
--- the same by a test of keys
-pub record GroupsKeys {K : Type 0} (eq : K → K → Bool) (keys : List K) (first numbers : List ℕ) : Type 0 where
-  pub count : length numbers ≡ length keys
-  pub members : (i g : ℕ) (x : K) → slice_get numbers i ≡ Some g → slice_get keys i ≡ Some x
-      → (f : ℕ) × (y : K) × (slice_get first g ≡ Some f) × (slice_get keys f ≡ Some y) × (eq x y ≡ true)
-  pub within : (g f : ℕ) → slice_get first g ≡ Some f → f < length keys
-  pub news : (g f i : ℕ) (x y : K) → slice_get first g ≡ Some f → i < f → slice_get keys i ≡ Some x
-      → slice_get keys f ≡ Some y → eq x y ≡ false
-  pub order : (g h e f : ℕ) → g < h → slice_get first g ≡ Some e → slice_get first h ≡ Some f → e < f
+-- the groups of the pairs of the numbers of two groupings
+abbrev pub GroupsPairs : Groups → Groups → Groups → Type 0
+GroupsPairs left right groups =
+    IsGrouping (zip left.indices.items right.indices.items) groups.first.items groups.indices.items
+
+-- a fact of any groups of the slots of a column: of the column, the first slots and the numbers
+abbrev pub ForGroupings : (A S : Type 0) → (ColumnWith A S → List ℕ → List ℕ → Type 0) → Type 0
+ForGroupings A S P = (column : ColumnWith A S) (first numbers : List ℕ)
+    → IsGrouping (slots_of column) first numbers → P column first numbers
 
 -- the first places after a key at this place: it is one more if no key of a group is equal
 abbrev pub first_after : {K : Type 0} → (K → K → Bool) → List K → List ℕ → ℕ → K → List ℕ
 first_after eq groups first place key = if list_any (eq key) groups then first else first ++ place ∷ []
 
--- one more number, that of the group whose key is equal to this one
-abbrev pub NumbersKey : {K : Type 0} → (K → K → Bool) → K → List K → List ℕ → List ℕ → Type 0
-NumbersKey {K} eq key groups old new = (g : ℕ) × (k : K) × (new ≡ old ++ g ∷ []) × (slice_get groups g ≡ Some k)
+-- the number of the group of the key at this index, where that of the null slots is passed over
+abbrev pub number_of : Option ℕ → ℕ → ℕ
+number_of None index = index
+number_of (Some null) index = if nat_le null index then index + 1 else index
+
+-- the number of the group whose key is equal to this one
+abbrev pub NumbersKey : {K : Type 0} → (K → K → Bool) → K → List K → Option ℕ → ℕ → Type 0
+NumbersKey {K} eq key groups null number = (g : ℕ) × (k : K) × (number ≡ number_of null g) × (slice_get groups g ≡ Some k)
     × (eq key k ≡ true)
+
+-- the number of the group of the null slots, which is new if there is none
+abbrev pub null_number : Option ℕ → List ℕ → ℕ
+null_number None first = length first
+null_number (Some null) first = null
+
+-- the first places after a null at this place
+abbrev pub null_first : Option ℕ → List ℕ → ℕ → List ℕ
+null_first None first place = first ++ place ∷ []
+null_first (Some null) first place = first
+
+-- a hint is a key and the number of its group. One of these has a key equal to this, and this number
+abbrev pub HintsNumber : {K : Type 0} → (K → K → Bool) → List (K × ℕ) → K → ℕ → Type 0
+HintsNumber {K} eq hints key number = (i : ℕ) × (k : K) × (slice_get hints i ≡ Some (k, number)) × (eq key k ≡ true)
+
+-- each hint is one of those before, or this
+abbrev pub AddsHint : {K : Type 0} → List (K × ℕ) → K × ℕ → List (K × ℕ) → Type 0
+AddsHint {K} old hint new = (i : ℕ) (h : K × ℕ) → slice_get new i ≡ Some h
+    → ((j : ℕ) × (slice_get old j ≡ Some h)) ⊎ (h ≡ hint)

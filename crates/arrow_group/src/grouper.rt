@@ -1,12 +1,12 @@
-//! Groups of keys of any type.
-ghost use Rattle.std.specs.Prelude.{◌≡◌, ◌<◌, [], IfOk, List, OnOk, Some, length, slice_get};
+//! Groups of slots of any type.
+ghost use Rattle.std.specs.Prelude.{◌≡◌, ◌<◌, ◌^◌, IfOk, OnOk};
 ghost use Rattle.indexmap.specs.IndexSet.{insert_key};
-ghost use Rattle.arrow_types.specs.Failures.{OnlyOutOfMemory};
-ghost use Rattle.arrow_group.specs.Grouping.{GroupsKeys, NumbersKey, first_after};
+ghost use Rattle.arrow_group.specs.Grouping.{AddsHint, IsGrouping, NumbersKey, first_after, null_first, null_number, number_of};
 
-use arrow_types::error::Error;
+use crate::hints::{add_hint, hinted_number, known_number};
+use crate::keys::Keys;
 use indexmap::IndexSet;
-use std::alloc::Global;
+use std::alloc::{AllocError, Global};
 use std::hash::Hash;
 
 /// The groups of equal slots of an array. They are numbered from zero in the order of their first
@@ -20,80 +20,92 @@ pub struct Groups {
     pub indices: Vec<usize>,
 }
 
-/// A list of keys that can be compared and hashed.
-pub(crate) trait Keys {
-    type Key: Eq + Hash + Copy;
-
-    /// The keys.
-    ghost keys: { Self → List Self.Key };
-
-    /// Returns the number of keys.
-    fn len(&self) -> usize
-        ensures { result ≡ length (keys self.now) };
-
-    /// Returns the key at `i`.
-    fn key(&self, i: usize) -> Self::Key
-        requires { i < length (keys self.now) }
-        ensures { slice_get (keys self.now) i ≡ Some result };
-}
-
-/// The groups of the keys so far.
-#[derive(Drop)]
-struct Grouper<K: Eq + Hash + Copy> {
-    /// A key of each group.
-    keys: IndexSet<K>,
-    first: Vec<usize>,
-    indices: Vec<usize>,
-}
-
-impl<K: Eq + Hash + Copy> Grouper<K> {
-    /// Creates the groups of no keys, with room for the numbers of `len`.
-    fn new(alloc: Global, len: usize) -> Result<Self, Error>
-        ensures keys { IfOk result (λ groups. groups.keys.keys ≡ []) }
-        ensures first { IfOk result (λ groups. groups.first.items ≡ []) }
-        ensures indices { IfOk result (λ groups. groups.indices.items ≡ []) }
-        ensures err { OnlyOutOfMemory result }
-    {
-        Ok(Grouper {
-            indices: Vec::with_capacity(alloc, len)?,
-            first: Vec::new(alloc),
-            keys: IndexSet::new(alloc),
-        })
-    }
-
-    /// Adds a key, which is at `place`.
-    #[inline(always)]
-    fn add(&mut self, place: usize, key: K) -> Result<(), Error>
-        ensures keys { OnOk result (self.new.keys.keys ≡ insert_key K.eq self.old.keys.keys key) }
-        ensures first { OnOk result (self.new.first.items
-            ≡ first_after K.eq self.old.keys.keys self.old.first.items place key) }
-        ensures index { OnOk result (NumbersKey K.eq key self.new.keys.keys self.old.indices.items self.new.indices.items) }
-        ensures err { OnlyOutOfMemory result }
-    {
-        let (index, is_new) = self.keys.insert_full(key)?;
-        if is_new {
-            self.first.push(place)?;
-        }
-        self.indices.push(index)?;
-        Ok(())
-    }
-}
-
-/// Returns the groups of equal keys.
-pub(crate) fn group_keys<S: Keys>(alloc: Global, source: &S) -> Result<Groups, Error>
-    ensures ok { IfOk result (λ groups.
-        GroupsKeys S.Key.eq (S.keys source.now) groups.first.items groups.indices.items) }
-    ensures err { OnlyOutOfMemory result }
+/// Returns the number of the group of the key at `index`: that of the null slots is passed over.
+#[inline(always)]
+fn number_of(null: Option<usize>, index: usize) -> usize
+    requires { index < 2 ^ 63 }
+    ensures { result ≡ number_of null index }
 {
-    let mut grouper = Grouper::new(alloc, source.len())?;
-    for i in 0..source.len() {
-        grouper.add(i, source.key(i))?;
+    match null {
+        Some(null) if null <= index => index + 1,
+        _ => index,
     }
-    let Grouper {
-        keys,
-        first,
-        indices,
-    } = grouper;
+}
+
+/// Adds a valid slot, which is at `place` of `count`, returns the number of its group, and hints at it.
+/// There is a key of each group but that of the null slots, whose number is `null`.
+#[inline(always)]
+fn add_key<K: Eq + Hash + Copy>(
+    keys: &mut IndexSet<K>,
+    first: &mut Vec<usize>,
+    hints: &mut Vec<(K, usize)>,
+    null: Option<usize>,
+    place: usize,
+    count: usize,
+    key: K,
+) -> Result<usize, AllocError>
+    ensures keys { OnOk result (keys.new.keys ≡ insert_key K.eq keys.old.keys key) }
+    ensures first { OnOk result (first.new.items ≡ first_after K.eq keys.old.keys first.old.items place key) }
+    ensures number { IfOk result (NumbersKey K.eq key keys.new.keys null) }
+    ensures hints { IfOk result (λ number. AddsHint hints.old.items (key, number) hints.new.items) }
+{
+    let (index, is_new) = keys.insert_full(key)?;
+    // Below 2 ^ 63, which the sum in `number_of` needs.
+    let groups = keys.len();
+    if is_new {
+        first.push(place)?;
+    }
+    let number = number_of(null, index);
+    add_hint(hints, groups, place, count, key, number)?;
+    Ok(number)
+}
+
+/// Adds a null slot, which is at `place`, and returns the number of its group.
+#[inline(always)]
+fn add_null(first: &mut Vec<usize>, null: Option<usize>, place: usize) -> Result<usize, AllocError>
+    ensures first { OnOk result (first.new.items ≡ null_first null first.old.items place) }
+    ensures number { IfOk result (λ number. number ≡ null_number null first.old.items) }
+{
+    if let Some(number) = null {
+        return Ok(number);
+    }
+    let number = first.len();
+    first.push(place)?;
+    Ok(number)
+}
+
+/// Returns the groups of equal slots. What a loop reads stands in variables of its own, since a call
+/// that grows one part of a struct makes the compiler load the others anew.
+pub(crate) fn group_slots<'a, S: Keys<'a>>(
+    alloc: Global,
+    source: &'a S,
+) -> Result<Groups, AllocError>
+    ensures { IfOk result (λ groups. IsGrouping (S.slots source.now) groups.first.items groups.indices.items) }
+{
+    let count = source.count();
+    let mut indices = Vec::with_capacity(alloc, count)?;
+    let mut first = Vec::new(alloc);
+    let mut keys = IndexSet::new(alloc);
+    let mut hints = Vec::new(alloc);
+    let mut null = None;
+    for i in 0..count {
+        let (key, is_valid) = source.row(i);
+        let hinted = hinted_number(&hints, key);
+        let number = match known_number(is_valid, hinted, null) {
+            Some(number) => number,
+            None => {
+                if is_valid {
+                    add_key(&mut keys, &mut first, &mut hints, null, i, count, key)?
+                } else {
+                    let number = add_null(&mut first, null, i)?;
+                    null = Some(number);
+                    number
+                }
+            }
+        };
+        indices.push_reserved(number);
+    }
     drop(keys);
+    drop(hints);
     Ok(Groups { first, indices })
 }

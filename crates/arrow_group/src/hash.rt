@@ -1,19 +1,23 @@
 //! Hashes of slots.
-ghost use Rattle.std.specs.Prelude.{◌≡◌, IfOk};
+ghost use Rattle.std.specs.Prelude.{◌≡◌, IfOk, map};
+ghost use Rattle.arrow_memory.specs.Rows.{slot};
 ghost use Rattle.arrow_types.specs.Failures.{OnlyOutOfMemory};
-ghost use Rattle.arrow_group.specs.Hashes.{HashesKeys, HashesSlots, hash_of};
+ghost use Rattle.arrow_group.specs.Hashes.{HashesSlots, bytes_input, hash_of, hash_slot};
 
-use crate::grouper::Keys;
+use crate::keys::Keys;
+use arrow_binary::BinaryArray;
 use arrow_boolean::BooleanArray;
 use arrow_primitive::PrimitiveArray;
 use arrow_types::error::Error;
 use arrow_types::native_type::NativeType;
-use std::alloc::Global;
+use arrow_types::offset::Offset;
+use arrow_utf8::Utf8Array;
+use std::alloc::{AllocError, Global};
 use std::hash::{FoldHasher, Hash, Hasher};
 
 /// Returns the hash of a key.
 #[inline(always)]
-fn hash_key<K: Hash + Copy>(key: K) -> u64
+pub(crate) fn hash_key<K: Hash + Copy>(key: K) -> u64
     ensures { result ≡ hash_of (K.hash_input key) }
 {
     let mut state = FoldHasher::default();
@@ -21,16 +25,25 @@ fn hash_key<K: Hash + Copy>(key: K) -> u64
     state.finish()
 }
 
-/// Returns the hash of each key.
-fn hash_keys<S: Keys>(alloc: Global, source: &S) -> Result<PrimitiveArray<u64>, Error>
-    ensures ok { IfOk result (HashesKeys S.Key.hash_input (S.keys source.now)) }
-    ensures err { OnlyOutOfMemory result }
+/// Returns a key as a slot: a null if it is not valid.
+#[inline(always)]
+fn slot_of_key<K: Copy>(key: K, is_valid: bool) -> Option<K>
+    ensures { result ≡ slot (key, is_valid) }
 {
-    let mut hashes = Vec::with_capacity(alloc, source.len())?;
-    for i in 0..source.len() {
-        hashes.push(hash_key(source.key(i)))?;
+    if is_valid { Some(key) } else { None }
+}
+
+/// Returns the hash of each slot.
+fn hash_slots<'a, S: Keys<'a>>(alloc: Global, source: &'a S) -> Result<Vec<u64>, AllocError>
+    ensures { IfOk result (λ hashes. hashes.items ≡ map (hash_slot S.input) (S.slots source.now)) }
+{
+    let count = source.count();
+    let mut hashes = Vec::with_capacity(alloc, count)?;
+    for i in 0..count {
+        let (key, is_valid) = source.row(i);
+        hashes.push_reserved(hash_key(slot_of_key(key, is_valid)));
     }
-    PrimitiveArray::from_vec(hashes)
+    Ok(hashes)
 }
 
 /// Returns a hash for each slot, which depends on the slot alone: equal slots have equal hashes, and
@@ -45,7 +58,7 @@ pub fn hash_primitive<T: NativeType + Eq + Hash>(
     ensures ok { IfOk result (HashesSlots ⟦<Option<T> as Hash>⟧.hash_input array.now) }
     ensures err { OnlyOutOfMemory result }
 {
-    hash_keys(alloc, array)
+    PrimitiveArray::from_vec(hash_slots(alloc, array)?)
 }
 
 /// Returns a hash for each slot, which depends on the slot alone: equal slots have equal hashes, and
@@ -57,5 +70,35 @@ pub fn hash_boolean(alloc: Global, array: &BooleanArray) -> Result<PrimitiveArra
     ensures ok { IfOk result (HashesSlots ⟦<Option<bool> as Hash>⟧.hash_input array.now) }
     ensures err { OnlyOutOfMemory result }
 {
-    hash_keys(alloc, array)
+    PrimitiveArray::from_vec(hash_slots(alloc, array)?)
+}
+
+/// Returns a hash for each slot, which depends on the slot alone: equal slots have equal hashes, and
+/// so do null ones. The hash is that of a text of the same bytes. The result has no mask.
+///
+/// # Errors
+/// `OutOfMemory` if an allocation fails.
+pub fn hash_binary<O: Offset>(
+    alloc: Global,
+    array: &BinaryArray<O>,
+) -> Result<PrimitiveArray<u64>, Error>
+    ensures ok { IfOk result (HashesSlots bytes_input array.now) }
+    ensures err { OnlyOutOfMemory result }
+{
+    PrimitiveArray::from_vec(hash_slots(alloc, array)?)
+}
+
+/// Returns a hash for each slot, which depends on the slot alone: equal slots have equal hashes, and
+/// so do null ones. The result has no mask.
+///
+/// # Errors
+/// `OutOfMemory` if an allocation fails.
+pub fn hash_utf8<O: Offset>(
+    alloc: Global,
+    array: &Utf8Array<O>,
+) -> Result<PrimitiveArray<u64>, Error>
+    ensures ok { IfOk result (HashesSlots bytes_input array.now) }
+    ensures err { OnlyOutOfMemory result }
+{
+    PrimitiveArray::from_vec(hash_slots(alloc, array)?)
 }

@@ -3,11 +3,17 @@
 #![tactic(auto)]
 
 mod boolean;
+mod bytes;
 mod grouper;
 mod hash;
+mod hints;
+mod keys;
+pub mod laws;
 mod primitive;
+mod refine;
 
 pub use boolean::group_boolean;
+pub use bytes::{group_binary, group_utf8};
 pub use grouper::Groups;
-pub use hash::{hash_boolean, hash_primitive};
+pub use hash::{hash_binary, hash_boolean, hash_primitive, hash_utf8};
 pub use primitive::group_primitive;

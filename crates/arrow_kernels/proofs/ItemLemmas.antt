@@ -164,6 +164,15 @@ pub items-of-held : (column : ByteColumn) (os bytes : List ℕ) → os ≡ offse
 items-of-held column os bytes e f = ap₂ items_of e f
     ∙ items-back column.around.lead (stored_values column) column.around.tail
 
+-- they are items of the kind that the column's are
+pub cut-held : (text : Bool) (column : ByteColumn) (os bytes : List ℕ) → os ≡ offsets_held column
+    → bytes ≡ bytes_held column → AreItems text (stored_values column) → CutItems text os bytes
+cut-held text column os bytes e f all = (
+  within-held column os bytes e f,
+  subst (AreItems text)
+      (sym (items-of-held column os bytes e f)) all,
+)
+
 pub around-alone : (items : List (List ℕ)) → around_of (offsets_of 0 items) (concat items) ≡ nothing_around
 around-alone items =
     ap (λ tail. let whole : Around = record { lead = []; tail = tail } in whole) (

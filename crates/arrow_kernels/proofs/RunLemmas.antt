@@ -179,16 +179,6 @@ rows-more rows xs first end same order within set =
     long : length (take (end - first) (drop first xs)) ≡ end - first
     long = length-take-le (end - first) (drop first xs) (omega (arith, length-drop first xs, same, within))
 
--- a run of set marks that ends before a clear one, if not at the end, has a mark where its first is set
-pub run-longer : (rows : List Bool) (first end : ℕ) → first ≤ end → first < length rows
-    → slice_get rows first ≡ Some true → (end < length rows → slice_get rows end ≡ Some false) → first < end
-run-longer rows first end order within set clear = elim (cases_lt first end) [
-  | inl less ↦ less
-  | inr up ↦
-      let same : end ≡ first = omega (arith, order, up) in
-      absurd (cc (set, ap (slice_get rows) same, clear (omega (arith, same, within))))
-]
-
 -- marks that are read as a word
 module _ (rows : List Bool) (row word : ℕ)
     (read : (k : ℕ) → k < 64 → slice_get rows (row + k) ≡ Some (bit_at word k == 1)) where
@@ -197,30 +187,51 @@ module _ (rows : List Bool) (row word : ℕ)
       ap (slice_get rows) (let e : k ≡ row + (k - row) = omega arith in e) ∙ read (k - row) (omega arith)
       ∙ ap (λ n. Some (n == 1)) is
 
-  -- those before the first set bit, and that
-  pub clear-before : (place : ℕ) → place ≤ 64 → ((k : ℕ) → 0 ≤ k → k < place → bit_at word k ≡ 0)
-      → (k : ℕ) → row ≤ k → k < row + place → slice_get rows k ≡ Some false
-  clear-before place up clear k low high = mark-read k 0 low (omega (arith, high, up)) (clear (k - row) (omega arith)
-      (omega arith))
+  -- those between two places
+  pub clear-between : (from place : ℕ) → place ≤ 64 → ((k : ℕ) → from ≤ k → k < place → bit_at word k ≡ 0)
+      → (k : ℕ) → row + from ≤ k → k < row + place → slice_get rows k ≡ Some false
+  clear-between from place up clear k low high =
+      mark-read k 0 (omega (arith, low)) (omega (arith, high, up)) (clear (k - row) (omega (arith, low))
+      (omega (arith, low, high)))
 
-  pub set-there : (place : ℕ) → place < 64 → bit_at word place ≡ 1 → slice_get rows (row + place) ≡ Some true
-  set-there place low set = read place low ∙ ap (λ n. Some (n == 1)) set
+  -- all of a word that is full
+  pub full-set : word ≡ 18446744073709551615 → (k : ℕ) → row ≤ k → k < row + 64 → slice_get rows k ≡ Some true
+  full-set all k low high = mark-read k 1 low high (ap (λ n. bit_at n (k - row)) all
+      ∙ bit_at_ones 64 (k - row) (omega (arith, low, high)))
 
-  -- those before the first clear bit, and that: the first set one of the word with all bits turned over
   module _ (fits : word < 2 ^ 64) where
     turned : (k b : ℕ) → k < 64 → bit_at (bit_not w64 word) k ≡ b → b ≤ 1 → bit_at word k ≡ 1 - b
     turned k b low is small = omega (arith, bit_at_not w64 word k fits low, is, bit_at-lt word k, small)
 
-    pub set-before : (place : ℕ) → place ≤ 64 → ((k : ℕ) → 0 ≤ k → k < place → bit_at (bit_not w64 word) k ≡ 0)
-        → (k : ℕ) → row ≤ k → k < row + place → slice_get rows k ≡ Some true
-    set-before place up clear k low high =
-        let inner : k - row < 64 = omega (arith, high, up) in
-        mark-read k 1 low (omega (arith, high, up)) (turned (k - row) 0 inner (clear (k - row) (omega arith)
-        (omega arith)) (omega arith))
+    -- those between two places at which no bit is set of the word with all bits turned over
+    pub set-between : (from place : ℕ) → place ≤ 64
+        → ((k : ℕ) → from ≤ k → k < place → bit_at (bit_not w64 word) k ≡ 0)
+        → (k : ℕ) → row + from ≤ k → k < row + place → slice_get rows k ≡ Some true
+    set-between from place up clear k low high =
+        let inner : k - row < 64 = omega (arith, low, high, up) in
+        mark-read k 1 (omega (arith, low)) (omega (arith, high, up)) (turned (k - row) 0 inner
+        (clear (k - row) (omega (arith, low)) (omega (arith, low, high))) (omega arith))
 
-    pub clear-there : (place : ℕ) → place < 64 → bit_at (bit_not w64 word) place ≡ 1
-        → slice_get rows (row + place) ≡ Some false
-    clear-there place low set = read place low ∙ ap (λ n. Some (n == 1)) (turned place 1 low set (omega arith))
+    -- those before as well, if they were set
+    pub set-on : (first place : ℕ) → place ≤ 64
+        → ((k : ℕ) → first ≤ k → k < row → slice_get rows k ≡ Some true)
+        → ((k : ℕ) → 0 ≤ k → k < place → bit_at (bit_not w64 word) k ≡ 0)
+        → (k : ℕ) → first ≤ k → k < row + place → slice_get rows k ≡ Some true
+    set-on first place up before clear k low high = elim (cases_lt k row) [
+      | inl less ↦ before k low less
+      | inr here ↦ set-between 0 place up clear k (omega (arith, here)) high
+    ]
+
+    -- a bit that is clear is not the next set one
+    pub hole-before : (hole place : ℕ) → hole < 64 → bit_at (bit_not w64 word) hole ≡ 1 → hole ≤ place
+        → (place < 64 → bit_at word place ≡ 1) → hole < place
+    hole-before hole place low clear up set = elim (cases_lt hole place) [
+      | inl less ↦ less
+      | inr not_less ↦
+          let same : place ≡ hole = omega (arith, up, not_less) in
+          let here : bit_at word hole ≡ 1 = sym (ap (bit_at word) same) ∙ set (omega (arith, same, low)) in
+          absurd (omega (arith, here, turned hole 1 low clear (omega arith)))
+    ]
 
 -- the rows of a word
 module _ {X : Type 0} (rows : List Bool) (xs : List X) (start word : ℕ) (same : length rows ≡ length xs)

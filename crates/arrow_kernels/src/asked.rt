@@ -5,7 +5,6 @@ ghost use Rattle.std.specs.Int.{bit_at};
 ghost use Rattle.arrow_types.specs.Failures.{OnlyOutOfMemory};
 ghost use Rattle.arrow_bytes.specs.Selection.{asked, set_in_both};
 
-use crate::runs::next_set;
 use arrow_boolean::BooleanArray;
 use arrow_memory::bitmap::{Bitmap, MutableBitmap};
 use arrow_types::error::Error;
@@ -117,9 +116,10 @@ impl Asked {
         self.bitmap.word(row)
     }
 
-    /// Returns the next selected row from `from` on, one by one, or the number of rows if there is none.
+    /// Returns the next selected row from `from` on, or the number of rows if there is none. It looks at
+    /// one row after the other, for those that are no whole word.
     #[inline(always)]
-    fn next_of_few(&self, from: usize) -> usize
+    pub(crate) fn next(&self, from: usize) -> usize
         requires { from ≤ length self.now }
         ensures low { from ≤ result }
         ensures high { result ≤ length self.now }
@@ -134,66 +134,5 @@ impl Asked {
             i += 1;
         }
         i
-    }
-
-    /// Returns the next selected row from `from` on, or the number of rows if there is none.
-    /// Looks at 64 rows at a time.
-    #[inline(always)]
-    pub(crate) fn next(&self, from: usize) -> usize
-        requires { from ≤ length self.now }
-        ensures low { from ≤ result }
-        ensures high { result ≤ length self.now }
-        ensures clear { (k : ℕ) → from ≤ k → k < result → slice_get self.now k ≡ Some false }
-        ensures set { result < length self.now → slice_get self.now result ≡ Some true }
-    {
-        let mut row = from;
-        while self.len() - row >= 64 {
-            let place = next_set(self.word(row), 0);
-            if place < 64 {
-                return row + place;
-            }
-            row += 64;
-        }
-        self.next_of_few(row)
-    }
-
-    /// Returns the next row from `from` on that is not selected, one by one, or the number of rows if there is none.
-    #[inline(always)]
-    fn next_clear_of_few(&self, from: usize) -> usize
-        requires { from ≤ length self.now }
-        ensures low { from ≤ result }
-        ensures high { result ≤ length self.now }
-        ensures set { (k : ℕ) → from ≤ k → k < result → slice_get self.now k ≡ Some true }
-        ensures clear { result < length self.now → slice_get self.now result ≡ Some false }
-    {
-        let mut i = from;
-        while i < self.bitmap.len() {
-            if !self.bitmap.get_bit(i) {
-                return i;
-            }
-            i += 1;
-        }
-        i
-    }
-
-    /// Returns the next row from `from` on that is not selected, or the number of rows if there is none.
-    /// Looks at 64 rows at a time.
-    #[inline(always)]
-    pub(crate) fn next_clear(&self, from: usize) -> usize
-        requires { from ≤ length self.now }
-        ensures low { from ≤ result }
-        ensures high { result ≤ length self.now }
-        ensures set { (k : ℕ) → from ≤ k → k < result → slice_get self.now k ≡ Some true }
-        ensures clear { result < length self.now → slice_get self.now result ≡ Some false }
-    {
-        let mut row = from;
-        while self.len() - row >= 64 {
-            let place = next_set(!self.word(row), 0);
-            if place < 64 {
-                return row + place;
-            }
-            row += 64;
-        }
-        self.next_clear_of_few(row)
     }
 }

@@ -12,7 +12,6 @@ use arrow_binary::BinaryArray;
 use arrow_boolean::BooleanArray;
 use arrow_byte_array::ByteArray;
 use arrow_bytes::ByteKind;
-use arrow_memory::buffer::Buffer;
 use arrow_primitive::PrimitiveArray;
 use arrow_types::error::Error;
 use arrow_types::native_type::NativeType;
@@ -35,10 +34,10 @@ pub fn filter_primitive<T: NativeType>(
     ensures err { OnlyOutOfMemory result }
 {
     let asked = Asked::of(alloc, filter)?;
-    let values = keep_values(alloc, array.values().as_slice(), &asked)?;
+    let values = keep_values(alloc, array.values(), &asked)?;
     let mask = keep_mask(alloc, array.validity(), &asked)?;
     let data_type = array.data_type().clone()?;
-    Ok(PrimitiveArray::new(data_type, Buffer::from_vec(values)?, mask))
+    Ok(PrimitiveArray::new(data_type, values, mask))
 }
 
 /// Returns the slots of `array` where `filter` is valid and true. Both must have equally many

@@ -17,7 +17,7 @@ ghost use Rattle.arrow_bytes.specs.Selection.{where_set, set_before};
 use crate::asked::Asked;
 use crate::mask::needed_mask;
 use crate::pieces::item_at;
-use crate::runs::{has_few_runs, next_set, run_end};
+use crate::runs::{has_long_runs, next_set, run_end};
 use arrow_byte_array::ByteArray;
 use arrow_bytes::ByteKind;
 use arrow_memory::bitmap::{Bitmap, MutableBitmap};
@@ -28,31 +28,64 @@ use arrow_types::native_type::NativeType;
 use arrow_types::offset::Offset;
 use std::alloc::Global;
 
-/// Appends the selected values of 64 rows or more, from `row` on, run by run. A run that reaches the last of the 64
-/// rows is followed to its end, so that it is copied whole. Returns the row up to which values are appended.
-#[inline(never)]
+/// Appends the values of a run of selected rows, from `first` up to `end`. If the run is empty, no copy is called.
+#[inline(always)]
+fn keep_value_run<T: NativeType>(
+    kept: &mut Vec<T>,
+    values: &[T],
+    asked: &Asked,
+    first: usize,
+    end: usize,
+) -> Result<(), Error>
+    requires same { length asked.now ≡ length values.now }
+    requires order { first ≤ end }
+    requires within { end ≤ length asked.now }
+    requires set { (k : ℕ) → first ≤ k → k < end → slice_get asked.now k ≡ Some true }
+    requires so_far { kept.old.items ≡ set_before first asked.now values.now }
+    requires room { length asked.now ≤ vec_capacity kept.old + count_by not asked.now }
+    ensures so_far { OnOk result (kept.new.items ≡ set_before end asked.now values.now) }
+    ensures room { OnOk result (length asked.now ≤ vec_capacity kept.new + count_by not asked.now) }
+    ensures err { OnlyOutOfMemory result }
+{
+    if first == end {
+        return Ok(());
+    }
+    kept.extend_from_slice(&values[first..end])?;
+    Ok(())
+}
+
+/// Appends the runs of selected values that end within the 64 rows from `row` on. The rows from `start` to `row` are
+/// selected, and not yet appended. Returns the first row of the run that reaches the last of the 64 rows, which may go
+/// on behind it and is not appended either.
+#[inline(always)]
 fn keep_value_runs<T: NativeType>(
     kept: &mut Vec<T>,
     values: &[T],
     asked: &Asked,
+    start: usize,
     row: usize,
 ) -> Result<usize, Error>
     requires same { length asked.now ≡ length values.now }
+    requires order { start ≤ row }
     requires within { row + 64 ≤ length asked.now }
     requires fits { length asked.now < 2 ^ 64 }
-    requires so_far { kept.old.items ≡ set_before row asked.now values.now }
+    requires set { (k : ℕ) → start ≤ k → k < row → slice_get asked.now k ≡ Some true }
+    requires so_far { kept.old.items ≡ set_before start asked.now values.now }
     requires room { length asked.now ≤ vec_capacity kept.old + count_by not asked.now }
-    ensures next { IfOk result (λ next. (row + 64 ≤ next) × (next ≤ length asked.now)) }
+    ensures next { IfOk result (λ next. next ≤ row + 64) }
+    ensures set { IfOk result (λ next. (k : ℕ) → next ≤ k → k < row + 64 → slice_get asked.now k ≡ Some true) }
     ensures so_far { IfOk result (λ next. kept.new.items ≡ set_before next asked.now values.now) }
     ensures room { OnOk result (length asked.now ≤ vec_capacity kept.new + count_by not asked.now) }
     ensures err { OnlyOutOfMemory result }
 {
-    let past = row + 64;
-    let mut first = asked.next(row);
-    while first < past {
-        let end = asked.next_clear(first);
-        kept.extend_from_slice(&values[first..end])?;
-        first = asked.next(end);
+    let word = asked.word(row);
+    let mut first = start;
+    let mut hole = next_set(!word, 0);
+    while hole < 64 {
+        keep_value_run(kept, values, asked, first, row + hole)?;
+        let place = next_set(word, hole);
+        first = row + place;
+        hole = next_set(!word, place);
     }
     Ok(first)
 }
@@ -76,28 +109,38 @@ fn keep_each_of_word<T: NativeType>(kept: &mut Vec<T>, values: &[T], asked: &Ask
     }
 }
 
-/// Appends the selected values of 64 rows or more, from `row` on, in the way that suits the selection. Returns the row
-/// up to which they are appended.
+/// Appends selected values up to the 64 rows from `row` on, in the way that suits the selection. The rows from `first` to
+/// `row` are selected, and not yet appended. Returns the row up to which values are appended; the rows from there to the
+/// last of the 64 are selected. So a run of many words is copied at once.
 #[inline(always)]
 fn keep_word<T: NativeType>(
     kept: &mut Vec<T>,
     values: &[T],
     asked: &Asked,
+    first: usize,
     row: usize,
 ) -> Result<usize, Error>
     requires same { length asked.now ≡ length values.now }
+    requires order { first ≤ row }
     requires within { row + 64 ≤ length asked.now }
     requires fits { length asked.now < 2 ^ 64 }
-    requires so_far { kept.old.items ≡ set_before row asked.now values.now }
+    requires set { (k : ℕ) → first ≤ k → k < row → slice_get asked.now k ≡ Some true }
+    requires so_far { kept.old.items ≡ set_before first asked.now values.now }
     requires room { length asked.now ≤ vec_capacity kept.old + count_by not asked.now }
-    ensures next { IfOk result (λ next. (row + 64 ≤ next) × (next ≤ length asked.now)) }
+    ensures next { IfOk result (λ next. next ≤ row + 64) }
+    ensures set { IfOk result (λ next. (k : ℕ) → next ≤ k → k < row + 64 → slice_get asked.now k ≡ Some true) }
     ensures so_far { IfOk result (λ next. kept.new.items ≡ set_before next asked.now values.now) }
     ensures room { OnOk result (length asked.now ≤ vec_capacity kept.new + count_by not asked.now) }
     ensures err { OnlyOutOfMemory result }
 {
-    if has_few_runs(asked.word(row)) {
-        return keep_value_runs(kept, values, asked, row);
+    let word = asked.word(row);
+    if word == u64::MAX {
+        return Ok(first);
     }
+    if has_long_runs(word, 8) {
+        return keep_value_runs(kept, values, asked, first, row);
+    }
+    keep_value_run(kept, values, asked, first, row)?;
     keep_each_of_word(kept, values, asked, row);
     Ok(row + 64)
 }
@@ -117,7 +160,7 @@ fn keep_last<T: NativeType>(kept: &mut Vec<T>, values: &[T], asked: &Asked, star
     }
 }
 
-/// Returns the selected values, 64 rows or more at a time. Room is reserved once.
+/// Returns the selected values, 64 rows at a time. Room is reserved once.
 fn keep_each_value<T: NativeType>(
     alloc: Global,
     values: &[T],
@@ -128,33 +171,34 @@ fn keep_each_value<T: NativeType>(
     ensures err { OnlyOutOfMemory result }
 {
     let mut kept = Vec::with_capacity(alloc, asked.len() - asked.unset_bits())?;
+    let mut first = 0;
     let mut row = 0;
     while asked.len() - row >= 64 {
-        row = keep_word(&mut kept, values, asked, row)?;
+        first = keep_word(&mut kept, values, asked, first, row)?;
+        row += 64;
     }
+    keep_value_run(&mut kept, values, asked, first, row)?;
     keep_last(&mut kept, values, asked, row);
     Ok(kept)
 }
 
-/// Returns the selected values.
+/// Returns the selected values. If all are selected, they are shared.
 pub(crate) fn keep_values<T: NativeType>(
     alloc: Global,
-    values: &[T],
+    values: &Buffer<T>,
     asked: &Asked,
-) -> Result<Vec<T>, Error>
+) -> Result<Buffer<T>, Error>
     requires { length asked.now ≡ length values.now }
-    ensures ok { IfOk result (λ kept. kept.items ≡ where_set asked.now values.now) }
+    ensures ok { IfOk result (λ kept. kept ≡ where_set asked.now values.now) }
     ensures err { OnlyOutOfMemory result }
 {
     if asked.unset_bits() == 0 {
-        let mut all = Vec::new(alloc);
-        all.extend_from_slice(values)?;
-        return Ok(all);
+        return values.clone();
     }
     if asked.unset_bits() == asked.len() {
-        return Ok(Vec::new(alloc));
+        return Buffer::new(alloc);
     }
-    keep_each_value(alloc, values, asked)
+    Buffer::from_vec(keep_each_value(alloc, values.as_slice(), asked)?)
 }
 
 /// Returns the selected bits of a word of marks, packed, and their number: run by run.
@@ -202,7 +246,7 @@ fn kept_word(asked: u64, marks: u64) -> (u64, usize)
     if asked == u64::MAX {
         return (marks, 64);
     }
-    if has_few_runs(asked) {
+    if has_long_runs(asked, 3) {
         kept_runs(asked, marks)
     } else {
         kept_bits(asked, marks)
@@ -330,6 +374,9 @@ fn keep_run<O: Offset>(
         (set_before end asked.now (items_of offsets.now bytes.now))) }
     ensures err { OnlyOutOfMemory result }
 {
+    if first == end {
+        return Ok(());
+    }
     // Some items of an array cannot end past the greatest offset, so the error is a failed allocation.
     match kept.try_extend_slots(kept_bytes, offsets, bytes, first, end - first) {
         Ok(()) => Ok(()),
@@ -337,8 +384,7 @@ fn keep_run<O: Offset>(
     }
 }
 
-/// Appends the selected items of 64 rows or more, from `row` on, run by run. A run that reaches the last of the 64 rows
-/// is followed to its end, so that it is copied whole. Returns the row up to which the selected items are appended.
+/// Appends the runs of selected items that end within the 64 rows from `row` on, as [`keep_value_runs`].
 #[inline(never)]
 fn keep_runs<O: Offset>(
     kept: &mut Offsets<O>,
@@ -346,27 +392,34 @@ fn keep_runs<O: Offset>(
     offsets: &OffsetsBuffer<O>,
     bytes: &[u8],
     asked: &Asked,
+    start: usize,
     row: usize,
 ) -> Result<usize, Error>
     requires count { length asked.now + 1 ≡ length offsets.now }
     requires held { last_of offsets.now ≤ length bytes.now }
+    requires order { start ≤ row }
     requires within { row + 64 ≤ length asked.now }
     requires fits { length asked.now < 2 ^ 64 }
-    requires ends { kept.old ≡ offsets_of 0 (set_before row asked.now (items_of offsets.now bytes.now)) }
-    requires joined { kept_bytes.old.items ≡ concat (set_before row asked.now (items_of offsets.now bytes.now)) }
-    ensures next { IfOk result (λ next. (row + 64 ≤ next) × (next ≤ length asked.now)) }
+    requires set { (k : ℕ) → start ≤ k → k < row → slice_get asked.now k ≡ Some true }
+    requires ends { kept.old ≡ offsets_of 0 (set_before start asked.now (items_of offsets.now bytes.now)) }
+    requires joined { kept_bytes.old.items ≡ concat (set_before start asked.now (items_of offsets.now bytes.now)) }
+    ensures next { IfOk result (λ next. next ≤ row + 64) }
+    ensures set { IfOk result (λ next. (k : ℕ) → next ≤ k → k < row + 64 → slice_get asked.now k ≡ Some true) }
     ensures ends { IfOk result (λ next. kept.new ≡ offsets_of 0
         (set_before next asked.now (items_of offsets.now bytes.now))) }
     ensures joined { IfOk result (λ next. kept_bytes.new.items
         ≡ concat (set_before next asked.now (items_of offsets.now bytes.now))) }
     ensures err { OnlyOutOfMemory result }
 {
-    let past = row + 64;
-    let mut first = asked.next(row);
-    while first < past {
-        let end = asked.next_clear(first);
+    let word = asked.word(row);
+    let mut first = start;
+    let mut hole = next_set(!word, 0);
+    while hole < 64 {
+        let end = row + hole;
         keep_run(kept, kept_bytes, offsets, bytes, asked, first, end)?;
-        first = asked.next(end);
+        let place = next_set(word, hole);
+        first = row + place;
+        hole = next_set(!word, place);
     }
     Ok(first)
 }
@@ -407,8 +460,7 @@ fn keep_each_item<O: Offset>(
     Ok(())
 }
 
-/// Appends the selected items of 64 rows or more, from `row` on, in the way that suits the selection. Returns the row
-/// up to which they are appended.
+/// Appends selected items up to the 64 rows from `row` on, in the way that suits the selection, as [`keep_word`].
 #[inline(always)]
 fn keep_word_items<O: Offset>(
     kept: &mut Offsets<O>,
@@ -416,27 +468,35 @@ fn keep_word_items<O: Offset>(
     offsets: &OffsetsBuffer<O>,
     bytes: &[u8],
     asked: &Asked,
+    first: usize,
     row: usize,
 ) -> Result<usize, Error>
     requires count { length asked.now + 1 ≡ length offsets.now }
     requires held { last_of offsets.now ≤ length bytes.now }
+    requires order { first ≤ row }
     requires within { row + 64 ≤ length asked.now }
     requires fits { length asked.now < 2 ^ 64 }
-    requires ends { kept.old ≡ offsets_of 0 (set_before row asked.now (items_of offsets.now bytes.now)) }
-    requires joined { kept_bytes.old.items ≡ concat (set_before row asked.now (items_of offsets.now bytes.now)) }
-    ensures next { IfOk result (λ next. (row + 64 ≤ next) × (next ≤ length asked.now)) }
+    requires set { (k : ℕ) → first ≤ k → k < row → slice_get asked.now k ≡ Some true }
+    requires ends { kept.old ≡ offsets_of 0 (set_before first asked.now (items_of offsets.now bytes.now)) }
+    requires joined { kept_bytes.old.items ≡ concat (set_before first asked.now (items_of offsets.now bytes.now)) }
+    ensures next { IfOk result (λ next. next ≤ row + 64) }
+    ensures set { IfOk result (λ next. (k : ℕ) → next ≤ k → k < row + 64 → slice_get asked.now k ≡ Some true) }
     ensures ends { IfOk result (λ next. kept.new ≡ offsets_of 0
         (set_before next asked.now (items_of offsets.now bytes.now))) }
     ensures joined { IfOk result (λ next. kept_bytes.new.items
         ≡ concat (set_before next asked.now (items_of offsets.now bytes.now))) }
     ensures err { OnlyOutOfMemory result }
 {
-    if has_few_runs(asked.word(row)) {
-        keep_runs(kept, kept_bytes, offsets, bytes, asked, row)
-    } else {
-        keep_each_item(kept, kept_bytes, offsets, bytes, asked, row)?;
-        Ok(row + 64)
+    let word = asked.word(row);
+    if word == u64::MAX {
+        return Ok(first);
     }
+    if has_long_runs(word, 6) {
+        return keep_runs(kept, kept_bytes, offsets, bytes, asked, first, row);
+    }
+    keep_run(kept, kept_bytes, offsets, bytes, asked, first, row)?;
+    keep_each_item(kept, kept_bytes, offsets, bytes, asked, row)?;
+    Ok(row + 64)
 }
 
 /// Appends the selected items from a row on.
@@ -484,7 +544,7 @@ fn room_for<O: Offset>(offsets: &OffsetsBuffer<O>, count: usize) -> usize
     some.min(all).saturating_add(16)
 }
 
-/// Returns the selected items as offsets and bytes of their own, 64 rows or more at a time.
+/// Returns the selected items as offsets and bytes of their own, 64 rows at a time.
 pub(crate) fn keep_items<O: Offset>(
     alloc: Global,
     offsets: &OffsetsBuffer<O>,
@@ -501,15 +561,45 @@ pub(crate) fn keep_items<O: Offset>(
     let count = asked.len() - asked.unset_bits();
     let mut kept = Offsets::with_capacity(alloc, count)?;
     let mut kept_bytes = Vec::with_capacity(alloc, room_for(offsets, count))?;
+    let mut first = 0;
     let mut row = 0;
     while asked.len() - row >= 64 {
-        row = keep_word_items(&mut kept, &mut kept_bytes, offsets, bytes, asked, row)?;
+        first = keep_word_items(
+            &mut kept,
+            &mut kept_bytes,
+            offsets,
+            bytes,
+            asked,
+            first,
+            row,
+        )?;
+        row += 64;
     }
+    keep_run(
+        &mut kept,
+        &mut kept_bytes,
+        offsets,
+        bytes,
+        asked,
+        first,
+        row,
+    )?;
     keep_last_items(&mut kept, &mut kept_bytes, offsets, bytes, asked, row)?;
     Ok((kept, kept_bytes))
 }
 
-/// Returns the selected items of an array as offsets and bytes of their own.
+/// Returns whether offsets begin at the first byte and end at the last, so that no byte lies around the items.
+fn are_bare<O: Offset>(offsets: &OffsetsBuffer<O>, bytes: &Buffer<u8>) -> bool
+    ensures { result ≡ true → around_of offsets.now bytes.now ≡ nothing_around }
+{
+    if offsets.first().to_usize() != 0 {
+        return false;
+    }
+    offsets.last().to_usize() == bytes.len()
+}
+
+/// Returns the selected items of an array as offsets and bytes. If all are selected and no byte lies around them, they
+/// are shared.
 pub(crate) fn kept_pieces<K: ByteKind, O: Offset>(
     alloc: Global,
     array: &ByteArray<K, O>,
@@ -521,7 +611,13 @@ pub(crate) fn kept_pieces<K: ByteKind, O: Offset>(
     ensures items { IfOk result (λ kept. items_of kept.0 kept.1 ≡ where_set asked.now (stored_values array.now)) }
     ensures err { OnlyOutOfMemory result }
 {
-    let (offsets, bytes) = keep_items(alloc, array.offsets(), array.values().as_slice(), asked)?;
-    let offsets = offsets.freeze()?;
-    Ok((offsets, Buffer::from_vec(bytes)?))
+    let (offsets, bytes) = (array.offsets(), array.values());
+    if asked.unset_bits() == 0 {
+        if are_bare(offsets, bytes) {
+            return Ok((offsets.clone()?, bytes.clone()?));
+        }
+    }
+    let (kept, kept_bytes) = keep_items(alloc, offsets, bytes.as_slice(), asked)?;
+    let kept = kept.freeze()?;
+    Ok((kept, Buffer::from_vec(kept_bytes)?))
 }

@@ -9,7 +9,7 @@ mod join;
 mod keep;
 pub mod laws;
 mod marks;
-mod mask;
+pub mod mask;
 mod pick;
 mod pieces;
 mod runs;

@@ -5,7 +5,7 @@ ghost use Rattle.arrow_column.specs.Masks.{mask_with_nulls};
 use arrow_memory::bitmap::Bitmap;
 
 /// Returns these marks as a mask if one of them is clear.
-pub(crate) fn needed_mask(marks: Bitmap) -> Option<Bitmap>
+pub fn needed_mask(marks: Bitmap) -> Option<Bitmap>
     ensures { result ≡ mask_with_nulls (Some marks) }
 {
     if marks.unset_bits() == 0 {

@@ -33,9 +33,12 @@ pub(crate) fn run_end(word: u64, first: usize) -> usize
     first + (word >> first).trailing_ones() as usize
 }
 
-/// Returns whether the set bits stand in so few runs that taking them run by run is faster than one
-/// by one. Only speed depends on the answer, so a contract has nothing to say.
+/// Returns whether runs of set bits have `length` bits on average, so that taking them run by run is faster than one by
+/// one. Only speed depends on the answer, so a contract has nothing to say.
 #[inline(always)]
-pub(crate) fn has_few_runs(word: u64) -> bool {
-    (word & !(word << 1)).count_ones() <= 8
+pub(crate) fn has_long_runs(word: u64, length: u32) -> bool
+    requires { 0 < length }
+{
+    let runs = (word & !(word << 1)).count_ones();
+    word.count_ones() / length >= runs
 }

@@ -4,6 +4,8 @@ mod any_array;
 mod booleans;
 mod items;
 mod numbers;
+mod runs;
+mod shared;
 mod widths;
 
 use arrow_boolean::BooleanArray;

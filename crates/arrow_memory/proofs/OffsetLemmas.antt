@@ -1,13 +1,14 @@
 -- Lemmas about offsets.
 use Rattle.std.proofs.Common.{◌≡◌, ℕ, zero, suc, ◌+◌, ◌-◌, ◌<◌, ◌≤◌, ℤ, pos, negsuc, Bool, true, false, List, []}
-use Rattle.std.proofs.Common.{◌∷◌, ◌++◌, length, map, take, drop, set, replicate, get_or, ◌≤ℤ◌, ◌+ℤ◌, ap₂}
+use Rattle.std.proofs.Common.{◌∷◌, ◌++◌, length, map, take, drop, replicate, get_or, ◌≤ℤ◌, ◌+ℤ◌, ap₂}
 use Rattle.std.proofs.Common.{append_assoc, length-drop, Option, Some, None, MatchOption, nat_lt, if◌then◌else◌}
 use Rattle.std.proofs.Common.{refl, sym, ap, ◌∙◌, arith, inl, inr, length-append}
+use Rattle.std.specs.Prelude.{slice_range}
 use Rattle.std.specs.Int.RustNames.{unsigned_abs}
 use Rattle.std.proofs.lemmas.Bool.{true≢false, or_parts, or_from, ltb-false, le-ltb, cases_lt}
 use Rattle.std.proofs.lemmas.List.{get_or-map, length-map, map-append, get_or_append_left, get_or-append_right}
-use Rattle.std.proofs.lemmas.List.{get_or-take, get_or-drop, get_or-replicate, length-replicate, take-map}
-use Rattle.std.proofs.lemmas.List.{take_more_set, take_more, take_all, take_at, ext_get_or}
+use Rattle.std.proofs.lemmas.List.{take-append-drop, get_or-take, get_or-drop, get_or-replicate, length-replicate, take-map}
+use Rattle.std.proofs.lemmas.List.{take_more, take_all, ext_get_or}
 use Rattle.std.proofs.lemmas.Int.{ints}
 use Rattle.std.specs.List.{drop-map}
 use Rattle.arrow_memory.proofs.PieceLemmas.{length-piece}
@@ -249,7 +250,7 @@ keeps-zeros number most x k some is =
 
 -- ---- another's slots, moved
 
-length-moved : (last : ℕ) (ns : List ℕ) → length (moved_behind last ns) ≡ length ns - 1
+pub length-moved : (last : ℕ) (ns : List ℕ) → length (moved_behind last ns) ≡ length ns - 1
 length-moved last ns = length-map (drop 1 ns) _ ∙ length-drop 1 ns
 
 pub moved-at : (last : ℕ) (ns : List ℕ) (i : ℕ) → i + 1 < length ns
@@ -280,21 +281,40 @@ copied number most last old other keeps here =
     (sym (drop-map number 1 other) ∙ ap (drop 1) keeps.whole ∙ drop-map pos 1 ns
     ∙ ap (map pos) (sym (unmoved ns keeps.legal) ∙ ap (λ n. moved_behind n ns) (sym here)))
 
-pub moved-step : {O : Type 0} (number : O → ℤ) (before xs : List O) (place i last : ℕ) (v : O) (ns : List ℕ)
-    → place + i < length xs → i + 1 < length ns → number v ≡ pos (last + (get_or ns (i + 1) 0 - first_of ns))
-    → map number (take (place + i) xs) ≡ map number (take place before) ++ map pos (take i (moved_behind last ns))
-    → map number (take (place + (i + 1)) (set xs (place + i) v)) ≡ map number (take place before)
-    ++ map pos (take (i + 1) (moved_behind last ns))
-moved-step number before xs place i last v ns inside low is done =
-    let zs = moved_behind last ns in
-    let long : i < length zs = omega (arith, length-moved last ns) in
-    ap (λ k. map number (take k (set xs (place + i) v))) (let e : place + (i + 1) ≡ place + i + 1 = omega arith in e)
-    ∙ ap (map number) (take_more_set xs (place + i) v inside)
-    ∙ map-append number (take (place + i) xs) (v ∷ [])
-    ∙ ap₂ (λ front z. front ++ z ∷ []) done (is ∙ ap pos (sym (moved-at last ns i low)))
-    ∙ append_assoc (map number (take place before)) (map pos (take i zs)) (pos (get_or zs i 0) ∷ [])
-    ∙ ap (λ end. map number (take place before) ++ end) (sym (ap (map pos) (take_more zs i 0 long)
-    ∙ map-append pos (take i zs) (get_or zs i 0 ∷ [])))
+-- one more end after those from slot `from` up to slot i
+pub moved-step : {O : Type 0} (number : O → ℤ) (before xs new : List O) (from i last : ℕ) (v : O) (ns : List ℕ)
+    → from ≤ i → i + 1 < length ns → number v ≡ pos (last + (get_or ns (i + 1) 0 - first_of ns)) → new ≡ xs ++ v ∷ []
+    → map number xs ≡ map number before ++ map pos (slice_range (moved_behind last ns) from i)
+    → map number new ≡ map number before ++ map pos (slice_range (moved_behind last ns) from (i + 1))
+moved-step number before xs new from i last v ns order low is more done =
+    let zs = drop from (moved_behind last ns) in
+    let long : i - from < length zs = omega (arith, length-moved last ns, length-drop from (moved_behind last ns)) in
+    let here : get_or zs (i - from) 0 ≡ last + (get_or ns (i + 1) 0 - first_of ns) =
+    get_or-drop from (moved_behind last ns) (i - from) 0
+    ∙ ap (λ k. get_or (moved_behind last ns) k 0) (let e : from + (i - from) ≡ i = omega arith in e)
+    ∙ moved-at last ns i low in
+    let count : i - from + 1 ≡ i + 1 - from = omega arith in
+    ap (map number) more ∙ map-append number xs (v ∷ [])
+    ∙ ap₂ (λ front z. front ++ z ∷ []) done (is ∙ ap pos (sym here))
+    ∙ append_assoc (map number before) (map pos (take (i - from) zs)) (pos (get_or zs (i - from) 0) ∷ [])
+    ∙ ap (λ end. map number before ++ end) (sym (ap (λ k. map pos (take k zs)) (sym count)
+    ∙ ap (map pos) (take_more zs (i - from) 0 long)
+    ∙ map-append pos (take (i - from) zs) (get_or zs (i - from) 0 ∷ [])))
+
+-- the ends up to a slot, and those from it on
+pub moved-parts : {O : Type 0} (number : O → ℤ) (before middle after : List O) (zs : List ℕ) (k n : ℕ) → k ≤ n
+    → n ≡ length zs → map number middle ≡ map number before ++ map pos (slice_range zs 0 k)
+    → map number after ≡ map number middle ++ map pos (slice_range zs k n)
+    → map number after ≡ map number before ++ map pos zs
+moved-parts number before middle after zs k n order long first second =
+    let rest : take (n - k) (drop k zs) ≡ drop k zs = take_all (n - k) (drop k zs) (omega (arith, length-drop k zs)) in
+    let none : k - 0 ≡ k = omega arith in
+    let front : map number middle ≡ map number before ++ map pos (take k zs) =
+    first ∙ ap (λ j. map number before ++ map pos (take j zs)) none in
+    second ∙ ap₂ (λ front end. front ++ map pos end) front rest
+    ∙ append_assoc (map number before) (map pos (take k zs)) (map pos (drop k zs))
+    ∙ ap (λ end. map number before ++ end) (sym (map-append pos (take k zs) (drop k zs))
+    ∙ ap (map pos) (take-append-drop k zs))
 
 end-at : (ns other : List ℕ) (k : ℕ) → length ns ≤ k → k + 1 < length ns + length other
     → get_or (ns ++ moved_behind (last_of ns) other) k 0
@@ -392,16 +412,59 @@ pub numbers-joined : {O : Type 0} (number : O → ℤ) (old new : List O) (ms : 
 numbers-joined number old new ms whole is =
     numbers-known number new (numbers_of number old ++ ms) (joined-known number old new ms whole is)
 
--- ---- numbers that are written over values of another type
+-- ---- one more end
 
-pub number-step : {O : Type 0} (number : O → ℤ) (xs : List O) (i : ℕ) (v : O) (ns : List ℕ) → i < length xs
-    → i < length ns → number v ≡ pos (get_or ns i 0)
-    → map number (take i xs) ≡ map pos (take i ns) → map number (take (i + 1) (set xs i v)) ≡ map pos (take (i + 1) ns)
-number-step number xs i v ns inside low is done =
-    ap (map number) (take_more_set xs i v inside)
-    ∙ map-append number (take i xs) (v ∷ [])
-    ∙ ap₂ (λ front z. front ++ z ∷ []) done is
-    ∙ sym (ap (map pos) (take_more ns i 0 low) ∙ map-append pos (take i ns) (get_or ns i 0 ∷ []))
+legal-pushed : (ns : List ℕ) (end : ℕ) → IsOffsets ns → last_of ns ≤ end → IsOffsets (ns ++ end ∷ [])
+legal-pushed ns end legal up = record {
+  some = omega (arith, length-append ns (end ∷ []));
+  order = λ i j le within.
+      let long = length-append ns (end ∷ []) in
+      elim (cases_lt j (length ns)) [
+        | inl here ↦ omega (
+          arith,
+          get_or_append_left ns (end ∷ []) 0 i (omega arith),
+          get_or_append_left ns (end ∷ []) 0 j here,
+          legal.order i j le here,
+        )
+        | inr past ↦
+            let high : get_or (ns ++ end ∷ []) j 0 ≡ end =
+            get_or-append_right ns (end ∷ []) (length ns) j 0 refl past
+            ∙ ap (λ k. get_or (end ∷ []) k 0) (let e : j - length ns ≡ 0 = omega arith in e) in
+            elim (cases_lt i (length ns)) [
+              | inl below ↦ omega (
+                arith,
+                high,
+                get_or_append_left ns (end ∷ []) 0 i below,
+                legal.order i (length ns - 1) (omega arith) (omega arith),
+                up,
+              )
+              | inr too ↦
+                  let same : i ≡ j = omega arith in
+                  omega (arith, ap (λ k. get_or (ns ++ end ∷ []) k 0) same)
+            ]
+      ];
+}
+
+last-pushed : (ns : List ℕ) (end : ℕ) → last_of (ns ++ end ∷ []) ≡ end
+last-pushed ns end =
+    let place : length (ns ++ end ∷ []) - 1 ≡ length ns = omega (arith, length-append ns (end ∷ [])) in
+    ap (λ k. get_or (ns ++ end ∷ []) k 0) place
+    ∙ get_or-append_right ns (end ∷ []) (length ns) (length ns) 0 refl (omega arith)
+    ∙ ap (λ k. get_or (end ∷ []) k 0) (let e : length ns - length ns ≡ 0 = omega arith in e)
+
+pub keeps-pushed : {O : Type 0} (number : O → ℤ) (most : ℕ) (old new : List O) (v : O) (end : ℕ)
+    → KeepsOffsets number most old → last_of (numbers_of number old) ≤ end → end ≤ most → number v ≡ pos end
+    → new ≡ old ++ v ∷ [] → KeepsOffsets number most new
+keeps-pushed number most old new v end keeps up le is more =
+    let ns = numbers_of number old in
+    let known = joined-known number old new (end ∷ []) keeps.whole
+    (ap (map number) more ∙ map-append number old (v ∷ []) ∙ ap (λ z. map number old ++ z ∷ []) is) in
+    let e = numbers-known number new (ns ++ end ∷ []) known in
+    record {
+      whole = known ∙ ap (map pos) (sym e);
+      legal = rw e (legal-pushed ns end keeps.legal up);
+      within = rw e (rw (last-pushed ns end) le);
+    }
 
 -- ---- what vectors say
 
@@ -412,15 +475,6 @@ filled count n xs ys x empty nought is =
     is ∙ ap₂ (λ ys k. take count ys ++ replicate (count - k) x) empty nought
     ∙ ap (λ ys. ys ++ replicate (count - 0) x) (take_all count [] (omega arith))
     ∙ ap (λ k. replicate k x) (let e : count - 0 ≡ count = omega arith in e)
-
--- a vector that was made longer begins as it was
-pub begins : {O : Type 0} (count n : ℕ) (xs ys : List O) → n ≡ length xs → n ≤ count → take n (take count xs ++ ys) ≡ xs
-begins count n xs ys long le = ap (λ zs. take n (zs ++ ys)) (take_all count xs (omega arith))
-    ∙ take_at xs ys n (sym long)
-
--- what was written to its slice
-pub written-back : {O : Type 0} (n : ℕ) (ws xs : List O) → length ws ≡ n → take n (ws ++ drop (length ws) xs) ≡ ws
-written-back n ws xs long = take_at ws (drop (length ws) xs) n long
 
 -- what is popped where there is a slot
 pub popped : {O : Type 0} (number : O → ℤ) (most : ℕ) (xs after : List O) (ns : List ℕ) (n m : ℕ) (r : Option O)

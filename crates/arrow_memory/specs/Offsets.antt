@@ -88,6 +88,11 @@ abbrev pub AppendsValues : {O : Type 0} → (O → ℤ) → ℕ → ℕ → List
 AppendsValues number most last old other new =
     KeepsOffsets number most new × (numbers_of number new ≡ numbers_of number old ++ ends_behind number last other)
 
+-- the ends of some other slots, from slot `from` up to slot `to`, are appended in the same way
+abbrev pub AppendsEnds : {O : Type 0} → (O → ℤ) → ℕ → List O → ℕ → ℕ → List O → List O → Type 0
+AppendsEnds number last other from to old new =
+    map number new ≡ map number old ++ map pos (slice_range (ends_behind number last other) from to)
+
 -- the last offset is removed and returned; the first stays, since it ends no slot
 abbrev pub PopsOffset : {O : Type 0} → (O → ℤ) → List ℕ → Option O → List ℕ → Type 0
 PopsOffset number old popped new = MatchOption popped ((length old ≡ 1) × (new ≡ old)) (λ offset. (1 < length old)

@@ -4,9 +4,13 @@
 #![tactic(auto)]
 
 #[cfg(test)]
+mod aggregate;
+#[cfg(test)]
 mod boolean;
 #[cfg(test)]
 mod bytes;
+#[cfg(test)]
+mod cast;
 #[cfg(test)]
 mod compute;
 #[cfg(test)]

@@ -1,79 +1,267 @@
--- Arrays of items that are made of slots.
-use Rattle.std.proofs.Common.{◌≡◌, ◌∙◌, ◌&&◌, ℕ, Bool, true, false, not, List, [], ◌∷◌, ◌++◌, map, length, Option, Some, None, option_map, Result, Ok, Err, IfErr, refl, ap, ap₂, sym, subst}
-use Rattle.std.specs.Prelude.{⊤, IsErrAnd}
-use Rattle.arrow_memory.specs.Offsets.{MatchGrowth}
-use Rattle.std.proofs.lemmas.Bool.{and_parts}
-use Rattle.arrow_types.specs.Types.{LogicalType, binary, plain}
+-- Items that kernels select, and arrays of items.
+use Rattle.std.proofs.Common.{◌≡◌, ◌∙◌, ◌&&◌, ℕ, ◌+◌, ◌<◌, ◌≤◌, zero, suc, Bool, true, false, if◌then◌else◌, not, List, [], ◌∷◌, ◌++◌, map, length, take, drop, slice_get, Option, Some, None, option_map, unwrap_or, refl, ap, ap₂, sym, subst, arith, length-append, get_or, ℤ, ◌-◌, ◌^◌, option_and_then}
+use Rattle.std.proofs.Common.{◌⊎◌, inl, inr}
+use Rattle.std.specs.Prelude.{⊤, All, Err, IfErr, IsErrAnd, Ok, Result, nat_lt}
+use Rattle.std.specs.List.{concat, zip}
+use Rattle.std.proofs.lemmas.Bool.{cases_lt, le-ltb, lt-ltb}
+use Rattle.std.proofs.lemmas.List.{append-nil, length-map, map-append}
+use Rattle.std.proofs.lemmas.Option.{slice_get-get_or, slice_get_past}
+use Rattle.std.proofs.lemmas.List.Elements.{All-append, All-cons, All-head, All-nil, All-tail}
+use Rattle.std.proofs.lemmas.List.Folds.{concat-append}
+use Rattle.arrow_types.specs.IndexKey.{index_of}
+use Rattle.arrow_types.specs.Types.{binary, plain}
 use Rattle.arrow_types.specs.declared.error.Error.{Error}
 use Rattle.arrow_types.specs.declared.error.Error.TheVariants as error
-use Rattle.arrow_column.specs.Column.{all_valid, append_slot, append_slots, refused_growth, slot_overflows, slots_fit, slots_of, with_type}
-use Rattle.arrow_column.proofs.CallerLemmas.{many-slots}
-use Rattle.arrow_bytes.specs.Appends.{FrozenOfSlots, SlotsRefused}
+use Rattle.arrow_memory.specs.Offsets.{MatchGrowth}
+use Rattle.arrow_memory.specs.Rows.{Row, slot}
+use Rattle.arrow_check.specs.Utf8.{IsWellFormed}
+use Rattle.arrow_column.specs.Column.{append_slot, refused_growth, slots_fit, stored_values}
 use Rattle.arrow_bytes.specs.Column.{ByteColumn, empty_bytes, item_overflows}
-use Rattle.arrow_bytes.specs.Pieces.{overflows_by}
-use Rattle.arrow_select.specs.Selects.{MakesItems, RefusesItems}
+use Rattle.arrow_bytes.specs.Kinds.{AreItems, IsItem}
+use Rattle.arrow_select.specs.Selects.{chosen_slot, chosen_slots, items_fit, items_shown, slot_at_key, slots_at_keys, slots_null_if}
+use Rattle.arrow_select.proofs.KeyLemmas.{mapped-at}
+use Rattle.arrow_select.proofs.ShownLemmas.{StoresShown}
 
-module _ {X : Type 0} (shown : X → List ℕ) (most : ℕ) where
-  -- whether items fit depends on their bytes alone, and on what is before them
-  fit-map : (c d : ByteColumn) (slots : List (Option X)) → c.around ≡ d.around → c.rows ≡ d.rows
-      → slots_fit (item_overflows shown most) shown [] c slots
-      ≡ slots_fit (item_overflows (λ bytes. bytes) most) (λ bytes. bytes) [] d (map (option_map shown) slots)
-  fit-map c d [] around rows = refl
-  fit-map c d (None ∷ slots) around rows =
-      fit-map (append_slot [] c None) (append_slot [] d None) slots around (ap (λ r. r ++ ([], false) ∷ []) rows)
-  fit-map c d (Some x ∷ slots) around rows =
-      ap₂ (λ over rest. not over && rest)
-      (ap₂ (λ a r. overflows_by most a (map (λ row. row.0) r) (length (shown x))) around rows)
-      (fit-map (append_slot [] c (Some (shown x))) (append_slot [] d (Some (shown x))) slots around
-      (ap (λ r. r ++ (shown x, true) ∷ []) rows))
+-- ---- the items of slots
 
-  -- a slot that overflows behind slots that fit
-  stops : (c : ByteColumn) (begun : List (Option X)) (last : Option X) (rest : List (Option X))
-      → slots_fit (item_overflows shown most) shown [] c begun ≡ true
-      → slot_overflows (item_overflows shown most) (append_slots [] c (map (option_map shown) begun)) last ≡ true
-      → slots_fit (item_overflows shown most) shown [] c (begun ++ last ∷ rest) ≡ false
-  stops c [] last rest fit over =
-      ap (λ b. not b && slots_fit (item_overflows shown most) shown [] (append_slot [] c (option_map shown last)) rest) over
-  stops c (x ∷ begun) last rest fit over =
-      let next : ByteColumn = append_slot [] c (option_map shown x) in
-      let parts = and_parts (not (slot_overflows (item_overflows shown most) c x))
-      (slots_fit (item_overflows shown most) shown [] next begun) fit in
-      ap (λ b. b && slots_fit (item_overflows shown most) shown [] next (begun ++ last ∷ rest)) parts.0
-      ∙ stops next begun last rest parts.1 over
+pub stores-items : (slots : List (Option (List ℕ))) → StoresShown (items_shown slots) slots
+stores-items [] = tt
+stores-items (Some item ∷ slots) = (refl, stores-items slots)
+stores-items (None ∷ slots) = stores-items slots
 
-  pub makes-items : (t u : LogicalType) (slots : List (Option X)) (frozen made : ByteColumn)
-      → FrozenOfSlots shown most t slots frozen → made ≡ with_type frozen u
-      → MakesItems most u (map (option_map shown) slots) made
-  makes-items t u slots frozen made (fit, is) typed = (
-    sym (fit-map (empty_bytes t) (empty_bytes (plain binary)) slots refl refl) ∙ fit,
-    record {
-      data_type = ap (λ c. c.data_type) typed;
-      slots =
-          ap slots_of (typed ∙ ap (λ c. with_type c u) is) ∙ many-slots [] (empty_bytes t) (map (option_map shown) slots);
-      held = subst (λ c. c.held ≡ not (all_valid c)) (sym (typed ∙ ap (λ c. with_type c u) is)) refl;
-    },
-  )
+pub empty-item : (text : Bool) → IsItem text []
+empty-item true = ([], tt, refl)
+empty-item false = tt
 
-  pub refuses-items : (t : LogicalType) (slots : List (Option X)) (e : Error) → SlotsRefused shown most t slots e
-      → RefusesItems most (map (option_map shown) slots) e
-  refuses-items t slots (error.OutOfSpec text) refused = refused
-  refuses-items t slots error.OutOfMemory refused = tt
-  refuses-items t slots error.Overflow (begun, rest, last, is, fit, over) =
-      sym (fit-map (empty_bytes t) (empty_bytes (plain binary)) slots refl refl)
-      ∙ ap (slots_fit (item_overflows shown most) shown [] (empty_bytes t)) is
-      ∙ stops (empty_bytes t) begun last rest fit over
+pub item-is : (text : Bool) (items : List (List ℕ)) (i : ℕ) (item : List ℕ) → AreItems text items
+    → slice_get items i ≡ Some item → IsItem text item
+item-is false items i item all e = tt
+item-is true [] i item all e = absurd (cc)
+item-is true (x ∷ items) zero item all e =
+    let here : x ≡ item = cc in subst IsWellFormed here (All-head IsWellFormed x items all)
+item-is true (x ∷ items) (suc i) item all e = item-is true items i item (All-tail IsWellFormed x items all) e
 
--- the same array, of a type and slots that are equal to those
-pub items-remade : (most : ℕ) (t u : LogicalType) (given shown : List (Option (List ℕ))) (made : ByteColumn) → t ≡ u
-    → given ≡ shown → MakesItems most t given made → MakesItems most u shown made
-items-remade most t u given shown made same is makes =
-    subst (λ s. MakesItems most u s made) is (subst (λ v. MakesItems most v given made) same makes)
+-- what an item shows, by its mark
+pub null-item : (rows : List (Row (List ℕ))) (i : ℕ) → slice_get (map (λ (row : Row (List ℕ)). row.1) rows) i ≡ Some false
+    → slice_get (items_shown (map slot rows)) i ≡ Some []
+null-item [] i e = absurd (cc)
+null-item ((item, true) ∷ rows) zero e = cc
+null-item ((item, false) ∷ rows) zero e = refl
+null-item (row ∷ rows) (suc i) e = null-item rows i e
 
--- an error that a `?` passes on
-pub on-residual : {R : Type 0} (answer : Result R Error) (e : Error) (P : Error → Type 0)
-    → IsErrAnd answer (λ x. x ≡ e) → P e → IfErr answer P
-on-residual (Ok x) e P is fact = tt
-on-residual (Err x) e P is fact = subst P (sym is) fact
+pub valid-item : (rows : List (Row (List ℕ))) (i : ℕ) (x : List ℕ)
+    → slice_get (map (λ (row : Row (List ℕ)). row.1) rows) i ≡ Some true
+    → slice_get (map (λ (row : Row (List ℕ)). row.0) rows) i ≡ Some x
+    → slice_get (items_shown (map slot rows)) i ≡ Some x
+valid-item [] i x e f = absurd (cc)
+valid-item ((item, true) ∷ rows) zero x e f = f
+valid-item ((item, false) ∷ rows) zero x e f = cc
+valid-item (row ∷ rows) (suc i) x e f = valid-item rows i x e f
+
+-- the item that a predicate chooses
+abbrev pub chosen_item : Option Bool → List ℕ → List ℕ → List ℕ
+chosen_item (Some true) a b = a
+chosen_item (Some false) a b = b
+chosen_item None a b = []
+
+chosen-shows : (p : Option Bool) (x y : Option (List ℕ)) (a b : List ℕ) → unwrap_or x [] ≡ a → unwrap_or y [] ≡ b
+    → unwrap_or (chosen_slot p x y) [] ≡ chosen_item p a b
+chosen-shows (Some true) x y a b e f = e
+chosen-shows (Some false) x y a b e f = f
+chosen-shows None x y a b e f = refl
+
+pub item-chosen : (ps : List (Option Bool)) (xs ys : List (Option (List ℕ))) (i : ℕ) (p : Option Bool) (a b : List ℕ)
+    → slice_get ps i ≡ Some p → slice_get (items_shown xs) i ≡ Some a → slice_get (items_shown ys) i ≡ Some b
+    → slice_get (items_shown (chosen_slots ps xs ys)) i ≡ Some (chosen_item p a b)
+item-chosen [] xs ys i p a b e f g = absurd (cc)
+item-chosen (q ∷ ps) [] ys i p a b e f g = absurd (cc)
+item-chosen (q ∷ ps) (x ∷ xs) [] i p a b e f g = absurd (cc)
+item-chosen (q ∷ ps) (x ∷ xs) (y ∷ ys) zero p a b e f g =
+    let here : q ≡ p = cc in
+    let left : unwrap_or x [] ≡ a = cc in
+    let right : unwrap_or y [] ≡ b = cc in
+    ap (λ o. Some (unwrap_or (chosen_slot o x y) [])) here ∙ ap Some (chosen-shows p x y a b left right)
+item-chosen (q ∷ ps) (x ∷ xs) (y ∷ ys) (suc i) p a b e f g = item-chosen ps xs ys i p a b e f g
+
+pub item-some : (slots : List (Option (List ℕ))) (i : ℕ) → i < length slots
+    → slice_get (items_shown slots) i ≡ Some (get_or (items_shown slots) i [])
+item-some slots i low = slice_get-get_or (items_shown slots) i []
+    (omega (arith, low, length-map slots (λ item. unwrap_or item [])))
+
+-- the item at a key: of a null key, of one in bounds, and of one that is not
+module _ {K : Type 0} (number : K → ℤ) (slots : List (Option (List ℕ))) (keys : List (Option K)) (i : ℕ) where
+  abbrev item_of : Option K → List ℕ
+  item_of key = unwrap_or (slot_at_key number slots key) []
+
+  item-keyed : (key : Option K) → slice_get keys i ≡ Some key
+      → slice_get (items_shown (slots_at_keys number slots keys)) i ≡ Some (item_of key)
+  item-keyed key e =
+      mapped-at (λ item. unwrap_or item []) (slots_at_keys number slots keys) i (slot_at_key number slots key)
+      (mapped-at (slot_at_key number slots) keys i key e)
+
+  pub item-unkeyed : slice_get keys i ≡ Some None → slice_get (items_shown (slots_at_keys number slots keys)) i ≡ Some []
+  item-unkeyed e = item-keyed None e
+
+  shown-within : (place : Option ℕ) (index : ℕ) (x : List ℕ) → index ≡ unwrap_or place (2 ^ 64 - 1)
+      → index < 2 ^ 64 - 1 → slice_get (items_shown slots) index ≡ Some x
+      → unwrap_or (unwrap_or (option_and_then (slice_get slots) place) None) [] ≡ x
+  shown-within None index x is low found = absurd (omega (arith, is, low))
+  shown-within (Some place) index x is low found =
+      by_slot slots place x (ap (slice_get (items_shown slots)) (sym is) ∙ found)
+    where
+      by_slot : (slots : List (Option (List ℕ))) (place : ℕ) (x : List ℕ) → slice_get (items_shown slots) place ≡ Some x
+          → unwrap_or (unwrap_or (slice_get slots place) None) [] ≡ x
+      by_slot [] place x e = absurd (cc)
+      by_slot (s ∷ slots) zero x e = let here : unwrap_or s [] ≡ x = cc in here
+      by_slot (s ∷ slots) (suc place) x e = by_slot slots place x e
+
+  shown-past : (place : Option ℕ) (index : ℕ) → index ≡ unwrap_or place (2 ^ 64 - 1) → length slots ≤ index
+      → unwrap_or (unwrap_or (option_and_then (slice_get slots) place) None) [] ≡ []
+  shown-past None index is past = refl
+  shown-past (Some place) index is past =
+      ap (λ s. unwrap_or (unwrap_or s None) []) (slice_get_past slots place (omega (arith, is, past)))
+
+  pub item-within : (key : K) (index : ℕ) (x : List ℕ) → slice_get keys i ≡ Some (Some key)
+      → index ≡ unwrap_or (index_of (number key)) (2 ^ 64 - 1) → index < 2 ^ 64 - 1
+      → slice_get (items_shown slots) index ≡ Some x
+      → slice_get (items_shown (slots_at_keys number slots keys)) i ≡ Some x
+  item-within key index x e is low found =
+      item-keyed (Some key) e ∙ ap Some (shown-within (index_of (number key)) index x is low found)
+
+  pub item-past : (key : K) (index : ℕ) → slice_get keys i ≡ Some (Some key)
+      → index ≡ unwrap_or (index_of (number key)) (2 ^ 64 - 1) → length slots ≤ index
+      → slice_get (items_shown (slots_at_keys number slots keys)) i ≡ Some []
+  item-past key index e is past = item-keyed (Some key) e ∙ ap Some (shown-past (index_of (number key)) index is past)
+
+pub are-more : (text : Bool) (items : List (List ℕ)) (item : List ℕ) → AreItems text items → IsItem text item
+    → AreItems text (items ++ item ∷ [])
+are-more true items item all one =
+    All-append IsWellFormed items (item ∷ []) all (All-cons IsWellFormed item [] one (All-nil IsWellFormed))
+are-more false items item all one = tt
+
+pub are-none : (text : Bool) → AreItems text []
+are-none true = All-nil IsWellFormed
+are-none false = tt
+
+-- ---- the bytes of items
+
+pub one-longer : (items : List (List ℕ)) (item : List ℕ)
+    → length (concat (items ++ item ∷ [])) ≡ length (concat items) + length item
+one-longer items item =
+    ap length (concat-append items (item ∷ [])) ∙ length-append (concat items) (item ++ [])
+    ∙ ap (λ xs. length (concat items) + length xs) (append-nil item)
+
+pub some-shorter : (n : ℕ) (items : List (List ℕ)) → length (concat (take n items)) ≤ length (concat items)
+some-shorter zero items = omega arith
+some-shorter (suc n) [] = omega arith
+some-shorter (suc n) (item ∷ items) = omega (
+  arith,
+  length-append item (concat (take n items)),
+  length-append item (concat items),
+  some-shorter n items,
+)
+
+-- ---- whether items fit
+
+abbrev bytes_before : ByteColumn → ℕ
+bytes_before column = length column.around.lead + length (concat (stored_values column))
+
+more-bytes : (rows : List (Row (List ℕ))) (item : List ℕ) (m : Bool)
+    → length (concat (map (λ (row : Row (List ℕ)). row.0) (rows ++ (item, m) ∷ [])))
+    ≡ length (concat (map (λ (row : Row (List ℕ)). row.0) rows)) + length item
+more-bytes rows item m =
+    ap (λ items. length (concat items)) (map-append (λ (row : Row (List ℕ)). row.0) rows ((item, m) ∷ []))
+    ∙ one-longer (map (λ (row : Row (List ℕ)). row.0) rows) item
+
+module _ (most : ℕ) where
+  abbrev fits : ByteColumn → List (Option (List ℕ)) → Bool
+  fits column slots = slots_fit (item_overflows (λ bytes. bytes) most) (λ bytes. bytes) [] column slots
+
+  fits-behind : (c : ByteColumn) (slots : List (Option (List ℕ)))
+      → bytes_before c + length (concat (items_shown slots)) ≤ most → fits c slots ≡ true
+  fits-behind c [] within = refl
+  fits-behind c (None ∷ slots) within =
+      fits-behind (append_slot [] c None) slots (omega (arith, within, more-bytes c.rows [] false))
+  fits-behind c (Some item ∷ slots) within =
+      let long = length-append item (concat (items_shown slots)) in
+      ap (λ b. not b && fits (append_slot [] c (Some item)) slots)
+      (le-ltb most (bytes_before c + length item) (omega (arith, within, long)))
+      ∙ fits-behind (append_slot [] c (Some item)) slots (omega (arith, within, long, more-bytes c.rows item true))
+
+  over-item : (c : ByteColumn) (item : List ℕ) (slots : List (Option (List ℕ)))
+      → (bytes_before c + length item ≤ most → fits (append_slot [] c (Some item)) slots ≡ false)
+      → (most < bytes_before c + length item) ⊎ (bytes_before c + length item ≤ most)
+      → fits c (Some item ∷ slots) ≡ false
+  over-item c item slots rest (inl over) =
+      ap (λ b. not b && fits (append_slot [] c (Some item)) slots) (lt-ltb most (bytes_before c + length item) over)
+  over-item c item slots rest (inr within) =
+      ap (λ b. not b && fits (append_slot [] c (Some item)) slots) (le-ltb most (bytes_before c + length item) within)
+      ∙ rest within
+
+  over-behind : (c : ByteColumn) (slots : List (Option (List ℕ))) → bytes_before c ≤ most
+      → most < bytes_before c + length (concat (items_shown slots)) → fits c slots ≡ false
+  over-behind c [] low past = absurd (omega (arith, low, past))
+  over-behind c (None ∷ slots) low past =
+      over-behind (append_slot [] c None) slots (omega (arith, low, more-bytes c.rows [] false))
+      (omega (arith, past, more-bytes c.rows [] false))
+  over-behind c (Some item ∷ slots) low past =
+      over-item c item slots (λ within. over-behind (append_slot [] c (Some item)) slots
+      (omega (arith, within, more-bytes c.rows item true))
+      (omega (arith, past, length-append item (concat (items_shown slots)), more-bytes c.rows item true)))
+      (cases_lt most (bytes_before c + length item))
+
+  pub items-within : (slots : List (Option (List ℕ))) → length (concat (items_shown slots)) ≤ most
+      → items_fit most slots ≡ true
+  items-within slots within = fits-behind (empty_bytes (plain binary)) slots (omega (arith, within))
+
+  pub items-past : (slots : List (Option (List ℕ))) → most < length (concat (items_shown slots))
+      → items_fit most slots ≡ false
+  items-past slots past = over-behind (empty_bytes (plain binary)) slots (omega arith) (omega (arith, past))
+
+  -- why items are refused
+  pub items-refused : (slots : List (Option (List ℕ))) (e : Error)
+      → MatchGrowth e (most < length (concat (items_shown slots))) ⊤ → MatchGrowth e (items_fit most slots ≡ false) ⊤
+  items-refused slots (error.OutOfSpec text) why = why
+  items-refused slots error.OutOfMemory why = tt
+  items-refused slots error.Overflow why = items-past slots why
+
+-- ---- items and nulls are no longer than the items alone
+
+left-if : (b : Bool) (v : List ℕ) → length (unwrap_or (if b then None else Some v) []) ≤ length v
+left-if true v = omega arith
+left-if false v = omega arith
+
+pub left-within : (same : List ℕ → List ℕ → Bool) (xs ys : List (Row (List ℕ)))
+    → length (concat (items_shown (slots_null_if same (map slot xs) (map slot ys))))
+    ≤ length (concat (map (λ (row : Row (List ℕ)). row.0) xs))
+left-within same [] ys = omega arith
+left-within same (x ∷ xs) [] = omega arith
+left-within same ((v, true) ∷ xs) ((w, true) ∷ ys) =
+    let rest = concat (items_shown (slots_null_if same (map slot xs) (map slot ys))) in
+    let all = concat (map (λ (row : Row (List ℕ)). row.0) xs) in omega (
+      arith,
+      left-if (same v w) v,
+      length-append (unwrap_or (if same v w then None else Some v) []) rest,
+      length-append v all,
+      left-within same xs ys,
+    )
+left-within same ((v, true) ∷ xs) ((w, false) ∷ ys) =
+    let rest = concat (items_shown (slots_null_if same (map slot xs) (map slot ys))) in
+    let all = concat (map (λ (row : Row (List ℕ)). row.0) xs) in
+    omega (arith, length-append v rest, length-append v all, left-within same xs ys)
+left-within same ((v, false) ∷ xs) (y ∷ ys) =
+    let all = concat (map (λ (row : Row (List ℕ)). row.0) xs) in
+    omega (arith, length-append v all, left-within same xs ys)
+
+-- ---- lists that grow
+
+pub take-next : {Z : Type 0} (zs : List Z) (i : ℕ) (z : Z) → slice_get zs i ≡ Some z → take (i + 1) zs ≡ take i zs ++ z ∷ []
+take-next zs i z e = ap (λ k. take k zs) (let more : i + 1 ≡ suc i = omega arith in more) ∙ next zs i z e
+  where
+    next : {Z : Type 0} (zs : List Z) (i : ℕ) (z : Z) → slice_get zs i ≡ Some z → take (suc i) zs ≡ take i zs ++ z ∷ []
+    next [] i z e = absurd (cc)
+    next (y ∷ zs) zero z e = let here : y ≡ z = cc in ap (λ x. x ∷ []) here
+    next (y ∷ zs) (suc i) z e = ap (λ rest. y ∷ rest) (next zs i z e)
 
 -- why a growth was refused
 pub growth-refused : (overflows : Bool) (e : Error) → e ≡ refused_growth overflows
@@ -81,5 +269,8 @@ pub growth-refused : (overflows : Bool) (e : Error) → e ≡ refused_growth ove
 growth-refused true e is = subst (λ x. MatchGrowth x (true ≡ true) ⊤) (sym is) refl
 growth-refused false e is = subst (λ x. MatchGrowth x (false ≡ true) ⊤) (sym is) tt
 
-pub memory-refused : (P : Type 0) (e : Error) → e ≡ error.OutOfMemory → MatchGrowth e P ⊤
-memory-refused P e is = subst (λ x. MatchGrowth x P ⊤) (sym is) tt
+-- an error that a `?` passes on
+pub on-residual : {R : Type 0} (answer : Result R Error) (e : Error) (P : Error → Type 0)
+    → IsErrAnd answer (λ x. x ≡ e) → P e → IfErr answer P
+on-residual (Ok x) e P is fact = tt
+on-residual (Err x) e P is fact = subst P (sym is) fact

@@ -1,9 +1,9 @@
 -- Lengths of items.
-use Rattle.std.proofs.Common.{◌≡◌, ◌∙◌, ℕ, ◌+◌, ◌-◌, ◌<◌, ◌≤◌, ℤ, pos, Bool, true, false, if◌then◌else◌, List, [], ◌∷◌, map, length, take, drop, get_or, Some, None, is_some, option_map, slice_get, refl, ap, ap₂, sym, arith, true≢false, length-drop}
+use Rattle.std.proofs.Common.{◌≡◌, ◌∙◌, ℕ, ◌+◌, ◌-◌, ◌<◌, ◌≤◌, ℤ, pos, Bool, true, false, if◌then◌else◌, List, [], ◌∷◌, ◌++◌, map, length, take, drop, get_or, Some, None, is_some, option_map, slice_get, refl, ap, ap₂, sym, arith, true≢false, length-drop}
 use Rattle.std.specs.Prelude.{IsTrue}
 use Rattle.std.specs.List.{list_all}
-use Rattle.std.proofs.lemmas.List.{length-map, length-take-le}
-use Rattle.std.proofs.lemmas.Option.{same_Some}
+use Rattle.std.proofs.lemmas.List.{length-map, length-take-le, map_more, map_push, take_all}
+use Rattle.std.proofs.lemmas.Option.{get_or_from_slice_get, same_Some, slice_get_within}
 use Rattle.arrow_check.specs.Pieces.{items_of}
 use Rattle.arrow_column.specs.Column.{stored_values}
 use Rattle.arrow_memory.specs.Offsets.{last_of}
@@ -83,3 +83,17 @@ pub held-mask : {X : Type 0} (held : Bool) (rows : List (Row X))
     → is_some (if held then Some (map (λ row. row.1) rows) else None) ≡ held
 held-mask true rows = refl
 held-mask false rows = refl
+
+-- ---- lists that are mapped one by one
+
+-- one more of what is made of each element of a list
+pub next-mapped : {X Y Z : Type 0} (f : X → Y) (g : Z → Y) (xs : List X) (made : List Z) (i : ℕ) (x : X) (z : Z)
+    → slice_get xs i ≡ Some x → map g made ≡ map f (take i xs) → g z ≡ f x
+    → map g (made ++ z ∷ []) ≡ map f (take (i + 1) xs)
+next-mapped f g xs made i x z found so_far same =
+    map_push g made z ∙ ap₂ (λ ys y. ys ++ y ∷ []) so_far (same ∙ ap f (sym (get_or_from_slice_get xs i x x found)))
+    ∙ sym (map_more f xs i x (slice_get_within xs i x found))
+
+pub all-mapped : {X Y Z : Type 0} (f : X → Y) (g : Z → Y) (xs : List X) (made : List Z) (i : ℕ) → length xs ≤ i
+    → map g made ≡ map f (take i xs) → map g made ≡ map f xs
+all-mapped f g xs made i past so_far = so_far ∙ ap (map f) (take_all i xs past)

@@ -1,11 +1,13 @@
 -- Slots that kernels select of the slots of arrays, and arrays that are made of slots.
-use Rattle.std.specs.Prelude.{⊤, ◌≡◌, ℕ, ℤ, Bool, true, false, not, List, [], length, map, option_map, Option, Some, None, unwrap_or, if◌then◌else◌}
+use Rattle.std.specs.Prelude.{⊤, ◌≡◌, ◌&&◌, ℕ, ℤ, Bool, true, false, not, List, [], length, map, Option, Some, None, is_some}
+use Rattle.std.specs.Prelude.{unwrap_or, if◌then◌else◌}
 use Rattle.std.specs.List.{zip}
 use denote.Ref.{Bor}
 use Rattle.arrow_types.specs.Types.{LogicalType, binary, plain}
 use Rattle.arrow_types.specs.declared.error.Error.{Error}
 use Rattle.arrow_memory.specs.Offsets.{MatchGrowth}
 use Rattle.arrow_column.specs.Column.{Column, ColumnWith, all_valid, mask_of, slots_fit, slots_of, stored_values}
+use Rattle.arrow_column.specs.Masks.{mask_with_nulls}
 use Rattle.arrow_check.specs.Indexes.{first_bad_key, valid_keys}
 use Rattle.arrow_bytes.specs.Column.{ByteColumn, empty_bytes, item_overflows}
 use Rattle.arrow_bytes.specs.Selection.{Concatenates, at_key, concat_overflows}
@@ -60,10 +62,39 @@ null_if_equal same None y = None
 abbrev pub slots_null_if : {X : Type 0} → (X → X → Bool) → List (Option X) → List (Option X) → List (Option X)
 slots_null_if same lhs rhs = map (λ pair. null_if_equal same pair.0 pair.1) (zip lhs rhs)
 
+-- ---- what arrays of slots hold
+-- whether each slot is valid
+abbrev pub marks_shown : {X : Type 0} → List (Option X) → List Bool
+marks_shown shown = map is_some shown
+
+-- the mask of slots, which is held exactly if one is null
+abbrev pub mask_shown : {X : Type 0} → List (Option X) → Option (List Bool)
+mask_shown shown = mask_with_nulls (Some (marks_shown shown))
+
+-- the items of slots; that of a null has no byte
+abbrev pub items_shown : List (Option (List ℕ)) → List (List ℕ)
+items_shown shown = map (λ item. unwrap_or item []) shown
+
+-- the first value where the predicate is true, else the second
+abbrev pub chosen_values : {X : Type 0} → List Bool → List X → List X → List X
+chosen_values predicate xs ys = map (λ row. if row.0 then row.1.0 else row.1.1) (zip predicate (zip xs ys))
+
+-- whether the values at each index are equal
+abbrev pub equal_values : {X : Type 0} → (X → X → Bool) → List X → List X → List Bool
+equal_values same xs ys = map (λ pair. same pair.0 pair.1) (zip xs ys)
+
+-- the value at each key; the default if the key is out of bounds
+abbrev pub values_at_keys : {K X : Type 0} → (K → ℤ) → X → List X → List K → List X
+values_at_keys number default xs keys = map (λ key. unwrap_or (at_key xs (number key)) default) keys
+
 -- ---- the same of columns
--- what is seen of slots
-abbrev pub as_seen : {V X : Type 0} → (V → X) → List (Option V) → List (Option X)
-as_seen seen slots = map (option_map seen) slots
+-- whether the stored values at each index are equal
+abbrev pub equal_stored : {A B X : Type 0} → (X → X → Bool) → ColumnWith A X → ColumnWith B X → List Bool
+equal_stored same lhs rhs = equal_values same (stored_values lhs) (stored_values rhs)
+
+-- the mark at each key; clear if the key is null or out of bounds
+abbrev pub marks_at_keys : {K : Type 0} → (K → ℤ) → List Bool → Column K → List Bool
+marks_at_keys number marks keys = map (λ row. row.1 && unwrap_or (at_key marks (number row.0)) false) keys.rows
 
 -- the slots of one of two lists, by the slots of a predicate; and of one of two columns
 abbrev pub chosen_by : {X : Type 0} → Column Bool → List (Option X) → List (Option X) → List (Option X)

@@ -1,6 +1,5 @@
 //! The lengths of bytes and text.
 ghost use Rattle.std.specs.Prelude.{◌≡◌, ◌<◌, List, ℕ, Some, length as length_of, map, pos, slice_get, IfOk};
-ghost use Rattle.std.specs.Option.{option_copied};
 ghost use Rattle.arrow_types.specs.Failures.{OnlyOutOfMemory};
 ghost use Rattle.arrow_types.specs.Types.{default_logical_type};
 ghost use Rattle.arrow_column.specs.Column.{stored_values};
@@ -8,7 +7,7 @@ ghost use Rattle.arrow_select.specs.Lengths.{HasLengths};
 
 use arrow_byte_array::ByteArray;
 use arrow_bytes::ByteKind;
-use arrow_memory::bitmap::Bitmap;
+use arrow_compute::masks::clone_mask;
 use arrow_memory::buffer::Buffer;
 use arrow_primitive::PrimitiveArray;
 use arrow_types::error::Error;
@@ -43,17 +42,6 @@ fn item_lengths<K: ByteKind, O: Offset>(
         lengths.push(item_length(array, i))?;
     }
     Ok(lengths)
-}
-
-/// Returns a clone of a mask, if there is one.
-fn clone_mask(mask: Option<&Bitmap>) -> Result<Option<Bitmap>, Error>
-    ensures ok { IfOk result (λ copy. copy ≡ option_copied mask.entry) }
-    ensures err { OnlyOutOfMemory result }
-{
-    match mask {
-        Some(mask) => Ok(Some(mask.clone()?)),
-        None => Ok(None),
-    }
 }
 
 /// Returns the number of bytes of each slot as numbers of the offsets' width, of the default data

@@ -3,10 +3,10 @@
 #![tactic(auto)]
 
 pub mod concatenate;
+mod equal;
 pub mod if_then_else;
-mod lend;
+mod items;
 pub mod length;
-mod make;
+mod masks;
 pub mod nullif;
-mod select;
 pub mod take;

@@ -1,19 +1,63 @@
-//! Nulls where two arrays are equal. The result holds a mask exactly if one of its slots is null.
+//! Nulls where two arrays are equal. The result shares the stored values of the first array, and holds
+//! a mask exactly if one of its slots is null.
 ghost use Rattle.std.specs.Prelude.{◌≡◌, length, nat_eq, IfErr, IfOk};
 ghost use Rattle.std.specs.Cmp.Lexicographic.{pointwise};
 ghost use Rattle.arrow_types.specs.Failures.{OnlyOutOfMemory};
-ghost use Rattle.arrow_select.specs.Selects.{MakesItems, MakesSlots, RefusesItems, slots_differing};
+ghost use Rattle.arrow_select.specs.Selects.{MakesItems, MakesSlots, RefusesItems, mask_shown, slots_differing};
 
-use crate::make::{booleans_of_slots, items_of_slots, numbers_of_slots};
-use crate::select::differing_slots;
+use crate::equal::EqualWords;
+use crate::masks::{collect_mask, differing_bits};
 use arrow_binary::BinaryArray;
 use arrow_boolean::BooleanArray;
+use arrow_byte_array::ByteArray;
+use arrow_bytes::ByteKind;
+use arrow_compute::words::{MarkWords, marks_word};
+use arrow_memory::bitmap::Bitmap;
 use arrow_primitive::PrimitiveArray;
 use arrow_types::error::Error;
 use arrow_types::native_type::NativeType;
 use arrow_types::offset::Offset;
 use arrow_utf8::Utf8Array;
 use std::alloc::Global;
+
+/// Which slots of an array stay valid beside another.
+#[derive(Drop)]
+struct DifferingMarks<'a, A> {
+    lhs: &'a A,
+    rhs: &'a A,
+}
+
+impl<'a, A: EqualWords> MarkWords for DifferingMarks<'a, A> {
+    ghost use Rattle.arrow_select.specs.Selects.{marks_shown, slots_differing};
+
+    ghost marks = { λ pair. marks_shown
+        (slots_differing A.same (A.Array.column pair.lhs.now) (A.Array.column pair.rhs.now)) };
+
+    #[inline(always)]
+    fn len(&self) -> usize {
+        self.lhs.len().min(self.rhs.len())
+    }
+
+    #[inline(always)]
+    fn word(&self, place: usize, count: usize) -> u64 {
+        let marks = marks_word(self.lhs, place, count);
+        let others = marks_word(self.rhs, place, count);
+        differing_bits(
+            marks,
+            others,
+            A::equal_word(self.lhs, self.rhs, place, count),
+        )
+    }
+}
+
+/// Returns the mask of the slots of `lhs`, and of nulls where both slots are valid and equal.
+fn differing_mask<A: EqualWords>(alloc: Global, lhs: &A, rhs: &A) -> Result<Option<Bitmap>, Error>
+    ensures ok { IfOk result (λ mask. mask
+        ≡ mask_shown (slots_differing A.same (A.column lhs.now) (A.column rhs.now))) }
+    ensures err { OnlyOutOfMemory result }
+{
+    collect_mask(alloc, &DifferingMarks { lhs, rhs })
+}
 
 /// Returns the slots of `lhs`, and a null where the slots of both arrays are valid and equal, with
 /// the data type of `lhs`. Both arrays must have equally many slots.
@@ -29,10 +73,8 @@ pub fn nullif_primitive<T: NativeType>(
     ensures ok { IfOk result (MakesSlots lhs.now.data_type (slots_differing T.eq lhs.now rhs.now)) }
     ensures err { OnlyOutOfMemory result }
 {
-    let slots = differing_slots(alloc, lhs, rhs)?;
-    let data_type = lhs.data_type().clone()?;
-    let items = slots.as_slice();
-    numbers_of_slots(alloc, items, data_type)
+    let mask = differing_mask(alloc, lhs, rhs)?;
+    Ok(lhs.clone()?.with_validity(mask))
 }
 
 /// Returns the slots of `lhs`, and a null where the slots of both arrays are valid and equal, with
@@ -50,18 +92,37 @@ pub fn nullif_boolean(
         (slots_differing ⟦<bool as PartialEq>⟧.eq lhs.now rhs.now)) }
     ensures err { OnlyOutOfMemory result }
 {
-    let slots = differing_slots(alloc, lhs, rhs)?;
-    let data_type = lhs.data_type().clone()?;
-    let items = slots.as_slice();
-    booleans_of_slots(alloc, items, data_type)
+    let mask = differing_mask(alloc, lhs, rhs)?;
+    Ok(lhs.clone()?.with_validity(mask))
 }
 
-/// Returns the slots of `lhs`, and a null where the slots of both arrays are valid and equal, with
-/// the data type of `lhs`. Both arrays must have equally many slots.
+/// Returns the slots of `lhs`, bytes or text, and a null where the slots of both arrays are valid and
+/// equal, with the data type of `lhs`. Both arrays must have equally many slots. The items together
+/// are no longer than those of `lhs`, so they never overflow.
 ///
 /// # Errors
-/// - `Overflow` if the bytes of a slot would end past the greatest offset.
-/// - `OutOfMemory` if an allocation fails.
+/// `OutOfMemory` if an allocation fails.
+pub fn nullif_items<K: ByteKind, O: Offset>(
+    alloc: Global,
+    lhs: &ByteArray<K, O>,
+    rhs: &ByteArray<K, O>,
+) -> Result<ByteArray<K, O>, Error>
+    requires { length lhs.now.rows ≡ length rhs.now.rows }
+    ensures ok { IfOk result (MakesItems O.most lhs.now.data_type
+        (slots_differing (pointwise nat_eq) lhs.now rhs.now)) }
+    ensures err { OnlyOutOfMemory result }
+{
+    // Called for its contract: no item ends past the greatest offset.
+    lhs.offsets().last();
+    let mask = differing_mask(alloc, lhs, rhs)?;
+    Ok(lhs.clone()?.with_validity(mask))
+}
+
+/// Returns the slots of `lhs`, and a null where the slots of both arrays are valid and equal, as
+/// [`nullif_items`].
+///
+/// # Errors
+/// `OutOfMemory` if an allocation fails.
 pub fn nullif_binary<O: Offset>(
     alloc: Global,
     lhs: &BinaryArray<O>,
@@ -70,21 +131,16 @@ pub fn nullif_binary<O: Offset>(
     requires { length lhs.now.rows ≡ length rhs.now.rows }
     ensures ok { IfOk result (MakesItems O.most lhs.now.data_type
         (slots_differing (pointwise nat_eq) lhs.now rhs.now)) }
-    ensures err { IfErr result (RefusesItems O.most
-        (slots_differing (pointwise nat_eq) lhs.now rhs.now)) }
+    ensures err { OnlyOutOfMemory result }
 {
-    let slots = differing_slots(alloc, lhs, rhs)?;
-    let data_type = lhs.data_type().clone()?;
-    let items = slots.as_slice();
-    items_of_slots(alloc, items, data_type)
+    nullif_items(alloc, lhs, rhs)
 }
 
-/// Returns the slots of `lhs`, and a null where the slots of both arrays are valid and equal, with
-/// the data type of `lhs`. Both arrays must have equally many slots.
+/// Returns the slots of `lhs`, and a null where the slots of both arrays are valid and equal, as
+/// [`nullif_items`].
 ///
 /// # Errors
-/// - `Overflow` if the bytes of a slot would end past the greatest offset.
-/// - `OutOfMemory` if an allocation fails.
+/// `OutOfMemory` if an allocation fails.
 pub fn nullif_utf8<O: Offset>(
     alloc: Global,
     lhs: &Utf8Array<O>,
@@ -93,11 +149,7 @@ pub fn nullif_utf8<O: Offset>(
     requires { length lhs.now.rows ≡ length rhs.now.rows }
     ensures ok { IfOk result (MakesItems O.most lhs.now.data_type
         (slots_differing (pointwise nat_eq) lhs.now rhs.now)) }
-    ensures err { IfErr result (RefusesItems O.most
-        (slots_differing (pointwise nat_eq) lhs.now rhs.now)) }
+    ensures err { OnlyOutOfMemory result }
 {
-    let slots = differing_slots(alloc, lhs, rhs)?;
-    let data_type = lhs.data_type().clone()?;
-    let items = slots.as_slice();
-    items_of_slots(alloc, items, data_type)
+    nullif_items(alloc, lhs, rhs)
 }

@@ -1,14 +1,26 @@
 //! Takes by keys of which some are null: the slot at each key, and a null where the key is null. The
 //! result holds a mask exactly if one of its slots is null.
-ghost use Rattle.std.specs.Prelude.{◌≡◌, ⊤, None, IfErr, IfOk, MatchOption};
-ghost use Rattle.arrow_check.specs.Indexes.{FailsAt};
-ghost use Rattle.arrow_select.specs.Selects.{ItemsNotTaken, MakesItems, MakesSlots, first_bad_shown, slots_taken};
+ghost use Rattle.std.specs.Prelude.{◌≡◌, ◌^◌, ◌-◌, ⊤, None, length, unwrap_or, IfErr, IfOk, MatchOption};
+ghost use Rattle.arrow_types.specs.Failures.{OnlyOutOfMemory};
+ghost use Rattle.arrow_types.specs.IndexKey.{index_of};
+ghost use Rattle.arrow_check.specs.Indexes.{AllInBounds, FailsAt};
+ghost use Rattle.arrow_bytes.specs.Selection.{at_key};
+ghost use Rattle.arrow_select.specs.Selects.{ItemsNotTaken, MakesItems, MakesSlots, first_bad_shown, keys_shown};
+ghost use Rattle.arrow_select.specs.Selects.{mask_shown, slots_taken, values_at_keys};
 
-use crate::make::{booleans_of_slots, items_of_slots, numbers_of_slots};
-use crate::select::take_slots;
+use crate::items::{ItemSource, collect_items, shown_item};
+use crate::masks::collect_mask;
 use arrow_binary::BinaryArray;
 use arrow_boolean::BooleanArray;
+use arrow_byte_array::ByteArray;
+use arrow_bytes::ByteKind;
 use arrow_check::indexes::check_slots;
+use arrow_column::Array;
+use arrow_compute::masks::clone_mask;
+use arrow_compute::words::{MarkWords, Marks, Packed, collect_marks, marks_word};
+use arrow_kernels::mask::needed_mask;
+use arrow_memory::bitmap::Bitmap;
+use arrow_memory::buffer::Buffer;
 use arrow_primitive::PrimitiveArray;
 use arrow_types::error::Error;
 use arrow_types::index_key::IndexKey;
@@ -16,6 +28,114 @@ use arrow_types::native_type::NativeType;
 use arrow_types::offset::Offset;
 use arrow_utf8::Utf8Array;
 use std::alloc::Global;
+
+/// Returns the index that a key is. `usize::MAX`, which is the index of no slot, stands for a key
+/// that is none, without a branch.
+#[inline(always)]
+fn index_of_key<K: IndexKey>(key: &K) -> usize
+    ensures { result ≡ unwrap_or (index_of (K.number key.now)) (2 ^ 64 - 1) }
+{
+    key.to_index().unwrap_or(usize::MAX)
+}
+
+/// Returns the value at a key, or the default if the key is out of bounds.
+#[inline(always)]
+fn value_at_key<T: NativeType, K: IndexKey>(values: &[T], key: &K) -> T
+    ensures { result ≡ unwrap_or (at_key values.now (K.number key.now)) T.zero }
+{
+    values
+        .get(index_of_key(key))
+        .copied()
+        .unwrap_or(T::default())
+}
+
+/// Returns the values at keys, and the default where a key is out of bounds. Room is reserved once.
+fn take_values<T: NativeType, K: IndexKey>(
+    alloc: Global,
+    values: &[T],
+    keys: &[K],
+) -> Result<Vec<T>, Error>
+    ensures ok { IfOk result (λ taken. taken.items ≡ values_at_keys K.number T.zero values.now keys.now) }
+    ensures err { OnlyOutOfMemory result }
+{
+    let mut taken = Vec::with_capacity(alloc, keys.len())?;
+    for key in keys {
+        taken.push_reserved(value_at_key(values, key));
+    }
+    Ok(taken)
+}
+
+/// The marks at keys; clear where a key is out of bounds.
+#[derive(Drop)]
+struct MarksAtKeys<'a, K> {
+    marks: &'a Bitmap,
+    keys: &'a [K],
+}
+
+impl<'a, K: IndexKey> Marks for MarksAtKeys<'a, K> {
+    ghost use Rattle.std.specs.Prelude.{false};
+    ghost use Rattle.arrow_select.specs.Selects.{values_at_keys};
+
+    ghost marks = { λ taken. values_at_keys K.number false taken.marks.now taken.keys.now };
+
+    #[inline(always)]
+    fn len(&self) -> usize {
+        self.keys.len()
+    }
+
+    #[inline(always)]
+    fn mark(&self, i: usize) -> bool {
+        let index = index_of_key(&self.keys[i]);
+        index < self.marks.len() && self.marks.get_bit(index)
+    }
+}
+
+/// The marks at the keys of valid slots; clear where a key is null or out of bounds.
+#[derive(Drop)]
+struct TakenMarks<'a, K: NativeType> {
+    marks: &'a Bitmap,
+    keys: &'a PrimitiveArray<K>,
+}
+
+impl<'a, K: NativeType + IndexKey> MarkWords for TakenMarks<'a, K> {
+    ghost use Rattle.arrow_select.specs.Selects.{marks_at_keys};
+
+    ghost marks = { λ taken. marks_at_keys K.number taken.marks.now taken.keys.now };
+
+    #[inline(always)]
+    fn len(&self) -> usize {
+        self.keys.len()
+    }
+
+    #[inline(always)]
+    fn word(&self, place: usize, count: usize) -> u64 {
+        let source = MarksAtKeys {
+            marks: self.marks,
+            keys: self.keys.values().as_slice(),
+        };
+        marks_word(self.keys, place, count) & Packed { source }.word(place, count)
+    }
+}
+
+/// Returns the mask of the slots at keys. The valid keys must be in bounds.
+fn taken_mask<A: Array, K: NativeType + IndexKey>(
+    alloc: Global,
+    array: &A,
+    keys: &PrimitiveArray<K>,
+) -> Result<Option<Bitmap>, Error>
+    requires { AllInBounds K.number (length (A.column array.now).rows) (keys_shown keys.now) }
+    ensures ok { IfOk result (λ mask. mask
+        ≡ mask_shown (slots_taken K.number (A.column array.now) keys.now)) }
+    ensures err { OnlyOutOfMemory result }
+{
+    match array.validity() {
+        Some(marks) => collect_mask(alloc, &TakenMarks { marks, keys }),
+        None => match clone_mask(keys.validity())? {
+            Some(marks) => Ok(needed_mask(marks)),
+            None => Ok(None),
+        },
+    }
+}
 
 /// Returns the slots of `array` at the keys, and a null where a key is null. Keys of null slots are
 /// not tested.
@@ -36,11 +156,12 @@ pub fn take_primitive<T: NativeType, K: NativeType + IndexKey>(
     ensures err { IfErr result (λ e. first_bad_shown K.number array.now keys.now ≡ None
         → e ≡ Error.OutOfMemory) }
 {
-    check_slots(keys.values().as_slice(), keys.validity(), array.len())?;
-    let slots = take_slots(alloc, array, keys)?;
+    let places = keys.values().as_slice();
+    check_slots(places, keys.validity(), array.len())?;
+    let values = take_values(alloc, array.values().as_slice(), places)?;
+    let mask = taken_mask(alloc, array, keys)?;
     let data_type = array.data_type().clone()?;
-    let items = slots.as_slice();
-    numbers_of_slots(alloc, items, data_type)
+    Ok(PrimitiveArray::new(data_type, Buffer::from_vec(values)?, mask))
 }
 
 /// Returns the slots of `array` at the keys, as [`take_primitive`].
@@ -59,11 +180,52 @@ pub fn take_boolean<K: NativeType + IndexKey>(
     ensures err { IfErr result (λ e. first_bad_shown K.number array.now keys.now ≡ None
         → e ≡ Error.OutOfMemory) }
 {
-    check_slots(keys.values().as_slice(), keys.validity(), array.len())?;
-    let slots = take_slots(alloc, array, keys)?;
+    let places = keys.values().as_slice();
+    check_slots(places, keys.validity(), array.len())?;
+    let values = Packed {
+        source: MarksAtKeys {
+            marks: array.values(),
+            keys: places,
+        },
+    };
+    let values = collect_marks(alloc, &values)?.freeze()?;
+    let mask = taken_mask(alloc, array, keys)?;
     let data_type = array.data_type().clone()?;
-    let items = slots.as_slice();
-    booleans_of_slots(alloc, items, data_type)
+    Ok(BooleanArray::new(data_type, values, mask))
+}
+
+/// The items at the keys of valid slots.
+#[derive(Drop)]
+struct TakenItems<'a, K: ByteKind, O: Offset, I: NativeType> {
+    array: &'a ByteArray<K, O>,
+    keys: &'a PrimitiveArray<I>,
+}
+
+impl<'a, K: ByteKind, O: Offset, I: NativeType + IndexKey> ItemSource<K>
+    for TakenItems<'a, K, O, I> {
+    ghost use Rattle.arrow_select.specs.Selects.{items_shown, slots_taken};
+
+    ghost items = { λ taken. items_shown (slots_taken I.number taken.array.now taken.keys.now) };
+
+    #[inline(always)]
+    fn len(&self) -> usize {
+        self.keys.len()
+    }
+
+    #[inline(always)]
+    fn item(&self, i: usize) -> &[u8] {
+        match self.keys.get(i) {
+            None => &[],
+            Some(key) => {
+                let index = index_of_key(&key);
+                if index < self.array.len() {
+                    shown_item(self.array, index)
+                } else {
+                    &[]
+                }
+            }
+        }
+    }
 }
 
 /// Returns the slots of `array` at the keys, and a null where a key is null. Keys of null slots are
@@ -73,6 +235,28 @@ pub fn take_boolean<K: NativeType + IndexKey>(
 /// - `OutOfSpec` as [`take_primitive`]; this is checked first.
 /// - `Overflow` if the bytes of a slot would end past the greatest offset.
 /// - `OutOfMemory` if an allocation fails.
+pub fn take_items<K: ByteKind, O: Offset, I: NativeType + IndexKey>(
+    alloc: Global,
+    array: &ByteArray<K, O>,
+    keys: &PrimitiveArray<I>,
+) -> Result<ByteArray<K, O>, Error>
+    ensures out_of_bounds { MatchOption (first_bad_shown I.number array.now keys.now) ⊤
+        (FailsAt I.number result) }
+    ensures ok { IfOk result (MakesItems O.most array.now.data_type
+        (slots_taken I.number array.now keys.now)) }
+    ensures err { IfErr result (ItemsNotTaken O.most I.number array.now keys.now) }
+{
+    check_slots(keys.values().as_slice(), keys.validity(), array.len())?;
+    let (offsets, bytes) = collect_items::<K, O, _>(alloc, &TakenItems { array, keys })?;
+    let mask = taken_mask(alloc, array, keys)?;
+    let data_type = array.data_type().clone()?;
+    Ok(ByteArray::new(data_type, offsets, bytes, mask))
+}
+
+/// Returns the slots of `array` at the keys, as [`take_items`].
+///
+/// # Errors
+/// As [`take_items`].
 pub fn take_binary<O: Offset, K: NativeType + IndexKey>(
     alloc: Global,
     array: &BinaryArray<O>,
@@ -84,20 +268,13 @@ pub fn take_binary<O: Offset, K: NativeType + IndexKey>(
         (slots_taken K.number array.now keys.now)) }
     ensures err { IfErr result (ItemsNotTaken O.most K.number array.now keys.now) }
 {
-    check_slots(keys.values().as_slice(), keys.validity(), array.len())?;
-    let slots = take_slots(alloc, array, keys)?;
-    let data_type = array.data_type().clone()?;
-    let items = slots.as_slice();
-    items_of_slots(alloc, items, data_type)
+    take_items(alloc, array, keys)
 }
 
-/// Returns the slots of `array` at the keys, and a null where a key is null. Keys of null slots are
-/// not tested.
+/// Returns the slots of `array` at the keys, as [`take_items`].
 ///
 /// # Errors
-/// - `OutOfSpec` as [`take_primitive`]; this is checked first.
-/// - `Overflow` if the bytes of a slot would end past the greatest offset.
-/// - `OutOfMemory` if an allocation fails.
+/// As [`take_items`].
 pub fn take_utf8<O: Offset, K: NativeType + IndexKey>(
     alloc: Global,
     array: &Utf8Array<O>,
@@ -109,9 +286,5 @@ pub fn take_utf8<O: Offset, K: NativeType + IndexKey>(
         (slots_taken K.number array.now keys.now)) }
     ensures err { IfErr result (ItemsNotTaken O.most K.number array.now keys.now) }
 {
-    check_slots(keys.values().as_slice(), keys.validity(), array.len())?;
-    let slots = take_slots(alloc, array, keys)?;
-    let data_type = array.data_type().clone()?;
-    let items = slots.as_slice();
-    items_of_slots(alloc, items, data_type)
+    take_items(alloc, array, keys)
 }

@@ -1,7 +1,9 @@
 //! Kernels that select slots. What each makes was worked out by hand.
 mod choices;
 mod lengths;
+mod shared;
 mod takes;
+mod words;
 
 use arrow_primitive::PrimitiveArray;
 use arrow_types::native_type::NativeType;

@@ -1,3 +1,4 @@
 pub mod OrderLemmas
 pub mod TakeLemmas
 pub mod TotalLemmas
+mod BytesLemmas

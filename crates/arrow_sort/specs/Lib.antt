@@ -1,3 +1,4 @@
+pub mod Bytes
 pub mod Sort
 pub mod Entries
 pub mod Columns

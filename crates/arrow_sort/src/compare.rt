@@ -3,6 +3,7 @@ ghost use Rattle.std.specs.Prelude.{◌≡◌, if◌then◌else◌, option_map};
 ghost use Rattle.arrow_sort.specs.Sort.{nulls_order, slot_at, slot_order};
 
 use crate::SortOptions;
+use crate::bytes::compare_bytes;
 use crate::lend::LendSlots;
 use std::cmp::Ordering;
 
@@ -68,4 +69,37 @@ pub(crate) fn compare_slots<'a, A: LendSlots<'a>>(
     // Called for its contract: values compare by the order that contracts see.
     array.nulls();
     compare_options(&slot_or_null(array, i), &slot_or_null(array, j), options)
+}
+
+/// How values are compared in a sort: as their order says.
+pub(crate) trait CompareValues<V: Ord> {
+    /// Returns the order of two values.
+    fn compare_values(lhs: &V, rhs: &V) -> Ordering
+        ensures { result ≡ V.cmp lhs.now rhs.now };
+}
+
+/// Compares values by their order's own method.
+pub(crate) struct ByOrder;
+
+impl<V: Ord> CompareValues<V> for ByOrder {
+    #[inline(always)]
+    fn compare_values(lhs: &V, rhs: &V) -> Ordering {
+        lhs.cmp(rhs)
+    }
+}
+
+/// Compares byte strings by their first bytes, and only if these are the same by the others.
+pub(crate) struct ByFirstBytes;
+
+impl<'a> CompareValues<&'a [u8]> for ByFirstBytes {
+    ghost use Rattle.std.specs.Prelude.{◌≡◌};
+    ghost use Rattle.std.specs.Cmp.Lexicographic.{slice_cmp};
+    ghost use Rattle.std.specs.Ordering.{nat_cmp};
+
+    #[inline(always)]
+    fn compare_values(lhs: &&'a [u8], rhs: &&'a [u8]) -> Ordering
+        ensures { result ≡ slice_cmp nat_cmp lhs.now.now rhs.now.now }
+    {
+        compare_bytes(*lhs, *rhs)
+    }
 }

@@ -5,6 +5,7 @@ ghost use Rattle.arrow_sort.specs.Entries.{PushesEntry, SplitsAll, by_index, ent
 ghost use Rattle.arrow_sort.specs.Sort.{SortsSlots, up_to};
 
 use crate::SortOptions;
+use crate::compare::CompareValues;
 use crate::lend::LendSlots;
 use std::alloc::{AllocError, Global};
 
@@ -49,34 +50,39 @@ fn split_slots<'a, A: LendSlots<'a>>(
 }
 
 /// Sorts values ascending. They must be in the order of their indexes, so equal values stay so.
-fn sort_ascending<V: Ord>(values: &mut Vec<(V, u64)>) -> Result<(), AllocError>
+fn sort_ascending<V: Ord, C: CompareValues<V>>(values: &mut Vec<(V, u64)>) -> Result<(), AllocError>
     requires { IsSortedBy by_index values.old.items }
     ensures permutation { IsPermutation values.old.items values.new.items }
     ensures sorted { OnOk result (IsSorted (entry_order V.cmp) values.new.items) }
 {
-    values.sort_by(|lhs, rhs| lhs.0.cmp(&rhs.0))
+    values.sort_by(|lhs, rhs| C::compare_values(&lhs.0, &rhs.0))
 }
 
 /// Sorts values descending. They must be in the order of their indexes, so equal values stay so.
-fn sort_descending<V: Ord>(values: &mut Vec<(V, u64)>) -> Result<(), AllocError>
+fn sort_descending<V: Ord, C: CompareValues<V>>(
+    values: &mut Vec<(V, u64)>,
+) -> Result<(), AllocError>
     requires { IsSortedBy by_index values.old.items }
     ensures permutation { IsPermutation values.old.items values.new.items }
     ensures sorted { OnOk result (IsSorted (entry_order (λ x y. V.cmp y x)) values.new.items) }
 {
-    values.sort_by(|lhs, rhs| rhs.0.cmp(&lhs.0))
+    values.sort_by(|lhs, rhs| C::compare_values(&rhs.0, &lhs.0))
 }
 
 /// Sorts values, and equal values by their indexes, in the order of which they must be.
-fn sort_values<V: Ord>(values: &mut Vec<(V, u64)>, descending: bool) -> Result<(), AllocError>
+fn sort_values<V: Ord, C: CompareValues<V>>(
+    values: &mut Vec<(V, u64)>,
+    descending: bool,
+) -> Result<(), AllocError>
     requires { IsSortedBy by_index values.old.items }
     ensures permutation { IsPermutation values.old.items values.new.items }
     ensures sorted { OnOk result
         (IsSorted (entry_order (λ x y. if descending then V.cmp y x else V.cmp x y)) values.new.items) }
 {
     if descending {
-        return sort_descending(values);
+        return sort_descending::<V, C>(values);
     }
-    sort_ascending(values)
+    sort_ascending::<V, C>(values)
 }
 
 /// Appends the indexes of values.
@@ -110,17 +116,19 @@ fn join_indexes<V>(
     Ok(indexes)
 }
 
-/// Returns the indexes of all slots, sorted.
-pub(crate) fn sorted_indexes<'a, A: LendSlots<'a>>(
+/// Returns the indexes of all slots, sorted. The type of the last argument says how values are
+/// compared.
+pub(crate) fn sorted_indexes<'a, A: LendSlots<'a>, C: CompareValues<A::Value>>(
     alloc: Global,
     array: &'a A,
     options: SortOptions,
+    _by: &C,
 ) -> Result<Vec<u64>, AllocError>
     ensures { IfOk result (λ indexes. SortsSlots options A.order (A.slots array.entry.now) indexes.items) }
 {
     let nulls = array.nulls();
     let mut entries = split_slots(alloc, array, nulls)?;
-    sort_values(&mut entries.values, options.descending)?;
+    sort_values::<A::Value, C>(&mut entries.values, options.descending)?;
     let (values, nulls) = (entries.values.as_slice(), entries.nulls.as_slice());
     join_indexes(alloc, values, nulls, options.nulls_first)
 }

@@ -2,6 +2,7 @@
 //! array or of several, and sorted arrays.
 #![tactic(auto)]
 
+mod bytes;
 mod compare;
 mod entries;
 mod lend;

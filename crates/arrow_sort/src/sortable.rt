@@ -5,7 +5,7 @@ ghost use Rattle.arrow_types.specs.Failures.{OnlyOutOfMemory};
 ghost use Rattle.arrow_sort.specs.Sort.{PickOnce, SortsSlots, slot_at, slot_order};
 
 use crate::SortOptions;
-use crate::compare::compare_slots;
+use crate::compare::{ByFirstBytes, ByOrder, compare_slots};
 use crate::entries::sorted_indexes;
 use arrow_boolean::BooleanArray;
 use arrow_byte_array::ByteArray;
@@ -68,7 +68,7 @@ impl<T: NativeType + Ord> SortableArray for PrimitiveArray<T> {
     ghost take_at = { λ array keys. taken tt (λ key. pos key) array keys };
 
     fn sorted_indexes(&self, alloc: Global, options: SortOptions) -> Result<Vec<u64>, AllocError> {
-        sorted_indexes(alloc, self, options)
+        sorted_indexes(alloc, self, options, &ByOrder)
     }
 
     #[inline(always)]
@@ -98,7 +98,7 @@ impl SortableArray for BooleanArray {
     ghost take_at = { λ array keys. taken tt (λ key. pos key) array keys };
 
     fn sorted_indexes(&self, alloc: Global, options: SortOptions) -> Result<Vec<u64>, AllocError> {
-        sorted_indexes(alloc, self, options)
+        sorted_indexes(alloc, self, options, &ByOrder)
     }
 
     #[inline(always)]
@@ -130,7 +130,7 @@ impl<K: ByteKind, O: Offset> SortableArray for ByteArray<K, O> {
     ghost take_at = { λ array keys. taken nothing_around (λ key. pos key) array keys };
 
     fn sorted_indexes(&self, alloc: Global, options: SortOptions) -> Result<Vec<u64>, AllocError> {
-        sorted_indexes(alloc, self, options)
+        sorted_indexes(alloc, self, options, &ByFirstBytes)
     }
 
     #[inline(always)]

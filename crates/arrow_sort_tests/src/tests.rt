@@ -163,3 +163,26 @@ fn rows_are_sorted_by_the_first_column_that_differs(rt: HostRuntime) {
     drop(ages);
     drop(names);
 }
+
+#[test]
+fn texts_that_begin_alike_are_sorted(rt: HostRuntime) {
+    let slots = [
+        Some("abcdé"),
+        Some("abcd"),
+        Some("abce"),
+        Some("abc"),
+        Some("zbcd"),
+        Some("ébcd"),
+        Some("abcdz"),
+    ];
+    let array = Utf8Array::<i32>::from(rt.alloc(), &slots).expect(&rt, "memory");
+    for (case, options, indexes) in [
+        ("ascending", ASCENDING, "[3 1 6 0 2 4 5]"),
+        ("descending", DESCENDING, "[5 4 2 0 6 1 3]"),
+    ] {
+        let keys = sort_to_indices(rt.alloc(), &array, options, None).expect(&rt, case);
+        assert_text::slots(keys.iter(), indexes).expect(&rt, case);
+        drop(keys);
+    }
+    drop(array);
+}

@@ -3,12 +3,14 @@ pub mod DigitPairs
 pub mod DigitTexts
 pub mod Digits
 pub mod Each
+pub mod FourBytes
 pub mod Joined
 pub mod Names
+pub mod Near
 pub mod NumberLemmas
-pub mod OneDigit
 pub mod Packing
 pub mod Pieces
 pub mod Places
 pub mod Printable
+pub mod ShortNumbers
 pub mod Texts

@@ -65,7 +65,7 @@ pub words_first : (line word rest : List ℕ) → pieces 32 line ≡ word ∷ pi
 unfolding words_of
 words_first line word rest e long = rw (e, lt-ltb 0 (length word) long) refl
 
-words_last : (line word : List ℕ) → pieces 32 line ≡ word ∷ [] → 0 < length word → words_of line ≡ word ∷ []
+pub words_last : (line word : List ℕ) → pieces 32 line ≡ word ∷ [] → 0 < length word → words_of line ≡ word ∷ []
 unfolding words_of
 words_last line word e long = rw (e, lt-ltb 0 (length word) long) refl
 

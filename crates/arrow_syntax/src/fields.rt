@@ -1,11 +1,11 @@
 //! The words that are numbers, kinds, types, or calls of an iterator.
-ghost use Rattle.std.specs.Prelude.{◌≡◌, ℕ, ℤ, IfSome, Some, option_map};
+ghost use Rattle.std.specs.Prelude.{◌≡◌, ℕ, ℤ, IfSome, Some, option_and_then, option_map};
 ghost use Rattle.arrow_types.specs.Types.{LogicalType, logical_type};
 ghost use Rattle.arrow_model.specs.declared.kind.Kind.{Kind};
 ghost use Rattle.arrow_model.specs.declared.item.Turn.{Turn};
 ghost use Rattle.arrow_syntax.specs.Fields.{parse_kind, parse_type, parse_skip, parse_turn};
 ghost use Rattle.arrow_syntax.specs.Readers.{first, with_rest};
-ghost use Rattle.arrow_syntax.specs.Words.{parse_usize, parse_i64, parse_i32, words_of};
+ghost use Rattle.arrow_syntax.specs.Words.{parse_usize, parse_i64, parse_i32, with_digit, words_of};
 
 use crate::numbers::{parse_i32, parse_i64, parse_usize, with_digit};
 use crate::readers::Word;
@@ -14,14 +14,25 @@ use arrow_model::{Kind, Turn};
 use arrow_types::data_type::DataType;
 use std::alloc::{AllocError, Global};
 
-/// Returns the number of a first word that is one digit, and the rest of the text. Most numbers are of one digit, and
+/// Returns the number that two digits write.
+#[inline(always)]
+fn two_digits(tens: u8, ones: u8) -> Option<usize>
+    ensures { result ≡ option_and_then (λ n. with_digit n ones) (with_digit 0 tens) }
+{
+    with_digit(with_digit(0, tens)?, ones)
+}
+
+/// Returns the number of a first word that is one or two digits, and the rest of the text. Most numbers are, and
 /// reading them so takes a third of the instructions.
 #[inline(always)]
-fn first_digit(text: &[u8]) -> Option<(usize, &[u8])>
+fn short_number(text: &[u8]) -> Option<(usize, &[u8])>
     ensures { IfSome result (λ x. first parse_usize (words_of text.now) ≡ Some (x.0, words_of x.1.now)) }
 {
     match text {
         [digit, b' ', rest @ ..] => Some((with_digit(0, *digit)?, rest)),
+        [digit] => Some((with_digit(0, *digit)?, &[])),
+        [tens, ones, b' ', rest @ ..] => Some((two_digits(*tens, *ones)?, rest)),
+        [tens, ones] => Some((two_digits(*tens, *ones)?, &[])),
         _ => None,
     }
 }
@@ -31,7 +42,7 @@ fn first_digit(text: &[u8]) -> Option<(usize, &[u8])>
 pub fn first_number(text: &[u8]) -> Option<(usize, &[u8])>
     ensures { option_map (with_rest (λ x. x)) result ≡ first parse_usize (words_of text.now) }
 {
-    if let Some(found) = first_digit(text) {
+    if let Some(found) = short_number(text) {
         return Some(found);
     }
     let (word, rest) = next_word(text)?;

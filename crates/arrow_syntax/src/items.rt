@@ -73,12 +73,14 @@ impl Word for Vec<u8> {
 }
 
 /// Returns the native item that a number writes.
+#[inline(always)]
 fn read_value(digits: &[u8]) -> Option<Item<i64>>
     ensures { option_map stored_item result ≡ option_map value (parse_i64 digits.now) }
 {
     Some(Item::Value(parse_i64(digits)?))
 }
 
+#[inline(always)]
 fn read_bytes(alloc: Global, digits: &[u8]) -> Result<Option<Item<i64>>, AllocError>
     ensures { ParsesAs result stored_item (option_map (bytes_item false) (hex_bytes digits.now)) }
 {
@@ -88,6 +90,7 @@ fn read_bytes(alloc: Global, digits: &[u8]) -> Result<Option<Item<i64>>, AllocEr
     }
 }
 
+#[inline(always)]
 fn read_text(alloc: Global, digits: &[u8]) -> Result<Option<Item<i64>>, AllocError>
     ensures { ParsesAs result stored_item (option_map (bytes_item true) (hex_text digits.now)) }
 {
@@ -98,6 +101,7 @@ fn read_text(alloc: Global, digits: &[u8]) -> Result<Option<Item<i64>>, AllocErr
 }
 
 /// Returns the item that a word writes, by its first letter.
+#[inline(always)]
 fn item_by_letter(alloc: Global, word: &[u8]) -> Result<Option<Item<i64>>, AllocError>
     ensures { ParsesAs result stored_item (item_by_letter word.now) }
 {
@@ -113,6 +117,7 @@ fn item_by_letter(alloc: Global, word: &[u8]) -> Result<Option<Item<i64>>, Alloc
 }
 
 /// Returns whether a word writes an item, by its first letter.
+#[inline(always)]
 fn is_item_by_letter(word: &[u8]) -> bool
     ensures { result ≡ is_some (item_by_letter word.now) }
 {
@@ -134,6 +139,7 @@ impl Word for Item<i64> {
 
     ghost parse = { parse_item };
 
+    #[inline(always)]
     fn of_word(alloc: Global, word: &[u8]) -> Result<Option<Self>, AllocError> {
         if word_eq(word, b"b0") {
             return Ok(Some(Item::Bit(false)));
@@ -144,6 +150,7 @@ impl Word for Item<i64> {
         item_by_letter(alloc, word)
     }
 
+    #[inline(always)]
     fn is_word(word: &[u8]) -> bool {
         word_eq(word, b"b0") || word_eq(word, b"b1") || is_item_by_letter(word)
     }
@@ -157,6 +164,7 @@ impl Word for Option<Item<i64>> {
 
     ghost parse = { parse_slot };
 
+    #[inline(always)]
     fn of_word(alloc: Global, word: &[u8]) -> Result<Option<Self>, AllocError> {
         if word_eq(word, b"_") {
             return Ok(Some(None));
@@ -167,6 +175,7 @@ impl Word for Option<Item<i64>> {
         }
     }
 
+    #[inline(always)]
     fn is_word(word: &[u8]) -> bool {
         word_eq(word, b"_") || <Item<i64>>::is_word(word)
     }

@@ -10,4 +10,5 @@ pub mod lines;
 pub mod numbers;
 pub mod print;
 pub mod readers;
+mod search;
 pub mod words;

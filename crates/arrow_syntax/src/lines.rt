@@ -5,13 +5,19 @@ ghost use Rattle.arrow_syntax.specs.Lines.{is_of_lines};
 ghost use Rattle.arrow_syntax.specs.Words.{SplitsAt, is_comment, is_passed_over, is_printable, line_feed, lines_of};
 ghost use Rattle.arrow_syntax.specs.Words.{space};
 
+use crate::search::among_first;
 use memchr::memchr;
 
-/// Returns the place of the first line feed.
+/// Returns the place of the first line feed. Most lines are short, so the first bytes are looked at with no call.
 #[inline(always)]
 fn line_end(text: &[u8]) -> Option<usize>
     ensures { result ≡ position (λ b. b == line_feed) text.now }
 {
+    if text.len() >= 32 {
+        if let Some(place) = among_first::<32>(b'\n', text) {
+            return Some(place);
+        }
+    }
     memchr(b'\n', text)
 }
 
@@ -44,12 +50,15 @@ fn is_blank(line: &[u8]) -> bool
     line.iter().all(|b| *b == b' ')
 }
 
-/// Returns whether a line has no reply: it is a comment, or nothing but spaces.
+/// Returns whether a line has no reply: it is a comment, or nothing but spaces. The first byte of most lines is enough.
 #[inline(always)]
 pub fn is_passed_over(line: &[u8]) -> bool
     ensures { result ≡ is_passed_over line.now }
 {
-    is_comment(line) || is_blank(line)
+    match line {
+        [first, ..] if b'#' < *first => false,
+        _ => is_comment(line) || is_blank(line),
+    }
 }
 
 /// Returns whether a line has only spaces and bytes that words may have.

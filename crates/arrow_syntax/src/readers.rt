@@ -100,6 +100,7 @@ impl<A: Word> Words for Last<A> {
 
     ghost reader = { only A.parse };
 
+    #[inline(always)]
     fn of_words(alloc: Global, words: &[u8]) -> Result<Option<Self>, AllocError> {
         let Some((word, rest)) = next_word(words) else {
             return Ok(None);
@@ -113,6 +114,7 @@ impl<A: Word> Words for Last<A> {
         }
     }
 
+    #[inline(always)]
     fn are_words(words: &[u8]) -> bool {
         match next_word(words) {
             Some((word, rest)) => end(rest).is_some() && A::is_word(word),
@@ -129,6 +131,7 @@ impl<A: Word, B: Words> Words for (A, B) {
 
     ghost reader = { A.parse ▸ B.reader };
 
+    #[inline(always)]
     fn of_words(alloc: Global, words: &[u8]) -> Result<Option<Self>, AllocError> {
         let Some((word, rest)) = next_word(words) else {
             return Ok(None);
@@ -142,6 +145,7 @@ impl<A: Word, B: Words> Words for (A, B) {
         }
     }
 
+    #[inline(always)]
     fn are_words(words: &[u8]) -> bool {
         match next_word(words) {
             Some((word, rest)) => A::is_word(word) && B::are_words(rest),

@@ -10,3 +10,5 @@ pub use Rattle.arrow_bytes.proofs.CallerLemmas as Bytes
 pub use Rattle.arrow_kernels.proofs.CallerLemmas as Kernels
 -- arrays that kernels make of others slot by slot
 pub use Rattle.arrow_compute.proofs.CallerLemmas as Compute
+-- groups of rows of several columns
+pub use Rattle.arrow_group.proofs.CallerLemmas as Group

@@ -74,11 +74,15 @@ pub use Rattle.arrow_compute.specs.Kleene
 pub use Rattle.arrow_integers.specs.NativeArithmetics
 pub use Rattle.arrow_arithmetics.specs.Arithmetic
 pub use Rattle.arrow_arithmetics.specs.Cast
+pub use Rattle.arrow_cast.specs.Decimals
 pub use Rattle.arrow_select.specs.Selects
 pub use Rattle.arrow_select.specs.Lengths
 -- sums, least and greatest values; groups of equal slots; orders of slots, and what sorts them
 pub use Rattle.arrow_aggregate.specs.Aggregates
+pub use Rattle.arrow_aggregate.specs.Groups
+pub use Rattle.arrow_aggregate.specs.GroupSums
 pub use Rattle.arrow_group.specs.Grouping
 pub use Rattle.arrow_group.specs.Hashes
+pub use Rattle.arrow_sort.specs.declared.options.SortOptions
 pub use Rattle.arrow_sort.specs.Sort
 pub use Rattle.arrow_sort.specs.Columns as SortColumns

@@ -16,6 +16,9 @@ pub mod cast {
         primitive_to_boolean, primitive_to_primitive,
     };
     pub use arrow_arithmetics::wrap_number::WrapNumber;
+    pub use arrow_cast::{
+        binary_to_primitive, primitive_to_binary, primitive_to_utf8, utf8_to_primitive,
+    };
     pub use arrow_kernels::{
         narrow_binary, narrow_items, narrow_utf8, widen_binary, widen_items, widen_utf8,
     };
@@ -40,12 +43,12 @@ pub mod filter {
 
 /// Groups of equal slots.
 pub mod group {
-    pub use arrow_group::{Groups, group_boolean, group_primitive};
+    pub use arrow_group::{Groups, group_binary, group_boolean, group_primitive, group_utf8};
 }
 
 /// Hashes of slots, which depend on the slot alone.
 pub mod hash {
-    pub use arrow_group::{hash_boolean, hash_primitive};
+    pub use arrow_group::{hash_binary, hash_boolean, hash_primitive, hash_utf8};
 }
 
 /// Sorts of one array and over several columns.
@@ -72,6 +75,11 @@ pub mod take {
     /// Slots of bytes at the keys of an array.
     pub mod binary {
         pub use arrow_select::take::take_binary as take;
+    }
+
+    /// Slots of bytes or of text at the keys of an array.
+    pub mod items {
+        pub use arrow_select::take::take_items as take;
     }
 
     /// Slots of text at the keys of an array.

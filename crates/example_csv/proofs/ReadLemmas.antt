@@ -392,3 +392,4 @@ module _ (text : List ℕ) (headers : List (List ℕ)) (rows : List (List (List 
   row-refused (error.Io e) (i, column, at, why) = absurd why
   row-refused (error.UnknownColumn name) (i, column, at, why) = absurd why
   row-refused (error.NotTruth name) (i, column, at, why) = absurd why
+  row-refused (error.NotNumbers name) (i, column, at, why) = absurd why

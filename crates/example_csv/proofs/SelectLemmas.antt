@@ -19,6 +19,7 @@ pub explains_then : {A B : Type 0} (f : A → Result B Reason) (r : Result A Rea
     Explains (and_then f r) e
 explains_then f r (error.UnknownColumn name) h = rw h refl
 explains_then f r (error.NotTruth name) h = rw h refl
+explains_then f r (error.NotNumbers name) h = rw h refl
 explains_then f r (error.Arrow e) h = h
 explains_then f r error.OutOfMemory h = h
 explains_then f r (error.Csv e) h = h

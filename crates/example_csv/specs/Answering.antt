@@ -1,12 +1,12 @@
 -- What the program answers.
-use Rattle.std.specs.Prelude.{◌≡◌, ◌⊎◌, ℕ, Bool, true, List, if◌then◌else◌, Ok}
+use Rattle.std.specs.Prelude.{◌≡◌, ◌⊎◌, ℕ, Bool, true, List, if◌then◌else◌}
 use Rattle.std.specs.Bool.{MatchBool}
 use Rattle.example_record_batch.specs.Batches.{Batch}
 use Rattle.example_csv.specs.declared.error.Error.{Error}
 use Rattle.example_csv.specs.declared.options.Options.{Options}
 use Rattle.example_csv.specs.Aligned.{CannotWrite, aligned_text}
 use Rattle.example_csv.specs.Reading.{IsRefused, IsTableOfText}
-use Rattle.example_csv.specs.Selecting.{Explains, selected}
+use Rattle.example_csv.specs.Steps.{CannotSelect, IsSelected}
 use Rattle.example_csv.specs.Summary.{CannotSummarize, IsSummary}
 use Rattle.example_csv.specs.Text.{CannotWriteCsv, csv_text}
 
@@ -16,8 +16,8 @@ table_text options table = if options.table then aligned_text table else csv_tex
 
 -- the table that is printed of another: the rows and columns that are selected, or a summary of them
 abbrev pub IsAskedOf : Options → Batch → Batch → Type 0
-IsAskedOf options table asked = (kept : Batch) × (selected options table ≡ Ok kept)
-    × MatchBool options.summary (IsSummary kept asked) (asked ≡ kept)
+IsAskedOf options table asked = (shown : Batch) × IsSelected options table shown
+    × MatchBool options.summary (IsSummary shown asked) (asked ≡ shown)
 
 -- the table that is printed for a CSV text
 abbrev pub IsAsked : Options → List ℕ → Batch → Type 0
@@ -26,7 +26,7 @@ IsAsked options text asked = (table : Batch) × IsTableOfText text table × IsAs
 -- why there is no table to print: the text is refused, nothing is selected, or the summary cannot be made
 abbrev pub CannotAsk : Options → List ℕ → Error → Type 0
 CannotAsk options text e = IsRefused text e
-    ⊎ ((table : Batch) × IsTableOfText text table × Explains (selected options table) e)
+    ⊎ ((table : Batch) × IsTableOfText text table × CannotSelect options table e)
     ⊎ ((options.summary ≡ true) × CannotSummarize e)
 
 -- why a table is not written

@@ -2,7 +2,10 @@ pub mod Aligned
 pub mod Answering
 pub mod Builders
 pub mod Fields
+pub mod Grouping
 pub mod Reading
 pub mod Selecting
+pub mod Sorting
+pub mod Steps
 pub mod Summary
 pub mod Text

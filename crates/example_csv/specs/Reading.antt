@@ -90,6 +90,7 @@ IsRefused text error.OutOfMemory = ⊤
 IsRefused text (error.Io e) = ⊥
 IsRefused text (error.UnknownColumn name) = ⊥
 IsRefused text (error.NotTruth name) = ⊥
+IsRefused text (error.NotNumbers name) = ⊥
 
 -- a growing column has the name and the type of a header field, and the cells that the fields below it read as
 pub record IsBuiltOf (header : List ℕ) (fields : List (List ℕ)) (column : NamedBuilder) : Type 0 where

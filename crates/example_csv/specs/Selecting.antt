@@ -9,22 +9,32 @@ use Rattle.example_record_batch.specs.declared.any.AnyArray.{AnyArray}
 use Rattle.example_record_batch.specs.declared.any.AnyArray.TheVariants.{Boolean}
 use Rattle.example_record_batch.specs.Batches.{Batch, Named, batch_cut, batch_filtered, column_of}
 use Rattle.example_csv.specs.declared.error.Error.{Error}
-use Rattle.example_csv.specs.declared.error.Error.TheVariants.{Arrow, NotTruth, OutOfMemory, UnknownColumn}
+use Rattle.example_csv.specs.declared.error.Error.TheVariants.{Arrow, NotNumbers, NotTruth, OutOfMemory, UnknownColumn}
 use Rattle.example_csv.specs.declared.options.Options.{Options}
 
 -- the texts of strings
 abbrev pub strings_bytes : Vec (String Global) Global → List (List ℕ)
 strings_bytes strings = map string_bytes strings.items
 
--- why nothing is selected: the table has no column of this name, or not of booleans
+-- why nothing is selected: the table has no column of this name, or not of booleans, or not of numbers
 pub data Reason : Type 0 where
   unknown : List ℕ → Reason
   not_truth : List ℕ → Reason
+  not_numbers : List ℕ → Reason
 
 -- what is made of a value, if there is one
 abbrev pub and_then : {A B : Type 0} → (A → Result B Reason) → Result A Reason → Result B Reason
 and_then f (Ok x) = f x
 and_then f (Err reason) = Err reason
+
+-- a column that is found, or else the reason that no column has this name
+abbrev pub found_array : List ℕ → Option AnyArray → Result AnyArray Reason
+found_array name (Some array) = Ok array
+found_array name None = Err (unknown name)
+
+-- the column of this name
+abbrev pub named_array : Batch → List ℕ → Result AnyArray Reason
+named_array batch name = found_array name (column_of batch name)
 
 -- the column of booleans of this name
 abbrev pub truth_column : List ℕ → Option AnyArray → Result (Column Bool) Reason
@@ -65,16 +75,16 @@ first_rows (Some n) batch = batch_cut batch 0 (min batch.rows n)
 abbrev pub kept_rows : Options → Batch → Result Batch Reason
 kept_rows options batch = rows_where (option_map string_bytes options.filter) batch
 
--- the rows and columns that options select
-abbrev pub selected : Options → Batch → Result Batch Reason
-selected options batch =
-    and_then (λ kept. Ok (first_rows options.head kept))
-    (and_then (in_columns (option_map strings_bytes options.columns)) (kept_rows options batch))
+-- the columns that options name, and at most the first rows
+abbrev pub shown_part : Options → Batch → Result Batch Reason
+shown_part options batch =
+    and_then (λ shown. Ok (first_rows options.head shown)) (in_columns (option_map strings_bytes options.columns) batch)
 
--- an error is the reason why nothing is selected, or out of memory
+-- an error is the reason why nothing is made, or out of memory
 abbrev pub Explains : {A : Type 0} → Result A Reason → Error → Type 0
 Explains r (UnknownColumn name) = r ≡ Err (unknown (string_bytes name))
 Explains r (NotTruth name) = r ≡ Err (not_truth (string_bytes name))
+Explains r (NotNumbers name) = r ≡ Err (not_numbers (string_bytes name))
 Explains r (Arrow e) = refusal e ≡ out_of_memory
 Explains r OutOfMemory = ⊤
 Explains r _ = ⊥

@@ -32,6 +32,8 @@ pub enum Error {
     UnknownColumn(String),
     /// The column of this name does not hold booleans.
     NotTruth(String),
+    /// The column of this name does not hold numbers.
+    NotNumbers(String),
 }
 
 impl Error {
@@ -91,6 +93,7 @@ impl fmt::Display for Error {
             }
             Error::UnknownColumn(name) => write!(f, "no column '{name}'"),
             Error::NotTruth(name) => write!(f, "column '{name}' does not hold booleans"),
+            Error::NotNumbers(name) => write!(f, "column '{name}' does not hold numbers"),
         }
     }
 }

@@ -3,10 +3,13 @@ ghost use Rattle.std.specs.Prelude.{◌≡◌, Some, None, Ok, IfOk, IfErr, OnOk
 ghost use Rattle.std.specs.List.{filter_map};
 ghost use Rattle.example_record_batch.specs.Batches.{HaveRows, column_of, named};
 ghost use Rattle.example_csv.specs.Selecting.{Explains, column_named, first_rows, in_columns, rows_where};
-ghost use Rattle.example_csv.specs.Selecting.{selected, strings_bytes, truth_column, unknown_name};
+ghost use Rattle.example_csv.specs.Selecting.{strings_bytes, truth_column, unknown_name};
+ghost use Rattle.example_csv.specs.Steps.{CannotSelect, IsSelected};
 
 use crate::error::Error;
+use crate::group::group_rows;
 use crate::options::Options;
+use crate::sort::sort_rows;
 use dethrugn::array::BooleanArray;
 use example_record_batch::any::AnyArray;
 use example_record_batch::batch::{Field, RecordBatch};
@@ -98,17 +101,20 @@ fn first_rows(mut table: RecordBatch, head: Option<usize>) -> RecordBatch
     table
 }
 
-/// Returns the rows and columns of a table that `options` select. The rows are filtered first, so
-/// the filter may be a column that is not kept.
+/// Returns the rows and columns of a table that `options` select: the filter keeps rows, these are grouped and sorted,
+/// the columns are chosen, and then the first rows. So the filter and the sort may be by a column that is not kept.
 ///
 /// # Errors
-/// `UnknownColumn` with the name of the filter or the first other name that no column has,
-/// `NotTruth` if the filter does not hold booleans, `OutOfMemory` if an allocation fails.
+/// `UnknownColumn` with the first name that no column has, in the order of these steps, `NotTruth` if the filter does
+/// not hold booleans, the errors of [`group_rows`], `OutOfMemory` if an allocation fails.
+#[tactic(auto, unfolding(crate::specs::Steps::CannotSelect))]
 pub fn select(alloc: Global, table: RecordBatch, options: &Options) -> Result<RecordBatch, Error>
-    ensures ok { IfOk result (λ kept. selected options.now table ≡ Ok kept) }
-    ensures err { IfErr result (λ e. Explains (selected options.now table) e) }
+    ensures ok { IfOk result (IsSelected options.now table) }
+    ensures err { IfErr result (CannotSelect options.now table) }
 {
     let rows = filter_rows(alloc, table, &options.filter)?;
-    let columns = select_columns(alloc, rows, &options.columns)?;
+    let groups = group_rows(alloc, rows, &options.group)?;
+    let sorted = sort_rows(alloc, groups, &options.sort)?;
+    let columns = select_columns(alloc, sorted, &options.columns)?;
     Ok(first_rows(columns, options.head))
 }

@@ -90,18 +90,18 @@ filtered-rows fields kept filter h e =
     filter column)) (λ column same. slot_count-filtered column.array filter (sym same)) (map named fields)
     (named-rows fields (length filter.rows) h))))
 
--- one column more is filtered
-pub filter-more : (filter : Column Bool) (fields kept after : List Field) (i : ℕ) (field new : Field)
+-- one column more is made
+pub made-more : (make : Named → Named) (fields kept after : List Field) (i : ℕ) (field new : Field)
     → i < length fields → field ≡ get_or fields i field
-    → map named kept ≡ map (named_filtered filter) (map named (take i fields))
-    → after ≡ kept ++ new ∷ [] → named new ≡ named_filtered filter (named field)
-    → map named after ≡ map (named_filtered filter) (map named (take (i + 1) fields))
-filter-more filter fields kept after i field new low is before push same =
+    → map named kept ≡ map make (map named (take i fields))
+    → after ≡ kept ++ new ∷ [] → named new ≡ make (named field)
+    → map named after ≡ map make (map named (take (i + 1) fields))
+made-more make fields kept after i field new low is before push same =
     ap (map named) push ∙ map-append named kept (new ∷ []) ∙ (λ j. before j ++ same j ∷ [])
-    ∙ sym (ap (λ xs. map (named_filtered filter) (map named xs)) (take_more fields i field low
+    ∙ sym (ap (λ xs. map make (map named xs)) (take_more fields i field low
     ∙ ap (λ x. take i fields ++ x ∷ []) (sym is))
-    ∙ ap (map (named_filtered filter)) (map-append named (take i fields) (field ∷ []))
-    ∙ map-append (named_filtered filter) (map named (take i fields)) (named field ∷ []))
+    ∙ ap (map make) (map-append named (take i fields) (field ∷ []))
+    ∙ map-append make (map named (take i fields)) (named field ∷ []))
 
 -- the column that is found has the rows of the others
 pub found-rows : (fields : List Field) (rows : ℕ) (test : Field → Bool) (field : Field) → HaveRows fields rows

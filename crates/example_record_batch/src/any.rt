@@ -1,12 +1,15 @@
 //! An array of one of four kinds.
-ghost use Rattle.std.specs.Prelude.{◌≡◌, ◌<◌, length, not, slice_get, Some, IfOk};
+ghost use Rattle.std.specs.Prelude.{◌≡◌, ◌<◌, length, not, slice_get, None, Some, IfOk};
 ghost use Rattle.dethrugn.specs.Failures.{OnlyOutOfMemory};
 ghost use Rattle.example_record_batch.specs.AnyArrays.{FitsAnyCut, any_cut, any_filtered, array_kind, nulls_of};
 ghost use Rattle.example_record_batch.specs.AnyArrays.{slot_count, array_type, validity_of};
+ghost use Rattle.dethrugn.specs.Sort.{HoldsSorted, PickOnce};
 ghost use Rattle.dethrugn.specs.Types.{IsRightType, logical_type};
+ghost use Rattle.example_record_batch.specs.Taking.{any_order, any_taken};
 
-use dethrugn::array::{BinaryArray, BooleanArray, PrimitiveArray, Utf8Array};
+use dethrugn::array::{BinaryArray, BooleanArray, PrimitiveArray, UInt64Array, Utf8Array};
 use dethrugn::compute::filter::{filter_binary, filter_boolean, filter_primitive, filter_utf8};
+use dethrugn::compute::sort::{SortOptions, SortableArray, sort_to_indices};
 use dethrugn::datatypes;
 use dethrugn::error::Error;
 use std::alloc::Global;
@@ -120,6 +123,43 @@ impl AnyArray {
             AnyArray::Utf8(array) => AnyArray::Utf8(filter_utf8(alloc, array, filter)?),
         })
     }
+
+    /// Returns the slots at `indexes`, each of which is the index of a slot and there at most once.
+    ///
+    /// # Errors
+    /// `OutOfMemory` if an allocation fails.
+    pub fn take(&self, alloc: Global, indexes: &[u64]) -> Result<Self, Error>
+        requires { PickOnce (slot_count self.now) indexes.now }
+        ensures ok { IfOk result (λ made. made ≡ any_taken self.now indexes.now) }
+        ensures err { OnlyOutOfMemory result }
+    {
+        Ok(match self {
+            AnyArray::Int64(array) => AnyArray::Int64(array.take_indexes(alloc, indexes)?),
+            AnyArray::Boolean(array) => AnyArray::Boolean(array.take_indexes(alloc, indexes)?),
+            AnyArray::Binary(array) => AnyArray::Binary(array.take_indexes(alloc, indexes)?),
+            AnyArray::Utf8(array) => AnyArray::Utf8(array.take_indexes(alloc, indexes)?),
+        })
+    }
+
+    /// Returns the indexes that sort the slots: every index once, in the order of the slots there, and equal slots in
+    /// the order of their indexes. Numbers have their own order, `false` comes before `true`, and bytes and text are
+    /// ordered by their bytes.
+    ///
+    /// # Errors
+    /// `OutOfMemory` if an allocation fails.
+    pub fn sort_to_indices(&self, alloc: Global, options: SortOptions) -> Result<UInt64Array, Error>
+        ensures ok { IfOk result (HoldsSorted
+            (any_order self.now options.descending options.nulls_first) (slot_count self.now) None) }
+        ensures err { OnlyOutOfMemory result }
+    {
+        match self {
+            AnyArray::Int64(array) => sort_to_indices(alloc, array, options, None),
+            AnyArray::Boolean(array) => sort_to_indices(alloc, array, options, None),
+            AnyArray::Binary(array) => sort_to_indices(alloc, array, options, None),
+            AnyArray::Utf8(array) => sort_to_indices(alloc, array, options, None),
+        }
+    }
 }
 
 mod concat;
+pub mod group;

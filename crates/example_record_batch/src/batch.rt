@@ -7,7 +7,9 @@ ghost use Rattle.dethrugn.specs.Types.{refusal};
 ghost use Rattle.example_record_batch.specs.AnyArrays.{FitsAnyCut, slot_count};
 ghost use Rattle.example_record_batch.specs.Batches.{HaveRows, IsBatch, batch_cut, batch_filtered, batch_of};
 ghost use Rattle.example_record_batch.specs.Batches.{column_of, field_cut, named, named_filtered, unequal_columns};
+ghost use Rattle.dethrugn.specs.Sort.{PickOnce};
 ghost use Rattle.example_record_batch.specs.Schemas.{schema_of};
+ghost use Rattle.example_record_batch.specs.Taking.{batch_taken, named_taken};
 
 use crate::any::AnyArray;
 use crate::schema::Schema;
@@ -77,6 +79,37 @@ fn filter_all(alloc: Global, fields: &[Field], filter: &BooleanArray) -> Result<
         kept.push(filter_field(alloc, field, filter)?)?;
     }
     Ok(kept)
+}
+
+/// Returns the slots of a column at `indexes`, under the same name.
+fn take_field(alloc: Global, field: &Field, indexes: &[u64]) -> Result<Field, Error>
+    requires { PickOnce (slot_count field.now.array) indexes.now }
+    ensures ok { IfOk result (λ made. named made ≡ named_taken indexes.now (named field.now)) }
+    ensures err { OnlyOutOfMemory result }
+{
+    let array = field.array.take(alloc, indexes)?;
+    let name = field.name.clone()?;
+    Ok(Field { name, array })
+}
+
+/// Returns the slots of each column of `len` slots at `indexes`, under the same names.
+fn take_all(
+    alloc: Global,
+    fields: &[Field],
+    len: usize,
+    indexes: &[u64],
+) -> Result<Vec<Field>, Error>
+    requires rows { HaveRows fields.now len }
+    requires once { PickOnce len indexes.now }
+    ensures ok { IfOk result (λ made. map named made.items
+        ≡ map (named_taken indexes.now) (map named fields.now)) }
+    ensures err { OnlyOutOfMemory result }
+{
+    let mut made = Vec::with_capacity(alloc, fields.len())?;
+    for field in fields {
+        made.push(take_field(alloc, field, indexes)?)?;
+    }
+    Ok(made)
 }
 
 /// Returns the first field with this name.
@@ -169,6 +202,22 @@ impl RecordBatch {
         Ok(RecordBatch {
             fields,
             len: true_count(filter),
+        })
+    }
+
+    /// Returns the rows at `indexes`, each of which is the index of a row and there at most once.
+    ///
+    /// # Errors
+    /// `OutOfMemory` if an allocation fails.
+    pub fn take(&self, alloc: Global, indexes: &[u64]) -> Result<Self, Error>
+        requires { PickOnce self.now.rows indexes.now }
+        ensures ok { IfOk result (λ made. made ≡ batch_taken self.now indexes.now) }
+        ensures err { OnlyOutOfMemory result }
+    {
+        let fields = take_all(alloc, self.fields.as_slice(), self.len, indexes)?;
+        Ok(RecordBatch {
+            fields,
+            len: indexes.len(),
         })
     }
 }

@@ -21,7 +21,7 @@ pub(crate) trait Folder<T: Copy> {
 
 /// Returns whether the bit at `i` is set.
 #[inline(always)]
-fn is_set(word: u64, i: usize) -> bool
+pub(crate) fn is_set(word: u64, i: usize) -> bool
     requires { i < 64 }
     ensures { result ≡ (bit_at word i == 1) }
 {

@@ -3,12 +3,13 @@ ghost use Rattle.std.specs.Prelude.{◌≡◌, ◌+ℤ◌, ◌+◌, ◌||◌, �
 ghost use Rattle.std.specs.Prelude.{length, map};
 ghost use Rattle.std.specs.Prelude.{if◌then◌else◌, option_map, pos, slice_get, unsigned_abs};
 ghost use Rattle.arrow_aggregate.specs.Groups.{group_values};
-ghost use Rattle.arrow_aggregate.specs.GroupSums.{GroupsRefused, HasGroupSums, ShowsSums, SlotOverflow};
+ghost use Rattle.arrow_aggregate.specs.GroupSums.{GroupsRefused, HasGroupSums, ShowsGroupSums, ShowsSums, SlotOverflow};
 ghost use Rattle.arrow_aggregate.specs.GroupSums.{SlotsRefused, SumsGroups, sum_slot_of};
 ghost use Rattle.arrow_aggregate.specs.Sums.{number_or_zero};
 
-use crate::aggregate::groups::array_like;
+use crate::aggregate::made::numbers_like;
 use crate::aggregate::sum::{join_sum, split};
+use crate::aggregate::whole_sums::{whole_slots, whole_sums};
 use arrow_integers::NativeArithmetics;
 use arrow_primitive::PrimitiveArray;
 use arrow_types::error::Error;
@@ -16,7 +17,7 @@ use std::alloc::Global;
 
 /// Returns the number of a valid slot, zero of a null one.
 #[inline(always)]
-fn valid_number<T: NativeArithmetics>(value: T, is_valid: bool) -> i128
+pub(crate) fn valid_number<T: NativeArithmetics>(value: T, is_valid: bool) -> i128
     ensures { result ≡ number_or_zero T.number (if is_valid then Some value else None) }
 {
     let number = value.to_i128();
@@ -25,7 +26,7 @@ fn valid_number<T: NativeArithmetics>(value: T, is_valid: bool) -> i128
 
 /// Returns whether either is true.
 #[inline(always)]
-fn either(lhs: bool, rhs: bool) -> bool
+pub(crate) fn either(lhs: bool, rhs: bool) -> bool
     ensures { result ≡ (lhs || rhs) }
 {
     lhs || rhs
@@ -96,6 +97,56 @@ fn sum_slots<T: NativeArithmetics>(
     Ok(slots)
 }
 
+/// Returns the slot of the sum of each group, from sums of high and low parts.
+#[cold]
+#[inline(never)]
+fn split_slots<T: NativeArithmetics>(
+    alloc: Global,
+    array: &PrimitiveArray<T>,
+    indices: &[usize],
+    groups: usize,
+) -> Result<Vec<Option<T>>, Error>
+    requires rows { length indices.now ≡ length array.now.rows }
+    requires within { All (λ g. g < groups) indices.now }
+    ensures count { IfOk result (λ slots. length slots.items ≡ groups) }
+    ensures ok { IfOk result (λ slots. ShowsGroupSums T.number array.now indices.now slots.items) }
+    ensures err { IfErr result (GroupsRefused T.fits groups (λ g.
+        map T.number (group_values array.now indices.now g))) }
+{
+    let mut sums = Vec::new(alloc);
+    sums.resize(groups, ((0i128, 0u128), false))?;
+    sum_rows(array, indices, sums.as_mut_slice());
+    let slots = sum_slots(alloc, sums.as_slice());
+    drop(sums);
+    slots
+}
+
+/// Returns the slot of the sum of each group. Each way is exact, the first that applies is the faster.
+fn group_slots<T: NativeArithmetics>(
+    alloc: Global,
+    array: &PrimitiveArray<T>,
+    indices: &[usize],
+    groups: usize,
+) -> Result<Vec<Option<T>>, Error>
+    requires rows { length indices.now ≡ length array.now.rows }
+    requires within { All (λ g. g < groups) indices.now }
+    ensures count { IfOk result (λ slots. length slots.items ≡ groups) }
+    ensures ok { IfOk result (λ slots. ShowsGroupSums T.number array.now indices.now slots.items) }
+    ensures err { IfErr result (GroupsRefused T.fits groups (λ g.
+        map T.number (group_values array.now indices.now g))) }
+{
+    let mut sums = Vec::new(alloc);
+    sums.resize(groups, (0i128, false))?;
+    let is_whole = whole_sums(array, indices, sums.as_mut_slice());
+    if !is_whole {
+        drop(sums);
+        return split_slots(alloc, array, indices, groups);
+    }
+    let slots = whole_slots(alloc, sums.as_slice());
+    drop(sums);
+    slots
+}
+
 /// Returns the sum of the valid slots of each group, null for a group that has none. Only whole sums
 /// have to fit, and not those on the way to them. There are `groups` groups, and `indices` has the
 /// number of the group of each slot. The result has the data type of the array.
@@ -115,15 +166,10 @@ pub fn group_sum<T: NativeArithmetics>(
     ensures err { IfErr result (GroupsRefused T.fits groups (λ g.
         map T.number (group_values array.now indices.now g))) }
 {
-    let mut sums = Vec::new(alloc);
-    sums.resize(groups, ((0i128, 0u128), false))?;
-    sum_rows(array, indices, sums.as_mut_slice());
-    let slots = sum_slots(alloc, sums.as_slice());
-    drop(sums);
-    match slots {
+    match group_slots(alloc, array, indices, groups) {
         Err(error) => Err(error),
         Ok(slots) => {
-            let made = array_like(alloc, array, slots.as_slice());
+            let made = numbers_like(alloc, array, slots.as_slice());
             drop(slots);
             made
         }

@@ -1,143 +1,198 @@
 //! Aggregates by group, given the number of the group of each slot.
-ghost use Rattle.std.specs.Prelude.{◌≡◌, ◌<◌, ◌^◌, All, IfOk, length};
+ghost use Rattle.std.specs.Prelude.{◌≡◌, ◌<◌, ◌^◌, ℕ, All, IfOk, None, Some, length, option_map, slice_get};
+ghost use Rattle.std.specs.Ordering.{bool_cmp};
 ghost use Rattle.arrow_types.specs.Failures.{OnlyOutOfMemory};
-ghost use Rattle.arrow_column.specs.Column.{slots_of};
-ghost use Rattle.arrow_aggregate.specs.Groups.{CountsGroups, FoldsGroups, GroupSlots, GroupStates};
-ghost use Rattle.arrow_aggregate.specs.Groups.{IsGreatestSlot, IsLeastSlot, group_values};
+ghost use Rattle.arrow_aggregate.specs.Aggregates.{better_slot, text_cmp};
+ghost use Rattle.arrow_aggregate.specs.Groups.{BestOfGroups, CountsGroups, GroupStates, IsBestSlot, IsGreatestSlot, IsLeastSlot};
+ghost use Rattle.arrow_aggregate.specs.Groups.{AggregatesGroups, SeenBest, as_seen, count_step};
 
-use crate::aggregate::fold::Folder;
+use crate::aggregate::best::better;
+use crate::aggregate::made::{booleans_like, items_like, numbers_like};
+use crate::aggregate::ordered::OrderedArray;
+use arrow_binary::BinaryArray;
+use arrow_boolean::BooleanArray;
+use arrow_column::Array;
 use arrow_primitive::PrimitiveArray;
 use arrow_types::error::Error;
 use arrow_types::native_type::NativeType;
-use std::alloc::Global;
+use arrow_types::offset::Offset;
+use arrow_utf8::Utf8Array;
+use std::alloc::{AllocError, Global};
 
-/// Counts values.
-struct Counter;
-
-impl<T: NativeType> Folder<T> for Counter {
-    ghost use Rattle.arrow_aggregate.specs.Groups.{count_step};
-
-    type State = u64;
-
-    ghost step = { count_step };
-
-    #[inline(always)]
-    fn step(state: u64, _value: T) -> u64 {
-        state.wrapping_add(1)
-    }
-}
-
-/// Keeps the least value, if there is one.
-struct Least;
-
-impl<T: NativeType + Ord> Folder<T> for Least {
-    ghost use Rattle.std.specs.Prelude.{Some};
-    ghost use Rattle.arrow_aggregate.specs.Aggregates.{lesser_slot};
-
-    type State = Option<T>;
-
-    ghost step = { λ state value. lesser_slot T.cmp state (Some value) };
-
-    #[inline(always)]
-    fn step(state: Option<T>, value: T) -> Option<T> {
-        match state {
-            Some(least) if least <= value => Some(least),
-            _ => Some(value),
-        }
-    }
-}
-
-/// Keeps the greatest value, if there is one.
-struct Greatest;
-
-impl<T: NativeType + Ord> Folder<T> for Greatest {
-    ghost use Rattle.std.specs.Prelude.{Some};
-    ghost use Rattle.arrow_aggregate.specs.Aggregates.{greater_slot};
-
-    type State = Option<T>;
-
-    ghost step = { λ state value. greater_slot T.cmp state (Some value) };
-
-    #[inline(always)]
-    fn step(state: Option<T>, value: T) -> Option<T> {
-        match state {
-            Some(greatest) if value < greatest => Some(greatest),
-            _ => Some(value),
-        }
-    }
-}
-
-/// Folds the values of the valid slots, each into the state of its group.
-fn fold_rows<F: Folder<T>, T: NativeType>(
-    array: &PrimitiveArray<T>,
-    indices: &[usize],
-    states: &mut [F::State],
-)
-    requires rows { length indices.now ≡ length array.now.rows }
-    requires within { All (λ g. g < length states.old) indices.now }
-    ensures folded { FoldsGroups F.step array.now indices.now states.old states.new }
+/// Counts the valid slots of each group.
+fn count_rows<A: Array>(array: &A, indices: &[usize], counts: &mut [u64])
+    requires rows { length indices.now ≡ length (A.column array.now).rows }
+    requires within { All (λ g. g < length counts.old) indices.now }
+    requires zero { (g : ℕ) → g < length counts.old → slice_get counts.old g ≡ Some 0 }
+    ensures folded { GroupStates count_step 0 (A.column array.now) indices.now (length counts.old) counts.new }
     ensures few { length indices.now < 2 ^ 64 }
 {
     for i in 0..indices.len() {
-        let (group, value) = (indices[i], array.value(i));
-        let state = states[group];
-        let next = F::step(state, value);
-        states[group] = if array.is_valid(i) { next } else { state };
+        let group = indices[i];
+        let count = counts[group];
+        counts[group] = if array.is_valid(i) {
+            count.wrapping_add(1)
+        } else {
+            count
+        };
     }
 }
 
-/// Returns the state of each group.
-fn fold_groups<F: Folder<T>, T: NativeType>(
+/// Returns the number of valid slots of each group.
+fn counts_of_groups<A: Array>(
     alloc: Global,
-    array: &PrimitiveArray<T>,
+    array: &A,
     indices: &[usize],
     groups: usize,
-    start: F::State,
-) -> Result<Vec<F::State>, Error>
-    requires rows { length indices.now ≡ length array.now.rows }
+) -> Result<Vec<u64>, Error>
+    requires rows { length indices.now ≡ length (A.column array.now).rows }
     requires within { All (λ g. g < groups) indices.now }
-    ensures count { IfOk result (λ states. length states.items ≡ groups) }
+    ensures count { IfOk result (λ counts. length counts.items ≡ groups) }
     ensures few { IfOk result (λ _. length indices.now < 2 ^ 64) }
-    ensures ok { IfOk result (λ states. GroupStates F.step start array.now indices.now groups states.items) }
+    ensures ok { IfOk result (λ counts.
+        GroupStates count_step 0 (A.column array.now) indices.now groups counts.items) }
     ensures err { OnlyOutOfMemory result }
 {
-    let mut states = Vec::new(alloc);
-    states.resize(groups, start)?;
-    fold_rows::<F, T>(array, indices, states.as_mut_slice());
-    Ok(states)
+    let mut counts = Vec::new(alloc);
+    counts.resize(groups, 0)?;
+    count_rows(array, indices, counts.as_mut_slice());
+    Ok(counts)
 }
 
-/// Returns the array of slots, of the data type of another array.
-pub(crate) fn array_like<T: NativeType>(
-    alloc: Global,
-    array: &PrimitiveArray<T>,
-    slots: &[Option<T>],
-) -> Result<PrimitiveArray<T>, Error>
-    ensures data_type { IfOk result (λ made. made.data_type ≡ array.now.data_type) }
-    ensures slots { IfOk result (λ made. slots_of made ≡ slots.now) }
-    ensures err { OnlyOutOfMemory result }
-{
-    let data_type = array.data_type().clone()?;
-    Ok(PrimitiveArray::from(alloc, slots)?.to(data_type))
-}
-
-/// Returns the number of valid slots of each group. There are `groups` groups, and `indices` has the
-/// number of the group of each slot. The result has no mask.
+/// Returns the number of valid slots of each group of an array of any kind. There are `groups` groups,
+/// and `indices` has the number of the group of each slot. The result has no mask.
 ///
 /// # Errors
 /// `OutOfMemory` if an allocation fails.
-pub fn group_count<T: NativeType>(
+pub fn group_count<A: Array>(
+    alloc: Global,
+    array: &A,
+    indices: &[usize],
+    groups: usize,
+) -> Result<PrimitiveArray<u64>, Error>
+    requires rows { length indices.now ≡ length (A.column array.now).rows }
+    requires within { All (λ g. g < groups) indices.now }
+    ensures ok { IfOk result (CountsGroups (A.column array.now) indices.now groups) }
+    ensures err { OnlyOutOfMemory result }
+{
+    PrimitiveArray::from_vec(counts_of_groups(alloc, array, indices, groups)?)
+}
+
+/// Keeps the best value of the valid slots of each group.
+fn best_rows<'a, A: OrderedArray<'a>>(
+    array: &'a A,
+    indices: &[usize],
+    best: &mut [Option<A::Value>],
+    greatest: bool,
+)
+    requires rows { length indices.now ≡ length (A.column array.now).rows }
+    requires within { All (λ g. g < length best.old) indices.now }
+    requires none { (g : ℕ) → g < length best.old → slice_get best.old g ≡ Some None }
+    ensures { BestOfGroups greatest A.order (A.column array.entry.now) indices.now (length best.old)
+        (as_seen A.seen best.new) }
+{
+    for i in 0..indices.len() {
+        let (group, value) = (indices[i], array.value(i));
+        let state = best[group];
+        let next = better::<A>(state, value, greatest);
+        best[group] = if array.is_valid(i) { next } else { state };
+    }
+}
+
+/// Returns the best value of the valid slots of each group, the greatest or the least.
+fn best_of_groups<'a, A: OrderedArray<'a>>(
+    alloc: Global,
+    array: &'a A,
+    indices: &[usize],
+    groups: usize,
+    greatest: bool,
+) -> Result<Vec<Option<A::Value>>, AllocError>
+    requires rows { length indices.now ≡ length (A.column array.now).rows }
+    requires within { All (λ g. g < groups) indices.now }
+    ensures count { IfOk result (λ best. length best.items ≡ groups) }
+    ensures ok { IfOk result (λ best.
+        SeenBest greatest A.order A.seen (A.column array.entry.now) indices.now groups best.items) }
+{
+    let mut best = Vec::new(alloc);
+    best.resize(groups, None)?;
+    best_rows(array, indices, best.as_mut_slice(), greatest);
+    Ok(best)
+}
+
+/// Returns the array of the best number of each group, null for a group that has no valid slot.
+fn best_numbers<T: NativeType + Ord>(
     alloc: Global,
     array: &PrimitiveArray<T>,
     indices: &[usize],
     groups: usize,
-) -> Result<PrimitiveArray<u64>, Error>
+    greatest: bool,
+) -> Result<PrimitiveArray<T>, Error>
     requires rows { length indices.now ≡ length array.now.rows }
     requires within { All (λ g. g < groups) indices.now }
-    ensures ok { IfOk result (CountsGroups array.now indices.now groups) }
+    ensures ok { IfOk result (AggregatesGroups (IsBestSlot greatest T.cmp) array.now indices.now groups) }
     ensures err { OnlyOutOfMemory result }
 {
-    PrimitiveArray::from_vec(fold_groups::<Counter, T>(alloc, array, indices, groups, 0)?)
+    let best = best_of_groups(alloc, array, indices, groups, greatest)?;
+    let made = numbers_like(alloc, array, best.as_slice());
+    drop(best);
+    made
+}
+
+/// Returns the array of the best boolean of each group, null for a group that has no valid slot.
+fn best_booleans(
+    alloc: Global,
+    array: &BooleanArray,
+    indices: &[usize],
+    groups: usize,
+    greatest: bool,
+) -> Result<BooleanArray, Error>
+    requires rows { length indices.now ≡ length array.now.rows }
+    requires within { All (λ g. g < groups) indices.now }
+    ensures ok { IfOk result (AggregatesGroups (IsBestSlot greatest bool_cmp) array.now indices.now groups) }
+    ensures err { OnlyOutOfMemory result }
+{
+    let best = best_of_groups(alloc, array, indices, groups, greatest)?;
+    let made = booleans_like(alloc, array, best.as_slice());
+    drop(best);
+    made
+}
+
+/// Returns the array of the best byte string of each group, null for a group that has no valid slot.
+fn best_bytes<O: Offset>(
+    alloc: Global,
+    array: &BinaryArray<O>,
+    indices: &[usize],
+    groups: usize,
+    greatest: bool,
+) -> Result<BinaryArray<O>, Error>
+    requires rows { length indices.now ≡ length array.now.rows }
+    requires within { All (λ g. g < groups) indices.now }
+    ensures ok { IfOk result (AggregatesGroups (IsBestSlot greatest text_cmp) array.now indices.now groups) }
+    ensures err { OnlyOutOfMemory result }
+{
+    let best = best_of_groups(alloc, array, indices, groups, greatest)?;
+    let made = items_like(alloc, array, best.as_slice());
+    drop(best);
+    made
+}
+
+/// Returns the array of the best text of each group, null for a group that has no valid slot.
+fn best_texts<O: Offset>(
+    alloc: Global,
+    array: &Utf8Array<O>,
+    indices: &[usize],
+    groups: usize,
+    greatest: bool,
+) -> Result<Utf8Array<O>, Error>
+    requires rows { length indices.now ≡ length array.now.rows }
+    requires within { All (λ g. g < groups) indices.now }
+    ensures ok { IfOk result (AggregatesGroups (IsBestSlot greatest text_cmp) array.now indices.now groups) }
+    ensures err { OnlyOutOfMemory result }
+{
+    let best = best_of_groups(alloc, array, indices, groups, greatest)?;
+    let made = items_like(alloc, array, best.as_slice());
+    drop(best);
+    made
 }
 
 /// Returns the least value of the valid slots of each group, null for a group that has none. There
@@ -146,7 +201,7 @@ pub fn group_count<T: NativeType>(
 ///
 /// # Errors
 /// `OutOfMemory` if an allocation fails.
-pub fn group_min<T: NativeType + Ord>(
+pub fn group_min_primitive<T: NativeType + Ord>(
     alloc: Global,
     array: &PrimitiveArray<T>,
     indices: &[usize],
@@ -154,23 +209,79 @@ pub fn group_min<T: NativeType + Ord>(
 ) -> Result<PrimitiveArray<T>, Error>
     requires rows { length indices.now ≡ length array.now.rows }
     requires within { All (λ g. g < groups) indices.now }
-    ensures ok { IfOk result (GroupSlots array.now.data_type groups (λ g.
-        IsLeastSlot T.cmp (group_values array.now indices.now g))) }
+    ensures ok { IfOk result (AggregatesGroups (IsLeastSlot T.cmp) array.now indices.now groups) }
     ensures err { OnlyOutOfMemory result }
 {
-    let slots = fold_groups::<Least, T>(alloc, array, indices, groups, None)?;
-    let made = array_like(alloc, array, slots.as_slice());
-    drop(slots);
-    made
+    best_numbers(alloc, array, indices, groups, false)
 }
 
-/// Returns the greatest value of the valid slots of each group, null for a group that has none.
-/// There are `groups` groups, and `indices` has the number of the group of each slot. The result has
-/// the data type of the array.
+/// Returns the least boolean of the valid slots of each group, where false is less than true, null
+/// for a group that has none. There are `groups` groups, and `indices` has the number of the group
+/// of each slot. The result has the data type of the array.
 ///
 /// # Errors
 /// `OutOfMemory` if an allocation fails.
-pub fn group_max<T: NativeType + Ord>(
+pub fn group_min_boolean(
+    alloc: Global,
+    array: &BooleanArray,
+    indices: &[usize],
+    groups: usize,
+) -> Result<BooleanArray, Error>
+    requires rows { length indices.now ≡ length array.now.rows }
+    requires within { All (λ g. g < groups) indices.now }
+    ensures ok { IfOk result (AggregatesGroups (IsLeastSlot bool_cmp) array.now indices.now groups) }
+    ensures err { OnlyOutOfMemory result }
+{
+    best_booleans(alloc, array, indices, groups, false)
+}
+
+/// Returns the least byte string of the valid slots of each group, by the order of unsigned bytes,
+/// null for a group that has none. There are `groups` groups, and `indices` has the number of the
+/// group of each slot. The result has the data type of the array.
+///
+/// # Errors
+/// `OutOfMemory` if an allocation fails.
+pub fn group_min_binary<O: Offset>(
+    alloc: Global,
+    array: &BinaryArray<O>,
+    indices: &[usize],
+    groups: usize,
+) -> Result<BinaryArray<O>, Error>
+    requires rows { length indices.now ≡ length array.now.rows }
+    requires within { All (λ g. g < groups) indices.now }
+    ensures ok { IfOk result (AggregatesGroups (IsLeastSlot text_cmp) array.now indices.now groups) }
+    ensures err { OnlyOutOfMemory result }
+{
+    best_bytes(alloc, array, indices, groups, false)
+}
+
+/// Returns the least text of the valid slots of each group, by the order of its bytes, null for a
+/// group that has none. There are `groups` groups, and `indices` has the number of the group of
+/// each slot. The result has the data type of the array.
+///
+/// # Errors
+/// `OutOfMemory` if an allocation fails.
+pub fn group_min_string<O: Offset>(
+    alloc: Global,
+    array: &Utf8Array<O>,
+    indices: &[usize],
+    groups: usize,
+) -> Result<Utf8Array<O>, Error>
+    requires rows { length indices.now ≡ length array.now.rows }
+    requires within { All (λ g. g < groups) indices.now }
+    ensures ok { IfOk result (AggregatesGroups (IsLeastSlot text_cmp) array.now indices.now groups) }
+    ensures err { OnlyOutOfMemory result }
+{
+    best_texts(alloc, array, indices, groups, false)
+}
+
+/// Returns the greatest value of the valid slots of each group, null for a group that has none.
+/// There are `groups` groups, and `indices` has the number of the group of each slot. The result
+/// has the data type of the array.
+///
+/// # Errors
+/// `OutOfMemory` if an allocation fails.
+pub fn group_max_primitive<T: NativeType + Ord>(
     alloc: Global,
     array: &PrimitiveArray<T>,
     indices: &[usize],
@@ -178,12 +289,68 @@ pub fn group_max<T: NativeType + Ord>(
 ) -> Result<PrimitiveArray<T>, Error>
     requires rows { length indices.now ≡ length array.now.rows }
     requires within { All (λ g. g < groups) indices.now }
-    ensures ok { IfOk result (GroupSlots array.now.data_type groups (λ g.
-        IsGreatestSlot T.cmp (group_values array.now indices.now g))) }
+    ensures ok { IfOk result (AggregatesGroups (IsGreatestSlot T.cmp) array.now indices.now groups) }
     ensures err { OnlyOutOfMemory result }
 {
-    let slots = fold_groups::<Greatest, T>(alloc, array, indices, groups, None)?;
-    let made = array_like(alloc, array, slots.as_slice());
-    drop(slots);
-    made
+    best_numbers(alloc, array, indices, groups, true)
+}
+
+/// Returns the greatest boolean of the valid slots of each group, where false is less than true,
+/// null for a group that has none. There are `groups` groups, and `indices` has the number of the
+/// group of each slot. The result has the data type of the array.
+///
+/// # Errors
+/// `OutOfMemory` if an allocation fails.
+pub fn group_max_boolean(
+    alloc: Global,
+    array: &BooleanArray,
+    indices: &[usize],
+    groups: usize,
+) -> Result<BooleanArray, Error>
+    requires rows { length indices.now ≡ length array.now.rows }
+    requires within { All (λ g. g < groups) indices.now }
+    ensures ok { IfOk result (AggregatesGroups (IsGreatestSlot bool_cmp) array.now indices.now groups) }
+    ensures err { OnlyOutOfMemory result }
+{
+    best_booleans(alloc, array, indices, groups, true)
+}
+
+/// Returns the greatest byte string of the valid slots of each group, by the order of unsigned
+/// bytes, null for a group that has none. There are `groups` groups, and `indices` has the number
+/// of the group of each slot. The result has the data type of the array.
+///
+/// # Errors
+/// `OutOfMemory` if an allocation fails.
+pub fn group_max_binary<O: Offset>(
+    alloc: Global,
+    array: &BinaryArray<O>,
+    indices: &[usize],
+    groups: usize,
+) -> Result<BinaryArray<O>, Error>
+    requires rows { length indices.now ≡ length array.now.rows }
+    requires within { All (λ g. g < groups) indices.now }
+    ensures ok { IfOk result (AggregatesGroups (IsGreatestSlot text_cmp) array.now indices.now groups) }
+    ensures err { OnlyOutOfMemory result }
+{
+    best_bytes(alloc, array, indices, groups, true)
+}
+
+/// Returns the greatest text of the valid slots of each group, by the order of its bytes, null for
+/// a group that has none. There are `groups` groups, and `indices` has the number of the group of
+/// each slot. The result has the data type of the array.
+///
+/// # Errors
+/// `OutOfMemory` if an allocation fails.
+pub fn group_max_string<O: Offset>(
+    alloc: Global,
+    array: &Utf8Array<O>,
+    indices: &[usize],
+    groups: usize,
+) -> Result<Utf8Array<O>, Error>
+    requires rows { length indices.now ≡ length array.now.rows }
+    requires within { All (λ g. g < groups) indices.now }
+    ensures ok { IfOk result (AggregatesGroups (IsGreatestSlot text_cmp) array.now indices.now groups) }
+    ensures err { OnlyOutOfMemory result }
+{
+    best_texts(alloc, array, indices, groups, true)
 }

@@ -74,3 +74,59 @@ fn marks_are_combined_from_any_index(rt: HostRuntime) {
         check_from(&rt, 8, 13, texts);
     }
 }
+
+/// Creates a bitmap of `len` marks of a word that is repeated, from one of its marks on.
+fn repeated(rt: &(impl Abort + AllocGlobal), word: u64, offset: usize, len: usize) -> Bitmap {
+    let mut marks = MutableBitmap::new(rt.alloc());
+    for _ in 0..offset.saturating_add(len) / 64 + 1 {
+        marks.extend_from_word(word, 64).expect(rt, "memory");
+    }
+    let mut bitmap = marks.freeze().expect(rt, "memory");
+    cut(rt, &mut bitmap, offset, len);
+    bitmap
+}
+
+/// Compares the marks of a bitmap with a word that is repeated, and the number of clear ones, and drops it.
+fn check_words(rt: &impl Abort, case: &str, bitmap: Bitmap, word: u64, clear: usize) {
+    assert_text::value(bitmap.unset_bits(), clear).expect(rt, case);
+    for index in 0..bitmap.len() / 64 {
+        assert_text::value(bitmap.word(64 * index), word).expect(rt, case);
+    }
+    drop(bitmap);
+}
+
+/// Where slices of two lists of marks begin, how many marks they have, and how many of the answers of `and` and of `or`
+/// are clear. The lists repeat the marks 00001111 and 01010101.
+const LONG: &[[usize; 5]] = &[
+    [0, 0, 512, 384, 128],
+    [8, 16, 2_048, 1_536, 512],
+    [0, 0, 2_051, 1_539, 514],
+    [0, 8, 4_600, 3_450, 1_150],
+    [0, 0, 66_048, 49_536, 16_512],
+    [3, 5, 512, 384, 128],
+    [3, 5, 520, 390, 130],
+    [3, 5, 2_048, 1_536, 512],
+    [3, 5, 4_600, 3_450, 1_150],
+    [3, 5, 66_048, 49_536, 16_512],
+];
+
+#[test]
+fn long_lists_of_marks_are_combined_and_counted(rt: HostRuntime) {
+    for [offset, other, len, clear_in_both, clear_in_either] in LONG {
+        let first = repeated(&rt, 0xF0F0_F0F0_F0F0_F0F0, *offset, *len);
+        let second = repeated(&rt, 0xAAAA_AAAA_AAAA_AAAA, *other, *len);
+        assert!(&rt; first.len() == second.len());
+        let both = and(rt.alloc(), &first, &second).expect(&rt, "memory");
+        let either = or(rt.alloc(), &first, &second).expect(&rt, "memory");
+        drop(first);
+        drop(second);
+        // From offsets 3 and 5 the lists repeat 01111000 and 10101010.
+        let (set_in_both, set_in_either) = if *offset == 3 {
+            (0x1414_1414_1414_1414, 0x5F5F_5F5F_5F5F_5F5F)
+        } else {
+            (0xA0A0_A0A0_A0A0_A0A0, 0xFAFA_FAFA_FAFA_FAFA)
+        };
+        check_words(&rt, "and", both, set_in_both, *clear_in_both);
+        check_words(&rt, "or", either, set_in_either, *clear_in_either);
+    }
+}

@@ -1,9 +1,7 @@
 //! Arrays of bytes and of text as arrays whose values have an order.
-ghost use Rattle.std.specs.Prelude.{◌≡◌, ◌<◌, ◌≤◌, length, slice_get, Some};
-ghost use Rattle.arrow_column.specs.Column.{stored_values};
-
 use super::operators::Comparison;
 use super::ordered::{OrderedArray, Scalar};
+use crate::items::item_at;
 use crate::words::{Marks, Packed, collect_marks};
 use arrow_byte_array::ByteArray;
 use arrow_bytes::{ByteItem, ByteKind};
@@ -12,16 +10,6 @@ use arrow_types::error::Error;
 use arrow_types::offset::Offset;
 use std::alloc::Global;
 use std::marker::PhantomData;
-
-/// Returns the bytes of the item that is stored at `i`.
-#[inline(always)]
-fn item_at<K: ByteKind, O: Offset>(array: &ByteArray<K, O>, i: usize) -> &[u8]
-    requires { i < length array.now.rows }
-    ensures { slice_get (stored_values array.now) i ≡ Some result.now }
-{
-    let (start, end) = array.offsets().start_end(i);
-    &array.values().as_slice()[start..end]
-}
 
 /// Whether a comparison holds of the items at each index of two arrays.
 #[derive(Drop)]

@@ -1,5 +1,7 @@
 //! Bytes that are appended together with the ends of their slots.
-ghost use Rattle.std.specs.Prelude.{◌≡◌, ◌+◌, ◌<◌, ◌≤◌, ◌++◌, length, OnOk, OnErr, IfErr};
+ghost use Rattle.std.specs.Prelude.{◌≡◌, ◌+◌, ◌<◌, ◌≤◌, ◌++◌, length, IsTrue, OnOk, OnErr};
+ghost use Rattle.std.specs.Prelude.{IfErr};
+ghost use Rattle.std.specs.Vec.{vec_len, vec_capacity};
 ghost use Rattle.arrow_memory.specs.Offsets.{last_of, IsOffsets, KeepsOffsets, window_of, slots_from, joined_end};
 ghost use Rattle.arrow_memory.specs.Offsets.{AppendsEnd, AppendsOffsets, EndRefused};
 ghost use Rattle.arrow_memory.specs.Offsets.{numbers_of};
@@ -10,40 +12,49 @@ use arrow_types::error::Error;
 use arrow_types::offset::Offset;
 use std::alloc::AllocError;
 
-/// Appends any number of bytes.
-#[inline(never)]
-fn append_any(values: &mut Vec<u8>, bytes: &[u8]) -> Result<(), AllocError>
-    ensures ok { OnOk result (values.new.items ≡ values.old.items ++ bytes.now) }
-    ensures err { OnErr result (values.new.items ≡ values.old.items) }
+/// Returns whether an item has eight to sixteen bytes, and there is room for its end and for sixteen bytes. Nothing has
+/// to grow then.
+#[inline(always)]
+fn has_room_for<O: Offset>(ends: &Vec<O>, values: &Vec<u8>, item: &[u8]) -> bool
+    ensures long { IsTrue result → 8 ≤ length item.now }
+    ensures short { IsTrue result → length item.now ≤ 16 }
+    ensures ends { IsTrue result → vec_len ends.now < vec_capacity ends.now }
+    ensures values { IsTrue result → vec_len values.now + 16 ≤ vec_capacity values.now }
 {
-    values.extend_from_slice(bytes)
+    if item.len() < 8 || ends.len() == ends.capacity() {
+        return false;
+    }
+    // A length never comes near the second bound. It tells the compiler that sums of lengths don't wrap.
+    if item.len() > 16 || values.len() > usize::MAX - 16 || values.capacity() - values.len() < 16 {
+        return false;
+    }
+    true
 }
 
-/// Appends bytes. If there is room for sixteen, eight to sixteen bytes are copied as two words, the
-/// first eight and the last eight, which may overlap. This needs no call of a copy of unknown
-/// length, and as nothing can grow then, the compiler writes back the length alone.
+/// Appends eight to sixteen bytes, for sixteen of which there is room, as two words: the first eight bytes and the last
+/// eight, which may overlap. This needs no call of a copy of unknown length, and as nothing can grow, the compiler writes
+/// back the length alone.
 #[inline(always)]
-fn append_bytes(values: &mut Vec<u8>, bytes: &[u8]) -> Result<(), AllocError>
-    ensures ok { OnOk result (values.new.items ≡ values.old.items ++ bytes.now) }
-    ensures err { OnErr result (values.new.items ≡ values.old.items) }
+fn append_words(values: &mut Vec<u8>, bytes: &[u8])
+    requires long { 8 ≤ length bytes.now }
+    requires short { length bytes.now ≤ 16 }
+    requires room { vec_len values.old + 16 ≤ vec_capacity values.old }
+    ensures { values.new.items ≡ values.old.items ++ bytes.now }
 {
     let before = values.len();
-    // A length never comes near the second bound. It tells the compiler that the sums below don't wrap.
-    if bytes.len() > 16 || before > usize::MAX - 16 || values.capacity() - before < 16 {
-        return append_any(values, bytes);
-    }
     let (Some(first), Some(last)) = (bytes.first_chunk::<8>(), bytes.last_chunk::<8>()) else {
-        return append_any(values, bytes);
+        unreachable!();
     };
     let (first, last) = (*first, *last);
-    values.extend_from_slice([first, first].as_flattened())?;
+    let Ok(()) = values.extend_from_slice([first, first].as_flattened()) else {
+        unreachable!();
+    };
     values.truncate(before + bytes.len());
     // The first word fills the room up to the end, where the last eight bytes then take their place.
     let Some(word) = values.as_mut_slice().last_chunk_mut::<8>() else {
         unreachable!();
     };
     *word = last;
-    Ok(())
 }
 
 impl<O: Offset> Offsets<O> {
@@ -63,14 +74,43 @@ impl<O: Offset> Offsets<O> {
         ensures err { IfErr result (λ e. EndRefused e O.most (last_of self.old + length item.now)) }
         ensures kept { OnErr result ((self.new ≡ self.old) × (values.new.items ≡ values.old.items)) }
     {
+        let last = self.last().to_usize();
+        if item.len() > O::max().to_usize() - last {
+            return Err(Error::Overflow);
+        }
+        if !has_room_for(&self.offsets, values, item) {
+            self.push_any_item(values, item)?;
+            return Ok(());
+        }
+        append_words(values, item);
+        self.offsets
+            .push_reserved(O::from_as_usize(last + item.len()));
+        Ok(())
+    }
+
+    /// Appends an item as [`Offsets::try_push_item`], whatever its length is and whatever has to grow, but not past the
+    /// greatest offset. A call, so that a loop of appends stays small.
+    ///
+    /// # Errors
+    /// `AllocError` if an allocation fails; offsets and values are then unchanged.
+    #[inline(never)]
+    fn push_any_item(&mut self, values: &mut Vec<u8>, item: &[u8]) -> Result<(), AllocError>
+        requires { last_of self.old + length item.now ≤ O.most }
+        ensures legal { IsOffsets self.new }
+        ensures ok { OnOk result (AppendsEnd O.most self.old (length item.now) self.new) }
+        ensures bytes { OnOk result (values.new.items ≡ values.old.items ++ item.now) }
+        ensures kept { OnErr result ((self.new ≡ self.old) × (values.new.items ≡ values.old.items)) }
+    {
         let before = self.len_proxy();
-        self.try_push_usize(item.len())?;
-        match append_bytes(values, item) {
+        let Ok(()) = self.try_push_usize(item.len()) else {
+            return Err(AllocError);
+        };
+        match values.extend_from_slice(item) {
             Ok(()) => Ok(()),
-            Err(_) => {
+            Err(refused) => {
                 // The end that was pushed goes back: no item stands before it.
                 self.truncate(before);
-                Err(Error::OutOfMemory)
+                Err(refused)
             }
         }
     }

@@ -1,5 +1,5 @@
 //! Offsets of 32 bits as offsets of 64, and the other way round.
-ghost use Rattle.std.specs.Prelude.{◌≡◌, ◌<◌, ◌≤◌, pos, length, map, IfOk, IfErr};
+ghost use Rattle.std.specs.Prelude.{◌≡◌, ◌<◌, ◌≤◌, pos, map, IfOk, IfErr};
 ghost use Rattle.arrow_types.specs.Failures.{OnlyOutOfMemory};
 ghost use Rattle.arrow_memory.specs.Offsets.{last_of, KeepsOffsets, MatchGrowth, numbers_of};
 
@@ -8,22 +8,19 @@ use crate::offset::OffsetsBuffer;
 use crate::offset::numbers::number_at;
 use arrow_types::error::Error;
 use arrow_types::offset::Offset;
+use std::alloc::{AllocError, Global};
 
-/// Writes the numbers of offsets over as many offsets of another type, whose greatest number is at
-/// least each of them.
-fn write_numbers<O: Offset, P: Offset>(offsets: &[O], written: &mut [P])
+/// Returns the numbers of offsets as offsets of another type, whose greatest number is at least each of them.
+fn write_numbers<O: Offset, P: Offset>(alloc: Global, offsets: &[O]) -> Result<Vec<P>, AllocError>
     requires keeps { KeepsOffsets O.number O.most offsets.now }
     requires within { last_of (numbers_of O.number offsets.now) ≤ P.most }
-    requires room { length written.old ≡ length offsets.now }
-    ensures { map P.number written.new ≡ map pos (numbers_of O.number offsets.now) }
+    ensures { IfOk result (λ written. map P.number written.items ≡ map pos (numbers_of O.number offsets.now)) }
 {
-    // With equal lengths the compiler needs no bounds check, and can make vector code of the loop.
-    if written.len() != offsets.len() {
-        unreachable!();
-    }
+    let mut written = Vec::with_capacity(alloc, offsets.len())?;
     for i in 0..offsets.len() {
-        written[i] = P::from_as_usize(number_at(offsets, i));
+        written.push_reserved(P::from_as_usize(number_at(offsets, i)));
     }
+    Ok(written)
 }
 
 impl<O: Offset> OffsetsBuffer<O> {
@@ -40,10 +37,7 @@ impl<O: Offset> OffsetsBuffer<O> {
         if P::from_usize(self.last().to_usize()).is_none() {
             return Err(Error::Overflow);
         }
-        let offsets = self.offsets.as_slice();
-        let mut written = Vec::new(self.offsets.allocator());
-        written.resize(offsets.len(), P::from_as_usize(0))?;
-        write_numbers(offsets, written.as_mut_slice());
+        let written = write_numbers(self.offsets.allocator(), self.offsets.as_slice())?;
         Ok(OffsetsBuffer {
             offsets: Buffer::from_vec(written)?,
         })

@@ -1,159 +1,540 @@
-//! Column kernels as plain loops over slices, for the comparison with the library's: one mark a bit, eight to a byte, and
-//! a count of nulls, as a bitmap has it. No slot is an `Option`.
-use std::collections::HashMap;
+//! Column kernels as plain loops over slices, for the comparison with the library's: marks by words of 64, with a count
+//! of the clear ones, and shared where the library shares them. No slot is an `Option`.
+use std::hint::black_box;
+use std::rc::Rc;
 
-/// Marks, eight to a byte, the least significant first.
+/// One mark a bit, the least significant first; the bits behind the last mark are clear.
 pub struct Marks {
-    pub bytes: Vec<u8>,
+    pub words: Vec<u64>,
     pub clear: usize,
 }
 
-/// Packs marks of one byte each; `None` of none.
-pub fn packed(valid: &[u8]) -> Option<Marks> {
-    if valid.is_empty() {
-        return None;
+/// A mask, if there is one; else no slot is null.
+pub type Mask = Option<Rc<Marks>>;
+
+impl Marks {
+    /// Counts the clear marks of words.
+    fn new(words: Vec<u64>, len: usize) -> Self {
+        let set: usize = words.iter().map(|word| word.count_ones() as usize).sum();
+        Marks { words, clear: len - set }
     }
-    let bytes: Vec<u8> = valid
-        .chunks(8)
-        .map(|chunk| chunk.iter().enumerate().fold(0, |byte, (k, m)| byte | (m & 1) << k))
-        .collect();
-    Some(counted(bytes, valid.len()))
+
+    #[inline(always)]
+    fn is_set(&self, i: usize) -> bool {
+        self.words[i / 64] >> (i % 64) & 1 != 0
+    }
 }
 
-/// Marks with their number of clear ones.
-fn counted(bytes: Vec<u8>, len: usize) -> Marks {
-    let mut set = 0;
-    let words = bytes.chunks_exact(8);
-    let rest = words.remainder();
-    for word in words {
-        set += u64::from_le_bytes(word.try_into().unwrap()).count_ones() as usize;
-    }
-    for byte in rest {
-        set += byte.count_ones() as usize;
-    }
-    Marks { bytes, clear: len - set }
+/// Packs marks of one byte each.
+pub fn marks_of(bytes: &[u8]) -> Marks {
+    Marks::new(test_each(bytes, |byte| byte != 0), bytes.len())
 }
 
-/// A copy of a mask, as the library shares one.
-fn copy(mask: &Option<Marks>) -> Option<Marks> {
-    mask.as_ref().map(|marks| Marks {
-        bytes: marks.bytes.clone(),
-        clear: marks.clear,
-    })
+/// The mask of marks of one byte each; none of none.
+pub fn packed(valid: &[u8]) -> Mask {
+    (!valid.is_empty()).then(|| Rc::new(marks_of(valid)))
 }
 
-/// The bits of a test of each index, which come in eights.
+/// A mask, if it has a clear mark.
+fn needed(marks: Marks) -> Mask {
+    (marks.clear > 0).then(|| Rc::new(marks))
+}
+
+/// The number of null slots.
+fn nulls(mask: &Mask) -> usize {
+    mask.as_ref().map_or(0, |marks| marks.clear)
+}
+
+fn is_valid(mask: &Mask, i: usize) -> bool {
+    mask.as_ref().map_or(true, |marks| marks.is_set(i))
+}
+
+/// The words of a test of each value.
 #[inline(always)]
-fn test_each(len: usize, test: impl Fn(usize) -> bool) -> Vec<u8> {
-    let mut out = Vec::with_capacity(len.div_ceil(8));
-    for at in 0..len / 8 {
-        let mut byte = 0;
-        for k in 0..8 {
-            byte |= (test(8 * at + k) as u8) << k;
-        }
-        out.push(byte);
-    }
-    if len % 8 != 0 {
-        let mut byte = 0;
-        for k in 0..len % 8 {
-            byte |= (test(len / 8 * 8 + k) as u8) << k;
-        }
-        out.push(byte);
-    }
-    out
+fn test_each<T: Copy>(values: &[T], test: impl Fn(T) -> bool) -> Vec<u64> {
+    let word = |values: &[T]| (values.iter().enumerate()).fold(0, |word, (k, x)| word | (test(*x) as u64) << k);
+    values.chunks(64).map(word).collect()
 }
 
-#[inline(never)]
-pub fn lt(lhs: &[i64], rhs: &[i64], mask: &Option<Marks>) -> (Marks, Option<Marks>) {
-    let rhs = &rhs[..lhs.len()];
-    (counted(test_each(lhs.len(), |i| lhs[i] < rhs[i]), lhs.len()), copy(mask))
-}
-
-#[inline(never)]
-pub fn lt_scalar(lhs: &[i64], rhs: i64, mask: &Option<Marks>) -> (Marks, Option<Marks>) {
-    (counted(test_each(lhs.len(), |i| lhs[i] < rhs), lhs.len()), copy(mask))
-}
-
-#[inline(never)]
-pub fn add(lhs: &[i64], rhs: &[i64], mask: &Option<Marks>) -> (Vec<i64>, Option<Marks>) {
-    (lhs.iter().zip(rhs).map(|(x, y)| x.wrapping_add(*y)).collect(), copy(mask))
-}
-
-/// A null where a sum overflows, or a slot is null.
-#[inline(never)]
-pub fn checked_add(lhs: &[i64], rhs: &[i64], mask: &Option<Marks>) -> (Vec<i64>, Marks) {
-    let len = lhs.len();
-    let rhs = &rhs[..len];
-    let values = (0..len).map(|i| lhs[i].checked_add(rhs[i]).unwrap_or(0)).collect();
-    let mut bytes = test_each(len, |i| lhs[i].checked_add(rhs[i]).is_some());
-    if let Some(mask) = mask {
-        for (byte, valid) in bytes.iter_mut().zip(&mask.bytes) {
-            *byte &= valid;
-        }
-    }
-    (values, counted(bytes, len))
-}
-
-/// Whether the mark at `i` is set.
+/// The words of a test of the values at each index of both.
 #[inline(always)]
-fn is_set(mask: &Marks, i: usize) -> bool {
-    mask.bytes[i / 8] >> (i % 8) & 1 != 0
-}
-
-/// The sum of the valid values, `None` if it does not fit, or if there are none.
-#[inline(never)]
-pub fn sum(values: &[i64], mask: &Option<Marks>) -> Option<i64> {
-    let total = match mask {
-        None => values.iter().map(|x| *x as i128).sum::<i128>(),
-        Some(mask) => values
-            .iter()
-            .enumerate()
-            .map(|(i, x)| if is_set(mask, i) { *x as i128 } else { 0 })
-            .sum(),
+fn test_pairs<T: Copy>(lhs: &[T], rhs: &[T], test: impl Fn(T, T) -> bool) -> Vec<u64> {
+    let word = |(lhs, rhs): (&[T], &[T])| {
+        (lhs.iter().zip(rhs).enumerate()).fold(0, |word, (k, (x, y))| word | (test(*x, *y) as u64) << k)
     };
-    i64::try_from(total).ok()
+    lhs.chunks(64).zip(rhs.chunks(64)).map(word).collect()
+}
+
+/// Two lists of as many words, word by word.
+fn zip_words(lhs: &[u64], rhs: &[u64], with: impl Fn(u64, u64) -> u64) -> Vec<u64> {
+    lhs.iter().zip(rhs).map(|(x, y)| with(*x, *y)).collect()
+}
+
+/// Values of both, one by one.
+#[inline(always)]
+fn zip_values<T: Copy>(lhs: &[T], rhs: &[T], with: impl Fn(T, T) -> T) -> Vec<T> {
+    lhs.iter().zip(rhs).map(|(x, y)| with(*x, *y)).collect()
+}
+
+/// Folds all values: `step` is passed the sum so far, a value and whether it is valid.
+#[inline(always)]
+fn fold_slots<T: Copy, S>(values: &[T], mask: &Mask, mut sum: S, step: impl Fn(S, T, bool) -> S) -> S {
+    match mask {
+        None => values.iter().fold(sum, |sum, x| step(sum, *x, true)),
+        Some(marks) => {
+            let chunks = values.chunks_exact(64);
+            let rest = chunks.remainder();
+            for (values, word) in chunks.zip(&marks.words) {
+                for (k, x) in values.iter().enumerate() {
+                    sum = step(sum, *x, word >> k & 1 != 0);
+                }
+            }
+            for (k, x) in rest.iter().enumerate() {
+                sum = step(sum, *x, marks.words[values.len() / 64] >> k & 1 != 0);
+            }
+            sum
+        }
+    }
+}
+
+// ---- comparisons and logic
+
+#[inline(never)]
+pub fn lt(lhs: &[i64], rhs: &[i64], mask: &Mask) -> (Marks, Mask) {
+    (Marks::new(test_pairs(lhs, rhs, |x, y| x < y), lhs.len()), mask.clone())
 }
 
 #[inline(never)]
-pub fn least(values: &[i64], mask: &Option<Marks>) -> i64 {
-    match mask {
-        None => values.iter().fold(i64::MAX, |least, x| least.min(*x)),
-        Some(mask) => values
-            .iter()
-            .enumerate()
-            .fold(i64::MAX, |least, (i, x)| least.min(if is_set(mask, i) { *x } else { i64::MAX })),
+pub fn lt_scalar(lhs: &[i64], rhs: i64, mask: &Mask) -> (Marks, Mask) {
+    (Marks::new(test_each(lhs, |x| x < rhs), lhs.len()), mask.clone())
+}
+
+#[inline(never)]
+pub fn eq(lhs: &[i64], rhs: &[i64], mask: &Mask) -> (Marks, Mask) {
+    (Marks::new(test_pairs(lhs, rhs, |x, y| x == y), lhs.len()), mask.clone())
+}
+
+/// Texts: bytes and one more offset than there are texts.
+#[derive(Clone, Copy)]
+pub struct Texts<'a> {
+    pub bytes: &'a [u8],
+    pub offsets: &'a [i32],
+}
+
+impl<'a> Texts<'a> {
+    fn len(&self) -> usize {
+        self.offsets.len() - 1
     }
+
+    #[inline(always)]
+    fn get(&self, i: usize) -> &'a [u8] {
+        &self.bytes[self.offsets[i] as usize..self.offsets[i + 1] as usize]
+    }
+
+    fn iter(self) -> impl ExactSizeIterator<Item = &'a [u8]> {
+        self.offsets.windows(2).map(move |ends| &self.bytes[ends[0] as usize..ends[1] as usize])
+    }
+}
+
+#[inline(never)]
+pub fn eq_texts(lhs: Texts, rhs: Texts) -> Marks {
+    let mut words = vec![0; lhs.len().div_ceil(64)];
+    for (i, (x, y)) in lhs.iter().zip(rhs.iter()).enumerate() {
+        words[i / 64] |= ((x == y) as u64) << (i % 64);
+    }
+    Marks::new(words, lhs.len())
+}
+
+#[inline(never)]
+pub fn and(lhs: &Marks, rhs: &Marks, mask: &Mask, len: usize) -> (Marks, Mask) {
+    (Marks::new(zip_words(&lhs.words, &rhs.words, |x, y| x & y), len), mask.clone())
 }
 
 /// Whether both slots are true, of three-valued logic: values, and which are known.
 #[inline(never)]
-pub fn kleene_and(lhs: &Marks, rhs: &Marks, left: &Option<Marks>, right: &Option<Marks>, len: usize) -> (Marks, Option<Marks>) {
-    let all = |mask: &Option<Marks>, at: usize| mask.as_ref().map_or(255, |marks| marks.bytes[at]);
-    let bytes = lhs.bytes.len();
-    let values = (0..bytes).map(|i| lhs.bytes[i] & all(left, i) & rhs.bytes[i] & all(right, i)).collect();
-    let values = counted(values, len);
-    if left.is_none() && right.is_none() {
-        return (values, None);
+pub fn kleene_and(lhs: &Marks, rhs: &Marks, mask: &Mask, len: usize) -> (Marks, Mask) {
+    let Some(mask) = mask else {
+        return and(lhs, rhs, &None, len);
+    };
+    let trues = zip_words(&lhs.words, &mask.words, |x, valid| x & valid);
+    let values = zip_words(&trues, &rhs.words, |x, y| x & y);
+    let mut known = zip_words(&mask.words, &rhs.words, |valid, y| valid | !y);
+    if len % 64 != 0 {
+        known[len / 64] &= (1 << (len % 64)) - 1;
     }
-    let known = (0..bytes)
-        .map(|i| {
-            let falses = !lhs.bytes[i] & all(left, i) | !rhs.bytes[i] & all(right, i);
-            values.bytes[i] | falses
-        })
-        .collect();
-    (values, Some(counted(known, len)))
+    (Marks::new(values, len), Some(Rc::new(Marks::new(known, len))))
 }
 
-/// The indexes of the values in their order, nulls first.
+// ---- arithmetic and casts
+
 #[inline(never)]
-pub fn sort_indexes(values: &[i64], mask: &Option<Marks>) -> Vec<u64> {
-    let mut out = Vec::with_capacity(values.len());
-    let mut pairs: Vec<(i64, u64)> = Vec::with_capacity(values.len());
+pub fn add(lhs: &[i64], rhs: &[i64], mask: &Mask) -> (Vec<i64>, Mask) {
+    (zip_values(lhs, rhs, i64::wrapping_add), mask.clone())
+}
+
+#[inline(never)]
+pub fn mul(lhs: &[i64], rhs: &[i64], mask: &Mask) -> (Vec<i64>, Mask) {
+    (zip_values(lhs, rhs, i64::wrapping_mul), mask.clone())
+}
+
+#[inline(never)]
+pub fn add_i32(lhs: &[i32], rhs: &[i32], mask: &Mask) -> (Vec<i32>, Mask) {
+    (zip_values(lhs, rhs, i32::wrapping_add), mask.clone())
+}
+
+#[inline(never)]
+pub fn saturating_add_i32(lhs: &[i32], rhs: &[i32], mask: &Mask) -> (Vec<i32>, Mask) {
+    (zip_values(lhs, rhs, i32::saturating_add), mask.clone())
+}
+
+/// Marks that are set in both.
+fn both(mask: &Mask, words: Vec<u64>, len: usize) -> Mask {
+    let words = match mask {
+        None => words,
+        Some(mask) => zip_words(&words, &mask.words, |x, y| x & y),
+    };
+    Some(Rc::new(Marks::new(words, len)))
+}
+
+/// A null where a sum overflows, or a slot is null.
+#[inline(never)]
+pub fn checked_add(lhs: &[i64], rhs: &[i64], mask: &Mask) -> (Vec<i64>, Mask) {
+    let fits = test_pairs(lhs, rhs, |x, y| x.checked_add(y).is_some());
+    (zip_values(lhs, rhs, i64::wrapping_add), both(mask, fits, lhs.len()))
+}
+
+#[inline(never)]
+pub fn wrap_i32(values: &[i64], mask: &Mask) -> (Vec<i32>, Mask) {
+    (values.iter().map(|x| *x as i32).collect(), mask.clone())
+}
+
+/// The values as 32-bit numbers, a null where one doesn't fit.
+#[inline(never)]
+pub fn fit_i32(values: &[i64], mask: &Mask) -> (Vec<i32>, Mask) {
+    let fits = test_each(values, |x| x as i32 as i64 == x);
+    (values.iter().map(|x| *x as i32).collect(), both(mask, fits, values.len()))
+}
+
+/// Appends a number in decimal, two digits at a time.
+fn push_decimal(out: &mut Vec<u8>, number: i64) {
+    let mut digits = [0; 20];
+    let (mut at, mut rest) = (digits.len(), number.unsigned_abs());
+    while rest >= 100 {
+        let pair = (rest % 100) as u8;
+        rest /= 100;
+        at -= 2;
+        digits[at] = b'0' + pair / 10;
+        digits[at + 1] = b'0' + pair % 10;
+    }
+    if rest >= 10 {
+        at -= 2;
+        digits[at] = b'0' + rest as u8 / 10;
+        digits[at + 1] = b'0' + rest as u8 % 10;
+    } else {
+        at -= 1;
+        digits[at] = b'0' + rest as u8;
+    }
+    if number < 0 {
+        at -= 1;
+        digits[at] = b'-';
+    }
+    out.extend_from_slice(&digits[at..]);
+}
+
+/// The decimal texts of the valid values: bytes, offsets and mask.
+#[inline(never)]
+pub fn to_texts(values: &[i64], mask: &Mask) -> (Vec<u8>, Vec<i32>, Mask) {
+    let mut bytes = Vec::with_capacity(8 * values.len());
+    let mut offsets = Vec::with_capacity(values.len() + 1);
+    offsets.push(0);
     for (i, x) in values.iter().enumerate() {
-        if mask.as_ref().map_or(true, |mask| is_set(mask, i)) {
-            pairs.push((*x, i as u64));
+        if is_valid(mask, i) {
+            push_decimal(&mut bytes, *x);
+        }
+        offsets.push(i32::try_from(bytes.len()).unwrap());
+    }
+    (bytes, offsets, mask.clone())
+}
+
+/// The numbers of decimal texts, a null where a slot is null or a text is none.
+#[inline(never)]
+pub fn of_texts(texts: Texts, mask: &Mask) -> (Vec<i64>, Mask) {
+    let mut values = Vec::with_capacity(texts.len());
+    let mut words = vec![0; texts.len().div_ceil(64)];
+    for (i, text) in texts.iter().enumerate() {
+        // Safety: what is read are ASCII digits
+        let number = is_valid(mask, i).then(|| unsafe { std::str::from_utf8_unchecked(text) }.parse().ok()).flatten();
+        words[i / 64] |= (number.is_some() as u64) << (i % 64);
+        values.push(number.unwrap_or(0));
+    }
+    let mask = needed(Marks::new(words, values.len()));
+    (values, mask)
+}
+
+// ---- aggregates
+
+/// The sum of the valid values, 1 if it does not fit.
+#[inline(never)]
+pub fn sum(values: &[i64], mask: &Mask) -> i64 {
+    let total = fold_slots(values, mask, 0i128, |sum, x, valid| sum + if valid { x as i128 } else { 0 });
+    i64::try_from(total).unwrap_or(1)
+}
+
+#[inline(never)]
+pub fn least(values: &[i64], mask: &Mask) -> i64 {
+    fold_slots(values, mask, i64::MAX, |least, x, valid| least.min(if valid { x } else { i64::MAX }))
+}
+
+#[inline(never)]
+pub fn greatest(values: &[i64], mask: &Mask) -> i64 {
+    fold_slots(values, mask, i64::MIN, |most, x, valid| most.max(if valid { x } else { i64::MIN }))
+}
+
+/// The least valid text.
+#[inline(never)]
+pub fn least_text<'a>(texts: Texts<'a>, mask: &Mask) -> Option<&'a [u8]> {
+    let mut least: Option<&[u8]> = None;
+    for (i, text) in texts.iter().enumerate() {
+        if is_valid(mask, i) && least.map_or(true, |least| text < least) {
+            least = Some(text);
+        }
+    }
+    least
+}
+
+// ---- groups and hashes
+
+/// A hash by a product of 128 bits.
+#[inline(always)]
+fn folded(x: u64) -> u64 {
+    let product = (x ^ 0x243f_6a88_85a3_08d3) as u128 * 0x9e37_79b9_7f4a_7c15;
+    product as u64 ^ (product >> 64) as u64
+}
+
+fn hash_bytes(bytes: &[u8]) -> u64 {
+    let word = |bytes: &[u8]| u64::from_le_bytes(bytes.try_into().unwrap());
+    if bytes.len() < 8 {
+        let last = bytes.iter().fold(0, |word, byte| word << 8 | *byte as u64);
+        return folded(bytes.len() as u64 ^ folded(last));
+    }
+    let state = bytes.chunks_exact(8).fold(bytes.len() as u64, |state, bytes| folded(state ^ word(bytes)));
+    folded(state ^ word(&bytes[bytes.len() - 8..]))
+}
+
+/// One hash for each slot, that of a null for all nulls.
+#[inline(never)]
+pub fn hash(values: &[i64], mask: &Mask) -> Vec<u64> {
+    let mut out = Vec::with_capacity(values.len());
+    match mask {
+        None => out.extend(values.iter().map(|x| folded(*x as u64))),
+        Some(marks) => {
+            for (values, word) in values.chunks(64).zip(&marks.words) {
+                let hash = |(k, x): (usize, &i64)| if word >> k & 1 != 0 { folded(*x as u64) } else { 0 };
+                out.extend(values.iter().enumerate().map(hash));
+            }
+        }
+    }
+    out
+}
+
+/// The index of the first slot of each group, and the number of the group of each slot.
+pub struct Groups {
+    pub first: Vec<usize>,
+    pub numbers: Vec<usize>,
+}
+
+/// What can be grouped.
+trait Key: Copy + Eq + Default {
+    fn hash(self) -> u64;
+}
+
+impl Key for i64 {
+    #[inline(always)]
+    fn hash(self) -> u64 {
+        folded(self as u64)
+    }
+}
+
+impl Key for &[u8] {
+    #[inline(always)]
+    fn hash(self) -> u64 {
+        hash_bytes(self)
+    }
+}
+
+/// The number of each key, at places of a power of two, of which at most half are taken; and the keys.
+struct Table<K> {
+    places: Vec<u32>,
+    keys: Vec<K>,
+    null: Option<usize>,
+}
+
+impl<K: Key> Table<K> {
+    const EMPTY: u32 = u32::MAX;
+
+    fn new() -> Self {
+        Table { places: vec![Self::EMPTY; 64], keys: Vec::new(), null: None }
+    }
+
+    /// The number of a key, a new one if there is none.
+    #[inline(always)]
+    fn number(&mut self, key: K) -> usize {
+        let last = self.places.len() - 1;
+        let mut place = key.hash() as usize & last;
+        loop {
+            let number = self.places[place];
+            if number == Self::EMPTY {
+                break;
+            }
+            if self.keys[number as usize] == key {
+                return number as usize;
+            }
+            place = (place + 1) & last;
+        }
+        let number = self.keys.len();
+        self.places[place] = number as u32;
+        self.keys.push(key);
+        if 2 * self.keys.len() > self.places.len() {
+            self.grow();
+        }
+        number
+    }
+
+    /// The number of nulls, which has no place.
+    fn null_number(&mut self) -> usize {
+        if self.null.is_none() {
+            self.null = Some(self.keys.len());
+            self.keys.push(K::default());
+        }
+        self.null.unwrap()
+    }
+
+    #[cold]
+    fn grow(&mut self) {
+        let last = 2 * self.places.len() - 1;
+        self.places = vec![Self::EMPTY; last + 1];
+        for (number, key) in self.keys.iter().enumerate() {
+            if self.null == Some(number) {
+                continue;
+            }
+            let mut place = key.hash() as usize & last;
+            while self.places[place] != Self::EMPTY {
+                place = (place + 1) & last;
+            }
+            self.places[place] = number as u32;
+        }
+    }
+}
+
+/// Groups equal keys, the nulls as one group.
+#[inline(always)]
+fn group_keys<K: Key>(keys: impl ExactSizeIterator<Item = K>, mask: &Mask) -> Groups {
+    let mut table = Table::new();
+    let mut first = Vec::new();
+    let mut numbers = Vec::with_capacity(keys.len());
+    for (i, key) in keys.enumerate() {
+        let number = if is_valid(mask, i) { table.number(key) } else { table.null_number() };
+        if number == first.len() {
+            first.push(i);
+        }
+        numbers.push(number);
+    }
+    Groups { first, numbers }
+}
+
+#[inline(never)]
+pub fn group(values: &[i64], mask: &Mask) -> Groups {
+    match mask {
+        None => group_keys(values.iter().copied(), &None),
+        Some(_) => group_keys(values.iter().copied(), mask),
+    }
+}
+
+#[inline(never)]
+pub fn group_texts(texts: Texts, mask: &Mask) -> Groups {
+    group_keys(texts.iter(), mask)
+}
+
+/// The sum of each group, a null for a group of nulls; `None` if one does not fit.
+#[inline(never)]
+pub fn group_sum(values: &[i64], mask: &Mask, groups: &Groups) -> Option<(Vec<i64>, Mask)> {
+    let mut sums = vec![(0i128, false); groups.first.len()];
+    match mask {
+        None => {
+            for (x, number) in values.iter().zip(&groups.numbers) {
+                let sum = &mut sums[*number];
+                *sum = (sum.0 + *x as i128, true);
+            }
+        }
+        Some(marks) => {
+            for ((values, numbers), word) in values.chunks(64).zip(groups.numbers.chunks(64)).zip(&marks.words) {
+                for (k, (x, number)) in values.iter().zip(numbers).enumerate() {
+                    let valid = word >> k & 1 != 0;
+                    let sum = &mut sums[*number];
+                    *sum = (sum.0 + if valid { *x as i128 } else { 0 }, sum.1 | valid);
+                }
+            }
+        }
+    }
+    let values = sums.iter().map(|sum| i64::try_from(sum.0)).collect::<Result<Vec<_>, _>>().ok()?;
+    let marks = Marks::new(test_each(&sums, |sum| sum.1), sums.len());
+    Some((values, needed(marks)))
+}
+
+// ---- selections
+
+/// The values at keys, and a null where a key is null; `None` if a valid key is out of bounds.
+#[inline(never)]
+pub fn take(values: &[i64], keys: &[i64], mask: &Mask) -> Option<(Vec<i64>, Mask)> {
+    let inside = fold_slots(keys, mask, true, |all, key, valid| all & (!valid | ((key as u64) < values.len() as u64)));
+    if !inside {
+        return None;
+    }
+    let taken = keys.iter().map(|key| values.get(*key as usize).copied().unwrap_or(0)).collect();
+    Some((taken, mask.clone()))
+}
+
+/// The value of the left where the predicate is true, else that of the right, which has no null.
+#[inline(never)]
+pub fn if_then_else(predicate: &Marks, lhs: &[i64], rhs: &[i64], mask: &Mask) -> (Vec<i64>, Mask) {
+    let mut out = Vec::with_capacity(lhs.len());
+    for ((lhs, rhs), word) in lhs.chunks(64).zip(rhs.chunks(64)).zip(&predicate.words) {
+        out.extend((lhs.iter().zip(rhs).enumerate()).map(|(k, (x, y))| if word >> k & 1 != 0 { *x } else { *y }));
+    }
+    let mask = mask.as_ref().and_then(|marks| {
+        let mut words = zip_words(&predicate.words, &marks.words, |word, valid| valid | !word);
+        if out.len() % 64 != 0 {
+            words[out.len() / 64] &= (1 << (out.len() % 64)) - 1;
+        }
+        needed(Marks::new(words, out.len()))
+    });
+    (out, mask)
+}
+
+/// The mask of the left values, which are shared, with a null where those of the right are equal.
+#[inline(never)]
+pub fn nullif(lhs: &Rc<Vec<i64>>, rhs: &[i64], mask: &Mask) -> (Rc<Vec<i64>>, Mask) {
+    let mut words = test_pairs(lhs, rhs, |x, y| x != y);
+    if let Some(marks) = mask {
+        for (word, valid) in words.iter_mut().zip(&marks.words) {
+            *word &= valid;
+        }
+    }
+    (lhs.clone(), needed(Marks::new(words, lhs.len())))
+}
+
+// ---- sorts
+
+/// The indexes of the slots in their order, nulls first.
+#[inline(always)]
+fn sort_slots<T: Ord + Copy>(slots: impl Iterator<Item = T>, len: usize, mask: &Mask) -> Vec<u64> {
+    let mut out = Vec::with_capacity(len);
+    let mut pairs: Vec<(T, u64)> = Vec::with_capacity(len);
+    for (slot, i) in slots.zip(0..) {
+        if is_valid(mask, i as usize) {
+            pairs.push((slot, i));
         } else {
-            out.push(i as u64);
+            out.push(i);
         }
     }
     pairs.sort_by_key(|pair| pair.0);
@@ -161,94 +542,208 @@ pub fn sort_indexes(values: &[i64], mask: &Option<Marks>) -> Vec<u64> {
     out
 }
 
-/// The values as 32-bit numbers, a null where one doesn't fit.
 #[inline(never)]
-pub fn to_i32(values: &[i64]) -> (Vec<i32>, Marks) {
-    let out = values.iter().map(|x| i32::try_from(*x).unwrap_or(0)).collect();
-    let bytes = test_each(values.len(), |i| i32::try_from(values[i]).is_ok());
-    (out, counted(bytes, values.len()))
+pub fn sort_indexes(values: &[i64], mask: &Mask) -> Vec<u64> {
+    sort_slots(values.iter().copied(), values.len(), mask)
 }
 
-/// The first index of each distinct value, and the number of each value's group.
 #[inline(never)]
-pub fn group(values: &[i64]) -> (Vec<u64>, Vec<u64>) {
-    let mut numbers: HashMap<i64, u64, std::hash::BuildHasherDefault<Mixed>> = HashMap::default();
-    let mut firsts = Vec::new();
-    let mut groups = Vec::with_capacity(values.len());
-    for (i, x) in values.iter().enumerate() {
-        let next = firsts.len() as u64;
-        let number = *numbers.entry(*x).or_insert(next);
-        if number == next {
-            firsts.push(i as u64);
-        }
-        groups.push(number);
-    }
-    (firsts, groups)
+pub fn sort_text_indexes(texts: Texts, mask: &Mask) -> Vec<u64> {
+    sort_slots(texts.iter(), texts.len(), mask)
 }
+
+// ---- what is read of a round's answer: as rattle_flat.h says
 
 /// The place that is looked at after a round.
 fn place(round: u64, rows: usize) -> usize {
     (round.wrapping_mul(7919) % rows.max(1) as u64) as usize
 }
 
-fn probe_marks(out: &Marks, rows: usize, round: u64) -> u64 {
-    rows as u64 + (rows > 0 && is_set(out, place(round, rows))) as u64
+/// The number of rows, that of null ones, and what `slot` gives for the row that is looked at, if it is valid.
+fn probe(rows: usize, mask: &Mask, round: u64, slot: impl Fn(usize) -> u64) -> u64 {
+    let at = place(round, rows);
+    let shown = if rows > 0 && is_valid(mask, at) { slot(at) } else { 0 };
+    (rows as u64).wrapping_add(nulls(mask) as u64).wrapping_add(shown)
 }
 
-pub fn cmp_lt<'a>(values: &'a [i64], others: &'a [i64], valid: &[u8]) -> impl FnMut(u64) -> u64 + 'a {
+/// An operation of the comparison, which is given the round.
+pub type Operation<'a> = Box<dyn FnMut(u64) -> u64 + 'a>;
+
+/// A kernel of two columns of numbers, of which the second has no null, that makes booleans.
+pub fn compare<'a>(
+    kernel: fn(&[i64], &[i64], &Mask) -> (Marks, Mask),
+    lhs: &'a [i64],
+    rhs: &'a [i64],
+    valid: &[u8],
+) -> Operation<'a> {
     let mask = packed(valid);
-    move |round| probe_marks(&lt(std::hint::black_box(values), others, &mask).0, values.len(), round)
+    Box::new(move |round| {
+        let (marks, mask) = kernel(black_box(lhs), rhs, &mask);
+        probe(lhs.len(), &mask, round, |at| marks.is_set(at) as u64)
+    })
 }
 
-pub fn cmp_lt_scalar<'a>(values: &'a [i64], valid: &[u8]) -> impl FnMut(u64) -> u64 + 'a {
+pub fn compare_zero<'a>(values: &'a [i64], valid: &[u8]) -> Operation<'a> {
     let mask = packed(valid);
-    move |round| probe_marks(&lt_scalar(std::hint::black_box(values), 0, &mask).0, values.len(), round)
+    Box::new(move |round| {
+        let (marks, mask) = lt_scalar(black_box(values), 0, &mask);
+        probe(values.len(), &mask, round, |at| marks.is_set(at) as u64)
+    })
 }
 
-pub fn agg_sum<'a>(values: &'a [i64], valid: &[u8]) -> impl FnMut(u64) -> u64 + 'a {
+pub fn compare_texts<'a>(bytes: &'a [u8], others: &'a [u8], offsets: &'a [i32]) -> Operation<'a> {
+    let (lhs, rhs) = (Texts { bytes, offsets }, Texts { bytes: others, offsets });
+    Box::new(move |round| {
+        let marks = eq_texts(black_box(lhs), rhs);
+        probe(lhs.len(), &None, round, |at| marks.is_set(at) as u64)
+    })
+}
+
+/// A kernel of two columns of booleans, of which the second has no null.
+pub fn combine_marks<'a>(
+    kernel: fn(&Marks, &Marks, &Mask, usize) -> (Marks, Mask),
+    bits: &[u8],
+    others: &[u8],
+    valid: &[u8],
+) -> Operation<'a> {
+    let (lhs, rhs, mask, rows) = (marks_of(bits), marks_of(others), packed(valid), bits.len());
+    Box::new(move |round| {
+        let (marks, mask) = kernel(black_box(&lhs), &rhs, &mask, rows);
+        probe(rows, &mask, round, |at| marks.is_set(at) as u64)
+    })
+}
+
+/// A kernel of two columns of numbers, of which the second has no null, that makes numbers.
+pub fn combine<'a>(
+    kernel: fn(&[i64], &[i64], &Mask) -> (Vec<i64>, Mask),
+    lhs: &'a [i64],
+    rhs: &'a [i64],
+    valid: &[u8],
+) -> Operation<'a> {
     let mask = packed(valid);
-    move |_| sum(std::hint::black_box(values), &mask).map_or(1, |sum| sum as u64)
+    Box::new(move |round| {
+        let (values, mask) = kernel(black_box(lhs), rhs, &mask);
+        probe(values.len(), &mask, round, |at| values[at] as u64)
+    })
 }
 
-pub fn agg_min<'a>(values: &'a [i64], valid: &[u8]) -> impl FnMut(u64) -> u64 + 'a {
+/// A kernel of the low 32 bits of two columns of numbers.
+pub fn combine_i32<'a>(
+    kernel: fn(&[i32], &[i32], &Mask) -> (Vec<i32>, Mask),
+    lhs: &'a [i64],
+    rhs: &'a [i64],
+) -> Operation<'a> {
+    let (lhs, rhs) = (wrap_i32(lhs, &None).0, wrap_i32(rhs, &None).0);
+    Box::new(move |round| {
+        let (values, mask) = kernel(black_box(&lhs), &rhs, &None);
+        probe(values.len(), &mask, round, |at| values[at] as u64)
+    })
+}
+
+pub fn cast_i32<'a>(kernel: fn(&[i64], &Mask) -> (Vec<i32>, Mask), values: &'a [i64], valid: &[u8]) -> Operation<'a> {
     let mask = packed(valid);
-    move |_| least(std::hint::black_box(values), &mask) as u64
+    Box::new(move |round| {
+        let (values, mask) = kernel(black_box(values), &mask);
+        probe(values.len(), &mask, round, |at| values[at] as u64)
+    })
 }
 
-pub fn kleene(bits: &[u8], others: &[u8], valid: &[u8]) -> impl FnMut(u64) -> u64 {
-    let (lhs, rhs, mask) = (packed(bits).unwrap(), packed(others).unwrap(), packed(valid));
-    let rows = bits.len();
-    move |round| probe_marks(&kleene_and(std::hint::black_box(&lhs), &rhs, &mask, &None, rows).0, rows, round)
-}
-
-pub fn sort_prim<'a>(values: &'a [i64], valid: &[u8]) -> impl FnMut(u64) -> u64 + 'a {
+pub fn cast_to_utf8<'a>(values: &'a [i64], valid: &[u8]) -> Operation<'a> {
     let mask = packed(valid);
-    move |round| {
-        let out = sort_indexes(std::hint::black_box(values), &mask);
-        out.len() as u64 + out.get(place(round, out.len())).copied().unwrap_or(0)
-    }
+    Box::new(move |round| {
+        let (bytes, offsets, mask) = to_texts(black_box(values), &mask);
+        let texts = Texts { bytes: &bytes, offsets: &offsets };
+        probe(values.len(), &mask, round, |at| texts.get(at).first().map_or(0, |byte| *byte as u64))
+    })
 }
 
-/// A hash of one number by a product.
-#[derive(Default)]
-pub struct Mixed(u64);
+pub fn cast_of_utf8<'a>(bytes: &'a [u8], offsets: &'a [i32], valid: &[u8]) -> Operation<'a> {
+    let (texts, mask) = (Texts { bytes, offsets }, packed(valid));
+    Box::new(move |round| {
+        let (values, mask) = of_texts(black_box(texts), &mask);
+        probe(values.len(), &mask, round, |at| values[at] as u64)
+    })
+}
 
-impl std::hash::Hasher for Mixed {
-    fn finish(&self) -> u64 {
-        self.0
-    }
+/// A number of all values.
+pub fn aggregate<'a>(kernel: fn(&[i64], &Mask) -> i64, values: &'a [i64], valid: &[u8]) -> Operation<'a> {
+    let mask = packed(valid);
+    Box::new(move |_| kernel(black_box(values), &mask) as u64)
+}
 
-    fn write(&mut self, bytes: &[u8]) {
-        for byte in bytes {
-            self.write_u64(*byte as u64);
-        }
-    }
+pub fn agg_min_utf8<'a>(bytes: &'a [u8], offsets: &'a [i32], valid: &[u8]) -> Operation<'a> {
+    let (texts, mask) = (Texts { bytes, offsets }, packed(valid));
+    Box::new(move |_| least_text(black_box(texts), &mask).map_or(0, |text| text.len() as u64))
+}
 
-    fn write_u64(&mut self, x: u64) {
-        self.0 = (self.0 ^ x).wrapping_mul(0x9e37_79b9_7f4a_7c15).rotate_left(26);
-    }
+fn probe_groups(groups: &Groups, round: u64) -> u64 {
+    let rows = groups.numbers.len();
+    (rows + groups.first.len() + groups.numbers.get(place(round, rows)).copied().unwrap_or(0)) as u64
+}
 
-    fn write_i64(&mut self, x: i64) {
-        self.write_u64(x as u64);
-    }
+pub fn group_prim<'a>(values: &'a [i64], valid: &[u8]) -> Operation<'a> {
+    let mask = packed(valid);
+    Box::new(move |round| probe_groups(&group(black_box(values), &mask), round))
+}
+
+pub fn group_utf8<'a>(bytes: &'a [u8], offsets: &'a [i32], valid: &[u8]) -> Operation<'a> {
+    let (texts, mask) = (Texts { bytes, offsets }, packed(valid));
+    Box::new(move |round| probe_groups(&group_texts(black_box(texts), &mask), round))
+}
+
+/// Sums of values by the groups of keys, which are grouped once.
+pub fn sum_groups<'a>(values: &'a [i64], keys: &[i64], valid: &[u8]) -> Operation<'a> {
+    let (mask, groups) = (packed(valid), group(keys, &None));
+    Box::new(move |round| match group_sum(black_box(values), &mask, &groups) {
+        Some((sums, mask)) => probe(sums.len(), &mask, round, |at| sums[at] as u64),
+        None => u64::MAX,
+    })
+}
+
+pub fn hash_prim<'a>(values: &'a [i64], valid: &[u8]) -> Operation<'a> {
+    let mask = packed(valid);
+    Box::new(move |round| {
+        let hashes = hash(black_box(values), &mask);
+        probe(hashes.len(), &None, round, |at| hashes[at])
+    })
+}
+
+pub fn select_take<'a>(keys: &'a [i64], values: &'a [i64], valid: &[u8]) -> Operation<'a> {
+    let mask = packed(valid);
+    Box::new(move |round| match take(values, black_box(keys), &mask) {
+        Some((values, mask)) => probe(values.len(), &mask, round, |at| values[at] as u64),
+        None => u64::MAX,
+    })
+}
+
+pub fn select_if_then_else<'a>(bits: &[u8], values: &'a [i64], others: &'a [i64], valid: &[u8]) -> Operation<'a> {
+    let (predicate, mask) = (marks_of(bits), packed(valid));
+    Box::new(move |round| {
+        let (values, mask) = if_then_else(&predicate, black_box(values), others, &mask);
+        probe(values.len(), &mask, round, |at| values[at] as u64)
+    })
+}
+
+pub fn select_nullif<'a>(values: &[i64], others: &'a [i64], valid: &[u8]) -> Operation<'a> {
+    let (values, mask) = (Rc::new(values.to_vec()), packed(valid));
+    Box::new(move |round| {
+        let (values, mask) = nullif(black_box(&values), others, &mask);
+        probe(values.len(), &mask, round, |at| values[at] as u64)
+    })
+}
+
+pub fn sort_prim<'a>(values: &'a [i64], valid: &[u8]) -> Operation<'a> {
+    let mask = packed(valid);
+    Box::new(move |round| {
+        let indexes = sort_indexes(black_box(values), &mask);
+        probe(indexes.len(), &None, round, |at| indexes[at])
+    })
+}
+
+pub fn sort_utf8<'a>(bytes: &'a [u8], offsets: &'a [i32], valid: &[u8]) -> Operation<'a> {
+    let (texts, mask) = (Texts { bytes, offsets }, packed(valid));
+    Box::new(move |round| {
+        let indexes = sort_text_indexes(black_box(texts), &mask);
+        probe(indexes.len(), &None, round, |at| indexes[at])
+    })
 }

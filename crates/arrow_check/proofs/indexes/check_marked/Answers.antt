@@ -1,10 +1,21 @@
 use Rattle.std.proofs.Common.{◌≡◌, not, false, length, get_or, Some, refl, sym, ap, ◌∙◌, true≢false, arith}
 use Rattle.std.proofs.lemmas.Option.{slice_get-get_or}
 use Rattle.arrow_check.specs.Indexes.{valid_keys}
-use Rattle.arrow_check.proofs.KeyLemmas.{all-in-bounds, first-found, none-step, none-whole}
+use Rattle.arrow_check.proofs.KeyLemmas.{all-in-bounds, first-found, none-step, none-valid, none-whole}
 use Rattle.arrow_check.proofs.indexes.check_marked.Goals as goal
 use Rattle.arrow_check.proofs.indexes.check_marked.Goals.{else-not-points_at_item-via-then-not-points_at_item+else-get_bit}
 use Rattle.arrow_check.proofs.indexes.check_marked.Goals.{else-not-points_at_item-via-else-not-points_at_item}
+
+pub returns-then-all_point_at_items-clause-first : goal.returns-then-all_point_at_items-clause-first
+returns-then-all_point_at_items-clause-first g c =
+    rw (none-valid g.K.IndexKey.number c.args.len c.args.keys.now c.args.marks.now
+    (c.all_point_at_items.ensures c.if-all_point_at_items.true)) refl
+
+pub returns-then-all_point_at_items-clause-ok : goal.returns-then-all_point_at_items-clause-ok
+returns-then-all_point_at_items-clause-ok g c =
+    all-in-bounds g.K.IndexKey.number c.args.len (valid_keys c.args.keys.now (Some c.args.marks.now))
+    (none-valid g.K.IndexKey.number c.args.len c.args.keys.now c.args.marks.now
+    (c.all_point_at_items.ensures c.if-all_point_at_items.true))
 
 pub loop-index-init : goal.loop-index-init
 loop-index-init g c = refl

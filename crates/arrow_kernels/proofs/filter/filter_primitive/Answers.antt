@@ -7,8 +7,7 @@ use Rattle.arrow_kernels.proofs.filter.filter_primitive.Goals as goal
 pub new-requires-clause-mask : goal.new-requires-clause-mask
 new-requires-clause-mask g c =
     fits-filtered c.args.array.now c.args.filter.now _ _
-    (c.in_ok-from_vec.ensures.ok ∙ c.in_ok-values.ensures.ok
-    ∙ ap₂ where_set c.in_ok-asked.ensures.ok (c.as_slice.ensures ∙ c.values.ensures))
+    (c.in_ok-values.ensures.ok ∙ ap₂ where_set c.in_ok-asked.ensures.ok c.values.ensures)
     (c.in_ok-mask.ensures.ok ∙ ap₂ (λ marks o. mask_with_nulls (option_map (where_set marks) o))
     c.in_ok-asked.ensures.ok c.validity.ensures.mask)
 
@@ -17,7 +16,6 @@ returns-clause-ok g c =
     c.new.ensures
     ∙ makes-filtered tt c.args.array.now c.args.filter.now _ _ _ c.validity.ensures.is_column
     (c.in_ok-data_type.ensures.cases ∙ c.data_type.ensures.value)
-    (c.in_ok-from_vec.ensures.ok ∙ c.in_ok-values.ensures.ok
-    ∙ ap₂ where_set c.in_ok-asked.ensures.ok (c.as_slice.ensures ∙ c.values.ensures))
+    (c.in_ok-values.ensures.ok ∙ ap₂ where_set c.in_ok-asked.ensures.ok c.values.ensures)
     (c.in_ok-mask.ensures.ok ∙ ap₂ (λ marks o. mask_with_nulls (option_map (where_set marks) o))
     c.in_ok-asked.ensures.ok c.validity.ensures.mask)

@@ -1,12 +1,14 @@
-use Rattle.std.proofs.Common.{◌≡◌, ◌+◌, ◌-◌, ◌≤◌, count_by, length, not, take}
+use Rattle.std.proofs.Common.{◌≡◌, ℕ, ◌+◌, ◌-◌, ◌<◌, ◌≤◌, count_by, length, not, slice_get, Some, true, take}
 use Rattle.std.specs.Vec.{vec_capacity}
 use Rattle.arrow_bytes.specs.Selection.{where_set}
 use Rattle.arrow_kernels.proofs.keep.keep_each_value.Given as goal
 
 abbrev pub invariant-loop-row : goal.invariant-loop-row
 invariant-loop-row g l = record {
+  order : l.first ≤ l.row;
   within : l.row ≤ length l.asked;
-  so_far : l.kept.items ≡ where_set (take l.row l.asked) (take l.row l.values);
+  set : (k : ℕ) → l.first ≤ k → k < l.row → slice_get l.asked k ≡ Some true;
+  so_far : l.kept.items ≡ where_set (take l.first l.asked) (take l.first l.values);
   room : length l.asked ≤ vec_capacity l.kept + count_by not l.asked;
 }
 

@@ -1,4 +1,4 @@
-use Rattle.std.proofs.Common.{◌≡◌, ◌-◌, ◌≤◌, length, take}
+use Rattle.std.proofs.Common.{◌≡◌, ℕ, ◌-◌, ◌<◌, ◌≤◌, length, slice_get, Some, true, take}
 use Rattle.std.specs.List.{concat}
 use Rattle.arrow_check.specs.Pieces.{items_of, offsets_of}
 use Rattle.arrow_bytes.specs.Selection.{where_set}
@@ -6,9 +6,11 @@ use Rattle.arrow_kernels.proofs.keep.keep_items.Given as goal
 
 abbrev pub invariant-loop-row : goal.invariant-loop-row
 invariant-loop-row g l = record {
+  order : l.first ≤ l.row;
   within : l.row ≤ length l.asked;
-  ends : l.kept ≡ offsets_of 0 (where_set (take l.row l.asked) (take l.row (items_of l.offsets l.bytes)));
-  joined : l.kept_bytes.items ≡ concat (where_set (take l.row l.asked) (take l.row (items_of l.offsets l.bytes)));
+  set : (k : ℕ) → l.first ≤ k → k < l.row → slice_get l.asked k ≡ Some true;
+  ends : l.kept ≡ offsets_of 0 (where_set (take l.first l.asked) (take l.first (items_of l.offsets l.bytes)));
+  joined : l.kept_bytes.items ≡ concat (where_set (take l.first l.asked) (take l.first (items_of l.offsets l.bytes)));
 }
 
 abbrev pub decreases-loop-row : goal.decreases-loop-row

@@ -1,43 +1,47 @@
-use Rattle.std.proofs.Common.{◌-◌, ◌<◌, ◌++◌, ap, arith, drop, length, sym, take, ◌∙◌}
+use Rattle.std.proofs.Common.{◌+◌, arith, sym, ◌∙◌}
 use Rattle.arrow_kernels.proofs.ChoiceLemmas.{where-gap-up}
-use Rattle.arrow_kernels.proofs.RunLemmas.{rows-more, run-longer}
+use Rattle.arrow_kernels.proofs.RunLemmas.{clear-between, hole-before, set-between, set-on}
 use Rattle.arrow_kernels.proofs.keep.keep_value_runs.Goals as goal
 
-pub loop-first-init : goal.loop-first-init
-loop-first-init g c =
-    let next = c.next-first.ensures in
+pub loop-hole-init : goal.loop-hole-init
+loop-hole-init g c =
+    let next = c.next_set-hole.ensures in
     record {
       high = next.high;
-      set = next.set;
-      so_far = c.requires.so_far ∙ sym (where-gap-up c.args.asked.now c.args.values.now c.args.row
-          c.next-first.result next.low next.clear);
+      order = omega (arith, c.requires.order);
+      clear = next.set;
+      set = set-on c.args.asked.now c.args.row c.word-word.result c.word-word.ensures (omega arith) c.args.start
+          c.next_set-hole.result next.high c.requires.set next.clear;
+      so_far = c.requires.so_far;
       room = c.requires.room;
     }
 
-pub loop-first-preserved : goal.loop-first-preserved
-loop-first-preserved g c =
+pub loop-hole-smaller : goal.loop-hole-smaller
+loop-hole-smaller g c =
+    let place = c.next_set-place.ensures in
+    let next = c.next_set-hole-in-loop-hole.ensures in
+    let less = c.loop-hole-test.true in
+    let longer = hole-before c.args.asked.now c.args.row c.word-word.result c.word-word.ensures (omega arith)
+    c.loop-hole.hole c.next_set-place.result less (c.loop-hole.invariant.clear less) place.low place.set in
+    omega (arith, longer, next.low, less)
+
+pub loop-hole-preserved : goal.loop-hole-preserved
+loop-hole-preserved g c =
     let asked = c.args.asked.now in
-    let values = c.args.values.now in
-    let end = c.next_clear-end.ensures in
-    let next = c.next-first-in-loop-first.ensures in
+    let row = c.args.row in
+    let word = c.word-word.result in
+    let place = c.next_set-place.ensures in
+    let next = c.next_set-hole-in-loop-hole.ensures in
     record {
       high = next.high;
-      set = next.set;
-      so_far = c.in_ok-extend_from_slice.ensures.items
-          ∙ ap (λ kept. kept ++ take (c.next_clear-end.result - c.loop-first.first) (drop c.loop-first.first values))
-          c.loop-first.invariant.so_far
-          ∙ rows-more asked values c.loop-first.first c.next_clear-end.result c.requires.same end.low end.high end.set
-          ∙ sym (where-gap-up asked values c.next_clear-end.result c.next-first-in-loop-first.result next.low
-          next.clear);
-      room = omega (arith, c.loop-first.invariant.room, c.in_ok-extend_from_slice.ensures.capacity);
+      order = omega (arith, next.low);
+      clear = next.set;
+      set = set-between asked row word c.word-word.ensures (omega arith) c.next_set-place.result
+          c.next_set-hole-in-loop-hole.result next.high next.clear;
+      so_far = c.in_ok-keep_value_run.ensures.so_far
+          ∙ sym (where-gap-up asked c.args.values.now (row + c.loop-hole.hole) (row + c.next_set-place.result)
+          (omega (arith, place.low))
+          (clear-between asked row word c.word-word.ensures c.loop-hole.hole c.next_set-place.result place.high
+          place.clear));
+      room = c.in_ok-keep_value_run.ensures.room;
     }
-
-pub loop-first-smaller : goal.loop-first-smaller
-loop-first-smaller g c =
-    let asked = c.args.asked.now in
-    let first = c.loop-first.first in
-    let end = c.next_clear-end.ensures in
-    let within : c.loop-first.first < length c.args.asked.now = omega (arith, c.requires.within) in
-    let longer = run-longer asked first c.next_clear-end.result end.low within (c.loop-first.invariant.set within)
-    end.clear in
-    omega (arith, longer, c.next-first-in-loop-first.ensures.low, within)

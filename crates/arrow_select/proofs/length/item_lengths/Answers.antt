@@ -2,7 +2,7 @@ use Rattle.std.proofs.Common.{◌<◌, ◌≡◌, ◌∙◌, [], ap, arith, get_
 use Rattle.std.proofs.lemmas.List.{length-map}
 use Rattle.std.proofs.lemmas.Option.{slice_get-get_or}
 use Rattle.arrow_column.specs.Column.{stored_values}
-use Rattle.arrow_select.proofs.SlotLemmas.{all-mapped, next-mapped}
+use Rattle.arrow_select.proofs.LengthLemmas.{all-mapped, next-mapped}
 use Rattle.arrow_select.proofs.length.item_lengths.Goals as goal
 
 pub loop-i-preserved : goal.loop-i-preserved

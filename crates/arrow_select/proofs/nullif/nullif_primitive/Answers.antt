@@ -1,17 +1,19 @@
-use Rattle.std.proofs.Common.{◌∙◌}
-use Rattle.std.proofs.lemmas.Result.{IfOk-weaker}
-use Rattle.arrow_types.specs.Types.{logical_type}
 use Rattle.arrow_column.specs.Column.{slots_of}
-use Rattle.arrow_select.specs.Selects.{MakesSlots, slots_null_if}
-use Rattle.arrow_select.proofs.SlotLemmas.{remade}
+use Rattle.arrow_select.specs.Selects.{slots_null_if}
+use Rattle.arrow_select.proofs.NullLemmas.{stores-differing}
+use Rattle.arrow_select.proofs.ShownLemmas.{fits-rows, masked-shown}
 use Rattle.arrow_select.proofs.nullif.nullif_primitive.Goals as goal
+
+pub with_validity-requires : goal.with_validity-requires
+with_validity-requires g c =
+    let eq = g.T.PartialEq.eq in
+    let lhs = c.args.lhs.now in
+    fits-rows lhs _ (slots_null_if eq (slots_of lhs) (slots_of c.args.rhs.now)) _ c.in_ok-clone.ensures.ok
+    c.in_ok-mask.ensures.ok (stores-differing eq lhs.rows c.args.rhs.now.rows c.requires)
 
 pub returns-clause-ok : goal.returns-clause-ok
 returns-clause-ok g c =
-    let t = logical_type c.in_ok-data_type.data_type in
-    let shown = slots_null_if g.T.PartialEq.eq (slots_of c.args.lhs.now) (slots_of c.args.rhs.now) in
-    let items = c.as_slice-items.result.now in
-    IfOk-weaker c.numbers_of_slots.result (MakesSlots t items) (MakesSlots c.args.lhs.now.data_type shown)
-    (λ made m. remade t c.args.lhs.now.data_type items shown c.in_ok-slots.slots.items made
-    (c.in_ok-data_type.ensures.cases ∙ c.data_type.ensures.value) c.as_slice-items.ensures.value c.in_ok-slots.ensures m)
-    c.numbers_of_slots.ensures.ok
+    let eq = g.T.PartialEq.eq in
+    let lhs = c.args.lhs.now in
+    masked-shown lhs _ _ (slots_null_if eq (slots_of lhs) (slots_of c.args.rhs.now)) _ c.in_ok-clone.ensures.ok
+    c.with_validity.ensures c.in_ok-mask.ensures.ok (stores-differing eq lhs.rows c.args.rhs.now.rows c.requires)

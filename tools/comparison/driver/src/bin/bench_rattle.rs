@@ -53,11 +53,33 @@ mod library {
         pub fn rattle_flat_take_prim(v: *const i64, nv: usize, m: *const u8, nm: usize, k: *const i64, nk: usize, rounds: usize) -> u64;
         pub fn rattle_flat_take_utf8(d: *const u8, nd: usize, o: *const i32, no: usize, m: *const u8, nm: usize, k: *const i64, nk: usize, rounds: usize) -> u64;
         pub fn rattle_flat_cmp_lt(v: *const i64, nv: usize, w: *const i64, nw: usize, m: *const u8, nm: usize, rounds: usize) -> u64;
+        pub fn rattle_flat_cmp_eq(v: *const i64, nv: usize, w: *const i64, nw: usize, m: *const u8, nm: usize, rounds: usize) -> u64;
         pub fn rattle_flat_cmp_lt_scalar(v: *const i64, nv: usize, m: *const u8, nm: usize, rounds: usize) -> u64;
+        pub fn rattle_flat_cmp_eq_utf8(d: *const u8, nd: usize, e: *const u8, ne: usize, o: *const i32, no: usize, rounds: usize) -> u64;
+        pub fn rattle_flat_logic_and(b: *const u8, nb: usize, c: *const u8, nc: usize, m: *const u8, nm: usize, rounds: usize) -> u64;
+        pub fn rattle_flat_kleene_and(b: *const u8, nb: usize, c: *const u8, nc: usize, m: *const u8, nm: usize, rounds: usize) -> u64;
+        pub fn rattle_flat_arith_add_i64(v: *const i64, nv: usize, w: *const i64, nw: usize, m: *const u8, nm: usize, rounds: usize) -> u64;
+        pub fn rattle_flat_arith_checked_add_i64(v: *const i64, nv: usize, w: *const i64, nw: usize, m: *const u8, nm: usize, rounds: usize) -> u64;
+        pub fn rattle_flat_arith_mul_i64(v: *const i64, nv: usize, w: *const i64, nw: usize, m: *const u8, nm: usize, rounds: usize) -> u64;
+        pub fn rattle_flat_arith_add_i32(v: *const i64, nv: usize, w: *const i64, nw: usize, rounds: usize) -> u64;
+        pub fn rattle_flat_arith_saturating_add_i32(v: *const i64, nv: usize, w: *const i64, nw: usize, rounds: usize) -> u64;
+        pub fn rattle_flat_cast_wrap_i32(v: *const i64, nv: usize, m: *const u8, nm: usize, rounds: usize) -> u64;
+        pub fn rattle_flat_cast_fit_i32(v: *const i64, nv: usize, m: *const u8, nm: usize, rounds: usize) -> u64;
+        pub fn rattle_flat_cast_to_utf8(v: *const i64, nv: usize, m: *const u8, nm: usize, rounds: usize) -> u64;
+        pub fn rattle_flat_cast_of_utf8(d: *const u8, nd: usize, o: *const i32, no: usize, m: *const u8, nm: usize, rounds: usize) -> u64;
         pub fn rattle_flat_agg_sum(v: *const i64, nv: usize, m: *const u8, nm: usize, rounds: usize) -> u64;
         pub fn rattle_flat_agg_min(v: *const i64, nv: usize, m: *const u8, nm: usize, rounds: usize) -> u64;
-        pub fn rattle_flat_kleene_and(b: *const u8, nb: usize, c: *const u8, nc: usize, m: *const u8, nm: usize, rounds: usize) -> u64;
+        pub fn rattle_flat_agg_max(v: *const i64, nv: usize, m: *const u8, nm: usize, rounds: usize) -> u64;
+        pub fn rattle_flat_agg_min_utf8(d: *const u8, nd: usize, o: *const i32, no: usize, m: *const u8, nm: usize, rounds: usize) -> u64;
+        pub fn rattle_flat_group_prim(v: *const i64, nv: usize, m: *const u8, nm: usize, rounds: usize) -> u64;
+        pub fn rattle_flat_group_utf8(d: *const u8, nd: usize, o: *const i32, no: usize, m: *const u8, nm: usize, rounds: usize) -> u64;
+        pub fn rattle_flat_group_sum(v: *const i64, nv: usize, w: *const i64, nw: usize, m: *const u8, nm: usize, rounds: usize) -> u64;
+        pub fn rattle_flat_hash_prim(v: *const i64, nv: usize, m: *const u8, nm: usize, rounds: usize) -> u64;
+        pub fn rattle_flat_select_take(v: *const i64, nv: usize, w: *const i64, nw: usize, m: *const u8, nm: usize, rounds: usize) -> u64;
+        pub fn rattle_flat_select_if_then_else(b: *const u8, nb: usize, v: *const i64, nv: usize, w: *const i64, nw: usize, m: *const u8, nm: usize, rounds: usize) -> u64;
+        pub fn rattle_flat_select_nullif(v: *const i64, nv: usize, w: *const i64, nw: usize, m: *const u8, nm: usize, rounds: usize) -> u64;
         pub fn rattle_flat_sort_prim(v: *const i64, nv: usize, m: *const u8, nm: usize, rounds: usize) -> u64;
+        pub fn rattle_flat_sort_utf8(d: *const u8, nd: usize, o: *const i32, no: usize, m: *const u8, nm: usize, rounds: usize) -> u64;
         pub fn rattle_flat_prim_push_null(count: usize, rounds: usize) -> u64;
         pub fn rattle_flat_prim_push_pop(v: *const i64, nv: usize, m: *const u8, nm: usize, rounds: usize) -> u64;
         pub fn rattle_flat_prim_push_freeze(v: *const i64, nv: usize, m: *const u8, nm: usize, rounds: usize) -> u64;
@@ -73,7 +95,7 @@ mod library {
 /// The original in the library's place, to try the driver: every ratio should be about 1.
 #[cfg(feature = "stub")]
 mod stub {
-    use bench::ops;
+    use bench::{ops, plain};
     use std::slice::from_raw_parts as list;
 
     fn each(mut op: impl FnMut(u64) -> u64, rounds: usize) -> u64 {
@@ -134,6 +156,34 @@ mod stub {
         rattle_flat_bits_get_bit(p: *const u8, np: usize, times: usize) ops::bits_get_bit(list(p, np), times);
         rattle_flat_bits_get(p: *const u8, np: usize, times: usize) ops::bits_get(list(p, np), times);
         rattle_flat_bits_set(p: *const u8, np: usize) ops::bits_set(list(p, np));
+        rattle_flat_cmp_lt(v: *const i64, nv: usize, w: *const i64, nw: usize, m: *const u8, nm: usize) plain::compare(plain::lt, list(v, nv), list(w, nw), list(m, nm));
+        rattle_flat_cmp_eq(v: *const i64, nv: usize, w: *const i64, nw: usize, m: *const u8, nm: usize) plain::compare(plain::eq, list(v, nv), list(w, nw), list(m, nm));
+        rattle_flat_cmp_lt_scalar(v: *const i64, nv: usize, m: *const u8, nm: usize) plain::compare_zero(list(v, nv), list(m, nm));
+        rattle_flat_cmp_eq_utf8(d: *const u8, nd: usize, e: *const u8, ne: usize, o: *const i32, no: usize) plain::compare_texts(list(d, nd), list(e, ne), list(o, no));
+        rattle_flat_logic_and(b: *const u8, nb: usize, c: *const u8, nc: usize, m: *const u8, nm: usize) plain::combine_marks(plain::and, list(b, nb), list(c, nc), list(m, nm));
+        rattle_flat_kleene_and(b: *const u8, nb: usize, c: *const u8, nc: usize, m: *const u8, nm: usize) plain::combine_marks(plain::kleene_and, list(b, nb), list(c, nc), list(m, nm));
+        rattle_flat_arith_add_i64(v: *const i64, nv: usize, w: *const i64, nw: usize, m: *const u8, nm: usize) plain::combine(plain::add, list(v, nv), list(w, nw), list(m, nm));
+        rattle_flat_arith_checked_add_i64(v: *const i64, nv: usize, w: *const i64, nw: usize, m: *const u8, nm: usize) plain::combine(plain::checked_add, list(v, nv), list(w, nw), list(m, nm));
+        rattle_flat_arith_mul_i64(v: *const i64, nv: usize, w: *const i64, nw: usize, m: *const u8, nm: usize) plain::combine(plain::mul, list(v, nv), list(w, nw), list(m, nm));
+        rattle_flat_arith_add_i32(v: *const i64, nv: usize, w: *const i64, nw: usize) plain::combine_i32(plain::add_i32, list(v, nv), list(w, nw));
+        rattle_flat_arith_saturating_add_i32(v: *const i64, nv: usize, w: *const i64, nw: usize) plain::combine_i32(plain::saturating_add_i32, list(v, nv), list(w, nw));
+        rattle_flat_cast_wrap_i32(v: *const i64, nv: usize, m: *const u8, nm: usize) plain::cast_i32(plain::wrap_i32, list(v, nv), list(m, nm));
+        rattle_flat_cast_fit_i32(v: *const i64, nv: usize, m: *const u8, nm: usize) plain::cast_i32(plain::fit_i32, list(v, nv), list(m, nm));
+        rattle_flat_cast_to_utf8(v: *const i64, nv: usize, m: *const u8, nm: usize) plain::cast_to_utf8(list(v, nv), list(m, nm));
+        rattle_flat_cast_of_utf8(d: *const u8, nd: usize, o: *const i32, no: usize, m: *const u8, nm: usize) plain::cast_of_utf8(list(d, nd), list(o, no), list(m, nm));
+        rattle_flat_agg_sum(v: *const i64, nv: usize, m: *const u8, nm: usize) plain::aggregate(plain::sum, list(v, nv), list(m, nm));
+        rattle_flat_agg_min(v: *const i64, nv: usize, m: *const u8, nm: usize) plain::aggregate(plain::least, list(v, nv), list(m, nm));
+        rattle_flat_agg_max(v: *const i64, nv: usize, m: *const u8, nm: usize) plain::aggregate(plain::greatest, list(v, nv), list(m, nm));
+        rattle_flat_agg_min_utf8(d: *const u8, nd: usize, o: *const i32, no: usize, m: *const u8, nm: usize) plain::agg_min_utf8(list(d, nd), list(o, no), list(m, nm));
+        rattle_flat_group_prim(v: *const i64, nv: usize, m: *const u8, nm: usize) plain::group_prim(list(v, nv), list(m, nm));
+        rattle_flat_group_utf8(d: *const u8, nd: usize, o: *const i32, no: usize, m: *const u8, nm: usize) plain::group_utf8(list(d, nd), list(o, no), list(m, nm));
+        rattle_flat_group_sum(v: *const i64, nv: usize, w: *const i64, nw: usize, m: *const u8, nm: usize) plain::sum_groups(list(v, nv), list(w, nw), list(m, nm));
+        rattle_flat_hash_prim(v: *const i64, nv: usize, m: *const u8, nm: usize) plain::hash_prim(list(v, nv), list(m, nm));
+        rattle_flat_select_take(v: *const i64, nv: usize, w: *const i64, nw: usize, m: *const u8, nm: usize) plain::select_take(list(v, nv), list(w, nw), list(m, nm));
+        rattle_flat_select_if_then_else(b: *const u8, nb: usize, v: *const i64, nv: usize, w: *const i64, nw: usize, m: *const u8, nm: usize) plain::select_if_then_else(list(b, nb), list(v, nv), list(w, nw), list(m, nm));
+        rattle_flat_select_nullif(v: *const i64, nv: usize, w: *const i64, nw: usize, m: *const u8, nm: usize) plain::select_nullif(list(v, nv), list(w, nw), list(m, nm));
+        rattle_flat_sort_prim(v: *const i64, nv: usize, m: *const u8, nm: usize) plain::sort_prim(list(v, nv), list(m, nm));
+        rattle_flat_sort_utf8(d: *const u8, nd: usize, o: *const i32, no: usize, m: *const u8, nm: usize) plain::sort_utf8(list(d, nd), list(o, no), list(m, nm));
     }
 }
 
@@ -196,13 +246,16 @@ impl Out {
             std::hint::black_box(f(std::hint::black_box(rounds)));
             start.elapsed().as_nanos() as f64
         };
+        // The least of three, since one that something interrupts would end the search too early: a difference of a few
+        // short calls is lost in what is done once.
+        let least_of = |f: &dyn Fn(usize) -> u64, rounds| (0..3).map(|_| time(f, rounds)).fold(f64::INFINITY, f64::min);
         let many = |f: &dyn Fn(usize) -> u64| {
-            let prepared = time(f, 1);
+            let prepared = least_of(f, 1);
             let mut more = 1;
-            let mut took = (time(f, 2) - prepared).max(20.0);
+            let mut took = (least_of(f, 2) - prepared).max(20.0);
             while took < 1e6 && more < 1_000_000 {
                 more = (more * 8).min(1_000_000);
-                took = (time(f, 1 + more) - prepared).max(20.0);
+                took = (least_of(f, 1 + more) - prepared).max(20.0);
             }
             ((slice() + prepared.min(2.0 * slice())) / (took / more as f64)).clamp(2.0, 2_000_000.0) as usize
         };
@@ -451,8 +504,7 @@ fn main() {
             |r| rattle_flat_prim_thaw_push(v, n, valid.as_ptr(), n, r));
     }
 
-    // filter and take: a million rows; the original's side is hand-written (src/kernels.rs). Only
-    // the fast ones keep the stored values of null slots, so only theirs are compared.
+    // filter and take: a million rows; the original's side is hand-written (src/kernels.rs)
     const K: usize = 1_000_000;
     let (values, valid) = (&values[..K], &valid[..K]);
     let (bytes, mut offsets) = data::text(Text::Ascii, 13 * K, 12);
@@ -469,20 +521,20 @@ fn main() {
         for at in 0..2 {
             for (which, k) in masks {
                 let (how, kernel) = ops::FILTER_PRIM[at];
-                side!(out, have_filter_prim, format!("filter_prim_{which}_{nulls}_{how}"), Unit::Item(K), at == 1,
+                side!(out, have_filter_prim, format!("filter_prim_{which}_{nulls}_{how}"), Unit::Item(K), true,
                     ops::filter_prim(values, m, k, kernel),
                     |r| rattle_flat_filter_prim(v, K, m.as_ptr(), m.len(), k.as_ptr(), K, r));
                 let (how, kernel) = ops::FILTER_UTF8[at];
-                side!(out, have_filter_utf8, format!("filter_utf8_{which}_{nulls}_{how}"), Unit::Item(K), at == 1,
+                side!(out, have_filter_utf8, format!("filter_utf8_{which}_{nulls}_{how}"), Unit::Item(K), true,
                     ops::filter_utf8(bytes, offsets, m, k, kernel),
                     |r| rattle_flat_filter_utf8(d, nd, o, no, m.as_ptr(), m.len(), k.as_ptr(), K, r));
             }
             let (how, kernel) = ops::TAKE_PRIM[at];
-            side!(out, have_take_prim, format!("take_prim_{nulls}_{how}"), Unit::Item(K), at == 1,
+            side!(out, have_take_prim, format!("take_prim_{nulls}_{how}"), Unit::Item(K), true,
                 ops::take_prim(values, m, keys, kernel),
                 |r| rattle_flat_take_prim(v, K, m.as_ptr(), m.len(), keys.as_ptr(), K, r));
             let (how, kernel) = ops::TAKE_UTF8[at];
-            side!(out, have_take_utf8, format!("take_utf8_{nulls}_{how}"), Unit::Item(K), at == 1,
+            side!(out, have_take_utf8, format!("take_utf8_{nulls}_{how}"), Unit::Item(K), true,
                 ops::take_utf8(bytes, offsets, m, keys, kernel),
                 |r| rattle_flat_take_utf8(d, nd, o, no, m.as_ptr(), m.len(), keys.as_ptr(), K, r));
         }
@@ -490,28 +542,111 @@ fn main() {
 
     // column kernels over 65,536 rows; the original's side is plain loops over slices (src/plain.rs)
     const C: usize = 65_536;
+    let (values, others, valid, bits) = (&values[..C], &values[C..2 * C], &valid[..C], &bits[..C]);
+    let other_bits = leak(data::marks(C, 50, 22));
+    // numbers of at most six digits; a hundred different ones; and numbers of which one of ten takes more than 32 bits
     let small = leak(data::keys(C, 1_000_000, 21));
-    let (values, valid, bits, ones) = (&values[..C], &valid[..C], &bits[..C], leak(data::marks(C, 50, 22)));
+    let few = leak(data::keys(C, 100, 23));
+    let other_few = leak(data::keys(C, 100, 24));
+    let wide = leak((0..C).map(|i| if i % 10 == 0 { values[i] } else { small[i] }).collect());
+    let keys = leak(data::keys(C, C, 25));
+    let ends = &offsets[..=C];
+    let texts = &bytes[..ends[C] as usize];
+    let half_equal = leak(data::half_equal(texts, ends, bits));
+    let (digits, digit_ends) = data::decimals(small);
+    let (digits, digit_ends) = (leak(digits), leak(digit_ends));
+    let (words, word_ends) = data::words(few);
+    let (words, word_ends) = (leak(words), leak(word_ends));
     for (word, m) in [("nonull", none), ("null10", valid)] {
         side!(out, have_cmp_lt, format!("cmp_lt_{word}"), Unit::Item(C), true,
-            plain::cmp_lt(small, values, m),
-            |r| rattle_flat_cmp_lt(small.as_ptr(), C, values.as_ptr(), C, m.as_ptr(), m.len(), r));
+            plain::compare(plain::lt, small, values, m),
+            |r| rattle_flat_cmp_lt(small.as_ptr(), small.len(), values.as_ptr(), values.len(), m.as_ptr(), m.len(), r));
         side!(out, have_cmp_lt_scalar, format!("cmp_lt_scalar_{word}"), Unit::Item(C), true,
-            plain::cmp_lt_scalar(values, m),
-            |r| rattle_flat_cmp_lt_scalar(values.as_ptr(), C, m.as_ptr(), m.len(), r));
-        side!(out, have_agg_sum, format!("agg_sum_{word}"), Unit::Item(C), true,
-            plain::agg_sum(small, m),
-            |r| rattle_flat_agg_sum(small.as_ptr(), C, m.as_ptr(), m.len(), r));
-        side!(out, have_agg_min, format!("agg_min_{word}"), Unit::Item(C), true,
-            plain::agg_min(values, m),
-            |r| rattle_flat_agg_min(values.as_ptr(), C, m.as_ptr(), m.len(), r));
+            plain::compare_zero(values, m),
+            |r| rattle_flat_cmp_lt_scalar(values.as_ptr(), values.len(), m.as_ptr(), m.len(), r));
+        side!(out, have_cmp_eq, format!("cmp_eq_{word}"), Unit::Item(C), true,
+            plain::compare(plain::eq, few, other_few, m),
+            |r| rattle_flat_cmp_eq(few.as_ptr(), few.len(), other_few.as_ptr(), other_few.len(), m.as_ptr(), m.len(), r));
+        side!(out, have_logic_and, format!("logic_and_{word}"), Unit::Item(C), true,
+            plain::combine_marks(plain::and, bits, other_bits, m),
+            |r| rattle_flat_logic_and(bits.as_ptr(), bits.len(), other_bits.as_ptr(), other_bits.len(), m.as_ptr(), m.len(), r));
         side!(out, have_kleene_and, format!("kleene_and_{word}"), Unit::Item(C), true,
-            plain::kleene(bits, ones, m),
-            |r| rattle_flat_kleene_and(bits.as_ptr(), C, ones.as_ptr(), C, m.as_ptr(), m.len(), r));
+            plain::combine_marks(plain::kleene_and, bits, other_bits, m),
+            |r| rattle_flat_kleene_and(bits.as_ptr(), bits.len(), other_bits.as_ptr(), other_bits.len(), m.as_ptr(), m.len(), r));
+        side!(out, have_arith_add_i64, format!("arith_add_i64_{word}"), Unit::Item(C), true,
+            plain::combine(plain::add, values, others, m),
+            |r| rattle_flat_arith_add_i64(values.as_ptr(), values.len(), others.as_ptr(), others.len(), m.as_ptr(), m.len(), r));
+        side!(out, have_arith_checked_add_i64, format!("arith_checked_add_i64_{word}"), Unit::Item(C), true,
+            plain::combine(plain::checked_add, values, others, m),
+            |r| rattle_flat_arith_checked_add_i64(values.as_ptr(), values.len(), others.as_ptr(), others.len(), m.as_ptr(), m.len(), r));
+        side!(out, have_cast_wrap_i32, format!("cast_wrap_i32_{word}"), Unit::Item(C), true,
+            plain::cast_i32(plain::wrap_i32, wide, m),
+            |r| rattle_flat_cast_wrap_i32(wide.as_ptr(), wide.len(), m.as_ptr(), m.len(), r));
+        side!(out, have_cast_fit_i32, format!("cast_fit_i32_{word}"), Unit::Item(C), true,
+            plain::cast_i32(plain::fit_i32, wide, m),
+            |r| rattle_flat_cast_fit_i32(wide.as_ptr(), wide.len(), m.as_ptr(), m.len(), r));
+        side!(out, have_cast_to_utf8, format!("cast_to_utf8_{word}"), Unit::Item(C), true,
+            plain::cast_to_utf8(small, m),
+            |r| rattle_flat_cast_to_utf8(small.as_ptr(), small.len(), m.as_ptr(), m.len(), r));
+        side!(out, have_cast_of_utf8, format!("cast_of_utf8_{word}"), Unit::Item(C), true,
+            plain::cast_of_utf8(digits, digit_ends, m),
+            |r| rattle_flat_cast_of_utf8(digits.as_ptr(), digits.len(), digit_ends.as_ptr(), digit_ends.len(), m.as_ptr(), m.len(), r));
+        side!(out, have_agg_sum, format!("agg_sum_{word}"), Unit::Item(C), true,
+            plain::aggregate(plain::sum, small, m),
+            |r| rattle_flat_agg_sum(small.as_ptr(), small.len(), m.as_ptr(), m.len(), r));
+        side!(out, have_agg_min, format!("agg_min_{word}"), Unit::Item(C), true,
+            plain::aggregate(plain::least, values, m),
+            |r| rattle_flat_agg_min(values.as_ptr(), values.len(), m.as_ptr(), m.len(), r));
+        side!(out, have_agg_max, format!("agg_max_{word}"), Unit::Item(C), true,
+            plain::aggregate(plain::greatest, values, m),
+            |r| rattle_flat_agg_max(values.as_ptr(), values.len(), m.as_ptr(), m.len(), r));
+        side!(out, have_group_prim, format!("group_few_{word}"), Unit::Item(C), true,
+            plain::group_prim(few, m),
+            |r| rattle_flat_group_prim(few.as_ptr(), few.len(), m.as_ptr(), m.len(), r));
+        side!(out, have_group_prim, format!("group_many_{word}"), Unit::Item(C), true,
+            plain::group_prim(values, m),
+            |r| rattle_flat_group_prim(values.as_ptr(), values.len(), m.as_ptr(), m.len(), r));
+        side!(out, have_group_sum, format!("group_sum_few_{word}"), Unit::Item(C), true,
+            plain::sum_groups(small, few, m),
+            |r| rattle_flat_group_sum(small.as_ptr(), small.len(), few.as_ptr(), few.len(), m.as_ptr(), m.len(), r));
+        // the hash functions are two
+        side!(out, have_hash_prim, format!("hash_prim_{word}"), Unit::Item(C), false,
+            plain::hash_prim(values, m),
+            |r| rattle_flat_hash_prim(values.as_ptr(), values.len(), m.as_ptr(), m.len(), r));
+        side!(out, have_select_if_then_else, format!("select_if_then_else_{word}"), Unit::Item(C), true,
+            plain::select_if_then_else(bits, values, others, m),
+            |r| rattle_flat_select_if_then_else(bits.as_ptr(), bits.len(), values.as_ptr(), values.len(), others.as_ptr(), others.len(), m.as_ptr(), m.len(), r));
+        side!(out, have_select_nullif, format!("select_nullif_{word}"), Unit::Item(C), true,
+            plain::select_nullif(few, other_few, m),
+            |r| rattle_flat_select_nullif(few.as_ptr(), few.len(), other_few.as_ptr(), other_few.len(), m.as_ptr(), m.len(), r));
         side!(out, have_sort_prim, format!("sort_prim_{word}"), Unit::Item(C), true,
             plain::sort_prim(values, m),
-            |r| rattle_flat_sort_prim(values.as_ptr(), C, m.as_ptr(), m.len(), r));
+            |r| rattle_flat_sort_prim(values.as_ptr(), values.len(), m.as_ptr(), m.len(), r));
     }
+    side!(out, have_cmp_eq_utf8, "cmp_eq_utf8_nonull", Unit::Item(C), true,
+        plain::compare_texts(texts, half_equal, ends),
+        |r| rattle_flat_cmp_eq_utf8(texts.as_ptr(), texts.len(), half_equal.as_ptr(), half_equal.len(), ends.as_ptr(), ends.len(), r));
+    side!(out, have_arith_mul_i64, "arith_mul_i64_nonull", Unit::Item(C), true,
+        plain::combine(plain::mul, values, others, none),
+        |r| rattle_flat_arith_mul_i64(values.as_ptr(), values.len(), others.as_ptr(), others.len(), none.as_ptr(), none.len(), r));
+    side!(out, have_arith_add_i32, "arith_add_i32_nonull", Unit::Item(C), true,
+        plain::combine_i32(plain::add_i32, values, others),
+        |r| rattle_flat_arith_add_i32(values.as_ptr(), values.len(), others.as_ptr(), others.len(), r));
+    side!(out, have_arith_saturating_add_i32, "arith_saturating_add_i32_nonull", Unit::Item(C), true,
+        plain::combine_i32(plain::saturating_add_i32, values, others),
+        |r| rattle_flat_arith_saturating_add_i32(values.as_ptr(), values.len(), others.as_ptr(), others.len(), r));
+    side!(out, have_agg_min_utf8, "agg_min_utf8_null10", Unit::Item(C), true,
+        plain::agg_min_utf8(texts, ends, valid),
+        |r| rattle_flat_agg_min_utf8(texts.as_ptr(), texts.len(), ends.as_ptr(), ends.len(), valid.as_ptr(), valid.len(), r));
+    side!(out, have_group_utf8, "group_utf8_few_nonull", Unit::Item(C), true,
+        plain::group_utf8(words, word_ends, none),
+        |r| rattle_flat_group_utf8(words.as_ptr(), words.len(), word_ends.as_ptr(), word_ends.len(), none.as_ptr(), none.len(), r));
+    side!(out, have_select_take, "select_take_null10", Unit::Item(C), true,
+        plain::select_take(keys, values, valid),
+        |r| rattle_flat_select_take(keys.as_ptr(), keys.len(), values.as_ptr(), values.len(), valid.as_ptr(), valid.len(), r));
+    side!(out, have_sort_utf8, "sort_utf8_nonull", Unit::Item(C), true,
+        plain::sort_utf8(texts, ends, none),
+        |r| rattle_flat_sort_utf8(texts.as_ptr(), texts.len(), ends.as_ptr(), ends.len(), none.as_ptr(), none.len(), r));
     if out.differs {
         std::process::exit(1);
     }

@@ -9,4 +9,4 @@ returns c =
     let n = c.self.inside.length in
     let read = mark_at-read c.deref.result.now bytes (n - 1) (0 + (n - 1)) c.deref.ensures.value (omega arith) in
     sym c.self.view_is ∙ marks-last bytes 0 (n - 1) n (omega arith)
-    ∙ ap (λ v. marks bytes 0 (n - 1) ++ v ∷ []) (sym (c.mark_of.ensures ∙ read))
+    ∙ ap (λ v. marks bytes 0 (n - 1) ++ v ∷ []) (sym (c.masked_mark_of.ensures ∙ read))

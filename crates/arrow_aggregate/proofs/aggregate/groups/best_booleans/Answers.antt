@@ -1,0 +1,18 @@
+use Rattle.std.proofs.Common.{◌∙◌, length, sym}
+use Rattle.std.specs.Cmp.{bool_cmp_total}
+use Rattle.std.specs.Ordering.{bool_cmp}
+use Rattle.std.proofs.lemmas.List.{length-map}
+use Rattle.std.proofs.lemmas.Result.{MatchResult-weaker}
+use Rattle.std.specs.Prelude.{option_map}
+use Rattle.arrow_aggregate.specs.Groups.{as_seen}
+use Rattle.arrow_aggregate.proofs.GroupLemmas.{bests_made, same_slots}
+use Rattle.arrow_aggregate.proofs.aggregate.groups.best_booleans.Goals as goal
+
+pub returns-clause-ok : goal.returns-clause-ok
+returns-clause-ok c =
+    let items = c.in_ok-best.best.items in
+    MatchResult-weaker c.booleans_like-made.result c.booleans_like-made.ensures.ok
+    (λ made is. bests_made bool_cmp bool_cmp_total c.args.greatest c.args.array.now c.args.indices.now c.args.groups
+    (as_seen (λ value. value) items) c.in_ok-best.ensures.ok c.as_slice.result.now made
+    (length-map items (option_map (λ value. value)) ∙ c.in_ok-best.ensures.count)
+    (c.as_slice.ensures.value ∙ sym (same_slots items)) is) (λ _ t. t)

@@ -1,0 +1,140 @@
+//! Groups, sums of groups, and hashes, over arrays that are made once.
+ghost use Rattle.std.specs.Prelude.{◌≡◌, ◌<◌, All, length};
+
+use crate::compute::pair;
+use crate::kernels::texts_array;
+use crate::operation::{Operation, Probe, run};
+use crate::whole::array_of_parts;
+use arrow_aggregate::aggregate::group_sum;
+use arrow_group::laws::grouped_slots;
+use arrow_group::{Groups, group_primitive, group_utf8, hash_primitive};
+use arrow_primitive::PrimitiveArray;
+use arrow_utf8::Utf8Array;
+use std::alloc::Global;
+
+struct Group;
+
+impl Operation for Group {
+    type Source = PrimitiveArray<i64>;
+
+    type Made = Groups;
+
+    #[inline(always)]
+    fn make(alloc: Global, array: &PrimitiveArray<i64>) -> Option<Groups> {
+        group_primitive(alloc, array).ok()
+    }
+}
+
+// the groups of equal slots
+#[unsafe(no_mangle)]
+pub extern "C" fn rattle_flat_group_prim(
+    alloc: Global,
+    values: &[i64],
+    valid: &[u8],
+    rounds: usize,
+) -> u64 {
+    run::<Group>(alloc, array_of_parts(alloc, values, valid), rounds)
+}
+
+struct GroupTexts;
+
+impl Operation for GroupTexts {
+    type Source = Utf8Array<i32>;
+
+    type Made = Groups;
+
+    #[inline(always)]
+    fn make(alloc: Global, array: &Utf8Array<i32>) -> Option<Groups> {
+        group_utf8(alloc, array).ok()
+    }
+}
+
+// the groups of equal texts
+#[unsafe(no_mangle)]
+pub extern "C" fn rattle_flat_group_utf8(
+    alloc: Global,
+    data: &[u8],
+    offsets: &[i32],
+    valid: &[u8],
+    rounds: usize,
+) -> u64 {
+    run::<GroupTexts>(alloc, texts_array(alloc, data, offsets, valid), rounds)
+}
+
+fn sum_each(
+    alloc: Global,
+    values: &PrimitiveArray<i64>,
+    indices: &[usize],
+    groups: usize,
+    rounds: usize,
+) -> u64
+    requires rows { length indices.now ≡ length values.now.rows }
+    requires within { All (λ g. g < groups) indices.now }
+{
+    let mut sum = 0u64;
+    for round in 0..rounds {
+        match group_sum(alloc, values, indices, groups) {
+            Ok(sums) => sum = sum.wrapping_add(sums.probe(round)),
+            Err(_) => return u64::MAX,
+        }
+    }
+    sum
+}
+
+fn sum_by(
+    alloc: Global,
+    values: &PrimitiveArray<i64>,
+    keys: &PrimitiveArray<i64>,
+    rounds: usize,
+) -> u64 {
+    if values.len() != keys.len() {
+        return u64::MAX;
+    }
+    grouped_slots::<(), i64>();
+    match group_primitive(alloc, keys) {
+        Ok(groups) => {
+            let count = groups.first.len();
+            sum_each(alloc, values, groups.indices.as_slice(), count, rounds)
+        }
+        Err(_) => u64::MAX,
+    }
+}
+
+// the sum of the values of each group of equal keys, which are grouped once and have no null
+#[unsafe(no_mangle)]
+pub extern "C" fn rattle_flat_group_sum(
+    alloc: Global,
+    values: &[i64],
+    keys: &[i64],
+    valid: &[u8],
+    rounds: usize,
+) -> u64 {
+    match pair(alloc, values, keys, valid) {
+        Some((values, keys)) => sum_by(alloc, &values, &keys, rounds),
+        None => u64::MAX,
+    }
+}
+
+struct Hash;
+
+impl Operation for Hash {
+    type Source = PrimitiveArray<i64>;
+
+    type Made = PrimitiveArray<u64>;
+
+    #[inline(always)]
+    fn make(alloc: Global, array: &PrimitiveArray<i64>) -> Option<PrimitiveArray<u64>> {
+        hash_primitive(alloc, array).ok()
+    }
+}
+
+// the hash of each slot
+#[unsafe(no_mangle)]
+pub extern "C" fn rattle_flat_hash_prim(
+    alloc: Global,
+    values: &[i64],
+    valid: &[u8],
+    rounds: usize,
+) -> u64 {
+    run::<Hash>(alloc, array_of_parts(alloc, values, valid), rounds)
+}

@@ -1,6 +1,0 @@
-use Rattle.std.proofs.Common.{◌≡◌, ◌-◌, count_by, not}
-use Rattle.arrow_bitmap.specs.Marks.{marks}
-use Rattle.arrow_bitmap.proofs.bits.count_clear_marks.Given as goal
-
-abbrev pub invariant-loop-index : goal.invariant-loop-index
-invariant-loop-index l = l.clear ≡ count_by not (marks l.bytes l.start (l.index - l.start))

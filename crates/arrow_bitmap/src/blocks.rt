@@ -1,0 +1,88 @@
+//! Marks that are read and written 512 at a time, as the bits of eight words.
+ghost use Rattle.std.specs.Prelude.{◌≡◌, ℕ, ◌+◌, ◌*◌, ◌<◌, ◌≤◌, length, count_by, not};
+ghost use Rattle.arrow_bitmap.specs.Blocks.{block_set};
+ghost use Rattle.arrow_bitmap.specs.Marks.{block_mark, mark_at, marks};
+ghost use Rattle.arrow_bitmap.specs.MarkWrites.{CopiesMarks};
+
+use std::simd::prelude::*;
+
+/// Returns the marks of the 64 bytes from byte `first` on.
+#[inline(always)]
+pub(crate) fn whole_block(bytes: &[u8], first: usize) -> u64x8
+    requires { first + 64 ≤ length bytes.now }
+    ensures marks { (k : ℕ) → k < 512 → block_mark result k ≡ mark_at bytes.now (8 * first + k) }
+    ensures set { block_set result + count_by not (marks bytes.now (8 * first) 512) ≡ 512 }
+{
+    u64x8::from_le_bytes(u8x64::from_slice(&bytes[first..]))
+}
+
+/// Returns the 512 marks from bit `shift` of byte `first` on. The bits that the low words lack are the high bits of the
+/// words that begin one byte later; the other bits of these are the same marks.
+#[inline(always)]
+pub(crate) fn block_at(bytes: &[u8], first: usize, shift: usize) -> u64x8
+    requires some { first + 64 < length bytes.now }
+    requires within { shift < 8 }
+    ensures { (k : ℕ) → k < 512 → block_mark result k ≡ mark_at bytes.now (8 * first + shift + k) }
+{
+    let (low, high) = (whole_block(bytes, first), whole_block(bytes, first + 1));
+    low >> u64x8::splat(shift as u64) | high << u64x8::splat((8 - shift) as u64)
+}
+
+/// How blocks of marks are read.
+pub(crate) trait BlockReader {
+    /// The last bit of a byte from which on it reads.
+    ghost last_bit: { ℕ };
+
+    /// Returns the 512 marks from bit `shift` of byte `first` on.
+    fn read(bytes: &[u8], first: usize, shift: usize) -> u64x8
+        requires within { 8 * (first + 64) + last_bit ≤ 8 * length bytes.now }
+        requires shift { shift ≤ last_bit }
+        ensures { (k : ℕ) → k < 512 → block_mark result k ≡ mark_at bytes.now (8 * first + shift + k) };
+}
+
+/// Reads from the first bit of a byte on, with no shift.
+pub(crate) struct WholeBytes;
+
+impl BlockReader for WholeBytes {
+    ghost last_bit = { 0 };
+
+    #[inline(always)]
+    fn read(bytes: &[u8], first: usize, _shift: usize) -> u64x8 {
+        whole_block(bytes, first)
+    }
+}
+
+/// Reads from any bit of a byte on.
+pub(crate) struct AnyBits;
+
+impl BlockReader for AnyBits {
+    ghost last_bit = { 7 };
+
+    #[inline(always)]
+    fn read(bytes: &[u8], first: usize, shift: usize) -> u64x8 {
+        block_at(bytes, first, shift)
+    }
+}
+
+/// Writes 512 marks over the 64 bytes from byte `at` on.
+#[inline(always)]
+pub(crate) fn write_block(target: &mut [u8], at: usize, block: u64x8)
+    requires { at + 64 ≤ length target.old }
+    ensures marks { (k : ℕ) → k < 512 → mark_at target.new (8 * at + k) ≡ block_mark block k }
+    ensures kept { (i : ℕ) → i < 8 * at → mark_at target.new i ≡ mark_at target.old i }
+    ensures len { length target.new ≡ length target.old }
+{
+    block.to_le_bytes().copy_to_slice(&mut target[at..]);
+}
+
+/// Copies 512 marks from bit `shift` of byte `first` on to the 64 bytes from byte `at` on.
+#[inline(always)]
+pub(crate) fn copy_block(target: &mut [u8], at: usize, source: &[u8], first: usize, shift: usize)
+    requires room { at + 64 ≤ length target.old }
+    requires within { first + 64 < length source.now }
+    requires shift { shift < 8 }
+    ensures marks { CopiesMarks target.old target.new source.now (8 * at) (8 * first + shift) 512 }
+    ensures len { length target.new ≡ length target.old }
+{
+    write_block(target, at, block_at(source, first, shift));
+}

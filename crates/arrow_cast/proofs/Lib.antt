@@ -1,0 +1,7 @@
+pub mod DecimalLemmas
+pub mod DigitLemmas
+pub mod ItemLemmas
+pub mod NumberLemmas
+pub mod SlotLemmas
+pub mod StoredLemmas
+pub mod TextLemmas

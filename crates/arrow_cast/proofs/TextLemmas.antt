@@ -1,0 +1,165 @@
+-- Lemmas about the decimal texts of slots, which lie one after the other.
+use Rattle.std.proofs.Common.{◌≡◌, ◌∙◌, ℕ, ℤ, ◌+◌, ◌≤◌, Bool, true, false, nat_lt, List, [], ◌∷◌, ◌++◌, map, take, length}
+use Rattle.std.proofs.Common.{Option, Some, None, option_map, slice_get, unwrap_or, refl, ap, ap₂, sym, subst}
+use Rattle.std.proofs.Common.{arith, drop, length-append, suc}
+use Rattle.std.specs.Prelude.{⊤}
+use Rattle.std.specs.List.{concat}
+use Rattle.std.proofs.lemmas.List.{append-nil}
+use Rattle.std.proofs.lemmas.List.Elements.{All-nil, All-push}
+use Rattle.std.proofs.lemmas.List.Folds.{concat-append}
+use Rattle.arrow_types.specs.Types.{LogicalType}
+use Rattle.arrow_types.specs.declared.error.Error.{Error}
+use Rattle.arrow_types.specs.declared.error.Error.TheVariants as error
+use Rattle.arrow_memory.specs.Offsets.{MatchGrowth, last_of}
+use Rattle.arrow_memory.specs.Rows.{FitsMask}
+use Rattle.arrow_column.specs.Appends.{SlotsOverflow}
+use Rattle.arrow_column.specs.Column.{ColumnWith, append_slots, column_with, mask_of, slot_overflows, slots_fit}
+use Rattle.arrow_column.specs.Column.{slots_of, without_needless_mask}
+use Rattle.arrow_column.specs.Masks.{mask_with_nulls}
+use Rattle.arrow_check.specs.Pieces.{ends_after, items_of, offsets_of}
+use Rattle.arrow_check.specs.Utf8.{IsWellFormed}
+use Rattle.arrow_bytes.specs.Column.{byte_column, empty_bytes, item_overflows}
+use Rattle.arrow_bytes.specs.Kinds.{AreItems, CutItems, IsItem}
+use Rattle.arrow_bytes.specs.Pieces.{around_of, nothing_around}
+use Rattle.arrow_bytes.proofs.CallerLemmas.{around-back, items-back, last-offset, within-back}
+use Rattle.arrow_cast.specs.Decimals.{decimal_of}
+use Rattle.arrow_cast.specs.Stored.{AppendsDecimal, HoldTexts, decimal_text, decimal_texts, ends_past, valid_of}
+use Rattle.arrow_cast.proofs.SlotLemmas.{fit-next, one-more}
+use Rattle.arrow_cast.proofs.StoredLemmas.{appended-around, appended-stored, array-of-parts, map-map, map-next, mask-needed, parts-fit, same-marks, split-at}
+
+-- ---- offsets and bytes of items
+
+ends-push : (start : ℕ) (items : List (List ℕ)) (item : List ℕ)
+    → ends_after start (items ++ item ∷ [])
+    ≡ ends_after start items ++ (start + length (concat items) + length item) ∷ []
+ends-push start [] item = let e : start + length item ≡ start + 0 + length item = omega arith in ap (λ n. n ∷ []) e
+ends-push start (x ∷ items) item =
+    let e : start + length x + length (concat items) + length item ≡ start + length (x ++ concat items) + length item =
+    omega (arith, length-append x (concat items)) in
+    ap (λ rest. (start + length x) ∷ rest) (ends-push (start + length x) items item
+    ∙ ap (λ n. ends_after (start + length x) items ++ n ∷ []) e)
+
+offsets-push : (items : List (List ℕ)) (item : List ℕ)
+    → offsets_of 0 (items ++ item ∷ []) ≡ offsets_of 0 items ++ (last_of (offsets_of 0 items) + length item) ∷ []
+offsets-push items item =
+    ap (λ rest. 0 ∷ rest) (ends-push 0 items item
+    ∙ ap (λ end. ends_after 0 items ++ (end + length item) ∷ []) (sym (last-offset 0 items)))
+
+concat-push : (items : List (List ℕ)) (item : List ℕ) → concat (items ++ item ∷ []) ≡ concat items ++ item
+concat-push items item = concat-append items (item ∷ []) ∙ ap (λ rest. concat items ++ rest) (append-nil item)
+
+push-of : (is_text : Bool) (items : List (List ℕ)) (item : List ℕ) → AreItems is_text items → IsItem is_text item
+    → AreItems is_text (items ++ item ∷ [])
+push-of true items item all one = All-push IsWellFormed items item all one
+push-of false items item all one = tt
+
+none-of : (is_text : Bool) → AreItems is_text []
+none-of true = All-nil IsWellFormed
+none-of false = tt
+
+-- ---- decimal texts
+
+module _ {X : Type 0} (number : X → ℤ) (most : ℕ) (is_text : Bool) (t : LogicalType) where
+  pub none-held : HoldTexts number most is_text t [] (0 ∷ []) []
+  none-held = record { fit = refl; items = none-of is_text; ends = refl; texts = refl }
+
+  -- whether a slot overflows, by where its text begins
+  overflows-there : (slots : List (Option X)) (offsets : List ℕ) (next : Option X)
+      → offsets ≡ offsets_of 0 (decimal_texts number slots)
+      → slot_overflows (item_overflows (decimal_of number) most)
+      (append_slots [] (empty_bytes t) (map (option_map (decimal_of number)) slots)) next
+      ≡ ends_past number most (last_of offsets) next
+  overflows-there slots offsets None ends = refl
+  overflows-there slots offsets (Some x) ends =
+      let before = append_slots [] (empty_bytes t) (map (option_map (decimal_of number)) slots) in
+      ap₂ (λ lead items. nat_lt most (length lead + length (concat items) + length (decimal_of number x)))
+      (ap (λ around. around.lead) (appended-around [] (empty_bytes t) (map (option_map (decimal_of number)) slots)))
+      (appended-stored [] (empty_bytes t) (map (option_map (decimal_of number)) slots)
+      ∙ map-map (λ shown. unwrap_or shown []) (option_map (decimal_of number)) slots)
+      ∙ ap (λ end. nat_lt most (end + length (decimal_of number x)))
+      (sym (ap last_of ends ∙ last-offset 0 (decimal_texts number slots)))
+
+  module _ (slots : List (Option X)) (i : ℕ) (offsets bytes : List ℕ) (next : Option X)
+      (found : slice_get slots i ≡ Some next)
+      (held : HoldTexts number most is_text t (take i slots) offsets bytes) where
+    -- one more slot
+    pub more-held : (grown longer : List ℕ) → ends_past number most (last_of offsets) next ≡ false
+        → AppendsDecimal number offsets next grown → longer ≡ bytes ++ decimal_text number next
+        → IsItem is_text (decimal_text number next)
+        → HoldTexts number most is_text t (take (i + 1) slots) grown longer
+    more-held grown longer fits ends text item =
+        let texts = decimal_texts number (take i slots) in
+        let more : decimal_texts number (take (i + 1) slots) ≡ texts ++ decimal_text number next ∷ [] =
+        map-next (λ x. decimal_text number x) slots i next found in
+        record {
+          fit = subst (λ xs. slots_fit (item_overflows (decimal_of number) most) (decimal_of number) [] (empty_bytes t) xs
+              ≡ true) (sym (one-more slots i next found))
+              (fit-next (item_overflows (decimal_of number) most) (decimal_of number) [] (empty_bytes t) (take i slots) next
+              held.fit (overflows-there (take i slots) offsets next held.ends ∙ fits));
+          items = subst (AreItems is_text) (sym more)
+              (push-of is_text texts (decimal_text number next) held.items item);
+          ends = ends ∙ ap (λ os. os ++ (last_of os + length (decimal_text number next)) ∷ []) held.ends
+              ∙ sym (ap (offsets_of 0) more ∙ offsets-push texts (decimal_text number next));
+          texts = text ∙ ap (λ bs. bs ++ decimal_text number next) held.texts
+              ∙ sym (ap concat more ∙ concat-push texts (decimal_text number next));
+        }
+
+    -- the next slot is refused
+    pub next-refused : (e : Error) → MatchGrowth e (ends_past number most (last_of offsets) next ≡ true) ⊤
+        → MatchGrowth e (SlotsOverflow (item_overflows (decimal_of number) most) (decimal_of number) [] slots
+        (empty_bytes t)) ⊤
+    next-refused (error.OutOfSpec why) refused = refused
+    next-refused error.OutOfMemory refused = tt
+    next-refused error.Overflow refused = (
+      take i slots,
+      drop (suc i) slots,
+      next,
+      split-at slots i next found,
+      held.fit,
+      overflows-there (take i slots) offsets next held.ends ∙ refused,
+    )
+
+  -- the same offsets and bytes, frozen
+  pub still-held : (slots : List (Option X)) (offsets bytes ends values : List ℕ) → ends ≡ offsets → values ≡ bytes
+      → HoldTexts number most is_text t slots offsets bytes → HoldTexts number most is_text t slots ends values
+  still-held slots offsets bytes ends values first second held =
+      record { fit = held.fit; items = held.items; ends = first ∙ held.ends; texts = second ∙ held.texts }
+
+  -- the array of offsets, bytes and a mask
+  module _ {A : Type 0} (column : ColumnWith A X) (offsets bytes : List ℕ)
+      (held : HoldTexts number most is_text t (slots_of column) offsets bytes) where
+    all-bytes : bytes ≡ concat (decimal_texts number (slots_of column)) ++ []
+    all-bytes = held.texts ∙ sym (append-nil (concat (decimal_texts number (slots_of column))))
+
+    cut-back : items_of offsets bytes ≡ decimal_texts number (slots_of column)
+    cut-back = ap₂ items_of held.ends all-bytes ∙ items-back [] (decimal_texts number (slots_of column)) []
+
+    pub parts-cut : CutItems is_text offsets bytes
+    parts-cut = (
+      subst (λ n. n ≤ length bytes) (sym (ap last_of held.ends))
+          (subst (λ bs. last_of (offsets_of 0 (decimal_texts number (slots_of column))) ≤ length bs) (sym all-bytes)
+          (within-back [] (decimal_texts number (slots_of column)) [])),
+      subst (AreItems is_text) (sym cut-back) held.items,
+    )
+
+    same-mask : mask_of (without_needless_mask column)
+        ≡ mask_with_nulls (Some (valid_of (option_map (decimal_of number)) (slots_of column)))
+    same-mask = mask-needed column
+        ∙ ap (λ marks. mask_with_nulls (Some marks)) (sym (same-marks (decimal_of number) column.rows))
+
+    pub mask-fits : (mask : Option (List Bool)) → mask ≡ mask_of (without_needless_mask column)
+        → FitsMask (items_of offsets bytes) mask
+    mask-fits mask is =
+        subst (FitsMask (items_of offsets bytes)) (sym (is ∙ same-mask))
+        (subst (λ items. FitsMask items (mask_with_nulls (Some (valid_of (option_map (decimal_of number)) (slots_of column)))))
+        (sym cut-back) (parts-fit [] (option_map (decimal_of number)) (slots_of column)))
+
+    pub array-made : (mask : Option (List Bool)) → mask ≡ mask_of (without_needless_mask column)
+        → byte_column t offsets bytes mask
+        ≡ without_needless_mask (append_slots [] (empty_bytes t) (map (option_map (decimal_of number)) (slots_of column)))
+    array-made mask is =
+        ap₂ (λ around items. column_with t around items mask)
+        (ap₂ around_of held.ends all-bytes ∙ around-back nothing_around (decimal_texts number (slots_of column)))
+        cut-back
+        ∙ ap (column_with t nothing_around (decimal_texts number (slots_of column))) (is ∙ same-mask)
+        ∙ array-of-parts [] (option_map (decimal_of number)) (empty_bytes t) (slots_of column) refl

@@ -1,0 +1,5 @@
+//! Tests of `arrow_cast` by its public calls.
+#![tactic(auto)]
+
+#[cfg(test)]
+mod tests;

@@ -1,0 +1,60 @@
+//! Groups of rows of several columns.
+ghost use Rattle.std.specs.Prelude.{◌≡◌, IfOk, length};
+ghost use Rattle.arrow_types.specs.Failures.{OnlyOutOfMemory};
+ghost use Rattle.arrow_group.specs.Grouping.{GroupsPairs};
+
+use crate::grouper::{Groups, group_slots};
+use crate::keys::Keys;
+use arrow_types::error::Error;
+use std::alloc::Global;
+use std::hash::Hash;
+
+/// The numbers of two groups for each row.
+#[derive(Clone, Copy)]
+struct Pairs<'a> {
+    left: &'a [usize],
+    right: &'a [usize],
+    ghost same: { length left.now ≡ length right.now },
+}
+
+impl<'a, 'b> Keys<'a> for Pairs<'b> {
+    ghost use Rattle.std.specs.Prelude.{Some, map, ℕ};
+    ghost use Rattle.std.specs.List.{zip};
+
+    type Key = (usize, usize);
+
+    ghost Seen = { ℕ × ℕ };
+
+    ghost seen = { λ pair. pair };
+
+    ghost slots = { λ pairs. map Some (zip pairs.left.now pairs.right.now) };
+
+    ghost input = { ⟦<(usize, usize) as Hash>⟧.hash_input };
+
+    #[inline(always)]
+    fn count(&self) -> usize {
+        self.left.len()
+    }
+
+    #[inline(always)]
+    fn row(&'a self, i: usize) -> ((usize, usize), bool) {
+        ((self.left[i], self.right[i]), true)
+    }
+}
+
+impl Groups {
+    /// Returns the groups of rows that are equal in both columns, of which these are the groups. A
+    /// table of more columns is grouped by refining the groups of the first by those of each other.
+    ///
+    /// # Errors
+    /// `OutOfMemory` if an allocation fails.
+    pub fn refine(&self, alloc: Global, other: &Groups) -> Result<Groups, Error>
+        requires { length self.now.indices.items ≡ length other.now.indices.items }
+        ensures ok { IfOk result (GroupsPairs self.now other.now) }
+        ensures err { OnlyOutOfMemory result }
+    {
+        let left = self.indices.as_slice();
+        let right = other.indices.as_slice();
+        Ok(group_slots(alloc, &Pairs { left, right })?)
+    }
+}

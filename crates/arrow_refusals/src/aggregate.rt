@@ -1,0 +1,105 @@
+//! Aggregates of groups of three slots.
+ghost use Rattle.std.specs.Prelude.{◌<◌, All, IsTrue};
+
+use crate::boolean::array_text as boolean_text;
+use crate::bytes::array_text;
+use crate::primitive::array_text as number_text;
+use crate::refusal::{end, results};
+use arrow_aggregate::aggregate::{
+    group_count, group_max_binary, group_max_boolean, group_max_primitive, group_min_primitive,
+    group_min_string, group_sum,
+};
+use arrow_binary::BinaryArray;
+use arrow_boolean::BooleanArray;
+use arrow_primitive::PrimitiveArray;
+use arrow_testing::Text;
+use arrow_utf8::Utf8Array;
+use std::test::Fail;
+
+/// The numbers of the slots' groups, of which there are two.
+const GROUPS: &[usize] = &[1, 0, 1];
+
+/// Whether each of the numbers is below a bound.
+fn all_below(numbers: &[usize], bound: usize) -> bool
+    ensures { IsTrue result → All (λ n. n < bound) numbers.now }
+{
+    for number in numbers {
+        if *number >= bound {
+            return false;
+        }
+    }
+    true
+}
+
+/// Writes counts.
+fn count_text(array: &PrimitiveArray<u64>) -> Text {
+    Text::of(format_args!("{:?}", array.values().as_slice()))
+}
+
+#[test]
+fn groups_of_numbers_answer_again(rt: HostRuntime) -> Result<(), Fail> {
+    let alloc = rt.alloc();
+    let Ok(array) = PrimitiveArray::from_slice(alloc, [7, 8, 9].as_slice()) else {
+        return end(true);
+    };
+    assert!(&rt; GROUPS.len() == array.len());
+    assert!(&rt; all_below(GROUPS, 2));
+    let is_refused = results! { &rt;
+        count_text: group_count(alloc, &array, GROUPS, 2) => "[1, 2]";
+        number_text: group_sum(alloc, &array, GROUPS, 2) => "8 16";
+        number_text: group_min_primitive(alloc, &array, GROUPS, 2) => "8 7";
+        number_text: group_max_primitive(alloc, &array, GROUPS, 2) => "8 9";
+    };
+    drop(array);
+    end(is_refused)
+}
+
+#[test]
+fn groups_of_booleans_answer_again(rt: HostRuntime) -> Result<(), Fail> {
+    let alloc = rt.alloc();
+    let Ok(array) = BooleanArray::from_slice(alloc, [true, false, false].as_slice()) else {
+        return end(true);
+    };
+    assert!(&rt; GROUPS.len() == array.len());
+    assert!(&rt; all_below(GROUPS, 2));
+    let is_refused = results! { &rt;
+        boolean_text: group_max_boolean(alloc, &array, GROUPS, 2) => "false true";
+    };
+    drop(array);
+    end(is_refused)
+}
+
+/// Slots of bytes, and of text.
+const BYTES: &[Option<&[u8]>] = &[Some(b"ab"), None, Some(b"cde")];
+
+const TEXTS: &[Option<&str>] = &[Some("ab"), None, Some("cde")];
+
+#[test]
+fn groups_of_bytes_answer_again(rt: HostRuntime) -> Result<(), Fail> {
+    let alloc = rt.alloc();
+    let Ok(array) = BinaryArray::<i32>::from(alloc, BYTES) else {
+        return end(true);
+    };
+    assert!(&rt; GROUPS.len() == array.len());
+    assert!(&rt; all_below(GROUPS, 2));
+    let is_refused = results! { &rt;
+        array_text: group_max_binary(alloc, &array, GROUPS, 2) => "(<>) <cde>";
+    };
+    drop(array);
+    end(is_refused)
+}
+
+#[test]
+fn groups_of_text_answer_again(rt: HostRuntime) -> Result<(), Fail> {
+    let alloc = rt.alloc();
+    let Ok(array) = Utf8Array::<i32>::from(alloc, TEXTS) else {
+        return end(true);
+    };
+    assert!(&rt; GROUPS.len() == array.len());
+    assert!(&rt; all_below(GROUPS, 2));
+    let is_refused = results! { &rt;
+        array_text: group_min_string(alloc, &array, GROUPS, 2) => "(<>) <ab>";
+    };
+    drop(array);
+    end(is_refused)
+}

@@ -1,0 +1,218 @@
+-- Slots of one of two arrays, by a predicate.
+use Rattle.std.proofs.Common.{◌≡◌, ◌∙◌, ◌&&◌, ◌||◌, ◌==◌, ◌+◌, ◌-◌, ◌^◌, ◌<◌, ◌≤◌, ℕ, zero, suc, min, bit_and, bit_or, Bool, true, false, if◌then◌else◌, not, List, [], ◌∷◌, ◌++◌, map, length, take, drop, get_or, Option, Some, None, is_some, slice_get, refl, ap, ap₂, sym, arith, append_assoc, length-append}
+use Rattle.std.specs.Int.{bit_at}
+use Rattle.std.specs.List.{zip}
+use Rattle.std.proofs.Math.Seq.{take-add}
+use Rattle.std.proofs.lemmas.List.{length-drop, length-map, length-take, take-append-drop}
+use Rattle.std.proofs.lemmas.List.FromFn.{get_or-map-range_with_len, length-map-range_with_len, map-range_with_len_more}
+use Rattle.std.proofs.lemmas.Option.{slice_get-get_or}
+use Rattle.std.proofs.lemmas.Slice.Zip.{length-zip}
+use Rattle.arrow_memory.specs.Marks.{bits_of}
+use Rattle.arrow_memory.specs.Rows.{Row, slot}
+use Rattle.arrow_compute.proofs.CallerLemmas.{and_bit, not_bit, or_bit}
+use Rattle.arrow_select.specs.Selects.{chosen_slot, chosen_slots, chosen_values, marks_shown}
+use Rattle.arrow_select.proofs.ShownLemmas.{StoresShown}
+
+-- ---- bits
+
+if-bits : (p x y : Bool) → ((p && x) || (not p && y)) ≡ (if p then x else y)
+if-bits true true y = refl
+if-bits true false y = refl
+if-bits false x y = refl
+
+pub chosen-bit : (p x y k : ℕ) → p < 2 ^ 64 → k < 64
+    → (bit_at (bit_or (bit_and p x) (bit_and (2 ^ 64 - 1 - p) y)) k == 1)
+    ≡ (if bit_at p k == 1 then bit_at x k == 1 else bit_at y k == 1)
+chosen-bit p x y k small low =
+    or_bit (bit_and p x) (bit_and (2 ^ 64 - 1 - p) y) k
+    ∙ ap₂ ◌||◌ (and_bit p x k)
+    (and_bit (2 ^ 64 - 1 - p) y k ∙ ap (λ b. b && (bit_at y k == 1)) (not_bit p k small low))
+    ∙ if-bits (bit_at p k == 1) (bit_at x k == 1) (bit_at y k == 1)
+
+-- ---- values
+
+module _ {X : Type 0} where
+  pub length-chosen : (ps : List Bool) (xs ys : List X)
+      → length (chosen_values ps xs ys) ≡ min (length ps) (min (length xs) (length ys))
+  length-chosen ps xs ys =
+      length-map (zip ps (zip xs ys)) (λ (row : Bool × (X × X)). if row.0 then row.1.0 else row.1.1)
+      ∙ length-zip ps (zip xs ys) ∙ ap (λ n. min (length ps) n) (length-zip xs ys)
+
+  pub chosen-at : (ps : List Bool) (xs ys : List X) (i : ℕ) (p : Bool) (x y : X) → slice_get ps i ≡ Some p
+      → slice_get xs i ≡ Some x → slice_get ys i ≡ Some y
+      → slice_get (chosen_values ps xs ys) i ≡ Some (if p then x else y)
+  chosen-at [] xs ys i p x y e f g = absurd (cc)
+  chosen-at (q ∷ ps) [] ys i p x y e f g = absurd (cc)
+  chosen-at (q ∷ ps) (v ∷ xs) [] i p x y e f g = absurd (cc)
+  chosen-at (q ∷ ps) (v ∷ xs) (w ∷ ys) zero p x y e f g =
+      let here : q ≡ p = cc in
+      let left : v ≡ x = cc in
+      let right : w ≡ y = cc in
+      ap (λ b. Some (if b then v else w)) here ∙ ap₂ (λ a b. Some (if p then a else b)) left right
+  chosen-at (q ∷ ps) (v ∷ xs) (w ∷ ys) (suc i) p x y e f g = chosen-at ps xs ys i p x y e f g
+
+  -- a piece of the chosen values is chosen of pieces
+  pub take-chosen : (n : ℕ) (ps : List Bool) (xs ys : List X)
+      → take n (chosen_values ps xs ys) ≡ chosen_values (take n ps) (take n xs) (take n ys)
+  take-chosen zero ps xs ys = refl
+  take-chosen (suc n) [] xs ys = refl
+  take-chosen (suc n) (p ∷ ps) [] ys = refl
+  take-chosen (suc n) (p ∷ ps) (x ∷ xs) [] = refl
+  take-chosen (suc n) (p ∷ ps) (x ∷ xs) (y ∷ ys) =
+      ap (λ rest. (if p then x else y) ∷ rest) (take-chosen n ps xs ys)
+
+  none-left : (ps : List Bool) (xs : List X) → chosen_values ps xs [] ≡ []
+  none-left [] xs = refl
+  none-left (p ∷ ps) [] = refl
+  none-left (p ∷ ps) (x ∷ xs) = refl
+
+  none-right : (ps : List Bool) (ys : List X) → chosen_values ps [] ys ≡ []
+  none-right [] ys = refl
+  none-right (p ∷ ps) ys = refl
+
+  pub drop-chosen : (n : ℕ) (ps : List Bool) (xs ys : List X)
+      → drop n (chosen_values ps xs ys) ≡ chosen_values (drop n ps) (drop n xs) (drop n ys)
+  drop-chosen zero ps xs ys = refl
+  drop-chosen (suc n) [] xs ys = refl
+  drop-chosen (suc n) (p ∷ ps) [] ys = sym (none-right (drop n ps) (drop (suc n) ys))
+  drop-chosen (suc n) (p ∷ ps) (x ∷ xs) [] = sym (none-left (drop n ps) (drop n xs))
+  drop-chosen (suc n) (p ∷ ps) (x ∷ xs) (y ∷ ys) = drop-chosen n ps xs ys
+
+-- ---- lists that grow by pieces and by values
+
+pub one-more : {Z : Type 0} (zs vs piece : List Z) (a n b : ℕ) → vs ≡ take a zs → piece ≡ take n (drop a zs) → b ≡ a + n
+    → vs ++ piece ≡ take b zs
+one-more zs vs piece a n b first next e = ap₂ ◌++◌ first next ∙ sym (ap (λ m. take m zs) e ∙ take-add a n zs)
+
+pub all-pieces : {Z : Type 0} (zs vs piece : List Z) (a b : ℕ) → vs ≡ take b zs → a ≡ b → piece ≡ drop a zs
+    → vs ++ piece ≡ zs
+all-pieces zs vs piece a b first e rest =
+    ap₂ ◌++◌ (first ∙ ap (λ n. take n zs) (sym e)) rest ∙ take-append-drop a zs
+
+take-next : {Z : Type 0} (zs : List Z) (i : ℕ) (z : Z) → slice_get zs i ≡ Some z → take (i + 1) zs ≡ take i zs ++ z ∷ []
+take-next zs i z e = ap (λ k. take k zs) (let more : i + 1 ≡ suc i = omega arith in more) ∙ next zs i z e
+  where
+    next : {Z : Type 0} (zs : List Z) (i : ℕ) (z : Z) → slice_get zs i ≡ Some z → take (suc i) zs ≡ take i zs ++ z ∷ []
+    next [] i z e = absurd (cc)
+    next (y ∷ zs) zero z e = let here : y ≡ z = cc in ap (λ x. x ∷ []) here
+    next (y ∷ zs) (suc i) z e = ap (λ rest. y ∷ rest) (next zs i z e)
+
+pub next-behind : {Z : Type 0} (front zs vs : List Z) (i : ℕ) (z : Z) → slice_get zs i ≡ Some z
+    → vs ≡ front ++ take i zs → vs ++ z ∷ [] ≡ front ++ take (i + 1) zs
+next-behind front zs vs i z e so_far =
+    ap (λ all. all ++ z ∷ []) so_far ∙ append_assoc front (take i zs) (z ∷ [])
+    ∙ ap (λ rest. front ++ rest) (sym (take-next zs i z e))
+
+pub length-next : {Z : Type 0} (xs : List Z) (x : Z) → length (xs ++ x ∷ []) ≡ length xs + 1
+length-next xs x = length-append xs (x ∷ []) ∙ ap (λ n. length xs + n) refl
+
+-- ---- the bits of a word as booleans
+
+pub bits-at : (word n i : ℕ) → i < n → slice_get (bits_of word n) i ≡ Some (bit_at word i == 1)
+bits-at word n i low =
+    slice_get-get_or (bits_of word n) i (bit_at word i == 1)
+    (omega (arith, low, length-map-range_with_len (λ k. bit_at word k == 1) 0 n))
+    ∙ ap Some (get_or-map-range_with_len (λ k. bit_at word k == 1) 0 n i i (bit_at word i == 1) low (omega arith))
+
+pub length-bits : (word n : ℕ) → length (bits_of word n) ≡ n
+length-bits word n = length-map-range_with_len (λ k. bit_at word k == 1) 0 n
+
+get-drop : {Z : Type 0} (zs : List Z) (a i : ℕ) → slice_get (drop a zs) i ≡ slice_get zs (a + i)
+get-drop zs zero i = ap (slice_get zs) (let same : i ≡ 0 + i = omega arith in same)
+get-drop [] (suc a) i = refl
+get-drop (z ∷ zs) (suc a) i =
+    let next : suc (a + i) ≡ suc a + i = omega arith in
+    get-drop zs a i ∙ ap (λ k. slice_get (z ∷ zs) k) next
+
+-- the bits of a word are the marks that it holds
+bits-piece : (word : ℕ) (marks : List Bool) (a n : ℕ)
+    → ((k : ℕ) → k < n → slice_get marks (a + k) ≡ Some (bit_at word k == 1)) → bits_of word n ≡ take n (drop a marks)
+bits-piece word marks a zero holds = refl
+bits-piece word marks a (suc n) holds =
+    ap (bits_of word) (let more : suc n ≡ n + 1 = omega arith in more)
+    ∙ map-range_with_len_more (λ k. bit_at word k == 1) 0 n n (omega arith)
+    ∙ ap (λ bits. bits ++ (bit_at word n == 1) ∷ []) (bits-piece word marks a n (λ k low. holds k (omega (arith, low))))
+    ∙ sym (take-next (drop a marks) n (bit_at word n == 1) (get-drop marks a n ∙ holds n (omega arith)))
+    ∙ ap (λ m. take m (drop a marks)) (let less : n + 1 ≡ suc n = omega arith in less)
+
+-- what is chosen of pieces by the bits of a word is a piece of what is chosen
+pub piece-chosen : {X : Type 0} (ps : List Bool) (xs ys : List X) (word a n : ℕ)
+    → ((k : ℕ) → k < n → slice_get ps (a + k) ≡ Some (bit_at word k == 1)) → a + n ≤ length xs
+    → chosen_values (bits_of word (length (take n (drop a xs)))) (take n (drop a xs)) (take n (drop a ys))
+    ≡ take n (drop a (chosen_values ps xs ys))
+piece-chosen ps xs ys word a n holds within =
+    ap (λ m. chosen_values (bits_of word m) (take n (drop a xs)) (take n (drop a ys)))
+    (let whole : length (take n (drop a xs)) ≡ n = omega (
+      arith,
+      within,
+      length-take n (drop a xs),
+      length-drop a xs,
+    ) in whole)
+    ∙ ap (λ bits. chosen_values bits (take n (drop a xs)) (take n (drop a ys))) (bits-piece word ps a n holds)
+    ∙ sym (ap (take n) (drop-chosen a ps xs ys) ∙ take-chosen n (drop a ps) (drop a xs) (drop a ys))
+
+-- ---- slots
+
+module _ {X : Type 0} where
+  shown-mark : (v : X) (m : Bool) → is_some (slot (v, m)) ≡ m
+  shown-mark v true = refl
+  shown-mark v false = refl
+
+  chosen-mark : (t m : Bool) (v w : X) (a b : Bool)
+      → (m && (if t then a else b)) ≡ is_some (chosen_slot (slot (t, m)) (slot (v, a)) (slot (w, b)))
+  chosen-mark true true v w a b = sym (shown-mark v a)
+  chosen-mark false true v w a b = sym (shown-mark w b)
+  chosen-mark t false v w a b = refl
+
+  -- the mark of a slot of the result, by the predicate and the marks
+  pub chosen-mark-at : (ps : List (Row Bool)) (xs ys : List (Row X)) (i : ℕ) (t m a b : Bool)
+      → slice_get (map (λ (row : Row Bool). row.0) ps) i ≡ Some t
+      → slice_get (map (λ (row : Row Bool). row.1) ps) i ≡ Some m
+      → slice_get (map (λ (row : Row X). row.1) xs) i ≡ Some a
+      → slice_get (map (λ (row : Row X). row.1) ys) i ≡ Some b
+      → slice_get (marks_shown (chosen_slots (map slot ps) (map slot xs) (map slot ys))) i
+      ≡ Some (m && (if t then a else b))
+  chosen-mark-at [] xs ys i t m a b e f g h = absurd (cc)
+  chosen-mark-at (p ∷ ps) [] ys i t m a b e f g h = absurd (cc)
+  chosen-mark-at (p ∷ ps) (x ∷ xs) [] i t m a b e f g h = absurd (cc)
+  chosen-mark-at ((u, n) ∷ ps) ((v, c) ∷ xs) ((w, d) ∷ ys) zero t m a b e f g h =
+      let truth : u ≡ t = cc in
+      let valid : n ≡ m = cc in
+      let left : c ≡ a = cc in
+      let right : d ≡ b = cc in
+      ap Some (sym (chosen-mark u n v w c d) ∙ ap₂ (λ k l. k && (if l then c else d)) valid truth
+      ∙ ap₂ (λ k l. m && (if t then k else l)) left right)
+  chosen-mark-at (p ∷ ps) (x ∷ xs) (y ∷ ys) (suc i) t m a b e f g h = chosen-mark-at ps xs ys i t m a b e f g h
+
+  pub length-slots : (ps : List (Row Bool)) (xs ys : List (Row X))
+      → length (chosen_slots (map slot ps) (map slot xs) (map slot ys)) ≡ min (length ps) (min (length xs) (length ys))
+  length-slots ps xs ys =
+      length-map (zip (map slot ps) (zip (map slot xs) (map slot ys)))
+      (λ (row : Option Bool × (Option X × Option X)). chosen_slot row.0 row.1.0 row.1.1)
+      ∙ length-zip (map slot ps) (zip (map slot xs) (map slot ys))
+      ∙ ap₂ min (length-map ps slot) (length-zip (map slot xs) (map slot ys)
+      ∙ ap₂ min (length-map xs slot) (length-map ys slot))
+
+  pub length-marks : (ps : List (Row Bool)) (xs ys : List (Row X))
+      → length (marks_shown (chosen_slots (map slot ps) (map slot xs) (map slot ys)))
+      ≡ min (length ps) (min (length xs) (length ys))
+  length-marks ps xs ys =
+      length-map (chosen_slots (map slot ps) (map slot xs) (map slot ys)) is_some ∙ length-slots ps xs ys
+
+  -- the values that the stored predicate chooses are those of the result
+  pub stores-chosen : (ps : List (Row Bool)) (xs ys : List (Row X)) → length xs ≡ length ps → length ys ≡ length ps
+      → StoresShown (chosen_values (map (λ (row : Row Bool). row.0) ps) (map (λ (row : Row X). row.0) xs)
+      (map (λ (row : Row X). row.0) ys)) (chosen_slots (map slot ps) (map slot xs) (map slot ys))
+  stores-chosen [] xs ys left right = tt
+  stores-chosen (p ∷ ps) [] ys left right = absurd (omega (arith, left))
+  stores-chosen (p ∷ ps) (x ∷ xs) [] left right = absurd (omega (arith, right))
+  stores-chosen ((true, true) ∷ ps) ((v, true) ∷ xs) (y ∷ ys) left right =
+      (refl, stores-chosen ps xs ys (omega (arith, left)) (omega (arith, right)))
+  stores-chosen ((true, true) ∷ ps) ((v, false) ∷ xs) (y ∷ ys) left right =
+      stores-chosen ps xs ys (omega (arith, left)) (omega (arith, right))
+  stores-chosen ((false, true) ∷ ps) (x ∷ xs) ((w, true) ∷ ys) left right =
+      (refl, stores-chosen ps xs ys (omega (arith, left)) (omega (arith, right)))
+  stores-chosen ((false, true) ∷ ps) (x ∷ xs) ((w, false) ∷ ys) left right =
+      stores-chosen ps xs ys (omega (arith, left)) (omega (arith, right))
+  stores-chosen ((t, false) ∷ ps) (x ∷ xs) (y ∷ ys) left right =
+      stores-chosen ps xs ys (omega (arith, left)) (omega (arith, right))
