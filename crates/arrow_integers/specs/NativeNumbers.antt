@@ -2,7 +2,7 @@
 use Rattle.std.specs.Prelude.{◌≡◌, ◌-◌, ◌%◌, ◌^◌, ◌<◌, ℕ, ℤ, Bool, true, false, pos, negsuc, FitsSigned}
 use Rattle.std.specs.Bool.{Decides}
 use Rattle.std.specs.Int.{Width, w8, w16, w32, w64, w128, int_wrap}
-use Rattle.std.proofs.Common.{refl, ap, arith, mod-lt}
+use Rattle.std.proofs.Common.{ap, arith, mod-lt}
 use Rattle.std.proofs.Math.Nat.{mod-eq_of_lt}
 use Rattle.std.proofs.lemmas.Bool.{lt-ltb, ltb-true}
 use Rattle.std.proofs.lemmas.Bool.Decides.{Decides-ltb}

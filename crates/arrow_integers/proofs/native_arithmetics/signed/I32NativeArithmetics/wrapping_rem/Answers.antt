@@ -1,0 +1,11 @@
+use Rattle.std.proofs.Common.{◌∙◌}
+use Rattle.std.specs.Int.{w32}
+use Rattle.std.proofs.lemmas.Int.{to_z-of_z}
+use Rattle.arrow_integers.proofs.NativeArithmeticsLemmas.{rem_by, nonzero_by}
+use Rattle.arrow_integers.proofs.native_arithmetics.signed.I32NativeArithmetics.wrapping_rem.Goals as goal
+
+pub wrapping_rem-requires : goal.wrapping_rem-requires
+wrapping_rem-requires c = nonzero_by w32 c.args.self _ c.ranges.self c.ranges.rhs c.requires
+
+pub returns : goal.returns
+returns c = to_z-of_z w32 _ (record { sfits = c.wrapping_rem.type_inv }) ∙ rem_by w32 _ _ c.ranges.self c.ranges.rhs _ c.wrapping_rem.ensures
