@@ -1,9 +1,9 @@
 -- Lemmas about sums of integers whose accumulators wrap: they are exact where no sum on the way can be too great.
 use Rattle.std.proofs.Common.{◌≡◌, ℕ, ◌+◌, ◌*◌, ◌^◌, ◌<◌, ◌≤◌, ◌&&◌, suc, Bool, true, false}
-use Rattle.std.proofs.Common.{ℤ, pos, ◌+ℤ◌, if◌then◌else◌, List, [], ◌∷◌, length, map, Option, Some, None, refl, sym, ap, ap₂}
+use Rattle.std.proofs.Common.{ℤ, pos, negsuc, ◌+ℤ◌, ◌-ℤ◌, ◌*ℤ◌, if◌then◌else◌, List, [], ◌∷◌, length, map, Option, Some, None, refl, sym, ap, ap₂}
 use Rattle.std.proofs.Common.{◌∙◌, arith, subst, true≢false, unsigned_abs, unwrap_or, add_comm, append-nil, take, slice_get}
 use Rattle.std.specs.Prelude.{FitsSigned, fold, nat_le, option_map}
-use Rattle.std.specs.Int.{Width, int_wrap, w128}
+use Rattle.std.specs.Int.{Width, int_wrap, w64, w128}
 use mir.Val.{hbits}
 use Rattle.std.proofs.lemmas.Bool.{leb-true}
 use Rattle.std.proofs.lemmas.Int.{fits_signed_from_abs, int_wrap_fits, ints}
@@ -14,7 +14,7 @@ use Rattle.std.proofs.lemmas.List.Folds.{fold-map}
 use Rattle.std.proofs.Math.IntN.{+ℤ_idr}
 use Rattle.std.proofs.Math.Nat.{suc-mul}
 use Rattle.arrow_aggregate.specs.Aggregates.{sum_all}
-use Rattle.arrow_aggregate.specs.Sums.{add_small, number_or_zero, sum_split}
+use Rattle.arrow_aggregate.specs.Sums.{add_halves, add_small, high_half, is_wide, low_half, number_or_zero, sum_split}
 use Rattle.arrow_aggregate.proofs.AggregateLemmas.{size_of_sum, valid, valid_more}
 
 -- from a sum before
@@ -83,6 +83,77 @@ small_total w m number zero_value slots result is_zero is exact small =
     ap (λ state. state.0) folded
     ∙ sum_small w m (map number values) (pos 0) true (ap (λ state. state.1) (sym folded) ∙ exact)
     (subst (λ n. 0 + n * m < 2 ^ hbits w) (sym long) (omega (arith, small)))
+    ∙ sum_valid number zero_value is_zero slots (pos 0)
+
+-- ---- sums of halves
+
+-- the number of two halves
+abbrev pub of_halves : ℤ × ℤ → ℤ
+of_halves parts = parts.0 *ℤ pos (2 ^ 32) +ℤ parts.1
+
+pub high_size : (z : ℤ) → unsigned_abs z ≤ 2 ^ 64 → unsigned_abs (high_half z) ≤ 2 ^ 32
+high_size (pos a) small = omega (arith, small)
+high_size (negsuc a) small = omega (arith, small)
+
+pub low_size : (z : ℤ) → unsigned_abs z ≤ 2 ^ 64 → unsigned_abs (low_half z) ≤ 2 ^ 32
+low_size (pos a) small = omega (arith, ints, small)
+low_size (negsuc a) small = omega (arith, ints, small)
+
+all_wide : (zs : List ℤ) (state : (ℤ × ℤ) × Bool) → (fold add_halves state zs).1 ≡ true → state.1 ≡ true
+all_wide [] state e = e
+all_wide (z ∷ zs) state e = both_left state.1 (is_wide z) (all_wide zs (add_halves state z) e)
+
+-- one more half fits in 64 bits
+half_fits : (s z : ℤ) (n : ℕ) → unsigned_abs z ≤ 2 ^ 32 → unsigned_abs s + suc n * 2 ^ 32 < 2 ^ 63
+    → int_wrap w64 (s +ℤ z) ≡ s +ℤ z
+half_fits s z n low small = int_wrap_fits w64 (s +ℤ z) (fits_signed_from_abs w64 (s +ℤ z)
+    (omega (arith, low, small, size_of_sum s z)))
+
+one_wide : (z h l : ℤ) (b : Bool) (n : ℕ) → is_wide z ≡ true → unsigned_abs h + suc n * 2 ^ 32 < 2 ^ 63
+    → unsigned_abs l + suc n * 2 ^ 32 < 2 ^ 63
+    → add_halves ((h, l), b) z ≡ ((h +ℤ high_half z, l +ℤ low_half z), b && true)
+one_wide z h l b n e high low =
+    let size = leb-true (unsigned_abs z) (2 ^ 64) e in
+    ap (λ t. ((int_wrap w64 (h +ℤ high_half (if t then z else pos 0)), int_wrap w64 (l +ℤ low_half (if t then z else pos 0))), b && t)) e
+    ∙ ap₂ (λ s t. ((s, t), b && true)) (half_fits h (high_half z) n (high_size z size) high)
+    (half_fits l (low_half z) n (low_size z size) low)
+
+joined_halves : (h l z : ℤ) → of_halves (h +ℤ high_half z, l +ℤ low_half z) ≡ of_halves (h, l) +ℤ z
+joined_halves h l z = joined h l (high_half z) z
+  where
+    joined : (h l high z : ℤ) → (h +ℤ high) *ℤ pos (2 ^ 32) +ℤ (l +ℤ (z -ℤ high *ℤ pos (2 ^ 32)))
+        ≡ h *ℤ pos (2 ^ 32) +ℤ l +ℤ z
+    joined h l high z = omega (arith, ints)
+
+sum_wide : (zs : List ℤ) (h l : ℤ) (b : Bool) → (fold add_halves ((h, l), b) zs).1 ≡ true
+    → unsigned_abs h + length zs * 2 ^ 32 < 2 ^ 63 → unsigned_abs l + length zs * 2 ^ 32 < 2 ^ 63
+    → of_halves (fold add_halves ((h, l), b) zs).0 ≡ sum_from (of_halves (h, l)) zs
+sum_wide [] h l b e high low = refl
+sum_wide (z ∷ zs) h l b e high low =
+    let flag = both_right b (is_wide z) (all_wide zs (add_halves ((h, l), b) z) e) in
+    let size = leb-true (unsigned_abs z) (2 ^ 64) flag in
+    let one = one_wide z h l b (length zs) flag high low in
+    ap (λ state. of_halves (fold add_halves state zs).0) one
+    ∙ sum_wide zs (h +ℤ high_half z) (l +ℤ low_half z) (b && true) (ap (λ state. (fold add_halves state zs).1) (sym one) ∙ e)
+    (omega (arith, high, high_size z size, size_of_sum h (high_half z)))
+    (omega (arith, low, low_size z size, size_of_sum l (low_half z)))
+    ∙ ap (λ s. sum_from s zs) (joined_halves h l z)
+
+-- a sum of halves that says that it is one is the sum of the valid slots
+pub halves_total : {T : Type 0} (number : T → ℤ) (zero_value : T) (slots : List (Option T)) (result : (ℤ × ℤ) × Bool)
+    → number zero_value ≡ pos 0
+    → result ≡ fold (λ state x. add_halves state (number x)) ((pos 0, pos 0), true) (map (λ slot. unwrap_or slot zero_value) slots)
+    → result.1 ≡ true → length slots < 2 ^ 30 → of_halves result.0 ≡ sum_all (map number (valid slots))
+halves_total number zero_value slots result is_zero is exact few =
+    let values : List _ = map (λ slot. unwrap_or slot zero_value) slots in
+    let folded : result ≡ fold add_halves ((pos 0, pos 0), true) (map number values) =
+    is ∙ sym (fold-map add_halves number ((pos 0, pos 0), true) values) in
+    let long : length (map number values) ≡ length slots =
+    length-map values number ∙ length-map slots (λ slot. unwrap_or slot zero_value) in
+    let small : 0 + length (map number values) * 2 ^ 32 < 2 ^ 63 =
+    subst (λ n. 0 + n * 2 ^ 32 < 2 ^ 63) (sym long) (omega (arith, few)) in
+    ap (λ state. of_halves state.0) folded
+    ∙ sum_wide (map number values) (pos 0) (pos 0) true (ap (λ state. state.1) (sym folded) ∙ exact) small small
     ∙ sum_valid number zero_value is_zero slots (pos 0)
 
 -- one slot more

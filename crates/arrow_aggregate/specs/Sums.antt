@@ -1,14 +1,35 @@
 -- Sums of integers.
-use Rattle.std.specs.Prelude.{ℕ, ℤ, pos, ◌+ℤ◌, ◌*ℤ◌, ◌^◌, ◌&&◌, Bool, if◌then◌else◌, nat_le, unsigned_abs, Option}
+use Rattle.std.specs.Prelude.{ℕ, ℤ, pos, ◌+ℤ◌, ◌-ℤ◌, ◌*ℤ◌, ◌^◌, ◌&&◌, Bool, if◌then◌else◌, nat_le, unsigned_abs, Option}
 use Rattle.std.specs.Prelude.{option_map, unwrap_or}
 use Rattle.std.specs.Prelude.{◌≡◌, FitsSigned, MatchOption}
-use Rattle.std.specs.Int.{Width, int_wrap, w128}
+use Rattle.std.specs.Int.{Width, int_shr, int_wrap, w64, w128}
 
 -- adds a number that is at most m from zero, and else says that the sum is none
 abbrev pub add_small : Width → ℕ → ℤ × Bool → ℤ → ℤ × Bool
 add_small w m state z = (
   int_wrap w (state.0 +ℤ (if nat_le (unsigned_abs z) m then z else pos 0)),
   state.1 && nat_le (unsigned_abs z) m,
+)
+
+-- a number in halves: the high one counts 2 ^ 32, and the low one is what is left
+abbrev pub high_half : ℤ → ℤ
+high_half z = int_shr z 32
+
+abbrev pub low_half : ℤ → ℤ
+low_half z = z -ℤ high_half z *ℤ pos (2 ^ 32)
+
+-- whether a number is at most 2 ^ 64 from zero, and that number or else zero
+abbrev pub is_wide : ℤ → Bool
+is_wide z = nat_le (unsigned_abs z) (2 ^ 64)
+
+abbrev pub wide_or_zero : ℤ → ℤ
+wide_or_zero z = if is_wide z then z else pos 0
+
+-- adds the halves of a number that is at most 2 ^ 64 from zero, and else says that the sum is none
+abbrev pub add_halves : (ℤ × ℤ) × Bool → ℤ → (ℤ × ℤ) × Bool
+add_halves state z = (
+  (int_wrap w64 (state.0.0 +ℤ high_half (wide_or_zero z)), int_wrap w64 (state.0.1 +ℤ low_half (wide_or_zero z))),
+  state.1 && is_wide z,
 )
 
 -- the number of high and low parts, of which the high one counts 2 ^ 64

@@ -1,12 +1,12 @@
 -- What proofs of methods of `NativeArithmetics` cite. A clause of std says what a method of std gives, on values that are
 -- cast to their bits and back.
-use Rattle.std.proofs.Common.{◌≡◌, ◌≢◌, ◌+◌, ◌-◌, ◌*◌, ◌/◌, ◌%◌, ◌^◌, ◌<◌, ◌≤◌, ◌+ℤ◌, ◌-ℤ◌, ◌*ℤ◌, ◌<ℤ◌, ◌≤ℤ◌, ℕ, ℤ}
+use Rattle.std.proofs.Common.{◌≡◌, ◌≢◌, ◌+◌, ◌-◌, ◌*◌, ◌/◌, ◌%◌, ◌^◌, ◌<◌, ◌≤◌, ◌-ℤ◌, ◌<ℤ◌, ◌≤ℤ◌, ℕ, ℤ}
 use Rattle.std.proofs.Common.{zero, suc, Bool, true, false, not, pos, negsuc, neg_ℤ, min, Option, Some, None, Result, Ok, Err}
 use Rattle.std.proofs.Common.{FitsSigned, int_div, int_rem, unsigned_abs, refl, ap, sym, subst, ◌∙◌, arith, inl, inr}
 use Rattle.std.proofs.Common.{lt_of_le_of_lt}
 use Rattle.std.specs.Bool.{Decides}
 use Rattle.std.specs.Int.{Width, w8, w16, w32, w64, w128, CanDivide, FitsUnsigned, IsNonZero, cast_signed, cast_unsigned}
-use Rattle.std.specs.Int.{int_wrap, int_wrapping_add, int_wrapping_div, int_wrapping_mul, int_wrapping_sub}
+use Rattle.std.specs.Int.{int_wrap, int_wrapping_div}
 use Rattle.std.specs.Int.{saturate_signed, saturate_unsigned}
 use Rattle.std.specs.Option.{SomeIff}
 use Rattle.std.specs.Result.{OkIff, result_ok}
@@ -15,7 +15,6 @@ use Rattle.std.proofs.Math.Nat.{div-le_self, mod-eq_of_lt, mod-le}
 use Rattle.std.proofs.lemmas.Bool.{cases_lt, false_from_ne_true}
 use Rattle.std.proofs.lemmas.Bool.Decides.{Decides-and, Decides-int_eq, Decides-like, Decides-not}
 use Rattle.std.proofs.lemmas.Int.{ints, int_rem_euclid_is, int_wrap_fits, to_z-of_z}
-use Rattle.std.proofs.lemmas.Int.{wrapping_add_is, wrapping_mul_is, wrapping_sub_is}
 use Rattle.std.proofs.lemmas.Nat.{pow_pos}
 use Rattle.arrow_integers.specs.NativeArithmetics.{divides, fits_signed, fits_unsigned, some_if, wrap_unsigned}
 use Rattle.arrow_integers.specs.NativeNumbers.{signed_decides, stays_below, unsigned_decides}
@@ -159,18 +158,6 @@ signed_wrapping_div w (negsuc a) (negsuc b) r f e =
 
 pub signed_wrapping_rem : (w : Width) (x y r : ℤ) → FitsSigned w x → r ≡ int_rem x y → r ≡ int_wrap w (int_rem x y)
 signed_wrapping_rem w x y r f e = e ∙ sym (int_wrap_fits w (int_rem x y) (remainder_fits w x y f))
-
-pub signed_wrapping_add : (w : Width) (x y r : ℤ) → FitsSigned w x → FitsSigned w y → r ≡ int_wrapping_add w x y
-    → r ≡ int_wrap w (x +ℤ y)
-signed_wrapping_add w x y r f g e = e ∙ wrapping_add_is w x y f g
-
-pub signed_wrapping_sub : (w : Width) (x y r : ℤ) → FitsSigned w x → FitsSigned w y → r ≡ int_wrapping_sub w x y
-    → r ≡ int_wrap w (x -ℤ y)
-signed_wrapping_sub w x y r f g e = e ∙ wrapping_sub_is w x y f g
-
-pub signed_wrapping_mul : (w : Width) (x y r : ℤ) → FitsSigned w x → FitsSigned w y → r ≡ int_wrapping_mul w x y
-    → r ≡ int_wrap w (x *ℤ y)
-signed_wrapping_mul w x y r f g e = e ∙ wrapping_mul_is w x y f g
 
 pub unsigned_wrapping : (w : Width) (n r : ℕ) → r ≡ n % 2 ^ bits w → r ≡ wrap_unsigned w (pos n)
 unfolding wrap_unsigned

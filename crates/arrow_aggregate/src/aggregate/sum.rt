@@ -3,7 +3,7 @@ ghost use Rattle.std.specs.Prelude.{◌≡◌, ◌&&◌, ◌<◌, ◌≤◌, ◌
 ghost use Rattle.std.specs.Prelude.{if◌then◌else◌, length, map, nat_le, option_map, pos, slice_get, unsigned_abs};
 ghost use Rattle.arrow_column.specs.Column.{slots_of};
 ghost use Rattle.arrow_aggregate.specs.Aggregates.{sum_all, sum_of, valid_values};
-ghost use Rattle.arrow_aggregate.specs.Sums.{IsTotal, number_or_zero, sum_split};
+ghost use Rattle.arrow_aggregate.specs.Sums.{IsTotal, high_half, low_half, number_or_zero, sum_split};
 
 use crate::aggregate::fold::{Folder, fold_slots};
 use arrow_integers::NativeArithmetics;
@@ -50,7 +50,8 @@ fn narrow_or_zero(number: i128) -> i64
 /// Returns the number if it is at most 2 ^ 64 from zero, else zero.
 #[inline(always)]
 fn wide_or_zero(number: i128) -> i128
-    ensures { result ≡ (if nat_le (unsigned_abs number) (2 ^ 64) then number else pos 0) }
+    ensures number { result ≡ (if nat_le (unsigned_abs number) (2 ^ 64) then number else pos 0) }
+    ensures size { unsigned_abs result ≤ 2 ^ 64 }
 {
     if number.unsigned_abs() <= 1 << 64 {
         number
@@ -87,6 +88,39 @@ impl<T: NativeArithmetics> Folder<T> for NarrowSum {
         let number = value.to_i128();
         let sum = NativeArithmetics::wrapping_add(state.0, narrow_or_zero(number));
         (sum, both(state.1, number.unsigned_abs() <= 1 << 32))
+    }
+}
+
+/// Returns a number as a high half, which counts 2 ^ 32, and a low half of 32 bits.
+#[inline(always)]
+fn halves(number: i128) -> (i64, i64)
+    requires { unsigned_abs number ≤ 2 ^ 64 }
+    ensures high { result.0 ≡ high_half number }
+    ensures low { result.1 ≡ low_half number }
+{
+    let high = number >> 32;
+    let low = number - high * (1 << 32);
+    (high as i64, low as i64)
+}
+
+/// Sums the halves of numbers that are at most 2 ^ 64 from zero, and says whether all were. The halves of several numbers
+/// are added at once, since no sum of 64 bits carries into another.
+struct HalvesSum;
+
+impl<T: NativeArithmetics> Folder<T> for HalvesSum {
+    ghost use Rattle.arrow_aggregate.specs.Sums.{add_halves};
+
+    type State = ((i64, i64), bool);
+
+    ghost step = { λ state value. add_halves state (T.number value) };
+
+    #[inline(always)]
+    fn step(state: ((i64, i64), bool), value: T) -> ((i64, i64), bool) {
+        let number = value.to_i128();
+        let (high, low) = halves(wide_or_zero(number));
+        let high = NativeArithmetics::wrapping_add(state.0.0, high);
+        let low = NativeArithmetics::wrapping_add(state.0.1, low);
+        ((high, low), both(state.1, number.unsigned_abs() <= 1 << 64))
     }
 }
 
@@ -143,6 +177,19 @@ fn narrow_total<T: NativeArithmetics>(array: &PrimitiveArray<T>) -> Option<i64>
     if is_exact { Some(sum) } else { None }
 }
 
+/// Returns the sum of fewer than 2 ^ 30 slots, if no number is greater than 64 bits hold.
+fn halves_total<T: NativeArithmetics>(array: &PrimitiveArray<T>) -> Option<i128>
+    requires { length array.now.rows < 2 ^ 30 }
+    ensures { IfSome result (λ sum. sum ≡ sum_all (map T.number (valid_values array.now))) }
+{
+    let ((high, low), is_exact) = fold_slots::<HalvesSum, T>(((0, 0), true), array, T::default());
+    if is_exact {
+        Some(i128::from(high) * (1 << 32) + i128::from(low))
+    } else {
+        None
+    }
+}
+
 /// Returns the sum of the valid slots, if no number is greater than 64 bits hold.
 fn wide_total<T: NativeArithmetics>(array: &PrimitiveArray<T>) -> Option<i128>
     ensures { IfSome result (λ sum. sum ≡ sum_all (map T.number (valid_values array.now))) }
@@ -187,7 +234,12 @@ fn total<T: NativeArithmetics>(array: &PrimitiveArray<T>) -> Option<i128>
             return Some(i128::from(sum));
         }
     }
-    match wide_total(array) {
+    let near = if array.len() < 1 << 30 {
+        halves_total(array)
+    } else {
+        wide_total(array)
+    };
+    match near {
         Some(sum) => Some(sum),
         None => split_total(array),
     }

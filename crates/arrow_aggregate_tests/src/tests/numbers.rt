@@ -49,6 +49,8 @@ const LONG: &[Row<i64>] = &[
     ("one too great", &[MAX, 1], "none", Err(SumOverflow), Some(1), Some(MAX), 2),
     ("one too small", &[MIN, -1], "none", Err(SumOverflow), Some(MIN), Some(-1), 2),
     ("least and greatest", &[MIN, MAX], "none", Ok(Some(-1)), Some(MIN), Some(MAX), 2),
+    ("above 32 bits", &[4294967296, -1, -4294967297, 5], "1101", Ok(Some(4294967300)), Some(-1), Some(4294967296), 3),
+    ("below 32 bits", &[-4294967297, -4294967295, 1], "none", Ok(Some(-8589934591)), Some(-4294967297), Some(1), 3),
 ];
 
 const HUGE: i128 = i128::MAX;
