@@ -1,7 +1,7 @@
 -- Slots of one of two arrays, by a predicate.
-use Rattle.std.proofs.Common.{◌≡◌, ◌∙◌, ◌&&◌, ◌||◌, ◌==◌, ◌+◌, ◌-◌, ◌^◌, ◌<◌, ◌≤◌, ℕ, zero, suc, min, bit_and, bit_or, Bool, true, false, if◌then◌else◌, not, List, [], ◌∷◌, ◌++◌, map, length, take, drop, get_or, Option, Some, None, is_some, slice_get, refl, ap, ap₂, sym, arith, append_assoc, length-append}
+use Rattle.std.proofs.Common.{◌≡◌, ◌∙◌, ◌&&◌, ◌||◌, ◌==◌, ◌+◌, ◌-◌, ◌^◌, ◌<◌, ◌≤◌, ℕ, zero, suc, min, bit_and, bit_or, Bool, true, false, if◌then◌else◌, not, List, [], ◌∷◌, ◌++◌, map, length, take, drop, get_or, Option, Some, None, is_some, slice_get, refl, ap, ap₂, sym, arith, append_assoc, length-append, IsTrue, true≢false}
 use Rattle.std.specs.Int.{bit_at}
-use Rattle.std.specs.List.{zip}
+use Rattle.std.specs.List.{list_all, zip}
 use Rattle.std.proofs.Math.Seq.{take-add}
 use Rattle.std.proofs.lemmas.List.{length-drop, length-map, length-take, take-append-drop}
 use Rattle.std.proofs.lemmas.List.FromFn.{get_or-map-range_with_len, length-map-range_with_len, map-range_with_len_more}
@@ -10,7 +10,7 @@ use Rattle.std.proofs.lemmas.Slice.Zip.{length-zip}
 use Rattle.arrow_memory.specs.Marks.{bits_of}
 use Rattle.arrow_memory.specs.Rows.{Row, slot}
 use Rattle.arrow_compute.proofs.CallerLemmas.{and_bit, not_bit, or_bit}
-use Rattle.arrow_select.specs.Selects.{chosen_slot, chosen_slots, chosen_values, marks_shown}
+use Rattle.arrow_select.specs.Selects.{chosen_slot, chosen_slots, chosen_values, marks_shown, mask_shown}
 use Rattle.arrow_select.proofs.ShownLemmas.{StoresShown}
 
 -- ---- bits
@@ -183,6 +183,32 @@ module _ {X : Type 0} where
       ap Some (sym (chosen-mark u n v w c d) ∙ ap₂ (λ k l. k && (if l then c else d)) valid truth
       ∙ ap₂ (λ k l. m && (if t then k else l)) left right)
   chosen-mark-at (p ∷ ps) (x ∷ xs) (y ∷ ys) (suc i) t m a b e f g h = chosen-mark-at ps xs ys i t m a b e f g h
+
+  shown-choice : (t : Bool) (v w : X) → is_some (chosen_slot (Some t) (Some v) (Some w)) ≡ true
+  shown-choice true v w = refl
+  shown-choice false v w = refl
+
+  -- no slot of valid ones is null
+  all-chosen : (ps : List (Row Bool)) (xs ys : List (Row X)) → IsTrue (list_all (λ (row : Row Bool). row.1) ps)
+      → IsTrue (list_all (λ (row : Row X). row.1) xs) → IsTrue (list_all (λ (row : Row X). row.1) ys)
+      → list_all (λ mark. mark) (marks_shown (chosen_slots (map slot ps) (map slot xs) (map slot ys))) ≡ true
+  all-chosen [] xs ys p x y = refl
+  all-chosen (p ∷ ps) [] ys e x y = refl
+  all-chosen (p ∷ ps) (x ∷ xs) [] e f y = refl
+  all-chosen ((t, true) ∷ ps) ((v, true) ∷ xs) ((w, true) ∷ ys) e f g =
+      ap (λ mark. mark && list_all (λ m. m) (marks_shown (chosen_slots (map slot ps) (map slot xs) (map slot ys))))
+      (shown-choice t v w) ∙ all-chosen ps xs ys e f g
+  all-chosen ((t, false) ∷ ps) (x ∷ xs) (y ∷ ys) e f g = absurd (true≢false (sym e))
+  all-chosen ((t, true) ∷ ps) ((v, false) ∷ xs) (y ∷ ys) e f g = absurd (true≢false (sym f))
+  all-chosen ((t, true) ∷ ps) ((v, true) ∷ xs) ((w, false) ∷ ys) e f g = absurd (true≢false (sym g))
+
+  -- no mask of them is needed
+  pub none-chosen : (ps : List (Row Bool)) (xs ys : List (Row X)) → IsTrue (list_all (λ (row : Row Bool). row.1) ps)
+      → IsTrue (list_all (λ (row : Row X). row.1) xs) → IsTrue (list_all (λ (row : Row X). row.1) ys)
+      → None ≡ mask_shown (chosen_slots (map slot ps) (map slot xs) (map slot ys))
+  none-chosen ps xs ys e f g =
+      let marks = marks_shown (chosen_slots (map slot ps) (map slot xs) (map slot ys)) in
+      sym (ap (λ b. if b then None else Some marks) (all-chosen ps xs ys e f g))
 
   pub length-slots : (ps : List (Row Bool)) (xs ys : List (Row X))
       → length (chosen_slots (map slot ps) (map slot xs) (map slot ys)) ≡ min (length ps) (min (length xs) (length ys))

@@ -55,7 +55,7 @@ impl<'a, A: Array> MarkWords for ChosenMarks<'a, A> {
     }
 }
 
-/// Returns the mask of the slots that a predicate chooses.
+/// Returns the mask of the slots that a predicate chooses. None is made if no array holds one.
 fn chosen_mask<A: Array>(
     alloc: Global,
     predicate: &BooleanArray,
@@ -66,14 +66,17 @@ fn chosen_mask<A: Array>(
         ≡ mask_shown (slots_chosen predicate.now (A.column lhs.now) (A.column rhs.now))) }
     ensures err { OnlyOutOfMemory result }
 {
-    collect_mask(
-        alloc,
-        &ChosenMarks {
-            predicate,
-            lhs,
-            rhs,
-        },
-    )
+    match (predicate.validity(), lhs.validity(), rhs.validity()) {
+        (None, None, None) => Ok(None),
+        _ => collect_mask(
+            alloc,
+            &ChosenMarks {
+                predicate,
+                lhs,
+                rhs,
+            },
+        ),
+    }
 }
 
 /// Returns whether a bit of a word is set.
