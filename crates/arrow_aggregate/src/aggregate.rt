@@ -1,4 +1,4 @@
-//! Sums, least and greatest values of the valid slots of an array.
+//! Sums, least and greatest values and counts of the valid slots of an array, and of each group of slots.
 mod best;
 mod booleans;
 mod count;

@@ -1,4 +1,4 @@
-//! Conversions of arrays between types of integers, and of booleans and integers.
+//! Conversions of arrays between types of integers, of booleans to and from integers, and of bytes to text.
 ghost use Rattle.std.specs.Prelude.{◌≡◌, ◌≤◌, IfOk, length, map, option_map};
 ghost use Rattle.arrow_types.specs.Failures.{OnlyOutOfMemory};
 ghost use Rattle.arrow_types.specs.Types.{IsRightType, logical_type};
@@ -28,10 +28,10 @@ use arrow_types::physical_type::PhysicalType;
 use arrow_utf8::Utf8Array;
 use std::alloc::Global;
 
-/// How numbers are converted that do not fit in their new type.
+/// How numbers that do not fit in the new type are converted.
 #[derive(Clone, Copy, Debug, PartialEq, Eq)]
 pub struct CastOptions {
-    /// Whether they wrap around; otherwise they become null.
+    /// Whether such numbers wrap around; otherwise they become null.
     pub wrapped: bool,
 }
 
@@ -69,8 +69,8 @@ pub fn primitive_as_primitive<I: NativeArithmetics, O: WrapNumber>(
     Ok(PrimitiveArray::new(data_type, values, validity))
 }
 
-/// Returns whether the value to which a number wraps has that number, which takes fewer instructions
-/// than `from_i128` where widths are known.
+/// Returns whether a number fits: whether the value to which it wraps has that number. This takes
+/// fewer instructions than `from_i128`.
 #[inline(always)]
 fn is_fitting<O: WrapNumber>(number: i128) -> bool
     ensures { result ≡ O.fits number }
@@ -221,7 +221,8 @@ fn nonzero_marks<T: NativeArithmetics>(alloc: Global, values: &[T]) -> Result<Bi
     marks.freeze()
 }
 
-/// Converts each slot to whether it is not zero. The result holds a mask if the array does.
+/// Converts each slot to a boolean: whether its number is not zero. The result holds a mask if the
+/// array does.
 ///
 /// # Errors
 /// `OutOfMemory` if an allocation fails.
@@ -237,8 +238,8 @@ pub fn primitive_to_boolean<T: NativeArithmetics>(
     Ok(BooleanArray::new(DataType::Boolean, marks, validity))
 }
 
-/// Returns the same slots as text, without copying any. Each item has to be UTF-8 by itself, those
-/// that null slots store too. The data type must have the physical type of an array of text. The result
+/// Returns the same slots as text, without copying any. Each item has to be UTF-8 by itself, also
+/// those that null slots store. The data type must have the physical type of an array of text. The result
 /// holds a mask if the array does.
 ///
 /// # Errors

@@ -1,4 +1,4 @@
-//! What operations make of two arrays, and of an array and one value.
+//! Results of operations on two arrays, and on an array and one value.
 ghost use Rattle.std.specs.Prelude.{◌≡◌, ◌+◌, ◌++◌, ◌≤◌, IfOk, length, map};
 ghost use Rattle.std.specs.Option.{option_copied};
 ghost use Rattle.std.specs.Vec.{vec_capacity};
@@ -17,7 +17,7 @@ use arrow_primitive::PrimitiveArray;
 use arrow_types::error::Error;
 use std::alloc::Global;
 
-/// Returns what the operation makes of each two values at one place.
+/// Returns the results of the operation on the values at each index.
 fn combine_values<T: NativeArithmetics, O: Operation<T>>(
     alloc: Global,
     lhs: &[T],
@@ -34,7 +34,7 @@ fn combine_values<T: NativeArithmetics, O: Operation<T>>(
     Ok(values)
 }
 
-/// Returns what the operation makes of each value and `rhs`.
+/// Returns the results of the operation on each value and `rhs`.
 fn map_values<T: NativeArithmetics, O: Operation<T>>(
     alloc: Global,
     lhs: &[T],
@@ -50,7 +50,7 @@ fn map_values<T: NativeArithmetics, O: Operation<T>>(
     Ok(values)
 }
 
-/// Returns what the operation makes of each two slots of two arrays of equal length.
+/// Returns the results of the operation on the slots at each index of two arrays of equal length.
 pub(crate) fn combine<T: NativeArithmetics, O: Operation<T>>(
     alloc: Global,
     lhs: &PrimitiveArray<T>,
@@ -66,7 +66,7 @@ pub(crate) fn combine<T: NativeArithmetics, O: Operation<T>>(
     Ok(PrimitiveArray::new(lhs.data_type().clone()?, values, validity))
 }
 
-/// Returns what the operation makes of each slot and `rhs`.
+/// Returns the results of the operation on each slot and `rhs`.
 pub(crate) fn combine_scalar<T: NativeArithmetics, O: Operation<T>>(
     alloc: Global,
     lhs: &PrimitiveArray<T>,
@@ -88,8 +88,8 @@ struct Outcomes<T: NativeArithmetics> {
     marks: Bitmap,
 }
 
-/// Appends what the operation makes of each of at most 64 pairs of values, and returns where it makes
-/// a value as the bits of a word.
+/// Appends the results of the operation on at most 64 pairs of values, and returns which pairs have a
+/// result as the bits of a word.
 #[inline(always)]
 fn check_word<T: NativeArithmetics, O: CheckedOperation<T>>(
     values: &mut Vec<T>,
@@ -113,7 +113,7 @@ fn check_word<T: NativeArithmetics, O: CheckedOperation<T>>(
     word
 }
 
-/// Returns the outcomes of the operation on each two values at one place. Makes 64 marks at a time.
+/// Returns the outcomes of the operation on the values at each index. Makes 64 marks at a time.
 fn check_values<T: NativeArithmetics, O: CheckedOperation<T>>(
     alloc: Global,
     lhs: &[T],
@@ -141,8 +141,8 @@ fn check_values<T: NativeArithmetics, O: CheckedOperation<T>>(
     })
 }
 
-/// Appends what the operation makes of each of at most 64 values and `rhs`, and returns where it
-/// makes a value as the bits of a word.
+/// Appends the results of the operation on at most 64 values and `rhs`, and returns which values have
+/// a result as the bits of a word.
 #[inline(always)]
 fn check_word_scalar<T: NativeArithmetics, O: CheckedOperation<T>>(
     values: &mut Vec<T>,
@@ -203,7 +203,8 @@ pub(crate) fn mask_and(alloc: Global, mask: Option<Bitmap>, marks: Bitmap) -> Re
     }
 }
 
-/// Returns what the checked operation makes of each two slots of two arrays of equal length.
+/// Returns the results of the checked operation on the slots at each index of two arrays of equal
+/// length.
 pub(crate) fn combine_checked<T: NativeArithmetics, O: CheckedOperation<T>>(
     alloc: Global,
     lhs: &PrimitiveArray<T>,
@@ -224,7 +225,7 @@ pub(crate) fn combine_checked<T: NativeArithmetics, O: CheckedOperation<T>>(
     Ok(PrimitiveArray::new(lhs.data_type().clone()?, values, Some(validity)))
 }
 
-/// Returns what the checked operation makes of each slot and `rhs`.
+/// Returns the results of the checked operation on each slot and `rhs`.
 pub(crate) fn combine_checked_scalar<T: NativeArithmetics, O: CheckedOperation<T>>(
     alloc: Global,
     lhs: &PrimitiveArray<T>,

@@ -3,24 +3,24 @@ ghost use Rattle.std.specs.Prelude.{◌≡◌};
 
 use arrow_integers::NativeArithmetics;
 
-/// An operation that makes a value of any two.
+/// An operation that has a result for any two values.
 pub(crate) trait Operation<T: NativeArithmetics> {
-    /// What it makes of two values.
+    /// The result for two values.
     ghost make: { T → T → T };
 
-    /// Returns what it makes of two values.
+    /// Returns the result for two values.
     fn apply(lhs: T, rhs: T) -> T
         ensures { result ≡ make lhs rhs };
 }
 
-/// An operation that may make nothing of two values.
+/// An operation that has no result for some values.
 pub(crate) trait CheckedOperation<T: NativeArithmetics> {
     ghost use Rattle.std.specs.Prelude.{Option};
 
-    /// What it makes of two values, if anything.
+    /// The result for two values, if there is one.
     ghost make: { T → T → Option T };
 
-    /// Returns what it makes of two values, if anything.
+    /// Returns the result for two values, if there is one.
     fn apply(lhs: T, rhs: T) -> Option<T>
         ensures { result ≡ make lhs rhs };
 }

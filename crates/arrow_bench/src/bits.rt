@@ -1,4 +1,4 @@
-//! Bit maps.
+//! Bitmaps.
 ghost use Rattle.std.specs.Prelude.{◌≡◌, length};
 
 use crate::operation::{Operation, Probe, run};
@@ -60,7 +60,7 @@ fn extend(alloc: Global, piece: usize, times: usize) -> Option<MutableBitmap> {
     filled_builder(out, filled)
 }
 
-// new, then so many extend_constant of `piece` marks, set and clear in turn
+// new, then `times` times extend_constant of `piece` marks, set and clear in turn
 #[unsafe(no_mangle)]
 pub extern "C" fn rattle_flat_bits_extend_constant(
     alloc: Global,

@@ -1,5 +1,5 @@
-//! What the benchmark driver calls: each function makes its arrays from slices, does an operation so
-//! many times and answers a checksum (rattle_flat.h says which).
+//! What the benchmark driver calls: each function makes its arrays from slices, repeats an operation
+//! and returns a checksum (rattle_flat.h says which).
 #![tactic(auto)]
 
 mod aggregates;

@@ -77,7 +77,7 @@ fn push_nulls(alloc: Global, count: usize) -> Option<MutablePrimitiveArray<i64>>
     filled_builder(out, filled)
 }
 
-// new, so many push_null
+// new, then `count` times push_null
 #[unsafe(no_mangle)]
 pub extern "C" fn rattle_flat_prim_push_null(alloc: Global, count: usize, rounds: usize) -> u64 {
     make_rounds(rounds, || push_nulls(alloc, count), probe)
@@ -90,7 +90,7 @@ fn extend_nulls(alloc: Global, count: usize) -> Option<MutablePrimitiveArray<i64
     filled_builder(out, filled)
 }
 
-// new, one extend_constant of so many nulls
+// new, then one extend_constant of `count` nulls
 #[unsafe(no_mangle)]
 pub extern "C" fn rattle_flat_prim_extend_null(alloc: Global, count: usize, rounds: usize) -> u64 {
     make_rounds(rounds, || extend_nulls(alloc, count), probe)

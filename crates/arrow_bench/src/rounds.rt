@@ -1,5 +1,5 @@
-//! The rounds of a timed line, and their checksum: `u64::MAX` if memory is refused. That is all that can be refused
-//! here, so a refusal is an `Option` within this crate and carries no text through its loops.
+//! The rounds of a timed line, and their checksum: `u64::MAX` if an allocation fails. That is the only failure here, so
+//! the functions of this crate return an `Option`, and no text of an error is carried through the loops.
 
 /// Makes a value in each round, and sums up what `probe` reads from it.
 #[inline(always)]

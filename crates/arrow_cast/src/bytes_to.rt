@@ -33,7 +33,7 @@ fn item_bytes<K: ByteKind, O: Offset>(array: &ByteArray<K, O>, i: usize) -> &[u8
     &array.values().as_slice()[start..end]
 }
 
-/// Returns the value whose number the slot at `i` is, or `None` if it is null or not a number.
+/// Parses the slot at `i`: returns its value, or `None` if it is null or not a number of the type.
 #[inline(always)]
 fn parse_slot<K: ByteKind, O: Offset, T: NativeArithmetics>(
     array: &ByteArray<K, O>,
@@ -49,8 +49,8 @@ fn parse_slot<K: ByteKind, O: Offset, T: NativeArithmetics>(
     parse_value(item_bytes(array, i))
 }
 
-/// Returns the value whose number each slot is, zero where it is null or not a number, and whether
-/// it is one.
+/// Parses all slots: returns their values, zero where a slot is null or not a number of the type, and
+/// which slots are numbers.
 fn parse_all<K: ByteKind, O: Offset, T: NativeArithmetics>(
     alloc: Global,
     array: &ByteArray<K, O>,
@@ -84,7 +84,7 @@ fn mask_of_marks(alloc: Global, marks: &[bool]) -> Result<Option<Bitmap>, Error>
     Ok(Some(marks.freeze_counted(unset)?))
 }
 
-/// Converts each slot to the value whose number it is in decimal.
+/// Parses all slots as decimal numbers.
 fn parse_slots<K: ByteKind, O: Offset, T: NativeArithmetics>(
     alloc: Global,
     array: &ByteArray<K, O>,
@@ -100,13 +100,13 @@ fn parse_slots<K: ByteKind, O: Offset, T: NativeArithmetics>(
     Ok(PrimitiveArray::new(data_type, Buffer::from_vec(values)?, validity))
 }
 
-/// Converts each slot to the value whose number its text is; null where the text is null or is not
-/// the text of a number of the type. The data type must have the physical type of `T`. The result
-/// holds a mask exactly if a slot is null.
+/// Parses each text as a decimal number; null where the slot is null or its text is not a number of
+/// the type. The data type must have the physical type of `T`. The result holds a mask exactly if a
+/// slot is null.
 ///
-/// A text is that of a number as Rust's `parse` has it: digits and nothing else, one at the least,
-/// behind a `+` or, if the type is signed, a `-`. Leading zeros are allowed, spaces are not. The
-/// number must fit in the type; a `-` before a number of an unsigned type makes a null, as in `-0`.
+/// A text is read as by Rust's `parse`: one digit or more and nothing else, after an optional `+` or,
+/// if the type is signed, `-`. Leading zeros are allowed, spaces are not. The number must fit in the
+/// type. For an unsigned type a text with a `-` is a null, even `-0`.
 ///
 /// # Errors
 /// `OutOfMemory` if an allocation fails.
@@ -123,7 +123,7 @@ pub fn utf8_to_primitive<O: Offset, T: NativeArithmetics>(
     parse_slots(alloc, array, data_type)
 }
 
-/// Converts each slot to the value whose number its bytes are as text, as [`utf8_to_primitive`].
+/// Parses the bytes of each slot as a decimal number, as [`utf8_to_primitive`] does.
 ///
 /// # Errors
 /// `OutOfMemory` if an allocation fails.

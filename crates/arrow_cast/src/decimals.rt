@@ -31,14 +31,14 @@ fn append_short(bytes: &mut Vec<u8>, number: i64) -> Result<(), AllocError>
     let mut buffer = [0; 40];
     let start = write_short(number, &mut buffer);
     let end = bytes.len() + (LONGEST - start);
-    // As many bytes as the longest text has, and then those behind the text are removed: a copy whose length is not
-    // known would be a call.
+    // Copies as many bytes as the longest text has and cuts off those after the text: a copy of unknown length would be
+    // a call.
     bytes.extend_from_slice(&buffer[start..start + LONGEST])?;
     bytes.truncate(end);
     Ok(())
 }
 
-/// Appends the decimal text of a number. A call, so that a loop of appends stays small.
+/// Appends the decimal text of a number. It is not inlined, so that a loop of appends stays small.
 #[inline(never)]
 fn append_long(bytes: &mut Vec<u8>, number: i128) -> Result<(), AllocError>
     ensures { OnOk result (bytes.new.items ≡ bytes.old.items ++ signed_decimal number) }

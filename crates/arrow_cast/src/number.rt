@@ -1,4 +1,4 @@
-//! Numbers that texts write in decimal.
+//! Decimal texts read as numbers.
 ghost use Rattle.std.specs.Prelude.{◌≡◌, ◌&&◌, pos};
 ghost use Rattle.std.specs.Int.{w128};
 ghost use Rattle.std.specs.Str.Parse.{starts_with_minus};
@@ -56,7 +56,7 @@ fn signed_value(value: u128, is_negative: bool) -> Option<i128>
     }
 }
 
-/// Returns the value whose number a text writes, or `None` if there is none.
+/// Parses a text, or returns `None` if it is not a number of the type.
 #[inline(always)]
 pub(crate) fn parse_value<T: NativeArithmetics>(text: &[u8]) -> Option<T>
     ensures { result ≡ value_of_text T.fits T.wrap text.now }

@@ -1,4 +1,4 @@
-//! Logic of booleans, slot by slot, in which what is made of a null is null, and which slots of an
+//! Logic of booleans, slot by slot, in which a null operand makes a null; and which slots of an
 //! array are null.
 ghost use Rattle.std.specs.Prelude.{◌≡◌, IfOk, is_none, is_some, length, map, replicate};
 ghost use Rattle.std.specs.List.{list_all, list_any};

@@ -1,4 +1,4 @@
-//! Logic of three values, in which a null is a boolean that is not known.
+//! Three-valued logic, in which a null is an unknown boolean.
 ghost use Rattle.std.specs.Prelude.{◌≡◌, ◌==◌, ◌+◌, ◌<◌, ◌≤◌, ℕ, Bool, IfOk, Option, Some, is_some, length};
 ghost use Rattle.std.specs.Prelude.{slice_get};
 ghost use Rattle.std.specs.Int.{bit_at};
@@ -26,7 +26,7 @@ struct SlotWords {
 
 /// An operation of three-valued logic.
 trait KleeneOperation {
-    /// What it makes of two slots.
+    /// The result for two slots.
     ghost table: { Option Bool → Option Bool → Option Bool };
 
     /// Returns which of 64 results are known, from the values and the marks of the slots.
@@ -34,8 +34,8 @@ trait KleeneOperation {
         ensures { (k : ℕ) → k < 64 → (bit_at result k == 1)
             ≡ is_some (table (slot_bit left left_marks k) (slot_bit right right_marks k)) };
 
-    /// Returns which results are known of slots with the marks of `mask` and valid slots of `values`,
-    /// whichever of them are on the left.
+    /// Returns which results are known if one side has the marks of `mask`, and the other the values
+    /// of `values` and no null. It makes no difference which of them is on the left.
     fn known_beside(alloc: Global, mask: &Bitmap, values: &Bitmap) -> Result<Bitmap, Error>
         requires { length mask.now ≡ length values.now }
         ensures ok { IfOk result (KnownBeside table mask.now values.now) }
@@ -94,7 +94,7 @@ fn slot_words(array: &BooleanArray, place: usize, count: usize) -> SlotWords
     }
 }
 
-/// Which slots an operation on two arrays makes known.
+/// Which results of an operation on two arrays are known.
 #[derive(Drop)]
 struct Known<'a, K> {
     lhs: &'a BooleanArray,
@@ -139,7 +139,7 @@ fn known_marks<K: KleeneOperation>(
     collect_marks(alloc, &source)?.freeze()
 }
 
-/// Returns the mask of what an operation makes of two arrays, if either holds one.
+/// Returns the mask of the result of an operation on two arrays, if either holds one.
 fn known_mask<K: KleeneOperation>(
     alloc: Global,
     lhs: &BooleanArray,

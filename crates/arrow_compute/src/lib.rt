@@ -1,5 +1,5 @@
-//! Kernels that make one slot of the slots at a place, under arrow2's module and function names:
-//! comparisons, logic in which a null stays null, and logic of three values.
+//! Kernels that work slot by slot, under arrow2's module and function names: comparisons, logic in
+//! which a null stays null, and three-valued logic.
 #![tactic(auto)]
 
 pub mod boolean;

@@ -1,4 +1,4 @@
-//! Bitmaps that are made 64 marks at a time, for kernels of this crate and of those above.
+//! Bitmaps that are made 64 marks at a time, for kernels of this crate and of the crates above.
 ghost use Rattle.std.specs.Prelude.{◌≡◌, ◌==◌, ◌+◌, ◌*◌, ◌^◌, ◌<◌, ◌≤◌, ℕ, IfOk, OnOk, List, Bool, Some, length};
 ghost use Rattle.std.specs.Prelude.{slice_get, vec_len};
 ghost use Rattle.std.specs.Int.{bit_at};
@@ -43,7 +43,7 @@ pub trait MarkWords {
         ensures { HoldsMarks result (marks self.now) place count };
 }
 
-/// Marks at each index, of which words are made.
+/// Makes words of marks that are computed one by one.
 #[derive(Drop)]
 pub struct Packed<S> {
     pub source: S,
@@ -67,9 +67,9 @@ impl<S: Marks> MarkWords for Packed<S> {
     }
 }
 
-/// Returns the 64 marks from `place` on as the bits of a word. Each of four words takes every fourth
-/// mark at its top, and all are shifted down by as many bits: a vector of them has one comparison and
-/// one shift for four marks on every processor, and reads the values in order.
+/// Returns the 64 marks from `place` on as the bits of a word. Each of four words collects every
+/// fourth mark at its top, and each is shifted down by four bits a turn. So the compiler makes a vector
+/// of the four words, with one comparison and one shift for four marks, and the values are read in order.
 #[inline(always)]
 fn pack_whole<S: Marks>(source: &S, place: usize) -> u64
     requires fits { place + 64 < 2 ^ 64 }
@@ -114,8 +114,8 @@ fn push_word(bytes: &mut Vec<u8>, word: u64) -> Result<(), AllocError>
     bytes.extend_from_slice(&word.to_le_bytes())
 }
 
-/// Returns the bitmap of all marks. Its error says no more than that an allocation failed, so that
-/// the words of the bitmap are not moved around it.
+/// Returns the bitmap of all marks. The error is `AllocError`, which has no contents: a result with a
+/// larger error would be copied once more.
 pub fn collect_marks<S: MarkWords>(alloc: Global, source: &S) -> Result<MutableBitmap, AllocError>
     ensures { IfOk result (λ bitmap. bitmap ≡ S.marks source.now) }
 {
@@ -161,9 +161,8 @@ pub fn marks_word<A: Array>(array: &A, place: usize, count: usize) -> u64
     }
 }
 
-/// Returns the marks of a bitmap of at least 64 marks from `place` on as the bits of a word, as far
-/// as there are marks. The last word begins before `place`, so the marks up to there are shifted
-/// out.
+/// Returns the marks from `place` on, at most 64, of a bitmap that has at least 64 marks, as the bits
+/// of a word. If fewer than 64 are left, it reads the last 64 and shifts out those before `place`.
 fn word_near(bitmap: &Bitmap, place: usize) -> u64
     requires long { 64 ≤ length bitmap.now }
     requires within { place < length bitmap.now }

@@ -1,4 +1,4 @@
-//! Kernels that make one slot of the slots at a place. What each makes was worked out by hand.
+//! Kernels that work slot by slot. Expected slots were worked out by hand.
 //! Slots of booleans are texts of `t`, `f` and `_` for a null, marks are texts of `1` and `0`, or
 //! `none` without a mask.
 mod comparisons;

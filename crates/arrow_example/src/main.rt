@@ -85,8 +85,8 @@ fn cut(alloc: Global) -> Result<OffsetsBuffer<i32>, Error> {
     Offsets::try_from_vec([0, 1, 2].to_vec(alloc)?)?.freeze()
 }
 
-/// Text from elsewhere comes as parts, which are refused where a slot is not UTF-8 by itself. These bytes are, and the
-/// offsets cut them within their one character.
+/// Text from elsewhere comes as parts, which are refused if a slot is not UTF-8 by itself. These bytes are UTF-8, but the
+/// offsets cut their one character.
 fn accept(alloc: Global) -> Result<Utf8Array<i32>, Error> {
     let bytes = Buffer::from_vec("é".as_bytes().to_vec(alloc)?)?;
     Utf8Array::try_new(DataType::Utf8, cut(alloc)?, bytes, None)
@@ -100,8 +100,8 @@ fn refuse(rt: &impl Print, alloc: Global) -> io::Result<()> {
     }
 }
 
-/// A filter has as many slots as the array, and the slots stay at which it is true. That it has as many is tested here,
-/// since this function takes any.
+/// A filter has as many slots as the array, and keeps the slots at which it is true. The length is tested here, since this
+/// function takes any filter.
 fn keep(
     alloc: Global,
     names: &Utf8Array<i32>,
@@ -113,7 +113,7 @@ fn keep(
     filter_utf8(alloc, names, filter)
 }
 
-/// Filters by booleans, of which a null asks for no slot.
+/// Filters by booleans; a null keeps no slot.
 fn filter(rt: &impl Print, alloc: Global, names: &Utf8Array<i32>) -> anyhow::Result<()> {
     let filter = BooleanArray::from(alloc, &[Some(true), Some(true), None, Some(true)])?;
     read(rt, "kept", &keep(alloc, names, &filter)?)?;

@@ -20,7 +20,8 @@ pub struct Groups {
     pub indices: Vec<usize>,
 }
 
-/// Returns the number of the group of the key at `index`: that of the null slots is passed over.
+/// Returns the number of the group whose key has this index among the keys. The group of the null
+/// slots has a number and no key, so keys after it have greater numbers.
 #[inline(always)]
 fn number_of(null: Option<usize>, index: usize) -> usize
     requires { index < 2 ^ 63 }
@@ -32,8 +33,8 @@ fn number_of(null: Option<usize>, index: usize) -> usize
     }
 }
 
-/// Adds a valid slot, which is at `place` of `count`, returns the number of its group, and hints at it.
-/// There is a key of each group but that of the null slots, whose number is `null`.
+/// Adds a valid slot, which is at `place` of `count`, hints at its group, and returns the number of the
+/// group. `keys` has a key for each group but that of the null slots, whose number is `null`.
 #[inline(always)]
 fn add_key<K: Eq + Hash + Copy>(
     keys: &mut IndexSet<K>,
@@ -74,8 +75,8 @@ fn add_null(first: &mut Vec<usize>, null: Option<usize>, place: usize) -> Result
     Ok(number)
 }
 
-/// Returns the groups of equal slots. What a loop reads stands in variables of its own, since a call
-/// that grows one part of a struct makes the compiler load the others anew.
+/// Returns the groups of equal slots. Its state is in variables and not in a struct, since a call that
+/// grows one field of a struct makes the compiler load the others again.
 pub(crate) fn group_slots<'a, S: Keys<'a>>(
     alloc: Global,
     source: &'a S,

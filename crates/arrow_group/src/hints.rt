@@ -1,6 +1,6 @@
 //! Hints at the numbers of groups: keys with the numbers of their groups, each at a place that the
-//! hash of the key chooses. In a list of few distinct keys nearly each key is found there by one
-//! comparison. A hint may be lost, and is never wrong.
+//! hash of the key chooses. In an array of few distinct keys nearly every key is found there by one
+//! comparison. A hint may be overwritten, and is never wrong.
 ghost use Rattle.std.specs.Prelude.{◌≡◌, ◌<◌, None, OnOk, Some, if◌then◌else◌, true};
 ghost use Rattle.arrow_group.specs.Grouping.{AddsHint, HintsNumber};
 
@@ -11,8 +11,9 @@ use std::hash::Hash;
 /// The greatest number of places for hints.
 const MOST_PLACES: usize = 16384;
 
-/// Returns the first number of places for hints at the groups of `count` slots. To fill them takes a
-/// small part of the time that the slots take.
+/// Returns how many places for hints `count` slots begin with. Filling the places takes a small part
+/// of the time that grouping the slots takes. Only speed depends on the answer, so a contract has
+/// nothing to say.
 fn first_places(count: usize) -> usize {
     if count >= 16384 {
         4096
@@ -27,8 +28,9 @@ fn first_places(count: usize) -> usize {
     }
 }
 
-/// Returns the number of places for hints when the first `passed` of `count` slots have `groups` groups.
-/// Few groups share a place. Where most slots are new groups, there are no hints.
+/// Returns the number of places for hints when the first `passed` of `count` slots have `groups`
+/// groups: eight or more a group, or none if there are too many groups or most slots begin a new one.
+/// Only speed depends on the answer, so a contract has nothing to say.
 fn needed_places(places: usize, groups: usize, passed: usize, count: usize) -> usize {
     if groups == 1 {
         return first_places(count);
@@ -66,7 +68,7 @@ pub(crate) fn hinted_number<K: Eq + Hash + Copy>(hints: &[(K, usize)], key: K) -
 }
 
 /// Returns the number of the group of a slot, if it is known: that of its key, or that of the null
-/// slots. It is looked up by whether the slot is valid: a branch on that often can't be predicted.
+/// slots. Which of the two is looked up in an array, since a branch on the mark often mispredicts.
 #[inline(always)]
 pub(crate) fn known_number(
     is_valid: bool,

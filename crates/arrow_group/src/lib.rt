@@ -1,5 +1,5 @@
-//! Groups of equal slots of an array, in the order of their first slots. arrow2 has no such call; the parts are named as
-//! in polars and DataFusion.
+//! Groups of equal slots of an array, in the order of their first slots, and hashes of slots. arrow2 has no groups; their
+//! parts are named as in polars and DataFusion.
 #![tactic(auto)]
 
 mod boolean;

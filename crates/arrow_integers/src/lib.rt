@@ -1,5 +1,4 @@
-//! Native integers, as numbers on which arithmetic is exact, wraps, stops at the ends of their type, or reports that a
-//! result does not fit.
+//! Native integers as numbers: wrapping, checked and saturating arithmetic on their types.
 #![tactic(auto)]
 
 mod native_arithmetics;

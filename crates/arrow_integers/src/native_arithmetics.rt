@@ -8,8 +8,8 @@ mod unsigned;
 
 use arrow_types::native_type::NativeType;
 
-/// A native type of integers, on which arithmetic is exact, wraps, stops at the ends of the type or
-/// reports that its result does not fit.
+/// A native type of integers, with wrapping, checked and saturating arithmetic. Results are stated by
+/// the numbers of values.
 pub trait NativeArithmetics: NativeType + Ord {
     /// The number of a value.
     ghost number: { Self → ℤ };
@@ -110,7 +110,7 @@ pub trait NativeArithmetics: NativeType + Ord {
     /// The zero of the type is the number zero.
     ghost zero_number: { number Self.zero ≡ pos 0 };
 
-    /// A number is that of one value only.
+    /// Different values have different numbers.
     ghost same_number: { (x y : Self) → number x ≡ number y → x ≡ y };
 
     /// The number of a wrapped value fits.
@@ -119,7 +119,7 @@ pub trait NativeArithmetics: NativeType + Ord {
     /// A number that fits does not wrap.
     ghost stays: { (z : ℤ) → fits z ≡ true → number (wrap z) ≡ z };
 
-    /// A value is the one that its number wraps to.
+    /// The number of a value wraps to that value.
     ghost again: { (x : Self) → fits (number x) ≡ true → wrap (number x) ≡ x };
 
     /// Every number of the type fits in 128 bits.

@@ -1,6 +1,5 @@
-//! Concatenations of arrays that are borrowed: the rows of several arrays, of which there must be one
-//! at least, in order, with the data type of the first. The result holds a mask exactly if one of
-//! its slots is null.
+//! Concatenations of references to arrays: the rows of at least one array, in order, with the data
+//! type of the first. The result holds a mask exactly if one of its slots is null.
 ghost use Rattle.std.specs.Prelude.{◌≡◌, ◌<◌, length, IfErr, IfOk};
 ghost use Rattle.arrow_types.specs.Failures.{OnlyOutOfMemory};
 ghost use Rattle.arrow_bytes.specs.Selection.{Concatenates};

@@ -25,7 +25,7 @@ use arrow_types::offset::Offset;
 use arrow_utf8::Utf8Array;
 use std::alloc::Global;
 
-/// Which of the slots that a predicate chooses are valid.
+/// The marks of the slots that a predicate chooses.
 #[derive(Drop)]
 struct ChosenMarks<'a, A> {
     predicate: &'a BooleanArray,

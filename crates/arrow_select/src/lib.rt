@@ -1,5 +1,6 @@
-//! Kernels that select slots of arrays: takes by keys of which some are null, one of two arrays by a
-//! predicate, and nulls where two arrays are equal; and the lengths of bytes and text.
+//! Kernels that select slots of arrays: takes by keys of which some are null, slots of one of two
+//! arrays by a predicate, nulls where two arrays are equal, concatenations of references to arrays;
+//! and the lengths of bytes and text.
 #![tactic(auto)]
 
 pub mod concatenate;

@@ -20,7 +20,7 @@ use arrow_types::offset::Offset;
 use arrow_utf8::Utf8Array;
 use std::alloc::Global;
 
-/// Which slots of an array stay valid beside another.
+/// Which slots of `lhs` stay valid: those that are valid and not equal to the slot of `rhs`.
 #[derive(Drop)]
 struct DifferingMarks<'a, A> {
     lhs: &'a A,
@@ -50,7 +50,7 @@ impl<'a, A: EqualWords> MarkWords for DifferingMarks<'a, A> {
     }
 }
 
-/// Returns the mask of the slots of `lhs`, and of nulls where both slots are valid and equal.
+/// Returns the mask of `lhs` with nulls where both slots are valid and equal.
 fn differing_mask<A: EqualWords>(alloc: Global, lhs: &A, rhs: &A) -> Result<Option<Bitmap>, Error>
     ensures ok { IfOk result (λ mask. mask
         ≡ mask_shown (slots_differing A.same (A.column lhs.now) (A.column rhs.now))) }

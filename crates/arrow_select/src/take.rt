@@ -29,8 +29,8 @@ use arrow_types::offset::Offset;
 use arrow_utf8::Utf8Array;
 use std::alloc::Global;
 
-/// Returns the index that a key is. `usize::MAX`, which is the index of no slot, stands for a key
-/// that is none, without a branch.
+/// Returns the index that a key gives, without a branch: `usize::MAX`, which is the index of no slot,
+/// if it gives none.
 #[inline(always)]
 fn index_of_key<K: IndexKey>(key: &K) -> usize
     ensures { result ≡ unwrap_or (index_of (K.number key.now)) (2 ^ 64 - 1) }

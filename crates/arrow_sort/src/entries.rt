@@ -69,7 +69,8 @@ fn sort_descending<V: Ord, C: CompareValues<V>>(
     values.sort_by(|lhs, rhs| C::compare_values(&rhs.0, &lhs.0))
 }
 
-/// Sorts values, and equal values by their indexes, in the order of which they must be.
+/// Sorts values ascending or descending. They must be in the order of their indexes, so equal values
+/// stay so.
 fn sort_values<V: Ord, C: CompareValues<V>>(
     values: &mut Vec<(V, u64)>,
     descending: bool,
@@ -95,7 +96,7 @@ fn push_indexes<V>(indexes: &mut Vec<u64>, values: &[(V, u64)]) -> Result<(), Al
     Ok(())
 }
 
-/// Returns the indexes of values and of nulls, these before or after the others.
+/// Returns the indexes of values and of nulls, the nulls first or last.
 fn join_indexes<V>(
     alloc: Global,
     values: &[(V, u64)],

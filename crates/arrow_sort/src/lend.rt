@@ -1,4 +1,4 @@
-//! Arrays that lend the values of their slots to a sort.
+//! Arrays whose values are borrowed by a sort.
 ghost use Rattle.std.specs.Prelude.{◌≡◌, ◌+◌, ◌<◌, ◌≤◌, List, Option, Some, length, option_map, slice_get};
 ghost use Rattle.std.specs.declared.cmp.Ordering.{Ordering};
 ghost use Rattle.arrow_memory.specs.Offsets.{last_of};
@@ -13,7 +13,7 @@ use arrow_primitive::PrimitiveArray;
 use arrow_types::native_type::NativeType;
 use arrow_types::offset::Offset;
 
-/// An array that lends the values of its slots, which have an order.
+/// An array whose values can be borrowed and have an order.
 pub(crate) trait LendSlots<'a> {
     /// The value of a valid slot.
     type Value: Ord + Drop;

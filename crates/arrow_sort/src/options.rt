@@ -1,7 +1,7 @@
 //! How slots are ordered.
 
 /// How slots are ordered: values ascending or descending, and nulls before or after all values,
-/// whichever way the values are ordered.
+/// whichever way the values are ordered. The default is that of arrow2: ascending, nulls first.
 #[derive(Clone, Copy, Debug)]
 pub struct SortOptions {
     /// Whether the greatest value comes first.

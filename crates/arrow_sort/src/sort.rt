@@ -11,7 +11,7 @@ use std::alloc::Global;
 
 /// Returns the indexes that sort the slots of an array, up to a limit, as unsigned 64-bit numbers:
 /// every index once, in the order of the slots there, and equal slots in the order of their
-/// indexes. The slots at these indexes are sorted.
+/// indexes.
 ///
 /// # Errors
 /// `OutOfMemory` if an allocation fails.

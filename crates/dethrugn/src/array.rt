@@ -19,7 +19,7 @@ pub use arrow_utf8::{
     MutableUtf8Array, MutableUtf8ValuesArray, MutableUtf8ValuesIter, Utf8Array, Utf8ValuesIter,
 };
 
-/// The tests of raw parts: offsets, keys and text, and the places at which they are wrong.
+/// The tests of raw parts (offsets, keys, text), and calls that find the first fault of parts.
 pub mod specification {
     pub use arrow_check::bounds::{check_bounds, check_last};
     pub use arrow_check::cost::{TextBytes, TextCost};

@@ -1,4 +1,4 @@
-//! Kernels.
+//! Kernels, under arrow2's module names.
 pub use arrow_aggregate::aggregate;
 pub use arrow_compute::{boolean, boolean_kleene, comparison};
 pub use arrow_select::{if_then_else, length, nullif};
@@ -34,7 +34,7 @@ pub mod concatenate {
     };
 }
 
-/// Filters, and the number of slots that one leaves.
+/// Filters, and the number of slots that a filter keeps.
 pub mod filter {
     pub use arrow_kernels::{
         filter_binary, filter_boolean, filter_items, filter_primitive, filter_utf8, true_count,
@@ -58,7 +58,7 @@ pub mod sort {
     pub use arrow_sort::{SortOptions, SortableArray};
 }
 
-/// Takes by a slice of keys; the modules have those by an array of keys, some of which may be null.
+/// Takes by a slice of keys. The modules `primitive` and so on have takes by an array of keys, some of which may be null.
 pub mod take {
     pub use arrow_kernels::{take_binary, take_boolean, take_items, take_primitive, take_utf8};
 

@@ -31,7 +31,7 @@ pub fn text(field: &str) -> Option<&str>
     if field.is_empty() { None } else { Some(field) }
 }
 
-/// Returns the slot that a text is as a number: a null is one, and a text that is no number is none.
+/// Returns the slot of numbers for a slot of text: a number or a null, or `None` if the text is not a number.
 pub fn number_slot(text: Option<&str>) -> Option<Option<i64>>
     ensures { result ≡ slot_as parsed_number (option_map (λ s. s.now) text.entry) }
 {
@@ -41,7 +41,7 @@ pub fn number_slot(text: Option<&str>) -> Option<Option<i64>>
     }
 }
 
-/// Returns the slot that a text is as a boolean: a null is one, and any other text is none.
+/// Returns the slot of booleans for a slot of text: a boolean or a null, or `None` if the text is not a boolean.
 pub fn truth_slot(text: Option<&str>) -> Option<Option<bool>>
     ensures { result ≡ slot_as truth_of (option_map (λ s. s.now) text.entry) }
 {

@@ -6,7 +6,7 @@ use clap::{Arg, ArgAction, ArgMatches, Command};
 use example_record_batch::any::group::Aggregate;
 use std::alloc::Global;
 
-/// What is asked of a table.
+/// What to select and to print of a table.
 #[derive(Debug, Drop)]
 pub struct Options {
     /// The column whose true values select rows, or `None` for every row.

@@ -1,6 +1,6 @@
-//! Reads a table of the laureates in literature from standard input, and shows on it what the crates
-//! `example_record_batch` and `example_nested`, and the library's kernels, offer. Each function can be copied by itself. What is
-//! printed is in `stdout`, beside `src`.
+//! Reads a table of the laureates in literature from standard input, and applies the crates `example_record_batch` and
+//! `example_nested` and the library's kernels to it. Each function can be copied by itself. What is printed is in `stdout`,
+//! beside `src`.
 #![tactic(auto)]
 
 mod ages;

@@ -8,7 +8,7 @@ use dethrugn::error::Error;
 use dethrugn::laws::column::{appended_slots, slots_in_order};
 use std::alloc::Global;
 
-/// Returns a slot, and one of 0 for a null.
+/// Returns the slot, or a slot of 0 for a null.
 fn zero_for_null(slot: Option<i64>) -> Option<i64>
     ensures { result ≡ zero_for_null slot }
 {

@@ -7,14 +7,14 @@ use arrow_memory::bitmap::Bitmap;
 use arrow_primitive::PrimitiveArray;
 use arrow_types::native_type::NativeType;
 
-/// What is made of values, one after the other.
+/// A fold of values, one after the other.
 pub(crate) trait Folder<T: Copy> {
     type State: Copy;
 
-    /// What one value more makes.
+    /// The state after one more value.
     ghost step: { Self.State → T → Self.State };
 
-    /// Returns what one value more makes.
+    /// Returns the state after one more value.
     fn step(state: Self::State, value: T) -> Self::State
         ensures { result ≡ step state value };
 }

@@ -25,8 +25,8 @@ pub fn max_string<O: Offset>(array: &Utf8Array<O>) -> Option<&str>
     best_value(array, array.len(), array.validity(), true)
 }
 
-/// Returns the least bytes of the valid slots, or `None` if no slot is
-/// valid.
+/// Returns the least byte string of the valid slots, by the order of unsigned bytes, or `None` if no
+/// slot is valid.
 pub fn min_binary<O: Offset>(array: &BinaryArray<O>) -> Option<&[u8]>
     ensures { MatchOption result (valid_values array.now ≡ []) (λ bytes.
         IsLeast text_cmp (valid_values array.now) bytes.now) }
@@ -34,8 +34,8 @@ pub fn min_binary<O: Offset>(array: &BinaryArray<O>) -> Option<&[u8]>
     best_value(array, array.len(), array.validity(), false)
 }
 
-/// Returns the greatest bytes of the valid slots, or `None` if no slot is
-/// valid.
+/// Returns the greatest byte string of the valid slots, by the order of unsigned bytes, or `None` if
+/// no slot is valid.
 pub fn max_binary<O: Offset>(array: &BinaryArray<O>) -> Option<&[u8]>
     ensures { MatchOption result (valid_values array.now ≡ []) (λ bytes.
         IsGreatest text_cmp (valid_values array.now) bytes.now) }

@@ -41,8 +41,8 @@ impl<T: NativeType + Ord> Folder<T> for Greater {
     }
 }
 
-/// Returns where 64 marks begin that are not all clear, and before which all are, or where fewer than
-/// 64 are left.
+/// Returns where the first word of 64 marks begins that is not all clear, or where the last whole word
+/// ends.
 fn skip_clear_words(mask: &Bitmap) -> usize
     ensures { (k : ℕ) → k < result → slice_get mask.now k ≡ Some false }
 {

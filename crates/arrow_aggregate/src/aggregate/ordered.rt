@@ -1,4 +1,4 @@
-//! Arrays that lend values with an order.
+//! Arrays whose values can be borrowed and have an order.
 ghost use Rattle.std.specs.Prelude.{◌≡◌, ◌<◌, Some, length, slice_get};
 ghost use Rattle.std.specs.Cmp.Lexicographic.{slice_cmp};
 ghost use Rattle.std.specs.Ordering.{is_lt, nat_cmp};
@@ -12,7 +12,7 @@ use arrow_primitive::PrimitiveArray;
 use arrow_types::native_type::NativeType;
 use arrow_types::offset::Offset;
 
-/// An array that lends its values, which have an order.
+/// An array whose values can be borrowed and have an order.
 pub(crate) trait OrderedArray<'a> {
     /// A value.
     type Value: Copy;

@@ -166,7 +166,8 @@ pub(crate) fn join_sum(sums: (i128, u128)) -> Option<i128>
     high.checked_add((low % (1 << 64)) as i128)
 }
 
-/// Returns the sum of the valid slots, if there are few and all are small.
+/// Returns the sum of the valid slots, if there are fewer than 2 ^ 30 slots and no number is more than
+/// 2 ^ 32 from zero.
 fn narrow_total<T: NativeArithmetics>(array: &PrimitiveArray<T>) -> Option<i64>
     ensures { IfSome result (λ sum. sum ≡ sum_all (map T.number (valid_values array.now))) }
 {
@@ -177,7 +178,7 @@ fn narrow_total<T: NativeArithmetics>(array: &PrimitiveArray<T>) -> Option<i64>
     if is_exact { Some(sum) } else { None }
 }
 
-/// Returns the sum of fewer than 2 ^ 30 slots, if no number is greater than 64 bits hold.
+/// Returns the sum of fewer than 2 ^ 30 slots, if no number is more than 2 ^ 64 from zero.
 fn halves_total<T: NativeArithmetics>(array: &PrimitiveArray<T>) -> Option<i128>
     requires { length array.now.rows < 2 ^ 30 }
     ensures { IfSome result (λ sum. sum ≡ sum_all (map T.number (valid_values array.now))) }
@@ -190,7 +191,8 @@ fn halves_total<T: NativeArithmetics>(array: &PrimitiveArray<T>) -> Option<i128>
     }
 }
 
-/// Returns the sum of the valid slots, if no number is greater than 64 bits hold.
+/// Returns the sum of the valid slots, if there are fewer than 2 ^ 62 slots and no number is more than
+/// 2 ^ 64 from zero.
 fn wide_total<T: NativeArithmetics>(array: &PrimitiveArray<T>) -> Option<i128>
     ensures { IfSome result (λ sum. sum ≡ sum_all (map T.number (valid_values array.now))) }
 {

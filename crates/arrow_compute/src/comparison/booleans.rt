@@ -39,7 +39,7 @@ impl<'a, C: Comparison> MarkWords for BooleanPairs<'a, C> {
     }
 }
 
-/// Whether a comparison holds of the boolean at each index of a bitmap and another.
+/// Whether a comparison holds of the boolean at each index of a bitmap and a given one.
 #[derive(Drop)]
 struct BooleanScalar<'a, C> {
     lhs: &'a Bitmap,

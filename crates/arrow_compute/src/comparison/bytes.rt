@@ -39,7 +39,7 @@ impl<'a, C: Comparison, K: ByteKind, O: Offset> Marks for ItemPairs<'a, C, K, O>
     }
 }
 
-/// Whether a comparison holds of the item at each index of an array and another.
+/// Whether a comparison holds of the item at each index of an array and a given one.
 #[derive(Drop)]
 struct ItemScalar<'a, C, K: ByteKind, O: Offset> {
     lhs: &'a ByteArray<K, O>,

@@ -33,7 +33,7 @@ impl<'a, C: Comparison, T: NativeType + Ord> Marks for NumberPairs<'a, C, T> {
     }
 }
 
-/// Whether a comparison holds of the number at each index of a slice and another.
+/// Whether a comparison holds of the number at each index of a slice and a given one.
 #[derive(Drop)]
 struct NumberScalar<'a, C, T> {
     lhs: &'a [T],

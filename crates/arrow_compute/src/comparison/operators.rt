@@ -8,15 +8,15 @@ pub trait Comparison {
     ghost use Rattle.std.specs.Prelude.{Bool};
     ghost use Rattle.std.specs.declared.cmp.Ordering.{Ordering};
 
-    /// In which orders of two values it holds.
+    /// Whether it holds of two values in this order.
     ghost test: { Ordering → Bool };
 
     /// Returns whether it holds of two values.
     fn test<T: Ord>(lhs: &T, rhs: &T) -> bool
         ensures { result ≡ test (T.cmp lhs.now rhs.now) };
 
-    /// Returns whether it holds of the booleans at each of 64 places, where false is less than
-    /// true.
+    /// Returns whether it holds of each of 64 pairs of booleans, which are the bits of two words;
+    /// false is less than true.
     fn test_words(lhs: u64, rhs: u64) -> u64
         ensures { (k : ℕ) → k < 64
             → (bit_at result k == 1) ≡ test (bool_cmp (bit_at lhs k == 1) (bit_at rhs k == 1)) };

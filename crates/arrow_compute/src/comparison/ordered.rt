@@ -18,7 +18,7 @@ pub trait OrderedArray: Array {
     /// The order of the values.
     ghost order: { Self.Stored → Self.Stored → Ordering };
 
-    /// Returns whether a comparison holds of the stored values at each place of two arrays of equal
+    /// Returns whether a comparison holds of the stored values at each index of two arrays of equal
     /// length.
     ///
     /// # Errors
@@ -32,7 +32,7 @@ pub trait OrderedArray: Array {
 
 /// A value with which the values of an array can be compared.
 pub trait Scalar<A: OrderedArray>: Copy {
-    /// The stored value that it stands for.
+    /// The stored value that it is compared as.
     ghost value: { Self → A.Stored };
 
     /// Returns whether a comparison holds of each stored value of an array and this value.

@@ -1,4 +1,4 @@
-//! Logic of booleans, with and without nulls that are not known.
+//! Logic of booleans in which a null stays null, and three-valued logic.
 use super::*;
 use arrow_compute::{boolean, boolean_kleene};
 use arrow_primitive::PrimitiveArray;
@@ -6,8 +6,8 @@ use arrow_primitive::PrimitiveArray;
 /// Stored values and marks; a null stores true where it could be taken for a value.
 type Stored = (&'static str, &'static str);
 
-/// A name, two arrays, and what is made of them: by `and` and `or`, by `and` and `or` of three
-/// values, and the mask of the first two.
+/// A name, two arrays, and their results: of `and` and `or`, of three-valued `and` and `or`, and the
+/// mask of the first two.
 type Case = (
     &'static str,
     Stored,
@@ -52,7 +52,7 @@ fn two_arrays_are_combined(rt: HostRuntime) {
     }
 }
 
-/// A name, an array, its opposites, `any` and `all`, and these of three values.
+/// A name, an array, its opposites, `any` and `all`, and these in three-valued logic.
 type One = (
     &'static str,
     Stored,
