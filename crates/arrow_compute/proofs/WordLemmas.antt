@@ -179,7 +179,7 @@ module _ (first second third fourth : ℕ) (marks : List Bool) (start t : ℕ) (
       → slice_get marks (start + 4 * t + 1) ≡ Some b → slice_get marks (start + 4 * t + 2) ≡ Some c
       → slice_get marks (start + 4 * t + 3) ≡ Some d
       → HoldFourths (with_top first (from_bool a)) (with_top second (from_bool b)) (with_top third (from_bool c))
-        (with_top fourth (from_bool d)) marks start (t + 1)
+      (with_top fourth (from_bool d)) marks start (t + 1)
   four_more a b c d is is_b is_c is_d = record {
     first = one_more first marks start t a few is had.first;
     second = one_more second marks (start + 1) t b few (ap (slice_get marks) (sym (there 1)) ∙ is_b) had.second;
