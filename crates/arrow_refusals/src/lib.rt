@@ -28,6 +28,8 @@ mod refusal;
 #[cfg(test)]
 mod runs;
 #[cfg(test)]
+mod select;
+#[cfg(test)]
 mod session;
 #[cfg(test)]
 mod slot_text;
