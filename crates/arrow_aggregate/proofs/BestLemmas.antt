@@ -1,6 +1,6 @@
 -- Lemmas about the best of the values of valid slots.
 use Rattle.std.proofs.Common.{◌≡◌, ℕ, zero, suc, ◌+◌, ◌-◌, ◌/◌, ◌%◌, ◌^◌, ◌<◌, ◌≤◌, ◌==◌, w64, Bool, true, false, not, List, [], ◌∷◌}
-use Rattle.std.proofs.Common.{length, map, take, slice_get, Option, Some, None, refl, sym, ap, ◌∙◌, inl, inr, arith, true≢false, subst}
+use Rattle.std.proofs.Common.{length, map, slice_get, Option, Some, None, refl, sym, ap, ◌∙◌, inl, inr, arith, true≢false}
 use Rattle.std.specs.Prelude.{MatchOption, count_by, fold, if◌then◌else◌, option_map}
 use Rattle.std.specs.Int.{bit_at, trailing_zeros}
 use Rattle.std.specs.Cmp.{IsTotalOrder}

@@ -14,7 +14,7 @@ use Rattle.std.proofs.lemmas.List.Folds.{fold-map}
 use Rattle.std.proofs.Math.IntN.{+ℤ_idr}
 use Rattle.std.proofs.Math.Nat.{suc-mul}
 use Rattle.arrow_aggregate.specs.Aggregates.{sum_all}
-use Rattle.arrow_aggregate.specs.Sums.{add_halves, add_small, high_half, is_wide, low_half, number_or_zero, sum_split}
+use Rattle.arrow_aggregate.specs.Sums.{add_halves, add_small, high_half, is_wide, low_half, number_or_zero, of_halves, sum_split}
 use Rattle.arrow_aggregate.proofs.AggregateLemmas.{size_of_sum, valid, valid_more}
 
 -- from a sum before
@@ -86,10 +86,6 @@ small_total w m number zero_value slots result is_zero is exact small =
     ∙ sum_valid number zero_value is_zero slots (pos 0)
 
 -- ---- sums of halves
-
--- the number of two halves
-abbrev pub of_halves : ℤ × ℤ → ℤ
-of_halves parts = parts.0 *ℤ pos (2 ^ 32) +ℤ parts.1
 
 pub high_size : (z : ℤ) → unsigned_abs z ≤ 2 ^ 64 → unsigned_abs (high_half z) ≤ 2 ^ 32
 high_size (pos a) small = omega (arith, small)

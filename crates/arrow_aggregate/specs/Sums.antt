@@ -18,6 +18,10 @@ high_half z = int_shr z 32
 abbrev pub low_half : ℤ → ℤ
 low_half z = z -ℤ high_half z *ℤ pos (2 ^ 32)
 
+-- the number of two halves
+abbrev pub of_halves : ℤ × ℤ → ℤ
+of_halves parts = parts.0 *ℤ pos (2 ^ 32) +ℤ parts.1
+
 -- whether a number is at most 2 ^ 64 from zero, and that number or else zero
 abbrev pub is_wide : ℤ → Bool
 is_wide z = nat_le (unsigned_abs z) (2 ^ 64)

@@ -3,7 +3,7 @@ ghost use Rattle.std.specs.Prelude.{◌≡◌, ◌&&◌, ◌<◌, ◌≤◌, ◌
 ghost use Rattle.std.specs.Prelude.{if◌then◌else◌, length, map, nat_le, option_map, pos, slice_get, unsigned_abs};
 ghost use Rattle.arrow_column.specs.Column.{slots_of};
 ghost use Rattle.arrow_aggregate.specs.Aggregates.{sum_all, sum_of, valid_values};
-ghost use Rattle.arrow_aggregate.specs.Sums.{IsTotal, high_half, low_half, number_or_zero, sum_split};
+ghost use Rattle.arrow_aggregate.specs.Sums.{IsTotal, high_half, low_half, number_or_zero, of_halves, sum_split};
 
 use crate::aggregate::fold::{Folder, fold_slots};
 use arrow_integers::NativeArithmetics;
@@ -103,6 +103,13 @@ fn halves(number: i128) -> (i64, i64)
     (high as i64, low as i64)
 }
 
+/// Returns the number of a high and a low half.
+fn join_halves(halves: (i64, i64)) -> i128
+    ensures { result ≡ of_halves halves }
+{
+    i128::from(halves.0) * (1 << 32) + i128::from(halves.1)
+}
+
 /// Sums the halves of numbers that are at most 2 ^ 64 from zero, and says whether all were. The halves of several numbers
 /// are added at once, since no sum of 64 bits carries into another.
 struct HalvesSum;
@@ -183,9 +190,9 @@ fn halves_total<T: NativeArithmetics>(array: &PrimitiveArray<T>) -> Option<i128>
     requires { length array.now.rows < 2 ^ 30 }
     ensures { IfSome result (λ sum. sum ≡ sum_all (map T.number (valid_values array.now))) }
 {
-    let ((high, low), is_exact) = fold_slots::<HalvesSum, T>(((0, 0), true), array, T::default());
+    let (sums, is_exact) = fold_slots::<HalvesSum, T>(((0, 0), true), array, T::default());
     if is_exact {
-        Some(i128::from(high) * (1 << 32) + i128::from(low))
+        Some(join_halves(sums))
     } else {
         None
     }

@@ -1,5 +1,4 @@
-use Rattle.std.proofs.Common.{◌≡◌, ◌*◌, ◌/◌, ◌+◌, ◌∙◌, ◌==◌, Some, ap, arith, if◌then◌else◌, length, map, option_map, refl, slice_get, sym}
-use Rattle.std.specs.Int.{bit_at}
+use Rattle.std.proofs.Common.{◌≡◌, ◌*◌, ◌/◌, ◌+◌, ◌∙◌, ap, arith, if◌then◌else◌, length, option_map, refl, slice_get, sym}
 use Rattle.std.proofs.lemmas.List.{length-map}
 use Rattle.arrow_aggregate.specs.Aggregates.{best_before}
 use Rattle.arrow_aggregate.proofs.BestLemmas.{all_best, mark_more}

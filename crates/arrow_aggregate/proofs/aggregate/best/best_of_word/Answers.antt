@@ -1,5 +1,4 @@
 use Rattle.std.proofs.Common.{◌≡◌, ◌+◌, ◌∙◌, ◌==◌, Some, ap, arith, option_map}
-use Rattle.std.specs.Int.{bit_at}
 use Rattle.arrow_aggregate.specs.Aggregates.{best_before}
 use Rattle.arrow_aggregate.proofs.BestLemmas.{clear_nulls, up_to, valid_more}
 use Rattle.arrow_aggregate.proofs.aggregate.best.best_of_word.Goals as goal

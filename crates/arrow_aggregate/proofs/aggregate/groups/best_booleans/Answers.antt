@@ -1,4 +1,4 @@
-use Rattle.std.proofs.Common.{◌∙◌, length, sym}
+use Rattle.std.proofs.Common.{◌∙◌, sym}
 use Rattle.std.specs.Cmp.{bool_cmp_total}
 use Rattle.std.specs.Ordering.{bool_cmp}
 use Rattle.std.proofs.lemmas.List.{length-map}
