@@ -90,6 +90,7 @@ fn check_keys_in_turn(
     drop(slots);
     let groups = group_primitive(rt.alloc(), &array).expect(rt, "memory");
     drop(array);
+    assert_text::value(groups.indices.len(), 2000).expect(rt, "slots");
     assert!(rt; groups.indices.len() == 2000, "slots");
     let came = (
         groups.first.last().copied(),
@@ -124,6 +125,7 @@ fn equal_slots_have_equal_hashes(rt: HostRuntime) {
     let made = hash_primitive::<i32>(rt.alloc(), &array).expect(&rt, "memory");
     assert_text::mask(made.validity(), "none").expect(&rt, "no mask");
     let hashes = made.values().as_slice();
+    assert_text::value(hashes.len(), 5).expect(&rt, "hashes");
     assert!(rt; hashes.len() == 5, "five hashes");
     assert_text::value(first_equal(hashes, hashes[2]), Some(2)).expect(&rt, "zero");
     assert_text::value(first_equal(hashes, hashes[3]), Some(0)).expect(&rt, "seven");
@@ -134,6 +136,7 @@ fn equal_slots_have_equal_hashes(rt: HostRuntime) {
     let array = BooleanArray::from(rt.alloc(), slots.as_slice()).expect(&rt, "memory");
     let made = hash_boolean(rt.alloc(), &array).expect(&rt, "memory");
     let hashes = made.values().as_slice();
+    assert_text::value(hashes.len(), 4).expect(&rt, "hashes");
     assert!(rt; hashes.len() == 4, "four hashes");
     assert_text::value(first_equal(hashes, hashes[3]), Some(0)).expect(&rt, "true");
     assert_text::value(first_equal(hashes, hashes[2]), Some(2)).expect(&rt, "false");
@@ -208,6 +211,15 @@ fn groups_of_rows_of_three_columns(rt: HostRuntime) {
     let slots = [Some(true), None, None, Some(true), Some(false), None];
     let marks = BooleanArray::from(rt.alloc(), slots.as_slice()).expect(&rt, "memory");
     let marks = group_boolean(rt.alloc(), &marks).expect(&rt, "memory");
+    assert_text::value(
+        (
+            names.indices.len(),
+            numbers.indices.len(),
+            marks.indices.len(),
+        ),
+        (6, 6, 6),
+    )
+    .expect(&rt, "rows of each column");
     assert!(rt;
         names.indices.len() == 6 && numbers.indices.len() == 6,
         "six rows"
@@ -233,6 +245,7 @@ fn equal_items_have_equal_hashes(rt: HostRuntime) {
     let made = hash_utf8(rt.alloc(), &array).expect(&rt, "memory");
     assert_text::mask(made.validity(), "none").expect(&rt, "no mask");
     let hashes = made.values().as_slice();
+    assert_text::value(hashes.len(), 5).expect(&rt, "hashes");
     assert!(rt; hashes.len() == 5, "five hashes");
     assert_text::value(first_equal(hashes, hashes[2]), Some(2)).expect(&rt, "the empty text");
     assert_text::value(first_equal(hashes, hashes[3]), Some(0)).expect(&rt, "a text");

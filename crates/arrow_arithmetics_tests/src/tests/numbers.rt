@@ -16,12 +16,12 @@ fn long_arrays_are_checked_by_words(rt: HostRuntime) {
         "parts that fit",
     );
     let less = checked_sub_scalar(rt.alloc(), &array, 65).expect(&rt, "memory");
-    assert!(rt; less.len() == array.len(), "as many differences as numbers");
-    let twice = checked_add(rt.alloc(), &less, &array).expect(&rt, "memory");
     assert_text::value((less.len(), less.null_count()), (130, 65)).expect(
         &rt,
         "the first are negative",
     );
+    assert!(rt; less.len() == array.len(), "as many differences as numbers");
+    let twice = checked_add(rt.alloc(), &less, &array).expect(&rt, "memory");
     assert_text::value((twice.len(), twice.null_count()), (130, 65)).expect(&rt, "nulls stay");
     assert!(rt;
         less.len() == 130 && twice.len() == 130,

@@ -177,6 +177,7 @@ fn booleans_of_several_words_are_chosen_and_taken(rt: HostRuntime) {
         drop(differing);
         let keys = made(&rt, Slots::Keys, 1, 60);
         let taken = take_boolean(rt.alloc(), &array, &keys).expect(&rt, "keys in bounds");
+        assert_text::value(taken.len(), 60).expect(&rt, "a slot for each key");
         assert!(rt; taken.len() == 60, "a slot for each key");
         for i in 0..60 {
             let expected = if (i + 1) % 3 == 0 {
