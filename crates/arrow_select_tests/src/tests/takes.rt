@@ -5,7 +5,7 @@ use arrow_boolean::BooleanArray;
 use arrow_memory::buffer::Buffer;
 use arrow_primitive::PrimitiveArray;
 use arrow_select::take::{take_binary, take_boolean, take_primitive, take_utf8};
-use arrow_testing::{assert_text, frozen_mask};
+use arrow_testing::{Tiny, assert_text, frozen_mask};
 use arrow_types::data_type::DataType;
 use arrow_types::error::Error;
 use arrow_utf8::Utf8Array;
@@ -96,4 +96,16 @@ fn items_are_taken(rt: HostRuntime) {
     drop(taken);
     drop(bytes);
     drop(keys);
+}
+
+#[test]
+fn items_that_end_past_the_greatest_offset_overflow(rt: HostRuntime) {
+    let sixty = "123456789 123456789 123456789 123456789 123456789 123456789 ";
+    let texts = Utf8Array::<Tiny>::from(rt.alloc(), &[Some(sixty), Some("")]);
+    let texts = texts.expect(&rt, "memory");
+    let keys = keys(&rt, (&[0, 1, 0], "111"));
+    let taken = take_utf8(rt.alloc(), &texts, &keys);
+    assert_text::value(taken.err(), Some(Error::Overflow)).expect(&rt, "120 bytes");
+    drop(keys);
+    drop(texts);
 }
