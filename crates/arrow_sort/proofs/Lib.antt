@@ -1,4 +1,5 @@
 pub mod OrderLemmas
+pub mod SelectLemmas
 pub mod TakeLemmas
 pub mod TotalLemmas
 mod BytesLemmas

@@ -2,7 +2,7 @@
 use Rattle.std.proofs.Common.{◌≡◌, ◌&&◌, ◌∙◌, ℕ, ◌+◌, ◌-◌, ◌<◌, ◌≤◌, ◌⊎◌, Bool, true, false, cond, if◌then◌else◌, not, List, [], ◌∷◌, ◌++◌, map, length, get_or, Option, Some, None, is_some, option_map, slice_get, refl, ap, ap₂, sym, subst, arith, zero-add, inl, inr, true≢false, length-append}
 use Rattle.std.specs.List.{All, filter, range_with_len}
 use Rattle.std.specs.List.Sorted.{IsPermutation, IsSorted, IsSortedBy, IsStableBy, IsStrictlyIncreasing}
-use Rattle.std.specs.Cmp.{IsTotalOrder, IsStrictWeakOrder, nat_cmp_total, tied_back}
+use Rattle.std.specs.Cmp.{IsTotalOrder, IsStrictWeakOrder, back_total, nat_cmp_total, on_total, then_total, tied_back}
 use Rattle.std.specs.Ordering.{is_lt, nat_cmp, ordering_then}
 use Rattle.std.specs.declared.cmp.Ordering.{Ordering}
 use Rattle.std.specs.declared.cmp.Ordering.TheVariants.{Less, Equal, Greater}
@@ -14,10 +14,10 @@ use Rattle.std.proofs.lemmas.List.Kept.{IsStrictlyIncreasing-filter}
 use Rattle.std.proofs.lemmas.List.Sorted.{All-permutation, IsPermutation-append_comm, IsPermutation-append_left, IsPermutation-filter_both, IsPermutation-map, IsPermutation-trans, ranks_by, ties_stay_sorted}
 use Rattle.std.proofs.lemmas.Option.{get_or_from_slice_get}
 use Rattle.arrow_sort.specs.declared.options.SortOptions.{SortOptions}
-use Rattle.arrow_sort.specs.Entries.{PushesEntry, SplitsSlots, by_index, entry_order, first_nulls, is_null_at, is_valid_at}
+use Rattle.arrow_sort.specs.Entries.{PushesEntry, SplitsSlots, by_index, entry_order, entry_order_by, first_nulls, is_null_at, is_valid_at}
 use Rattle.arrow_types.specs.Types.{LogicalType, plain, uint64}
 use Rattle.arrow_column.specs.Column.{Column, column_of_parts, stored_values}
-use Rattle.arrow_sort.specs.Sort.{HoldsSorted, SortsIndexes, index_order, slot_at, slot_order, up_to}
+use Rattle.arrow_sort.specs.Sort.{AreSorted, HoldsSorted, SortsIndexes, index_order, slot_at, slot_order}
 
 -- entries in the order of their indexes that are sorted by their values, and stay so where these are equal
 module _ {V : Type 0} (cmp : V → V → Ordering) (total : IsTotalOrder cmp) where
@@ -44,6 +44,14 @@ module _ {V : Type 0} (cmp : V → V → Ordering) (total : IsTotalOrder cmp) wh
           ∙ ties_stay_sorted by_index by_value indexes-order values-order xs ys rising stable k d high
           (ap₂ (λ p q. not (is_lt p) && not (is_lt q))
           (tied_back total (get_or ys (k + 1) d).0 (get_or ys k d).0 e) e)
+
+-- the order of entries is one
+pub entries-weak : {V : Type 0} (cmp : V → V → Ordering) → IsTotalOrder cmp → (descending : Bool)
+    → IsStrictWeakOrder (λ x y. is_lt (entry_order_by descending cmp x y))
+entries-weak cmp total true =
+    ranks_by (then_total (on_total (λ (entry : _ × ℕ). entry.0) (back_total total)) (on_total (λ entry. entry.1) nat_cmp_total)) (λ entry. entry)
+entries-weak cmp total false =
+    ranks_by (then_total (on_total (λ (entry : _ × ℕ). entry.0) total) (on_total (λ entry. entry.1) nat_cmp_total)) (λ entry. entry)
 
 -- ---- the indexes below a number
 pub range-more : (n : ℕ) → range_with_len 0 (n + 1) ≡ range_with_len 0 n ++ n ∷ []
@@ -126,7 +134,7 @@ module _ {X : Type 0} (lt : X → X → Bool) (P Q : X → Type 0) (apart : (x y
           ap₂ lt (next ∙ ap (λ i. get_or ys i d) j) (get_or-append_right xs ys (length xs) k d refl past)
           ∙ high (k - length xs) d (omega arith) (omega (arith, here, j))
 
-  sorted-append : (xs ys : List X) → IsSortedBy lt xs → IsSortedBy lt ys → All P xs → All Q ys
+  pub sorted-append : (xs ys : List X) → IsSortedBy lt xs → IsSortedBy lt ys → All P xs → All Q ys
       → IsSortedBy lt (xs ++ ys)
   sorted-append xs ys low high all each k d from within =
       at-seam xs ys low high all each k d within (cases_lt (k + 1) (length xs))
@@ -275,12 +283,11 @@ stored-bare : {X : Type 0} (t : LogicalType) (xs : List X) → stored_values (co
 stored-bare t [] = refl
 stored-bare t (x ∷ xs) = ap (λ rest. x ∷ rest) (stored-bare t xs)
 
-pub holds-sorted : (order : ℕ → ℕ → Ordering) (n : ℕ) (limit : Option ℕ) (made : Column ℕ) (all keys : List ℕ)
-    → made ≡ column_of_parts (plain uint64) keys None → SortsIndexes order n all → keys ≡ up_to limit all
-    → HoldsSorted order n limit made
-holds-sorted order n limit made all keys is sorts cut =
+pub holds-sorted : (order : ℕ → ℕ → Ordering) (n : ℕ) (limit : Option ℕ) (made : Column ℕ) (keys : List ℕ)
+    → made ≡ column_of_parts (plain uint64) keys None → AreSorted order n limit keys → HoldsSorted order n limit made
+holds-sorted order n limit made keys is sorted =
     let stored : stored_values made ≡ keys = ap stored_values is ∙ stored-bare (plain uint64) keys in
     record {
-      keys = (all, sorts, stored ∙ cut);
+      keys = subst (AreSorted order n limit) (sym stored) sorted;
       unmasked = is ∙ ap (λ xs. column_of_parts (plain uint64) xs None) (sym stored);
     }

@@ -1,9 +1,11 @@
 -- What the steps of a sort make. Only private functions cite this.
-use Rattle.std.specs.Prelude.{◌≡◌, ℕ, Bool, List, [], ◌∷◌, ◌++◌, Option, Some, None, All, is_some, length, not, map, filter}
+use Rattle.std.specs.Prelude.{◌≡◌, ◌-◌, ◌<◌, ◌≤◌, ℕ, Bool, false, List, [], ◌∷◌, ◌++◌, Option, Some, None, All, is_some, length, not, map, filter, slice_index_or, take}
 use Rattle.std.specs.Prelude.{if◌then◌else◌}
 use Rattle.std.specs.List.{range_with_len}
+use Rattle.std.specs.List.Sorted.{IsPermutation, IsSorted}
 use Rattle.std.specs.Ordering.{is_lt, nat_cmp, ordering_then}
 use Rattle.std.specs.declared.cmp.Ordering.{Ordering}
+use Rattle.arrow_sort.specs.declared.entries.Entries.{Entries}
 use Rattle.arrow_sort.specs.Sort.{slot_at}
 
 -- the order of two entries, a value and its index each: that of the values, and of equal values that of the indexes
@@ -40,3 +42,80 @@ PushesEntry (Some value) i values nulls values' nulls' = (values' ≡ values ++ 
 -- the indexes of nulls before or after the others
 abbrev pub first_nulls : Bool → List ℕ → List ℕ → List ℕ
 first_nulls nulls_first nulls others = if nulls_first then nulls ++ others else others ++ nulls
+
+-- the same by an order of values, which is turned round if descending
+abbrev pub entry_order_by : {V : Type 0} → Bool → (V → V → Ordering) → V × ℕ → V × ℕ → Ordering
+entry_order_by descending cmp = entry_order (λ x y. if descending then cmp y x else cmp x y)
+
+-- there are `limit` first entries: none of them comes after the last, and none of the rest before it
+pub record AreFirst {E : Type 0} (order : E → E → Ordering) (limit : ℕ) (first rest : List E) : Type 0 where
+  pub others : List E
+  pub last : E
+  pub is : first ≡ others ++ last ∷ []
+  pub count : length first ≡ limit
+  pub low : All (λ entry. is_lt (order last entry) ≡ false) others
+  pub high : All (λ entry. is_lt (order entry last) ≡ false) rest
+
+-- these are the first `limit` of all entries: the last of them at the end, and the others in any order
+pub record SelectsFirst {E : Type 0} (order : E → E → Ordering) (limit : ℕ) (all first : List E) : Type 0 where
+  pub rest : List E
+  pub permutation : IsPermutation all (first ++ rest)
+  pub are : AreFirst order limit first rest
+
+-- the kept entries begin with `limit` of which none comes after the last, and no entry that isn't kept comes before it
+pub record BeginsWithFirst {E : Type 0} (order : E → E → Ordering) (limit : ℕ) (all kept : List E) : Type 0 where
+  pub first : List E
+  pub more : List E
+  pub rest : List E
+  pub is : kept ≡ first ++ more
+  pub permutation : IsPermutation all (kept ++ rest)
+  pub are : AreFirst order limit first rest
+
+-- the first `limit` of all entries are kept: all entries while they are fewer
+pub record KeepsFirst {E : Type 0} (order : E → E → Ordering) (limit : ℕ) (all kept : List E) : Type 0 where
+  pub few : length kept < limit → kept ≡ all
+  pub many : limit ≤ length kept → BeginsWithFirst order limit all kept
+
+-- if the first `limit` of some entries were kept, then now those of these entries and one more
+abbrev pub AppendsToFirst : {E : Type 0} → (E → E → Ordering) → ℕ → E → List E → List E → Type 0
+AppendsToFirst {E} order limit entry old new = (all : List E) → KeepsFirst order limit all old
+    → KeepsFirst order limit (all ++ entry ∷ []) new
+
+-- there are `limit` kept entries, and this entry doesn't come before the last of the first `limit`
+pub record IsPastFirst {E : Type 0} (order : E → E → Ordering) (limit : ℕ) (kept : List E) (entry : E) : Type 0 where
+  pub enough : limit ≤ length kept
+  pub last : E
+  pub at : last ≡ slice_index_or kept (limit - 1) last
+  pub past : is_lt (order entry last) ≡ false
+
+-- the same of the value of a slot with its index; a null is appended to the nulls
+abbrev pub OffersSlot : {V : Type 0} → (V × ℕ → V × ℕ → Ordering) → ℕ → Option V → ℕ → Entries V → Entries V → Type 0
+OffersSlot {V} order limit slot i old new = (all : List (V × ℕ)) → KeepsFirst order limit all old.values.items
+    → (all' : List (V × ℕ)) × PushesEntry slot i all old.nulls.items all' new.nulls.items
+    × KeepsFirst order limit all' new.values.items
+
+-- the first `limit` values of the valid slots below n are kept, and these are the indexes of the null slots below n
+pub record KeepsSlots {V X : Type 0} (seen : V → X) (order : V × ℕ → V × ℕ → Ordering) (limit : ℕ)
+    (slots : List (Option X)) (n : ℕ) (kept : List (V × ℕ)) (nulls : List ℕ) : Type 0 where
+  pub all : List (V × ℕ)
+  pub split : SplitsSlots seen slots n all nulls
+  pub keeps : KeepsFirst order limit all kept
+
+-- the same of all slots
+abbrev pub KeepsAll : {V X : Type 0} → (V → X) → (V × ℕ → V × ℕ → Ordering) → ℕ → List (Option X) → Entries V → Type 0
+KeepsAll seen order limit slots kept =
+    KeepsSlots seen order limit slots (length slots) kept.values.items kept.nulls.items
+
+-- these are the first `limit` of all entries, sorted
+pub record SortsFirst {E : Type 0} (order : E → E → Ordering) (limit : ℕ) (all first : List E) : Type 0 where
+  pub whole : List E
+  pub permutation : IsPermutation all whole
+  pub sorted : IsSorted order whole
+  pub is : first ≡ take limit whole
+
+-- these are the first `limit` values of the valid slots, sorted, with their indexes, and the indexes of the null slots
+pub record SortsFirstSlots {V X : Type 0} (seen : V → X) (order : V × ℕ → V × ℕ → Ordering) (limit : ℕ)
+    (slots : List (Option X)) (first : Entries V) : Type 0 where
+  pub all : List (V × ℕ)
+  pub split : SplitsAll seen slots all first.nulls.items
+  pub sorts : SortsFirst order limit all first.values.items

@@ -51,6 +51,10 @@ AreSorted order n limit keys = (all : List ℕ) × SortsIndexes order n all × (
 abbrev pub SortsSlots : {X : Type 0} → SortOptions → (X → X → Ordering) → List (Option X) → List ℕ → Type 0
 SortsSlots options cmp slots indexes = SortsIndexes (index_order (slot_order options cmp) slots) (length slots) indexes
 
+-- these are the sorted indexes of slots, up to a limit
+abbrev pub AreSortedSlots : {X : Type 0} → SortOptions → (X → X → Ordering) → List (Option X) → Option ℕ → List ℕ → Type 0
+AreSortedSlots options cmp slots = AreSorted (index_order (slot_order options cmp) slots) (length slots)
+
 -- these are indexes below n, each at most once: the first up to a limit of all of them, in some order
 abbrev pub PickOnce : ℕ → List ℕ → Type 0
 PickOnce n keys = (all : List ℕ) × (limit : Option ℕ) × IsPermutation (range_with_len 0 n) all × (keys ≡ up_to limit all)

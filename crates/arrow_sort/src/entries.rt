@@ -11,9 +11,9 @@ use std::alloc::{AllocError, Global};
 
 /// The values of the valid slots of an array with their indexes, and the indexes of its null slots.
 #[derive(Drop)]
-struct Entries<V: Drop> {
-    values: Vec<(V, u64)>,
-    nulls: Vec<u64>,
+pub(crate) struct Entries<V: Drop> {
+    pub(crate) values: Vec<(V, u64)>,
+    pub(crate) nulls: Vec<u64>,
 }
 
 /// Appends a slot and its index to the values or to the nulls.
@@ -97,7 +97,7 @@ fn push_indexes<V>(indexes: &mut Vec<u64>, values: &[(V, u64)]) -> Result<(), Al
 }
 
 /// Returns the indexes of values and of nulls, the nulls first or last.
-fn join_indexes<V>(
+pub(crate) fn join_indexes<V>(
     alloc: Global,
     values: &[(V, u64)],
     nulls: &[u64],

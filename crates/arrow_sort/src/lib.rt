@@ -8,6 +8,7 @@ mod entries;
 mod lend;
 pub mod lexsort;
 mod options;
+mod select;
 pub mod sort;
 mod sortable;
 

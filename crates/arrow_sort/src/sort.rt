@@ -1,13 +1,28 @@
 //! Sorts of one array.
 ghost use Rattle.std.specs.Prelude.{IfOk};
 ghost use Rattle.arrow_types.specs.Failures.{OnlyOutOfMemory};
-ghost use Rattle.arrow_sort.specs.Sort.{HoldsSortedSlots, TakesSortedSlots};
+ghost use Rattle.arrow_sort.specs.Sort.{AreSortedSlots, HoldsSortedSlots, TakesSortedSlots};
 
-use crate::entries::truncate_to;
 use crate::{SortOptions, SortableArray};
 use arrow_primitive::PrimitiveArray;
 use arrow_types::error::Error;
-use std::alloc::Global;
+use std::alloc::{AllocError, Global};
+
+/// Returns the sorted indexes of all slots, up to a limit.
+fn limited_indexes<A: SortableArray>(
+    alloc: Global,
+    array: &A,
+    options: SortOptions,
+    limit: Option<usize>,
+) -> Result<Vec<u64>, AllocError>
+    ensures { IfOk result (λ indexes.
+        AreSortedSlots options A.order (A.slots array.now) limit indexes.items) }
+{
+    match limit {
+        Some(limit) => array.first_indexes(alloc, options, limit),
+        None => array.sorted_indexes(alloc, options),
+    }
+}
 
 /// Returns the indexes that sort the slots of an array, up to a limit, as unsigned 64-bit numbers:
 /// every index once, in the order of the slots there, and equal slots in the order of their
@@ -24,8 +39,7 @@ pub fn sort_to_indices<A: SortableArray>(
     ensures ok { IfOk result (HoldsSortedSlots options A.order (A.slots array.now) limit) }
     ensures err { OnlyOutOfMemory result }
 {
-    let indexes = array.sorted_indexes(alloc, options)?;
-    PrimitiveArray::from_vec(truncate_to(indexes, limit))
+    PrimitiveArray::from_vec(limited_indexes(alloc, array, options, limit)?)
 }
 
 /// Returns the slots of an array, sorted, up to a limit: those at the indexes of
@@ -43,6 +57,6 @@ pub fn sort<A: SortableArray>(
         (A.take_at array.now)) }
     ensures err { OnlyOutOfMemory result }
 {
-    let indexes = truncate_to(array.sorted_indexes(alloc, options)?, limit);
+    let indexes = limited_indexes(alloc, array, options, limit)?;
     array.take_indexes(alloc, indexes.as_slice())
 }

@@ -1,12 +1,13 @@
 //! Arrays whose slots have an order.
-ghost use Rattle.std.specs.Prelude.{◌≡◌, IfOk, List, Option, ℕ, length};
+ghost use Rattle.std.specs.Prelude.{◌≡◌, IfOk, List, Option, Some, ℕ, length};
 ghost use Rattle.std.specs.declared.cmp.Ordering.{Ordering};
 ghost use Rattle.arrow_types.specs.Failures.{OnlyOutOfMemory};
-ghost use Rattle.arrow_sort.specs.Sort.{PickOnce, SortsSlots, slot_at, slot_order};
+ghost use Rattle.arrow_sort.specs.Sort.{AreSortedSlots, PickOnce, SortsSlots, slot_at, slot_order};
 
 use crate::SortOptions;
 use crate::compare::{ByFirstBytes, ByOrder, compare_slots};
 use crate::entries::sorted_indexes;
+use crate::select::first_indexes;
 use arrow_boolean::BooleanArray;
 use arrow_byte_array::ByteArray;
 use arrow_bytes::ByteKind;
@@ -40,6 +41,18 @@ pub trait SortableArray {
     fn sorted_indexes(&self, alloc: Global, options: SortOptions) -> Result<Vec<u64>, AllocError>
         ensures { IfOk result (λ indexes. SortsSlots options order (slots self.now) indexes.items) };
 
+    /// Returns the first `limit` of the sorted indexes of all slots.
+    ///
+    /// # Errors
+    /// If an allocation fails.
+    fn first_indexes(
+        &self,
+        alloc: Global,
+        options: SortOptions,
+        limit: usize,
+    ) -> Result<Vec<u64>, AllocError>
+        ensures { IfOk result (λ indexes. AreSortedSlots options order (slots self.now) (Some limit) indexes.items) };
+
     /// Returns the order of the slots at two indexes; past the end a slot is null.
     fn compare_slots(&self, options: SortOptions, i: usize, j: usize) -> Ordering
         ensures { result ≡ slot_order options order (slot_at (slots self.now) i) (slot_at (slots self.now) j) };
@@ -69,6 +82,15 @@ impl<T: NativeType + Ord> SortableArray for PrimitiveArray<T> {
 
     fn sorted_indexes(&self, alloc: Global, options: SortOptions) -> Result<Vec<u64>, AllocError> {
         sorted_indexes(alloc, self, options, &ByOrder)
+    }
+
+    fn first_indexes(
+        &self,
+        alloc: Global,
+        options: SortOptions,
+        limit: usize,
+    ) -> Result<Vec<u64>, AllocError> {
+        first_indexes(alloc, self, options, limit, &ByOrder)
     }
 
     #[inline(always)]
@@ -101,6 +123,15 @@ impl SortableArray for BooleanArray {
         sorted_indexes(alloc, self, options, &ByOrder)
     }
 
+    fn first_indexes(
+        &self,
+        alloc: Global,
+        options: SortOptions,
+        limit: usize,
+    ) -> Result<Vec<u64>, AllocError> {
+        first_indexes(alloc, self, options, limit, &ByOrder)
+    }
+
     #[inline(always)]
     fn compare_slots(&self, options: SortOptions, i: usize, j: usize) -> Ordering {
         compare_slots(self, options, i, j)
@@ -131,6 +162,15 @@ impl<K: ByteKind, O: Offset> SortableArray for ByteArray<K, O> {
 
     fn sorted_indexes(&self, alloc: Global, options: SortOptions) -> Result<Vec<u64>, AllocError> {
         sorted_indexes(alloc, self, options, &ByFirstBytes)
+    }
+
+    fn first_indexes(
+        &self,
+        alloc: Global,
+        options: SortOptions,
+        limit: usize,
+    ) -> Result<Vec<u64>, AllocError> {
+        first_indexes(alloc, self, options, limit, &ByFirstBytes)
     }
 
     #[inline(always)]

@@ -6,6 +6,7 @@ use arrow_sort::lexsort::{SortColumn, SortValues, lexsort_to_indices};
 use arrow_sort::sort::{sort, sort_to_indices};
 use arrow_testing::assert_text;
 use arrow_utf8::Utf8Array;
+use std::process::Abort;
 
 const ASCENDING: SortOptions = SortOptions {
     descending: false,
@@ -48,20 +49,120 @@ const NUMBERS: &[Case] = &[
     ("a limit above the length", DESCENDING_NULLS_FIRST, Some(9), "[0 5 1 3 4 2]", "[_ _ 3 3 2 1]", "001111"),
 ];
 
+/// Sorts an array by each case's options, up to its limit, and compares what comes with the case.
+fn check_numbers(rt: &(impl Abort + AllocGlobal), array: &PrimitiveArray<i32>, cases: &[Case]) {
+    for (case, options, limit, indexes, slots, mask) in cases {
+        let keys = sort_to_indices(rt.alloc(), array, *options, *limit).expect(rt, *case);
+        assert_text::slots(keys.iter(), *indexes).expect(rt, *case);
+        drop(keys);
+        let sorted = sort(rt.alloc(), array, *options, *limit).expect(rt, *case);
+        assert_text::slots(sorted.iter(), *slots).expect(rt, *case);
+        assert_text::mask(sorted.validity(), *mask).expect(rt, *case);
+        drop(sorted);
+    }
+}
+
 #[test]
 fn numbers_are_sorted(rt: HostRuntime) {
     let slots = [None, Some(3), Some(1), Some(3), Some(2), None];
     let array = PrimitiveArray::<i32>::from(rt.alloc(), &slots).expect(&rt, "memory");
-    for (case, options, limit, indexes, slots, mask) in NUMBERS {
-        let keys = sort_to_indices(rt.alloc(), &array, *options, *limit).expect(&rt, *case);
-        assert_text::slots(keys.iter(), *indexes).expect(&rt, *case);
+    check_numbers(&rt, &array, NUMBERS);
+    drop(array);
+}
+
+/// Cases of twelve times the numbers from 0 to 99, where the slots at 7, 407 and 807 are null. The
+/// limits are below an eighth of the slots, so the first slots are selected.
+#[rattlefmt::skip]
+const HUNDREDS: &[Case] = &[
+    ("none", ASCENDING, Some(0), "[]", "[]", "none"),
+    ("the least", ASCENDING, Some(1), "[0]", "[0]", "none"),
+    ("the greatest", DESCENDING, Some(1), "[99]", "[99]", "none"),
+    ("the first of equal numbers", ASCENDING, Some(5), "[0 100 200 300 400]", "[0 0 0 0 0]", "none"),
+    ("descending, the first of equal numbers", DESCENDING, Some(5), "[99 199 299 399 499]", "[99 99 99 99 99]", "none"),
+    ("equal numbers and the first two of others", ASCENDING, Some(14),
+        "[0 100 200 300 400 500 600 700 800 900 1000 1100 1 101]", "[0 0 0 0 0 0 0 0 0 0 0 0 1 1]", "none"),
+    ("descending, equal numbers and the first two of others", DESCENDING, Some(14),
+        "[99 199 299 399 499 599 699 799 899 999 1099 1199 98 198]", "[99 99 99 99 99 99 99 99 99 99 99 99 98 98]", "none"),
+    ("nulls first", ASCENDING_NULLS_FIRST, Some(5), "[7 407 807 0 100]", "[_ _ _ 0 0]", "00011"),
+    ("descending, nulls first", DESCENDING_NULLS_FIRST, Some(5), "[7 407 807 99 199]", "[_ _ _ 99 99]", "00011"),
+    ("fewer than the nulls", DESCENDING_NULLS_FIRST, Some(2), "[7 407]", "[_ _]", "00"),
+];
+
+#[test]
+fn first_of_many_slots_are_sorted(rt: HostRuntime) {
+    let mut slots = Vec::new(rt.alloc());
+    for i in 0..1200 {
+        let slot = if i % 400 == 7 { None } else { Some(i % 100) };
+        slots.push(slot).expect(&rt, "memory");
+    }
+    let array = PrimitiveArray::<i32>::from(rt.alloc(), slots.as_slice()).expect(&rt, "memory");
+    check_numbers(&rt, &array, HUNDREDS);
+    drop((slots, array));
+}
+
+/// Limits below and above an eighth of 1,960 valid slots, and above all.
+const LIMITS: &[usize] = &[0, 1, 9, 64, 240, 300, 2500];
+
+#[test]
+fn limit_cuts_the_sorted_indexes(rt: HostRuntime) {
+    let mut slots = Vec::new(rt.alloc());
+    for i in 0..2000u32 {
+        // Each number below 1,009 stands there once or twice.
+        let slot = if i % 50 == 3 {
+            None
+        } else {
+            Some((i * 7919 % 1009) as i32)
+        };
+        slots.push(slot).expect(&rt, "memory");
+    }
+    let array = PrimitiveArray::<i32>::from(rt.alloc(), slots.as_slice()).expect(&rt, "memory");
+    for (case, options) in [
+        ("ascending", ASCENDING),
+        ("ascending, nulls first", ASCENDING_NULLS_FIRST),
+        ("descending", DESCENDING),
+        ("descending, nulls first", DESCENDING_NULLS_FIRST),
+    ] {
+        let all = sort_to_indices(rt.alloc(), &array, options, None).expect(&rt, case);
+        for limit in LIMITS {
+            let first = sort_to_indices(rt.alloc(), &array, options, Some(*limit)).expect(
+                &rt, case,
+            );
+            assert_eq!(rt; first.len(), all.len().min(*limit), "{case}, limit {limit}");
+            for (came, expected) in first.iter().zip(all.iter()) {
+                assert_eq!(rt; came, expected, "{case}, limit {limit}");
+            }
+            drop(first);
+        }
+        drop(all);
+    }
+    drop((slots, array));
+}
+
+#[test]
+fn first_of_many_texts_are_sorted(rt: HostRuntime) {
+    let mut slots = Vec::new(rt.alloc());
+    for i in 0..1600 {
+        let text = match i % 4 {
+            0 => "b",
+            1 => "a",
+            2 => "c",
+            _ => "ab",
+        };
+        slots.push(Some(text)).expect(&rt, "memory");
+    }
+    let array = Utf8Array::<i32>::from(rt.alloc(), slots.as_slice()).expect(&rt, "memory");
+    for (case, options, indexes, expected) in [
+        ("ascending", ASCENDING, "[1 5 9]", "[\"a\" \"a\" \"a\"]"),
+        ("descending", DESCENDING, "[2 6 10]", "[\"c\" \"c\" \"c\"]"),
+    ] {
+        let keys = sort_to_indices(rt.alloc(), &array, options, Some(3)).expect(&rt, case);
+        assert_text::slots(keys.iter(), indexes).expect(&rt, case);
         drop(keys);
-        let sorted = sort(rt.alloc(), &array, *options, *limit).expect(&rt, *case);
-        assert_text::slots(sorted.iter(), *slots).expect(&rt, *case);
-        assert_text::mask(sorted.validity(), *mask).expect(&rt, *case);
+        let sorted = sort(rt.alloc(), &array, options, Some(3)).expect(&rt, case);
+        assert_text::slots(sorted.iter(), expected).expect(&rt, case);
         drop(sorted);
     }
-    drop(array);
+    drop((slots, array));
 }
 
 #[test]

@@ -1,4 +1,4 @@
-use Rattle.std.proofs.Common.{◌≡◌, ◌∙◌, ap₂, arith, nat_cmp, sym}
+use Rattle.std.proofs.Common.{◌∙◌, ap₂, arith, nat_cmp, sym}
 use Rattle.arrow_sort.proofs.BytesLemmas.{bytes_order}
 use Rattle.arrow_sort.proofs.bytes.compare_bytes.Goals as goal
 

@@ -13,6 +13,6 @@ returns-clause-ok c =
     let n = rows_count c.args.columns.now in
     IfOk-weaker c.from_vec.result (λ made. made ≡ column_of_parts (plain uint64) c.truncate_to.result.items None)
     (HoldsSorted order n c.args.limit)
-    (λ made is. holds-sorted order n c.args.limit made c.in_ok-indexes.indexes.items c.truncate_to.result.items
-    is c.in_ok-indexes.ensures c.truncate_to.ensures)
+    (λ made is. holds-sorted order n c.args.limit made c.truncate_to.result.items is
+    (c.in_ok-indexes.indexes.items, c.in_ok-indexes.ensures, c.truncate_to.ensures))
     c.from_vec.ensures.ok

@@ -10,8 +10,8 @@ pub returns-clause-ok : goal.returns-clause-ok
 returns-clause-ok g c =
     let slots = g.A.SortableArray.slots c.args.array.now in
     let order = index_order (slot_order c.args.options g.A.SortableArray.order) slots in
-    IfOk-weaker c.from_vec.result (λ made. made ≡ column_of_parts (plain uint64) c.truncate_to.result.items None)
+    let indexes = c.in_ok-limited_indexes.field-0.items in
+    IfOk-weaker c.from_vec.result (λ made. made ≡ column_of_parts (plain uint64) indexes None)
     (HoldsSorted order (length slots) c.args.limit)
-    (λ made is. holds-sorted order (length slots) c.args.limit made c.in_ok-indexes.indexes.items c.truncate_to.result.items
-    is c.in_ok-indexes.ensures c.truncate_to.ensures)
+    (λ made is. holds-sorted order (length slots) c.args.limit made indexes is c.in_ok-limited_indexes.ensures)
     c.from_vec.ensures.ok

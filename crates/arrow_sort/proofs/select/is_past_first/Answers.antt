@@ -1,0 +1,15 @@
+use Rattle.std.proofs.Common.{◌∙◌, ap}
+use Rattle.std.specs.Ordering.{is_ge}
+use Rattle.arrow_sort.specs.Entries.{entry_order_by}
+use Rattle.arrow_sort.proofs.SelectLemmas.{ge-not-lt}
+use Rattle.arrow_sort.proofs.select.is_past_first.Goals as goal
+
+pub returns-then-limit-kept : goal.returns-then-limit-kept
+returns-then-limit-kept g c = λ past. record {
+  enough = c.if-limit-kept.true;
+  last = c.index-kept-limit.result;
+  at = c.index-kept-limit.is;
+  past =
+      ge-not-lt (entry_order_by c.args.descending g.V.Ord.cmp c.args.entry.now c.index-kept-limit.result) c.is_ge.result
+      (c.is_ge.ensures ∙ ap is_ge c.compare_entries.ensures) past;
+}
