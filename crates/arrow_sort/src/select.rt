@@ -10,6 +10,9 @@ use crate::lend::LendSlots;
 use std::alloc::{AllocError, Global};
 use std::cmp::Ordering;
 
+/// The least number of first values that are kept: sorts of fewer at a time cost more in all.
+const LEAST_KEPT: usize = 32;
+
 /// Returns the order of two values, the other way round if descending.
 #[inline(always)]
 fn compare_either_way<V: Ord, C: CompareValues<V>>(lhs: &V, rhs: &V, descending: bool) -> Ordering
@@ -162,7 +165,13 @@ fn selected_indexes<'a, A: LendSlots<'a>, C: CompareValues<A::Value>>(
         AreSortedSlots options A.order (A.slots array.entry.now) (Some limit) indexes.items) }
 {
     let nulls = array.nulls();
-    let first = first_entries::<A, C>(alloc, array, nulls, limit.max(1), options.descending)?;
+    let first = first_entries::<A, C>(
+        alloc,
+        array,
+        nulls,
+        limit.max(LEAST_KEPT),
+        options.descending,
+    )?;
     let (values, nulls) = (first.values.as_slice(), first.nulls.as_slice());
     let indexes = join_indexes(alloc, values, nulls, options.nulls_first)?;
     Ok(truncate_to(indexes, Some(limit)))
