@@ -8,7 +8,7 @@ use Rattle.std.proofs.lemmas.Bool.{cases_eq, cases_lt}
 use Rattle.std.proofs.lemmas.List.{get_or_append_left, get_or-append_right, same_lists}
 use Rattle.std.proofs.lemmas.List.FromFn.{get_or-map-range_with_len, length-map-range_with_len}
 use Rattle.std.proofs.lemmas.Nat.{one_shl, pow_pos, shr-shr}
-use Rattle.std.proofs.lemmas.Nat.Bits.{bit_at_or, bit_at_cat_high, bit_at_cat_low, bit_at-pow_other}
+use Rattle.std.proofs.lemmas.Nat.Bits.{bit_at_above, bit_at_or, bit_at_cat_high, bit_at_cat_low, bit_at-pow_other}
 use Rattle.std.proofs.lemmas.Nat.Bits.{bit_at-pow_same, bit_at-zero}
 use Rattle.std.proofs.lemmas.Option.{get_or_from_slice_get}
 use Rattle.arrow_memory.specs.Marks.{mark_at, marks}
@@ -94,65 +94,70 @@ module _ (word s : ℕ) where
   shifted-high k low le = low_bit (word * 2 ^ s) k low ∙ ap (λ m. bit_at m k) nothing_behind
       ∙ bit_at_cat_high word s 0 k (pow_pos s) le
 
--- ---- a word whose first bits are shifted out
-
-pub shifted_bit : (word s k : ℕ) → bit_at (word / 2 ^ s) k ≡ bit_at word (s + k)
-shifted_bit word s k = ap (λ m. m % 2) (shr-shr word s k)
+  shifted-above : (k : ℕ) → 64 ≤ k → bit_at (word * 2 ^ s % 2 ^ 64) k ≡ 0
+  shifted-above k above = bit_at_above (word * 2 ^ s % 2 ^ 64) 64 k (let m : word * 2 ^ s % 2 ^ 64 < 2 ^ 64 = omega arith in m)
+      above
 
 -- ---- four words of which each holds every fourth mark
 
--- the topmost t bits of every fourth are the marks at a place and at every fourth place behind it, and no other bit is set
+-- bit 4 * m is mark 4 * m behind a place, for t of them, and no other bit is set
 pub record HoldsFourth (lane : ℕ) (marks : List Bool) (start t : ℕ) : Type 0 where
-  pub each : (m : ℕ) → m < t → slice_get marks (start + 4 * m) ≡ Some (bit_at lane (64 - 4 * t + 4 * m) == 1)
-  pub clear : (k : ℕ) → (k % 4 ≢ 0) ⊎ (k < 64 - 4 * t) ⊎ (64 ≤ k) → bit_at lane k ≡ 0
+  pub each : (m : ℕ) → m < t → slice_get marks (start + 4 * m) ≡ Some (bit_at lane (4 * m) == 1)
+  pub clear : (k : ℕ) → (k % 4 ≢ 0) ⊎ (4 * t ≤ k) → bit_at lane k ≡ 0
 
 none_held : (marks : List Bool) (start : ℕ) → HoldsFourth 0 marks start 0
 none_held marks start = record { each = λ m low. absurd (omega arith); clear = λ k out. bit_at-zero k }
 
--- a word that is shifted down by four bits, and a bit at its top
-abbrev pub with_top : ℕ → ℕ → ℕ
-with_top lane bit = bit_or (lane / 2 ^ 4) (bit * 2 ^ 60 % 2 ^ 64)
+first_bit : (bit : ℕ) (b : Bool) → bit ≡ from_bool b → (bit_at bit 0 == 1) ≡ b
+first_bit bit true e = ap (λ n. bit_at n 0 == 1) e
+first_bit bit false e = ap (λ n. bit_at n 0 == 1) e
 
--- one mark more
-module _ (lane : ℕ) (marks : List Bool) (start t : ℕ) (b : Bool) (few : t < 16)
-    (is : slice_get marks (start + 4 * t) ≡ Some b) (had : HoldsFourth lane marks start t) where
-  either : (k : ℕ) → bit_at (with_top lane (from_bool b)) k ≡ max (bit_at lane (4 + k)) (bit_at (moved b 60) k)
-  either k = bit_at_or (lane / 2 ^ 4) (from_bool b * 2 ^ 60 % 2 ^ 64) k
-      ∙ ap₂ (λ low m. max low (bit_at m k)) (shifted_bit lane 4 k) (is_moved 64 b 60 (omega arith))
+later_bit : (bit : ℕ) (b : Bool) → bit ≡ from_bool b → (k : ℕ) → k ≢ 0 → bit_at bit k ≡ 0
+later_bit bit true e k apart = ap (λ n. bit_at n k) e ∙ bit_at-pow_other 0 k apart
+later_bit bit false e k apart = ap (λ n. bit_at n k) e ∙ bit_at-zero k
 
-  at_top : bit_at (with_top lane (from_bool b)) 60 ≡ bit_at (moved b 60) 60
-  at_top = either 60 ∙ zero-max _ _ (had.clear (4 + 60) (inr (inr (omega arith))))
+-- a word that is shifted by four bits, and a bit before them
+abbrev pub behind : ℕ → ℕ → ℕ
+behind lane bit = bit_or (lane * 2 ^ 4 % 2 ^ 64) bit
 
-  below_top : (k : ℕ) → k ≢ 60 → bit_at (with_top lane (from_bool b)) k ≡ bit_at lane (4 + k)
-  below_top k apart = either k ∙ max-zero _ _ (moved_other b 60 k apart)
+-- a mark before those that a word holds
+module _ (lane : ℕ) (marks : List Bool) (start t : ℕ) (b : Bool) (bit : ℕ) (few : t < 16) (is_bit : bit ≡ from_bool b)
+    (is : slice_get marks start ≡ Some b) (had : HoldsFourth lane marks (start + 4) t) where
+  either : (k : ℕ) → bit_at (behind lane bit) k ≡ max (bit_at (lane * 2 ^ 4 % 2 ^ 64) k) (bit_at bit k)
+  either k = bit_at_or (lane * 2 ^ 4 % 2 ^ 64) bit k
 
-  each_of : (m : ℕ) → m < t + 1 → (m ≡ t) ⊎ (m ≢ t)
-      → slice_get marks (start + 4 * m) ≡ Some (bit_at (with_top lane (from_bool b)) (64 - 4 * (t + 1) + 4 * m) == 1)
-  each_of m low (inl e) =
-      let there : start + 4 * m ≡ start + 4 * t = omega (arith, e) in
-      let top : 64 - 4 * (t + 1) + 4 * m ≡ 60 = omega (arith, e, few) in
-      ap (slice_get marks) there ∙ is ∙ ap Some (sym (
-      ap (λ k. bit_at (with_top lane (from_bool b)) k == 1) top ∙ ap (λ n. n == 1) at_top ∙ moved_same b 60))
-  each_of m low (inr apart) =
-      let down : 4 + (64 - 4 * (t + 1) + 4 * m) ≡ 64 - 4 * t + 4 * m = omega (arith, few) in
-      had.each m (omega (arith, low, apart)) ∙ ap (λ n. Some (n == 1)) (sym (
-      below_top (64 - 4 * (t + 1) + 4 * m) (λ e. absurd (omega (arith, e, few, low, apart))) ∙ ap (bit_at lane) down))
+  moved-out : (k : ℕ) → (k % 4 ≢ 0) ⊎ (4 * (t + 1) ≤ k) → bit_at (lane * 2 ^ 4 % 2 ^ 64) k ≡ 0
+  moved-out k out = elim (cases_lt k 64) [
+    | inr above ↦ shifted-above lane 4 k above
+    | inl low ↦ elim (cases_lt k 4) [
+      | inl below ↦ shifted-low lane 4 k low below
+      | inr past ↦ shifted-high lane 4 k low past ∙ had.clear (k - 4) (elim out [
+        | inl other ↦ inl (λ e. other (omega (arith, e, past)))
+        | inr end ↦ inr (omega (arith, end))
+      ])
+    ]
+  ]
 
-  out_before : (k : ℕ) → (k % 4 ≢ 0) ⊎ (k < 64 - 4 * (t + 1)) ⊎ (64 ≤ k)
-      → ((4 + k) % 4 ≢ 0) ⊎ (4 + k < 64 - 4 * t) ⊎ (64 ≤ 4 + k)
-  out_before k (inl other) = inl (λ e. other (omega (arith, e)))
-  out_before k (inr (inl low)) = inr (inl (omega (arith, low)))
-  out_before k (inr (inr high)) = inr (inr (omega (arith, high)))
+  not_first : (k : ℕ) → (k % 4 ≢ 0) ⊎ (4 * (t + 1) ≤ k) → k ≢ 0
+  not_first k (inl other) e = other (omega (arith, e))
+  not_first k (inr end) e = absurd (omega (arith, e, end))
 
-  not_top : (k : ℕ) → (k % 4 ≢ 0) ⊎ (k < 64 - 4 * (t + 1)) ⊎ (64 ≤ k) → k ≢ 60
-  not_top k (inl other) e = other (omega (arith, e))
-  not_top k (inr (inl low)) e = absurd (omega (arith, e, low))
-  not_top k (inr (inr high)) e = absurd (omega (arith, e, high))
+  each_behind : (m : ℕ) → m < t + 1 → slice_get marks (start + 4 * m) ≡ Some (bit_at (behind lane bit) (4 * m) == 1)
+  each_behind zero low =
+      let here : start + 4 * 0 ≡ start = omega arith in
+      ap (slice_get marks) here ∙ is ∙ ap Some (sym (ap (λ n. n == 1) (either 0
+      ∙ zero-max _ _ (shifted-low lane 4 0 (omega arith) (omega arith))) ∙ first_bit bit b is_bit))
+  each_behind (suc m) low =
+      let there : start + 4 * suc m ≡ start + 4 + 4 * m = omega arith in
+      let before : 4 * suc m - 4 ≡ 4 * m = omega arith in
+      ap (slice_get marks) there ∙ had.each m (omega arith) ∙ ap (λ n. Some (n == 1)) (sym (
+      either (4 * suc m) ∙ max-zero _ _ (later_bit bit b is_bit (4 * suc m) (λ e. absurd (omega (arith, e))))
+      ∙ shifted-high lane 4 (4 * suc m) (omega (arith, low, few)) (omega arith) ∙ ap (bit_at lane) before))
 
-  one_more : HoldsFourth (with_top lane (from_bool b)) marks start (t + 1)
-  one_more = record {
-    each = λ m low. each_of m low (cases_eq m t);
-    clear = λ k out. below_top k (not_top k out) ∙ had.clear (4 + k) (out_before k out);
+  one_before : HoldsFourth (behind lane bit) marks start (t + 1)
+  one_before = record {
+    each = each_behind;
+    clear = λ k out. either k ∙ max-zero _ _ (later_bit bit b is_bit k (not_first k out)) ∙ moved-out k out;
   }
 
 -- the words hold t of every fourth mark, from as many places on
@@ -171,20 +176,23 @@ no_fourths marks start = record {
 }
 
 module _ (first second third fourth : ℕ) (marks : List Bool) (start t : ℕ) (few : t < 16)
-    (had : HoldFourths first second third fourth marks start t) where
-  there : (i : ℕ) → start + 4 * t + i ≡ start + i + 4 * t
-  there i = omega arith
+    (had : HoldFourths first second third fourth marks (start + 4) t) where
+  turned : (i : ℕ) → start + 4 + i ≡ start + i + 4
+  turned i = omega arith
 
-  pub four_more : (a b c d : Bool) → slice_get marks (start + 4 * t) ≡ Some a
-      → slice_get marks (start + 4 * t + 1) ≡ Some b → slice_get marks (start + 4 * t + 2) ≡ Some c
-      → slice_get marks (start + 4 * t + 3) ≡ Some d
-      → HoldFourths (with_top first (from_bool a)) (with_top second (from_bool b)) (with_top third (from_bool c))
-      (with_top fourth (from_bool d)) marks start (t + 1)
-  four_more a b c d is is_b is_c is_d = record {
-    first = one_more first marks start t a few is had.first;
-    second = one_more second marks (start + 1) t b few (ap (slice_get marks) (sym (there 1)) ∙ is_b) had.second;
-    third = one_more third marks (start + 2) t c few (ap (slice_get marks) (sym (there 2)) ∙ is_c) had.third;
-    fourth = one_more fourth marks (start + 3) t d few (ap (slice_get marks) (sym (there 3)) ∙ is_d) had.fourth;
+  pub four_before : (a b c d : Bool) (bit bit_b bit_c bit_d : ℕ) → bit ≡ from_bool a → bit_b ≡ from_bool b
+      → bit_c ≡ from_bool c → bit_d ≡ from_bool d → slice_get marks start ≡ Some a
+      → slice_get marks (start + 1) ≡ Some b → slice_get marks (start + 2) ≡ Some c
+      → slice_get marks (start + 3) ≡ Some d
+      → HoldFourths (behind first bit) (behind second bit_b) (behind third bit_c) (behind fourth bit_d) marks start (t + 1)
+  four_before a b c d bit bit_b bit_c bit_d e e_b e_c e_d is is_b is_c is_d = record {
+    first = one_before first marks start t a bit few e is had.first;
+    second = one_before second marks (start + 1) t b bit_b few e_b is_b
+        (subst (λ j. HoldsFourth second marks j t) (turned 1) had.second);
+    third = one_before third marks (start + 2) t c bit_c few e_c is_c
+        (subst (λ j. HoldsFourth third marks j t) (turned 2) had.third);
+    fourth = one_before fourth marks (start + 3) t d bit_d few e_d is_d
+        (subst (λ j. HoldsFourth fourth marks j t) (turned 3) had.fourth);
   }
 
 -- what a word of sixteen marks says of the word of all, if it is shifted to its place
@@ -199,7 +207,7 @@ module _ (lane : ℕ) (marks : List Bool) (place s : ℕ) (few : s < 4) (holds :
   said : k % 4 ≡ s → slice_get marks (place + k) ≡ Some (bit_at (lane * 2 ^ s % 2 ^ 64) k == 1)
   said same =
       let j : place + k ≡ place + s + 4 * (k / 4) = omega (arith, same) in
-      let at : k - s ≡ 64 - 4 * 16 + 4 * (k / 4) = omega (arith, same) in
+      let at : k - s ≡ 4 * (k / 4) = omega (arith, same) in
       ap (slice_get marks) j ∙ holds.each (k / 4) (omega (arith, low)) ∙ ap (λ bit. Some (bit == 1)) (sym (
       shifted-high lane s k low (omega (arith, same)) ∙ ap (bit_at lane) at))
 
@@ -236,7 +244,7 @@ module _ (first second third fourth : ℕ) (marks : List Bool) (place : ℕ)
       at : (i : ℕ) → k % 4 ≡ i → slice_get marks (place + k) ≡ Some (bit_at joined k == 1)
       at zero same =
           let j : place + k ≡ place + 4 * (k / 4) = omega (arith, same) in
-          let whole : 64 - 4 * 16 + 4 * (k / 4) ≡ k = omega (arith, same) in
+          let whole : 4 * (k / 4) ≡ k = omega (arith, same) in
           let alone : bit_at joined k ≡ bit_at first k = omega (
             arith,
             any,
@@ -275,6 +283,11 @@ module _ (first second third fourth : ℕ) (marks : List Bool) (place : ℕ)
           ) in
           said fourth marks place 3 (omega arith) hold.fourth k low same ∙ ap (λ bit. Some (bit == 1)) (sym alone)
       at (suc (suc (suc (suc i)))) same = absurd (omega (arith, same))
+
+-- ---- a word whose first bits are shifted out
+
+pub shifted_bit : (word s k : ℕ) → bit_at (word / 2 ^ s) k ≡ bit_at word (s + k)
+shifted_bit word s k = ap (λ m. m % 2) (shr-shr word s k)
 
 -- ---- a word that is written as eight bytes
 

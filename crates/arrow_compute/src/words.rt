@@ -68,8 +68,8 @@ impl<S: Marks> MarkWords for Packed<S> {
 }
 
 /// Returns the 64 marks from `place` on as the bits of a word. Each of four words collects every
-/// fourth mark at its top, and each is shifted down by four bits a turn. So the compiler makes a vector
-/// of the four words, with one comparison and one shift for four marks, and the values are read in order.
+/// fourth mark, beginning with the last ones, and each is shifted by four bits a turn. So the
+/// compiler makes a vector of the four words, with one comparison and one shift for four marks.
 #[inline(always)]
 fn pack_whole<S: Marks>(source: &S, place: usize) -> u64
     requires fits { place + 64 < 2 ^ 64 }
@@ -78,11 +78,11 @@ fn pack_whole<S: Marks>(source: &S, place: usize) -> u64
 {
     let (mut first, mut second, mut third, mut fourth) = (0, 0, 0, 0);
     for turn in 0..16 {
-        let from = place + 4 * turn;
-        first = first >> 4 | u64::from(source.mark(from)) << 60;
-        second = second >> 4 | u64::from(source.mark(from + 1)) << 60;
-        third = third >> 4 | u64::from(source.mark(from + 2)) << 60;
-        fourth = fourth >> 4 | u64::from(source.mark(from + 3)) << 60;
+        let from = place + (60 - 4 * turn);
+        first = first << 4 | u64::from(source.mark(from));
+        second = second << 4 | u64::from(source.mark(from + 1));
+        third = third << 4 | u64::from(source.mark(from + 2));
+        fourth = fourth << 4 | u64::from(source.mark(from + 3));
     }
     first | second << 1 | third << 2 | fourth << 3
 }
