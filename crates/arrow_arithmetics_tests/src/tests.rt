@@ -7,10 +7,10 @@ mod scalars;
 
 use arrow_memory::buffer::Buffer;
 use arrow_primitive::PrimitiveArray;
-use arrow_testing::{assert_text, frozen_mask};
 use arrow_types::data_type::DataType;
 use arrow_types::error::Error;
 use std::process::Abort;
+use tests_support::{assert_text, frozen_mask};
 
 /// Creates an array of small integers.
 fn bytes(rt: &(impl Abort + AllocGlobal), values: &[i8], mask: &str) -> PrimitiveArray<i8> {

@@ -9,8 +9,8 @@ mod shared;
 mod words;
 
 use arrow_bitmap::{Bitmap, BitmapIter, MutableBitmap};
-use arrow_testing::assert_text;
 use std::process::Abort;
+use tests_support::assert_text;
 
 /// Pushes the marks of a text one by one.
 fn pushed(rt: &(impl Abort + AllocGlobal), text: &str) -> MutableBitmap {

@@ -1,8 +1,8 @@
 //! Equality of builders.
 use arrow_boolean::MutableBooleanArray;
-use arrow_testing::{assert_text, growing_mask};
 use arrow_types::data_type::DataType;
 use std::process::Abort;
+use tests_support::{assert_text, growing_mask};
 
 /// Stored values and marks; `none` means that no mask is held.
 type Stored = (&'static str, &'static str);

@@ -1,7 +1,7 @@
 //! Iterators over a range of slots.
 use arrow_boolean::BooleanArray;
-use arrow_testing::assert_text;
 use std::process::Abort;
+use tests_support::assert_text;
 
 const SLOTS: &[Option<bool>] = &[
     Some(true),

@@ -1,6 +1,6 @@
 //! Reads of arrays and builders by index.
 use arrow_boolean::{BooleanArray, MutableBooleanArray};
-use arrow_testing::assert_text;
+use tests_support::assert_text;
 
 /// A name, slots, and the number of nulls.
 const SLOTS: &[(&str, &[Option<bool>], usize)] = &[

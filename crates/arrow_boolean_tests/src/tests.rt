@@ -8,9 +8,9 @@ ghost use Rattle.std.specs.Prelude.{◌≡◌, length};
 
 use arrow_boolean::{BooleanArray, MutableBooleanArray};
 use arrow_memory::bitmap::{Bitmap, MutableBitmap};
-use arrow_testing::{assert_text, frozen_mask};
 use arrow_types::data_type::DataType;
 use std::process::Abort;
+use tests_support::{assert_text, frozen_mask};
 
 /// Compares the slots, stored values and mask of an array with these texts.
 fn check(rt: &impl Abort, case: &str, array: &BooleanArray, slots: &str, values: &str, mask: &str) {

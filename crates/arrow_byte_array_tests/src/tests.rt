@@ -33,14 +33,14 @@ mod text;
 use arrow_byte_array::{ByteArray, MutableByteArray, MutableByteValuesArray};
 use arrow_bytes::{Binary, ByteKind, Utf8};
 use arrow_memory::buffer::Buffer;
-use arrow_testing::{
-    Mismatch, Text, assert_text, frozen_mask, frozen_offsets, growing_mask, offsets_of,
-};
 use arrow_types::data_type::DataType;
 use arrow_types::error::Error;
 use arrow_types::offset::Offset;
 use std::fmt::Debug;
 use std::process::Abort;
+use tests_support::{
+    Mismatch, Text, assert_text, frozen_mask, frozen_offsets, growing_mask, offsets_of,
+};
 
 /// Offsets, bytes, and marks as a text of `1` and `0`, or `none` without a mask.
 type Parts = (&'static [usize], &'static [u8], &'static str);

@@ -1,8 +1,8 @@
 //! Offsets over values of some length.
 use arrow_check::bounds::{check_bounds, check_last};
-use arrow_testing::{assert_text, offsets_of, tells};
 use arrow_types::offset::Offset;
 use std::process::Abort;
+use tests_support::{assert_text, offsets_of, tells};
 
 const PAST: &str = "offsets must not exceed the values length";
 

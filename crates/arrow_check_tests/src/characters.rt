@@ -1,8 +1,8 @@
 //! Every boundary of Unicode's table of characters (Unicode Standard, Table 3-7), at every index of a window.
 use arrow_check::cost::{TextBytes, TextCost};
 use arrow_check::text::check_utf8;
-use arrow_testing::{assert_text, offsets_of};
 use std::process::Abort;
+use tests_support::{assert_text, offsets_of};
 
 /// The rows of the table: the least and the greatest of each byte.
 const ROWS: [&[(u8, u8)]; 9] = [

@@ -1,6 +1,6 @@
 //! The acts by which bytes are read, and their counts.
 use arrow_check::cost::{TextBytes, TextCost};
-use arrow_testing::assert_text;
+use tests_support::assert_text;
 
 /// Returns the counts of a cost.
 fn counts(cost: TextCost) -> [u64; 3] {

@@ -1,9 +1,9 @@
 //! Keys that point at items.
 use arrow_check::indexes::{check_indexes, check_slots};
 use arrow_memory::bitmap::Bitmap;
-use arrow_testing::{assert_text, tells};
 use arrow_types::index_key::IndexKey;
 use std::process::Abort;
+use tests_support::{assert_text, tells};
 
 const NO_INDEX: &str = "the dictionary key must fit in a usize";
 

@@ -1,9 +1,9 @@
 //! Places at which offsets fall and texts are none.
 use arrow_check::places::{first_falling_offset, first_unfit_text};
 use arrow_memory::buffer::Buffer;
-use arrow_testing::{assert_text, frozen_offsets};
 use arrow_types::offset::Offset;
 use std::process::Abort;
+use tests_support::{assert_text, frozen_offsets};
 
 /// A name, offsets, and the first that falls.
 const FALLS: &[(&str, &[i64], Option<usize>)] = &[

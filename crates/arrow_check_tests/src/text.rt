@@ -3,8 +3,8 @@ use crate::judges::{AnyBytes, AsciiBytes};
 use arrow_check::cost::{TextBytes, TextCost};
 use arrow_check::judge::Judge;
 use arrow_check::text::{check_text, check_utf8};
-use arrow_testing::{assert_text, frozen_offsets, offsets_of, tells};
 use std::process::Abort;
+use tests_support::{assert_text, frozen_offsets, offsets_of, tells};
 
 const PAST: &str = "offsets must not exceed the values length";
 

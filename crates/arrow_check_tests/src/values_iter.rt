@@ -4,7 +4,7 @@ use arrow_check::values_iter::ArrayValuesIter;
 use arrow_memory::bitmap::MutableBitmap;
 use arrow_memory::list_iter::ListIter;
 use arrow_memory::zip_validity::ZipValidity;
-use arrow_testing::assert_text;
+use tests_support::assert_text;
 
 /// An array of numbers.
 #[derive(Drop)]

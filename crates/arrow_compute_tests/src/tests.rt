@@ -6,10 +6,10 @@ mod logic;
 mod long;
 
 use arrow_boolean::BooleanArray;
-use arrow_testing::{assert_text, frozen_mask};
 use arrow_types::data_type::DataType;
 use arrow_types::error::Error;
 use std::process::Abort;
+use tests_support::{assert_text, frozen_mask};
 
 /// Compares the answer of a kernel with the slots and the mask of an array of type `Boolean`.
 fn check(

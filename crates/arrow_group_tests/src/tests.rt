@@ -6,10 +6,10 @@ use arrow_group::{
     hash_primitive, hash_utf8,
 };
 use arrow_primitive::PrimitiveArray;
-use arrow_testing::assert_text::{self, Mismatch};
 use arrow_types::error::Error;
 use arrow_utf8::Utf8Array;
 use std::process::Abort;
+use tests_support::assert_text::{self, Mismatch};
 
 /// A name, slots, the first slot of each group, and the number of each slot's group.
 #[rattlefmt::skip]

@@ -9,10 +9,10 @@ mod shared;
 mod widths;
 
 use arrow_boolean::BooleanArray;
-use arrow_testing::{assert_text, frozen_mask};
 use arrow_types::data_type::DataType;
 use arrow_types::error::Error;
 use std::process::Abort;
+use tests_support::{assert_text, frozen_mask};
 
 const TOO_GREAT: Error = Error::OutOfSpec(
     "a dictionary key must be below the length of the dictionary values",

@@ -1,7 +1,7 @@
 //! Shared buffers of values.
 use arrow_memory::buffer::Buffer;
-use arrow_testing::assert_text;
 use std::process::Abort;
+use tests_support::assert_text;
 
 /// Creates a buffer of three values.
 fn three(rt: &(impl Abort + AllocGlobal)) -> Buffer<i64> {

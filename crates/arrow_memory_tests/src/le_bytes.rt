@@ -1,12 +1,12 @@
 //! Buffers of native values from bytes. Expected values were worked out by hand: the first byte of a value is its
 //! lowest.
 use arrow_memory::buffer::Buffer;
-use arrow_testing::assert_text;
 use arrow_types::error::Error;
 use arrow_types::le_bytes::FromLeBytes;
 use arrow_types::native_type::{days_ms, i256, months_days_ns};
 use std::fmt::Debug;
 use std::process::Abort;
+use tests_support::assert_text;
 
 /// The bytes of sixteen values of eight bits, and of fewer wider ones.
 const BYTES: [u8; 16] = [1, 2, 3, 4, 5, 6, 7, 128, 255, 0, 0, 0, 254, 255, 255, 255];

@@ -1,8 +1,8 @@
 //! Equality and text of buffers and of offsets, and values of a buffer by index.
 use arrow_memory::buffer::Buffer;
-use arrow_testing::assert_text::Text;
-use arrow_testing::{assert_text, frozen_offsets, offsets_of};
 use std::process::Abort;
+use tests_support::assert_text::Text;
+use tests_support::{assert_text, frozen_offsets, offsets_of};
 
 /// Creates a buffer of some values.
 fn buffer_of(rt: &(impl Abort + AllocGlobal), values: &[i64]) -> Buffer<i64> {

@@ -2,10 +2,10 @@
 use arrow_memory::bitmap::Bitmap;
 use arrow_memory::buffer::Buffer;
 use arrow_memory::thaw::{into_mut_bits, into_mut_bytes, into_mut_values};
-use arrow_testing::{Text, assert_text, frozen_offsets};
 use arrow_types::offset::Offset;
 use either::{Left, Right};
 use std::process::Abort;
+use tests_support::{Text, assert_text, frozen_offsets};
 
 /// Creates three bits, of which the second is clear.
 fn bits(rt: &(impl Abort + AllocGlobal)) -> Bitmap {

@@ -1,7 +1,7 @@
 //! Values under marks.
 use arrow_memory::bitmap::MutableBitmap;
 use arrow_memory::zip_validity::ZipValidity;
-use arrow_testing::assert_text;
+use tests_support::assert_text;
 
 #[test]
 fn clear_marks_are_null(rt: HostRuntime) {

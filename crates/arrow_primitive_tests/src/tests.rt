@@ -9,12 +9,12 @@ mod ranges;
 
 use arrow_memory::buffer::Buffer;
 use arrow_primitive::{MutablePrimitiveArray, PrimitiveArray};
-use arrow_testing::assert_text;
 use arrow_types::data_type::DataType;
 use arrow_types::error::Error;
 use arrow_types::native_type::{NativeType, i256};
 use std::fmt::Debug;
 use std::process::Abort;
+use tests_support::assert_text;
 
 /// Compares all reads of an array with the default type, stored values and marks, and drops it.
 fn check<T: NativeType + Debug>(

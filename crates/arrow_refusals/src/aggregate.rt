@@ -12,9 +12,9 @@ use arrow_aggregate::aggregate::{
 use arrow_binary::BinaryArray;
 use arrow_boolean::BooleanArray;
 use arrow_primitive::PrimitiveArray;
-use arrow_testing::Text;
 use arrow_utf8::Utf8Array;
 use std::test::Fail;
+use tests_support::Text;
 
 /// The numbers of the slots' groups, of which there are two.
 const GROUPS: &[usize] = &[1, 0, 1];

@@ -4,12 +4,12 @@ use crate::refusal::{changes, check_refusal, end, is_refused, pushes, results};
 use crate::slot_text;
 use arrow_boolean::{BooleanArray, MutableBooleanArray};
 use arrow_memory::bitmap::Bitmap;
-use arrow_testing::{Text, assert_text};
 use arrow_types::data_type::DataType;
 use arrow_types::error::Error;
 use std::alloc::Global;
 use std::cell::Cell;
 use std::test::Fail;
+use tests_support::{Text, assert_text};
 
 /// Writes what an array stores.
 pub(crate) fn array_text(array: &BooleanArray) -> Text {

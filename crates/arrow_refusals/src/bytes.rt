@@ -3,13 +3,13 @@ use crate::refusal::{changes, check_refusal, end, pushes, results};
 use crate::slot_text;
 use arrow_byte_array::{ByteArray, MutableByteArray, MutableByteValuesArray};
 use arrow_bytes::{Binary, ByteItem, ByteKind, ItemError, Utf8};
-use arrow_testing::{Text, assert_text};
 use arrow_types::error::Error;
 use arrow_types::offset::Offset;
 use std::alloc::Global;
 use std::fmt::Debug;
 use std::process::Abort;
 use std::test::Fail;
+use tests_support::{Text, assert_text};
 
 /// Writes what an array stores.
 pub(crate) fn array_text<K: ByteKind, O: Offset>(array: &ByteArray<K, O>) -> Text {

@@ -10,10 +10,10 @@ use arrow_compute::comparison::{eq_scalar, lt};
 use arrow_primitive::PrimitiveArray;
 use arrow_sort::SortOptions;
 use arrow_sort::sort::{sort, sort_to_indices};
-use arrow_testing::Text;
 use arrow_types::error::Error;
 use std::alloc::Global;
 use std::test::Fail;
+use tests_support::Text;
 
 /// Creates three numbers, and three others.
 fn numbers(alloc: Global) -> Result<(PrimitiveArray<i64>, PrimitiveArray<i64>), Error> {

@@ -5,12 +5,12 @@ use crate::refusal::{changes, check_refusal, end, is_refused, results};
 use crate::slot_text::marks;
 use arrow_memory::bitmap::{Bitmap, BitmapIter, MutableBitmap, and, not, or};
 use arrow_memory::buffer::Buffer;
-use arrow_testing::{Text, assert_text};
 use arrow_types::error::Error;
 use std::alloc::Global;
 use std::cell::Cell;
 use std::process::Abort;
 use std::test::Fail;
+use tests_support::{Text, assert_text};
 
 /// Writes the marks of a growing bitmap, and how many are clear.
 fn growing_text(bitmap: &MutableBitmap) -> Text {

@@ -2,11 +2,11 @@
 use crate::refusal::{changes, check_refusal, end, results};
 use arrow_memory::buffer::Buffer;
 use arrow_memory::offset::{Offsets, OffsetsBuffer};
-use arrow_testing::{Text, assert_text};
 use arrow_types::error::Error;
 use arrow_types::offset::Offset;
 use std::alloc::Global;
 use std::test::Fail;
+use tests_support::{Text, assert_text};
 
 /// Creates offsets of 32 bits.
 fn offsets_of(alloc: Global, list: &[i32]) -> Result<Offsets<i32>, Error> {

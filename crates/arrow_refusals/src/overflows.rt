@@ -3,12 +3,12 @@ use crate::refusal::end;
 use arrow_byte_array::{ByteArray, MutableByteArray};
 use arrow_bytes::{Binary, ByteItem, ByteKind, ItemError, Utf8};
 use arrow_memory::offset::Offsets;
-use arrow_testing::{Text, Tiny, assert_text};
 use arrow_types::error::Error;
 use arrow_types::offset::Offset;
 use std::alloc::Global;
 use std::process::Abort;
 use std::test::Fail;
+use tests_support::{Text, Tiny, assert_text};
 
 /// Checks that an answer is an overflow.
 fn check_overflow(rt: &impl Abort, case: &str, answer: Result<(), Error>) {

@@ -2,11 +2,11 @@
 use crate::refusal::{changes, check_refusal, end, pushes, results};
 use crate::slot_text;
 use arrow_primitive::{MutablePrimitiveArray, PrimitiveArray};
-use arrow_testing::{Text, assert_text};
 use arrow_types::data_type::DataType;
 use arrow_types::error::Error;
 use std::alloc::Global;
 use std::test::Fail;
+use tests_support::{Text, assert_text};
 
 /// Writes what an array stores.
 pub(crate) fn array_text(array: &PrimitiveArray<i64>) -> Text {

@@ -1,11 +1,11 @@
 //! The checks of calls to which memory may be refused. A call has to do what it should, or, if it is refused memory, to
 //! leave what was there, and to do what it should when it is called once more. A test that met a refusal ends with the
 //! word `refused`; a wrong answer aborts it, with the case, what was expected and what came.
-use arrow_testing::{Text, assert_text};
 use arrow_types::error::Error;
 use std::fmt::Debug;
 use std::process::Abort;
 use std::test::Fail;
+use tests_support::{Text, assert_text};
 
 /// Compares the text of what each call returns, as a function writes it, with that of its row. All calls are made
 /// twice, and one of them may be refused memory. Returns whether one was. A row is `function: call => text;`.
@@ -49,7 +49,7 @@ macro_rules! changes {
                         _ => Err(arrow_types::error::Error::Overflow),
                     },
                 };
-                (arrow_testing::Text::of(format_args!("{answer:?}")), $show($value))
+                (tests_support::Text::of(format_args!("{answer:?}")), $show($value))
             },
             $before,
             &[$($row)*],

@@ -6,12 +6,12 @@
 use crate::overflows::{FORTY_ONE, SIXTY};
 use crate::refusal::{end, end_with};
 use arrow_table::{Command, Item, Kind, Reply, Table, run};
-use arrow_testing::{Text, Tiny};
 use arrow_types::error::Error;
 use arrow_types::offset::Offset;
 use std::alloc::Global;
 use std::process::Abort;
 use std::test::Fail;
+use tests_support::{Text, Tiny};
 
 /// Writes a slot.
 fn slot_text(slot: &Option<Item<i64>>) -> Text {

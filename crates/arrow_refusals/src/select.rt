@@ -9,11 +9,11 @@ use arrow_select::if_then_else::{if_then_else_primitive, if_then_else_utf8};
 use arrow_select::length::length;
 use arrow_select::nullif::{nullif_primitive, nullif_utf8};
 use arrow_select::take::{take_primitive, take_utf8};
-use arrow_testing::Text;
 use arrow_types::error::Error;
 use arrow_utf8::Utf8Array;
 use std::alloc::Global;
 use std::test::Fail;
+use tests_support::Text;
 
 /// Keys, the second of which is null.
 const KEYS: &[Option<u32>] = &[Some(2), None, Some(0)];

@@ -3,9 +3,9 @@ use crate::refusal::end_with;
 use arrow_session::counted::Counted;
 use arrow_session::outcome::Outcome;
 use arrow_session::session::session;
-use arrow_testing::Text;
 use std::alloc::Global;
 use std::test::Fail;
+use tests_support::Text;
 
 /// Runs a session over lines, and writes how it ended, whether input was left, and its output, behind which stand dots.
 fn run_session(alloc: Global, lines: &str) -> Text {

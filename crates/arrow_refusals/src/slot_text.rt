@@ -3,9 +3,9 @@
 ghost use Rattle.std.specs.Iterator.{IsFinite};
 
 use arrow_memory::bitmap::{Bitmap, BitmapIter, MutableBitmap};
-use arrow_testing::Text;
 use arrow_types::offset::Offset;
 use std::fmt::Display;
+use tests_support::Text;
 
 /// Writes marks as `1` for a set and `0` for a clear one.
 pub(crate) fn marks(bits: BitmapIter<'_>) -> Text {

@@ -1,11 +1,11 @@
 //! Data types that hold memory.
 use crate::refusal::{end, results};
-use arrow_testing::Text;
 use arrow_types::data_type::DataType;
 use arrow_types::error::Error;
 use arrow_types::units::TimeUnit;
 use std::alloc::Global;
 use std::test::Fail;
+use tests_support::Text;
 
 /// Creates an extension of a type.
 fn extension(alloc: Global, inner: DataType, metadata: Option<String>) -> Result<DataType, Error> {

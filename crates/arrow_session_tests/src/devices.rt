@@ -2,10 +2,10 @@
 use crate::sessions::{DONE, FIRST_REPLIES, FIRST_RUN, check_end};
 use arrow_session::counted::Counted;
 use arrow_session::session::session;
-use arrow_testing::{Text, assert_text};
 use std::io;
 use std::io::{ErrorKind, Read, Write};
 use std::process::Abort;
+use tests_support::{Text, assert_text};
 
 /// Which read or write fails, counted from one, and in which way.
 #[derive(Clone, Copy)]

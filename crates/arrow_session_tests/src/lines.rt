@@ -1,6 +1,6 @@
 //! Which lines are no commands.
 use crate::sessions::{DONE, check_session};
-use arrow_testing::Text;
+use tests_support::Text;
 
 /// Lines that are no commands, with a stroke between each two.
 #[rattlefmt::skip]

@@ -2,8 +2,8 @@
 use arrow_session::counted::Counted;
 use arrow_session::outcome::Outcome;
 use arrow_session::session::session;
-use arrow_testing::{Text, assert_text};
 use std::process::Abort;
+use tests_support::{Text, assert_text};
 
 /// A builder that is filled, popped, frozen, sliced and looked at.
 pub(crate) const FIRST_RUN: &str = concat!(

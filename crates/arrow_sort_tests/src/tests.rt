@@ -4,9 +4,9 @@ use arrow_primitive::PrimitiveArray;
 use arrow_sort::SortOptions;
 use arrow_sort::lexsort::{SortColumn, SortValues, lexsort_to_indices};
 use arrow_sort::sort::{sort, sort_to_indices};
-use arrow_testing::assert_text;
 use arrow_utf8::Utf8Array;
 use std::process::Abort;
+use tests_support::assert_text;
 
 const ASCENDING: SortOptions = SortOptions {
     descending: false,

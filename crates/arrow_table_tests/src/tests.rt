@@ -10,11 +10,11 @@ mod tiny;
 mod widths;
 
 use arrow_table::{Command, Item, Reply, Table, run};
-use arrow_testing::{Text, assert_text};
 use arrow_types::native_type::NativeType;
 use arrow_types::offset::Offset;
 use std::fmt::Debug;
 use std::process::Abort;
+use tests_support::{Text, assert_text};
 
 /// Runs each command on a table, or on a new one of some entries, and compares its reply with a text. A failure names
 /// the command.

@@ -1,12 +1,12 @@
 //! Layouts, texts and clones of data types. The texts are those of Rust's `{:?}` for Arrow's names.
 use crate::made::{extension, timestamp, two_extensions};
-use arrow_testing::{Text, assert_text};
 use arrow_types::data_type::DataType;
 use arrow_types::physical_type::PhysicalType;
 use arrow_types::primitive_type::PrimitiveType;
 use arrow_types::units::IntervalUnit::{DayTime, MonthDayNano, YearMonth};
 use arrow_types::units::TimeUnit::{Microsecond, Millisecond, Nanosecond, Second};
 use std::process::Abort;
+use tests_support::{Text, assert_text};
 
 /// Compares what a type and its physical type print with these, and the type with its clone.
 fn check(rt: &(impl Abort + AllocGlobal), made: &DataType, text: &str, physical: &str) {

@@ -1,10 +1,10 @@
 //! Equality of data types, part by part.
 use crate::made::{extension, timestamp};
-use arrow_testing::assert_text;
 use arrow_types::data_type::DataType;
 use arrow_types::units::IntervalUnit::{DayTime, YearMonth};
 use arrow_types::units::TimeUnit::{self, Millisecond, Nanosecond, Second};
 use std::process::Abort;
+use tests_support::assert_text;
 
 #[test]
 fn equality_sees_units_and_digits(rt: HostRuntime) {

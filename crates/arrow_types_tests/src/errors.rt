@@ -1,7 +1,7 @@
 //! What errors print, and what refused memory becomes.
-use arrow_testing::assert_text;
 use arrow_types::error::Error;
 use std::alloc::AllocFailed;
+use tests_support::assert_text;
 
 /// Errors, and what they print.
 #[rattlefmt::skip]

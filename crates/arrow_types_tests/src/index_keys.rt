@@ -2,9 +2,9 @@
 ghost use Rattle.std.specs.Prelude.{◌≡◌};
 ghost use Rattle.arrow_types.specs.IndexKey.{index_of};
 
-use arrow_testing::assert_text;
 use arrow_types::index_key::IndexKey;
 use std::process::Abort;
+use tests_support::assert_text;
 
 /// Returns the index of a key of any type, by its bound.
 fn index_by_bound<K: IndexKey>(key: &K) -> Option<usize>

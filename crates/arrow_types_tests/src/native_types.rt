@@ -1,12 +1,12 @@
 //! Names, defaults and equality of the native types.
 ghost use Rattle.std.specs.Prelude.{◌≡◌};
 
-use arrow_testing::assert_text;
 use arrow_types::le_bytes::FromLeBytes;
 use arrow_types::native_type::{NativeType, days_ms, i256, months_days_ns};
 use arrow_types::primitive_type::PrimitiveType;
 use std::fmt::Debug;
 use std::process::Abort;
+use tests_support::assert_text;
 
 /// Returns how a type names itself, by its bound.
 fn name_of<T: NativeType>() -> PrimitiveType

@@ -1,9 +1,9 @@
 //! Offsets of both widths, and of a narrow type of the tests.
 ghost use Rattle.std.specs.Prelude.{◌≤◌};
 
-use arrow_testing::{Tiny, assert_text};
 use arrow_types::offset::Offset;
 use std::process::Abort;
+use tests_support::{Tiny, assert_text};
 
 /// Returns the number of the offset that is made of a number, by the bound.
 fn through<O: Offset>(value: usize) -> Option<usize> {

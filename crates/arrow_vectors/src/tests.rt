@@ -39,15 +39,15 @@ use arrow_memory::bitmap::{Bitmap, MutableBitmap};
 use arrow_memory::buffer::Buffer;
 use arrow_memory::offset::Offsets;
 use arrow_primitive::{MutablePrimitiveArray, PrimitiveArray};
-use arrow_testing::{
-    Text, Tiny, assert_text, frozen_mask, frozen_offsets, growing_mask, offsets_of, tells,
-};
 use arrow_types::data_type::DataType;
 use arrow_types::error::Error;
 use arrow_types::native_type::NativeType;
 use arrow_types::offset::Offset;
 use std::fmt::Debug;
 use std::process::Abort;
+use tests_support::{
+    Text, Tiny, assert_text, frozen_mask, frozen_offsets, growing_mask, offsets_of, tells,
+};
 
 /// Two characters of two bytes, and one of four.
 const ACCENTS: &[u8] = b"\xC3\xA9\xC3\xA8";

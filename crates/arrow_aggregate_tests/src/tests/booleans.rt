@@ -1,8 +1,8 @@
 //! Least and greatest values of booleans.
 use arrow_aggregate::aggregate::{count_valid, max_boolean, min_boolean};
 use arrow_boolean::BooleanArray;
-use arrow_testing::{assert_text, frozen_mask};
 use arrow_types::data_type::DataType;
+use tests_support::{assert_text, frozen_mask};
 
 /// A name, stored values, marks, the least and the greatest value, and how many slots are valid.
 #[rattlefmt::skip]

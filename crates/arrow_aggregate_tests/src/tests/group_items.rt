@@ -6,10 +6,10 @@ use arrow_aggregate::aggregate::{
 };
 use arrow_binary::BinaryArray;
 use arrow_boolean::BooleanArray;
-use arrow_testing::{assert_text, frozen_mask};
 use arrow_types::data_type::DataType;
 use arrow_utf8::Utf8Array;
 use std::process::Abort;
+use tests_support::{assert_text, frozen_mask};
 
 /// A name, stored values, marks, the number of each slot's group, the number of groups, and the slots of
 /// the counts, of the least and of the greatest values.

@@ -6,10 +6,10 @@ use arrow_aggregate::aggregate::{
 };
 use arrow_memory::buffer::Buffer;
 use arrow_primitive::PrimitiveArray;
-use arrow_testing::{assert_text, frozen_mask};
 use arrow_types::data_type::DataType;
 use arrow_types::error::Error;
 use std::process::Abort;
+use tests_support::{assert_text, frozen_mask};
 
 /// A name, values, marks, the number of each slot's group, the number of groups, and the slots of the
 /// counts, of the least and of the greatest values.

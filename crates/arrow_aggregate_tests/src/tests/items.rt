@@ -1,8 +1,8 @@
 //! Least and greatest texts and bytes.
 use arrow_aggregate::aggregate::{count_valid, max_binary, max_string, min_binary, min_string};
 use arrow_binary::BinaryArray;
-use arrow_testing::assert_text;
 use arrow_utf8::Utf8Array;
+use tests_support::assert_text;
 
 /// A name, slots, the least and the greatest text, and how many slots are valid.
 #[rattlefmt::skip]

@@ -5,10 +5,10 @@ use arrow_aggregate::aggregate::{
 use arrow_memory::bitmap::MutableBitmap;
 use arrow_memory::buffer::Buffer;
 use arrow_primitive::PrimitiveArray;
-use arrow_testing::{assert_text, frozen_mask};
 use arrow_types::data_type::DataType;
 use arrow_types::native_type::NativeType;
 use std::process::Abort;
+use tests_support::{assert_text, frozen_mask};
 
 /// Creates an array of numbers.
 fn array<T: NativeType>(

@@ -6,9 +6,9 @@ use arrow_arithmetics::cast::{
 };
 use arrow_binary::BinaryArray;
 use arrow_boolean::BooleanArray;
-use arrow_testing::frozen_offsets;
 use arrow_types::native_type::NativeType;
 use std::fmt::Debug;
+use tests_support::frozen_offsets;
 
 /// The last slot is null.
 fn numbers(rt: &(impl Abort + AllocGlobal)) -> PrimitiveArray<i32> {

@@ -1,8 +1,8 @@
 //! Equality and text of bitmaps, also of slices that begin within a byte.
 use crate::tests::{cut, frozen, pushed};
-use arrow_testing::assert_text;
-use arrow_testing::assert_text::Text;
 use std::process::Abort;
+use tests_support::assert_text;
+use tests_support::assert_text::Text;
 
 /// Appends a text 24 times.
 fn repeated(rt: &(impl Abort + AllocGlobal), text: &str) -> String {

@@ -1,7 +1,7 @@
 //! Bitmaps made of what an iterator gives.
 use crate::tests::{check, pushed};
 use arrow_bitmap::{Bitmap, MutableBitmap};
-use arrow_testing::assert_text;
+use tests_support::assert_text;
 
 /// Marks that end before a byte does, with it and behind it.
 const MARKS: &[&str] = &[

@@ -1,8 +1,8 @@
 //! Growing bitmaps. Bytes were packed by hand: mark i is bit i mod 8, the least significant first, of byte i / 8.
 use crate::tests::{check, pushed};
 use arrow_bitmap::{Bitmap, MutableBitmap};
-use arrow_testing::assert_text;
 use std::process::Abort;
+use tests_support::assert_text;
 
 /// Compares the length and the bytes of marks, and drops them.
 fn check_bytes(rt: &impl Abort, case: &str, marks: MutableBitmap, length: usize, bytes: &[u8]) {

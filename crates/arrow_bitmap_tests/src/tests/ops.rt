@@ -1,8 +1,8 @@
 //! Operations on the marks of bitmaps. Expected answers were worked out by hand.
 use crate::tests::{check, cut, pushed};
 use arrow_bitmap::{Bitmap, MutableBitmap, and, not, or};
-use arrow_testing::assert_text;
 use std::process::Abort;
+use tests_support::assert_text;
 
 /// Creates the bitmap of a text as a slice, with set marks before and after it.
 fn sliced(rt: &(impl Abort + AllocGlobal), offset: usize, text: &str) -> Bitmap {

@@ -1,7 +1,7 @@
 //! Marks that are appended, counted and inverted from any bit on, compared with what is done mark by mark.
 use arrow_bitmap::{Bitmap, BitmapIter, MutableBitmap, not};
-use arrow_testing::assert_text;
 use std::process::Abort;
+use tests_support::assert_text;
 
 /// Creates a bitmap of 1,100 marks that repeat in no short period.
 fn source(rt: &(impl Abort + AllocGlobal)) -> Bitmap {

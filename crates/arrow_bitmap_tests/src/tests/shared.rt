@@ -3,7 +3,7 @@ ghost use Rattle.std.specs.Prelude.{◌≡◌, length};
 
 use crate::tests::{check, cut, frozen};
 use arrow_bitmap::{Bitmap, MutableBitmap};
-use arrow_testing::assert_text;
+use tests_support::assert_text;
 
 #[test]
 fn marks_that_were_cut_off_do_not_come_back(rt: HostRuntime) {

@@ -2,7 +2,7 @@
 //! 64 bits above the lowest p.
 use crate::tests::{check, cut};
 use arrow_bitmap::{Bitmap, MutableBitmap};
-use arrow_testing::assert_text;
+use tests_support::assert_text;
 
 /// A name, the slice of the 72 marks, and the index and the bits of a word of it.
 const WORDS: &[(&str, usize, usize, usize, u64)] = &[

@@ -1,6 +1,6 @@
 //! Equality and text of arrays, and the text of builders.
 use super::*;
-use arrow_testing::assert_text::Text;
+use tests_support::assert_text::Text;
 
 /// Stored values and marks as texts; `none` for no mask.
 type Stored = (&'static str, &'static str);

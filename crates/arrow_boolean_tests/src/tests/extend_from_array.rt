@@ -1,8 +1,8 @@
 //! Ranges of arrays that builders take: stored values, those of null slots included, and marks.
 use arrow_boolean::BooleanArray;
-use arrow_testing::{assert_text, frozen_mask};
 use arrow_types::data_type::DataType;
 use std::process::Abort;
+use tests_support::{assert_text, frozen_mask};
 
 /// Stored values and marks; `none` means that no mask is held.
 type Stored = (&'static str, &'static str);

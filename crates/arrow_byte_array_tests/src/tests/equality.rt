@@ -2,10 +2,10 @@
 use arrow_byte_array::ByteArray;
 use arrow_bytes::{Binary, ByteKind, Utf8};
 use arrow_memory::buffer::Buffer;
-use arrow_testing::{assert_text, frozen_mask, frozen_offsets};
 use arrow_types::data_type::DataType;
 use arrow_types::offset::Offset;
 use std::process::Abort;
+use tests_support::{assert_text, frozen_mask, frozen_offsets};
 
 /// Offsets, bytes, and marks, or no marks if the text is `none`.
 type Parts = (&'static [usize], &'static [u8], &'static str);

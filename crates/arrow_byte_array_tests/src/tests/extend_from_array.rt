@@ -1,7 +1,7 @@
 //! Ranges of arrays that builders take: bytes, those of null slots included, and marks; and the overflow past the
 //! greatest offset, which is 100 for `Tiny`.
 use super::*;
-use arrow_testing::{Tiny, tells};
+use tests_support::{Tiny, tells};
 
 /// A name, a builder, an array, the offset and length of a slice of it and of a range of that, and the builder then.
 type Case = (&'static str, Parts, Parts, [usize; 2], [usize; 2], Parts);

@@ -2,11 +2,11 @@
 use arrow_byte_array::{ByteArray, MutableByteArray, MutableByteValuesArray};
 use arrow_bytes::{Binary, ByteKind, Utf8};
 use arrow_memory::offset::Offsets;
-use arrow_testing::assert_text::Text;
-use arrow_testing::{assert_text, growing_mask};
 use arrow_types::offset::Offset;
 use std::fmt::{Debug, Display};
 use std::process::Abort;
+use tests_support::assert_text::Text;
+use tests_support::{assert_text, growing_mask};
 
 /// Compares what both forms of a value write, and drops it.
 fn check<A: Debug + Display + Drop>(rt: &impl Abort, value: A, expected: &str) {

@@ -1,8 +1,8 @@
 //! Text: no item is other than UTF-8, and what the test of it costs.
 use super::*;
 use arrow_check::cost::TextCost;
-use arrow_testing::tells;
 use arrow_utf8::{MutableUtf8Array, MutableUtf8ValuesArray, Utf8Array};
+use tests_support::tells;
 
 const NO_TEXT: &str = "every text between two offsets must be UTF-8";
 

@@ -2,10 +2,10 @@
 use arrow_cast::{primitive_to_binary, primitive_to_utf8};
 use arrow_integers::NativeArithmetics;
 use arrow_primitive::PrimitiveArray;
-use arrow_testing::{Tiny, assert_text};
 use arrow_types::data_type::DataType;
 use arrow_types::error::Error;
 use std::process::Abort;
+use tests_support::{Tiny, assert_text};
 
 /// Compares the texts of an array and its mask, and drops it.
 fn check<T: NativeArithmetics>(

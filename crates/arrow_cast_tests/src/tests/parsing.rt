@@ -2,11 +2,11 @@
 use arrow_binary::BinaryArray;
 use arrow_cast::{binary_to_primitive, utf8_to_primitive};
 use arrow_integers::NativeArithmetics;
-use arrow_testing::assert_text;
 use arrow_types::data_type::DataType;
 use arrow_utf8::Utf8Array;
 use std::fmt::Debug;
 use std::process::Abort;
+use tests_support::assert_text;
 
 /// Compares the numbers of texts and their mask.
 fn check<T: NativeArithmetics + Debug>(

@@ -3,7 +3,7 @@ use super::*;
 use arrow_compute::comparison::{eq, eq_and_validity, eq_scalar, lt, lt_scalar};
 use arrow_compute::{boolean, boolean_kleene};
 use arrow_primitive::PrimitiveArray;
-use arrow_testing::Text;
+use tests_support::Text;
 
 /// Four letters that a text repeats.
 type Letters = [&'static str; 4];

@@ -6,8 +6,8 @@ use super::*;
 use arrow_binary::BinaryArray;
 use arrow_column::Array;
 use arrow_primitive::PrimitiveArray;
-use arrow_testing::Text;
 use arrow_utf8::Utf8Array;
+use tests_support::Text;
 
 /// Returns whether a slot is null or past the last.
 fn is_null_or_past<A: Array>(array: &A, i: usize) -> bool

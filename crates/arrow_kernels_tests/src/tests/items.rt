@@ -6,8 +6,8 @@ use arrow_kernels::{
     concat_binary, concat_utf8, filter_binary, filter_utf8, take_binary, take_utf8,
 };
 use arrow_memory::buffer::Buffer;
-use arrow_testing::{Tiny, frozen_offsets};
 use arrow_types::offset::Offset;
+use tests_support::{Tiny, frozen_offsets};
 
 /// Offsets, bytes and marks.
 pub(super) type Items = (&'static [usize], &'static [u8], &'static str);

@@ -1,8 +1,8 @@
 //! Growing offsets, of each type.
 use arrow_memory::offset::Offsets;
-use arrow_testing::{Tiny, assert_text};
 use arrow_types::offset::Offset;
 use std::process::Abort;
+use tests_support::{Tiny, assert_text};
 
 #[test]
 fn room_is_reserved_and_given_back(rt: HostRuntime) {

@@ -1,9 +1,9 @@
 //! Frozen offsets.
 use arrow_memory::buffer::Buffer;
 use arrow_memory::offset::OffsetsBuffer;
-use arrow_testing::{Text, assert_text, frozen_offsets};
 use arrow_types::error::Error;
 use std::process::Abort;
+use tests_support::{Text, assert_text, frozen_offsets};
 
 /// Slices offsets, and compares those that are left, and the number of slots, with these.
 fn check_slice(

@@ -1,5 +1,5 @@
 //! Offsets of one width as those of the other.
-use arrow_testing::{Text, assert_text, frozen_offsets, tells};
+use tests_support::{Text, assert_text, frozen_offsets, tells};
 
 /// Offsets of either width, and what they print.
 const EITHER: &[(&[usize], &str)] = &[

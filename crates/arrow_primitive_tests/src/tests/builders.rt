@@ -3,7 +3,7 @@ ghost use Rattle.std.specs.Prelude.{◌≡◌, vec_len};
 
 use super::*;
 use arrow_column::LendValues;
-use arrow_testing::growing_mask;
+use tests_support::growing_mask;
 
 /// Calls each, which has to succeed.
 macro_rules! append {

@@ -1,8 +1,8 @@
 //! Equality and text of arrays, and the text of builders.
 use super::*;
-use arrow_testing::assert_text::Text;
-use arrow_testing::frozen_mask;
 use arrow_types::native_type::days_ms;
+use tests_support::assert_text::Text;
+use tests_support::frozen_mask;
 
 /// Stored values and marks, or no marks if the text is `none`.
 type Stored = (&'static [i64], &'static str);

@@ -1,6 +1,6 @@
 //! Ranges of arrays that builders take: stored values, those of null slots included, and marks.
 use super::*;
-use arrow_testing::frozen_mask;
+use tests_support::frozen_mask;
 
 /// Stored values and marks; `none` means that no mask is held.
 type Stored = (&'static [i64], &'static str);

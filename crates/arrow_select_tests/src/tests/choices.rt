@@ -7,9 +7,9 @@ use arrow_select::if_then_else::{
     if_then_else_binary, if_then_else_boolean, if_then_else_primitive, if_then_else_utf8,
 };
 use arrow_select::nullif::{nullif_binary, nullif_boolean, nullif_primitive, nullif_utf8};
-use arrow_testing::assert_text;
 use arrow_utf8::Utf8Array;
 use std::process::Abort;
+use tests_support::assert_text;
 
 /// Compares an array of numbers with its slots, and drops it.
 fn check_numbers(rt: &impl Abort, case: &str, made: PrimitiveArray<i32>, slots: &str) {

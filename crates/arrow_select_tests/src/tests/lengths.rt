@@ -3,9 +3,9 @@ use super::numbers;
 use arrow_boolean::BooleanArray;
 use arrow_select::concatenate::{concatenate_boolean, concatenate_items, concatenate_primitive};
 use arrow_select::length::length;
-use arrow_testing::assert_text;
 use arrow_types::data_type::DataType;
 use arrow_utf8::Utf8Array;
+use tests_support::assert_text;
 
 #[test]
 fn lengths_are_those_of_bytes(rt: HostRuntime) {

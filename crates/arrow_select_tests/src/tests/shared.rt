@@ -2,8 +2,8 @@
 use super::numbers;
 use arrow_boolean::BooleanArray;
 use arrow_select::nullif::{nullif_boolean, nullif_primitive, nullif_utf8};
-use arrow_testing::assert_text;
 use arrow_utf8::Utf8Array;
+use tests_support::assert_text;
 
 #[test]
 fn nulls_where_numbers_are_equal_share_the_values_of_the_first(rt: HostRuntime) {

@@ -5,11 +5,11 @@ use arrow_boolean::BooleanArray;
 use arrow_memory::buffer::Buffer;
 use arrow_primitive::PrimitiveArray;
 use arrow_select::take::{take_binary, take_boolean, take_primitive, take_utf8};
-use arrow_testing::{Tiny, assert_text, frozen_mask};
 use arrow_types::data_type::DataType;
 use arrow_types::error::Error;
 use arrow_utf8::Utf8Array;
 use std::process::Abort;
+use tests_support::{Tiny, assert_text, frozen_mask};
 
 const TOO_GREAT: Error = Error::OutOfSpec(
     "a dictionary key must be below the length of the dictionary values",

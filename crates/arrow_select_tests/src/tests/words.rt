@@ -5,8 +5,8 @@ use arrow_primitive::PrimitiveArray;
 use arrow_select::if_then_else::{if_then_else_boolean, if_then_else_primitive};
 use arrow_select::nullif::{nullif_boolean, nullif_primitive};
 use arrow_select::take::{take_boolean, take_primitive};
-use arrow_testing::assert_text;
 use std::process::Abort;
+use tests_support::assert_text;
 
 /// Numbers of slots about one and two words of 64 marks.
 const COUNTS: &[usize] = &[63, 64, 65, 130];

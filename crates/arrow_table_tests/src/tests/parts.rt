@@ -4,11 +4,11 @@
 use super::run_text;
 use arrow_table::Kind::*;
 use arrow_table::{Bits, Command, Kind, Parts, Raw, Table, run};
-use arrow_testing::assert_text;
 use arrow_types::data_type::DataType;
 use arrow_types::native_type::{NativeType, days_ms};
 use arrow_types::offset::Offset;
 use std::fmt::Debug;
+use tests_support::assert_text;
 
 /// Bytes, and the number of bits in them.
 type Packed = (&'static [u8], usize);
@@ -194,7 +194,7 @@ fn check<T: NativeType + Debug, O: Offset + From<i32>>(
             true => ("ok", *expected),
             false => (*expected, "not met"),
         };
-        let expected = arrow_testing::Text::of(format_args!("2: {first}, {second}"));
+        let expected = tests_support::Text::of(format_args!("2: {first}, {second}"));
         assert_text::text(came, expected.as_str()).expect(rt, *case);
     }
 }

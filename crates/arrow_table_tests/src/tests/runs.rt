@@ -2,9 +2,9 @@
 //! appends slots with no command made for them, and prints all slots from where they lie.
 use super::{list, run_text, steps};
 use arrow_table::{Command, Item, Kind, Table, run};
-use arrow_testing::assert_text;
 use arrow_types::data_type::DataType;
 use std::process::Abort;
+use tests_support::assert_text;
 
 /// Compares the kind of an entry, and of what a table lends of it.
 fn check_kind(rt: &impl Abort, case: &str, table: &Table<i64, i32>, e: usize, kind: Option<Kind>) {

@@ -4,9 +4,9 @@ use super::parts::Stored::Pieces;
 use super::parts::{NOT_UTF8, Stored, Type, parts};
 use super::{check_step, steps};
 use arrow_table::{Command, Item, Kind, Raw, Table};
-use arrow_testing::assert_text;
 use arrow_types::offset::Offset;
 use std::process::Abort;
+use tests_support::assert_text;
 
 /// A name, parts of text, the reply, and what tests cost up to here.
 type Case = (&'static str, Stored, &'static str, [u64; 3]);

@@ -1,9 +1,9 @@
 //! Tables over offsets whose greatest number is 100: what would pass it is refused, and what is before it stays.
 use super::{list, steps};
 use arrow_table::{Item, Kind, Parts, Raw, Table};
-use arrow_testing::Tiny;
 use arrow_types::data_type::DataType;
 use std::process::Abort;
+use tests_support::Tiny;
 
 /// Creates an item of bytes.
 fn bytes(rt: &(impl Abort + AllocGlobal), count: usize) -> Item<i64> {

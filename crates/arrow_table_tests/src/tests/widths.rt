@@ -3,8 +3,8 @@ use super::parts::Stored::Values;
 use super::parts::{Type, parts};
 use super::{list, reply_text, run_text};
 use arrow_table::{BothCommand, Command, Item, Kind, Reply, Tables, Width, run_both};
-use arrow_testing::assert_text;
 use std::process::Abort;
+use tests_support::assert_text;
 
 /// Compares a reply with a text.
 fn check_reply(rt: &impl Abort, case: &str, reply: Reply<i64>, expected: &str) {

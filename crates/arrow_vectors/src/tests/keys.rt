@@ -1,6 +1,6 @@
 //! Keys that point at items.
 use arrow_check::indexes::check_indexes;
-use arrow_testing::{assert_text, tells};
+use tests_support::{assert_text, tells};
 
 const NEGATIVE: &str = "the dictionary key must fit in a usize";
 
