@@ -113,11 +113,15 @@ def processors():
     return len(os.sched_getaffinity(0))
 
 
-def conclude(run):
-    """Runs all steps, says how that ended and what it took, and returns the status of the command."""
+def conclude(run, took=None):
+    """Runs all steps, says how that ended and what it and each proof took, and returns the status of the command."""
     began, is_well = time.monotonic(), run.run()
     minutes, of_processors = (time.monotonic() - began) / 60, sum(it.processor for it in run.steps) / 60
     failed = [it.name for it in run.steps if not it.passed]
+    for name, seconds in (took or {}).items():
+        run.say(f"proof of {name}: {seconds / 60:.1f} minutes of processors")
+    for step in sorted(run.steps, key=lambda it: -it.processor):
+        run.say(f"{step.name}: {step.processor / 60:.1f} minutes of processors, {step.seconds / 60:.1f} of the clock")
     run.say(f"{minutes:.1f} minutes, {of_processors:.1f} of processors" + (f"; FAILED: {', '.join(failed)}" if failed else ""))
     print(f"{len(run.steps) - len(failed)} passed, {len(failed)} failed", flush=True)
     return 0 if is_well else 1

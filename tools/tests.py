@@ -1,0 +1,52 @@
+"""The steps of ./test: what is tried without a proof."""
+import os
+import shutil
+
+import crates
+from steps import Step
+
+TOP = crates.TOP
+# Where the examples of a program lie, and with which ending.
+EXAMPLES = {"arrow_cli": ("examples", ".txt"), "example_csv": ("examples/csv", ".csv")}
+
+
+def lay_cases(name, room):
+    """Copies the input that a program has in its folder, and its examples, into a folder as tools/try wants them."""
+    to = f"{room}/{name}"
+    os.mkdir(to)
+    for part, ending in (("stdin", ""), ("stdout", ".stdout")):
+        source = f"{TOP}/crates/{name}/{part}"
+        shutil.copyfile(source if os.path.isfile(source) else os.devnull, f"{to}/own{ending}")
+    folder, ending = EXAMPLES.get(name, ("", None))
+    for file in sorted(os.listdir(f"{TOP}/{folder}")) if ending else ():
+        if not file.endswith(ending):
+            continue
+        case = file[: -len(ending)]
+        shutil.copyfile(f"{TOP}/{folder}/{file}", f"{to}/{case}")
+        for part in ("stdout", "status"):
+            shutil.copyfile(f"{TOP}/{folder}/{case}.{part}", f"{to}/{case}.{part}")
+        if os.path.isfile(f"{TOP}/{folder}/{case}.args"):
+            with open(f"{to}/{case}.args", "w", encoding="utf-8") as out:
+                out.write("".join(f"{it}\n" for it in crates.read(f"{TOP}/{folder}/{case}.args").split()))
+    return to
+
+
+def all_steps(room):
+    """The steps, those first that take longest."""
+    known = crates.rows()
+    found = [Step("examples/check_vendor", ["examples/check_vendor"])]
+    for name in known:
+        if crates.is_program(name):
+            found.append(Step(name, ["tools/try", name, lay_cases(name, room)]))
+    for name in reversed(known):
+        if not crates.is_program(name) and crates.has_tests(name):
+            found.append(Step(name, ["tools/try", name]))
+    for words in (
+        ["tools/check_docs"],
+        ["tools/contracts", "--check"],
+        ["tools/check_crates"],
+        ["tools/check_scripts"],
+        ["examples/check_run"],
+    ):
+        found.append(Step(words[0], words))
+    return found
