@@ -26,7 +26,8 @@ class Step:
 
     def start(self):
         self.began, self.out = time.monotonic(), tempfile.TemporaryFile("w+", errors="replace")
-        how = {"cwd": TOP, "stdin": subprocess.DEVNULL, "stderr": subprocess.STDOUT, "start_new_session": True}
+        # A group, so that all of it can be ended; no session, since priorities count within a session alone.
+        how = {"cwd": TOP, "stdin": subprocess.DEVNULL, "stderr": subprocess.STDOUT, "preexec_fn": os.setpgrp}
         output = subprocess.PIPE if self.told else self.out
         self.process = subprocess.Popen(self.words, stdout=output, env=self.environment, errors="replace", **how)
         if self.told:
