@@ -1,5 +1,5 @@
 //! Layouts, texts and clones of data types. The texts are those of Rust's `{:?}` for Arrow's names.
-use crate::made::{extension, timestamp, two_extensions};
+use crate::types::made::{extension, timestamp, two_extensions};
 use arrow_types::data_type::DataType;
 use arrow_types::physical_type::PhysicalType;
 use arrow_types::primitive_type::PrimitiveType;

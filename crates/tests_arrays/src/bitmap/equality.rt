@@ -1,5 +1,5 @@
 //! Equality and text of bitmaps, also of slices that begin within a byte.
-use crate::tests::{cut, frozen, pushed};
+use crate::bitmap::{cut, frozen, pushed};
 use std::process::Abort;
 use tests_support::assert_text;
 use tests_support::assert_text::Text;

@@ -1,5 +1,5 @@
 //! Checks of texts: what is accepted, what is refused, and what it costs.
-use crate::judges::{AnyBytes, AsciiBytes};
+use crate::check::judges::{AnyBytes, AsciiBytes};
 use arrow_check::cost::{TextBytes, TextCost};
 use arrow_check::judge::Judge;
 use arrow_check::text::{check_text, check_utf8};

@@ -1,5 +1,5 @@
 //! Bitmaps made of what an iterator gives.
-use crate::tests::{check, pushed};
+use crate::bitmap::{check, pushed};
 use arrow_bitmap::{Bitmap, MutableBitmap};
 use tests_support::assert_text;
 

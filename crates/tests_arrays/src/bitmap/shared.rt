@@ -1,7 +1,7 @@
 //! Bitmaps of given bytes, clones, and thawing.
 ghost use Rattle.std.specs.Prelude.{◌≡◌, length};
 
-use crate::tests::{check, cut, frozen};
+use crate::bitmap::{check, cut, frozen};
 use arrow_bitmap::{Bitmap, MutableBitmap};
 use tests_support::assert_text;
 

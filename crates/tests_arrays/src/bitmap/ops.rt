@@ -1,5 +1,5 @@
 //! Operations on the marks of bitmaps. Expected answers were worked out by hand.
-use crate::tests::{check, cut, pushed};
+use crate::bitmap::{check, cut, pushed};
 use arrow_bitmap::{Bitmap, MutableBitmap, and, not, or};
 use std::process::Abort;
 use tests_support::assert_text;

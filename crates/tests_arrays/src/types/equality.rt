@@ -1,5 +1,5 @@
 //! Equality of data types, part by part.
-use crate::made::{extension, timestamp};
+use crate::types::made::{extension, timestamp};
 use arrow_types::data_type::DataType;
 use arrow_types::units::IntervalUnit::{DayTime, YearMonth};
 use arrow_types::units::TimeUnit::{self, Millisecond, Nanosecond, Second};

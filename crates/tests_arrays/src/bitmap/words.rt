@@ -1,6 +1,6 @@
 //! Marks as words. The nine bytes below are the number 0xff_efcd_ab89_6745_2301, of which the word from index p is the
 //! 64 bits above the lowest p.
-use crate::tests::{check, cut};
+use crate::bitmap::{check, cut};
 use arrow_bitmap::{Bitmap, MutableBitmap};
 use tests_support::assert_text;
 

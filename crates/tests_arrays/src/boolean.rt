@@ -1,7 +1,10 @@
 //! Arrays and builders of booleans. Slots are written as texts of `t`, `f`, and `_` for a null; stored values and
 //! marks as texts of `1` and `0`.
+mod builder_equality;
 mod equality;
 mod extend_from_array;
+mod ranges;
+mod slots;
 mod true_count;
 
 ghost use Rattle.std.specs.Prelude.{◌≡◌, length};

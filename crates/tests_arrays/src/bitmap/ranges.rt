@@ -1,5 +1,5 @@
 //! Ranges of marks that are read and appended.
-use crate::tests::{MARKS, check, cut, frozen, pushed};
+use crate::bitmap::{MARKS, check, cut, frozen, pushed};
 
 /// A name, the slice of the marks, where a range of it begins, and the marks of the range.
 const RANGES: &[(&str, usize, usize, usize, &str)] = &[

@@ -1,5 +1,5 @@
 //! Growing bitmaps. Bytes were packed by hand: mark i is bit i mod 8, the least significant first, of byte i / 8.
-use crate::tests::{check, pushed};
+use crate::bitmap::{check, pushed};
 use arrow_bitmap::{Bitmap, MutableBitmap};
 use std::process::Abort;
 use tests_support::assert_text;

@@ -1,6 +1,7 @@
 //! Arrays and builders of numbers, of which those of `i256` have two parts. What they hold was worked out by hand.
 mod arrays;
 mod builders;
+mod column_laws;
 mod equality;
 mod extend_from_array;
 mod named;
