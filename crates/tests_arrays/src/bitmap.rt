@@ -10,7 +10,7 @@ mod words;
 
 use arrow_bitmap::{Bitmap, BitmapIter, MutableBitmap};
 use std::process::Abort;
-use tests_support::assert_text;
+use tests_support::{assert_text, row};
 
 /// Pushes the marks of a text one by one.
 fn pushed(rt: &(impl Abort + AllocGlobal), text: &str) -> MutableBitmap {
@@ -62,17 +62,20 @@ const CUTS: &[Cut] = &[
 #[test]
 fn slices_of_slices_add_their_offsets(rt: HostRuntime) {
     let mut bitmap = frozen(&rt, MARKS);
-    for (case, offset, len, expected, third, clear) in CUTS {
+    for (index, (case, offset, len, expected, third, clear)) in CUTS.iter().enumerate() {
+        let name = row(*case, index);
+        let case = name.as_str();
         cut(&rt, &mut bitmap, *offset, *len);
-        check(&rt, *case, bitmap.iter(), *expected);
-        for (index, mark) in expected.as_bytes().iter().enumerate() {
-            assert!(rt; index < bitmap.len());
-            assert_text::value(bitmap.get_bit(index), *mark == b'1').expect(&rt, *case);
+        check(&rt, case, bitmap.iter(), *expected);
+        for (i, mark) in expected.as_bytes().iter().enumerate() {
+            assert!(rt; i < bitmap.len());
+            assert_text::value((i, bitmap.get_bit(i)), (i, *mark == b'1')).expect(&rt, case);
         }
         let (mut near, mut far) = (bitmap.iter(), bitmap.iter());
-        assert_text::value([near.nth(2), far.nth(usize::MAX)], [*third, None]).expect(&rt, *case);
+        let skipped = (near.nth(2), far.nth(usize::MAX));
         let left = [near.len(), far.len(), bitmap.unset_bits()];
-        assert_text::value(left, [len.saturating_sub(3), 0, *clear]).expect(&rt, *case);
+        let expected = ((*third, None), [len.saturating_sub(3), 0, *clear]);
+        assert_text::value((skipped, left), expected).expect(&rt, case);
     }
     drop(bitmap);
 }

@@ -1,6 +1,5 @@
 //! Arrays and builders of booleans. Slots are written as texts of `t`, `f`, and `_` for a null; stored values and
 //! marks as texts of `1` and `0`.
-mod builder_equality;
 mod equality;
 mod extend_from_array;
 mod ranges;
@@ -13,7 +12,7 @@ use arrow_boolean::{BooleanArray, MutableBooleanArray};
 use arrow_memory::bitmap::{Bitmap, MutableBitmap};
 use arrow_types::data_type::DataType;
 use std::process::Abort;
-use tests_support::{assert_text, frozen_mask};
+use tests_support::{assert_text, frozen_mask, growing_mask, row};
 
 /// Compares the slots, stored values and mask of an array with these texts.
 fn check(rt: &impl Abort, case: &str, array: &BooleanArray, slots: &str, values: &str, mask: &str) {
@@ -75,6 +74,16 @@ fn a_null_that_is_overwritten_leaves_its_mask(rt: HostRuntime) {
 fn bits(rt: &(impl Abort + AllocGlobal), text: &str) -> Bitmap {
     let marks = frozen_mask(rt.alloc(), text).expect(rt, "memory");
     marks.expect(rt, "marks")
+}
+
+/// Stored values and marks as texts; `none` for no mask.
+type Stored = (&'static str, &'static str);
+
+/// Creates an array of these parts.
+fn array_of(rt: &(impl Abort + AllocGlobal), (values, mask): Stored) -> BooleanArray {
+    let mask = frozen_mask(rt.alloc(), mask).expect(rt, "memory");
+    let array = BooleanArray::try_new(DataType::Boolean, bits(rt, values), mask);
+    array.expect(rt, "parts that fit")
 }
 
 /// Returns a mask.
@@ -211,14 +220,13 @@ const JOINED: &[(&str, [Option<bool>; 2], [Option<bool>; 2], &str)] = &[
 
 #[test]
 fn builders_grow_by_builders(rt: HostRuntime) {
-    for (case, first, second, joined) in JOINED {
-        let mut builder = MutableBooleanArray::from(rt.alloc(), first.as_slice()).expect(
-            &rt, "memory",
-        );
+    for (index, (case, first, second, joined)) in JOINED.iter().enumerate() {
+        let builder = MutableBooleanArray::from(rt.alloc(), first.as_slice());
+        let mut builder = builder.expect(&rt, "memory");
         let other = MutableBooleanArray::from(rt.alloc(), second.as_slice()).expect(&rt, "memory");
         builder.try_extend_from_self(&other).expect(&rt, "memory");
         drop(other);
-        assert_text::bools(builder.iter(), *joined).expect(&rt, *case);
+        assert_text::bools(builder.iter(), *joined).expect(&rt, row(*case, index).as_str());
         drop(builder);
     }
 }
@@ -228,7 +236,13 @@ fn owned_slots_of_a_slice_come_from_both_ends(rt: HostRuntime) {
     let array = BooleanArray::from_iter(rt.alloc(), THREE.into_iter()).expect(&rt, "memory");
     assert!(rt; array.len() == 3);
     let mut slots = array.sliced(1, 2).into_iter();
-    let ends = [slots.next_back(), slots.next(), slots.next()];
+    let ends = [
+        slots.next_back(),
+        slots.next(),
+        slots.next(),
+        slots.next_back(),
+    ];
     drop(slots);
-    assert_text::value(ends, [Some(Some(false)), Some(None), None]).expect(&rt, "from both ends");
+    let expected = [Some(Some(false)), Some(None), None, None];
+    assert_text::value(ends, expected).expect(&rt, "from both ends");
 }

@@ -1,4 +1,4 @@
-//! Arrays and builders of bytes and of text. What both kinds have in common is asked by functions over a kind and a
+//! Arrays and builders of bytes and of text. What both kinds have in common is tested by functions over a kind and a
 //! width of offsets, which tests call for both kinds at both widths; what prints differently, by macros over the kind.
 
 /// Calls a function of a width of offsets for both widths.
@@ -32,14 +32,14 @@ mod text;
 
 use arrow_byte_array::{ByteArray, MutableByteArray, MutableByteValuesArray};
 use arrow_bytes::{Binary, ByteKind, Utf8};
-use arrow_memory::buffer::Buffer;
 use arrow_types::data_type::DataType;
 use arrow_types::error::Error;
 use arrow_types::offset::Offset;
 use std::fmt::Debug;
 use std::process::Abort;
 use tests_support::{
-    Mismatch, Text, assert_text, frozen_mask, frozen_offsets, growing_mask, offsets_of,
+    Mismatch, Text, assert_text, buffer_of, frozen_mask, frozen_offsets, growing_mask, offset_name,
+    offsets_of, row,
 };
 
 /// Offsets, bytes, and marks as a text of `1` and `0`, or `none` without a mask.
@@ -69,6 +69,14 @@ const AROUND: Parts = (&[2, 3, 3, 5], b"\xFF\xFF\x01\x04\x04\xC3", "101");
 /// `AROUND` without a mask.
 const BARE: Parts = (&[2, 3, 3, 5], b"\xFF\xFF\x01\x04\x04\xC3", "none");
 
+/// Names a case, and the kind and the type of offsets with which it is tried.
+fn case_of<K: ByteKind, O: Offset>(case: &str) -> Text {
+    let data_type = K::default_type(false);
+    let name = Text::of(format_args!("{case} ({data_type:?}, {})", offset_name::<O>()));
+    drop(data_type);
+    name
+}
+
 /// Compares the type with the default; offsets and bytes with parts, and what a comparison of masks returned; and the
 /// length, whether it is zero, and the number of nulls with those of the parts.
 fn check_stored<K: ByteKind, O: Offset>(
@@ -80,8 +88,7 @@ fn check_stored<K: ByteKind, O: Offset>(
     expected: Parts,
 ) {
     let default_type = K::default_type(O::IS_LARGE);
-    let name = Text::of(format_args!("{case} ({default_type:?})"));
-    assert_text::value(data_type, &default_type).expect(rt, name.as_str());
+    assert_text::value(data_type, &default_type).expect(rt, case);
     drop(default_type);
     let (mut came, mut wanted) = (Text::new(), Text::new());
     for offset in offsets {
@@ -90,13 +97,13 @@ fn check_stored<K: ByteKind, O: Offset>(
     for number in expected.0 {
         wanted = wanted.and(format_args!("{:?} ", Some(*number)), 30);
     }
-    assert_text::text(came, wanted.as_str()).expect(rt, name.as_str());
-    assert_text::value(bytes, expected.1).expect(rt, name.as_str());
-    mask.expect(rt, name.as_str());
+    assert_text::text(came, wanted.as_str()).expect(rt, case);
+    assert_text::value(bytes, expected.1).expect(rt, case);
+    mask.expect(rt, case);
     let len = expected.0.len().saturating_sub(1);
     let marks = expected.2.as_bytes();
     let nulls = marks.iter().filter(|mark| **mark == b'0').count();
-    assert_text::value(size, (len, len == 0, nulls)).expect(rt, name.as_str());
+    assert_text::value(size, (len, len == 0, nulls)).expect(rt, case);
 }
 
 /// Compares an array with parts and the default type, and drops it.
@@ -106,6 +113,8 @@ fn check_array<K: ByteKind, O: Offset>(
     answer: Result<ByteArray<K, O>, Error>,
     expected: Parts,
 ) {
+    let name = case_of::<K, O>(case);
+    let case = name.as_str();
     let array = answer.expect(rt, case);
     let (offsets, bytes) = (array.offsets().buffer(), array.values());
     let parts = (array.data_type(), offsets.as_slice(), bytes.as_slice());
@@ -122,6 +131,8 @@ fn check_builder<K: ByteKind, O: Offset>(
     answer: Result<MutableByteArray<K, O>, Error>,
     expected: Parts,
 ) {
+    let name = case_of::<K, O>(case);
+    let case = name.as_str();
     let builder = answer.expect(rt, case);
     let (offsets, bytes) = (builder.offsets(), builder.values());
     let parts = (builder.data_type(), offsets.as_slice(), bytes.as_slice());
@@ -138,6 +149,8 @@ fn check_values<K: ByteKind, O: Offset>(
     answer: Result<MutableByteValuesArray<K, O>, Error>,
     expected: Parts,
 ) {
+    let name = case_of::<K, O>(case);
+    let case = name.as_str();
     let builder = answer.expect(rt, case);
     let (offsets, bytes) = (builder.offsets(), builder.values());
     let parts = (builder.data_type(), offsets.as_slice(), bytes.as_slice());
@@ -153,18 +166,13 @@ fn check_text<T: Debug + Drop>(rt: &impl Abort, case: &str, value: T, expected: 
     assert_text::text(came, expected).expect(rt, case);
 }
 
-/// Creates a buffer of these bytes.
-fn buffer_of(rt: &(impl Abort + AllocGlobal), bytes: &[u8]) -> Buffer<u8> {
-    Buffer::from_vec(bytes.to_vec(rt.alloc()).expect(rt, "memory")).expect(rt, "memory")
-}
-
 /// Creates an array of these parts.
 fn array_of<K: ByteKind, O: Offset>(
     rt: &(impl Abort + AllocGlobal),
     parts: Parts,
 ) -> ByteArray<K, O> {
     let offsets = frozen_offsets(rt.alloc(), parts.0).expect(rt, "offsets");
-    let values = buffer_of(rt, parts.1);
+    let values = buffer_of(rt.alloc(), parts.1).expect(rt, "memory");
     let validity = frozen_mask(rt.alloc(), parts.2).expect(rt, "memory");
     let array = ByteArray::try_new(K::default_type(O::IS_LARGE), offsets, values, validity);
     array.expect(rt, "parts that fit")

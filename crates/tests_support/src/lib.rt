@@ -5,12 +5,33 @@ pub mod assert_text;
 mod tiny;
 
 use arrow_memory::bitmap::{Bitmap, MutableBitmap};
+use arrow_memory::buffer::Buffer;
 use arrow_memory::offset::{Offsets, OffsetsBuffer};
 use arrow_types::error::Error;
+use arrow_types::native_type::NativeType;
 use arrow_types::offset::Offset;
 pub use assert_text::{Mismatch, Text};
 use std::alloc::Global;
 pub use tiny::Tiny;
+
+/// Names a row of a table by its case and its index.
+pub fn row(case: &str, index: usize) -> Text {
+    Text::of(format_args!("{case} (row {index})"))
+}
+
+/// Names a row of a table that several types share by its case, a type and its index.
+pub fn row_of(case: &str, of: &str, index: usize) -> Text {
+    Text::of(format_args!("{case} ({of}, row {index})"))
+}
+
+/// Returns the name of a type of offsets.
+pub fn offset_name<O: Offset>() -> &'static str {
+    match O::max().to_usize() {
+        100 => "Tiny",
+        2147483647 => "i32",
+        _ => "i64",
+    }
+}
 
 /// Whether a value was made, or which refusal was answered.
 pub fn tells<T: Drop>(answer: Result<T, Error>) -> &'static str {
@@ -20,6 +41,11 @@ pub fn tells<T: Drop>(answer: Result<T, Error>) -> &'static str {
         Err(Error::OutOfMemory) => "out of memory",
         Err(Error::OutOfSpec(rule)) => rule,
     }
+}
+
+/// A buffer of these values.
+pub fn buffer_of<T: NativeType>(alloc: Global, values: &[T]) -> Result<Buffer<T>, Error> {
+    Buffer::from_vec(values.to_vec(alloc)?)
 }
 
 /// Offsets of these numbers.

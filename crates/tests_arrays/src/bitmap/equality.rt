@@ -1,8 +1,8 @@
 //! Equality and text of bitmaps, also of slices that begin within a byte.
 use crate::bitmap::{cut, frozen, pushed};
+use arrow_bitmap::Bitmap;
 use std::process::Abort;
-use tests_support::assert_text;
-use tests_support::assert_text::Text;
+use tests_support::{Text, assert_text, row, row_of};
 
 /// Appends a text 24 times.
 fn repeated(rt: &(impl Abort + AllocGlobal), text: &str) -> String {
@@ -40,17 +40,26 @@ fn check(rt: &(impl Abort + AllocGlobal), case: &str, first: &str, second: &str,
 
 #[test]
 fn bitmaps_are_equal_if_they_have_the_same_marks(rt: HostRuntime) {
-    for (case, first, second, expected) in PAIRS {
-        check(&rt, *case, *first, *second, *expected);
+    for (index, (case, first, second, expected)) in PAIRS.iter().enumerate() {
+        check(&rt, row(*case, index).as_str(), *first, *second, *expected);
         // The same pair behind 72 marks, of which words are compared.
         let mut long = repeated(&rt, "011");
         long.push_str(*first).expect(&rt, "memory");
         let mut other = repeated(&rt, "011");
         other.push_str(*second).expect(&rt, "memory");
-        check(&rt, *case, long.as_str(), other.as_str(), *expected);
+        let name = row_of(*case, "behind 72 marks", index);
+        check(&rt, name.as_str(), long.as_str(), other.as_str(), *expected);
         drop(long);
         drop(other);
     }
+}
+
+/// Creates the bitmap of a text that is written 24 times.
+fn frozen_repeated(rt: &(impl Abort + AllocGlobal), text: &str) -> Bitmap {
+    let marks = repeated(rt, text);
+    let bitmap = frozen(rt, marks.as_str());
+    drop(marks);
+    bitmap
 }
 
 /// A name, marks, masks, and whether the marks agree with `110..` where the mask is set.
@@ -61,22 +70,15 @@ const MASKED: &[(&str, &str, &str, bool)] = &[
 
 #[test]
 fn marks_agree_wherever_the_mask_is_set(rt: HostRuntime) {
-    for (case, marks, mask, expected) in MASKED {
-        let marks = repeated(&rt, *marks);
-        let first = frozen(&rt, marks.as_str());
-        drop(marks);
-        let marks = repeated(&rt, "110");
-        let second = frozen(&rt, marks.as_str());
-        drop(marks);
-        let marks = repeated(&rt, *mask);
-        let mask = frozen(&rt, marks.as_str());
-        drop(marks);
-        assert!(rt; first.len() == second.len());
-        assert!(rt; first.len() == mask.len());
+    for (index, (case, marks, mask, expected)) in MASKED.iter().enumerate() {
+        let first = frozen_repeated(&rt, *marks);
+        let second = frozen_repeated(&rt, "110");
+        let mask = frozen_repeated(&rt, *mask);
+        assert!(rt; first.len() == second.len() && first.len() == mask.len());
         let mask = Some(mask);
         let came = first.agrees_where(&second, &mask);
-        assert_text::value(came, *expected).expect(&rt, *case);
         drop((first, second, mask));
+        assert_text::value(came, *expected).expect(&rt, row(*case, index).as_str());
     }
 }
 
@@ -90,13 +92,14 @@ const TEXTS: &[(&str, usize, usize, &str)] = &[
 
 #[test]
 fn text_begins_with_the_first_mark(rt: HostRuntime) {
-    for (case, offset, len, expected) in TEXTS {
+    for (index, (case, offset, len, expected)) in TEXTS.iter().enumerate() {
         let mut bitmap = frozen(&rt, "0110110011");
         cut(&rt, &mut bitmap, *offset, *len);
         let debug = Text::of(format_args!("{bitmap:?}"));
-        assert_text::text(debug, *expected).expect(&rt, *case);
-        assert_text::text(Text::of(format_args!("{bitmap}")), *expected).expect(&rt, *case);
+        let display = Text::of(format_args!("{bitmap}"));
         drop(bitmap);
+        assert_text::text(debug, *expected).expect(&rt, row(*case, index).as_str());
+        assert_text::text(display, *expected).expect(&rt, row(*case, index).as_str());
     }
     let marks = pushed(&rt, "10000000011");
     let text = Text::of(format_args!("{marks} {marks:?}"));

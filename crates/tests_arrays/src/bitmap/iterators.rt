@@ -1,7 +1,7 @@
 //! Bitmaps made of what an iterator gives.
 use crate::bitmap::{check, pushed};
 use arrow_bitmap::{Bitmap, MutableBitmap};
-use tests_support::assert_text;
+use tests_support::{assert_text, row};
 
 /// Marks that end before a byte does, with it and behind it.
 const MARKS: &[&str] = &[
@@ -15,17 +15,19 @@ const MARKS: &[&str] = &[
 
 #[test]
 fn marks_come_in_the_order_of_the_iterator(rt: HostRuntime) {
-    for text in MARKS {
+    for (index, text) in MARKS.iter().enumerate() {
+        let name = row(*text, index);
+        let case = name.as_str();
         let bytes = text.as_bytes();
         let marks = bytes.iter().map(|byte| *byte == b'1');
         let growing = MutableBitmap::from_iter(rt.alloc(), marks).expect(&rt, "memory");
-        check(&rt, *text, growing.iter(), *text);
+        check(&rt, case, growing.iter(), *text);
         drop(growing);
         let marks = bytes.iter().map(|byte| *byte == b'1');
         let frozen = Bitmap::from_iter(rt.alloc(), marks).expect(&rt, "memory");
-        check(&rt, *text, frozen.iter(), *text);
+        check(&rt, case, frozen.iter(), *text);
         let clear = bytes.iter().filter(|byte| **byte != b'1').count();
-        assert_text::value(frozen.unset_bits(), clear).expect(&rt, *text);
+        assert_text::value(frozen.unset_bits(), clear).expect(&rt, case);
         drop(frozen);
     }
 }

@@ -2,7 +2,7 @@
 use crate::bitmap::{check, pushed};
 use arrow_bitmap::{Bitmap, MutableBitmap};
 use std::process::Abort;
-use tests_support::assert_text;
+use tests_support::{assert_text, row};
 
 /// Compares the length and the bytes of marks, and drops them.
 fn check_bytes(rt: &impl Abort, case: &str, marks: MutableBitmap, length: usize, bytes: &[u8]) {
@@ -23,8 +23,10 @@ const PACKED: &[(&str, &[u8])] = &[
 
 #[test]
 fn the_first_mark_is_packed_lowest(rt: HostRuntime) {
-    for (text, bytes) in PACKED {
-        check_bytes(&rt, *text, pushed(&rt, *text), text.len(), *bytes);
+    for (index, (text, bytes)) in PACKED.iter().enumerate() {
+        let name = row(*text, index);
+        let case = name.as_str();
+        check_bytes(&rt, case, pushed(&rt, *text), text.len(), *bytes);
         let mut values = Vec::new(rt.alloc());
         for mark in text.as_bytes() {
             values.push(*mark == b'1').expect(&rt, "memory");
@@ -33,15 +35,10 @@ fn the_first_mark_is_packed_lowest(rt: HostRuntime) {
         let frozen = Bitmap::from_slice(rt.alloc(), values.as_slice());
         drop(values);
         let frozen = frozen.expect(&rt, "memory");
-        check(&rt, *text, frozen.iter(), *text);
+        check(&rt, case, frozen.iter(), *text);
         drop(frozen);
-        check_bytes(
-            &rt,
-            *text,
-            growing.expect(&rt, "memory"),
-            text.len(),
-            *bytes,
-        );
+        let growing = growing.expect(&rt, "memory");
+        check_bytes(&rt, case, growing, text.len(), *bytes);
     }
 }
 
@@ -55,12 +52,12 @@ const RUNS: &[(&str, &[(usize, bool)], usize, &[u8])] = &[
 
 #[test]
 fn runs_are_packed_over_the_borders_of_bytes(rt: HostRuntime) {
-    for (case, runs, length, bytes) in RUNS {
+    for (index, (case, runs, length, bytes)) in RUNS.iter().enumerate() {
         let mut marks = MutableBitmap::new(rt.alloc());
         for (count, value) in *runs {
             marks.extend_constant(*count, *value).expect(&rt, "memory");
         }
-        check_bytes(&rt, *case, marks, *length, *bytes);
+        check_bytes(&rt, row(*case, index).as_str(), marks, *length, *bytes);
     }
 }
 
@@ -123,7 +120,7 @@ const COMPARED: &[(&str, &str, &str, bool, bool)] = &[
 
 #[test]
 fn marks_are_compared_where_a_mask_is_set(rt: HostRuntime) {
-    for (first, second, mask, equal, agree) in COMPARED {
+    for (index, (first, second, mask, equal, agree)) in COMPARED.iter().enumerate() {
         let (left, right) = (pushed(&rt, *first), pushed(&rt, *second));
         let marks = pushed(&rt, *mask);
         assert!(rt; left.len() == right.len() && marks.len() == left.len());
@@ -137,11 +134,11 @@ fn marks_are_compared_where_a_mask_is_set(rt: HostRuntime) {
         ];
         drop(right);
         drop(left);
-        assert_text::value(
-            (*first, *second, came),
-            (*first, *second, [*equal, *equal, *agree]),
-        )
-        .expect(&rt, *mask);
+        let expected = (*first, *second, [*equal, *equal, *agree]);
+        assert_text::value((*first, *second, came), expected).expect(
+            &rt,
+            row(*mask, index).as_str(),
+        );
     }
 }
 

@@ -2,7 +2,7 @@
 use crate::bitmap::{check, cut, pushed};
 use arrow_bitmap::{Bitmap, MutableBitmap, and, not, or};
 use std::process::Abort;
-use tests_support::assert_text;
+use tests_support::{Text, assert_text, row, row_of};
 
 /// Creates the bitmap of a text as a slice, with set marks before and after it.
 fn sliced(rt: &(impl Abort + AllocGlobal), offset: usize, text: &str) -> Bitmap {
@@ -49,29 +49,41 @@ const COMBINED: &[[&str; 5]] = &[
     ],
 ];
 
-/// Compares the answers of the operations on slices that begin at these indexes.
-fn check_from(rt: &(impl Abort + AllocGlobal), offset: usize, other: usize, texts: &[&str; 5]) {
-    let first = sliced(rt, offset, texts[0]);
-    let second = sliced(rt, other, texts[1]);
-    assert!(rt; first.len() == second.len());
-    let both = and(rt.alloc(), &first, &second).expect(rt, "memory");
-    let either = or(rt.alloc(), &first, &second).expect(rt, "memory");
-    drop(second);
-    let none = not(rt.alloc(), &first).expect(rt, "memory");
-    drop(first);
-    check_answer(rt, "and", both, texts[2]);
-    check_answer(rt, "or", either, texts[3]);
-    check_answer(rt, "not", none, texts[4]);
-}
+/// The indexes at which slices of the two lists begin.
+const STARTS: &[(usize, usize)] = &[(0, 0), (3, 0), (0, 5), (3, 5), (8, 13)];
 
 #[test]
 fn marks_are_combined_from_any_index(rt: HostRuntime) {
-    for texts in COMBINED {
-        check_from(&rt, 0, 0, texts);
-        check_from(&rt, 3, 0, texts);
-        check_from(&rt, 0, 5, texts);
-        check_from(&rt, 3, 5, texts);
-        check_from(&rt, 8, 13, texts);
+    for (index, [marks, others, of_and, of_or, of_not]) in COMBINED.iter().enumerate() {
+        for (offset, other) in STARTS {
+            let first = sliced(&rt, *offset, *marks);
+            let second = sliced(&rt, *other, *others);
+            assert!(rt; first.len() == second.len());
+            let both = and(rt.alloc(), &first, &second).expect(&rt, "memory");
+            let either = or(rt.alloc(), &first, &second).expect(&rt, "memory");
+            drop(second);
+            let none = not(rt.alloc(), &first).expect(&rt, "memory");
+            drop(first);
+            let starts = Text::of(format_args!("from {offset} and {other}"));
+            check_answer(
+                &rt,
+                row_of("and", starts.as_str(), index).as_str(),
+                both,
+                *of_and,
+            );
+            check_answer(
+                &rt,
+                row_of("or", starts.as_str(), index).as_str(),
+                either,
+                *of_or,
+            );
+            check_answer(
+                &rt,
+                row_of("not", starts.as_str(), index).as_str(),
+                none,
+                *of_not,
+            );
+        }
     }
 }
 
@@ -90,7 +102,7 @@ fn repeated(rt: &(impl Abort + AllocGlobal), word: u64, offset: usize, len: usiz
 fn check_words(rt: &impl Abort, case: &str, bitmap: Bitmap, word: u64, clear: usize) {
     assert_text::value(bitmap.unset_bits(), clear).expect(rt, case);
     for index in 0..bitmap.len() / 64 {
-        assert_text::value(bitmap.word(64 * index), word).expect(rt, case);
+        assert_text::value((index, bitmap.word(64 * index)), (index, word)).expect(rt, case);
     }
     drop(bitmap);
 }
@@ -112,7 +124,7 @@ const LONG: &[[usize; 5]] = &[
 
 #[test]
 fn long_lists_of_marks_are_combined_and_counted(rt: HostRuntime) {
-    for [offset, other, len, clear_in_both, clear_in_either] in LONG {
+    for (index, [offset, other, len, clear_in_both, clear_in_either]) in LONG.iter().enumerate() {
         let first = repeated(&rt, 0xF0F0_F0F0_F0F0_F0F0, *offset, *len);
         let second = repeated(&rt, 0xAAAA_AAAA_AAAA_AAAA, *other, *len);
         assert!(&rt; first.len() == second.len());
@@ -126,7 +138,19 @@ fn long_lists_of_marks_are_combined_and_counted(rt: HostRuntime) {
         } else {
             (0xA0A0_A0A0_A0A0_A0A0, 0xFAFA_FAFA_FAFA_FAFA)
         };
-        check_words(&rt, "and", both, set_in_both, *clear_in_both);
-        check_words(&rt, "or", either, set_in_either, *clear_in_either);
+        check_words(
+            &rt,
+            row("and", index).as_str(),
+            both,
+            set_in_both,
+            *clear_in_both,
+        );
+        check_words(
+            &rt,
+            row("or", index).as_str(),
+            either,
+            set_in_either,
+            *clear_in_either,
+        );
     }
 }

@@ -1,5 +1,6 @@
 //! Ranges of marks that are read and appended.
 use crate::bitmap::{MARKS, check, cut, frozen, pushed};
+use tests_support::row;
 
 /// A name, the slice of the marks, where a range of it begins, and the marks of the range.
 const RANGES: &[(&str, usize, usize, usize, &str)] = &[
@@ -16,12 +17,13 @@ const RANGES: &[(&str, usize, usize, usize, &str)] = &[
 
 #[test]
 fn ranges_are_read_from_any_mark(rt: HostRuntime) {
-    for (case, start, len, offset, expected) in RANGES {
+    for (index, (case, start, len, offset, expected)) in RANGES.iter().enumerate() {
         let mut bitmap = frozen(&rt, MARKS);
         cut(&rt, &mut bitmap, *start, *len);
         let len = expected.len();
         assert!(rt; *offset <= bitmap.len() && len <= bitmap.len() - *offset);
-        check(&rt, *case, bitmap.iter_range(*offset, len), *expected);
+        let range = bitmap.iter_range(*offset, len);
+        check(&rt, row(*case, index).as_str(), range, *expected);
         drop(bitmap);
     }
 }
@@ -44,14 +46,14 @@ const APPENDED: &[(&str, &str, Range, Range, &str)] = &[
 
 #[test]
 fn ranges_are_appended_after_any_mark(rt: HostRuntime) {
-    for (case, first, slice, range, expected) in APPENDED {
+    for (index, (case, first, slice, range, expected)) in APPENDED.iter().enumerate() {
         let (mut other, mut marks) = (frozen(&rt, MARKS), pushed(&rt, *first));
         cut(&rt, &mut other, slice.0, slice.1);
         assert!(rt; range.0 <= other.len() && range.1 <= other.len() - range.0);
         let answer = marks.extend_from_range(&other, range.0, range.1);
         drop(other);
         answer.expect(&rt, "memory");
-        check(&rt, *case, marks.iter(), *expected);
+        check(&rt, row(*case, index).as_str(), marks.iter(), *expected);
         drop(marks);
     }
 }

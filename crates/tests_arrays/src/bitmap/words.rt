@@ -2,7 +2,7 @@
 //! 64 bits above the lowest p.
 use crate::bitmap::{check, cut};
 use arrow_bitmap::{Bitmap, MutableBitmap};
-use tests_support::assert_text;
+use tests_support::{assert_text, row};
 
 /// A name, the slice of the 72 marks, and the index and the bits of a word of it.
 const WORDS: &[(&str, usize, usize, usize, u64)] = &[
@@ -16,7 +16,7 @@ const WORDS: &[(&str, usize, usize, usize, u64)] = &[
 
 #[test]
 fn words_are_read_from_any_index(rt: HostRuntime) {
-    for (case, offset, len, index, word) in WORDS {
+    for (at, (case, offset, len, index, word)) in WORDS.iter().enumerate() {
         let bytes = [0x01, 0x23, 0x45, 0x67, 0x89, 0xab, 0xcd, 0xef, 0xff];
         let bytes = bytes.to_vec(rt.alloc()).expect(&rt, "memory");
         let mut marks = Bitmap::try_new(bytes, 72).expect(&rt, "bits for all marks");
@@ -24,7 +24,7 @@ fn words_are_read_from_any_index(rt: HostRuntime) {
         assert!(rt; marks.len() >= 64 && *index <= marks.len() - 64);
         let came = marks.word(*index);
         drop(marks);
-        assert_text::value(came, *word).expect(&rt, *case);
+        assert_text::value(came, *word).expect(&rt, row(*case, at).as_str());
     }
 }
 
@@ -50,14 +50,14 @@ const APPENDED: &[(&str, &[(u64, usize)], &str)] = &[
 
 #[test]
 fn words_are_appended_after_any_mark(rt: HostRuntime) {
-    for (case, words, expected) in APPENDED {
+    for (index, (case, words, expected)) in APPENDED.iter().enumerate() {
         let mut marks = MutableBitmap::new(rt.alloc());
         for (word, count) in *words {
             assert!(rt; *count <= 64);
             marks.extend_from_word(*word, *count).expect(&rt, "memory");
         }
         marks.push(true).expect(&rt, "memory");
-        check(&rt, *case, marks.iter(), *expected);
+        check(&rt, row(*case, index).as_str(), marks.iter(), *expected);
         drop(marks);
     }
 }

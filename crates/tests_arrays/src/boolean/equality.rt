@@ -1,18 +1,6 @@
-//! Equality and text of arrays, and the text of builders.
+//! Equality and text of arrays and of builders.
 use super::*;
-use tests_support::assert_text::Text;
-
-/// Stored values and marks as texts; `none` for no mask.
-type Stored = (&'static str, &'static str);
-
-/// Creates an array of stored values and a mask.
-fn array_of(rt: &(impl Abort + AllocGlobal), (values, mask): Stored) -> BooleanArray {
-    let values = frozen_mask(rt.alloc(), values)
-        .expect(rt, "memory")
-        .expect(rt, "values");
-    let mask = frozen_mask(rt.alloc(), mask).expect(rt, "memory");
-    BooleanArray::try_new(DataType::Boolean, values, mask).expect(rt, "parts that fit")
-}
+use tests_support::Text;
 
 /// A name, two arrays, and whether they are equal.
 const PAIRS: &[(&str, Stored, Stored, bool)] = &[
@@ -25,11 +13,47 @@ const PAIRS: &[(&str, Stored, Stored, bool)] = &[
 
 #[test]
 fn arrays_are_equal_if_they_have_the_same_slots(rt: HostRuntime) {
-    for (case, first, second, expected) in PAIRS {
+    for (index, (case, first, second, expected)) in PAIRS.iter().enumerate() {
         let (first, second) = (array_of(&rt, *first), array_of(&rt, *second));
-        assert_text::value(first == second, *expected).expect(&rt, *case);
+        let are_equal = first == second;
         drop(second);
         drop(first);
+        assert_text::value(are_equal, *expected).expect(&rt, row(*case, index).as_str());
+    }
+}
+
+/// Eight slots that are true, and a ninth that is true, false, or a null.
+const TRUE: Stored = ("111111111", "none");
+
+const FALSE: Stored = ("111111110", "none");
+
+const NULL: Stored = ("111111110", "111111110");
+
+/// A name, two builders, and whether they are equal.
+const COMPARED: &[(&str, Stored, Stored, bool)] = &[
+    ("other values of nulls", ("10", "10"), ("11", "10"), true),
+    ("the same value", TRUE, TRUE, true),
+    ("another value", TRUE, FALSE, false),
+    ("a value and a null", FALSE, NULL, false),
+    ("a null and a value", NULL, FALSE, false),
+];
+
+/// Creates a builder of these parts.
+fn builder(rt: &(impl Abort + AllocGlobal), (values, mask): Stored) -> MutableBooleanArray {
+    let values = growing_mask(rt.alloc(), values).expect(rt, "memory");
+    let values = values.expect(rt, "stored values");
+    let mask = growing_mask(rt.alloc(), mask).expect(rt, "memory");
+    MutableBooleanArray::try_new(DataType::Boolean, values, mask).expect(rt, "parts that fit")
+}
+
+#[test]
+fn slots_are_compared_without_the_stored_values_of_nulls(rt: HostRuntime) {
+    for (index, (case, first, second, expected)) in COMPARED.iter().enumerate() {
+        let (left, right) = (builder(&rt, *first), builder(&rt, *second));
+        let are_equal = left == right;
+        drop(right);
+        drop(left);
+        assert_text::value(are_equal, *expected).expect(&rt, row(*case, index).as_str());
     }
 }
 

@@ -1,11 +1,5 @@
 //! Ranges of arrays that builders take: stored values, those of null slots included, and marks.
-use arrow_boolean::BooleanArray;
-use arrow_types::data_type::DataType;
-use std::process::Abort;
-use tests_support::{assert_text, frozen_mask};
-
-/// Stored values and marks; `none` means that no mask is held.
-type Stored = (&'static str, &'static str);
+use super::*;
 
 /// A name, a builder, an array, the slice of the array, the range of that slice, and the expected builder.
 type Case = (&'static str, Stored, Stored, [usize; 2], [usize; 2], Stored);
@@ -36,17 +30,9 @@ const CASES: &[Case] = &[
     ("after nothing", ("", "none"), MASKED, [2, 3], [1, 0], ("", "")),
 ];
 
-/// Creates the array of these parts.
-fn array_of(rt: &(impl Abort + AllocGlobal), (values, mask): Stored) -> BooleanArray {
-    let values = frozen_mask(rt.alloc(), values).expect(rt, "memory");
-    let mask = frozen_mask(rt.alloc(), mask).expect(rt, "memory");
-    let values = values.expect(rt, "stored values");
-    BooleanArray::try_new(DataType::Boolean, values, mask).expect(rt, "parts that fit")
-}
-
 #[test]
 fn a_mask_is_held_if_either_side_holds_one(rt: HostRuntime) {
-    for (case, first, second, slice, range, joined) in CASES {
+    for (index, (case, first, second, slice, range, joined)) in CASES.iter().enumerate() {
         let mut array = array_of(&rt, *second);
         let ([start, count], [offset, len]) = (*slice, *range);
         assert!(rt; start <= array.len() && count <= array.len() - start);
@@ -57,8 +43,9 @@ fn a_mask_is_held_if_either_side_holds_one(rt: HostRuntime) {
         let answer = builder.extend_from_array(&array, offset, len);
         drop(array);
         answer.expect(&rt, "memory");
-        assert_text::marks(builder.values_iter(), joined.0).expect(&rt, *case);
-        assert_text::growing_mask(builder.validity(), joined.1).expect(&rt, *case);
+        let name = row(*case, index);
+        assert_text::marks(builder.values_iter(), joined.0).expect(&rt, name.as_str());
+        assert_text::growing_mask(builder.validity(), joined.1).expect(&rt, name.as_str());
         drop(builder);
     }
 }

@@ -1,7 +1,5 @@
 //! Iterators over a range of slots.
-use arrow_boolean::BooleanArray;
-use std::process::Abort;
-use tests_support::assert_text;
+use super::*;
 
 const SLOTS: &[Option<bool>] = &[
     Some(true),
@@ -44,30 +42,20 @@ const CASES: &[Case] = &[
     ("in a slice, without a mask", VALID, 1, 2, "tt", "tt"),
 ];
 
-/// Compares a range of an array from both ends.
-fn check(
-    rt: &impl Abort,
-    case: &str,
-    array: &BooleanArray,
-    offset: usize,
-    expected: &str,
-    reversed: &str,
-) {
-    let len = expected.len();
-    assert!(rt; offset <= array.len() && len <= array.len() - offset);
-    let range = array.iter_range(offset, len);
-    assert_text::value(range.size_hint(), (len, Some(len))).expect(rt, case);
-    assert_text::bools(range, expected).expect(rt, case);
-    assert_text::bools(array.iter_range(offset, len).rev(), reversed).expect(rt, case);
-}
-
 #[test]
 fn ranges_are_read_from_both_ends(rt: HostRuntime) {
-    for (case, slots, start, offset, expected, reversed) in CASES {
+    for (index, (case, slots, start, offset, expected, reversed)) in CASES.iter().enumerate() {
+        let name = row(*case, index);
+        let case = name.as_str();
         let mut array = BooleanArray::from(rt.alloc(), *slots).expect(&rt, "memory");
         assert!(rt; *start <= array.len());
         array.slice(*start, array.len() - *start);
-        check(&rt, *case, &array, *offset, *expected, *reversed);
+        let (offset, len) = (*offset, expected.len());
+        assert!(rt; offset <= array.len() && len <= array.len() - offset);
+        let range = array.iter_range(offset, len);
+        assert_text::value(range.size_hint(), (len, Some(len))).expect(&rt, case);
+        assert_text::bools(range, *expected).expect(&rt, case);
+        assert_text::bools(array.iter_range(offset, len).rev(), *reversed).expect(&rt, case);
         drop(array);
     }
 }

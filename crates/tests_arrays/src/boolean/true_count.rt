@@ -26,15 +26,12 @@ const COUNTS: &[(&str, &str, &str, usize, usize, usize)] = &[
 
 #[test]
 fn true_slots_are_counted(rt: HostRuntime) {
-    for (case, values, mask, offset, len, expected) in COUNTS {
-        let values = frozen_mask(rt.alloc(), *values).expect(&rt, "memory");
-        let values = values.expect(&rt, "stored values");
-        let mask = frozen_mask(rt.alloc(), *mask).expect(&rt, "memory");
-        let array = BooleanArray::try_new(DataType::Boolean, values, mask).expect(&rt, *case);
+    for (index, (case, values, mask, offset, len, expected)) in COUNTS.iter().enumerate() {
+        let array = array_of(&rt, (*values, *mask));
         assert!(rt; *offset <= array.len() && *len <= array.len() - *offset);
         let array = array.sliced(*offset, *len);
         let count = array.true_count();
         drop(array);
-        assert_text::value(count, *expected).expect(&rt, *case);
+        assert_text::value(count, *expected).expect(&rt, row(*case, index).as_str());
     }
 }

@@ -11,9 +11,10 @@ fn check_freeze<K: ByteKind, O: Offset>(rt: &(impl Abort + AllocGlobal)) {
         ("a null", "10", "10"),
         ("no mask", "none", "none"),
     ];
-    for (case, before, after) in masks {
+    for (index, (case, before, after)) in masks.into_iter().enumerate() {
         let builder: MutableByteArray<K, O> = builder_of(rt, (&[0, 1, 1], b"x", before));
-        check_array(rt, case, builder.freeze(), (&[0, 1, 1], b"x", after));
+        let expected: Parts = (&[0, 1, 1], b"x", after);
+        check_array(rt, row(case, index).as_str(), builder.freeze(), expected);
     }
     let array = values_of::<K, O>(rt, ITEMS).freeze();
     check_array(rt, "without nulls", array, ITEMS);
@@ -72,11 +73,13 @@ fn check_bytes<O: Offset>(rt: &(impl Abort + AllocGlobal)) {
     assert!(rt; array.len() == 2);
     let items = (array.get(0), array.value(0), array.get(1), array.value(1));
     let expected = "(Some([195]), [195], Some([169]), [169])";
-    check_text(rt, "halves of é", items, expected);
+    let name = case_of::<Binary, O>("halves of é");
+    check_text(rt, name.as_str(), items, expected);
     check_array(rt, "halves of é", Ok(array), halves);
     let offsets = OffsetsBuffer::<O>::new(rt.alloc()).expect(rt, "memory");
     let data_type = ByteArray::<Binary, O>::default_data_type();
-    let array = ByteArray::<Binary, O>::new(data_type, offsets, buffer_of(rt, b"xy"), None);
+    let bytes = buffer_of(rt.alloc(), b"xy").expect(rt, "memory");
+    let array = ByteArray::<Binary, O>::new(data_type, offsets, bytes, None);
     check_array(rt, "no slot over bytes", Ok(array), (&[0], b"xy", "none"));
 }
 

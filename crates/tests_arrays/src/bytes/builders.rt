@@ -3,26 +3,44 @@ use super::*;
 
 /// Pushes slots, items and nulls.
 fn check_pushes<O: Offset>(rt: &(impl Abort + AllocGlobal)) {
-    macro_rules! check {
+    macro_rules! check_pushes_of {
         ($kind:ty, $e_acute:expr, $c:expr) => {{
             let mut builder = MutableByteArray::<$kind, O>::new(rt.alloc()).expect(rt, "memory");
-            let pushes = (builder.push(Some($e_acute)), builder.push(None));
-            let tries = (builder.try_push(Some($c)), builder.try_push(None), builder.push_null());
-            check_text(rt, "push, try_push, push_null", (pushes, tries), "((Ok(()), Ok(())), (Ok(()), Ok(()), Ok(())))");
-            check_builder(rt, "slots", Ok(builder), (&[0, 2, 2, 3, 3, 3], b"\xC3\xA9c", "10100"));
+            builder.push(Some($e_acute)).expect(rt, "push");
+            builder.push(None).expect(rt, "push of a null");
+            builder.try_push(Some($c)).expect(rt, "try_push");
+            builder.try_push(None).expect(rt, "try_push of a null");
+            builder.push_null().expect(rt, "push_null");
+            check_builder(rt, "push, try_push, push_null", Ok(builder), (&[0, 2, 2, 3, 3, 3], b"\xC3\xA9c", "10100"));
             let mut values = MutableByteValuesArray::<$kind, O>::new(rt.alloc()).expect(rt, "memory");
-            let pushes = (values.push($c), values.try_push($e_acute), values.push_null());
-            check_text(rt, "push, try_push, push_null", pushes, "(Ok(()), Ok(()), Ok(()))");
+            values.push($c).expect(rt, "push without nulls");
+            values.try_push($e_acute).expect(rt, "try_push without nulls");
+            values.push_null().expect(rt, "push_null without nulls");
             check_values(rt, "without nulls", Ok(values), (&[0, 1, 3, 3], b"c\xC3\xA9", "none"));
         }};
     }
-    check!(Binary, b"\xC3\xA9".as_slice(), b"c".as_slice());
-    check!(Utf8, "é", "c");
+    check_pushes_of!(Binary, b"\xC3\xA9".as_slice(), b"c".as_slice());
+    check_pushes_of!(Utf8, "é", "c");
 }
 
 #[test]
 fn nulls_that_are_pushed_store_no_byte(rt: HostRuntime) {
     for_both_widths!(check_pushes, &rt);
+}
+
+/// Compares a popped item with a text, `None` for none, and drops it.
+fn check_popped<K: ByteKind, O: Offset>(
+    rt: &impl Abort,
+    case: &str,
+    answer: Result<Option<K::Owned>, Error>,
+    expected: &str,
+)
+where
+    K::Owned: Debug,
+{
+    let name = case_of::<K, O>(case);
+    let item = answer.expect(rt, name.as_str());
+    check_text(rt, name.as_str(), item, expected);
 }
 
 /// Pops slots and items, which print as the texts of the item `there`, of `é`, and of the empty item.
@@ -32,30 +50,29 @@ where
 {
     let (there, e_acute, empty) = items;
     let mut builder: MutableByteArray<K, O> = builder_of(rt, SLOTS);
-    check_text(rt, "the last slot", builder.pop(), there);
-    check_text(rt, "a null", builder.pop(), "Ok(None)");
+    check_popped::<K, O>(rt, "the last slot", builder.pop(), there);
+    check_popped::<K, O>(rt, "a null", builder.pop(), "None");
     check_builder(rt, "one slot", builder.clone(), (&[0, 2], b"\xC3\xA9", "1"));
-    check_text(rt, "the first slot", builder.pop(), e_acute);
-    check_text(rt, "no slot", builder.pop(), "Ok(None)");
+    check_popped::<K, O>(rt, "the first slot", builder.pop(), e_acute);
+    check_popped::<K, O>(rt, "no slot", builder.pop(), "None");
     check_builder(rt, "no slots", Ok(builder), (&[0], b"", ""));
     let mut builder: MutableByteArray<K, O> = builder_of(rt, (&[1, 2, 3], b"\xFFyz", "10"));
-    check_text(rt, "a null of a byte", builder.pop(), "Ok(None)");
+    check_popped::<K, O>(rt, "a null of a byte", builder.pop(), "None");
     check_builder(rt, "its byte too", Ok(builder), (&[1, 2], b"\xFFy", "1"));
     let items: Parts = (&[0, 1, 3, 3], b"c\xC3\xA9", "none");
     let mut values: MutableByteValuesArray<K, O> = values_of(rt, items);
-    check_text(rt, "an empty item", values.pop(), empty);
-    check_text(rt, "the item before it", values.pop(), e_acute);
+    check_popped::<K, O>(rt, "an empty item", values.pop(), empty);
+    check_popped::<K, O>(rt, "the item before it", values.pop(), e_acute);
     check_values(rt, "one item", Ok(values), (&[0, 1], b"c", "none"));
 }
 
 #[test]
 fn slots_are_popped_with_their_bytes(rt: HostRuntime) {
-    let there = "Ok(Some([116, 104, 101, 114, 101]))";
-    let bytes = (there, "Ok(Some([195, 169]))", "Ok(Some([]))");
+    let there = "Some([116, 104, 101, 114, 101])";
+    let bytes = (there, "Some([195, 169])", "Some([])");
     check_pops::<Binary, i32>(&rt, bytes);
     check_pops::<Binary, i64>(&rt, bytes);
-    let there = r#"Ok(Some("there"))"#;
-    let texts = (there, r#"Ok(Some("é"))"#, r#"Ok(Some(""))"#);
+    let texts = (r#"Some("there")"#, r#"Some("é")"#, r#"Some("")"#);
     check_pops::<Utf8, i32>(&rt, texts);
     check_pops::<Utf8, i64>(&rt, texts);
 }
@@ -65,10 +82,11 @@ fn check_joins<K: ByteKind, O: Offset>(rt: &(impl Abort + AllocGlobal)) {
     let builder = MutableByteValuesArray::<K, O>::with_capacities(rt.alloc(), 1, 1);
     let mut builder = builder.expect(rt, "memory");
     let others: [(&[usize], &[u8]); 3] = [(&[0, 0], b""), (&[0, 1], b"x"), (&[1, 2], b"\xFFz")];
-    for (offsets, bytes) in others {
+    for (index, (offsets, bytes)) in others.into_iter().enumerate() {
         let other = values_of::<K, O>(rt, (offsets, bytes, "none"));
         builder.try_extend_from_self(&other).expect(rt, "memory");
-        check_values(rt, "the other stays", Ok(other), (offsets, bytes, "none"));
+        let name = row("the other stays", index);
+        check_values(rt, name.as_str(), Ok(other), (offsets, bytes, "none"));
     }
     let joined: Parts = (&[0, 0, 1, 2], b"xz", "none");
     check_values(rt, "the items of all, copied", builder.clone(), joined);
@@ -81,10 +99,17 @@ fn only_items_of_another_builder_are_appended(rt: HostRuntime) {
 }
 
 /// Compares room for slots, for offsets and for bytes with the least and the most there may be.
-fn check_room(rt: &impl Abort, case: &str, room: [usize; 3], least: [usize; 3], most: [usize; 3]) {
+fn check_room<K: ByteKind, O: Offset>(
+    rt: &impl Abort,
+    case: &str,
+    room: [usize; 3],
+    least: [usize; 3],
+    most: [usize; 3],
+) {
+    let name = case_of::<K, O>(case);
     for i in 0..3 {
         let expected = room[i].max(least[i]).min(most[i]);
-        assert_text::value(room[i], expected).expect(rt, case);
+        assert_text::value((i, room[i]), (i, expected)).expect(rt, name.as_str());
     }
 }
 
@@ -92,17 +117,17 @@ fn check_room(rt: &impl Abort, case: &str, room: [usize; 3], least: [usize; 3], 
 macro_rules! check_reserve {
     ($rt:ident, $builder:ty, $other:expr, $room:ident, $check:ident, $slots:expr) => {{
         let builder = <$builder>::with_capacity($rt.alloc(), 40).expect($rt, "memory");
-        check_room($rt, "with_capacity", $room(&builder), [40, 40, 0], [usize::MAX; 3]);
+        check_room::<K, O>($rt, "with_capacity", $room(&builder), [40, 40, 0], [usize::MAX; 3]);
         $check($rt, "with_capacity", Ok(builder), NOTHING);
         let mut builder = <$builder>::with_capacities($rt.alloc(), 40, 400).expect($rt, "memory");
-        check_room($rt, "with_capacities", $room(&builder), [40, 40, 400], [usize::MAX; 3]);
+        check_room::<K, O>($rt, "with_capacities", $room(&builder), [40, 40, 400], [usize::MAX; 3]);
         let other = $other;
-        let answers = (builder.try_extend_from_self(&other), builder.reserve(100, 1000));
+        builder.try_extend_from_self(&other).expect($rt, "try_extend_from_self");
         drop(other);
-        check_text($rt, "try_extend_from_self, reserve", answers, "(Ok(()), Ok(()))");
-        check_room($rt, "reserve", $room(&builder), [102, 102, 1002], [usize::MAX; 3]);
-        builder.shrink_to_fit().expect($rt, "memory");
-        check_room($rt, "shrink_to_fit", $room(&builder), [2, 2, 2], [39, 39, 399]);
+        builder.reserve(100, 1000).expect($rt, "reserve");
+        check_room::<K, O>($rt, "reserve", $room(&builder), [102, 102, 1002], [usize::MAX; 3]);
+        builder.shrink_to_fit().expect($rt, "shrink_to_fit");
+        check_room::<K, O>($rt, "shrink_to_fit", $room(&builder), [2, 2, 2], [39, 39, 399]);
         $check($rt, "slots stay", Ok(builder), $slots);
     }};
 }
@@ -161,14 +186,15 @@ const COMPARED: &[(&str, Parts, &str, bool)] = &[
 
 /// Compares builders with others that have another byte before the slots, and one in the second.
 fn check_equality<K: ByteKind, O: Offset>(rt: &(impl Abort + AllocGlobal)) {
-    for (case, parts, marks, is_equal) in COMPARED {
+    for (index, (case, parts, marks, is_equal)) in COMPARED.iter().enumerate() {
         let first: MutableByteArray<K, O> = builder_of(rt, *parts);
         let other: Parts = (&[1, 3, 4, 9], b"\xFF\xC3\xA9xthere", *marks);
         let second: MutableByteArray<K, O> = builder_of(rt, other);
         let came = (first == second, first != second);
         drop(second);
         drop(first);
-        assert_text::value(came, (*is_equal, !*is_equal)).expect(rt, *case);
+        let name = case_of::<K, O>(row(*case, index).as_str());
+        assert_text::value(came, (*is_equal, !*is_equal)).expect(rt, name.as_str());
     }
 }
 

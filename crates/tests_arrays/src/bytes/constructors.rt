@@ -4,10 +4,20 @@ use arrow_bytes::ByteItem;
 use arrow_utf8::Utf8Array;
 
 fn check_default_type<K: ByteKind, O: Offset>(rt: &impl Abort, expected: &str) {
-    let data_type = ByteArray::<K, O>::default_data_type();
-    check_text(rt, "of an array", data_type, expected);
-    let data_type = MutableByteValuesArray::<K, O>::default_data_type();
-    check_text(rt, "of a builder", data_type, expected);
+    let name = case_of::<K, O>("the default data type of an array");
+    check_text(
+        rt,
+        name.as_str(),
+        ByteArray::<K, O>::default_data_type(),
+        expected,
+    );
+    let name = case_of::<K, O>("the default data type of a builder");
+    check_text(
+        rt,
+        name.as_str(),
+        MutableByteValuesArray::<K, O>::default_data_type(),
+        expected,
+    );
 }
 
 #[test]
@@ -95,8 +105,8 @@ macro_rules! check_of_iterators {
         check_builder($rt, "from_iter", builder, SLOTS);
         let builder = MutableByteArray::<$kind, O>::from_iter_values(alloc, items.iter().copied());
         let mut builder = builder.expect($rt, "memory");
-        let answers = (builder.extend(slots.iter().copied()), builder.try_extend(slots.iter().copied()));
-        check_text($rt, "extend, try_extend", answers, "(Ok(()), Ok(()))");
+        builder.extend(slots.iter().copied()).expect($rt, "extend");
+        builder.try_extend(slots.iter().copied()).expect($rt, "try_extend");
         check_builder($rt, "from_iter_values, extend, try_extend", Ok(builder), (THRICE.0, THRICE.1, "111101101"));
         let mut builder = MutableByteArray::<$kind, O>::default(alloc).expect($rt, "memory");
         builder.extend_values(items.iter().copied()).expect($rt, "memory");
@@ -105,8 +115,8 @@ macro_rules! check_of_iterators {
         check_values($rt, "try_from_iter", values, ITEMS);
         let values = MutableByteValuesArray::<$kind, O>::from_iter(alloc, items.iter().copied());
         let mut values = values.expect($rt, "memory");
-        let answers = (values.extend(items.iter().copied()), values.try_extend(items.iter().copied()));
-        check_text($rt, "extend, try_extend", answers, "(Ok(()), Ok(()))");
+        values.extend(items.iter().copied()).expect($rt, "extend");
+        values.try_extend(items.iter().copied()).expect($rt, "try_extend");
         check_values($rt, "from_iter, extend, try_extend", Ok(values), THRICE);
     }};
 }

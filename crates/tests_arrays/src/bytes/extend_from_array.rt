@@ -65,8 +65,14 @@ const CASES_THAT_OVERFLOW: &[Case] = cases! {
 };
 
 /// Appends a range of an array, and compares what was answered and the builder.
-fn check_case<K: ByteKind, O: Offset>(rt: &(impl Abort + AllocGlobal), case: &Case, answer: &str) {
+fn check_case<K: ByteKind, O: Offset>(
+    rt: &(impl Abort + AllocGlobal),
+    index: usize,
+    case: &Case,
+    answer: &str,
+) {
     let (name, first, second, slice, range, joined) = *case;
+    let name = row(name, index);
     let (start, count, offset, len) = (slice[0], slice[1], range[0], range[1]);
     let array: ByteArray<K, O> = array_of(rt, second);
     assert!(rt; start <= array.len() && count <= array.len() - start);
@@ -75,25 +81,25 @@ fn check_case<K: ByteKind, O: Offset>(rt: &(impl Abort + AllocGlobal), case: &Ca
     assert!(rt; offset <= array.len() && len <= array.len() - offset);
     let came = tells(builder.extend_from_array(&array, offset, len));
     drop(array);
-    assert_text::value(came, answer).expect(rt, name);
-    check_builder(rt, name, Ok(builder), joined);
+    assert_text::value(came, answer).expect(rt, case_of::<K, O>(name.as_str()).as_str());
+    check_builder(rt, name.as_str(), Ok(builder), joined);
 }
 
 #[test]
 fn ranges_of_arrays_are_appended(rt: HostRuntime) {
-    for case in CASES {
-        for_all_kinds!(check_case, &rt, case, "made");
+    for (index, case) in CASES.iter().enumerate() {
+        for_all_kinds!(check_case, &rt, index, case, "made");
     }
 }
 
 #[test]
 fn ranges_end_at_the_greatest_offset(rt: HostRuntime) {
-    for case in CASES_THAT_FIT {
-        check_case::<Binary, Tiny>(&rt, case, "made");
-        check_case::<Utf8, Tiny>(&rt, case, "made");
+    for (index, case) in CASES_THAT_FIT.iter().enumerate() {
+        check_case::<Binary, Tiny>(&rt, index, case, "made");
+        check_case::<Utf8, Tiny>(&rt, index, case, "made");
     }
-    for case in CASES_THAT_OVERFLOW {
-        check_case::<Binary, Tiny>(&rt, case, "overflow");
-        check_case::<Utf8, Tiny>(&rt, case, "overflow");
+    for (index, case) in CASES_THAT_OVERFLOW.iter().enumerate() {
+        check_case::<Binary, Tiny>(&rt, index, case, "overflow");
+        check_case::<Utf8, Tiny>(&rt, index, case, "overflow");
     }
 }

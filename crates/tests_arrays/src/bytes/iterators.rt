@@ -7,11 +7,13 @@ use arrow_check::accessor::ArrayAccessor;
 /// that of `AROUND`.
 fn check_reads<'a, K: BorrowItem<'a>, O: Offset>(
     rt: &impl Abort,
-    (case, expected): (&str, &str),
+    (name, expected): (&str, &str),
     array: &'a ByteArray<K, O>,
     builder: &'a MutableByteArray<K, O>,
     values: &'a MutableByteValuesArray<K, O>,
 ) {
+    let name = case_of::<K, O>(name);
+    let case = name.as_str();
     let (mut came, mut stored) = (Text::new(), Text::new());
     macro_rules! append_slot {
         ($slot:ident) => {
@@ -27,7 +29,7 @@ fn check_reads<'a, K: BorrowItem<'a>, O: Offset>(
         let (slot, other) = (array.get(i), builder.get(i));
         let marks = (array.is_valid(i), array.is_null(i), builder.is_null(i));
         let expected = (slot.is_some(), slot.is_none(), other.is_none());
-        assert_text::value(marks, expected).expect(rt, case);
+        assert_text::value((i, marks), (i, expected)).expect(rt, case);
         append_slot!(slot);
         append_slot!(other);
         let (item, of_builder) = (array.value(i), builder.value(i));
@@ -44,62 +46,86 @@ fn check_reads<'a, K: BorrowItem<'a>, O: Offset>(
 
 /// Reads from both ends an array or a builder of a slot `$one`, a null that stores `$none`, and a slot `$two`.
 macro_rules! check_slots {
-    ($rt:ident, $array:ident, $one:literal, $none:literal, $two:literal) => {{
+    ($rt:ident, $case:ident, $array:ident, $one:literal, $none:literal, $two:literal) => {{
         let mut slots = $array.iter();
         let ends = (slots.size_hint(), slots.next(), slots.next_back());
-        check_text($rt, "iter", ends, concat!("((3, Some(3)), Some(Some(", $one, ")), Some(Some(", $two, ")))"));
+        let expected = concat!("(\"iter\", ((3, Some(3)), Some(Some(", $one, ")), Some(Some(", $two, "))))");
+        check_text($rt, $case, ("iter", ends), expected);
         let rest = (slots.size_hint(), slots.next(), slots.next_back(), slots.next());
-        check_text($rt, "iter, the null between", rest, "((1, Some(1)), Some(None), None, None)");
-        let mut slots = $array.into_iter();
-        let all = (slots.next(), slots.next(), slots.next(), slots.next());
-        let expected = concat!("(Some(Some(", $one, ")), Some(None), Some(Some(", $two, ")), None)");
-        check_text($rt, "into_iter", all, expected);
+        let expected = "(\"iter, the null between\", ((1, Some(1)), Some(None), None, None))";
+        check_text($rt, $case, ("iter, the null between", rest), expected);
+        let name = Text::of(format_args!("into_iter of {}", $case));
+        let all = concat!("[", $one, " _ ", $two, "]");
+        assert_text::slots($array.into_iter(), all).expect($rt, name.as_str());
         let mut items = $array.values_iter();
         let ends = (items.size_hint(), items.next(), items.next_back());
-        check_text($rt, "values_iter", ends, concat!("((3, Some(3)), Some(", $one, "), Some(", $two, "))"));
+        let expected = concat!("(\"values_iter\", ((3, Some(3)), Some(", $one, "), Some(", $two, ")))");
+        check_text($rt, $case, ("values_iter", ends), expected);
         let rest = (items.len(), items.nth(0), items.next(), items.next_back());
-        check_text($rt, "values_iter, the item between", rest, concat!("(1, Some(", $none, "), None, None)"));
+        let expected = concat!("(\"values_iter, the item between\", (1, Some(", $none, "), None, None))");
+        check_text($rt, $case, ("values_iter, the item between", rest), expected);
         let mut items = $array.values_iter();
         let passed = (items.nth(1), items.nth(usize::MAX), items.next(), items.next_back());
-        check_text($rt, "nth, and nth past the last", passed, concat!("(Some(", $none, "), None, None, None)"));
+        let expected = concat!("(\"nth, and nth past the last\", (Some(", $none, "), None, None, None))");
+        check_text($rt, $case, ("nth, and nth past the last", passed), expected);
     }};
-}
-
-fn check_array_of_bytes<O: Offset>(rt: &impl Abort, array: &ByteArray<Binary, O>) {
-    check_slots!(rt, array, "[1]", "[]", "[4, 4]");
-}
-
-fn check_array_of_texts<O: Offset>(rt: &impl Abort, array: &ByteArray<Utf8, O>) {
-    check_slots!(rt, array, r#""\u{1}""#, r#""""#, r#""\u{4}\u{4}""#);
-}
-
-fn check_builder_of_bytes<O: Offset>(rt: &impl Abort, builder: &MutableByteArray<Binary, O>) {
-    check_slots!(rt, builder, "[1]", "[]", "[4, 4]");
-}
-
-fn check_builder_of_texts<O: Offset>(rt: &impl Abort, builder: &MutableByteArray<Utf8, O>) {
-    check_slots!(rt, builder, r#""\u{1}""#, r#""""#, r#""\u{4}\u{4}""#);
 }
 
 /// Reads from both ends a builder without nulls of the items `$one`, an empty one, and `$two`.
 macro_rules! check_items {
-    ($rt:ident, $values:ident, $one:literal, $none:literal, $two:literal) => {{
+    ($rt:ident, $case:ident, $values:ident, $one:literal, $none:literal, $two:literal) => {{
         let mut items = $values.iter();
-        check_text($rt, "the last item", items.next_back(), concat!("Some(", $two, ")"));
+        let last = items.next_back();
+        check_text($rt, $case, ("the last item", last), concat!("(\"the last item\", Some(", $two, "))"));
         let rest = (items.size_hint(), items.next(), items.next(), items.next_back());
-        let expected = concat!("((2, Some(2)), Some(", $one, "), Some(", $none, "), None)");
-        check_text($rt, "iter, the items before it", rest, expected);
+        let expected = concat!("(\"iter, the items before it\", ((2, Some(2)), Some(", $one, "), Some(", $none, "), None))");
+        check_text($rt, $case, ("iter, the items before it", rest), expected);
         let mut items = $values.into_iter();
-        check_text($rt, "into_iter", (items.nth(2), items.next()), concat!("(Some(", $two, "), None)"));
+        let last = (items.nth(2), items.next());
+        check_text($rt, $case, ("into_iter", last), concat!("(\"into_iter\", (Some(", $two, "), None))"));
     }};
 }
 
-fn check_values_of_bytes<O: Offset>(rt: &impl Abort, values: &MutableByteValuesArray<Binary, O>) {
-    check_items!(rt, values, "[1]", "[]", "[4, 4]");
+/// Reads arrays and builders of bytes, or of text, by iterators.
+macro_rules! check_iterators {
+    ($rt:ident, $kind:ident, $array:ident, $builder:ident, $values:ident, $one:literal, $none:literal, $two:literal) => {{
+        let name = case_of::<$kind, O>("an array by iterators");
+        let case = name.as_str();
+        check_slots!($rt, case, $array, $one, $none, $two);
+        let name = case_of::<$kind, O>("a builder by iterators");
+        let case = name.as_str();
+        check_slots!($rt, case, $builder, $one, $none, $two);
+        let name = case_of::<$kind, O>("a builder without nulls by iterators");
+        let case = name.as_str();
+        check_items!($rt, case, $values, $one, $none, $two);
+    }};
 }
 
-fn check_values_of_texts<O: Offset>(rt: &impl Abort, values: &MutableByteValuesArray<Utf8, O>) {
-    check_items!(rt, values, r#""\u{1}""#, r#""""#, r#""\u{4}\u{4}""#);
+fn check_iterators_of_bytes<O: Offset>(
+    rt: &impl Abort,
+    array: &ByteArray<Binary, O>,
+    builder: &MutableByteArray<Binary, O>,
+    values: &MutableByteValuesArray<Binary, O>,
+) {
+    check_iterators!(rt, Binary, array, builder, values, "[1]", "[]", "[4, 4]");
+}
+
+fn check_iterators_of_texts<O: Offset>(
+    rt: &impl Abort,
+    array: &ByteArray<Utf8, O>,
+    builder: &MutableByteArray<Utf8, O>,
+    values: &MutableByteValuesArray<Utf8, O>,
+) {
+    check_iterators!(
+        rt,
+        Utf8,
+        array,
+        builder,
+        values,
+        r#""\u{1}""#,
+        r#""""#,
+        r#""\u{4}\u{4}""#
+    );
 }
 
 /// Marks over items of one, no and two bytes, and the slots under them, each of an array and a builder.
@@ -111,18 +137,17 @@ const MASKS: &[(&str, &str)] = &[
 
 /// Reads slots under several masks by index, and under the first by iterators.
 fn check_all<O: Offset>(rt: &(impl Abort + AllocGlobal)) {
-    macro_rules! check {
-        ($kind:ty: $check_array:ident, $check_builder:ident, $check_values:ident) => {
-            for (marks, slots) in MASKS {
+    macro_rules! check_reads_of {
+        ($kind:ty: $check_iterators:ident) => {
+            for (index, (marks, slots)) in MASKS.iter().enumerate() {
                 let array: ByteArray<$kind, O> = array_of(rt, (AROUND.0, AROUND.1, *marks));
                 let parts: Parts = (AROUND.0, b"\xFF\xFF\x01\x04\x04", *marks);
                 let builder: MutableByteArray<$kind, O> = builder_of(rt, parts);
                 let values: MutableByteValuesArray<$kind, O> = values_of(rt, parts);
-                check_reads(rt, (*marks, *slots), &array, &builder, &values);
+                let name = row(*marks, index);
+                check_reads(rt, (name.as_str(), *slots), &array, &builder, &values);
                 if *marks == "101" {
-                    $check_array(rt, &array);
-                    $check_builder(rt, &builder);
-                    $check_values(rt, &values);
+                    $check_iterators(rt, &array, &builder, &values);
                 }
                 drop(values);
                 drop(builder);
@@ -130,8 +155,8 @@ fn check_all<O: Offset>(rt: &(impl Abort + AllocGlobal)) {
             }
         };
     }
-    check! { Binary: check_array_of_bytes, check_builder_of_bytes, check_values_of_bytes }
-    check! { Utf8: check_array_of_texts, check_builder_of_texts, check_values_of_texts }
+    check_reads_of! { Binary: check_iterators_of_bytes }
+    check_reads_of! { Utf8: check_iterators_of_texts }
 }
 
 #[test]
@@ -139,84 +164,82 @@ fn slots_are_read_by_index_and_from_both_ends(rt: HostRuntime) {
     for_both_widths!(check_all, &rt);
 }
 
-/// Appends to a text what an iterator over slots returned, `_` for a null and a period at the end.
-fn append<T: Copy + Debug>(text: Text, slot: Option<Option<T>>) -> Text {
-    match slot {
-        Some(Some(item)) => text.and(format_args!("{item:?} "), 40),
-        Some(None) => text.and("_ ", 2),
-        None => text.and(".", 1),
-    }
-}
-
 /// A name, an offset and a length, and the slots from either end.
 type Range<'a> = (&'a str, usize, usize, &'a str, &'a str);
 
 /// Compares iterators over ranges of slots from both ends.
 macro_rules! check_ranges {
-    ($rt:ident, $array:ident, $ranges:ident) => {
-        for (case, offset, len, slots, reversed) in $ranges {
+    ($rt:ident, $kind:ident, $array:ident, $ranges:ident) => {
+        for (index, (case, offset, len, slots, reversed)) in $ranges.iter().enumerate() {
+            let name = case_of::<$kind, O>(row(*case, index).as_str());
+            let case = name.as_str();
             assert!($rt; *offset <= $array.len() && *len <= $array.len() - *offset);
-            let (mut front, mut back) = ($array.iter_range(*offset, *len), $array.iter_range(*offset, *len));
-            assert_text::value(front.size_hint(), (*len, Some(*len))).expect($rt, *case);
-            let mut texts = (Text::new(), Text::new());
-            for _ in 0..len.saturating_add(1) {
-                texts = (append(texts.0, front.next()), append(texts.1, back.next_back()));
-            }
-            assert_text::text(texts.0, *slots).expect($rt, *case);
-            assert_text::text(texts.1, *reversed).expect($rt, *case);
+            let range = $array.iter_range(*offset, *len);
+            assert_text::value(range.size_hint(), (*len, Some(*len))).expect($rt, case);
+            assert_text::slots(range, *slots).expect($rt, case);
+            assert_text::slots($array.iter_range(*offset, *len).rev(), *reversed).expect($rt, case);
         }
     };
 }
 
 fn check_texts<O: Offset>(rt: &impl Abort, array: &ByteArray<Utf8, O>, ranges: &[Range<'_>]) {
-    check_ranges!(rt, array, ranges);
+    check_ranges!(rt, Utf8, array, ranges);
 }
 
 fn check_bytes<O: Offset>(rt: &impl Abort, array: &ByteArray<Binary, O>, ranges: &[Range<'_>]) {
-    check_ranges!(rt, array, ranges);
+    check_ranges!(rt, Binary, array, ranges);
 }
 
 /// Compares an iterator over the stored items of a range of two slots from both ends.
 macro_rules! check_item_range {
-    ($rt:ident, $case:expr, $array:ident, $offset:expr, $first:literal, $last:literal) => {{
+    ($rt:ident, $case:expr, $kind:ident, $array:ident, $offset:expr, $first:literal, $last:literal) => {{
         let mut items = $array.values_iter_range($offset, 2);
         let all = (items.len(), items.next_back(), items.next(), items.next());
-        check_text($rt, $case, all, concat!("(2, Some(", $last, "), Some(", $first, "), None)"));
+        let name = case_of::<$kind, O>($case);
+        check_text($rt, name.as_str(), all, concat!("(2, Some(", $last, "), Some(", $first, "), None)"));
     }};
 }
 
 fn check_ranges_of_texts<O: Offset>(rt: &(impl Abort + AllocGlobal)) {
     let mut array: ByteArray<Utf8, O> = array_of(rt, (&[1, 3, 3, 4, 7], b"-abcdef-", "1101"));
     let ranges: &[Range<'_>] = &[
-        ("all", 0, 4, r#""ab" "" _ "def" ."#, r#""def" _ "" "ab" ."#),
-        ("the last two", 2, 2, r#"_ "def" ."#, r#""def" _ ."#),
-        ("none in the middle", 1, 0, ".", "."),
-        ("none at the .", 4, 0, ".", "."),
+        ("all", 0, 4, r#"["ab" "" _ "def"]"#, r#"["def" _ "" "ab"]"#),
+        ("the last two", 2, 2, r#"[_ "def"]"#, r#"["def" _]"#),
+        ("none in the middle", 1, 0, "[]", "[]"),
+        ("none at the end", 4, 0, "[]", "[]"),
     ];
     check_texts(rt, &array, ranges);
     assert!(rt; array.len() == 4);
-    check_item_range!(rt, "a null of text", array, 2, r#""c""#, r#""def""#);
+    check_item_range!(rt, "a null of text", Utf8, array, 2, r#""c""#, r#""def""#);
     array.slice(1, 3);
-    check_texts(rt, &array, &[("a null of a slice", 1, 1, "_ .", "_ .")]);
+    check_texts(rt, &array, &[("a null of a slice", 1, 1, "[_]", "[_]")]);
     assert!(rt; array.len() == 3);
-    check_item_range!(rt, "items of a slice", array, 0, r#""""#, r#""c""#);
+    check_item_range!(rt, "items of a slice", Utf8, array, 0, r#""""#, r#""c""#);
     drop(array);
 }
 
 fn check_ranges_of_bytes<O: Offset>(rt: &(impl Abort + AllocGlobal)) {
     let mut array: ByteArray<Binary, O> = array_of(rt, (&[1, 3, 3, 4, 7], b"-abcdef-", "none"));
     let ranges: &[Range<'_>] = &[
-        ("three", 0, 3, "[97, 98] [] [99] .", "[99] [] [97, 98] ."),
-        ("the third", 2, 1, "[99] .", "[99] ."),
-        ("none at the .", 4, 0, ".", "."),
+        ("three", 0, 3, "[[97, 98] [] [99]]", "[[99] [] [97, 98]]"),
+        ("the third", 2, 1, "[[99]]", "[[99]]"),
+        ("none at the end", 4, 0, "[]", "[]"),
     ];
     check_bytes(rt, &array, ranges);
     assert!(rt; array.len() == 4);
-    check_item_range!(rt, "items in the middle", array, 1, "[]", "[99]");
+    check_item_range!(rt, "items in the middle", Binary, array, 1, "[]", "[99]");
     array.slice(1, 3);
-    check_bytes(rt, &array, &[("of a slice", 1, 1, "[99] .", "[99] .")]);
+    check_bytes(rt, &array, &[("of a slice", 1, 1, "[[99]]", "[[99]]")]);
     assert!(rt; array.len() == 3);
-    check_item_range!(rt, "items of a slice", array, 1, "[99]", "[100, 101, 102]");
+    check_item_range!(
+        rt,
+        "items of a slice",
+        Binary,
+        array,
+        1,
+        "[99]",
+        "[100, 101, 102]"
+    );
     drop(array);
 }
 

@@ -25,8 +25,7 @@ fn inverted(mut marks: MutableBitmap) -> MutableBitmap
 /// Replaces and drops the mask of arrays.
 fn check_masks_of_arrays<K: ByteKind, O: Offset>(rt: &(impl Abort + AllocGlobal)) {
     let mut array: ByteArray<K, O> = array_of(rt, AROUND);
-    let marks = Bitmap::from_slice(rt.alloc(), [false, true, true].as_slice());
-    let marks = marks.expect(rt, "memory");
+    let marks = Bitmap::from_slice(rt.alloc(), &[false, true, true]).expect(rt, "memory");
     assert!(rt; array.len() == marks.len());
     array.set_validity(Some(marks));
     array.apply_validity(same);
@@ -46,24 +45,38 @@ fn masks_of_arrays_are_replaced_and_dropped(rt: HostRuntime) {
 
 /// Changes, replaces and drops the mask of builders.
 fn check_masks_of_builders<K: ByteKind, O: Offset>(rt: &(impl Abort + AllocGlobal)) {
-    macro_rules! check {
-        ($case:expr, $builder:expr, $marks:expr) => {
-            check_builder(rt, $case, $builder, (SLOTS.0, SLOTS.1, $marks))
-        };
-    }
     let mut builder: MutableByteArray<K, O> = builder_of(rt, SLOTS);
     builder.apply_validity(inverted);
-    check!("apply_validity", builder.clone(), "001");
+    check_builder(
+        rt,
+        "apply_validity",
+        builder.clone(),
+        (SLOTS.0, SLOTS.1, "001"),
+    );
     builder.set_validity(None);
     builder.apply_validity(inverted);
-    check!("apply_validity, no mask", builder.clone(), "none");
-    let marks = MutableBitmap::from_slice(rt.alloc(), [false, true, true].as_slice());
-    let marks = marks.expect(rt, "memory");
+    check_builder(
+        rt,
+        "apply_validity, no mask",
+        builder.clone(),
+        (SLOTS.0, SLOTS.1, "none"),
+    );
+    let marks = MutableBitmap::from_slice(rt.alloc(), &[false, true, true]).expect(rt, "memory");
     assert!(rt; builder.len() == marks.len());
     builder.set_validity(Some(marks));
     builder.apply_validity(inverted);
-    check!("set_validity, apply_validity", builder.clone(), "111");
-    check!("with_validity", Ok(builder.with_validity(None)), "none");
+    check_builder(
+        rt,
+        "set_validity, apply_validity",
+        builder.clone(),
+        (SLOTS.0, SLOTS.1, "111"),
+    );
+    check_builder(
+        rt,
+        "with_validity",
+        Ok(builder.with_validity(None)),
+        (SLOTS.0, SLOTS.1, "none"),
+    );
 }
 
 #[test]

@@ -1,22 +1,21 @@
 //! The text of arrays of bytes and of text, and of their builders.
-use arrow_byte_array::{ByteArray, MutableByteArray, MutableByteValuesArray};
-use arrow_bytes::{Binary, ByteKind, Utf8};
+use super::*;
 use arrow_memory::offset::Offsets;
-use arrow_types::offset::Offset;
-use std::fmt::{Debug, Display};
-use std::process::Abort;
-use tests_support::assert_text::Text;
-use tests_support::{assert_text, growing_mask};
+use std::fmt::Display;
 
 /// Compares what both forms of a value write, and drops it.
 fn check<A: Debug + Display + Drop>(rt: &impl Abort, value: A, expected: &str) {
-    assert_text::text(Text::of(format_args!("{value:?}")), expected).expect(rt, "debug");
-    assert_text::text(Text::of(format_args!("{value}")), expected).expect(rt, "display");
+    let (debug, display) = (
+        Text::of(format_args!("{value:?}")),
+        Text::of(format_args!("{value}")),
+    );
     drop(value);
+    assert_text::text(debug, expected).expect(rt, "debug");
+    assert_text::text(display, expected).expect(rt, "display");
 }
 
 /// Creates a builder of two items with a mask, or with none if the text is `none`.
-fn builder_of<K: ByteKind, O: Offset>(
+fn two_items<K: ByteKind, O: Offset>(
     rt: &(impl Abort + AllocGlobal),
     mask: &str,
 ) -> MutableByteArray<K, O> {
@@ -33,15 +32,15 @@ fn builder_of<K: ByteKind, O: Offset>(
 
 #[test]
 fn arrays_are_written_behind_their_name(rt: HostRuntime) {
-    let text = builder_of::<Utf8, i32>(&rt, "10")
+    let text = two_items::<Utf8, i32>(&rt, "10")
         .freeze()
         .expect(&rt, "memory");
     check(&rt, text, "Utf8Array[\"zhé\", None]");
-    let text = builder_of::<Utf8, i64>(&rt, "none")
+    let text = two_items::<Utf8, i64>(&rt, "none")
         .freeze()
         .expect(&rt, "memory");
     check(&rt, text, "LargeUtf8Array[\"zhé\", \"\\\"\"]");
-    let bytes = builder_of::<Binary, i32>(&rt, "10")
+    let bytes = two_items::<Binary, i32>(&rt, "10")
         .freeze()
         .expect(&rt, "memory");
     check(&rt, bytes, "BinaryArray[[122, 104, 195, 169], None]");
@@ -53,10 +52,10 @@ fn arrays_are_written_behind_their_name(rt: HostRuntime) {
 fn fields_of_builders_are_written(rt: HostRuntime) {
     let expected = "MutableUtf8Array { values: MutableUtf8ValuesArray { data_type: LargeUtf8, \
         offsets: Offsets([0, 4, 5]), values: [122, 104, 195, 169, 34] }, validity: Some([0b______01]) }";
-    check(&rt, builder_of::<Utf8, i64>(&rt, "10"), expected);
+    check(&rt, two_items::<Utf8, i64>(&rt, "10"), expected);
     let expected = "MutableBinaryArray { values: MutableBinaryValuesArray { data_type: Binary, \
         offsets: Offsets([0, 4, 5]), values: [122, 104, 195, 169, 34] }, validity: None }";
-    check(&rt, builder_of::<Binary, i32>(&rt, "none"), expected);
+    check(&rt, two_items::<Binary, i32>(&rt, "none"), expected);
     let mut builder = MutableByteValuesArray::<Utf8, i32>::new(rt.alloc()).expect(&rt, "memory");
     builder.push("b").expect(&rt, "memory");
     let expected =

@@ -2,7 +2,7 @@
 use arrow_check::bounds::{check_bounds, check_last};
 use arrow_types::offset::Offset;
 use std::process::Abort;
-use tests_support::{assert_text, offsets_of, tells};
+use tests_support::{assert_text, offset_name, offsets_of, row_of, tells};
 
 const PAST: &str = "offsets must not exceed the values length";
 
@@ -13,14 +13,15 @@ type Case = (&'static str, &'static [usize], usize, [&'static str; 2]);
 
 /// Compares the answers for offsets of a width.
 fn check<O: Offset>(rt: &(impl Abort + AllocGlobal), cases: &[Case]) {
-    for (case, numbers, values_len, expected) in cases {
+    for (index, (case, numbers, values_len, expected)) in cases.iter().enumerate() {
         let offsets = offsets_of::<O>(rt.alloc(), *numbers).expect(rt, "offsets");
         let came = [
             tells(check_bounds(offsets.as_slice(), *values_len)),
             tells(check_last(offsets.as_slice(), *values_len)),
         ];
         drop(offsets);
-        assert_text::value(came, *expected).expect(rt, *case);
+        let name = row_of(*case, offset_name::<O>(), index);
+        assert_text::value(came, *expected).expect(rt, name.as_str());
     }
 }
 

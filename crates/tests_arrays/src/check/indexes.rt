@@ -3,7 +3,7 @@ use arrow_check::indexes::{check_indexes, check_slots};
 use arrow_memory::bitmap::Bitmap;
 use arrow_types::index_key::IndexKey;
 use std::process::Abort;
-use tests_support::{assert_text, tells};
+use tests_support::{assert_text, row, tells};
 
 const NO_INDEX: &str = "the dictionary key must fit in a usize";
 
@@ -16,14 +16,13 @@ fn check<K: IndexKey>(rt: &impl Abort, case: &str, keys: &[K], items: usize, exp
 
 #[test]
 fn keys_of_every_sign_and_width_are_checked(rt: HostRuntime) {
-    check(&rt, "a negative key", [2_i8, -1].as_slice(), 3, NO_INDEX);
-    check(&rt, "one past the items", [255_u8].as_slice(), 255, PAST);
-    check(&rt, "the last item", [254_u8, 0].as_slice(), 255, "made");
-    check(&rt, "the first fault", [1_i32, 3, -1].as_slice(), 3, PAST);
-    let (greatest, below) = ([u64::MAX], [18446744073709551614_u64]);
-    let all = usize::MAX;
-    check(&rt, "the greatest", greatest.as_slice(), all, PAST);
-    check(&rt, "below the greatest", below.as_slice(), all, "made");
+    check::<i8>(&rt, "i8, a negative key", &[2, -1], 3, NO_INDEX);
+    check::<u8>(&rt, "u8, one past the items", &[255], 255, PAST);
+    check::<u8>(&rt, "u8, the last item", &[254, 0], 255, "made");
+    check::<i32>(&rt, "i32, the first fault", &[1, 3, -1], 3, PAST);
+    let (greatest, below) = (&[u64::MAX], &[18446744073709551614]);
+    check::<u64>(&rt, "u64, the greatest", greatest, usize::MAX, PAST);
+    check::<u64>(&rt, "u64, below the greatest", below, usize::MAX, "made");
 }
 
 /// A name, keys, their marks, and the expected answer of `check_slots` for three items.
@@ -38,12 +37,12 @@ const SLOTS: &[(&str, [i32; 4], [bool; 4], &str)] = &[
 
 #[test]
 fn keys_of_nulls_are_not_checked(rt: HostRuntime) {
-    for (case, keys, marks, expected) in SLOTS {
+    for (index, (case, keys, marks, expected)) in SLOTS.iter().enumerate() {
         let validity = Bitmap::from_slice(rt.alloc(), marks.as_slice()).expect(&rt, "memory");
         assert!(rt; validity.len() == 4);
         let came = tells(check_slots(keys.as_slice(), Some(&validity), 3));
         drop(validity);
-        assert_text::value(came, *expected).expect(&rt, *case);
+        assert_text::value(came, *expected).expect(&rt, row(*case, index).as_str());
     }
 }
 

@@ -1,9 +1,8 @@
 //! Places at which offsets fall and texts are none.
 use arrow_check::places::{first_falling_offset, first_unfit_text};
-use arrow_memory::buffer::Buffer;
 use arrow_types::offset::Offset;
 use std::process::Abort;
-use tests_support::{assert_text, frozen_offsets};
+use tests_support::{assert_text, buffer_of, frozen_offsets, offset_name, row_of};
 
 /// A name, offsets, and the first that falls.
 const FALLS: &[(&str, &[i64], Option<usize>)] = &[
@@ -19,8 +18,9 @@ const FALLS: &[(&str, &[i64], Option<usize>)] = &[
 
 #[test]
 fn the_first_offset_that_falls_is_found(rt: HostRuntime) {
-    for (case, offsets, expected) in FALLS {
-        assert_text::value(first_falling_offset(*offsets), *expected).expect(&rt, *case);
+    for (index, (case, offsets, expected)) in FALLS.iter().enumerate() {
+        let wide = row_of(*case, "i64", index);
+        assert_text::value(first_falling_offset(*offsets), *expected).expect(&rt, wide.as_str());
         let mut narrow = Vec::new(rt.alloc());
         for offset in *offsets {
             let offset = i32::try_from(*offset).expect(&rt, "32 bits");
@@ -28,7 +28,8 @@ fn the_first_offset_that_falls_is_found(rt: HostRuntime) {
         }
         let came = first_falling_offset(narrow.as_slice());
         drop(narrow);
-        assert_text::value(came, *expected).expect(&rt, *case);
+        let narrow = row_of(*case, "i32", index);
+        assert_text::value(came, *expected).expect(&rt, narrow.as_str());
     }
 }
 
@@ -54,14 +55,14 @@ const UNFIT: &[(&str, &[usize], &[u8], Option<usize>)] = &[
 
 /// Compares the answers for offsets of a width.
 fn check_unfit<O: Offset>(rt: &(impl Abort + AllocGlobal)) {
-    for (case, numbers, bytes, expected) in UNFIT {
+    for (index, (case, numbers, bytes, expected)) in UNFIT.iter().enumerate() {
         let offsets = frozen_offsets::<O>(rt.alloc(), *numbers).expect(rt, "offsets");
-        let bytes = Vec::from_slice(rt.alloc(), *bytes).expect(rt, "memory");
-        let values = Buffer::from_vec(bytes).expect(rt, "memory");
+        let values = buffer_of(rt.alloc(), *bytes).expect(rt, "memory");
         let came = first_unfit_text(&offsets, &values);
         drop(offsets);
         drop(values);
-        assert_text::value(came, *expected).expect(rt, *case);
+        let name = row_of(*case, offset_name::<O>(), index);
+        assert_text::value(came, *expected).expect(rt, name.as_str());
     }
 }
 

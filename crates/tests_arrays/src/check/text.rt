@@ -4,7 +4,7 @@ use arrow_check::cost::{TextBytes, TextCost};
 use arrow_check::judge::Judge;
 use arrow_check::text::{check_text, check_utf8};
 use std::process::Abort;
-use tests_support::{assert_text, frozen_offsets, offsets_of, tells};
+use tests_support::{assert_text, frozen_offsets, offsets_of, row, row_of, tells};
 
 const PAST: &str = "offsets must not exceed the values length";
 
@@ -24,7 +24,7 @@ const CHARACTERS: &[(&[u8], &[usize])] = &[
 
 #[test]
 fn each_item_is_text_by_itself(rt: HostRuntime) {
-    for (bytes, accepted) in CHARACTERS {
+    for (index, (bytes, accepted)) in CHARACTERS.iter().enumerate() {
         for cut in 0..bytes.len() + 1 {
             let offsets = offsets_of::<i32>(rt.alloc(), [0, cut, bytes.len()].as_slice());
             let offsets = offsets.expect(&rt, "offsets");
@@ -35,7 +35,7 @@ fn each_item_is_text_by_itself(rt: HostRuntime) {
             let expected = if is_accepted { "made" } else { NO_TEXT };
             assert_text::value((*bytes, cut, came), (*bytes, cut, expected)).expect(
                 &rt,
-                "bytes that are cut",
+                row("bytes that are cut", index).as_str(),
             );
         }
     }
@@ -44,8 +44,14 @@ fn each_item_is_text_by_itself(rt: HostRuntime) {
 /// Offsets, bytes, the answer, and then the judge's counts: tests for ASCII, tests for text, looks.
 type Case = (&'static [usize], &'static [u8], &'static str, [u64; 3]);
 
-/// Compares the answer for a judge's bytes, and its counts then, with those of the case.
-fn check<J: Judge>(rt: &(impl Abort + AllocGlobal), by: &str, judge: &mut J, case: Case) {
+/// Compares the answer for a judge's bytes, and its counts then, with those of a row of its table.
+fn check<J: Judge>(
+    rt: &(impl Abort + AllocGlobal),
+    by: &str,
+    index: usize,
+    judge: &mut J,
+    case: Case,
+) {
     let (numbers, bytes, expected, counts) = case;
     let offsets = offsets_of::<i32>(rt.alloc(), numbers).expect(rt, "offsets");
     let came = tells(check_text(offsets.as_slice(), judge));
@@ -59,7 +65,7 @@ fn check<J: Judge>(rt: &(impl Abort + AllocGlobal), by: &str, judge: &mut J, cas
         (numbers, bytes, came, counted),
         (numbers, bytes, expected, counts),
     )
-    .expect(rt, by);
+    .expect(rt, row_of("a check", by, index).as_str());
 }
 
 #[rattlefmt::skip]
@@ -97,15 +103,15 @@ const BY_ANY: &[Case] = &[
 
 #[test]
 fn a_check_costs_two_tests_and_a_look_at_each_inner_offset(rt: HostRuntime) {
-    for case in TEXTS {
+    for (index, case) in TEXTS.iter().enumerate() {
         let mut judge = TextBytes::new(case.1, TextCost::new());
-        check(&rt, "UTF-8", &mut judge, *case);
+        check(&rt, "UTF-8", index, &mut judge, *case);
     }
-    for case in BY_ASCII {
-        check(&rt, "ASCII", &mut AsciiBytes::new(case.1), *case);
+    for (index, case) in BY_ASCII.iter().enumerate() {
+        check(&rt, "ASCII", index, &mut AsciiBytes::new(case.1), *case);
     }
-    for case in BY_ANY {
-        check(&rt, "any bytes", &mut AnyBytes::new(case.1), *case);
+    for (index, case) in BY_ANY.iter().enumerate() {
+        check(&rt, "any bytes", index, &mut AnyBytes::new(case.1), *case);
     }
 }
 
@@ -123,12 +129,15 @@ fn a_window_is_tested_once_and_counts_go_on(rt: HostRuntime) {
     drop(numbers);
     let offsets = offsets.expect(&rt, "offsets");
     let mut cost = TextCost::new();
-    for expected in [[1, 1, 99], [2, 2, 198]] {
+    for (case, expected) in [
+        ("the first check", [1, 1, 99]),
+        ("the second check", [2, 2, 198]),
+    ] {
         let mut text = TextBytes::new(HUNDRED.as_bytes(), cost);
         let answer = tells(check_text(offsets.as_slice(), &mut text));
         cost = text.cost();
         let counts = [cost.ascii_tests(), cost.whole_tests(), cost.bytes_looked()];
-        assert_text::value((answer, counts), ("made", expected)).expect(&rt, "a hundred texts");
+        assert_text::value((answer, counts), ("made", expected)).expect(&rt, case);
     }
     drop(offsets);
 }
@@ -138,11 +147,12 @@ const FROZEN: &[(&[usize], &str)] = &[(&[0, 2, 4], "made"), (&[0, 1, 4], NO_TEXT
 
 #[test]
 fn frozen_offsets_are_checked(rt: HostRuntime) {
-    for (numbers, expected) in FROZEN {
+    for (index, (numbers, expected)) in FROZEN.iter().enumerate() {
         let offsets = frozen_offsets::<i64>(rt.alloc(), *numbers).expect(&rt, "offsets");
         let mut text = TextBytes::new("éè".as_bytes(), TextCost::new());
         let came = tells(check_text(offsets.buffer().as_slice(), &mut text));
         drop(offsets);
-        assert_text::value((*numbers, came), (*numbers, *expected)).expect(&rt, "two texts");
+        let name = row("two texts", index);
+        assert_text::value((*numbers, came), (*numbers, *expected)).expect(&rt, name.as_str());
     }
 }

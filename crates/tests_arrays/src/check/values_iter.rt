@@ -84,8 +84,10 @@ fn a_clone_goes_on_alone(rt: HostRuntime) {
     let mut items = ArrayValuesIter::new(&TENS);
     let first = items.next();
     let mut others = items.clone();
-    let came = (first, items.nth(1), others.len(), others.next());
-    assert_text::value(came, (Some(&10), Some(&30), 2, Some(&20))).expect(&rt, "the clone");
+    let came = (first, items.nth(1), items.next());
+    assert_text::value(came, (Some(&10), Some(&30), None)).expect(&rt, "the first");
+    let came = (others.len(), others.next(), others.next(), others.next());
+    assert_text::value(came, (2, Some(&20), Some(&30), None)).expect(&rt, "the clone");
 }
 
 /// The numbers as values under marks: another crate's trait is not given to another crate's iterator,

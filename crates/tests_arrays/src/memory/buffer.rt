@@ -1,12 +1,11 @@
 //! Shared buffers of values.
 use arrow_memory::buffer::Buffer;
 use std::process::Abort;
-use tests_support::assert_text;
+use tests_support::{assert_text, buffer_of, row};
 
 /// Creates a buffer of three values.
 fn three(rt: &(impl Abort + AllocGlobal)) -> Buffer<i64> {
-    let values = [7, 8, 9].to_vec(rt.alloc()).expect(rt, "memory");
-    Buffer::from_vec(values).expect(rt, "memory")
+    buffer_of(rt.alloc(), &[7, 8, 9]).expect(rt, "memory")
 }
 
 /// A name, the slice of what the row before left, and its values.
@@ -20,11 +19,12 @@ const CUTS: &[(&str, usize, usize, &[i64])] = &[
 #[test]
 fn slices_of_slices_add_their_offsets(rt: HostRuntime) {
     let mut buffer = three(&rt);
-    for (case, offset, len, expected) in CUTS {
+    for (index, (case, offset, len, expected)) in CUTS.iter().enumerate() {
         assert!(rt; *offset <= buffer.len() && *len <= buffer.len() - *offset);
         buffer.slice(*offset, *len);
-        assert_text::value(buffer.as_slice(), *expected).expect(&rt, *case);
-        assert_text::value(buffer.is_empty(), expected.is_empty()).expect(&rt, *case);
+        let came = (buffer.as_slice(), buffer.is_empty());
+        let expected = (*expected, expected.is_empty());
+        assert_text::value(came, expected).expect(&rt, row(*case, index).as_str());
     }
     drop(buffer);
 }

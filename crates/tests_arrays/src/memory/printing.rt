@@ -1,14 +1,5 @@
 //! Equality and text of buffers and of offsets, and values of a buffer by index.
-use arrow_memory::buffer::Buffer;
-use std::process::Abort;
-use tests_support::assert_text::Text;
-use tests_support::{assert_text, frozen_offsets, offsets_of};
-
-/// Creates a buffer of some values.
-fn buffer_of(rt: &(impl Abort + AllocGlobal), values: &[i64]) -> Buffer<i64> {
-    let values = Vec::from_slice(rt.alloc(), values).expect(rt, "memory");
-    Buffer::from_vec(values).expect(rt, "memory")
-}
+use tests_support::{Text, assert_text, buffer_of, frozen_offsets, offsets_of, row, row_of};
 
 /// A name, the values of two buffers, and whether they are equal.
 const BUFFERS: &[(&str, &[i64], &[i64], bool)] = &[
@@ -20,18 +11,19 @@ const BUFFERS: &[(&str, &[i64], &[i64], bool)] = &[
 
 #[test]
 fn buffers_are_equal_if_they_have_the_same_values(rt: HostRuntime) {
-    for (case, first, second, expected) in BUFFERS {
-        let first = buffer_of(&rt, *first);
-        let second = buffer_of(&rt, *second);
-        assert_text::value(first == second, *expected).expect(&rt, *case);
+    for (index, (case, first, second, expected)) in BUFFERS.iter().enumerate() {
+        let first = buffer_of(rt.alloc(), *first).expect(&rt, "memory");
+        let second = buffer_of(rt.alloc(), *second).expect(&rt, "memory");
+        let are_equal = first == second;
         drop(first);
         drop(second);
+        assert_text::value(are_equal, *expected).expect(&rt, row(*case, index).as_str());
     }
 }
 
 #[test]
 fn slices_are_printed_from_their_first_value(rt: HostRuntime) {
-    let mut buffer = buffer_of(&rt, &[7, -8, 9]);
+    let mut buffer = buffer_of::<i64>(rt.alloc(), &[7, -8, 9]).expect(&rt, "memory");
     let text = Text::of(format_args!("{buffer:?} {buffer}"));
     assert_text::text(text, "[7, -8, 9] [7, -8, 9]").expect(&rt, "all");
     assert!(rt; buffer.len() == 3);
@@ -52,17 +44,21 @@ const OFFSETS: &[(&str, &[usize], &[usize], bool)] = &[
 
 #[test]
 fn offsets_are_equal_if_they_have_the_same_numbers(rt: HostRuntime) {
-    for (case, first, second, expected) in OFFSETS {
+    for (index, (case, first, second, expected)) in OFFSETS.iter().enumerate() {
         let growing = offsets_of::<i32>(rt.alloc(), *first).expect(&rt, "offsets");
         let other = offsets_of::<i32>(rt.alloc(), *second).expect(&rt, "offsets");
-        assert_text::value(growing == other, *expected).expect(&rt, *case);
+        let are_equal = growing == other;
         drop(growing);
         drop(other);
+        let name = row_of(*case, "growing", index);
+        assert_text::value(are_equal, *expected).expect(&rt, name.as_str());
         let frozen = frozen_offsets::<i64>(rt.alloc(), *first).expect(&rt, "offsets");
         let other = frozen_offsets::<i64>(rt.alloc(), *second).expect(&rt, "offsets");
-        assert_text::value(frozen == other, *expected).expect(&rt, *case);
+        let are_equal = frozen == other;
         drop(frozen);
         drop(other);
+        let name = row_of(*case, "frozen", index);
+        assert_text::value(are_equal, *expected).expect(&rt, name.as_str());
     }
 }
 

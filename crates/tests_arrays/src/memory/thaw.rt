@@ -5,7 +5,7 @@ use arrow_memory::thaw::{into_mut_bits, into_mut_bytes, into_mut_values};
 use arrow_types::offset::Offset;
 use either::{Left, Right};
 use std::process::Abort;
-use tests_support::{Text, assert_text, frozen_offsets};
+use tests_support::{Text, assert_text, buffer_of, frozen_offsets};
 
 /// Creates three bits, of which the second is clear.
 fn bits(rt: &(impl Abort + AllocGlobal)) -> Bitmap {
@@ -20,18 +20,18 @@ fn cut(rt: &(impl Abort + AllocGlobal)) -> Bitmap {
     bitmap
 }
 
+/// Returns the name of the side that came.
+fn side(is_growing: bool) -> &'static str {
+    if is_growing { "growing" } else { "frozen" }
+}
+
 /// Thaws two values with a mask, and compares which side comes with this one.
 fn check_values(rt: &(impl Abort + AllocGlobal), case: &str, mask: Option<Bitmap>, expected: &str) {
-    let values = [7_i64, 0].to_vec(rt.alloc()).expect(rt, "memory");
-    let values = Buffer::from_vec(values).expect(rt, "memory");
+    let values = buffer_of::<i64>(rt.alloc(), &[7, 0]).expect(rt, "memory");
     let thawed = into_mut_values(values, mask);
-    let side = if thawed.is_right() {
-        "growing"
-    } else {
-        "frozen"
-    };
+    let is_growing = thawed.is_right();
     drop(thawed);
-    assert_text::value(side, expected).expect(rt, case);
+    assert_text::value(side(is_growing), expected).expect(rt, case);
 }
 
 #[test]
@@ -46,13 +46,9 @@ fn values_thaw_unless_their_mask_is_shared(rt: HostRuntime) {
 /// Thaws bits with a mask, and compares which side comes with this one.
 fn check_bits(rt: &impl Abort, case: &str, bits: Bitmap, mask: Option<Bitmap>, expected: &str) {
     let thawed = into_mut_bits(bits, mask);
-    let side = if thawed.is_right() {
-        "growing"
-    } else {
-        "frozen"
-    };
+    let is_growing = thawed.is_right();
     drop(thawed);
-    assert_text::value(side, expected).expect(rt, case);
+    assert_text::value(side(is_growing), expected).expect(rt, case);
 }
 
 #[test]
@@ -66,8 +62,7 @@ fn bits_thaw_unless_they_are_shared(rt: HostRuntime) {
 
 /// Creates a buffer of two bytes.
 fn two_bytes(rt: &(impl Abort + AllocGlobal)) -> Buffer<u8> {
-    let bytes = [0x61, 0xff].to_vec(rt.alloc()).expect(rt, "memory");
-    Buffer::from_vec(bytes).expect(rt, "memory")
+    buffer_of(rt.alloc(), &[0x61, 0xff]).expect(rt, "memory")
 }
 
 /// Creates the first of two bytes.
@@ -113,8 +108,7 @@ fn slots_thaw_to_the_bytes_before_their_last_offset(rt: HostRuntime) {
     let other = first.clone().expect(&rt, "memory");
     check_slots(&rt, "shared bytes", first, Some(cut(&rt)), "frozen");
     check_slots(&rt, "bytes alone", other, Some(cut(&rt)), "[97]");
-    let bare = [0x61].to_vec(rt.alloc()).expect(&rt, "memory");
-    let bare = Buffer::from_vec(bare).expect(&rt, "memory");
+    let bare = buffer_of(rt.alloc(), &[0x61]).expect(&rt, "memory");
     check_slots(&rt, "no mask", bare, None, "[97]");
 }
 

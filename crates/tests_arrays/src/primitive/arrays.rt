@@ -11,13 +11,8 @@ fn check_constructors<T: NativeType + Debug>(
     let alloc = rt.alloc();
     assert!(rt; slots.len() == 2 && stored.len() == 2);
     let (slot, value) = (&slots[..1], &stored[..1]);
-    check(
-        rt,
-        "default",
-        PrimitiveArray::<T>::default(alloc),
-        &[],
-        "none",
-    );
+    let array = PrimitiveArray::<T>::default(alloc);
+    check(rt, "default", array, &[], "none");
     let array = PrimitiveArray::<T>::new_empty(alloc, T::PRIMITIVE.default_data_type());
     check(rt, "new_empty", array, &[], "none");
     let array = PrimitiveArray::<T>::new_null(alloc, T::PRIMITIVE.default_data_type(), 3);

@@ -71,7 +71,8 @@ fn check_growth<T: NativeType + Debug>(
         extend_constant(2, value.first().copied());
     }
     let popped = builder.pop();
-    assert_text::value(popped, value.first().copied()).expect(rt, "pop");
+    let name = case_of::<T>("pop");
+    assert_text::value(popped, value.first().copied()).expect(rt, name.as_str());
     builder.apply_values(same_values::<T>);
     check(rt, "frozen", builder.freeze(), expected, "110000111");
 }
@@ -96,14 +97,8 @@ fn the_first_null_makes_a_mask(rt: HostRuntime) {
         extend_constant(2, None);
         extend_from_slice([9].as_slice());
     }
-    let expected = [1, 2, 3, 4, 0, 6, 0, 0, 9];
-    check_builder(
-        &rt,
-        "by extending",
-        Ok(builder),
-        expected.as_slice(),
-        "111101001",
-    );
+    let expected = &[1, 2, 3, 4, 0, 6, 0, 0, 9];
+    check_builder(&rt, "by extending", Ok(builder), expected, "111101001");
     let mut builder = MutablePrimitiveArray::<i64>::new(rt.alloc());
     for slot in [Some(1), None, Some(2)] {
         builder.push(slot).expect(&rt, "memory");
@@ -155,7 +150,8 @@ fn check_copy<T: NativeType + Debug>(
     drop(second);
     let copy = builder.clone().expect(rt, "memory");
     drop(builder);
-    assert_text::value(copy.capacity().min(2), 2).expect(rt, "a capacity of at least 2");
+    let name = case_of::<T>("a capacity of at least 2");
+    assert_text::value(copy.capacity().min(2), 2).expect(rt, name.as_str());
     check_builder(rt, "the clone", Ok(copy), values, "11");
 }
 
@@ -209,7 +205,7 @@ fn capacity_is_reserved_and_given_back(rt: HostRuntime) {
 #[test]
 fn stored_values_of_nulls_are_not_compared(rt: HostRuntime) {
     let slots = [("a null that stores 0", None, true), ("9", Some(9), false)];
-    for (case, second, expected) in slots {
+    for (index, (case, second, expected)) in slots.into_iter().enumerate() {
         let slots = [Some(1), second];
         let left = MutablePrimitiveArray::<i64>::from(rt.alloc(), slots.as_slice());
         let left = left.expect(&rt, "memory");
@@ -220,6 +216,6 @@ fn stored_values_of_nulls_are_not_compared(rt: HostRuntime) {
         let are_equal = left == right;
         drop(right);
         drop(left);
-        assert_text::value(are_equal, expected).expect(&rt, case);
+        assert_text::value(are_equal, expected).expect(&rt, row(case, index).as_str());
     }
 }

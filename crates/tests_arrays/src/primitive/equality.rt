@@ -1,16 +1,14 @@
 //! Equality and text of arrays, and the text of builders.
 use super::*;
 use arrow_types::native_type::days_ms;
-use tests_support::assert_text::Text;
 use tests_support::frozen_mask;
 
-/// Stored values and marks, or no marks if the text is `none`.
-type Stored = (&'static [i64], &'static str);
-
 /// Creates an array of stored values and a mask.
-fn array_of(rt: &(impl Abort + AllocGlobal), (values, mask): Stored) -> PrimitiveArray<i64> {
-    let values = Vec::from_slice(rt.alloc(), values).expect(rt, "memory");
-    let values = Buffer::from_vec(values).expect(rt, "memory");
+pub(super) fn array_of(
+    rt: &(impl Abort + AllocGlobal),
+    (values, mask): Stored,
+) -> PrimitiveArray<i64> {
+    let values = buffer(rt, values);
     let mask = frozen_mask(rt.alloc(), mask).expect(rt, "memory");
     PrimitiveArray::try_new(DataType::Int64, values, mask).expect(rt, "parts that fit")
 }
@@ -29,11 +27,12 @@ const PAIRS: &[(&str, Stored, Stored, bool)] = &[
 
 #[test]
 fn arrays_are_equal_if_they_have_the_same_slots(rt: HostRuntime) {
-    for (case, first, second, expected) in PAIRS {
+    for (index, (case, first, second, expected)) in PAIRS.iter().enumerate() {
         let (first, second) = (array_of(&rt, *first), array_of(&rt, *second));
-        assert_text::value(first == second, *expected).expect(&rt, *case);
+        let are_equal = first == second;
         drop(second);
         drop(first);
+        assert_text::value(are_equal, *expected).expect(&rt, row(*case, index).as_str());
     }
 }
 
@@ -56,11 +55,15 @@ const TEXTS: &[(&str, Stored, &str)] = &[
 
 #[test]
 fn slots_are_written_behind_the_data_type(rt: HostRuntime) {
-    for (case, stored, expected) in TEXTS {
+    for (index, (case, stored, expected)) in TEXTS.iter().enumerate() {
         let array = array_of(&rt, *stored);
-        assert_text::text(Text::of(format_args!("{array:?}")), *expected).expect(&rt, *case);
-        assert_text::text(Text::of(format_args!("{array}")), *expected).expect(&rt, *case);
+        let texts = (
+            Text::of(format_args!("{array:?}")),
+            Text::of(format_args!("{array}")),
+        );
         drop(array);
+        assert_text::text(texts.0, *expected).expect(&rt, row(*case, index).as_str());
+        assert_text::text(texts.1, *expected).expect(&rt, row(*case, index).as_str());
     }
     let mut builder = MutablePrimitiveArray::new(rt.alloc());
     builder.push(Some(days_ms(1, 2))).expect(&rt, "memory");

@@ -1,9 +1,6 @@
 //! Ranges of arrays that builders take: stored values, those of null slots included, and marks.
 use super::*;
-use tests_support::frozen_mask;
-
-/// Stored values and marks; `none` means that no mask is held.
-type Stored = (&'static [i64], &'static str);
+use crate::primitive::equality::array_of;
 
 /// A name, a builder, an array, the slice of the array, the range of that slice, and the expected builder.
 type Case = (&'static str, Stored, Stored, [usize; 2], [usize; 2], Stored);
@@ -27,30 +24,28 @@ const CASES: &[Case] = &[
     ("nothing after nothing", (&[], "none"), MASKED, [2, 3], [1, 0], (&[], "")),
 ];
 
-/// Creates an array of these parts.
-fn array_of(rt: &(impl Abort + AllocGlobal), (values, mask): Stored) -> PrimitiveArray<i64> {
-    let mask = frozen_mask(rt.alloc(), mask).expect(rt, "memory");
-    let array = PrimitiveArray::<i64>::try_new(DataType::Date64, buffer(rt, values), mask);
-    array.expect(rt, "parts that fit")
-}
-
 #[test]
 fn a_mask_is_held_if_either_side_holds_one(rt: HostRuntime) {
-    for (case, first, second, slice, range, expected) in CASES {
+    for (index, (case, first, second, slice, range, expected)) in CASES.iter().enumerate() {
+        let name = row(*case, index);
+        let case = name.as_str();
         let [start, count] = *slice;
         let [offset, len] = *range;
-        let mut array = array_of(&rt, *second).to(DataType::Int64);
+        let mut array = array_of(&rt, *second);
         assert!(rt; start <= array.len() && count <= array.len() - start);
         array.slice(start, count);
-        let builder = array_of(&rt, *first).into_mut().right();
+        let builder = array_of(&rt, *first)
+            .to(DataType::Date64)
+            .into_mut()
+            .right();
         let mut builder = builder.expect(&rt, "an array alone thaws");
         assert!(rt; offset <= array.len() && len <= array.len() - offset);
         let answer = builder.extend_from_array(&array, offset, len);
         drop(array);
         answer.expect(&rt, "memory");
-        assert_text::value(builder.data_type(), &DataType::Date64).expect(&rt, *case);
-        assert_text::value(builder.values().as_slice(), expected.0).expect(&rt, *case);
-        assert_text::growing_mask(builder.validity(), expected.1).expect(&rt, *case);
+        let came = (builder.data_type(), builder.values().as_slice());
+        assert_text::value(came, (&DataType::Date64, expected.0)).expect(&rt, case);
+        assert_text::growing_mask(builder.validity(), expected.1).expect(&rt, case);
         drop(builder);
     }
 }

@@ -35,10 +35,8 @@ fn check_parts<T: NativeType + Debug>(rt: &(impl Abort + AllocGlobal), values: &
     assert!(rt; array.len() == mask.len());
     let array = array.with_validity(Some(mask));
     check(rt, "with_values", array.clone(), others, "000");
-    let mut slots = array.into_iter();
-    let slot = slots.next();
-    drop(slots);
-    assert_text::value(slot, Some(None)).expect(rt, "into_iter");
+    let name = case_of::<T>("into_iter");
+    assert_text::slots(array.into_iter(), "[_ _ _]").expect(rt, name.as_str());
 }
 
 /// Compares an array whose parts are replaced and changed in place, and slices of it.
@@ -57,7 +55,8 @@ fn check_replaced<T: NativeType + Debug>(
     array.set_validity(Some(mask));
     array.apply_validity(same_mask);
     let is_lent = array.get_mut_values(unwritten::<T>);
-    assert_text::value(is_lent, true).expect(rt, "get_mut_values of an array alone");
+    let name = case_of::<T>("get_mut_values of an array alone");
+    assert_text::value(is_lent, true).expect(rt, name.as_str());
     check(rt, "set_values, set_validity", array.clone(), others, "011");
     assert!(rt; array.len() == 3);
     array.slice(0, 2);
@@ -89,7 +88,8 @@ fn check_built<T: NativeType + Debug>(rt: &(impl Abort + AllocGlobal), values: &
     let mut builder = builder.expect(rt, "parts that fit");
     let popped = (builder.pop(), builder.pop());
     drop(builder);
-    assert_text::value(popped, (None, Some(values[0]))).expect(rt, "try_new");
+    let name = case_of::<T>("try_new");
+    assert_text::value(popped, (None, Some(values[0]))).expect(rt, name.as_str());
     let vec = values.to_vec(rt.alloc()).expect(rt, "memory");
     let mut builder = MutablePrimitiveArray::<T>::from_vec(vec);
     let vec = others.to_vec(rt.alloc()).expect(rt, "memory");
@@ -100,7 +100,8 @@ fn check_built<T: NativeType + Debug>(rt: &(impl Abort + AllocGlobal), values: &
     assert!(rt; builder.len() == mask.len());
     builder.set_validity(Some(mask));
     let popped = (builder.pop(), builder.pop());
-    assert_text::value(popped, (None, Some(others[1]))).expect(rt, "set_values, set_validity");
+    let name = case_of::<T>("set_values, set_validity");
+    assert_text::value(popped, (None, Some(others[1]))).expect(rt, name.as_str());
     check_builder(rt, "the rest", Ok(builder), rest, "1");
 }
 
@@ -120,7 +121,8 @@ fn check_thawed<T: NativeType + Debug>(rt: &(impl Abort + AllocGlobal), values: 
     let thawed = array.into_mut().right().expect(rt, "an array alone thaws");
     let are_equal = thawed == builder;
     drop(builder);
-    assert_text::value(are_equal, true).expect(rt, "a builder and its thawed array");
+    let name = case_of::<T>("a builder and its thawed array");
+    assert_text::value(are_equal, true).expect(rt, name.as_str());
     check_builder(rt, "thawed", Ok(thawed), all, "1110");
 }
 

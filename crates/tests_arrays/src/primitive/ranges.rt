@@ -14,7 +14,9 @@ const RANGES: &[(&str, usize, usize, usize)] = &[
 
 /// Compares ranges of an array of these slots from both ends.
 fn check_ranges<T: NativeType + Debug>(rt: &(impl Abort + AllocGlobal), slots: [Option<T>; 5]) {
-    for (case, start, offset, len) in RANGES {
+    for (index, (case, start, offset, len)) in RANGES.iter().enumerate() {
+        let name = case_of::<T>(row(*case, index).as_str());
+        let case = name.as_str();
         let (start, offset, len) = (*start, *offset, *len);
         let array = PrimitiveArray::<T>::from(rt.alloc(), slots.as_slice());
         let mut array = array.expect(rt, "memory");
@@ -22,15 +24,15 @@ fn check_ranges<T: NativeType + Debug>(rt: &(impl Abort + AllocGlobal), slots: [
         array.slice(start, 5 - start);
         assert!(rt; offset <= array.len() && len <= array.len() - offset);
         let (mut front, mut back) = (array.iter_range(offset, len), array.iter_range(offset, len));
-        assert_text::value(front.size_hint(), (len, Some(len))).expect(rt, *case);
+        assert_text::value(front.size_hint(), (len, Some(len))).expect(rt, case);
         for i in 0..len {
             let came = (front.next(), back.next_back());
             let (first, last) = (start + offset + i, start + offset + len - 1 - i);
             assert!(rt; first < 5 && last < 5);
             let expected = (Some(slots[first].as_ref()), Some(slots[last].as_ref()));
-            assert_text::value(came, expected).expect(rt, *case);
+            assert_text::value((i, came), (i, expected)).expect(rt, case);
         }
-        assert_text::value((front.next(), back.next_back()), (None, None)).expect(rt, *case);
+        assert_text::value((front.next(), back.next_back()), (None, None)).expect(rt, case);
         drop(array);
     }
 }

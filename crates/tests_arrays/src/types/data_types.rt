@@ -6,7 +6,7 @@ use arrow_types::primitive_type::PrimitiveType;
 use arrow_types::units::IntervalUnit::{DayTime, MonthDayNano, YearMonth};
 use arrow_types::units::TimeUnit::{Microsecond, Millisecond, Nanosecond, Second};
 use std::process::Abort;
-use tests_support::{Text, assert_text};
+use tests_support::{Text, assert_text, row};
 
 /// Compares what a type and its physical type print with these, and the type with its clone.
 fn check(rt: &(impl Abort + AllocGlobal), made: &DataType, text: &str, physical: &str) {
@@ -16,7 +16,7 @@ fn check(rt: &(impl Abort + AllocGlobal), made: &DataType, text: &str, physical:
     let layout = Text::of(format_args!("{:?}", made.to_physical_type()));
     assert_text::text(layout, physical).expect(rt, text);
     let copy = made.clone().expect(rt, "memory");
-    assert_text::value(&copy, made).expect(rt, "a clone");
+    assert_text::value(&copy, made).expect(rt, text);
     drop(copy);
 }
 
@@ -135,9 +135,9 @@ fn native_types_have_default_types(rt: HostRuntime) {
         (PrimitiveType::DaysMs, DataType::Interval(DayTime)),
         (PrimitiveType::MonthDayNano, DataType::Interval(MonthDayNano)),
     ];
-    for (primitive, expected) in types.iter() {
+    for (index, (primitive, expected)) in types.iter().enumerate() {
         let came = primitive.default_data_type();
-        assert_text::value(&came, expected).expect(&rt, "a default type");
+        assert_text::value(&came, expected).expect(&rt, row("a default type", index).as_str());
         drop(came);
     }
     drop(types);

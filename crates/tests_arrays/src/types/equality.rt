@@ -4,7 +4,7 @@ use arrow_types::data_type::DataType;
 use arrow_types::units::IntervalUnit::{DayTime, YearMonth};
 use arrow_types::units::TimeUnit::{self, Millisecond, Nanosecond, Second};
 use std::process::Abort;
-use tests_support::assert_text;
+use tests_support::{assert_text, row};
 
 #[test]
 fn equality_sees_units_and_digits(rt: HostRuntime) {
@@ -22,11 +22,12 @@ fn equality_sees_units_and_digits(rt: HostRuntime) {
         ("scale", DataType::Decimal256(5, 3), DataType::Decimal256(5, 2)),
         ("width", DataType::Decimal(5, 2), DataType::Decimal256(5, 2)),
     ];
-    for (case, first, second) in different.iter() {
-        assert_text::value((first, second, *first == *second), (first, second, false)).expect(
-            &rt, *case,
-        );
+    for (index, (case, first, second)) in different.iter().enumerate() {
+        let came = (first, second, *first == *second);
+        let name = row(*case, index);
+        assert_text::value(came, (first, second, false)).expect(&rt, name.as_str());
     }
+    drop(different);
 }
 
 /// A name, the unit and the zone of a time, and whether it equals a time of seconds in UTC.
@@ -41,10 +42,11 @@ const TIMES: &[(&str, TimeUnit, Option<&str>, bool)] = &[
 #[test]
 fn equality_sees_zones(rt: HostRuntime) {
     let universal = timestamp(&rt, Second, Some("UTC"));
-    for (case, unit, zone, expected) in TIMES {
+    for (index, (case, unit, zone, expected)) in TIMES.iter().enumerate() {
         let time = timestamp(&rt, *unit, *zone);
-        assert_text::value(time == universal, *expected).expect(&rt, *case);
+        let are_equal = time == universal;
         drop(time);
+        assert_text::value(are_equal, *expected).expect(&rt, row(*case, index).as_str());
     }
     drop(universal);
 }
@@ -76,10 +78,11 @@ const EXTENSIONS: &[(&str, Nested, bool)] = &[
 #[test]
 fn equality_sees_each_part_of_an_extension(rt: HostRuntime) {
     let bare = nested(&rt, BARE);
-    for (case, parts, expected) in EXTENSIONS {
+    for (index, (case, parts, expected)) in EXTENSIONS.iter().enumerate() {
         let other = nested(&rt, *parts);
-        assert_text::value(other == bare, *expected).expect(&rt, *case);
+        let are_equal = other == bare;
         drop(other);
+        assert_text::value(are_equal, *expected).expect(&rt, row(*case, index).as_str());
     }
     drop(bare);
 }

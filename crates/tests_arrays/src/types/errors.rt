@@ -1,7 +1,7 @@
 //! What errors print, and what refused memory becomes.
 use arrow_types::error::Error;
 use std::alloc::AllocFailed;
-use tests_support::assert_text;
+use tests_support::{Text, assert_text, row};
 
 /// Errors, and what they print.
 #[rattlefmt::skip]
@@ -13,10 +13,11 @@ const TEXTS: &[(Error, &str)] = &[
 
 #[test]
 fn errors_print_their_texts(rt: HostRuntime) {
-    for (error, text) in TEXTS {
+    for (index, (error, text)) in TEXTS.iter().enumerate() {
         let printed = error.to_string(rt.alloc()).expect(&rt, "memory");
-        assert_text::value(printed.as_str(), *text).expect(&rt, *text);
+        let came = Text::of(printed.as_str());
         drop(printed);
+        assert_text::text(came, *text).expect(&rt, row(*text, index).as_str());
     }
 }
 
@@ -30,8 +31,9 @@ const COMPARED: &[(&str, Error, bool)] = &[
 
 #[test]
 fn errors_are_compared_by_their_texts(rt: HostRuntime) {
-    for (case, other, expected) in COMPARED {
-        assert_text::value(*other == Error::OutOfSpec("a rule"), *expected).expect(&rt, *case);
+    for (index, (case, other, expected)) in COMPARED.iter().enumerate() {
+        let are_equal = *other == Error::OutOfSpec("a rule");
+        assert_text::value(are_equal, *expected).expect(&rt, row(*case, index).as_str());
     }
 }
 

@@ -20,12 +20,12 @@ fn check<K: IndexKey>(rt: &impl Abort, case: &str, key: &K, expected: Option<usi
 
 #[test]
 fn keys_give_their_index_unless_they_are_negative(rt: HostRuntime) {
-    check(&rt, "i8", &-128_i8, None);
-    check(&rt, "i16", &i16::MIN, None);
-    check(&rt, "i32", &i32::MIN, None);
-    check(&rt, "i64", &i64::MIN, None);
+    check(&rt, "i8, the least", &-128_i8, None);
+    check(&rt, "i16, the least", &i16::MIN, None);
+    check(&rt, "i32, the least", &i32::MIN, None);
+    check(&rt, "i64, the least", &i64::MIN, None);
     check(&rt, "i64, one below zero", &-1_i64, None);
-    check(&rt, "seven", &7_i64, Some(7));
+    check(&rt, "i64, seven", &7_i64, Some(7));
     check(&rt, "i8", &127_i8, Some(127));
     check(&rt, "i16", &32767_i16, Some(32767));
     check(&rt, "i32", &i32::MAX, Some(2147483647));

@@ -6,7 +6,7 @@ use arrow_types::native_type::{NativeType, days_ms, i256, months_days_ns};
 use arrow_types::primitive_type::PrimitiveType;
 use std::fmt::Debug;
 use std::process::Abort;
-use tests_support::assert_text;
+use tests_support::{Text, assert_text};
 
 /// Returns how a type names itself, by its bound.
 fn name_of<T: NativeType>() -> PrimitiveType
@@ -24,9 +24,9 @@ fn null_of<T: NativeType>() -> T
 
 /// Compares the name of a type, and what a null stores, with these, and asks that the other value is none of a null.
 fn check<T: NativeType + Debug + Drop>(rt: &impl Abort, name: PrimitiveType, null: T, other: T) {
-    assert_text::value(name_of::<T>(), name).expect(rt, "the name");
-    let came = (name, null_of::<T>(), null_of::<T>() == other);
-    assert_text::value(came, (name, null, false)).expect(rt, "a null");
+    let case = Text::of(format_args!("the name and a null of {name:?} beside {other:?}"));
+    let came = (name_of::<T>(), null_of::<T>(), null_of::<T>() == other);
+    assert_text::value(came, (name, null, false)).expect(rt, case.as_str());
 }
 
 #[test]
@@ -54,9 +54,10 @@ fn nulls_store_zero_in_each_part(rt: HostRuntime) {
 
 /// Compares the value of bytes, by the bound, and how many bytes it has, with these.
 fn check_bytes<T: FromLeBytes + Debug + Drop>(rt: &impl Abort, bytes: &[u8], expected: T) {
-    assert_text::value(T::SIZE, bytes.len()).expect(rt, "the number of bytes");
+    let case = Text::of(format_args!("bytes of {:?}", T::PRIMITIVE));
+    assert_text::value(T::SIZE, bytes.len()).expect(rt, case.as_str());
     assert!(rt; bytes.len() == T::SIZE);
-    assert_text::value(T::from_le_slice(bytes), expected).expect(rt, "the value");
+    assert_text::value(T::from_le_slice(bytes), expected).expect(rt, case.as_str());
 }
 
 #[test]

@@ -3,7 +3,7 @@ ghost use Rattle.std.specs.Prelude.{◌≤◌};
 
 use arrow_types::offset::Offset;
 use std::process::Abort;
-use tests_support::{Tiny, assert_text};
+use tests_support::{Tiny, assert_text, row_of};
 
 /// Returns the number of the offset that is made of a number, by the bound.
 fn through<O: Offset>(value: usize) -> Option<usize> {
@@ -24,10 +24,14 @@ const NUMBERS: &[(usize, Option<usize>, Option<usize>, Option<usize>)] = &[
 
 #[test]
 fn offsets_hold_numbers_up_to_their_greatest(rt: HostRuntime) {
-    for (value, tiny, narrow, wide) in NUMBERS {
-        assert_text::value((*value, through::<Tiny>(*value)), (*value, *tiny)).expect(&rt, "Tiny");
-        assert_text::value((*value, through::<i32>(*value)), (*value, *narrow)).expect(&rt, "i32");
-        assert_text::value((*value, through::<i64>(*value)), (*value, *wide)).expect(&rt, "i64");
+    for (index, (value, tiny, narrow, wide)) in NUMBERS.iter().enumerate() {
+        let came = (
+            through::<Tiny>(*value),
+            through::<i32>(*value),
+            through::<i64>(*value),
+        );
+        let name = row_of("a number", "Tiny, i32, i64", index);
+        assert_text::value(came, (*tiny, *narrow, *wide)).expect(&rt, name.as_str());
     }
 }
 
@@ -79,9 +83,10 @@ const DISTANCES: &[(usize, usize, usize)] = &[
 
 #[test]
 fn distances_are_differences(rt: HostRuntime) {
-    for (start, end, distance) in DISTANCES {
+    for (index, (start, end, distance)) in DISTANCES.iter().enumerate() {
         let came = [between::<i32>(*start, *end), between::<i64>(*start, *end)];
-        assert_text::value((*end, came), (*end, [Some(*distance); 2])).expect(&rt, "i32, i64");
+        let name = row_of("a distance", "i32, i64", index);
+        assert_text::value(came, [Some(*distance); 2]).expect(&rt, name.as_str());
     }
     assert_text::value(between::<Tiny>(3, 100), Some(97)).expect(&rt, "Tiny");
 }

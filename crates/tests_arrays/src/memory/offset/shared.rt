@@ -1,13 +1,13 @@
 //! Frozen offsets.
-use arrow_memory::buffer::Buffer;
 use arrow_memory::offset::OffsetsBuffer;
 use arrow_types::error::Error;
 use std::process::Abort;
-use tests_support::{Text, assert_text, frozen_offsets};
+use tests_support::{Text, assert_text, buffer_of, frozen_offsets, row, row_of};
 
-/// Slices offsets, and compares those that are left, and the number of slots, with these.
+/// Slices offsets, and compares those that are left, their ends, and the number of slots, with these.
 fn check_slice(
     rt: &impl Abort,
+    case: &str,
     offsets: &mut OffsetsBuffer<i32>,
     offset: usize,
     len: usize,
@@ -16,22 +16,19 @@ fn check_slice(
     let slots = offsets.len_proxy();
     assert!(rt; 1 <= len && offset <= slots && len - 1 <= slots - offset);
     offsets.slice(offset, len);
-    assert_text::value(offsets.buffer().as_slice(), expected).expect(rt, "the offsets of a slice");
-    let ends = [*offsets.first(), *offsets.last()].map(Some);
-    assert_text::value(ends, [expected.first().copied(), expected.last().copied()]).expect(
-        rt,
-        "the ends of a slice",
-    );
-    assert_text::value(offsets.len_proxy(), len - 1).expect(rt, "the slots of a slice");
+    let ends = (Some(offsets.first()), Some(offsets.last()));
+    let came = (offsets.buffer().as_slice(), ends, offsets.len_proxy());
+    let ends = (expected.first(), expected.last());
+    assert_text::value(came, (expected, ends, len - 1)).expect(rt, case);
 }
 
 #[test]
 fn slices_count_offsets(rt: HostRuntime) {
     let offsets = frozen_offsets::<i32>(rt.alloc(), [2, 3, 3, 5].as_slice());
     let mut offsets = offsets.expect(&rt, "offsets");
-    check_slice(&rt, &mut offsets, 1, 3, [3, 3, 5].as_slice());
+    check_slice(&rt, "the last two slots", &mut offsets, 1, 3, &[3, 3, 5]);
     assert_text::value(offsets.is_empty(), false).expect(&rt, "two slots");
-    check_slice(&rt, &mut offsets, 2, 1, [5].as_slice());
+    check_slice(&rt, "no slot of a slice", &mut offsets, 2, 1, &[5]);
     assert_text::value(offsets.is_empty(), true).expect(&rt, "no slot");
     drop(offsets);
 }
@@ -54,7 +51,7 @@ fn offsets_thaw_once_no_clone_shares_them(rt: HostRuntime) {
 fn slices_stay_frozen(rt: HostRuntime) {
     let offsets = frozen_offsets::<i32>(rt.alloc(), [0, 2, 7].as_slice());
     let mut offsets = offsets.expect(&rt, "offsets");
-    check_slice(&rt, &mut offsets, 0, 2, [0, 2].as_slice());
+    check_slice(&rt, "the first slot", &mut offsets, 0, 2, &[0, 2]);
     let offsets = offsets
         .into_mut()
         .left()
@@ -65,7 +62,7 @@ fn slices_stay_frozen(rt: HostRuntime) {
 #[test]
 fn new_offsets_are_one_zero(rt: HostRuntime) {
     let mut offsets = OffsetsBuffer::<i32>::new(rt.alloc()).expect(&rt, "memory");
-    check_slice(&rt, &mut offsets, 0, 1, [0].as_slice());
+    check_slice(&rt, "new", &mut offsets, 0, 1, &[0]);
     drop(offsets);
 }
 
@@ -78,11 +75,6 @@ const BUFFERS: &[(&str, &[i32], &str, &str)] = &[
     ("a negative offset", &[-1, 2], "the first offset must not be negative", "the first offset must not be negative"),
     ("offsets fall", &[0, 2, 1], "offsets must never fall", "offsets must never fall"),
 ];
-
-/// Creates a buffer of these integers.
-fn buffer(rt: &(impl Abort + AllocGlobal), values: &[i32]) -> Buffer<i32> {
-    Buffer::from_vec(values.to_vec(rt.alloc()).expect(rt, "memory")).expect(rt, "memory")
-}
 
 /// Returns the text of the offsets or of the error.
 fn text_of(made: Result<OffsetsBuffer<i32>, Error>) -> Text {
@@ -98,10 +90,12 @@ fn text_of(made: Result<OffsetsBuffer<i32>, Error>) -> Text {
 
 #[test]
 fn buffers_become_offsets_if_they_never_fall(rt: HostRuntime) {
-    for (case, values, expected, of_file) in BUFFERS {
-        let made = OffsetsBuffer::try_from_buffer(buffer(&rt, *values));
-        assert_text::text(text_of(made), *expected).expect(&rt, *case);
-        let made = OffsetsBuffer::try_from_file_buffer(rt.alloc(), buffer(&rt, *values));
-        assert_text::text(text_of(made), *of_file).expect(&rt, *case);
+    for (index, (case, values, expected, of_file)) in BUFFERS.iter().enumerate() {
+        let buffer = buffer_of(rt.alloc(), *values).expect(&rt, "memory");
+        let came = text_of(OffsetsBuffer::try_from_buffer(buffer));
+        assert_text::text(came, *expected).expect(&rt, row(*case, index).as_str());
+        let buffer = buffer_of(rt.alloc(), *values).expect(&rt, "memory");
+        let came = text_of(OffsetsBuffer::try_from_file_buffer(rt.alloc(), buffer));
+        assert_text::text(came, *of_file).expect(&rt, row_of(*case, "a file", index).as_str());
     }
 }
