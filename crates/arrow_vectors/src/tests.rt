@@ -46,7 +46,8 @@ use arrow_types::offset::Offset;
 use std::fmt::Debug;
 use std::process::Abort;
 use tests_support::{
-    Text, Tiny, assert_text, frozen_mask, frozen_offsets, growing_mask, offsets_of, tells,
+    Text, Tiny, assert_text, buffer_of, frozen_mask, frozen_offsets, growing_mask, offset_name,
+    offsets_of, row, row_of, tells,
 };
 
 /// Two characters of two bytes, and one of four.
@@ -67,6 +68,14 @@ const TEXT_SLOTS: &[Option<&str>] = &[Some("hi"), None, Some("there")];
 const SLOTS: Parts = (&[0, 2, 2, 7], b"hithere", "101");
 
 const ITEMS: Parts = (&[0, 2, 2, 7], b"hithere", "none");
+
+/// Names a case, and the kind and the type of offsets with which it is tried.
+fn case_of<K: ByteKind, O: Offset>(case: &str) -> Text {
+    let data_type = K::default_type(false);
+    let name = Text::of(format_args!("{case} ({data_type:?}, {})", offset_name::<O>()));
+    drop(data_type);
+    name
+}
 
 /// Compares what a value prints with a text.
 fn check_text<T: Debug + Drop>(rt: &impl Abort, case: &str, value: T, expected: &str) {
@@ -105,6 +114,8 @@ fn check_array<K: ByteKind, O: Offset>(
     answer: Result<ByteArray<K, O>, Error>,
     (offsets, bytes, mask): Parts,
 ) {
+    let name = case_of::<K, O>(case);
+    let case = name.as_str();
     let array = answer.expect(rt, case);
     let (ends, stored) = (
         array.offsets().buffer().as_slice(),
@@ -122,6 +133,8 @@ fn check_builder<K: ByteKind, O: Offset>(
     answer: Result<MutableByteArray<K, O>, Error>,
     (offsets, bytes, mask): Parts,
 ) {
+    let name = case_of::<K, O>(case);
+    let case = name.as_str();
     let builder = answer.expect(rt, case);
     let (ends, stored) = (builder.offsets().as_slice(), builder.values().as_slice());
     check_bytes(rt, case, ends, stored, (offsets, bytes));
@@ -136,6 +149,8 @@ fn check_values<K: ByteKind, O: Offset>(
     answer: Result<MutableByteValuesArray<K, O>, Error>,
     (offsets, bytes, _): Parts,
 ) {
+    let name = case_of::<K, O>(case);
+    let case = name.as_str();
     let builder = answer.expect(rt, case);
     let (ends, stored) = (builder.offsets().as_slice(), builder.values().as_slice());
     check_bytes(rt, case, ends, stored, (offsets, bytes));
@@ -149,8 +164,7 @@ fn array_of<K: ByteKind, O: Offset>(
     (offsets, bytes, mask): Parts,
 ) -> Result<ByteArray<K, O>, Error> {
     let offsets = frozen_offsets(rt.alloc(), offsets).expect(rt, "offsets");
-    let bytes = bytes.to_vec(rt.alloc()).expect(rt, "memory");
-    let bytes = Buffer::from_vec(bytes).expect(rt, "memory");
+    let bytes = buffer_of(rt.alloc(), bytes).expect(rt, "memory");
     let mask = frozen_mask(rt.alloc(), mask).expect(rt, "memory");
     ByteArray::try_new(data_type, offsets, bytes, mask)
 }
@@ -199,7 +213,8 @@ fn thawed<K: ByteKind, O: Offset>(
     rt: &impl Abort,
     array: ByteArray<K, O>,
 ) -> MutableByteArray<K, O> {
-    array.into_mut().right().expect(rt, "an array alone thaws")
+    let builder = array.into_mut().right();
+    builder.expect(rt, case_of::<K, O>("an array alone thaws").as_str())
 }
 
 /// Compares the stored values and the mask of an array of numbers.
@@ -210,9 +225,10 @@ fn check_numbers<T: NativeType + Debug>(
     values: &[T],
     mask: &str,
 ) {
-    let array = answer.expect(rt, case);
-    assert_text::value(array.values().as_slice(), values).expect(rt, case);
-    assert_text::mask(array.validity(), mask).expect(rt, case);
+    let name = Text::of(format_args!("{case} ({:?})", T::PRIMITIVE));
+    let array = answer.expect(rt, name.as_str());
+    assert_text::value(array.values().as_slice(), values).expect(rt, name.as_str());
+    assert_text::mask(array.validity(), mask).expect(rt, name.as_str());
     drop(array);
 }
 
@@ -224,9 +240,10 @@ fn check_growing<T: NativeType + Debug>(
     values: &[T],
     mask: &str,
 ) {
-    let builder = answer.expect(rt, case);
-    assert_text::value(builder.values().as_slice(), values).expect(rt, case);
-    assert_text::growing_mask(builder.validity(), mask).expect(rt, case);
+    let name = Text::of(format_args!("{case} ({:?})", T::PRIMITIVE));
+    let builder = answer.expect(rt, name.as_str());
+    assert_text::value(builder.values().as_slice(), values).expect(rt, name.as_str());
+    assert_text::growing_mask(builder.validity(), mask).expect(rt, name.as_str());
     drop(builder);
 }
 

@@ -5,18 +5,19 @@ use super::*;
 /// Compares the items and the parts of arrays of two items around a null.
 fn check_nulls<O: Offset>(rt: &(impl Abort + AllocGlobal)) {
     let array = ByteArray::<Binary, O>::from(rt.alloc(), BYTE_SLOTS).expect(rt, "memory");
-    let mut items = array.values_iter();
-    check_text(rt, "first", items.next(), "Some([104, 105])");
-    check_text(rt, "null", items.next(), "Some([])");
-    check_text(rt, "last", items.next(), "Some([116, 104, 101, 114, 101])");
-    check_text(rt, "end", items.next(), "None");
+    let (name, items) = (
+        case_of::<Binary, O>("stored items"),
+        array.values_iter().map(Some),
+    );
+    let expected = "[[104, 105] [] [116, 104, 101, 114, 101]]";
+    assert_text::slots(items, expected).expect(rt, name.as_str());
     check_array(rt, "bytes", Ok(array), SLOTS);
     let array = ByteArray::<Utf8, O>::from(rt.alloc(), TEXT_SLOTS).expect(rt, "memory");
-    let mut items = array.values_iter();
-    check_text(rt, "first text", items.next(), r#"Some("hi")"#);
-    check_text(rt, "null text", items.next(), r#"Some("")"#);
-    check_text(rt, "last text", items.next(), r#"Some("there")"#);
-    check_text(rt, "end of texts", items.next(), "None");
+    let (name, items) = (
+        case_of::<Utf8, O>("stored items"),
+        array.values_iter().map(Some),
+    );
+    assert_text::slots(items, r#"["hi" "" "there"]"#).expect(rt, name.as_str());
     check_array(rt, "texts", Ok(array), SLOTS);
 }
 
@@ -32,14 +33,14 @@ const AROUND: Parts = (&[2, 3, 3, 5], b"\xFF\xFF\x01\x04\x04\xC3", "101");
 fn check_slice<O: Offset>(rt: &(impl Abort + AllocGlobal)) {
     let mut array = own_array::<Binary, O>(rt, AROUND);
     assert!(rt; array.len() == 3);
-    check_text(rt, "the first value", array.value(0), "[1]");
-    check_text(rt, "the value of the null", array.value(1), "[]");
-    check_text(rt, "the last value", array.value(2), "[4, 4]");
+    let values = (array.value(0), array.value(1), array.value(2));
+    let name = case_of::<Binary, O>("the values");
+    check_text(rt, name.as_str(), values, "([1], [], [4, 4])");
     array.slice(1, 2);
     assert!(rt; array.len() == 2);
-    check_text(rt, "the null", array.get(0), "None");
-    check_text(rt, "the last slot", array.get(1), "Some([4, 4])");
-    assert_text::value(array.null_count(), 1).expect(rt, "null_count of a slice");
+    let slots = (array.get(0), array.get(1), array.null_count());
+    let name = case_of::<Binary, O>("the null, the last slot, null_count of a slice");
+    check_text(rt, name.as_str(), slots, "(None, Some([4, 4]), 1)");
     check_array(rt, "a slice", Ok(array), (&[3, 3, 5], AROUND.1, "01"));
 }
 
@@ -71,12 +72,17 @@ fn check_again<K: ByteKind, O: Offset>(
 
 /// Compares arrays of the parts of slices, and builders of the parts of builders from which a slot was popped.
 fn check_parts<K: ByteKind, O: Offset>(rt: &(impl Abort + AllocGlobal)) {
-    for (case, offset, len, offsets, marks) in SLICES {
+    for (index, (case, offset, len, offsets, marks)) in SLICES.iter().enumerate() {
         let array = own_array::<K, O>(rt, AROUND);
         assert!(rt; *offset <= array.len() && *len <= array.len() - *offset);
         let (data_type, ends, bytes, mask) = array.sliced(*offset, *len).into_inner();
         let array = ByteArray::<K, O>::try_new(data_type, ends, bytes, mask);
-        check_array(rt, *case, array, (*offsets, AROUND.1, *marks));
+        check_array(
+            rt,
+            row(*case, index).as_str(),
+            array,
+            (*offsets, AROUND.1, *marks),
+        );
     }
     let mut builder = thawed(rt, own_array::<K, O>(rt, AROUND));
     drop(builder.pop().expect(rt, "memory"));
@@ -105,9 +111,10 @@ const THAWS: &[(&str, Parts, &[u8], &str)] = &[
 
 /// Compares the builder of a thawed array, which has no bytes behind the last slot.
 fn check_thawed<K: ByteKind, O: Offset>(rt: &(impl Abort + AllocGlobal)) {
-    for (case, parts, bytes, mask) in THAWS {
+    for (index, (case, parts, bytes, mask)) in THAWS.iter().enumerate() {
         let builder = thawed(rt, own_array::<K, O>(rt, *parts));
-        check_builder(rt, *case, Ok(builder), (parts.0, *bytes, *mask));
+        let name = row(*case, index);
+        check_builder(rt, name.as_str(), Ok(builder), (parts.0, *bytes, *mask));
     }
 }
 
@@ -124,12 +131,13 @@ const SHARED: &[(&str, Parts)] = &[
 
 /// Compares a clone, which stays frozen while the first array lives, and then the first, which thaws.
 fn check_clone<K: ByteKind, O: Offset>(rt: &(impl Abort + AllocGlobal)) {
-    for (case, parts) in SHARED {
+    for (index, (case, parts)) in SHARED.iter().enumerate() {
+        let name = row(*case, index);
         let first = own_array::<K, O>(rt, *parts);
         let second = first.clone().expect(rt, "memory").into_mut().left();
-        let second = second.expect(rt, "a shared array stays frozen");
-        check_array(rt, *case, Ok(second), *parts);
-        check_builder(rt, *case, Ok(thawed(rt, first)), *parts);
+        let second = second.expect(rt, case_of::<K, O>("a shared array stays frozen").as_str());
+        check_array(rt, name.as_str(), Ok(second), *parts);
+        check_builder(rt, name.as_str(), Ok(thawed(rt, first)), *parts);
     }
 }
 
@@ -142,7 +150,8 @@ fn an_array_thaws_once_its_clone_is_dropped(rt: HostRuntime) {
 fn check_ends<O: Offset>(rt: &(impl Abort + AllocGlobal)) {
     let mut builder = own_builder::<Binary, O>(rt, (&[1, 3], b"\x07\x08\x09", "none"));
     let popped = builder.pop().expect(rt, "memory");
-    check_text(rt, "a popped item", popped, "Some([8, 9])");
+    let name = case_of::<Binary, O>("a popped item");
+    check_text(rt, name.as_str(), popped, "Some([8, 9])");
     check_again(rt, "what is left", builder, (&[1], b"\x07", "none"));
     let parts: Parts = (&[0, 1], b"a\xFF", "none");
     let pushed: Parts = (&[0, 1, 2], b"ab", "none");

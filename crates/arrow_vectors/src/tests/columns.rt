@@ -5,27 +5,28 @@ type Numbers = PrimitiveArray<i32>;
 
 #[test]
 fn a_null_stores_zero_or_false_under_a_clear_mark(rt: HostRuntime) {
-    macro_rules! check {
+    macro_rules! check_slots {
         ($array:ident, $slots:ident, $values:expr, $data_type:ident) => {
             assert!(rt; $array.len() == 3);
             let values = [$array.value(0), $array.value(1), $array.value(2)];
-            assert_text::value(values, $values).expect(&rt, "value");
             let slots = [$array.get(0), $array.get(1), $array.get(2)];
-            assert_text::value(slots, $slots).expect(&rt, "get");
+            let case = concat!("value and get of ", stringify!($data_type));
+            assert_text::value((values, slots), ($values, $slots)).expect(&rt, case);
             let marks = ($array.is_null(0), $array.is_null(1), $array.is_valid(2));
-            assert_text::value(marks, (false, true, true)).expect(&rt, "is_null, is_valid");
-            assert_text::value($array.null_count(), 1).expect(&rt, "null_count");
+            let came = (marks, $array.null_count());
+            let case = concat!("is_null, is_valid, null_count of ", stringify!($data_type));
+            assert_text::value(came, ((false, true, true), 1)).expect(&rt, case);
             let data_type = Text::of(format_args!("{:?}", $array.data_type()));
             assert_text::text(data_type, stringify!($data_type)).expect(&rt, "data_type");
         };
     }
     let slots = [Some(1), None, Some(10)];
     let numbers = Numbers::from(rt.alloc(), slots.as_slice()).expect(&rt, "memory");
-    check!(numbers, slots, [1, 0, 10], Int32);
+    check_slots!(numbers, slots, [1, 0, 10], Int32);
     check_numbers(&rt, "numbers", Ok(numbers), &[1, 0, 10], "101");
     let slots = [Some(true), None, Some(false)];
     let booleans = BooleanArray::from(rt.alloc(), slots.as_slice()).expect(&rt, "memory");
-    check!(booleans, slots, [true, false, false], Boolean);
+    check_slots!(booleans, slots, [true, false, false], Boolean);
     check_booleans(&rt, "booleans", Ok(booleans), "100", "101");
 }
 
@@ -38,11 +39,11 @@ const PACKED: &[(&str, [Option<i32>; 3], u8)] = &[
 
 #[test]
 fn marks_are_packed_from_the_lowest_bit_on(rt: HostRuntime) {
-    for (case, slots, expected) in PACKED {
+    for (index, (case, slots, expected)) in PACKED.iter().enumerate() {
         let builder = MutablePrimitiveArray::from(rt.alloc(), slots.as_slice());
         let (_, _, mask) = builder.expect(&rt, "memory").into_inner();
         let bytes = mask.expect(&rt, "a mask").into_vec();
-        assert_text::value(bytes.as_slice(), &[*expected]).expect(&rt, *case);
+        assert_text::value(bytes.as_slice(), &[*expected]).expect(&rt, row(*case, index).as_str());
         drop(bytes);
     }
 }
@@ -84,14 +85,16 @@ const SHARED: &[(&str, [Option<i32>; 3], [i32; 3], &str)] = &[
 
 #[test]
 fn a_clone_thaws_once_the_first_is_dropped(rt: HostRuntime) {
-    for (case, slots, values, mask) in SHARED {
+    for (index, (case, slots, values, mask)) in SHARED.iter().enumerate() {
+        let name = row(*case, index);
+        let case = name.as_str();
         let first = Numbers::from(rt.alloc(), slots.as_slice()).expect(&rt, "memory");
         let second = first.clone().expect(&rt, "memory").into_mut().left();
         let second = second.expect(&rt, "a shared array stays frozen");
-        check_numbers(&rt, *case, second.clone(), values.as_slice(), *mask);
-        check_numbers(&rt, *case, Ok(first), values.as_slice(), *mask);
+        check_numbers(&rt, case, second.clone(), values.as_slice(), *mask);
+        check_numbers(&rt, case, Ok(first), values.as_slice(), *mask);
         let builder = Ok(thawed(&rt, second));
-        check_growing(&rt, *case, builder, values.as_slice(), *mask);
+        check_growing(&rt, case, builder, values.as_slice(), *mask);
     }
 }
 
@@ -119,16 +122,16 @@ const CUTS: &[(&str, &[Option<i32>], (usize, usize), (usize, usize), &[i32], &st
 
 #[test]
 fn slices_of_slices_add_their_offsets(rt: HostRuntime) {
-    for (case, slots, first, second, values, mask) in CUTS {
+    for (index, (case, slots, first, second, values, mask)) in CUTS.iter().enumerate() {
         let array = Numbers::from(rt.alloc(), *slots).expect(&rt, "memory");
         let array = cut(&rt, cut(&rt, array, *first), *second);
-        check_numbers(&rt, *case, Ok(array), *values, *mask);
+        check_numbers(&rt, row(*case, index).as_str(), Ok(array), *values, *mask);
     }
 }
 
 /// Creates the values 1, 2 and 3.
-fn numbers(rt: &(impl Abort + AllocGlobal)) -> Result<Buffer<i32>, Error> {
-    Buffer::from_vec([1, 2, 3].to_vec(rt.alloc()).expect(rt, "memory"))
+fn numbers(rt: &impl AllocGlobal) -> Result<Buffer<i32>, Error> {
+    buffer_of(rt.alloc(), &[1, 2, 3])
 }
 
 const BOOLEANS: &[bool] = &[true, false, true];
@@ -149,19 +152,20 @@ const FAULTS: &[(&str, &str, bool, &str)] = &[
 
 #[test]
 fn the_mask_is_checked_before_the_type(rt: HostRuntime) {
-    for (case, mask, fits, answer) in FAULTS {
-        macro_rules! check {
+    for (index, (case, mask, fits, answer)) in FAULTS.iter().enumerate() {
+        macro_rules! check_constructor {
             ($($type:ident of $values:expr, $mask:ident, $right:ident or $wrong:ident: $error:literal;)*) => {
                 $(
                     let validity = $mask(rt.alloc(), *mask).expect(&rt, "memory");
                     let values = $values.expect(&rt, "memory");
                     let data_type = if *fits { DataType::$right } else { DataType::$wrong };
                     let came = tells($type::try_new(data_type, values, validity));
-                    check_answer(&rt, *case, came, *answer, $error);
+                    let name = row_of(*case, stringify!($type), index);
+                    check_answer(&rt, name.as_str(), came, *answer, $error);
                 )*
             };
         }
-        check! {
+        check_constructor! {
             PrimitiveArray of numbers(&rt), frozen_mask, Date32 or Utf8:
                 "PrimitiveArray can only be initialized with a DataType whose physical type is Primitive";
             MutablePrimitiveArray of [1, 2, 3].to_vec(rt.alloc()), growing_mask, Date32 or Utf8:
@@ -183,25 +187,29 @@ const AGAIN: &[(&str, &str, &str, &str)] = &[
 
 #[test]
 fn parts_of_numbers_are_accepted_again(rt: HostRuntime) {
-    for (case, mask, last, first) in AGAIN {
+    for (index, (case, mask, last, first)) in AGAIN.iter().enumerate() {
+        let name = row(*case, index);
+        let case = name.as_str();
         let mask = frozen_mask(rt.alloc(), *mask).expect(&rt, "memory");
         let values = numbers(&rt).expect(&rt, "memory");
         let array = Numbers::try_new(DataType::Date32, values, mask).expect(&rt, "parts that fit");
         let slice = cut(&rt, array.clone().expect(&rt, "memory"), (1, 2));
         let (data_type, values, mask) = slice.into_inner();
         let slice = Numbers::try_new(data_type, values, mask);
-        check_numbers(&rt, *case, slice, &[2, 3], *last);
+        check_numbers(&rt, case, slice, &[2, 3], *last);
         let mut builder = thawed(&rt, array);
         builder.pop();
         let (data_type, values, mask) = builder.into_inner();
         let builder = MutablePrimitiveArray::try_new(data_type, values, mask);
-        check_growing(&rt, *case, builder, &[1, 2], *first);
+        check_growing(&rt, case, builder, &[1, 2], *first);
     }
 }
 
 #[test]
 fn parts_of_booleans_are_accepted_again(rt: HostRuntime) {
-    for (case, mask, last, first) in AGAIN {
+    for (index, (case, mask, last, first)) in AGAIN.iter().enumerate() {
+        let name = row(*case, index);
+        let case = name.as_str();
         let mask = frozen_mask(rt.alloc(), *mask).expect(&rt, "memory");
         let values = Bitmap::from_slice(rt.alloc(), BOOLEANS).expect(&rt, "memory");
         let array = BooleanArray::try_new(DataType::Boolean, values, mask);
@@ -210,12 +218,12 @@ fn parts_of_booleans_are_accepted_again(rt: HostRuntime) {
         assert!(rt; slice.len() == 3);
         let (data_type, values, mask) = slice.sliced(1, 2).into_inner();
         let slice = BooleanArray::try_new(data_type, values, mask);
-        check_booleans(&rt, *case, slice, "01", *last);
+        check_booleans(&rt, case, slice, "01", *last);
         let mut builder = array.into_mut().right().expect(&rt, "an array alone thaws");
         builder.pop();
         let array = builder.freeze().expect(&rt, "memory");
         let (data_type, values, mask) = array.into_inner();
         let array = BooleanArray::try_new(data_type, values, mask);
-        check_booleans(&rt, *case, array, "10", *first);
+        check_booleans(&rt, case, array, "10", *first);
     }
 }

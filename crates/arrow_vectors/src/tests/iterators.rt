@@ -174,19 +174,18 @@ fn bytes_and_texts_are_taken_from_an_iterator_that_lies(rt: HostRuntime) {
 fn check_ends<O: Offset>(rt: &(impl Abort + AllocGlobal)) {
     let array = ByteArray::<Utf8, O>::from_slice(rt.alloc(), ["10", "20", "30"].as_slice());
     let array = array.expect(rt, "memory");
+    let name = case_of::<Utf8, O>("both ends, nth(0), and past the end");
     let mut items = array.values_iter();
-    check_text(rt, "the first", items.next(), r#"Some("10")"#);
-    check_text(rt, "the last", items.next_back(), r#"Some("30")"#);
-    assert_text::value(items.len(), 1).expect(rt, "one is left");
-    check_text(rt, "the one that is left", items.nth(0), r#"Some("20")"#);
-    check_text(rt, "none behind it", items.next(), "None");
-    check_text(rt, "none before it", items.next_back(), "None");
+    let ends = (items.next(), items.next_back(), items.len());
+    let rest = (items.nth(0), items.next(), items.next_back());
+    let expected = r#"((Some("10"), Some("30"), 1), (Some("20"), None, None))"#;
+    check_text(rt, name.as_str(), (ends, rest), expected);
+    let name = case_of::<Utf8, O>("skipping too many");
     let mut items = array.values_iter();
-    check_text(rt, "the first again", items.next(), r#"Some("10")"#);
-    check_text(rt, "skipping too many", items.nth(usize::MAX), "None");
-    assert_text::value(items.len(), 0).expect(rt, "none is left");
-    check_text(rt, "none behind what was skipped", items.next(), "None");
-    check_text(rt, "none before it", items.next_back(), "None");
+    let skipped = (items.next(), items.nth(usize::MAX), items.len());
+    let rest = (items.next(), items.next_back());
+    let expected = r#"((Some("10"), None, 0), (None, None))"#;
+    check_text(rt, name.as_str(), (skipped, rest), expected);
     drop(array);
 }
 

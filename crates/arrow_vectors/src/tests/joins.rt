@@ -13,7 +13,7 @@ const NUMBERS: &[(&str, &[Option<i32>], &[Option<i32>], &[i32], &str)] = &[
 
 #[test]
 fn slots_behind_others_keep_their_marks(rt: HostRuntime) {
-    for (case, first, second, values, mask) in NUMBERS {
+    for (index, (case, first, second, values, mask)) in NUMBERS.iter().enumerate() {
         let mut builder = MutablePrimitiveArray::<i32>::new(rt.alloc());
         for slot in *first {
             builder.push(*slot).expect(&rt, "memory");
@@ -24,7 +24,7 @@ fn slots_behind_others_keep_their_marks(rt: HostRuntime) {
         }
         builder.try_extend_from_self(&other).expect(&rt, "memory");
         drop(other);
-        check_growing(&rt, *case, Ok(builder), *values, *mask);
+        check_growing(&rt, row(*case, index).as_str(), Ok(builder), *values, *mask);
     }
 }
 
@@ -43,8 +43,9 @@ fn values_of_a_vector_are_valid_behind_a_null(rt: HostRuntime) {
 type Join = (&'static str, Parts, Parts, Result<Parts, Error>);
 
 /// Compares the answer to the slots of another builder, and the builder then, which an error leaves unchanged.
-fn check_join<K: ByteKind, O: Offset>(rt: &(impl Abort + AllocGlobal), join: &Join) {
+fn check_join<K: ByteKind, O: Offset>(rt: &(impl Abort + AllocGlobal), index: usize, join: &Join) {
     let (case, first, second, expected) = *join;
+    let name = row(case, index);
     let (error, all) = match expected {
         Ok(all) => (None, all),
         Err(error) => (Some(error), first),
@@ -53,8 +54,8 @@ fn check_join<K: ByteKind, O: Offset>(rt: &(impl Abort + AllocGlobal), join: &Jo
     let other = own_builder::<K, O>(rt, second);
     let came = builder.try_extend_from_self(&other).err();
     drop(other);
-    assert_text::value(came, error).expect(rt, case);
-    check_builder(rt, case, Ok(builder), all);
+    assert_text::value(came, error).expect(rt, case_of::<K, O>(name.as_str()).as_str());
+    check_builder(rt, name.as_str(), Ok(builder), all);
 }
 
 const NOTHING: Parts = (&[0], b"", "none");
@@ -78,8 +79,8 @@ const JOINS: &[Join] = &[
 
 #[test]
 fn only_the_slots_of_another_builder_come(rt: HostRuntime) {
-    for join in JOINS {
-        for_each_kind!(check_join, &rt, join);
+    for (index, join) in JOINS.iter().enumerate() {
+        for_each_kind!(check_join, &rt, index, join);
     }
 }
 
@@ -103,7 +104,7 @@ const NARROW: &[Join] = &[
 
 #[test]
 fn slots_of_another_builder_end_at_the_greatest_offset(rt: HostRuntime) {
-    for join in NARROW {
-        check_join::<Binary, Tiny>(&rt, join);
+    for (index, join) in NARROW.iter().enumerate() {
+        check_join::<Binary, Tiny>(&rt, index, join);
     }
 }

@@ -1,6 +1,6 @@
 //! Keys that point at items.
 use arrow_check::indexes::check_indexes;
-use tests_support::{assert_text, tells};
+use tests_support::{assert_text, row, tells};
 
 const NEGATIVE: &str = "the dictionary key must fit in a usize";
 
@@ -20,7 +20,8 @@ const KEYS: &[(&str, &[i64], usize, &str)] = &[
 
 #[test]
 fn the_first_bad_key_is_reported(rt: HostRuntime) {
-    for (case, keys, items, expected) in KEYS {
-        assert_text::value(tells(check_indexes(*keys, *items)), *expected).expect(&rt, *case);
+    for (index, (case, keys, items, expected)) in KEYS.iter().enumerate() {
+        let came = tells(check_indexes(*keys, *items));
+        assert_text::value(came, *expected).expect(&rt, row(*case, index).as_str());
     }
 }

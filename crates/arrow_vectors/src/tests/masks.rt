@@ -17,12 +17,13 @@ const LENGTHS: &[(&str, &[u8], usize, &str)] = &[
 
 #[test]
 fn marks_have_to_fit_in_their_bytes(rt: HostRuntime) {
-    for (case, bytes, length, expected) in LENGTHS {
+    for (index, (case, bytes, length, expected)) in LENGTHS.iter().enumerate() {
         let values = bytes.to_vec(rt.alloc()).expect(&rt, "memory");
         let frozen = tells(Bitmap::try_new(values, *length));
         let values = bytes.to_vec(rt.alloc()).expect(&rt, "memory");
         let growing = tells(MutableBitmap::try_new(values, *length));
-        assert_text::value((frozen, growing), (*expected, *expected)).expect(&rt, *case);
+        let name = row(*case, index);
+        assert_text::value((frozen, growing), (*expected, *expected)).expect(&rt, name.as_str());
     }
 }
 
@@ -37,12 +38,13 @@ const PUSHED: &[(&str, &[u8], usize, bool, &str, usize)] = &[
 
 #[test]
 fn bits_after_the_marks_do_not_count(rt: HostRuntime) {
-    for (case, bytes, length, mark, expected, clear) in PUSHED {
+    for (index, (case, bytes, length, mark, expected, clear)) in PUSHED.iter().enumerate() {
         let bytes = bytes.to_vec(rt.alloc()).expect(&rt, "memory");
         let mut marks = MutableBitmap::try_new(bytes, *length).expect(&rt, "marks that fit");
         marks.push(*mark).expect(&rt, "memory");
-        assert_text::marks(marks.iter(), *expected).expect(&rt, *case);
-        assert_text::value(marks.unset_bits(), *clear).expect(&rt, *case);
+        let name = row(*case, index);
+        assert_text::marks(marks.iter(), *expected).expect(&rt, name.as_str());
+        assert_text::value(marks.unset_bits(), *clear).expect(&rt, name.as_str());
         drop(marks);
     }
 }

@@ -37,15 +37,16 @@ const NARROW: &[(&str, i8, i8, &str)] = &[
 
 #[test]
 fn raw_offsets_are_refused_by_their_first_fault(rt: HostRuntime) {
-    for (case, offsets, expected) in RAW {
-        assert_text::value(answer(&rt, *offsets), *expected).expect(&rt, *case);
+    for (index, (case, offsets, expected)) in RAW.iter().enumerate() {
+        let name = row_of(*case, "i32", index);
+        assert_text::value(answer(&rt, *offsets), *expected).expect(&rt, name.as_str());
     }
-    for (case, first, second, expected) in NARROW {
+    for (index, (case, first, second, expected)) in NARROW.iter().enumerate() {
         let came = match (Tiny::new(*first), Tiny::new(*second)) {
             (Some(first), Some(second)) => answer(&rt, [first, second].as_slice()),
             _ => "not an offset",
         };
-        assert_text::value(came, *expected).expect(&rt, *case);
+        assert_text::value(came, *expected).expect(&rt, row_of(*case, "Tiny", index).as_str());
     }
 }
 
@@ -67,7 +68,13 @@ const ENDS: &[End] = &[
 
 /// Compares the answers to a slot, and the offsets then, once it is pushed and once it comes from other offsets. A slot
 /// that is far too long is refused before.
-fn check_end<O: Offset>(rt: &(impl Abort + AllocGlobal), (case, before, length, answer): End) {
+fn check_end<O: Offset>(
+    rt: &(impl Abort + AllocGlobal),
+    index: usize,
+    (case, before, length, answer): End,
+) {
+    let name = row_of(case, offset_name::<O>(), index);
+    let case = name.as_str();
     let last = O::max().to_usize().saturating_sub(before);
     let all = [0, last, last.saturating_add(length)];
     let (ends, start) = (all.as_slice(), &all[..2]);
@@ -92,7 +99,7 @@ fn check_end<O: Offset>(rt: &(impl Abort + AllocGlobal), (case, before, length, 
 
 #[test]
 fn slots_end_at_the_greatest_offset(rt: HostRuntime) {
-    for end in ENDS {
-        for_each_offset!(check_end, &rt, *end);
+    for (index, end) in ENDS.iter().enumerate() {
+        for_each_offset!(check_end, &rt, index, *end);
     }
 }

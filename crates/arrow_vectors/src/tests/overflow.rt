@@ -20,22 +20,23 @@ fn check_call(rt: &impl Abort, case: &str, call: &str, came: &str, expected: &st
 /// Compares the answers of all calls that extend a builder by the items of a row, and the builders then.
 fn check_extended<K: ByteKind, X: ByteItem<K> + ItemError<Error = Error>>(
     rt: &(impl Abort + AllocGlobal),
-    row: &Row<'_, X>,
+    index: usize,
+    (case, items, slots, answer, len, bytes): Row<'_, X>,
 ) {
-    let (case, items, slots, answer, len, bytes) = *row;
-    macro_rules! check {
+    let name = case_of::<K, Tiny>(row(case, index).as_str());
+    macro_rules! check_extend {
         ($($call:literal: $type:ident::$extend:ident($argument:expr);)*) => {
             $(
                 let mut builder = $type::<K, Tiny>::new(rt.alloc()).expect(rt, "memory");
                 let came = tells(builder.$extend($argument));
                 let sizes = (builder.len(), builder.values().len());
                 drop(builder);
-                check_call(rt, case, $call, came, answer);
-                assert_text::value(sizes, (len, bytes)).expect(rt, case);
+                let came = ($call, came, sizes);
+                assert_text::value(came, ($call, answer, (len, bytes))).expect(rt, name.as_str());
             )*
         };
     }
-    check! {
+    check_extend! {
         "extend": MutableByteArray::extend(slots.iter().copied());
         "try_extend": MutableByteArray::try_extend(slots.iter().copied());
         "extend_values": MutableByteArray::extend_values(items.iter().copied());
@@ -47,18 +48,19 @@ fn check_extended<K: ByteKind, X: ByteItem<K> + ItemError<Error = Error>>(
 /// Compares the answers of all constructors from the items of a row.
 fn check_made<K: ByteKind, X: ByteItem<K> + ItemError<Error = Error>>(
     rt: &(impl Abort + AllocGlobal),
-    row: &Row<'_, X>,
+    index: usize,
+    (case, items, slots, answer, _, _): Row<'_, X>,
 ) {
-    let (case, items, slots, answer, _, _) = *row;
-    macro_rules! check {
+    let name = case_of::<K, Tiny>(row(case, index).as_str());
+    macro_rules! check_constructor {
         ($($call:literal: $type:ident::$constructor:ident($argument:expr);)*) => {
             $(
                 let came = tells($type::<K, Tiny>::$constructor(rt.alloc(), $argument));
-                check_call(rt, case, $call, came, answer);
+                check_call(rt, name.as_str(), $call, came, answer);
             )*
         };
     }
-    check! {
+    check_constructor! {
         "from": MutableByteArray::from(slots);
         "from_iter": MutableByteArray::from_iter(slots.iter().copied());
         "from_iter_values": MutableByteArray::from_iter_values(items.iter().copied());
@@ -94,13 +96,13 @@ const TEXTS: &[Row<'static, &str>] = &[
 
 #[test]
 fn items_end_at_the_greatest_offset(rt: HostRuntime) {
-    for row in BYTES {
-        check_extended::<Binary, &[u8]>(&rt, row);
-        check_made::<Binary, &[u8]>(&rt, row);
+    for (index, row) in BYTES.iter().enumerate() {
+        check_extended::<Binary, &[u8]>(&rt, index, *row);
+        check_made::<Binary, &[u8]>(&rt, index, *row);
     }
-    for row in TEXTS {
-        check_extended::<Utf8, &str>(&rt, row);
-        check_made::<Utf8, &str>(&rt, row);
+    for (index, row) in TEXTS.iter().enumerate() {
+        check_extended::<Utf8, &str>(&rt, index, *row);
+        check_made::<Utf8, &str>(&rt, index, *row);
     }
 }
 
@@ -109,10 +111,11 @@ macro_rules! check_pushes {
     ($rt:expr, $pushes:ident; $($made:expr, |$builder:ident, $item:ident| $push:expr;)*) => {
         $(
             let mut $builder = $made;
-            for (case, item, expected, offsets) in $pushes {
+            for (index, (case, item, expected, offsets)) in $pushes.iter().enumerate() {
                 let $item = *item;
-                check_call($rt, *case, stringify!($push), tells($push), *expected);
-                check_bytes($rt, *case, $builder.offsets().as_slice(), &[], (*offsets, &[]));
+                let name = row(*case, index);
+                check_call($rt, name.as_str(), stringify!($push), tells($push), *expected);
+                check_bytes($rt, name.as_str(), $builder.offsets().as_slice(), &[], (*offsets, &[]));
             }
             drop($builder);
         )*

@@ -41,10 +41,11 @@ fn check_arrays<O: Offset, K: ByteKind, Other: ByteKind>(
     rows: &[Row],
     of_type: &str,
 ) {
-    for (case, word, parts, answer) in rows {
+    for (index, (case, word, parts, answer)) in rows.iter().enumerate() {
+        let name = case_of::<K, O>(row(*case, index).as_str());
         let data_type = type_of::<K, Other>(*word, O::IS_LARGE);
         let came = tells(array_of::<K, O>(rt, data_type, *parts));
-        check_answer(rt, *case, came, *answer, of_type);
+        check_answer(rt, name.as_str(), came, *answer, of_type);
     }
 }
 
@@ -54,14 +55,15 @@ fn check_builders<O: Offset, K: ByteKind, Other: ByteKind>(
     rows: &[Row],
     of_type: &str,
 ) {
-    for (case, word, parts, answer) in rows {
+    for (index, (case, word, parts, answer)) in rows.iter().enumerate() {
+        let name = case_of::<K, O>(row(*case, index).as_str());
         let data_type = type_of::<K, Other>(*word, O::IS_LARGE);
         let came = tells(builder_of::<K, O>(rt, data_type, *parts));
-        check_answer(rt, *case, came, *answer, of_type);
+        check_answer(rt, name.as_str(), came, *answer, of_type);
         let answer = if *answer == LEN { MADE } else { *answer };
         let data_type = type_of::<K, Other>(*word, O::IS_LARGE);
         let came = tells(values_of::<K, O>(rt, data_type, *parts));
-        check_answer(rt, *case, came, answer, of_type);
+        check_answer(rt, name.as_str(), came, answer, of_type);
     }
 }
 
@@ -155,11 +157,13 @@ fn check_extension<K: ByteKind, O: Offset>(rt: &(impl Abort + AllocGlobal)) {
     let expected = extension::<K, O>(rt);
     let array = array_of::<K, O>(rt, extension::<K, O>(rt), (&[0, 0], b"", "none"));
     let array = array.expect(rt, "parts that fit");
-    assert_text::value(array.data_type(), &expected).expect(rt, "an array");
+    let name = case_of::<K, O>("an array");
+    assert_text::value(array.data_type(), &expected).expect(rt, name.as_str());
     drop(array);
     let builder = builder_of::<K, O>(rt, extension::<K, O>(rt), (&[0], b"", "none"));
     let builder = builder.expect(rt, "parts that fit");
-    assert_text::value(builder.data_type(), &expected).expect(rt, "a builder");
+    let name = case_of::<K, O>("a builder");
+    assert_text::value(builder.data_type(), &expected).expect(rt, name.as_str());
     drop(builder);
     drop(expected);
 }

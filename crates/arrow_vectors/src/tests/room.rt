@@ -8,11 +8,11 @@ fn three_values_fit_in_room_for_three(rt: HostRuntime) {
     for case in ["with_capacity", "reserve"] {
         let room = builder.capacity();
         let left = room.saturating_sub(builder.len());
-        assert_text::value(left.min(3), 3).expect(&rt, case);
         for value in 0..3 {
             builder.push(Some(value)).expect(&rt, "memory");
         }
-        assert_text::value(builder.capacity(), room).expect(&rt, case);
+        let came = (left.min(3), builder.capacity());
+        assert_text::value(came, (3, room)).expect(&rt, case);
         builder.reserve(3).expect(&rt, "memory");
     }
     drop(builder);
@@ -20,44 +20,45 @@ fn three_values_fit_in_room_for_three(rt: HostRuntime) {
 
 /// Compares the capacities of builders of bytes and of text before and after three items of two bytes, for which each
 /// call reserves room.
-fn check_room<O: Offset>(rt: &(impl Abort + AllocGlobal)) {
-    macro_rules! check_items {
+fn check_reserved<O: Offset>(rt: &(impl Abort + AllocGlobal)) {
+    macro_rules! check_three_items {
         ($case:expr, $builder:ident, $item:expr) => {
+            let name = Text::of(format_args!("{} ({})", $case, offset_name::<O>()));
             let room = ($builder.offsets().capacity(), $builder.values().capacity());
             for _ in 0..3 {
                 $builder.push(Some($item)).expect(rt, "memory");
             }
             let came = ($builder.offsets().capacity(), $builder.values().capacity());
-            assert_text::value(came, room).expect(rt, $case);
+            assert_text::value(came, room).expect(rt, name.as_str());
         };
     }
     let mut bytes = MutableByteArray::<Binary, O>::new(rt.alloc()).expect(rt, "memory");
     bytes.reserve(3, 6).expect(rt, "memory");
-    check_items!("reserve of bytes", bytes, b"12");
+    check_three_items!("reserve of bytes", bytes, b"12");
     bytes.reserve(3, 6).expect(rt, "memory");
-    check_items!("another reserve of bytes", bytes, b"12");
+    check_three_items!("another reserve of bytes", bytes, b"12");
     drop(bytes);
     let texts = MutableByteArray::<Utf8, O>::with_capacities(rt.alloc(), 3, 6);
     let mut texts = texts.expect(rt, "memory");
-    check_items!("with_capacities of texts", texts, "é");
+    check_three_items!("with_capacities of texts", texts, "é");
     texts.reserve(3, 6).expect(rt, "memory");
-    check_items!("reserve of texts", texts, "é");
+    check_three_items!("reserve of texts", texts, "é");
     drop(texts);
 }
 
 #[test]
 fn six_bytes_fit_in_room_for_six(rt: HostRuntime) {
-    for_each_offset!(check_room, &rt);
+    for_each_offset!(check_reserved, &rt);
 }
 
 /// Compares capacities with the thousand that were reserved, and, once room was given back, with less.
 fn check_capacities(rt: &impl Abort, case: &str, is_shrunk: bool, capacities: [usize; 3]) {
-    for capacity in capacities {
-        if is_shrunk {
-            assert_text::value(capacity.max(999), 999).expect(rt, case);
-        } else {
-            assert_text::value(capacity.min(1000), 1000).expect(rt, case);
-        }
+    if is_shrunk {
+        let came = capacities.map(|capacity| capacity.max(999));
+        assert_text::value(came, [999; 3]).expect(rt, case);
+    } else {
+        let came = capacities.map(|capacity| capacity.min(1000));
+        assert_text::value(came, [1000; 3]).expect(rt, case);
     }
 }
 
@@ -75,7 +76,7 @@ fn bitmap_capacity(rt: &impl Abort, bitmap: Bitmap) -> usize {
 }
 
 /// Lets a builder of a null reserve room for a thousand slots, and give it back or not, and compares its capacities.
-macro_rules! check_room {
+macro_rules! check_thousand {
     ($rt:ident, $case:expr; $builder:ident = $made:expr; reserve($($room:expr),+); $capacities:block) => {
         for is_shrunk in [false, true] {
             let mut $builder = $made;
@@ -92,14 +93,14 @@ macro_rules! check_room {
 #[test]
 fn room_for_numbers_and_booleans_comes_and_goes(rt: HostRuntime) {
     let rt = &rt;
-    check_room! { rt, "numbers"; builder = MutablePrimitiveArray::<i64>::new(rt.alloc()); reserve(1000); {
+    check_thousand! { rt, "numbers"; builder = MutablePrimitiveArray::<i64>::new(rt.alloc()); reserve(1000); {
         let capacity = builder.capacity();
         let (_, values, mask) = builder.into_inner();
         let stored = values.capacity();
         drop(values);
         [capacity, stored, mask_capacity(rt, mask)]
     }}
-    check_room! { rt, "booleans"; builder = MutableBooleanArray::new(rt.alloc()); reserve(1000); {
+    check_thousand! { rt, "booleans"; builder = MutableBooleanArray::new(rt.alloc()); reserve(1000); {
         let (_, values, mask) = builder.freeze().expect(rt, "memory").into_inner();
         let marks = bitmap_capacity(rt, mask.expect(rt, "a mask"));
         [bitmap_capacity(rt, values), marks, marks]
@@ -113,7 +114,11 @@ fn room_for_numbers_and_booleans_comes_and_goes(rt: HostRuntime) {
 
 /// Compares the capacities of builders with and without nulls, after `reserve` and after `shrink_to_fit`.
 fn check_items<K: ByteKind, O: Offset>(rt: &(impl Abort + AllocGlobal)) {
-    check_room! { rt, "with nulls"; builder = own_builder::<K, O>(rt, (&[0], b"", "none")); reserve(1000, 1000); {
+    let (slots, items) = (
+        case_of::<K, O>("with nulls"),
+        case_of::<K, O>("without nulls"),
+    );
+    check_thousand! { rt, slots.as_str(); builder = own_builder::<K, O>(rt, (&[0], b"", "none")); reserve(1000, 1000); {
         let capacity = builder.capacity();
         let (_, offsets, bytes, mask) = builder.into_data();
         let stored = bytes.capacity();
@@ -121,7 +126,7 @@ fn check_items<K: ByteKind, O: Offset>(rt: &(impl Abort + AllocGlobal)) {
         drop(offsets);
         [capacity, stored, mask_capacity(rt, mask)]
     }}
-    check_room! { rt, "without nulls";
+    check_thousand! { rt, items.as_str();
         builder = MutableByteValuesArray::<K, O>::new(rt.alloc()).expect(rt, "memory"); reserve(1000, 1000); {
         let capacities = [builder.capacity(), builder.offsets().capacity(), builder.values().capacity()];
         drop(builder);

@@ -15,9 +15,10 @@ const CUTS: &[(&str, &[usize], &[u8], &str)] = &[
 
 /// Compares the texts of arrays.
 fn check_cut<O: Offset>(rt: &(impl Abort + AllocGlobal)) {
-    for (case, offsets, bytes, expected) in CUTS {
+    for (index, (case, offsets, bytes, expected)) in CUTS.iter().enumerate() {
         let array = own_array::<Utf8, O>(rt, (*offsets, *bytes, "none"));
-        assert_text::slots(array.values_iter().map(Some), *expected).expect(rt, *case);
+        let name = row_of(*case, offset_name::<O>(), index);
+        assert_text::slots(array.values_iter().map(Some), *expected).expect(rt, name.as_str());
         drop(array);
     }
 }
@@ -41,16 +42,16 @@ const CUT_AT: &[(&str, &[u8], &str)] = &[
 
 /// Compares the answers to bytes that are cut into two slots, at each index.
 fn check_cuts_at_each_index<O: Offset>(rt: &(impl Abort + AllocGlobal)) {
-    for (case, bytes, marks) in CUT_AT {
+    for (at, (case, bytes, marks)) in CUT_AT.iter().enumerate() {
+        let name = row_of(*case, offset_name::<O>(), at);
         for (index, mark) in marks.as_bytes().iter().enumerate() {
             let offsets = frozen_offsets(rt.alloc(), [0, index, bytes.len()].as_slice());
             let offsets = offsets.expect(rt, "offsets");
-            let values = bytes.to_vec(rt.alloc()).expect(rt, "memory");
-            let values = Buffer::from_vec(values).expect(rt, "memory");
+            let values = buffer_of(rt.alloc(), *bytes).expect(rt, "memory");
             let data_type = ByteArray::<Utf8, O>::default_data_type();
             let came = tells(ByteArray::<Utf8, O>::try_new(data_type, offsets, values, None));
             let expected = if *mark == b'1' { "made" } else { NO_TEXT };
-            assert_text::value((index, came), (index, expected)).expect(rt, *case);
+            assert_text::value((index, came), (index, expected)).expect(rt, name.as_str());
         }
     }
 }
