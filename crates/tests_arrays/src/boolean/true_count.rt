@@ -27,7 +27,7 @@ const COUNTS: &[(&str, &str, &str, usize, usize, usize)] = &[
 #[test]
 fn true_slots_are_counted(rt: HostRuntime) {
     for (index, (case, values, mask, offset, len, expected)) in COUNTS.iter().enumerate() {
-        let array = array_of(&rt, (*values, *mask));
+        let array: BooleanArray = array_of(&rt, (*values, *mask));
         assert!(rt; *offset <= array.len() && *len <= array.len() - *offset);
         let array = array.sliced(*offset, *len);
         let count = array.true_count();
