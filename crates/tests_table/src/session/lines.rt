@@ -1,5 +1,5 @@
 //! Which lines are no commands.
-use crate::sessions::{DONE, check_session};
+use super::{DONE, check_session};
 use tests_support::Text;
 
 /// Lines that are no commands, with a stroke between each two.

@@ -1,4 +1,7 @@
 //! Whole sessions over known bytes, with ample memory. More of them are files in `examples/`.
+mod devices;
+mod lines;
+
 use arrow_session::counted::Counted;
 use arrow_session::outcome::Outcome;
 use arrow_session::session::session;

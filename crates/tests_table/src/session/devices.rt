@@ -1,5 +1,5 @@
 //! Devices that fail, and devices that have to be asked again.
-use crate::sessions::{DONE, FIRST_REPLIES, FIRST_RUN, check_end};
+use super::{DONE, FIRST_REPLIES, FIRST_RUN, check_end};
 use arrow_session::counted::Counted;
 use arrow_session::session::session;
 use std::io;

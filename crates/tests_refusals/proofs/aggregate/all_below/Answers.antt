@@ -1,6 +1,6 @@
 use Rattle.std.proofs.Common.{◌<◌, arith}
 use Rattle.std.proofs.lemmas.List.Elements.{All-from_get_or}
-use Rattle.arrow_refusals.proofs.aggregate.all_below.Goals as goal
+use Rattle.tests_refusals.proofs.aggregate.all_below.Goals as goal
 
 pub returns : goal.returns
 returns c = λ t. All-from_get_or (λ n. n < c.args.bound) c.args.numbers.now 0

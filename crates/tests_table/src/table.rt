@@ -26,7 +26,7 @@ macro_rules! steps {
         drop(table);
     };
     ($rt:expr, $table:expr; $($command:ident($($argument:expr),*) => $reply:expr;)*) => {
-        $($crate::tests::check_step(
+        $($crate::table::check_step(
             $rt,
             $table,
             stringify!($command($($argument),*)),

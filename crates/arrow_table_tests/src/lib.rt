@@ -1,5 +1,0 @@
-//! Tests of a table of arrays and builders.
-#![tactic(auto)]
-
-#[cfg(test)]
-mod tests;
