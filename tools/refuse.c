@@ -1,5 +1,6 @@
 /* Refuses one allocation: that whose number, counted from 1, the environment gives as REFUSED, and then writes a byte to
-   descriptor 3. `refusals` loads it before the C library, in the place of whose two calls that get memory it stands. */
+   descriptor 3. `refusals` loads it before the C library, in the place of whose two calls that get memory it stands;
+   tools/try links it there. */
 #include <errno.h>
 #include <stddef.h>
 #include <stdlib.h>

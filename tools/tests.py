@@ -40,7 +40,9 @@ def all_steps(room):
             found.append(Step(name, ["tools/try", name, lay_cases(name, room)]))
     for name in reversed(known):
         if not crates.is_program(name) and crates.has_tests(name):
-            found.append(Step(name, ["tools/try", name]))
+            # Those of refused memory are run with ample memory first.
+            words = ["./refusals", "--unproved"] if name == "tests_refusals" else ["tools/try", name]
+            found.append(Step(name, words))
     for words in (
         ["tools/check_docs"],
         ["tools/contracts", "--check"],
