@@ -1,5 +1,0 @@
-//! Tests of `arrow_compute` by its public calls.
-#![tactic(auto)]
-
-#[cfg(test)]
-mod tests;

@@ -1,0 +1,118 @@
+//! Aggregates of groups of booleans, bytes and texts.
+use crate::aggregate::groups::all_below;
+use arrow_aggregate::aggregate::{
+    group_count, group_max_binary, group_max_boolean, group_max_string, group_min_binary,
+    group_min_boolean, group_min_string,
+};
+use arrow_binary::BinaryArray;
+use arrow_boolean::BooleanArray;
+use arrow_types::data_type::DataType;
+use arrow_utf8::Utf8Array;
+use std::process::Abort;
+use tests_support::{assert_text, frozen_mask};
+
+/// A name, stored values, marks, the number of each slot's group, the number of groups, and the slots of
+/// the counts, of the least and of the greatest values.
+#[rattlefmt::skip]
+const BOOLEANS: &[(&str, &str, &str, &[usize], usize, &str, &str, &str)] = &[
+    ("two groups", "1001", "none", &[0, 1, 0, 1], 2, "[2 2]", "[false false]", "[true true]"),
+    ("nulls store the other value", "0110", "1101", &[0, 1, 1, 0], 2, "[2 1]", "[false true]", "[false true]"),
+    ("a group of nulls", "10", "01", &[0, 1], 3, "[0 1 0]", "[_ false _]", "[_ false _]"),
+    ("no group", "", "none", &[], 0, "[]", "[]", "[]"),
+    ("the last group alone", "01", "none", &[1, 1], 2, "[0 2]", "[_ false]", "[_ true]"),
+];
+
+#[test]
+fn groups_of_booleans(rt: HostRuntime) {
+    for (case, values, mask, indices, groups, counts, least, greatest) in BOOLEANS {
+        let values = frozen_mask(rt.alloc(), *values).expect(&rt, "memory");
+        let values = values.expect(&rt, "stored values");
+        let mask = frozen_mask(rt.alloc(), *mask).expect(&rt, "memory");
+        let array = BooleanArray::try_new(DataType::Boolean, values, mask).expect(&rt, "parts");
+        assert!(rt; indices.len() == array.len(), "a number for each slot");
+        assert!(rt; all_below(*indices, *groups), "numbers of groups");
+        let made = group_count(rt.alloc(), &array, *indices, *groups).expect(&rt, "memory");
+        assert_text::slots(made.iter(), *counts).expect(&rt, *case);
+        drop(made);
+        let made = group_min_boolean(rt.alloc(), &array, *indices, *groups).expect(&rt, "memory");
+        assert_text::slots(made.iter(), *least).expect(&rt, *case);
+        drop(made);
+        let made = group_max_boolean(rt.alloc(), &array, *indices, *groups).expect(&rt, "memory");
+        assert_text::slots(made.iter(), *greatest).expect(&rt, *case);
+        drop(made);
+        drop(array);
+    }
+}
+
+/// Compares the slots of an array of text, which is dropped.
+fn check_texts(rt: &impl Abort, case: &str, made: Utf8Array<i32>, slots: &str) {
+    assert_text::slots(made.iter(), slots).expect(rt, case);
+    drop(made);
+}
+
+/// A name, slots, the number of each slot's group, the number of groups, and the slots of the counts, of
+/// the least and of the greatest texts.
+#[rattlefmt::skip]
+const TEXTS: &[(&str, &[Option<&str>], &[usize], usize, &str, &str, &str)] = &[
+    ("two groups", &[Some("b"), Some("x"), Some("a"), Some("y")], &[0, 1, 0, 1], 2,
+        "[2 2]", "[\"a\" \"x\"]", "[\"b\" \"y\"]"),
+    ("the empty text is less", &[Some("a"), Some(""), None], &[0, 0, 0], 1, "[2]", "[\"\"]", "[\"a\"]"),
+    ("a prefix is less", &[Some("ab"), Some("a"), Some("abc")], &[1, 1, 1], 2, "[0 3]", "[_ \"a\"]", "[_ \"abc\"]"),
+    ("equal texts", &[Some("q"), Some("q")], &[0, 0], 1, "[2]", "[\"q\"]", "[\"q\"]"),
+    ("null slots only", &[None, None], &[0, 1], 2, "[0 0]", "[_ _]", "[_ _]"),
+    ("by bytes", &[Some("é"), Some("z"), Some("Z")], &[0, 0, 0], 1, "[3]", "[\"Z\"]", "[\"é\"]"),
+    ("no group", &[], &[], 0, "[]", "[]", "[]"),
+];
+
+#[test]
+fn groups_of_texts(rt: HostRuntime) {
+    for (case, slots, indices, groups, counts, least, greatest) in TEXTS {
+        let array = Utf8Array::<i32>::from(rt.alloc(), *slots).expect(&rt, "memory");
+        assert!(rt; indices.len() == array.len(), "a number for each slot");
+        assert!(rt; all_below(*indices, *groups), "numbers of groups");
+        let made = group_count(rt.alloc(), &array, *indices, *groups).expect(&rt, "memory");
+        assert_text::slots(made.iter(), *counts).expect(&rt, *case);
+        drop(made);
+        let made = group_min_string(rt.alloc(), &array, *indices, *groups).expect(&rt, "memory");
+        check_texts(&rt, *case, made, *least);
+        let made = group_max_string(rt.alloc(), &array, *indices, *groups).expect(&rt, "memory");
+        check_texts(&rt, *case, made, *greatest);
+        drop(array);
+    }
+}
+
+/// Compares the slots of an array of bytes, which is dropped.
+fn check_bytes(rt: &impl Abort, case: &str, made: BinaryArray<i64>, slots: &str) {
+    assert_text::slots(made.iter(), slots).expect(rt, case);
+    drop(made);
+}
+
+/// Bytes, some of which are no text.
+const BYTES: &[Option<&[u8]>] = &[
+    Some(b"\x00"),
+    Some(b"\x7f"),
+    None,
+    Some(b"\x80"),
+    Some(b"\xff"),
+    Some(b"\x01"),
+];
+
+/// The numbers of their groups, from the second on.
+const GROUPS: &[usize] = &[1, 1, 1, 0, 0];
+
+#[test]
+fn groups_of_a_slice_of_bytes(rt: HostRuntime) {
+    let array = BinaryArray::<i64>::from(rt.alloc(), BYTES).expect(&rt, "memory");
+    assert!(rt; array.len() == 6, "slots");
+    let array = array.sliced(1, 5);
+    assert!(rt; all_below(GROUPS, 2), "numbers of groups");
+    let made = group_count(rt.alloc(), &array, GROUPS, 2).expect(&rt, "memory");
+    assert_text::slots(made.iter(), "[2 2]").expect(&rt, "counts");
+    drop(made);
+    let made = group_min_binary(rt.alloc(), &array, GROUPS, 2).expect(&rt, "memory");
+    assert_text::mask(made.validity(), "none").expect(&rt, "a mask that no slot needs");
+    check_bytes(&rt, "least", made, "[[1] [127]]");
+    let made = group_max_binary(rt.alloc(), &array, GROUPS, 2).expect(&rt, "memory");
+    check_bytes(&rt, "greatest", made, "[[255] [128]]");
+    drop(array);
+}
