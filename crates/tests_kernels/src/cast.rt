@@ -1,4 +1,3 @@
-//! Conversions of arrays. What each call makes was worked out by hand. Marks are texts of `1` and
-//! `0`, and `none` without a mask.
+//! Conversions between integers and their decimal texts. What each call makes was worked out by hand.
 mod decimals;
 mod parsing;

@@ -6,6 +6,8 @@ mod aggregate;
 #[cfg(test)]
 mod arithmetics;
 #[cfg(test)]
+mod arrays;
+#[cfg(test)]
 mod cast;
 #[cfg(test)]
 mod compute;

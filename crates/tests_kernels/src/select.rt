@@ -4,15 +4,3 @@ mod lengths;
 mod shared;
 mod takes;
 mod words;
-
-use arrow_primitive::PrimitiveArray;
-use arrow_types::native_type::NativeType;
-use std::process::Abort;
-
-/// Creates an array of slots.
-fn numbers<T: NativeType>(
-    rt: &(impl Abort + AllocGlobal),
-    slots: &[Option<T>],
-) -> PrimitiveArray<T> {
-    PrimitiveArray::from(rt.alloc(), slots).expect(rt, "memory")
-}

@@ -1,12 +1,13 @@
 //! Sorts. What each returns was worked out by hand.
-use arrow_boolean::BooleanArray;
+use crate::arrays::{booleans, check_booleans, check_numbers, items, numbers, row};
 use arrow_primitive::PrimitiveArray;
 use arrow_sort::SortOptions;
 use arrow_sort::lexsort::{SortColumn, SortValues, lexsort_to_indices};
 use arrow_sort::sort::{sort, sort_to_indices};
+use arrow_types::data_type::DataType;
 use arrow_utf8::Utf8Array;
 use std::process::Abort;
-use tests_support::assert_text;
+use tests_support::{Text, assert_text};
 
 const ASCENDING: SortOptions = SortOptions {
     descending: false,
@@ -49,27 +50,6 @@ const NUMBERS: &[Case] = &[
     ("a limit above the length", DESCENDING_NULLS_FIRST, Some(9), "[0 5 1 3 4 2]", "[_ _ 3 3 2 1]", "001111"),
 ];
 
-/// Sorts an array by each case's options, up to its limit, and compares what comes with the case.
-fn check_numbers(rt: &(impl Abort + AllocGlobal), array: &PrimitiveArray<i32>, cases: &[Case]) {
-    for (case, options, limit, indexes, slots, mask) in cases {
-        let keys = sort_to_indices(rt.alloc(), array, *options, *limit).expect(rt, *case);
-        assert_text::slots(keys.iter(), *indexes).expect(rt, *case);
-        drop(keys);
-        let sorted = sort(rt.alloc(), array, *options, *limit).expect(rt, *case);
-        assert_text::slots(sorted.iter(), *slots).expect(rt, *case);
-        assert_text::mask(sorted.validity(), *mask).expect(rt, *case);
-        drop(sorted);
-    }
-}
-
-#[test]
-fn numbers_are_sorted(rt: HostRuntime) {
-    let slots = [None, Some(3), Some(1), Some(3), Some(2), None];
-    let array = PrimitiveArray::<i32>::from(rt.alloc(), &slots).expect(&rt, "memory");
-    check_numbers(&rt, &array, NUMBERS);
-    drop(array);
-}
-
 /// Cases of twelve times the numbers from 0 to 99, where the slots at 7, 407 and 807 are null. The
 /// limits are below an eighth of the slots, so the first slots are selected.
 #[rattlefmt::skip]
@@ -88,16 +68,122 @@ const HUNDREDS: &[Case] = &[
     ("fewer than the nulls", DESCENDING_NULLS_FIRST, Some(2), "[7 407]", "[_ _]", "00"),
 ];
 
+/// Cases of "b", "ab", a null, "", "b" and "a".
+#[rattlefmt::skip]
+const TEXTS: &[Case] = &[
+    ("ascending", ASCENDING, None, "[3 5 1 0 4 2]", "[\"\" \"a\" \"ab\" \"b\" \"b\" _]", "111110"),
+    ("descending", DESCENDING, None, "[0 4 1 5 3 2]", "[\"b\" \"b\" \"ab\" \"a\" \"\" _]", "111110"),
+];
+
+/// Cases of 400 times "b", "a", "c" and "ab".
+#[rattlefmt::skip]
+const MANY_TEXTS: &[Case] = &[
+    ("ascending", ASCENDING, Some(3), "[1 5 9]", "[\"a\" \"a\" \"a\"]", "none"),
+    ("descending", DESCENDING, Some(3), "[2 6 10]", "[\"c\" \"c\" \"c\"]", "none"),
+];
+
+/// Texts that begin alike.
+#[rattlefmt::skip]
+const ALIKE: &[Option<&str>] = &[
+    Some("abcdé"), Some("abcd"), Some("abce"), Some("abc"), Some("zbcd"), Some("ébcd"), Some("abcdz"),
+];
+
+#[rattlefmt::skip]
+const ALIKE_CASES: &[Case] = &[
+    ("ascending", ASCENDING, None, "[3 1 6 0 2 4 5]",
+        "[\"abc\" \"abcd\" \"abcdz\" \"abcdé\" \"abce\" \"zbcd\" \"ébcd\"]", "none"),
+    ("descending", DESCENDING, None, "[5 4 2 0 6 1 3]",
+        "[\"ébcd\" \"zbcd\" \"abce\" \"abcdé\" \"abcdz\" \"abcd\" \"abc\"]", "none"),
+];
+
+/// Sorts of true, a null, false, true and false: a name, options, or `None` for the default ones, the indexes that sort, the
+/// slots there as texts of `t`, `f` and `_`, and the mask.
+#[rattlefmt::skip]
+const BOOLEANS: &[(&str, Option<SortOptions>, &str, &str, &str)] = &[
+    ("ascending", Some(ASCENDING), "[2 4 0 3 1]", "fftt_", "11110"),
+    ("by default, ascending, nulls first", None, "[1 2 4 0 3]", "_fftt", "01111"),
+    ("descending, nulls first", Some(DESCENDING_NULLS_FIRST), "[1 0 3 2 4]", "_ttff", "01111"),
+];
+
+/// Sorts numbers by each case's options, up to its limit, and compares what comes with the case.
+fn check_sorted_numbers(
+    rt: &(impl Abort + AllocGlobal),
+    test: &str,
+    array: &PrimitiveArray<i32>,
+    cases: &[Case],
+) {
+    for (index, (case, options, limit, indexes, slots, mask)) in cases.iter().enumerate() {
+        let row = row(test, "Int32", index, *case);
+        let row = row.as_str();
+        let keys = sort_to_indices(rt.alloc(), array, *options, *limit).expect(rt, row);
+        assert_text::slots(keys.iter(), *indexes).expect(rt, row);
+        drop(keys);
+        let sorted = sort(rt.alloc(), array, *options, *limit);
+        check_numbers(rt, row, sorted, Ok((*slots, *mask)), &DataType::Int32);
+    }
+}
+
+/// Sorts texts by each case's options, up to its limit, and compares what comes with the case.
+fn check_sorted_texts(
+    rt: &(impl Abort + AllocGlobal),
+    test: &str,
+    slots: &[Option<&str>],
+    cases: &[Case],
+) {
+    let array: Utf8Array<i32> = items(rt, slots);
+    for (index, (case, options, limit, indexes, slots, mask)) in cases.iter().enumerate() {
+        let row = row(test, "Utf8", index, *case);
+        let row = row.as_str();
+        let keys = sort_to_indices(rt.alloc(), &array, *options, *limit).expect(rt, row);
+        assert_text::slots(keys.iter(), *indexes).expect(rt, row);
+        drop(keys);
+        let sorted = sort(rt.alloc(), &array, *options, *limit).expect(rt, row);
+        assert_text::slots(sorted.iter(), *slots).expect(rt, row);
+        assert_text::mask(sorted.validity(), *mask).expect(rt, row);
+        drop(sorted);
+    }
+    drop(array);
+}
+
 #[test]
-fn first_of_many_slots_are_sorted(rt: HostRuntime) {
+fn numbers_texts_and_booleans_are_sorted(rt: HostRuntime) {
+    let array = numbers(&rt, &[None, Some(3), Some(1), Some(3), Some(2), None]);
+    check_sorted_numbers(&rt, "numbers are sorted", &array, NUMBERS);
+    drop(array);
     let mut slots = Vec::new(rt.alloc());
     for i in 0..1200 {
         let slot = if i % 400 == 7 { None } else { Some(i % 100) };
         slots.push(slot).expect(&rt, "memory");
     }
-    let array = PrimitiveArray::<i32>::from(rt.alloc(), slots.as_slice()).expect(&rt, "memory");
-    check_numbers(&rt, &array, HUNDREDS);
-    drop((slots, array));
+    let array = numbers(&rt, &slots);
+    drop(slots);
+    check_sorted_numbers(&rt, "first of many slots are sorted", &array, HUNDREDS);
+    drop(array);
+    let slots = [Some("b"), Some("ab"), None, Some(""), Some("b"), Some("a")];
+    check_sorted_texts(&rt, "texts are sorted by their bytes", &slots, TEXTS);
+    check_sorted_texts(&rt, "texts that begin alike are sorted", ALIKE, ALIKE_CASES);
+    let mut slots = Vec::new(rt.alloc());
+    for i in 0..1600 {
+        let text = ["b", "a", "c", "ab"][i % 4];
+        slots.push(Some(text)).expect(&rt, "memory");
+    }
+    check_sorted_texts(&rt, "first of many texts are sorted", &slots, MANY_TEXTS);
+    drop(slots);
+    let array = booleans(
+        &rt,
+        &[Some(true), None, Some(false), Some(true), Some(false)],
+    );
+    for (index, (case, options, indexes, slots, mask)) in BOOLEANS.iter().enumerate() {
+        let row = row("booleans are sorted", "Boolean", index, *case);
+        let row = row.as_str();
+        let options = (*options).unwrap_or(SortOptions::default());
+        let keys = sort_to_indices(rt.alloc(), &array, options, None).expect(&rt, row);
+        assert_text::slots(keys.iter(), *indexes).expect(&rt, row);
+        drop(keys);
+        let sorted = sort(rt.alloc(), &array, options, None);
+        check_booleans(&rt, row, "sort", sorted, (*slots, *mask));
+    }
+    drop(array);
 }
 
 /// Limits below and above an eighth of 1,960 valid slots, and above all.
@@ -115,7 +201,8 @@ fn limit_cuts_the_sorted_indexes(rt: HostRuntime) {
         };
         slots.push(slot).expect(&rt, "memory");
     }
-    let array = PrimitiveArray::<i32>::from(rt.alloc(), slots.as_slice()).expect(&rt, "memory");
+    let array = numbers(&rt, &slots);
+    drop(slots);
     for (case, options) in [
         ("ascending", ASCENDING),
         ("ascending, nulls first", ASCENDING_NULLS_FIRST),
@@ -124,166 +211,50 @@ fn limit_cuts_the_sorted_indexes(rt: HostRuntime) {
     ] {
         let all = sort_to_indices(rt.alloc(), &array, options, None).expect(&rt, case);
         for limit in LIMITS {
-            let first = sort_to_indices(rt.alloc(), &array, options, Some(*limit)).expect(
-                &rt, case,
-            );
-            assert_eq!(rt; first.len(), all.len().min(*limit), "{case}, limit {limit}");
-            for (came, expected) in first.iter().zip(all.iter()) {
-                assert_eq!(rt; came, expected, "{case}, limit {limit}");
+            let row = Text::of(format_args!("Int32, {case}, limit {limit}"));
+            let row = row.as_str();
+            let first = sort_to_indices(rt.alloc(), &array, options, Some(*limit)).expect(&rt, row);
+            assert_text::value(first.len(), all.len().min(*limit)).expect(&rt, row);
+            for (i, (came, expected)) in first.iter().zip(all.iter()).enumerate() {
+                assert_text::value((i, came), (i, expected)).expect(&rt, row);
             }
             drop(first);
         }
         drop(all);
     }
-    drop((slots, array));
-}
-
-#[test]
-fn first_of_many_texts_are_sorted(rt: HostRuntime) {
-    let mut slots = Vec::new(rt.alloc());
-    for i in 0..1600 {
-        let text = match i % 4 {
-            0 => "b",
-            1 => "a",
-            2 => "c",
-            _ => "ab",
-        };
-        slots.push(Some(text)).expect(&rt, "memory");
-    }
-    let array = Utf8Array::<i32>::from(rt.alloc(), slots.as_slice()).expect(&rt, "memory");
-    for (case, options, indexes, expected) in [
-        ("ascending", ASCENDING, "[1 5 9]", "[\"a\" \"a\" \"a\"]"),
-        ("descending", DESCENDING, "[2 6 10]", "[\"c\" \"c\" \"c\"]"),
-    ] {
-        let keys = sort_to_indices(rt.alloc(), &array, options, Some(3)).expect(&rt, case);
-        assert_text::slots(keys.iter(), indexes).expect(&rt, case);
-        drop(keys);
-        let sorted = sort(rt.alloc(), &array, options, Some(3)).expect(&rt, case);
-        assert_text::slots(sorted.iter(), expected).expect(&rt, case);
-        drop(sorted);
-    }
-    drop((slots, array));
-}
-
-#[test]
-fn booleans_are_sorted(rt: HostRuntime) {
-    let slots = [Some(true), None, Some(false), Some(true), Some(false)];
-    let array = BooleanArray::from(rt.alloc(), &slots).expect(&rt, "memory");
-    for (case, options, indexes, expected) in [
-        ("ascending", ASCENDING, "[2 4 0 3 1]", "fftt_"),
-        (
-            "by default, ascending, nulls first",
-            SortOptions::default(),
-            "[1 2 4 0 3]",
-            "_fftt",
-        ),
-        (
-            "descending, nulls first",
-            DESCENDING_NULLS_FIRST,
-            "[1 0 3 2 4]",
-            "_ttff",
-        ),
-    ] {
-        let keys = sort_to_indices(rt.alloc(), &array, options, None).expect(&rt, case);
-        assert_text::slots(keys.iter(), indexes).expect(&rt, case);
-        drop(keys);
-        let sorted = sort(rt.alloc(), &array, options, None).expect(&rt, case);
-        assert_text::bools(sorted.iter(), expected).expect(&rt, case);
-        drop(sorted);
-    }
     drop(array);
 }
 
-#[test]
-fn texts_are_sorted_by_their_bytes(rt: HostRuntime) {
-    let slots = [Some("b"), Some("ab"), None, Some(""), Some("b"), Some("a")];
-    let array = Utf8Array::<i32>::from(rt.alloc(), &slots).expect(&rt, "memory");
-    for (case, options, indexes, expected) in [
-        (
-            "ascending",
-            ASCENDING,
-            "[3 5 1 0 4 2]",
-            "[\"\" \"a\" \"ab\" \"b\" \"b\" _]",
-        ),
-        (
-            "descending",
-            DESCENDING,
-            "[0 4 1 5 3 2]",
-            "[\"b\" \"b\" \"ab\" \"a\" \"\" _]",
-        ),
-    ] {
-        let keys = sort_to_indices(rt.alloc(), &array, options, None).expect(&rt, case);
-        assert_text::slots(keys.iter(), indexes).expect(&rt, case);
-        drop(keys);
-        let sorted = sort(rt.alloc(), &array, options, None).expect(&rt, case);
-        assert_text::slots(sorted.iter(), expected).expect(&rt, case);
-        drop(sorted);
-    }
-    drop(array);
-}
+/// A name, the options of names and of ages, a limit, and the sorted indexes.
+#[rattlefmt::skip]
+const ROWS: &[(&str, Option<SortOptions>, Option<SortOptions>, Option<usize>, &str)] = &[
+    ("without options", None, None, None, "[2 1 4 3 0]"),
+    ("the second descending", None, Some(DESCENDING), None, "[2 1 4 0 3]"),
+    ("both descending", Some(DESCENDING), Some(DESCENDING), None, "[0 3 1 4 2]"),
+    ("the first three", None, None, Some(3), "[2 1 4]"),
+];
 
 #[test]
 fn rows_are_sorted_by_the_first_column_that_differs(rt: HostRuntime) {
-    let names = [Some("b"), Some("a"), None, Some("b"), Some("a")];
-    let names = Utf8Array::<i64>::from(rt.alloc(), &names).expect(&rt, "memory");
-    let ages = [Some(5), Some(2), Some(9), None, Some(2)];
-    let ages = PrimitiveArray::<u8>::from(rt.alloc(), &ages).expect(&rt, "memory");
-    for (case, first, second, limit, expected) in [
-        ("without options", None, None, None, "[2 1 4 3 0]"),
-        (
-            "the second descending",
-            None,
-            Some(DESCENDING),
-            None,
-            "[2 1 4 0 3]",
-        ),
-        (
-            "both descending",
-            Some(DESCENDING),
-            Some(DESCENDING),
-            None,
-            "[0 3 1 4 2]",
-        ),
-        ("the first three", None, None, Some(3), "[2 1 4]"),
-    ] {
+    let names: Utf8Array<i64> = items(&rt, &[Some("b"), Some("a"), None, Some("b"), Some("a")]);
+    let ages = numbers(&rt, &[Some(5u8), Some(2), Some(9), None, Some(2)]);
+    for (index, (case, first, second, limit, expected)) in ROWS.iter().enumerate() {
+        let row = row("rows", "LargeUtf8 and UInt8", index, *case);
         let columns = [
             SortColumn {
                 values: SortValues::LargeUtf8(&names),
-                options: first,
+                options: *first,
             },
             SortColumn {
                 values: SortValues::UInt8(&ages),
-                options: second,
+                options: *second,
             },
         ];
         assert!(rt; names.len() == ages.len(), "columns of one length");
-        let keys = lexsort_to_indices(rt.alloc(), &columns, limit).expect(&rt, case);
-        assert_text::slots(keys.iter(), expected).expect(&rt, case);
+        let keys = lexsort_to_indices(rt.alloc(), &columns, *limit).expect(&rt, row.as_str());
+        assert_text::slots(keys.iter(), *expected).expect(&rt, row.as_str());
         drop(keys);
     }
     drop(ages);
     drop(names);
-}
-
-#[test]
-fn texts_that_begin_alike_are_sorted(rt: HostRuntime) {
-    let slots = [
-        Some("abcdé"),
-        Some("abcd"),
-        Some("abce"),
-        Some("abc"),
-        Some("zbcd"),
-        Some("ébcd"),
-        Some("abcdz"),
-    ];
-    let array = Utf8Array::<i32>::from(rt.alloc(), &slots).expect(&rt, "memory");
-    for (case, options, indexes) in [
-        ("ascending", ASCENDING, "[3 1 6 0 2 4 5]"),
-        ("descending", DESCENDING, "[5 4 2 0 6 1 3]"),
-    ] {
-        let keys = sort_to_indices(rt.alloc(), &array, options, None).expect(&rt, case);
-        assert_text::slots(keys.iter(), indexes).expect(&rt, case);
-        drop(keys);
-    }
-    drop(array);
 }

@@ -1,15 +1,13 @@
 //! Aggregates of groups of booleans, bytes and texts.
-use crate::aggregate::groups::all_below;
+use super::groups::all_below;
+use crate::arrays::{items, row, stored_booleans};
 use arrow_aggregate::aggregate::{
     group_count, group_max_binary, group_max_boolean, group_max_string, group_min_binary,
     group_min_boolean, group_min_string,
 };
 use arrow_binary::BinaryArray;
-use arrow_boolean::BooleanArray;
-use arrow_types::data_type::DataType;
 use arrow_utf8::Utf8Array;
-use std::process::Abort;
-use tests_support::{assert_text, frozen_mask};
+use tests_support::assert_text;
 
 /// A name, stored values, marks, the number of each slot's group, the number of groups, and the slots of
 /// the counts, of the least and of the greatest values.
@@ -21,34 +19,6 @@ const BOOLEANS: &[(&str, &str, &str, &[usize], usize, &str, &str, &str)] = &[
     ("no group", "", "none", &[], 0, "[]", "[]", "[]"),
     ("the last group alone", "01", "none", &[1, 1], 2, "[0 2]", "[_ false]", "[_ true]"),
 ];
-
-#[test]
-fn groups_of_booleans(rt: HostRuntime) {
-    for (case, values, mask, indices, groups, counts, least, greatest) in BOOLEANS {
-        let values = frozen_mask(rt.alloc(), *values).expect(&rt, "memory");
-        let values = values.expect(&rt, "stored values");
-        let mask = frozen_mask(rt.alloc(), *mask).expect(&rt, "memory");
-        let array = BooleanArray::try_new(DataType::Boolean, values, mask).expect(&rt, "parts");
-        assert!(rt; indices.len() == array.len(), "a number for each slot");
-        assert!(rt; all_below(*indices, *groups), "numbers of groups");
-        let made = group_count(rt.alloc(), &array, *indices, *groups).expect(&rt, "memory");
-        assert_text::slots(made.iter(), *counts).expect(&rt, *case);
-        drop(made);
-        let made = group_min_boolean(rt.alloc(), &array, *indices, *groups).expect(&rt, "memory");
-        assert_text::slots(made.iter(), *least).expect(&rt, *case);
-        drop(made);
-        let made = group_max_boolean(rt.alloc(), &array, *indices, *groups).expect(&rt, "memory");
-        assert_text::slots(made.iter(), *greatest).expect(&rt, *case);
-        drop(made);
-        drop(array);
-    }
-}
-
-/// Compares the slots of an array of text, which is dropped.
-fn check_texts(rt: &impl Abort, case: &str, made: Utf8Array<i32>, slots: &str) {
-    assert_text::slots(made.iter(), slots).expect(rt, case);
-    drop(made);
-}
 
 /// A name, slots, the number of each slot's group, the number of groups, and the slots of the counts, of
 /// the least and of the greatest texts.
@@ -64,29 +34,6 @@ const TEXTS: &[(&str, &[Option<&str>], &[usize], usize, &str, &str, &str)] = &[
     ("no group", &[], &[], 0, "[]", "[]", "[]"),
 ];
 
-#[test]
-fn groups_of_texts(rt: HostRuntime) {
-    for (case, slots, indices, groups, counts, least, greatest) in TEXTS {
-        let array = Utf8Array::<i32>::from(rt.alloc(), *slots).expect(&rt, "memory");
-        assert!(rt; indices.len() == array.len(), "a number for each slot");
-        assert!(rt; all_below(*indices, *groups), "numbers of groups");
-        let made = group_count(rt.alloc(), &array, *indices, *groups).expect(&rt, "memory");
-        assert_text::slots(made.iter(), *counts).expect(&rt, *case);
-        drop(made);
-        let made = group_min_string(rt.alloc(), &array, *indices, *groups).expect(&rt, "memory");
-        check_texts(&rt, *case, made, *least);
-        let made = group_max_string(rt.alloc(), &array, *indices, *groups).expect(&rt, "memory");
-        check_texts(&rt, *case, made, *greatest);
-        drop(array);
-    }
-}
-
-/// Compares the slots of an array of bytes, which is dropped.
-fn check_bytes(rt: &impl Abort, case: &str, made: BinaryArray<i64>, slots: &str) {
-    assert_text::slots(made.iter(), slots).expect(rt, case);
-    drop(made);
-}
-
 /// Bytes, some of which are no text.
 const BYTES: &[Option<&[u8]>] = &[
     Some(b"\x00"),
@@ -101,8 +48,48 @@ const BYTES: &[Option<&[u8]>] = &[
 const GROUPS: &[usize] = &[1, 1, 1, 0, 0];
 
 #[test]
+fn groups_of_booleans_and_texts(rt: HostRuntime) {
+    let rows = BOOLEANS.iter().enumerate();
+    for (index, (case, values, mask, indices, groups, counts, least, greatest)) in rows {
+        let row = row("groups of booleans", "Boolean", index, *case);
+        let row = row.as_str();
+        let array = stored_booleans(&rt, (*values, *mask));
+        assert!(rt; indices.len() == array.len(), "a number for each slot");
+        assert!(rt; all_below(*indices, *groups), "numbers of groups");
+        let made = group_count(rt.alloc(), &array, *indices, *groups).expect(&rt, "memory");
+        assert_text::slots(made.iter(), *counts).expect(&rt, row);
+        drop(made);
+        let made = group_min_boolean(rt.alloc(), &array, *indices, *groups).expect(&rt, "memory");
+        assert_text::slots(made.iter(), *least).expect(&rt, row);
+        drop(made);
+        let made = group_max_boolean(rt.alloc(), &array, *indices, *groups).expect(&rt, "memory");
+        assert_text::slots(made.iter(), *greatest).expect(&rt, row);
+        drop(made);
+        drop(array);
+    }
+    let rows = TEXTS.iter().enumerate();
+    for (index, (case, slots, indices, groups, counts, least, greatest)) in rows {
+        let row = row("groups of texts", "Utf8", index, *case);
+        let row = row.as_str();
+        let array: Utf8Array<i32> = items(&rt, *slots);
+        assert!(rt; indices.len() == array.len(), "a number for each slot");
+        assert!(rt; all_below(*indices, *groups), "numbers of groups");
+        let made = group_count(rt.alloc(), &array, *indices, *groups).expect(&rt, "memory");
+        assert_text::slots(made.iter(), *counts).expect(&rt, row);
+        drop(made);
+        let made = group_min_string(rt.alloc(), &array, *indices, *groups).expect(&rt, "memory");
+        assert_text::slots(made.iter(), *least).expect(&rt, row);
+        drop(made);
+        let made = group_max_string(rt.alloc(), &array, *indices, *groups).expect(&rt, "memory");
+        assert_text::slots(made.iter(), *greatest).expect(&rt, row);
+        drop(made);
+        drop(array);
+    }
+}
+
+#[test]
 fn groups_of_a_slice_of_bytes(rt: HostRuntime) {
-    let array = BinaryArray::<i64>::from(rt.alloc(), BYTES).expect(&rt, "memory");
+    let array: BinaryArray<i64> = items(&rt, BYTES);
     assert!(rt; array.len() == 6, "slots");
     let array = array.sliced(1, 5);
     assert!(rt; all_below(GROUPS, 2), "numbers of groups");
@@ -111,8 +98,10 @@ fn groups_of_a_slice_of_bytes(rt: HostRuntime) {
     drop(made);
     let made = group_min_binary(rt.alloc(), &array, GROUPS, 2).expect(&rt, "memory");
     assert_text::mask(made.validity(), "none").expect(&rt, "a mask that no slot needs");
-    check_bytes(&rt, "least", made, "[[1] [127]]");
+    assert_text::slots(made.iter(), "[[1] [127]]").expect(&rt, "least");
+    drop(made);
     let made = group_max_binary(rt.alloc(), &array, GROUPS, 2).expect(&rt, "memory");
-    check_bytes(&rt, "greatest", made, "[[255] [128]]");
+    assert_text::slots(made.iter(), "[[255] [128]]").expect(&rt, "greatest");
+    drop(made);
     drop(array);
 }

@@ -1,25 +1,26 @@
 //! Aggregates of groups of numbers.
 ghost use Rattle.std.specs.Prelude.{◌<◌, All, IsTrue};
 
+use crate::arrays::{Slots, check_numbers, numbers, row, stored_numbers};
 use arrow_aggregate::aggregate::{
     group_count, group_max_primitive, group_min_primitive, group_sum,
 };
-use arrow_memory::buffer::Buffer;
-use arrow_primitive::PrimitiveArray;
+use arrow_integers::NativeArithmetics;
 use arrow_types::data_type::DataType;
 use arrow_types::error::Error;
+use std::fmt::Debug;
 use std::process::Abort;
-use tests_support::{assert_text, frozen_mask};
+use tests_support::assert_text;
 
 /// A name, values, marks, the number of each slot's group, the number of groups, and the slots of the
 /// counts, of the least and of the greatest values.
 #[rattlefmt::skip]
-const CASES: &[(&str, &[i64], &str, &[usize], usize, &str, &str, &str)] = &[
-    ("two groups", &[1, 2, 3, 4], "none", &[0, 1, 0, 1], 2, "[2 2]", "[1 2]", "[3 4]"),
-    ("a null", &[5, -9, 3, 9], "1010", &[0, 0, 0, 1], 2, "[2 0]", "[3 _]", "[5 _]"),
-    ("a group with no slot", &[7, 8], "none", &[2, 0], 3, "[1 0 1]", "[8 _ 7]", "[8 _ 7]"),
-    ("no group", &[], "none", &[], 0, "[]", "[]", "[]"),
-    ("one group", &[-1, -3, 0, -2], "1101", &[0, 0, 0, 0], 1, "[3]", "[-3]", "[-1]"),
+const CASES: &[(&str, &[i64], &str, &[usize], usize, &str, Slots, Slots)] = &[
+    ("two groups", &[1, 2, 3, 4], "none", &[0, 1, 0, 1], 2, "[2 2]", ("[1 2]", "none"), ("[3 4]", "none")),
+    ("a null", &[5, -9, 3, 9], "1010", &[0, 0, 0, 1], 2, "[2 0]", ("[3 _]", "10"), ("[5 _]", "10")),
+    ("a group with no slot", &[7, 8], "none", &[2, 0], 3, "[1 0 1]", ("[8 _ 7]", "101"), ("[8 _ 7]", "101")),
+    ("no group", &[], "none", &[], 0, "[]", ("[]", "none"), ("[]", "none")),
+    ("one group", &[-1, -3, 0, -2], "1101", &[0, 0, 0, 0], 1, "[3]", ("[-3]", "none"), ("[-1]", "none")),
 ];
 
 /// Whether each of the numbers is below a bound.
@@ -34,110 +35,80 @@ pub(crate) fn all_below(numbers: &[usize], bound: usize) -> bool
     true
 }
 
-/// Creates an array of dates.
-fn dates(rt: &(impl Abort + AllocGlobal), values: &[i64], mask: &str) -> PrimitiveArray<i64> {
-    let mask = frozen_mask(rt.alloc(), mask).expect(rt, "memory");
-    let values = values.to_vec(rt.alloc()).expect(rt, "memory");
-    let values = Buffer::from_vec(values).expect(rt, "memory");
-    PrimitiveArray::try_new(DataType::Date64, values, mask).expect(rt, "parts that fit")
-}
+/// A name, values, the number of each slot's group, the number of groups, and the sums.
+type Sum<T> = (
+    &'static str,
+    &'static [Option<T>],
+    &'static [usize],
+    usize,
+    Result<Slots, Error>,
+);
 
-/// Compares the slots of an array of dates with a text, and drops it.
-fn check(rt: &impl Abort, case: &str, made: PrimitiveArray<i64>, slots: &str) {
-    assert_text::slots(made.iter(), slots).expect(rt, case);
-    assert_text::value(made.data_type(), &DataType::Date64).expect(rt, case);
-    drop(made);
-}
-
-#[test]
-fn counts_of_groups(rt: HostRuntime) {
-    for (case, values, mask, indices, groups, counts, _, _) in CASES {
-        let array = dates(&rt, *values, *mask);
-        assert!(rt; indices.len() == array.len(), "a number for each slot");
-        assert!(rt; all_below(*indices, *groups), "numbers of groups");
-        let made = group_count(rt.alloc(), &array, *indices, *groups).expect(&rt, "memory");
-        assert_text::slots(made.iter(), *counts).expect(&rt, *case);
-        drop(made);
-        drop(array);
-    }
-}
-
-#[test]
-fn extremes_of_groups(rt: HostRuntime) {
-    for (case, values, mask, indices, groups, _, least, greatest) in CASES {
-        let array = dates(&rt, *values, *mask);
-        assert!(rt; indices.len() == array.len(), "a number for each slot");
-        assert!(rt; all_below(*indices, *groups), "numbers of groups");
-        let made = group_min_primitive(rt.alloc(), &array, *indices, *groups).expect(&rt, "memory");
-        check(&rt, *case, made, *least);
-        let made = group_max_primitive(rt.alloc(), &array, *indices, *groups).expect(&rt, "memory");
-        check(&rt, *case, made, *greatest);
-        drop(array);
-    }
-}
-
-/// A name, values, the number of each slot's group, the number of groups, and the slots of the sums.
 #[rattlefmt::skip]
-const SUMS: &[(&str, &[Option<i64>], &[usize], usize, Result<&str, Error>)] = &[
-    ("two groups", &[Some(1), Some(2), Some(3), Some(4)], &[0, 1, 0, 1], 2, Ok("[4 6]")),
-    ("a null", &[Some(5), None, Some(-3), None], &[0, 0, 0, 1], 2, Ok("[2 _]")),
-    ("a group with no slot", &[Some(7)], &[1], 3, Ok("[_ 7 _]")),
-    ("only the whole has to fit", &[Some(i64::MAX), Some(1), Some(-1)], &[0, 0, 0], 1, Ok("[9223372036854775807]")),
+const SUMS: &[Sum<i64>] = &[
+    ("two groups", &[Some(1), Some(2), Some(3), Some(4)], &[0, 1, 0, 1], 2, Ok(("[4 6]", "none"))),
+    ("a null", &[Some(5), None, Some(-3), None], &[0, 0, 0, 1], 2, Ok(("[2 _]", "10"))),
+    ("a group with no slot", &[Some(7)], &[1], 3, Ok(("[_ 7 _]", "010"))),
+    ("only the whole has to fit", &[Some(i64::MAX), Some(1), Some(-1)], &[0, 0, 0], 1, Ok(("[9223372036854775807]", "none"))),
     ("one group overflows", &[Some(1), Some(i64::MIN), Some(-1)], &[0, 1, 1], 2, Err(Error::Overflow)),
-    ("no group", &[], &[], 0, Ok("[]")),
+    ("no group", &[], &[], 0, Ok(("[]", "none"))),
 ];
 
-#[test]
-fn sums_of_groups(rt: HostRuntime) {
-    for (case, slots, indices, groups, expected) in SUMS {
-        let array = PrimitiveArray::from(rt.alloc(), *slots).expect(&rt, "memory");
+/// Values of more than 64 bits.
+#[rattlefmt::skip]
+const WIDE_SUMS: &[Sum<i128>] = &[
+    ("2 ^ 64", &[Some(1 << 64), Some(2), Some(-1)], &[0, 1, 0], 2, Ok(("[18446744073709551615 2]", "none"))),
+    ("more than 2 ^ 64", &[Some(3), Some((1 << 64) + 1), None], &[1, 1, 0], 2, Ok(("[_ 18446744073709551620]", "01"))),
+    ("only the whole has to fit", &[Some(i128::MAX), Some(1), Some(-1)], &[0, 0, 0], 2,
+        Ok(("[170141183460469231731687303715884105727 _]", "10"))),
+    ("one group overflows", &[Some(1), Some(i128::MIN), Some(-1)], &[0, 1, 1], 2, Err(Error::Overflow)),
+];
+
+/// Compares the sums of the groups of each row.
+fn check_sums<T: NativeArithmetics + Debug>(
+    rt: &(impl Abort + AllocGlobal),
+    test: &str,
+    rows: &[Sum<T>],
+) {
+    for (index, (case, slots, indices, groups, expected)) in rows.iter().enumerate() {
+        let data_type = T::PRIMITIVE.default_data_type();
+        let row = row(test, "numbers", index, *case);
+        let array = numbers(rt, *slots);
         assert!(rt; indices.len() == array.len(), "a number for each slot");
         assert!(rt; all_below(*indices, *groups), "numbers of groups");
         let made = group_sum(rt.alloc(), &array, *indices, *groups);
-        match *expected {
-            Ok(text) => {
-                let made = made.expect(&rt, *case);
-                assert_text::slots(made.iter(), text).expect(&rt, *case);
-                drop(made);
-            }
-            Err(error) => assert_text::value(made.err(), Some(error)).expect(&rt, *case),
-        }
         drop(array);
+        check_numbers(rt, row.as_str(), made, *expected, &data_type);
+        drop(data_type);
     }
 }
 
-/// A name, values of more than 64 bits, the number of each slot's group, and the slots of the sums of two groups.
-#[rattlefmt::skip]
-const WIDE_SUMS: &[(&str, &[Option<i128>], &[usize], Result<&str, Error>)] = &[
-    ("2 ^ 64", &[Some(1 << 64), Some(2), Some(-1)], &[0, 1, 0], Ok("[18446744073709551615 2]")),
-    ("more than 2 ^ 64", &[Some(3), Some((1 << 64) + 1), None], &[1, 1, 0], Ok("[_ 18446744073709551620]")),
-    ("only the whole has to fit", &[Some(i128::MAX), Some(1), Some(-1)], &[0, 0, 0],
-        Ok("[170141183460469231731687303715884105727 _]")),
-    ("one group overflows", &[Some(1), Some(i128::MIN), Some(-1)], &[0, 1, 1], Err(Error::Overflow)),
-];
-
 #[test]
-fn sums_of_groups_of_wide_numbers(rt: HostRuntime) {
-    for (case, slots, indices, expected) in WIDE_SUMS {
-        let array = PrimitiveArray::from(rt.alloc(), *slots).expect(&rt, "memory");
+fn groups_of_numbers(rt: HostRuntime) {
+    let rows = CASES.iter().enumerate();
+    for (index, (case, values, mask, indices, groups, counts, least, greatest)) in rows {
+        let array = stored_numbers(&rt, DataType::Date64, *values, *mask);
         assert!(rt; indices.len() == array.len(), "a number for each slot");
-        assert!(rt; all_below(*indices, 2), "numbers of groups");
-        let made = group_sum(rt.alloc(), &array, *indices, 2);
-        match *expected {
-            Ok(text) => {
-                let made = made.expect(&rt, *case);
-                assert_text::slots(made.iter(), text).expect(&rt, *case);
-                drop(made);
-            }
-            Err(error) => assert_text::value(made.err(), Some(error)).expect(&rt, *case),
-        }
+        assert!(rt; all_below(*indices, *groups), "numbers of groups");
+        let count = row("counts of groups", "Date64", index, *case);
+        let made = group_count(rt.alloc(), &array, *indices, *groups).expect(&rt, "memory");
+        assert_text::slots(made.iter(), *counts).expect(&rt, count.as_str());
+        drop(made);
+        let row = row("extremes of groups", "Date64", index, *case);
+        let row = row.as_str();
+        let made = group_min_primitive(rt.alloc(), &array, *indices, *groups);
+        check_numbers(&rt, row, made, Ok(*least), &DataType::Date64);
+        let made = group_max_primitive(rt.alloc(), &array, *indices, *groups);
+        check_numbers(&rt, row, made, Ok(*greatest), &DataType::Date64);
         drop(array);
     }
 }
 
-/// The numbers of slots of one group among which every third is null: a mask is read by words of 64 marks.
+/// The last two sums are of the slots of a group among which every third is null: a mask is read by words of 64 marks.
 #[test]
-fn sum_of_more_than_a_word_of_marks(rt: HostRuntime) {
+fn sums_of_groups(rt: HostRuntime) {
+    check_sums(&rt, "sums of groups", SUMS);
+    check_sums(&rt, "sums of groups of wide numbers", WIDE_SUMS);
     let mut slots = Vec::new(rt.alloc());
     let mut indices = Vec::new(rt.alloc());
     let mut sums = [0i64, 0];
@@ -151,11 +122,14 @@ fn sum_of_more_than_a_word_of_marks(rt: HostRuntime) {
             sums[i % 2] = sums[i % 2].wrapping_add(i as i64);
         }
     }
-    let array = PrimitiveArray::from(rt.alloc(), slots.as_slice()).expect(&rt, "memory");
+    let array = numbers(&rt, slots.as_slice());
+    drop(slots);
     assert!(rt; indices.len() == array.len(), "a number for each slot");
     assert!(rt; all_below(indices.as_slice(), 2), "numbers of groups");
     let made = group_sum(rt.alloc(), &array, indices.as_slice(), 2).expect(&rt, "memory");
-    assert_eq!(rt; made.get(0), Some(sums[0]), "the even slots");
-    assert_eq!(rt; made.get(1), Some(sums[1]), "the odd slots");
-    drop((slots, indices, array, made));
+    drop((indices, array));
+    let row = "sum of more than a word of marks: the even slots, the odd slots";
+    assert_text::value(made.values().as_slice(), sums.as_slice()).expect(&rt, row);
+    assert_text::mask(made.validity(), "none").expect(&rt, row);
+    drop(made);
 }

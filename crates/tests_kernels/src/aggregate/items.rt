@@ -1,8 +1,23 @@
-//! Least and greatest texts and bytes.
-use arrow_aggregate::aggregate::{count_valid, max_binary, max_string, min_binary, min_string};
+//! Least and greatest booleans, texts and bytes.
+use crate::arrays::{items, row, stored_booleans};
+use arrow_aggregate::aggregate::{
+    count_valid, max_binary, max_boolean, max_string, min_binary, min_boolean, min_string,
+};
 use arrow_binary::BinaryArray;
 use arrow_utf8::Utf8Array;
 use tests_support::assert_text;
+
+/// A name, stored values, marks, the least and the greatest value, and how many slots are valid.
+#[rattlefmt::skip]
+const BOOLEANS: &[(&str, &str, &str, Option<bool>, Option<bool>, usize)] = &[
+    ("no slot", "", "none", None, None, 0),
+    ("null slots only", "10", "00", None, None, 0),
+    ("both values", "101", "none", Some(false), Some(true), 3),
+    ("all true", "111", "none", Some(true), Some(true), 3),
+    ("all false", "00", "11", Some(false), Some(false), 2),
+    ("a null stores false", "101", "101", Some(true), Some(true), 2),
+    ("a null stores true", "010", "101", Some(false), Some(false), 2),
+];
 
 /// A name, slots, the least and the greatest text, and how many slots are valid.
 #[rattlefmt::skip]
@@ -15,24 +30,32 @@ const TEXTS: &[(&str, &[Option<&str>], Option<&str>, Option<&str>, usize)] = &[
     ("by bytes", &[Some("é"), Some("z"), Some("Z")], Some("Z"), Some("é"), 3),
 ];
 
-#[test]
-fn extremes_of_texts(rt: HostRuntime) {
-    for (case, slots, least, greatest, valid) in TEXTS {
-        let array = Utf8Array::<i32>::from(rt.alloc(), *slots).expect(&rt, "memory");
-        assert_text::value(min_string(&array), *least).expect(&rt, *case);
-        assert_text::value(max_string(&array), *greatest).expect(&rt, *case);
-        assert_text::value(count_valid(&array), *valid).expect(&rt, *case);
-        drop(array);
-    }
-}
-
 /// Bytes, some of which are no text.
 const BYTES: &[Option<&[u8]>] = &[Some(b"\xff"), None, Some(b"\x00\xff"), Some(b"\x01")];
 
 #[test]
-fn extremes_of_bytes(rt: HostRuntime) {
-    let array = BinaryArray::<i64>::from(rt.alloc(), BYTES).expect(&rt, "memory");
-    assert_text::value(min_binary(&array), Some(b"\x00\xff".as_slice())).expect(&rt, "least");
-    assert_text::value(max_binary(&array), Some(b"\xff".as_slice())).expect(&rt, "greatest");
+fn booleans_texts_and_bytes_are_compared(rt: HostRuntime) {
+    for (index, (case, values, mask, least, greatest, valid)) in BOOLEANS.iter().enumerate() {
+        let row = row("aggregates of booleans", "Boolean", index, *case);
+        let row = row.as_str();
+        let array = stored_booleans(&rt, (*values, *mask));
+        assert_text::value(min_boolean(&array), *least).expect(&rt, row);
+        assert_text::value(max_boolean(&array), *greatest).expect(&rt, row);
+        assert_text::value(count_valid(&array), *valid).expect(&rt, row);
+        drop(array);
+    }
+    for (index, (case, slots, least, greatest, valid)) in TEXTS.iter().enumerate() {
+        let row = row("extremes of texts", "Utf8", index, *case);
+        let row = row.as_str();
+        let array: Utf8Array<i32> = items(&rt, *slots);
+        assert_text::value(min_string(&array), *least).expect(&rt, row);
+        assert_text::value(max_string(&array), *greatest).expect(&rt, row);
+        assert_text::value(count_valid(&array), *valid).expect(&rt, row);
+        drop(array);
+    }
+    let row = "extremes of bytes";
+    let array: BinaryArray<i64> = items(&rt, BYTES);
+    assert_text::value(min_binary(&array), Some(b"\x00\xff".as_slice())).expect(&rt, row);
+    assert_text::value(max_binary(&array), Some(b"\xff".as_slice())).expect(&rt, row);
     drop(array);
 }

@@ -1,26 +1,16 @@
 //! Sums, least and greatest values of numbers.
+use crate::arrays::{row, stored_numbers};
 use arrow_aggregate::aggregate::{
     SumOverflow, count_valid, max_primitive, min_primitive, sum_primitive,
 };
+use arrow_integers::NativeArithmetics;
 use arrow_memory::bitmap::MutableBitmap;
 use arrow_memory::buffer::Buffer;
 use arrow_primitive::PrimitiveArray;
 use arrow_types::data_type::DataType;
-use arrow_types::native_type::NativeType;
+use std::fmt::Debug;
 use std::process::Abort;
-use tests_support::{assert_text, frozen_mask};
-
-/// Creates an array of numbers.
-fn array<T: NativeType>(
-    rt: &(impl Abort + AllocGlobal),
-    values: &[T],
-    mask: &str,
-) -> PrimitiveArray<T> {
-    let mask = frozen_mask(rt.alloc(), mask).expect(rt, "memory");
-    let values = values.to_vec(rt.alloc()).expect(rt, "memory");
-    let values = Buffer::from_vec(values).expect(rt, "memory");
-    PrimitiveArray::try_new(T::PRIMITIVE.default_data_type(), values, mask).expect(rt, "parts")
-}
+use tests_support::{Text, assert_text};
 
 /// A name, values, marks, the sum, the least and the greatest value, and how many slots are valid.
 type Row<T> = (
@@ -79,46 +69,20 @@ const NATURALS: &[Row<u64>] = &[
     ("one more", &[u64::MAX, 1], "none", Err(SumOverflow), Some(1), Some(u64::MAX), 2),
 ];
 
-#[test]
-fn aggregates_of_numbers(rt: HostRuntime) {
-    for (case, values, mask, sum, least, greatest, valid) in LONG {
-        let numbers = array(&rt, *values, *mask);
-        assert_text::value(sum_primitive(&numbers), *sum).expect(&rt, *case);
-        assert_text::value(min_primitive(&numbers), *least).expect(&rt, *case);
-        assert_text::value(max_primitive(&numbers), *greatest).expect(&rt, *case);
-        assert_text::value(count_valid(&numbers), *valid).expect(&rt, *case);
-        drop(numbers);
-    }
-}
-
-#[test]
-fn an_overflow_prints_its_text(rt: HostRuntime) {
-    let printed = SumOverflow.to_string(rt.alloc()).expect(&rt, "memory");
-    assert_text::value(printed.as_str(), "the sum does not fit in its type").expect(&rt, "a sum");
-    drop(printed);
-}
-
-#[test]
-fn sums_of_128_bits(rt: HostRuntime) {
-    for (case, values, mask, sum, least, greatest, _) in WIDE {
-        let numbers = array(&rt, *values, *mask);
-        assert_text::value(sum_primitive(&numbers), *sum).expect(&rt, *case);
-        assert_text::value(min_primitive(&numbers), *least).expect(&rt, *case);
-        assert_text::value(max_primitive(&numbers), *greatest).expect(&rt, *case);
-        drop(numbers);
-    }
-}
-
-#[test]
-fn sums_of_unsigned_numbers(rt: HostRuntime) {
-    for (case, values, mask, sum, _, _, _) in BYTES {
-        let numbers = array(&rt, *values, *mask);
-        assert_text::value(sum_primitive(&numbers), *sum).expect(&rt, *case);
-        drop(numbers);
-    }
-    for (case, values, mask, sum, _, _, _) in NATURALS {
-        let numbers = array(&rt, *values, *mask);
-        assert_text::value(sum_primitive(&numbers), *sum).expect(&rt, *case);
+/// Compares the aggregates of the numbers of each row.
+fn check_rows<T: NativeArithmetics + Debug>(
+    rt: &(impl Abort + AllocGlobal),
+    test: &str,
+    rows: &[Row<T>],
+) {
+    for (index, (case, values, mask, sum, least, greatest, valid)) in rows.iter().enumerate() {
+        let row = Text::of(format_args!("{test}: {:?}, row {index}, {case}", T::PRIMITIVE));
+        let row = row.as_str();
+        let numbers = stored_numbers(rt, T::PRIMITIVE.default_data_type(), *values, *mask);
+        assert_text::value(sum_primitive(&numbers), *sum).expect(rt, row);
+        assert_text::value(min_primitive(&numbers), *least).expect(rt, row);
+        assert_text::value(max_primitive(&numbers), *greatest).expect(rt, row);
+        assert_text::value(count_valid(&numbers), *valid).expect(rt, row);
         drop(numbers);
     }
 }
@@ -136,8 +100,18 @@ const PERIODS: &[(&str, usize, usize, i32, i32, i32)] = &[
 ];
 
 #[test]
-fn aggregates_of_long_arrays(rt: HostRuntime) {
-    for (case, period, from, sum, least, greatest) in PERIODS {
+fn numbers_are_summed_and_compared(rt: HostRuntime) {
+    check_rows(&rt, "aggregates of numbers", LONG);
+    check_rows(&rt, "sums of 128 bits", WIDE);
+    check_rows(&rt, "sums of unsigned numbers", BYTES);
+    check_rows(&rt, "sums of unsigned numbers", NATURALS);
+    let printed = SumOverflow.to_string(rt.alloc()).expect(&rt, "memory");
+    let text = "the sum does not fit in its type";
+    assert_text::value(printed.as_str(), text).expect(&rt, "an overflow prints its text");
+    drop(printed);
+    for (index, (case, period, from, sum, least, greatest)) in PERIODS.iter().enumerate() {
+        let row = row("aggregates of long arrays", "Int32", index, *case);
+        let row = row.as_str();
         assert!(rt; *period != 0, "a period above zero");
         let mut values = Vec::new(rt.alloc());
         let mut marks = MutableBitmap::new(rt.alloc());
@@ -150,9 +124,9 @@ fn aggregates_of_long_arrays(rt: HostRuntime) {
         let values = Buffer::from_vec(values).expect(&rt, "memory");
         let mask = Some(marks.freeze().expect(&rt, "memory"));
         let numbers = PrimitiveArray::try_new(DataType::Int32, values, mask).expect(&rt, "parts");
-        assert_text::value(sum_primitive(&numbers), Ok(Some(*sum))).expect(&rt, *case);
-        assert_text::value(min_primitive(&numbers), Some(*least)).expect(&rt, *case);
-        assert_text::value(max_primitive(&numbers), Some(*greatest)).expect(&rt, *case);
+        assert_text::value(sum_primitive(&numbers), Ok(Some(*sum))).expect(&rt, row);
+        assert_text::value(min_primitive(&numbers), Some(*least)).expect(&rt, row);
+        assert_text::value(max_primitive(&numbers), Some(*greatest)).expect(&rt, row);
         drop(numbers);
     }
 }

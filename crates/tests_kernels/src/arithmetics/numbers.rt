@@ -1,8 +1,11 @@
 //! Arrays of other integers, and arrays that are longer than a word of marks.
-use super::*;
+use crate::arrays::{check_numbers, stored_numbers};
 use arrow_arithmetics::basic::{
     add_scalar, checked_add, checked_sub_scalar, saturating_sub_scalar,
 };
+use arrow_primitive::PrimitiveArray;
+use arrow_types::data_type::DataType;
+use tests_support::assert_text;
 
 #[test]
 fn long_arrays_are_checked_by_words(rt: HostRuntime) {
@@ -10,66 +13,56 @@ fn long_arrays_are_checked_by_words(rt: HostRuntime) {
     for i in 0..130u64 {
         numbers.push(i).expect(&rt, "memory");
     }
-    let numbers = Buffer::from_vec(numbers).expect(&rt, "memory");
-    let array = PrimitiveArray::try_new(DataType::UInt64, numbers, None).expect(
-        &rt,
-        "parts that fit",
-    );
+    let array = PrimitiveArray::from_vec(numbers).expect(&rt, "memory");
     let less = checked_sub_scalar(rt.alloc(), &array, 65).expect(&rt, "memory");
-    assert_text::value((less.len(), less.null_count()), (130, 65)).expect(
-        &rt,
-        "the first are negative",
-    );
+    let counts = (less.len(), less.null_count());
+    assert_text::value(counts, (130, 65)).expect(&rt, "the first are negative");
     assert!(rt; less.len() == array.len(), "as many differences as numbers");
     let twice = checked_add(rt.alloc(), &less, &array).expect(&rt, "memory");
-    assert_text::value((twice.len(), twice.null_count()), (130, 65)).expect(&rt, "nulls stay");
+    drop(array);
+    let counts = (twice.len(), twice.null_count());
+    assert_text::value(counts, (130, 65)).expect(&rt, "nulls stay");
     assert!(rt;
         less.len() == 130 && twice.len() == 130,
         "130 slots of each"
     );
     for i in 0..130 {
-        let (low, sum) = if i < 65 {
+        let expected = if i < 65 {
             (None, None)
         } else {
             (Some(i as u64 - 65), Some(2 * i as u64 - 65))
         };
-        assert_text::value((less.get(i), twice.get(i)), (low, sum)).expect(&rt, "a slot");
+        let slots = (less.get(i), twice.get(i));
+        assert_text::value((i, slots), (i, expected)).expect(&rt, "a slot");
     }
     drop(less);
     drop(twice);
-    drop(array);
 }
 
 #[test]
 fn ends_of_wide_types_are_met(rt: HostRuntime) {
-    let numbers = [i128::MAX, i128::MIN]
-        .to_vec(rt.alloc())
-        .expect(&rt, "memory");
-    let numbers = Buffer::from_vec(numbers).expect(&rt, "memory");
-    let array = PrimitiveArray::try_new(DataType::Decimal(38, 0), numbers, None).expect(
+    let decimals = DataType::Decimal(38, 0);
+    let array = stored_numbers(
         &rt,
-        "parts that fit",
+        DataType::Decimal(38, 0),
+        &[i128::MAX, i128::MIN],
+        "none",
     );
-    let next = add_scalar(rt.alloc(), &array, 1).expect(&rt, "memory");
-    assert_text::value(
-        next.values().as_slice(),
-        [i128::MIN, i128::MIN + 1].as_slice(),
-    )
-    .expect(&rt, "wrapped");
-    assert_text::value(next.data_type(), &DataType::Decimal(38, 0)).expect(&rt, "its type");
-    drop(next);
+    let next = add_scalar(rt.alloc(), &array, 1);
     drop(array);
-    let numbers = [0u64, u64::MAX].to_vec(rt.alloc()).expect(&rt, "memory");
-    let numbers = Buffer::from_vec(numbers).expect(&rt, "memory");
-    let array = PrimitiveArray::try_new(DataType::UInt64, numbers, None).expect(
-        &rt,
-        "parts that fit",
-    );
-    let less = saturating_sub_scalar(rt.alloc(), &array, 1).expect(&rt, "memory");
-    assert_text::value(less.values().as_slice(), [0, u64::MAX - 1].as_slice()).expect(
+    let expected =
+        "[-170141183460469231731687303715884105728 -170141183460469231731687303715884105727]";
+    check_numbers(&rt, "wrapped", next, Ok((expected, "none")), &decimals);
+    drop(decimals);
+    let array = stored_numbers(&rt, DataType::UInt64, &[0u64, u64::MAX], "none");
+    let less = saturating_sub_scalar(rt.alloc(), &array, 1);
+    drop(array);
+    let expected = "[0 18446744073709551614]";
+    check_numbers(
         &rt,
         "not below zero",
+        less,
+        Ok((expected, "none")),
+        &DataType::UInt64,
     );
-    drop(less);
-    drop(array);
 }

@@ -1,26 +1,23 @@
 //! Logic of booleans in which a null stays null, and three-valued logic.
-use super::*;
+use crate::arrays::{Booleans, check_booleans, numbers, row, stored_booleans};
 use arrow_compute::{boolean, boolean_kleene};
-use arrow_primitive::PrimitiveArray;
-
-/// Stored values and marks; a null stores true where it could be taken for a value.
-type Stored = (&'static str, &'static str);
+use tests_support::assert_text;
 
 /// A name, two arrays, and their results: of `and` and `or`, of three-valued `and` and `or`, and the
 /// mask of the first two.
 type Case = (
     &'static str,
-    Stored,
-    Stored,
+    Booleans,
+    Booleans,
     [&'static str; 4],
     &'static str,
     [&'static str; 2],
 );
 
-/// All pairs of true, false and null.
-const LEFT: Stored = ("111000111", "111111000");
+/// All pairs of true, false and null. A null stores true where it could be taken for a value.
+const LEFT: Booleans = ("111000111", "111111000");
 
-const RIGHT: Stored = ("101101101", "110110110");
+const RIGHT: Booleans = ("101101101", "110110110");
 
 #[rattlefmt::skip]
 const CASES: &[Case] = &[
@@ -34,28 +31,10 @@ const CASES: &[Case] = &[
         ["1011", "0111"]),
 ];
 
-#[test]
-fn two_arrays_are_combined(rt: HostRuntime) {
-    let alloc = rt.alloc();
-    for (case, first, second, [both, either, known_both, known_either], mask, known) in CASES {
-        let (lhs, rhs) = (bools(&rt, *first), bools(&rt, *second));
-        assert!(&rt; lhs.len() == rhs.len());
-        let (case, [mask_and, mask_or]) = (*case, *known);
-        check(&rt, case, boolean::and(alloc, &lhs, &rhs), both, mask);
-        check(&rt, case, boolean::or(alloc, &lhs, &rhs), either, mask);
-        let answer = boolean_kleene::and(alloc, &lhs, &rhs);
-        check(&rt, case, answer, known_both, mask_and);
-        let answer = boolean_kleene::or(alloc, &lhs, &rhs);
-        check(&rt, case, answer, known_either, mask_or);
-        drop(rhs);
-        drop(lhs);
-    }
-}
-
 /// A name, an array, its opposites, `any` and `all`, and these in three-valued logic.
 type One = (
     &'static str,
-    Stored,
+    Booleans,
     &'static str,
     [bool; 2],
     [Option<bool>; 2],
@@ -75,33 +54,85 @@ const ONES: &[One] = &[
 ];
 
 #[test]
-fn one_array_is_negated_and_summed_up(rt: HostRuntime) {
-    for (case, stored, opposites, bare, known) in ONES {
-        let (array, case, (_, mask)) = (bools(&rt, *stored), *case, *stored);
-        let answer = boolean::not(rt.alloc(), &array);
-        check(&rt, case, answer, opposites, mask);
+fn booleans_are_combined_negated_and_summed_up(rt: HostRuntime) {
+    let alloc = rt.alloc();
+    for (index, (case, first, second, expected, mask, known)) in CASES.iter().enumerate() {
+        let row = row("two arrays are combined", "Boolean", index, *case);
+        let row = row.as_str();
+        let [both, either, known_both, known_either] = *expected;
+        let (lhs, rhs) = (stored_booleans(&rt, *first), stored_booleans(&rt, *second));
+        assert!(&rt; lhs.len() == rhs.len());
+        check_booleans(
+            &rt,
+            row,
+            "and",
+            boolean::and(alloc, &lhs, &rhs),
+            (both, *mask),
+        );
+        check_booleans(
+            &rt,
+            row,
+            "or",
+            boolean::or(alloc, &lhs, &rhs),
+            (either, *mask),
+        );
+        let answer = boolean_kleene::and(alloc, &lhs, &rhs);
+        check_booleans(&rt, row, "three-valued and", answer, (known_both, known[0]));
+        let answer = boolean_kleene::or(alloc, &lhs, &rhs);
+        check_booleans(
+            &rt,
+            row,
+            "three-valued or",
+            answer,
+            (known_either, known[1]),
+        );
+        drop(rhs);
+        drop(lhs);
+    }
+    for (index, (case, stored, opposites, bare, known)) in ONES.iter().enumerate() {
+        let row = row(
+            "one array is negated and summed up",
+            "Boolean",
+            index,
+            *case,
+        );
+        let row = row.as_str();
+        let array = stored_booleans(&rt, *stored);
+        check_booleans(
+            &rt,
+            row,
+            "not",
+            boolean::not(alloc, &array),
+            (*opposites, stored.1),
+        );
         let came = [boolean::any(&array), boolean::all(&array)];
-        assert_text::value(came, *bare).expect(&rt, case);
+        assert_text::value(came, *bare).expect(&rt, row);
         let came = [boolean_kleene::any(&array), boolean_kleene::all(&array)];
-        assert_text::value(came, *known).expect(&rt, case);
+        assert_text::value(came, *known).expect(&rt, row);
         drop(array);
     }
-}
-
-#[test]
-fn nulls_of_any_kind_are_found(rt: HostRuntime) {
-    let alloc = rt.alloc();
-    let slots = [Some(0_u8), None, Some(2)];
-    let array = PrimitiveArray::<u8>::from(alloc, slots.as_slice()).expect(&rt, "memory");
-    let answer = boolean::is_null(alloc, &array);
-    check(&rt, "numbers", answer, "ftf", "none");
+    let array = numbers(&rt, &[Some(0_u8), None, Some(2)]);
+    let row = "nulls of any kind are found: numbers";
+    check_booleans(
+        &rt,
+        row,
+        "is_null",
+        boolean::is_null(alloc, &array),
+        ("ftf", "none"),
+    );
     let answer = boolean::is_not_null(alloc, &array);
-    check(&rt, "numbers", answer, "tft", "none");
+    check_booleans(&rt, row, "is_not_null", answer, ("tft", "none"));
     drop(array);
-    let array = bools(&rt, ("01", "none"));
-    let answer = boolean::is_null(alloc, &array);
-    check(&rt, "no mask", answer, "ff", "none");
+    let array = stored_booleans(&rt, ("01", "none"));
+    let row = "nulls of any kind are found: booleans, no mask";
+    check_booleans(
+        &rt,
+        row,
+        "is_null",
+        boolean::is_null(alloc, &array),
+        ("ff", "none"),
+    );
     let answer = boolean::is_not_null(alloc, &array);
-    check(&rt, "no mask", answer, "tt", "none");
+    check_booleans(&rt, row, "is_not_null", answer, ("tt", "none"));
     drop(array);
 }

@@ -1,8 +1,10 @@
 //! More than 64 slots, whose marks and values begin within a byte.
-use super::*;
+use crate::arrays::{check_booleans, numbers, stored_booleans};
+use arrow_boolean::BooleanArray;
 use arrow_compute::comparison::{eq, eq_and_validity, eq_scalar, lt, lt_scalar};
 use arrow_compute::{boolean, boolean_kleene};
-use arrow_primitive::PrimitiveArray;
+use arrow_types::error::Error;
+use std::process::Abort;
 use tests_support::Text;
 
 /// Four letters that a text repeats.
@@ -25,95 +27,96 @@ fn cut_bools(
     (from, len): (usize, usize),
 ) -> BooleanArray {
     let (values, mask) = (cycle(values, 140), cycle(mask, 140));
-    let mut array = bools(rt, (values.as_str(), mask.as_str()));
+    let array = stored_booleans(rt, (values.as_str(), mask.as_str()));
     assert!(rt;
         from <= array.len() && len <= array.len() - from,
         "a slice within the array"
     );
-    array.slice(from, len);
-    array
+    array.sliced(from, len)
 }
 
-/// Compares the answer of a kernel with slots that repeat four letters.
+/// Compares what a call answers with `len` slots, whose letters and marks repeat.
 fn check_cycle(
     rt: &impl Abort,
-    case: &str,
+    (test, len): (&str, usize),
+    call: &str,
     answer: Result<BooleanArray, Error>,
-    slots: Letters,
-    mask: Text,
-    len: usize,
+    (slots, marks): (Letters, Letters),
 ) {
-    check(rt, case, answer, cycle(slots, len).as_str(), mask.as_str());
+    let row = Text::of(format_args!("{test}: {len} slots"));
+    let (slots, marks) = (cycle(slots, len), cycle(marks, len));
+    check_booleans(
+        rt,
+        row.as_str(),
+        call,
+        answer,
+        (slots.as_str(), marks.as_str()),
+    );
 }
 
 /// Lengths of one word, of one and a piece, and of two and a piece.
 const LENGTHS: &[usize] = &[64, 67, 131];
 
 #[test]
-fn booleans_are_combined_64_at_a_time(rt: HostRuntime) {
+fn booleans_and_numbers_are_read_64_at_a_time(rt: HostRuntime) {
     let alloc = rt.alloc();
+    let mut slots = Vec::new(alloc);
+    for i in 0..140 {
+        let slot = [Some(5_i16), None, Some(7), Some(-1)][i % 4];
+        slots.push(slot).expect(&rt, "memory");
+    }
     for length in LENGTHS {
         let len = *length;
         // Slots t f f null, and null f t f.
         let lhs = cut_bools(&rt, ["0", "0", "1", "1"], ["1", "1", "0", "1"], (3, len));
         let rhs = cut_bools(&rt, ["0", "1", "0", "1"], ["1", "0", "1", "1"], (1, len));
         assert!(&rt; lhs.len() == rhs.len());
-        let both = cycle(["0", "1", "1", "0"], len);
+        let test = ("booleans are combined 64 at a time", len);
+        let both = ["0", "1", "1", "0"];
         let answer = eq(alloc, &lhs, &rhs);
-        check_cycle(&rt, "eq", answer, ["_", "t", "f", "_"], both, len);
+        check_cycle(&rt, test, "eq", answer, (["_", "t", "f", "_"], both));
         let answer = lt(alloc, &lhs, &rhs);
-        check_cycle(&rt, "lt", answer, ["_", "f", "t", "_"], both, len);
-        let answer = eq_and_validity(alloc, &lhs, &rhs);
+        check_cycle(&rt, test, "lt", answer, (["_", "f", "t", "_"], both));
+        let answer = boolean::or(alloc, &lhs, &rhs);
+        check_cycle(&rt, test, "or", answer, (["_", "f", "t", "_"], both));
+        let known = ["0", "1", "1", "1"];
+        let answer = boolean_kleene::and(alloc, &lhs, &rhs);
         check_cycle(
             &rt,
+            test,
+            "known and",
+            answer,
+            (["_", "f", "f", "f"], known),
+        );
+        let known = ["1", "1", "1", "0"];
+        let answer = boolean_kleene::or(alloc, &lhs, &rhs);
+        check_cycle(&rt, test, "known or", answer, (["t", "f", "t", "_"], known));
+        let answer = eq_and_validity(alloc, &lhs, &rhs);
+        let row = Text::of(format_args!("{}: {len} slots", test.0));
+        let same = cycle(["f", "t", "f", "f"], len);
+        check_booleans(
+            &rt,
+            row.as_str(),
             "validity",
             answer,
-            ["f", "t", "f", "f"],
-            Text::of("none"),
-            len,
+            (same.as_str(), "none"),
         );
-        let answer = boolean::or(alloc, &lhs, &rhs);
-        check_cycle(&rt, "or", answer, ["_", "f", "t", "_"], both, len);
-        let known = cycle(["0", "1", "1", "1"], len);
-        let answer = boolean_kleene::and(alloc, &lhs, &rhs);
-        check_cycle(&rt, "known and", answer, ["_", "f", "f", "f"], known, len);
-        let known = cycle(["1", "1", "1", "0"], len);
-        let answer = boolean_kleene::or(alloc, &lhs, &rhs);
-        check_cycle(&rt, "known or", answer, ["t", "f", "t", "_"], known, len);
         drop(rhs);
         drop(lhs);
-    }
-}
-
-/// Returns `len` numbers of the cycle 5, null, 7, -1, from its second on.
-fn cut_numbers(rt: &(impl Abort + AllocGlobal), len: usize) -> PrimitiveArray<i16> {
-    let mut slots = Vec::new(rt.alloc());
-    for i in 0..140 {
-        let slot = [Some(5), None, Some(7), Some(-1)][i % 4];
-        slots.push(slot).expect(rt, "memory");
-    }
-    let array = PrimitiveArray::<i16>::from(rt.alloc(), slots.as_slice());
-    drop(slots);
-    let mut array = array.expect(rt, "memory");
-    assert!(rt;
-        1 <= array.len() && len <= array.len() - 1,
-        "a slice within the array"
-    );
-    array.slice(1, len);
-    array
-}
-
-#[test]
-fn numbers_are_compared_64_at_a_time(rt: HostRuntime) {
-    let alloc = rt.alloc();
-    for length in LENGTHS {
-        let len = *length;
-        let array = cut_numbers(&rt, len);
-        let marks = cycle(["0", "1", "1", "1"], len);
+        // Numbers of the cycle 5, null, 7, -1, from its second on.
+        let array = numbers(&rt, &slots);
+        assert!(rt;
+            1 <= array.len() && len <= array.len() - 1,
+            "a slice within the array"
+        );
+        let array = array.sliced(1, len);
+        let test = ("numbers are compared 64 at a time", len);
+        let marks = ["0", "1", "1", "1"];
         let answer = lt_scalar(alloc, &array, 5_i16);
-        check_cycle(&rt, "lt", answer, ["_", "f", "t", "f"], marks, len);
+        check_cycle(&rt, test, "lt", answer, (["_", "f", "t", "f"], marks));
         let answer = eq_scalar(alloc, &array, 7_i16);
-        check_cycle(&rt, "eq", answer, ["_", "t", "f", "f"], marks, len);
+        check_cycle(&rt, test, "eq", answer, (["_", "t", "f", "f"], marks));
         drop(array);
     }
+    drop(slots);
 }

@@ -2,12 +2,15 @@
 ghost use Rattle.std.specs.Prelude.{◌≡◌, ◌<◌, Some, length, not, slice_get};
 ghost use Rattle.arrow_column.specs.Column.{marks_of};
 
-use super::*;
+use crate::arrays::{booleans, items, numbers};
 use arrow_binary::BinaryArray;
+use arrow_boolean::BooleanArray;
 use arrow_column::Array;
 use arrow_primitive::PrimitiveArray;
+use arrow_types::data_type::DataType;
 use arrow_utf8::Utf8Array;
-use tests_support::Text;
+use std::process::Abort;
+use tests_support::{Text, assert_text};
 
 /// Returns whether a slot is null or past the last.
 fn is_null_or_past<A: Array>(array: &A, i: usize) -> bool
@@ -16,10 +19,11 @@ fn is_null_or_past<A: Array>(array: &A, i: usize) -> bool
     i >= array.len() || array.is_null(i)
 }
 
-/// Compares what the trait tells of an array of two slots, the second of which is null, and of none.
+/// Compares what the trait tells of an array of two slots, the second of which is null, and of none. The data type's name
+/// is `name`.
 fn check<A: Array + Drop>(rt: &impl Abort, name: &str, array: A, empty: A) {
     let of = Text::of(format_args!("{}", array.data_type()));
-    assert_text::text(of, name).expect(rt, "the data type");
+    assert_text::text(of, name).expect(rt, name);
     let sizes = (array.len(), array.is_empty(), array.null_count());
     assert_text::value(sizes, (2, false, 1)).expect(rt, name);
     assert_text::mask(array.validity(), "10").expect(rt, name);
@@ -37,36 +41,16 @@ fn check<A: Array + Drop>(rt: &impl Abort, name: &str, array: A, empty: A) {
 #[test]
 fn each_kind_of_array_tells_what_all_have(rt: HostRuntime) {
     let alloc = rt.alloc();
-    let array = PrimitiveArray::<i64>::from(alloc, [Some(7), None].as_slice());
+    let array = numbers(&rt, &[Some(7i64), None]);
     let empty = PrimitiveArray::<i64>::new_empty(alloc, DataType::Int64);
-    check(
-        &rt,
-        "Int64",
-        array.expect(&rt, "memory"),
-        empty.expect(&rt, "memory"),
-    );
-    let array = BooleanArray::from(alloc, [Some(true), None].as_slice());
+    check(&rt, "Int64", array, empty.expect(&rt, "memory"));
+    let array = booleans(&rt, &[Some(true), None]);
     let empty = BooleanArray::new_empty(alloc, DataType::Boolean);
-    check(
-        &rt,
-        "Boolean",
-        array.expect(&rt, "memory"),
-        empty.expect(&rt, "memory"),
-    );
-    let array = Utf8Array::<i32>::from(alloc, [Some("é"), None].as_slice());
+    check(&rt, "Boolean", array, empty.expect(&rt, "memory"));
+    let array: Utf8Array<i32> = items(&rt, &[Some("é"), None]);
     let empty = Utf8Array::<i32>::default(alloc);
-    check(
-        &rt,
-        "Utf8",
-        array.expect(&rt, "memory"),
-        empty.expect(&rt, "memory"),
-    );
-    let array = BinaryArray::<i64>::from(alloc, [Some(b"\xff".as_slice()), None].as_slice());
+    check(&rt, "Utf8", array, empty.expect(&rt, "memory"));
+    let array: BinaryArray<i64> = items(&rt, &[Some(b"\xff".as_slice()), None]);
     let empty = BinaryArray::<i64>::default(alloc);
-    check(
-        &rt,
-        "LargeBinary",
-        array.expect(&rt, "memory"),
-        empty.expect(&rt, "memory"),
-    );
+    check(&rt, "LargeBinary", array, empty.expect(&rt, "memory"));
 }

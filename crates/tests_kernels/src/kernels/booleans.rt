@@ -1,11 +1,25 @@
 //! Kernels of booleans.
-use super::*;
+use crate::arrays::{Booleans, TOO_GREAT, row, stored_booleans};
+use arrow_boolean::BooleanArray;
 use arrow_kernels::{concat_boolean, filter_boolean, take_boolean, true_count};
+use arrow_types::error::Error;
+use std::process::Abort;
+use tests_support::assert_text;
 
-/// Compares an array with its parts, and drops it.
-fn check(rt: &impl Abort, case: &str, array: BooleanArray, (values, mask): Booleans) {
-    assert_text::marks(array.values().iter(), values).expect(rt, case);
-    assert_text::mask(array.validity(), mask).expect(rt, case);
+/// Compares an answer with an error, or with the parts of an array.
+fn check_stored(
+    rt: &impl Abort,
+    row: &str,
+    answer: Result<BooleanArray, Error>,
+    expected: Result<Booleans, Error>,
+) {
+    let (values, mask) = match expected {
+        Ok(parts) => parts,
+        Err(error) => return assert_text::value(answer.err(), Some(error)).expect(rt, row),
+    };
+    let array = answer.expect(rt, row);
+    assert_text::marks(array.values().iter(), values).expect(rt, row);
+    assert_text::mask(array.validity(), mask).expect(rt, row);
     drop(array);
 }
 
@@ -52,18 +66,6 @@ const FILTERS: &[(&str, Booleans, Booleans, Booleans)] = &[
     ),
 ];
 
-#[test]
-fn filters_keep_slots_at_true(rt: HostRuntime) {
-    for (case, array, filter, expected) in FILTERS {
-        let (array, filter) = (bools(&rt, *array), bools(&rt, *filter));
-        assert!(rt; filter.len() == array.len());
-        let kept = filter_boolean(rt.alloc(), &array, &filter).expect(&rt, "memory");
-        drop(filter);
-        drop(array);
-        check(&rt, *case, kept, *expected);
-    }
-}
-
 /// A name, an array, keys, and the slots at them.
 const TAKES: &[(&str, Booleans, &[u8], Result<Booleans, Error>)] = &[
     ("a null", FOUR, &[3, 0, 1, 0], Ok(("0111", "0101"))),
@@ -72,19 +74,6 @@ const TAKES: &[(&str, Booleans, &[u8], Result<Booleans, Error>)] = &[
     ("the length", ("10", "none"), &[1, 2], Err(TOO_GREAT)),
 ];
 
-#[test]
-fn takes_keep_slots_at_keys(rt: HostRuntime) {
-    for (case, array, keys, expected) in TAKES {
-        let array = bools(&rt, *array);
-        let taken = take_boolean(rt.alloc(), &array, *keys);
-        drop(array);
-        match *expected {
-            Ok(parts) => check(&rt, *case, taken.expect(&rt, *case), parts),
-            Err(error) => assert_text::value(taken.err(), Some(error)).expect(&rt, *case),
-        }
-    }
-}
-
 /// Creates a slice, which has to lie within the array.
 fn sliced(
     rt: &(impl Abort + AllocGlobal),
@@ -92,7 +81,7 @@ fn sliced(
     offset: usize,
     len: usize,
 ) -> BooleanArray {
-    let array = bools(rt, array);
+    let array = stored_booleans(rt, array);
     assert!(rt; offset <= array.len() && len <= array.len() - offset);
     array.sliced(offset, len)
 }
@@ -117,21 +106,6 @@ const CONCATENATIONS: &[(&str, &[Slice], Booleans)] = &[
     ),
 ];
 
-#[test]
-fn concatenations_have_all_slots_in_order(rt: HostRuntime) {
-    for (case, slices, expected) in CONCATENATIONS {
-        let mut arrays = Vec::new(rt.alloc());
-        for (array, offset, len) in *slices {
-            let slice = sliced(&rt, *array, *offset, *len);
-            arrays.push(slice).expect(&rt, "memory");
-        }
-        assert!(rt; !arrays.is_empty());
-        let joined = concat_boolean(rt.alloc(), &arrays).expect(&rt, "memory");
-        drop(arrays);
-        check(&rt, *case, joined, *expected);
-    }
-}
-
 /// A name, an array, the offset and length of a slice, and how many of its slots are valid and true.
 const COUNTS: &[(&str, Booleans, usize, usize, usize)] = &[
     ("a null", ("1101", "1011"), 0, 4, 2),
@@ -148,11 +122,45 @@ const COUNTS: &[(&str, Booleans, usize, usize, usize)] = &[
 ];
 
 #[test]
-fn true_slots_are_counted(rt: HostRuntime) {
-    for (case, array, offset, len, expected) in COUNTS {
+fn booleans_are_filtered_taken_concatenated_and_counted(rt: HostRuntime) {
+    for (index, (case, array, filter, expected)) in FILTERS.iter().enumerate() {
+        let row = row("filters keep slots at true", "Boolean", index, *case);
+        let (array, filter) = (stored_booleans(&rt, *array), stored_booleans(&rt, *filter));
+        assert!(rt; filter.len() == array.len());
+        let kept = filter_boolean(rt.alloc(), &array, &filter);
+        drop(filter);
+        drop(array);
+        check_stored(&rt, row.as_str(), kept, Ok(*expected));
+    }
+    for (index, (case, array, keys, expected)) in TAKES.iter().enumerate() {
+        let row = row("takes keep slots at keys", "Boolean", index, *case);
+        let array = stored_booleans(&rt, *array);
+        let taken = take_boolean(rt.alloc(), &array, *keys);
+        drop(array);
+        check_stored(&rt, row.as_str(), taken, *expected);
+    }
+    for (index, (case, slices, expected)) in CONCATENATIONS.iter().enumerate() {
+        let row = row(
+            "concatenations have all slots in order",
+            "Boolean",
+            index,
+            *case,
+        );
+        let mut arrays = Vec::new(rt.alloc());
+        for (array, offset, len) in *slices {
+            let slice = sliced(&rt, *array, *offset, *len);
+            arrays.push(slice).expect(&rt, "memory");
+        }
+        assert!(rt; !arrays.is_empty());
+        let joined = concat_boolean(rt.alloc(), &arrays);
+        drop(arrays);
+        check_stored(&rt, row.as_str(), joined, Ok(*expected));
+    }
+    for (index, (case, array, offset, len, expected)) in COUNTS.iter().enumerate() {
+        let row = row("true slots are counted", "Boolean", index, *case);
         let array = sliced(&rt, *array, *offset, *len);
         let count = true_count(&array);
         drop(array);
-        assert_text::value(count, *expected).expect(&rt, *case);
+        assert_text::value(count, *expected).expect(&rt, row.as_str());
     }
 }

@@ -1,57 +1,15 @@
 //! Kernels of bytes and of text.
-use super::*;
-use arrow_byte_array::ByteArray;
-use arrow_bytes::{Binary, ByteKind, Utf8};
+use crate::arrays::{
+    Booleans, Items, NEGATIVE, TOO_GREAT, check_stored_items, row, stored_booleans, stored_items,
+};
+use arrow_bytes::{Binary, Utf8};
 use arrow_kernels::{
     concat_binary, concat_utf8, filter_binary, filter_utf8, take_binary, take_utf8,
 };
-use arrow_memory::buffer::Buffer;
+use arrow_types::error::Error;
 use arrow_types::offset::Offset;
-use tests_support::{Tiny, frozen_offsets};
-
-/// Offsets, bytes and marks.
-pub(super) type Items = (&'static [usize], &'static [u8], &'static str);
-
-/// Creates an array of the default type.
-pub(super) fn array_of<K: ByteKind, O: Offset>(
-    rt: &(impl Abort + AllocGlobal),
-    (offsets, bytes, mask): Items,
-) -> ByteArray<K, O> {
-    let offsets = frozen_offsets(rt.alloc(), offsets).expect(rt, "offsets");
-    let bytes = bytes.to_vec(rt.alloc()).expect(rt, "memory");
-    let bytes = Buffer::from_vec(bytes).expect(rt, "memory");
-    let mask = frozen_mask(rt.alloc(), mask).expect(rt, "memory");
-    let array = ByteArray::try_new(K::default_type(O::IS_LARGE), offsets, bytes, mask);
-    array.expect(rt, "parts that fit")
-}
-
-/// Compares the answer of a kernel with an error, or an array of the default type and these parts.
-pub(super) fn check<K: ByteKind, O: Offset>(
-    rt: &(impl Abort + AllocGlobal),
-    case: &str,
-    answer: Result<ByteArray<K, O>, Error>,
-    expected: Result<Items, Error>,
-) {
-    let (offsets, bytes, mask) = match expected {
-        Ok(parts) => parts,
-        Err(error) => return assert_text::value(answer.err(), Some(error)).expect(rt, case),
-    };
-    let array = answer.expect(rt, case);
-    let numbers = array.offsets().buffer().as_slice().iter();
-    let numbers = numbers.filter_map(|offset| offset.try_to_usize());
-    let numbers: Vec<usize> = numbers.collect(rt.alloc()).expect(rt, "memory");
-    let data_type = K::default_type(O::IS_LARGE);
-    let came = (
-        array.data_type(),
-        numbers.as_slice(),
-        array.values().as_slice(),
-    );
-    assert_text::value(came, (&data_type, offsets, bytes)).expect(rt, case);
-    assert_text::mask(array.validity(), mask).expect(rt, case);
-    drop(data_type);
-    drop(numbers);
-    drop(array);
-}
+use std::process::Abort;
+use tests_support::Tiny;
 
 /// Items of one, no and two letters, the second of which is null, with letters around them.
 const THREE: Items = (&[2, 3, 3, 5], b"yyabbz", "101");
@@ -98,31 +56,6 @@ const FILTERS: &[(&str, Items, Booleans, Items)] = &[
     ),
 ];
 
-/// Filters bytes and texts.
-fn check_filters<O: Offset>(rt: &(impl Abort + AllocGlobal)) {
-    for (case, array, filter, expected) in FILTERS {
-        macro_rules! check_kind {
-            ($kind:ty, $kernel:ident) => {
-                let (array, filter) = (array_of::<$kind, O>(rt, *array), bools(rt, *filter));
-                assert!(rt; filter.len() == array.len());
-                let kept = $kernel(rt.alloc(), &array, &filter);
-                drop(filter);
-                drop(array);
-                check(rt, *case, kept, Ok(*expected));
-            };
-        }
-        check_kind!(Binary, filter_binary);
-        check_kind!(Utf8, filter_utf8);
-    }
-}
-
-#[test]
-fn filters_keep_slots_at_true(rt: HostRuntime) {
-    check_filters::<i32>(&rt);
-    check_filters::<i64>(&rt);
-    check_filters::<Tiny>(&rt);
-}
-
 /// Forty bytes, twice as many, and as many as `Tiny` can count.
 const X40: &[u8] = b"xxxxxxxxxxxxxxxxxxxxxxxxxxxxxxxxxxxxxxxx";
 
@@ -150,30 +83,6 @@ const TINY_TAKES: &[Take] = &[
     ("120 bytes, then a key of the length", FORTY, &[0, 0, 0, 1], Err(TOO_GREAT)),
     ("120 bytes, then a negative key", FORTY, &[0, 0, 0, -1], Err(NEGATIVE)),
 ];
-
-/// Takes bytes and texts.
-fn check_takes<O: Offset>(rt: &(impl Abort + AllocGlobal), cases: &[Take]) {
-    for (case, array, keys, expected) in cases {
-        macro_rules! check_kind {
-            ($kind:ty, $kernel:ident) => {
-                let array = array_of::<$kind, O>(rt, *array);
-                let taken = $kernel(rt.alloc(), &array, *keys);
-                drop(array);
-                check(rt, *case, taken, *expected);
-            };
-        }
-        check_kind!(Binary, take_binary);
-        check_kind!(Utf8, take_utf8);
-    }
-}
-
-#[test]
-fn takes_keep_slots_at_keys(rt: HostRuntime) {
-    check_takes::<i32>(&rt, TAKES);
-    check_takes::<i64>(&rt, TAKES);
-    check_takes::<Tiny>(&rt, TAKES);
-    check_takes::<Tiny>(&rt, TINY_TAKES);
-}
 
 /// An array, and the offset and length of a slice of it.
 type Slice = (Items, usize, usize);
@@ -211,32 +120,81 @@ const TINY_CONCATENATIONS: &[Concatenation] = &[
     ("120 bytes", &[(FORTY, 0, 1), (FORTY, 0, 1), (FORTY, 0, 1)], Err(Error::Overflow)),
 ];
 
-/// Concatenates bytes and texts.
-fn check_concatenations<O: Offset>(rt: &(impl Abort + AllocGlobal), cases: &[Concatenation]) {
-    for (case, slices, expected) in cases {
-        macro_rules! check_kind {
-            ($kind:ty, $kernel:ident) => {
-                let mut arrays = Vec::new(rt.alloc());
-                for (array, offset, len) in *slices {
-                    let array = array_of::<$kind, O>(rt, *array);
-                    assert!(rt; *offset <= array.len() && *len <= array.len() - *offset);
-                    arrays.push(array.sliced(*offset, *len)).expect(rt, "memory");
-                }
-                assert!(rt; !arrays.is_empty());
-                let joined = $kernel(rt.alloc(), &arrays);
-                drop(arrays);
-                check(rt, *case, joined, *expected);
-            };
+/// Filters bytes and texts over offsets whose name is `kind`.
+fn check_filters<O: Offset>(rt: &(impl Abort + AllocGlobal), kind: &str) {
+    for (index, (case, array, filter, expected)) in FILTERS.iter().enumerate() {
+        let row = row("filters keep slots at true", kind, index, *case);
+        let filter = stored_booleans(rt, *filter);
+        let bytes = stored_items::<Binary, O>(rt, *array);
+        let texts = stored_items::<Utf8, O>(rt, *array);
+        assert!(rt; filter.len() == bytes.len() && filter.len() == texts.len());
+        let kept = filter_binary(rt.alloc(), &bytes, &filter);
+        drop(bytes);
+        check_stored_items(rt, row.as_str(), kept, Ok(*expected));
+        let kept = filter_utf8(rt.alloc(), &texts, &filter);
+        drop(texts);
+        drop(filter);
+        check_stored_items(rt, row.as_str(), kept, Ok(*expected));
+    }
+}
+
+/// Takes bytes and texts over offsets whose name is `kind`.
+fn check_takes<O: Offset>(rt: &(impl Abort + AllocGlobal), kind: &str, cases: &[Take]) {
+    for (index, (case, array, keys, expected)) in cases.iter().enumerate() {
+        let row = row("takes keep slots at keys", kind, index, *case);
+        let bytes = stored_items::<Binary, O>(rt, *array);
+        let taken = take_binary(rt.alloc(), &bytes, *keys);
+        drop(bytes);
+        check_stored_items(rt, row.as_str(), taken, *expected);
+        let texts = stored_items::<Utf8, O>(rt, *array);
+        let taken = take_utf8(rt.alloc(), &texts, *keys);
+        drop(texts);
+        check_stored_items(rt, row.as_str(), taken, *expected);
+    }
+}
+
+/// Concatenates bytes and texts over offsets whose name is `kind`.
+fn check_concatenations<O: Offset>(
+    rt: &(impl Abort + AllocGlobal),
+    kind: &str,
+    cases: &[Concatenation],
+) {
+    for (index, (case, slices, expected)) in cases.iter().enumerate() {
+        let row = row("concatenations have all slots in order", kind, index, *case);
+        let (mut arrays, mut others) = (Vec::new(rt.alloc()), Vec::new(rt.alloc()));
+        for (array, offset, len) in *slices {
+            let bytes = stored_items::<Binary, O>(rt, *array);
+            let texts = stored_items::<Utf8, O>(rt, *array);
+            assert!(rt; *offset <= bytes.len() && *len <= bytes.len() - *offset);
+            assert!(rt; *offset <= texts.len() && *len <= texts.len() - *offset);
+            arrays
+                .push(bytes.sliced(*offset, *len))
+                .expect(rt, "memory");
+            others
+                .push(texts.sliced(*offset, *len))
+                .expect(rt, "memory");
         }
-        check_kind!(Binary, concat_binary);
-        check_kind!(Utf8, concat_utf8);
+        assert!(rt; !arrays.is_empty() && !others.is_empty());
+        let joined = concat_binary(rt.alloc(), &arrays);
+        drop(arrays);
+        check_stored_items(rt, row.as_str(), joined, *expected);
+        let joined = concat_utf8(rt.alloc(), &others);
+        drop(others);
+        check_stored_items(rt, row.as_str(), joined, *expected);
     }
 }
 
 #[test]
-fn concatenations_have_all_slots_in_order(rt: HostRuntime) {
-    check_concatenations::<i32>(&rt, CONCATENATIONS);
-    check_concatenations::<i64>(&rt, CONCATENATIONS);
-    check_concatenations::<Tiny>(&rt, CONCATENATIONS);
-    check_concatenations::<Tiny>(&rt, TINY_CONCATENATIONS);
+fn items_are_filtered_taken_and_concatenated(rt: HostRuntime) {
+    check_filters::<i32>(&rt, "i32");
+    check_filters::<i64>(&rt, "i64");
+    check_filters::<Tiny>(&rt, "Tiny");
+    check_takes::<i32>(&rt, "i32", TAKES);
+    check_takes::<i64>(&rt, "i64", TAKES);
+    check_takes::<Tiny>(&rt, "Tiny", TAKES);
+    check_takes::<Tiny>(&rt, "Tiny past its greatest offset", TINY_TAKES);
+    check_concatenations::<i32>(&rt, "i32", CONCATENATIONS);
+    check_concatenations::<i64>(&rt, "i64", CONCATENATIONS);
+    check_concatenations::<Tiny>(&rt, "Tiny", CONCATENATIONS);
+    check_concatenations::<Tiny>(&rt, "Tiny past its greatest offset", TINY_CONCATENATIONS);
 }

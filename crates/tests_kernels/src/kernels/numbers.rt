@@ -1,25 +1,30 @@
 //! Kernels of numbers. All arrays are of dates, which each kernel keeps.
-use super::*;
+use crate::arrays::{Booleans, NEGATIVE, TOO_GREAT, row, stored_booleans, stored_numbers};
 use arrow_kernels::{concat_primitive, filter_primitive, take_primitive};
-use arrow_memory::buffer::Buffer;
 use arrow_primitive::PrimitiveArray;
+use arrow_types::data_type::DataType;
+use arrow_types::error::Error;
+use std::process::Abort;
+use tests_support::assert_text;
 
 /// Stored values and marks.
 type Numbers = (&'static [i64], &'static str);
 
-/// Creates an array of dates.
-fn dates(rt: &(impl Abort + AllocGlobal), values: &[i64], mask: &str) -> PrimitiveArray<i64> {
-    let mask = frozen_mask(rt.alloc(), mask).expect(rt, "memory");
-    let values = values.to_vec(rt.alloc()).expect(rt, "memory");
-    let values = Buffer::from_vec(values).expect(rt, "memory");
-    PrimitiveArray::try_new(DataType::Date64, values, mask).expect(rt, "parts that fit")
-}
-
-/// Compares an array of dates with its parts, and drops it.
-fn check(rt: &impl Abort, case: &str, array: PrimitiveArray<i64>, values: &[i64], mask: &str) {
-    assert_text::value(array.values().as_slice(), values).expect(rt, case);
-    assert_text::mask(array.validity(), mask).expect(rt, case);
-    assert_text::value(array.data_type(), &DataType::Date64).expect(rt, case);
+/// Compares an answer with an error, or with the parts of an array of dates.
+fn check_stored(
+    rt: &impl Abort,
+    row: &str,
+    answer: Result<PrimitiveArray<i64>, Error>,
+    expected: Result<Numbers, Error>,
+) {
+    let (values, mask) = match expected {
+        Ok(parts) => parts,
+        Err(error) => return assert_text::value(answer.err(), Some(error)).expect(rt, row),
+    };
+    let array = answer.expect(rt, row);
+    assert_text::value(array.values().as_slice(), values).expect(rt, row);
+    assert_text::mask(array.validity(), mask).expect(rt, row);
+    assert_text::value(array.data_type(), &DataType::Date64).expect(rt, row);
     drop(array);
 }
 
@@ -38,50 +43,6 @@ const FILTERS: &[(&str, Numbers, Booleans, Numbers)] = &[
     ("every slot, of an array with a needless mask", (&[1, 2], "11"), ("11", "none"), (&[1, 2], "none")),
 ];
 
-#[test]
-fn filters_keep_slots_at_true(rt: HostRuntime) {
-    for (case, array, filter, expected) in FILTERS {
-        let array = dates(&rt, array.0, array.1);
-        let filter = bools(&rt, *filter);
-        assert!(rt; filter.len() == array.len());
-        let kept = filter_primitive(rt.alloc(), &array, &filter).expect(&rt, "memory");
-        drop(filter);
-        drop(array);
-        check(&rt, *case, kept, expected.0, expected.1);
-    }
-}
-
-/// What filters repeat until they are 300 slots long.
-const PERIODS: &[&str] = &["10", "001", "1111110", "0000000001", "1", "0"];
-
-#[test]
-fn long_filters_keep_slots_at_true(rt: HostRuntime) {
-    for text in PERIODS {
-        let period = text.as_bytes();
-        let mut numbers = Vec::new(rt.alloc());
-        let (mut filter, mut expected) = (Vec::new(rt.alloc()), Vec::new(rt.alloc()));
-        for number in 0..300usize {
-            assert!(rt; !period.is_empty());
-            let is_kept = period[number % period.len()] == b'1';
-            filter.push(is_kept).expect(&rt, "memory");
-            numbers.push(number as i64).expect(&rt, "memory");
-            if is_kept {
-                expected.push(number as i64).expect(&rt, "memory");
-            }
-        }
-        let array = dates(&rt, &numbers, "none");
-        drop(numbers);
-        let marks = BooleanArray::from_slice(rt.alloc(), &filter).expect(&rt, "memory");
-        drop(filter);
-        assert!(rt; marks.len() == array.len());
-        let kept = filter_primitive(rt.alloc(), &array, &marks).expect(&rt, "memory");
-        drop(marks);
-        drop(array);
-        check(&rt, *text, kept, &expected, "none");
-        drop(expected);
-    }
-}
-
 /// A name, keys, and the slots of `THREE` at them.
 const TAKES: &[(&str, &[i64], Result<Numbers, Error>)] = &[
     ("a null twice", &[2, 1, 1], Ok((&[10, 0, 0], "100"))),
@@ -91,19 +52,6 @@ const TAKES: &[(&str, &[i64], Result<Numbers, Error>)] = &[
     ("negative, then too great", &[0, -1, 9], Err(NEGATIVE)),
     ("too great, then negative", &[0, 9, -1], Err(TOO_GREAT)),
 ];
-
-#[test]
-fn takes_keep_slots_at_keys(rt: HostRuntime) {
-    let array = dates(&rt, THREE.0, THREE.1);
-    for (case, keys, expected) in TAKES {
-        let taken = take_primitive(rt.alloc(), &array, *keys);
-        match *expected {
-            Ok((values, mask)) => check(&rt, *case, taken.expect(&rt, *case), values, mask),
-            Err(error) => assert_text::value(taken.err(), Some(error)).expect(&rt, *case),
-        }
-    }
-    drop(array);
-}
 
 /// Eleven numbers, the third and the tenth of which are null.
 const ELEVEN: Numbers = (&[0, 1, 2, 3, 4, 5, 6, 7, 8, 9, 10], "11011111101");
@@ -127,19 +75,42 @@ const CONCATENATIONS: &[(&str, &[Slice], Numbers)] = &[
 ];
 
 #[test]
-fn concatenations_have_all_slots_in_order(rt: HostRuntime) {
-    for (case, slices, expected) in CONCATENATIONS {
+fn numbers_are_filtered_taken_and_concatenated(rt: HostRuntime) {
+    for (index, (case, (values, mask), filter, expected)) in FILTERS.iter().enumerate() {
+        let row = row("filters keep slots at true", "Date64", index, *case);
+        let array = stored_numbers(&rt, DataType::Date64, *values, *mask);
+        let filter = stored_booleans(&rt, *filter);
+        assert!(rt; filter.len() == array.len());
+        let kept = filter_primitive(rt.alloc(), &array, &filter);
+        drop(filter);
+        drop(array);
+        check_stored(&rt, row.as_str(), kept, Ok(*expected));
+    }
+    let array = stored_numbers(&rt, DataType::Date64, THREE.0, THREE.1);
+    for (index, (case, keys, expected)) in TAKES.iter().enumerate() {
+        let row = row("takes keep slots at keys", "Date64", index, *case);
+        let taken = take_primitive(rt.alloc(), &array, *keys);
+        check_stored(&rt, row.as_str(), taken, *expected);
+    }
+    drop(array);
+    for (index, (case, slices, expected)) in CONCATENATIONS.iter().enumerate() {
+        let row = row(
+            "concatenations have all slots in order",
+            "Date64",
+            index,
+            *case,
+        );
         let mut arrays = Vec::new(rt.alloc());
         for ((values, mask), offset, len) in *slices {
-            let array = dates(&rt, *values, *mask);
+            let array = stored_numbers(&rt, DataType::Date64, *values, *mask);
             assert!(rt; *offset <= array.len() && *len <= array.len() - *offset);
             arrays
                 .push(array.sliced(*offset, *len))
                 .expect(&rt, "memory");
         }
         assert!(rt; !arrays.is_empty());
-        let joined = concat_primitive(rt.alloc(), &arrays).expect(&rt, "memory");
+        let joined = concat_primitive(rt.alloc(), &arrays);
         drop(arrays);
-        check(&rt, *case, joined, expected.0, expected.1);
+        check_stored(&rt, row.as_str(), joined, Ok(*expected));
     }
 }

@@ -1,17 +1,19 @@
-//! Filters of runs of rows, which end around the ends of words. Each is compared with an array to which the rows that are
-//! set were pushed one by one.
-use super::*;
-use arrow_boolean::MutableBooleanArray;
+//! Filters of runs of rows, which end around the ends of words. Each is compared with an array of the slots of the rows that
+//! are set, which were pushed one by one.
+use crate::arrays::{booleans, items, numbers};
+use arrow_boolean::BooleanArray;
 use arrow_kernels::{filter_boolean, filter_primitive, filter_utf8};
-use arrow_primitive::MutablePrimitiveArray;
-use arrow_utf8::MutableUtf8Array;
+use arrow_types::data_type::DataType;
+use arrow_utf8::Utf8Array;
+use std::process::Abort;
+use tests_support::{Text, assert_text};
 
 /// A name, and lengths of runs of rows that are set and clear in turns, which are repeated.
 #[rattlefmt::skip]
 const RUNS: &[(&str, &[usize])] = &[
-    ("every row", &[1]),
-    ("no row", &[0, 1]),
-    ("every second row", &[1, 1]),
+    ("every row, 1", &[1]),
+    ("no row, 0", &[0, 1]),
+    ("every second row, 10", &[1, 1]),
     ("one row of thirty", &[1, 29]),
     ("a hole in the last row of each word", &[63, 1]),
     ("a hole in the first row of each word", &[0, 1, 63]),
@@ -21,6 +23,9 @@ const RUNS: &[(&str, &[usize])] = &[
     ("a word and a half", &[96, 32]),
     ("short runs", &[9, 2]),
     ("99 rows of 100", &[99, 1]),
+    ("001", &[0, 2, 1]),
+    ("1111110", &[6, 1]),
+    ("0000000001", &[0, 9, 1]),
 ];
 
 /// Numbers of rows, and the row of the filter's array at which it begins.
@@ -30,6 +35,7 @@ const ROWS: &[(usize, usize)] = &[
     (65, 5),
     (128, 0),
     (130, 1),
+    (300, 0),
     (1000, 0),
     (1000, 67),
 ];
@@ -71,62 +77,44 @@ fn for_each_filter<R: Abort + AllocGlobal, F: FnMut(&str, &BooleanArray, &[bool]
 )
     requires { F.IsAlwaysCallable check }
 {
-    for (case, lengths) in RUNS {
+    for (index, (case, lengths)) in RUNS.iter().enumerate() {
         for (count, offset) in ROWS {
+            let name = Text::of(format_args!("row {index}, {case}, {count} rows from {offset}"));
             let marks = marks_of(rt, *lengths, (*count).saturating_add(*offset));
             let filter = BooleanArray::from_slice(rt.alloc(), &marks).expect(rt, "memory");
             assert!(rt; *offset <= filter.len() && *count <= filter.len() - *offset);
             let filter = filter.sliced(*offset, *count);
             assert!(rt; *offset <= marks.len());
-            check(*case, &filter, &marks[*offset..]);
+            check(name.as_str(), &filter, &marks[*offset..]);
             drop(filter);
             drop(marks);
         }
     }
 }
 
-#[test]
-fn numbers_of_runs_are_kept(rt: HostRuntime) {
-    for_each_filter(&rt, |case, filter, marks| {
-        let mut all = MutablePrimitiveArray::new(rt.alloc());
-        let mut expected = MutablePrimitiveArray::new(rt.alloc());
-        for (row, is_kept) in marks.iter().enumerate() {
-            let slot = if row % 7 == 3 { None } else { Some(row as i64) };
-            all.push(slot).expect(&rt, "memory");
-            if *is_kept {
-                expected.push(slot).expect(&rt, "memory");
-            }
+/// Returns the slots of all rows, whose values `value` makes, and those of the rows that are set. Each seventh row is null,
+/// from the row `null` on.
+fn slots_of<R: Abort + AllocGlobal, T: Copy, F: FnMut(usize) -> T>(
+    rt: &R,
+    marks: &[bool],
+    null: usize,
+    mut value: F,
+) -> (Vec<Option<T>>, Vec<Option<T>>)
+    requires { F.IsAlwaysCallable value }
+{
+    let (mut all, mut kept) = (Vec::new(rt.alloc()), Vec::new(rt.alloc()));
+    for (row, is_kept) in marks.iter().enumerate() {
+        let slot = if row % 7 == null {
+            None
+        } else {
+            Some(value(row))
+        };
+        all.push(slot).expect(rt, "memory");
+        if *is_kept {
+            kept.push(slot).expect(rt, "memory");
         }
-        let all = all.freeze().expect(&rt, "memory");
-        let expected = expected.freeze().expect(&rt, "memory");
-        assert!(rt; filter.len() == all.len());
-        let kept = filter_primitive(rt.alloc(), &all, filter).expect(&rt, "memory");
-        assert_text::value(kept, expected).expect(&rt, case);
-    });
-}
-
-#[test]
-fn booleans_of_runs_are_kept(rt: HostRuntime) {
-    for_each_filter(&rt, |case, filter, marks| {
-        let mut all = MutableBooleanArray::new(rt.alloc());
-        let mut expected = MutableBooleanArray::new(rt.alloc());
-        for (row, is_kept) in marks.iter().enumerate() {
-            let slot = if row % 7 == 3 {
-                None
-            } else {
-                Some(row % 3 == 0)
-            };
-            all.push(slot).expect(&rt, "memory");
-            if *is_kept {
-                expected.push(slot).expect(&rt, "memory");
-            }
-        }
-        let all = all.freeze().expect(&rt, "memory");
-        let expected = expected.freeze().expect(&rt, "memory");
-        assert!(rt; filter.len() == all.len());
-        let kept = filter_boolean(rt.alloc(), &all, filter).expect(&rt, "memory");
-        assert_text::value(kept, expected).expect(&rt, case);
-    });
+    }
+    (all, kept)
 }
 
 /// Texts, of which each row has one in turns.
@@ -139,22 +127,42 @@ const TEXTS: &[&str] = &[
 ];
 
 #[test]
-fn texts_of_runs_are_kept(rt: HostRuntime) {
-    for_each_filter(&rt, |case, filter, marks| {
-        let mut all = MutableUtf8Array::<i32>::new(rt.alloc()).expect(&rt, "memory");
-        let mut expected = MutableUtf8Array::<i32>::new(rt.alloc()).expect(&rt, "memory");
-        for (row, is_kept) in marks.iter().enumerate() {
-            let text = TEXTS[row % TEXTS.len()];
-            let slot = if row % 7 == 3 { None } else { Some(text) };
-            all.push(slot).expect(&rt, "memory");
-            if *is_kept {
-                expected.push(slot).expect(&rt, "memory");
-            }
+fn slots_of_runs_are_kept(rt: HostRuntime) {
+    for_each_filter(&rt, |name, filter, marks| {
+        // no row is null if the remainder has to be 7
+        for (test, null) in [
+            ("numbers of runs are kept", 3),
+            ("long filters keep slots at true", 7),
+        ] {
+            let row = Text::of(format_args!("{test}: {name}"));
+            let (all, kept) = slots_of(&rt, marks, null, |row| row as i64);
+            let array = numbers(&rt, &all).to(DataType::Date64);
+            let expected = numbers(&rt, &kept).to(DataType::Date64);
+            drop((all, kept));
+            assert!(rt; filter.len() == array.len());
+            let kept = filter_primitive(rt.alloc(), &array, filter).expect(&rt, "memory");
+            drop(array);
+            let masks = (kept.validity().is_some(), expected.validity().is_some());
+            assert_text::value(masks.0, masks.1).expect(&rt, row.as_str());
+            assert_text::value(kept, expected).expect(&rt, row.as_str());
         }
-        let all = all.freeze().expect(&rt, "memory");
-        let expected = expected.freeze().expect(&rt, "memory");
-        assert!(rt; filter.len() == all.len());
-        let kept = filter_utf8(rt.alloc(), &all, filter).expect(&rt, "memory");
-        assert_text::value(kept, expected).expect(&rt, case);
+        let row = Text::of(format_args!("booleans of runs are kept: {name}"));
+        let (all, kept) = slots_of(&rt, marks, 3, |row| row % 3 == 0);
+        let array = booleans(&rt, &all);
+        let expected = booleans(&rt, &kept);
+        drop((all, kept));
+        assert!(rt; filter.len() == array.len());
+        let kept = filter_boolean(rt.alloc(), &array, filter).expect(&rt, "memory");
+        drop(array);
+        assert_text::value(kept, expected).expect(&rt, row.as_str());
+        let row = Text::of(format_args!("texts of runs are kept: {name}"));
+        let (all, kept) = slots_of(&rt, marks, 3, |row| TEXTS[row % TEXTS.len()]);
+        let array: Utf8Array<i32> = items(&rt, &all);
+        let expected: Utf8Array<i32> = items(&rt, &kept);
+        drop((all, kept));
+        assert!(rt; filter.len() == array.len());
+        let kept = filter_utf8(rt.alloc(), &array, filter).expect(&rt, "memory");
+        drop(array);
+        assert_text::value(kept, expected).expect(&rt, row.as_str());
     });
 }

@@ -1,38 +1,19 @@
 //! Slots of one of two arrays by a predicate, and nulls where two arrays are equal.
-use super::numbers;
+use crate::arrays::{booleans, check_booleans, check_numbers, items, numbers};
 use arrow_binary::BinaryArray;
-use arrow_boolean::BooleanArray;
-use arrow_primitive::PrimitiveArray;
 use arrow_select::if_then_else::{
     if_then_else_binary, if_then_else_boolean, if_then_else_primitive, if_then_else_utf8,
 };
 use arrow_select::nullif::{nullif_binary, nullif_boolean, nullif_primitive, nullif_utf8};
+use arrow_types::data_type::DataType;
 use arrow_utf8::Utf8Array;
-use std::process::Abort;
 use tests_support::assert_text;
 
-/// Compares an array of numbers with its slots, and drops it.
-fn check_numbers(rt: &impl Abort, case: &str, made: PrimitiveArray<i32>, slots: &str) {
-    assert_text::slots(made.iter(), slots).expect(rt, case);
-    drop(made);
-}
-
-/// Compares an array of texts with its slots, and drops it.
-fn check_texts(rt: &impl Abort, case: &str, made: Utf8Array<i32>, slots: &str) {
-    assert_text::slots(made.iter(), slots).expect(rt, case);
-    drop(made);
-}
-
-/// Compares an array of bytes with its slots, and drops it.
-fn check_bytes(rt: &impl Abort, case: &str, made: BinaryArray<i64>, slots: &str) {
-    assert_text::slots(made.iter(), slots).expect(rt, case);
-    drop(made);
-}
-
 #[test]
-fn numbers_are_chosen(rt: HostRuntime) {
+fn numbers_and_booleans_are_chosen(rt: HostRuntime) {
+    let alloc = rt.alloc();
     let predicate = [Some(true), None, Some(false), Some(true), Some(false)];
-    let predicate = BooleanArray::from(rt.alloc(), &predicate).expect(&rt, "memory");
+    let predicate = booleans(&rt, &predicate);
     let lhs = numbers(&rt, &[Some(1), Some(2), Some(3), None, Some(5)]);
     let rhs = numbers(&rt, &[Some(4), Some(5), Some(6), Some(7), Some(5)]);
     assert!(rt;
@@ -43,25 +24,37 @@ fn numbers_are_chosen(rt: HostRuntime) {
         rhs.len() == predicate.len(),
         "another for each slot of the predicate"
     );
-    let made = if_then_else_primitive(rt.alloc(), &predicate, &lhs, &rhs).expect(&rt, "memory");
-    check_numbers(&rt, "if then else", made, "[1 _ 6 _ 5]");
-    let made = nullif_primitive(rt.alloc(), &lhs, &rhs).expect(&rt, "memory");
-    check_numbers(&rt, "null if equal", made, "[1 2 3 _ _]");
-    let made = nullif_primitive(rt.alloc(), &rhs, &lhs).expect(&rt, "memory");
-    check_numbers(&rt, "a null is equal to nothing", made, "[4 5 6 7 _]");
-    drop(rhs);
-    drop(lhs);
-    drop(predicate);
-}
-
-#[test]
-fn booleans_are_chosen(rt: HostRuntime) {
-    let predicate = [Some(true), None, Some(false), Some(false)];
-    let predicate = BooleanArray::from(rt.alloc(), &predicate).expect(&rt, "memory");
-    let lhs = BooleanArray::from(rt.alloc(), &[Some(true), Some(true), None, Some(false)]);
-    let lhs = lhs.expect(&rt, "memory");
-    let rhs = BooleanArray::from(rt.alloc(), &[Some(false), Some(true), Some(true), None]);
-    let rhs = rhs.expect(&rt, "memory");
+    let made = if_then_else_primitive(alloc, &predicate, &lhs, &rhs);
+    let row = "numbers are chosen: if then else";
+    check_numbers(
+        &rt,
+        row,
+        made,
+        Ok(("[1 _ 6 _ 5]", "10101")),
+        &DataType::Int32,
+    );
+    let made = nullif_primitive(alloc, &lhs, &rhs);
+    let row = "numbers are chosen: null if equal";
+    check_numbers(
+        &rt,
+        row,
+        made,
+        Ok(("[1 2 3 _ _]", "11100")),
+        &DataType::Int32,
+    );
+    let made = nullif_primitive(alloc, &rhs, &lhs);
+    let row = "numbers are chosen: a null is equal to nothing";
+    check_numbers(
+        &rt,
+        row,
+        made,
+        Ok(("[4 5 6 7 _]", "11110")),
+        &DataType::Int32,
+    );
+    drop((rhs, lhs, predicate));
+    let predicate = booleans(&rt, &[Some(true), None, Some(false), Some(false)]);
+    let lhs = booleans(&rt, &[Some(true), Some(true), None, Some(false)]);
+    let rhs = booleans(&rt, &[Some(false), Some(true), Some(true), None]);
     assert!(rt;
         lhs.len() == predicate.len(),
         "a value for each slot of the predicate"
@@ -70,25 +63,40 @@ fn booleans_are_chosen(rt: HostRuntime) {
         rhs.len() == predicate.len(),
         "another for each slot of the predicate"
     );
-    let made = if_then_else_boolean(rt.alloc(), &predicate, &lhs, &rhs).expect(&rt, "memory");
-    assert_text::bools(made.iter(), "t_t_").expect(&rt, "if then else");
+    let made = if_then_else_boolean(alloc, &predicate, &lhs, &rhs);
+    let row = "booleans are chosen";
+    check_booleans(&rt, row, "if then else", made, ("t_t_", "1010"));
+    let made = nullif_boolean(alloc, &lhs, &rhs);
+    check_booleans(&rt, row, "null if equal", made, ("t__f", "1001"));
+    drop((rhs, lhs, predicate));
+}
+
+#[test]
+fn texts_and_bytes_are_chosen(rt: HostRuntime) {
+    let alloc = rt.alloc();
+    let predicate = booleans(&rt, &[Some(true), None, Some(false)]);
+    let lhs: Utf8Array<i32> = items(&rt, &[Some("a"), Some("b"), Some("c")]);
+    let rhs: Utf8Array<i32> = items(&rt, &[Some("x"), Some("b"), Some("")]);
+    assert!(rt;
+        lhs.len() == predicate.len(),
+        "a value for each slot of the predicate"
+    );
+    assert!(rt;
+        rhs.len() == predicate.len(),
+        "another for each slot of the predicate"
+    );
+    let made = if_then_else_utf8(alloc, &predicate, &lhs, &rhs).expect(&rt, "memory");
+    let row = "texts are chosen: if then else";
+    assert_text::slots(made.iter(), "[\"a\" _ \"\"]").expect(&rt, row);
     drop(made);
-    let made = nullif_boolean(rt.alloc(), &lhs, &rhs).expect(&rt, "memory");
-    assert_text::bools(made.iter(), "t__f").expect(&rt, "null if equal");
+    let made = nullif_utf8(alloc, &lhs, &rhs).expect(&rt, "memory");
+    let row = "texts are chosen: null if equal";
+    assert_text::slots(made.iter(), "[\"a\" _ \"c\"]").expect(&rt, row);
     drop(made);
-    drop(rhs);
-    drop(lhs);
-    drop(predicate);
-}
-
-#[test]
-fn texts_are_chosen(rt: HostRuntime) {
-    let predicate = BooleanArray::from(rt.alloc(), &[Some(true), None, Some(false)]);
-    let predicate = predicate.expect(&rt, "memory");
-    let lhs = Utf8Array::<i32>::from(rt.alloc(), &[Some("a"), Some("b"), Some("c")]);
-    let lhs = lhs.expect(&rt, "memory");
-    let rhs = Utf8Array::<i32>::from(rt.alloc(), &[Some("x"), Some("b"), Some("")]);
-    let rhs = rhs.expect(&rt, "memory");
+    drop((rhs, lhs, predicate));
+    let predicate = booleans(&rt, &[Some(false), Some(true)]);
+    let lhs: BinaryArray<i64> = items(&rt, &[Some(b"a".as_slice()), Some(b"b".as_slice())]);
+    let rhs: BinaryArray<i64> = items(&rt, &[None, Some(b"b".as_slice())]);
     assert!(rt;
         lhs.len() == predicate.len(),
         "a value for each slot of the predicate"
@@ -97,36 +105,13 @@ fn texts_are_chosen(rt: HostRuntime) {
         rhs.len() == predicate.len(),
         "another for each slot of the predicate"
     );
-    let made = if_then_else_utf8(rt.alloc(), &predicate, &lhs, &rhs).expect(&rt, "memory");
-    check_texts(&rt, "if then else", made, "[\"a\" _ \"\"]");
-    let made = nullif_utf8(rt.alloc(), &lhs, &rhs).expect(&rt, "memory");
-    check_texts(&rt, "null if equal", made, "[\"a\" _ \"c\"]");
-    drop(rhs);
-    drop(lhs);
-    drop(predicate);
-}
-
-#[test]
-fn bytes_are_chosen(rt: HostRuntime) {
-    let predicate = BooleanArray::from(rt.alloc(), &[Some(false), Some(true)]);
-    let predicate = predicate.expect(&rt, "memory");
-    let lhs = BinaryArray::<i64>::from(rt.alloc(), &[Some(b"a".as_slice()), Some(b"b".as_slice())]);
-    let lhs = lhs.expect(&rt, "memory");
-    let rhs = BinaryArray::<i64>::from(rt.alloc(), &[None, Some(b"b".as_slice())]);
-    let rhs = rhs.expect(&rt, "memory");
-    assert!(rt;
-        lhs.len() == predicate.len(),
-        "a value for each slot of the predicate"
-    );
-    assert!(rt;
-        rhs.len() == predicate.len(),
-        "another for each slot of the predicate"
-    );
-    let made = if_then_else_binary(rt.alloc(), &predicate, &lhs, &rhs).expect(&rt, "memory");
-    check_bytes(&rt, "if then else", made, "[_ [98]]");
-    let made = nullif_binary(rt.alloc(), &lhs, &rhs).expect(&rt, "memory");
-    check_bytes(&rt, "null if equal", made, "[[97] _]");
-    drop(rhs);
-    drop(lhs);
-    drop(predicate);
+    let made = if_then_else_binary(alloc, &predicate, &lhs, &rhs).expect(&rt, "memory");
+    let row = "bytes are chosen: if then else";
+    assert_text::slots(made.iter(), "[_ [98]]").expect(&rt, row);
+    drop(made);
+    let made = nullif_binary(alloc, &lhs, &rhs).expect(&rt, "memory");
+    let row = "bytes are chosen: null if equal";
+    assert_text::slots(made.iter(), "[[97] _]").expect(&rt, row);
+    drop(made);
+    drop((rhs, lhs, predicate));
 }

@@ -1,12 +1,12 @@
 //! Kernels over more slots than a word of a mask has marks.
-use super::numbers;
+use crate::arrays::{booleans, numbers};
 use arrow_boolean::BooleanArray;
 use arrow_primitive::PrimitiveArray;
 use arrow_select::if_then_else::{if_then_else_boolean, if_then_else_primitive};
 use arrow_select::nullif::{nullif_boolean, nullif_primitive};
 use arrow_select::take::{take_boolean, take_primitive};
 use std::process::Abort;
-use tests_support::assert_text;
+use tests_support::{Text, assert_text};
 
 /// Numbers of slots about one and two words of 64 marks.
 const COUNTS: &[usize] = &[63, 64, 65, 130];
@@ -22,78 +22,57 @@ enum Slots {
     Taken,
 }
 
-fn left(i: usize) -> Option<i32> {
-    if i % 5 == 0 {
-        None
-    } else {
-        Some((i % 10) as i32)
-    }
-}
-
-fn right(i: usize) -> Option<i32> {
-    if i % 7 == 0 {
-        None
-    } else {
-        Some((i % 15) as i32)
-    }
-}
-
 /// The predicate: even indexes, and a null at each eleventh.
 fn choice(i: usize) -> Option<bool> {
     if i % 11 == 0 { None } else { Some(i % 2 == 0) }
 }
 
-fn chosen(i: usize) -> Option<i32> {
-    match choice(i) {
-        Some(true) => left(i),
-        Some(false) => right(i),
-        None => None,
-    }
-}
-
-fn differing(i: usize) -> Option<i32> {
-    match (left(i), right(i)) {
-        (Some(x), Some(y)) => { if x == y { None } else { Some(x) } }
-        (x, _) => x,
-    }
-}
-
-/// The slot at an index, worked out slot by slot. Each third key is null; the others are below 50.
+/// Returns the slot at an index, worked out slot by slot. Each third key is null; the others are below 50.
 fn slot(slots: Slots, i: usize) -> Option<i32> {
+    let key = i % 50 * 7 % 50;
+    let place = match slots {
+        Slots::Taken => 3 + key,
+        _ => i,
+    };
+    let left = if place % 5 == 0 {
+        None
+    } else {
+        Some((place % 10) as i32)
+    };
+    let right = if i % 7 == 0 {
+        None
+    } else {
+        Some((i % 15) as i32)
+    };
     match slots {
-        Slots::Left => left(i),
-        Slots::Right => right(i),
-        Slots::Keys => {
-            if i % 3 == 0 {
-                None
-            } else {
-                Some((i % 50 * 7 % 50) as i32)
+        Slots::Left => left,
+        Slots::Right => right,
+        Slots::Keys => { if i % 3 == 0 { None } else { Some(key as i32) } }
+        Slots::Chosen => {
+            match choice(i) {
+                Some(true) => left,
+                Some(false) => right,
+                None => None,
             }
         }
-        Slots::Chosen => chosen(i),
-        Slots::Differing => differing(i),
-        Slots::Taken => {
-            if i % 3 == 0 {
-                None
-            } else {
-                left(3 + i % 50 * 7 % 50)
-            }
-        }
+        Slots::Differing => { if left == right { None } else { left } }
+        Slots::Taken => { if i % 3 == 0 { None } else { left } }
     }
 }
 
-/// Creates `count` slots from `first` on.
+/// Creates `count` slots from `first` on of an array of 200.
 fn made(
     rt: &(impl Abort + AllocGlobal),
     slots: Slots,
     first: usize,
     count: usize,
 ) -> PrimitiveArray<i32> {
-    let mut all = Vec::with_capacity(rt.alloc(), 200).expect(rt, "memory");
+    let mut all = Vec::new(rt.alloc());
     for i in 0..200 {
         all.push(slot(slots, i)).expect(rt, "memory");
     }
-    let array = numbers(rt, all.as_slice());
+    let array = numbers(rt, &all);
+    drop(all);
     assert!(rt;
         first <= array.len() && count <= array.len() - first,
         "a slice"
@@ -101,94 +80,68 @@ fn made(
     array.sliced(first, count)
 }
 
-/// Creates `count` slots of the predicate, from the third on.
+/// Creates `count` slots of the predicate, from the third on of 200.
 fn predicate(rt: &(impl Abort + AllocGlobal), count: usize) -> BooleanArray {
-    let mut all = Vec::with_capacity(rt.alloc(), 200).expect(rt, "memory");
+    let mut all = Vec::new(rt.alloc());
     for i in 0..200 {
         all.push(choice(i)).expect(rt, "memory");
     }
-    let array = BooleanArray::from(rt.alloc(), all.as_slice()).expect(rt, "memory");
+    let array = booleans(rt, &all);
+    drop(all);
     assert!(rt; 3 <= array.len() && count <= array.len() - 3, "a slice");
     array.sliced(3, count)
 }
 
-/// Compares an array with slots, and drops it.
-fn check(
-    rt: &(impl Abort + AllocGlobal),
-    case: &str,
-    array: PrimitiveArray<i32>,
-    slots: Slots,
-    first: usize,
-) {
-    let count = array.len();
-    assert_text::value(array, made(rt, slots, first, count)).expect(rt, case);
-}
-
 #[test]
-fn slots_of_several_words_are_chosen(rt: HostRuntime) {
+fn slots_of_several_words_are_chosen_and_taken(rt: HostRuntime) {
+    let alloc = rt.alloc();
     for count in COUNTS {
-        let predicate = predicate(&rt, *count);
-        let lhs = made(&rt, Slots::Left, 3, *count);
-        let rhs = made(&rt, Slots::Right, 3, *count);
+        let count = *count;
+        let predicate = predicate(&rt, count);
+        let lhs = made(&rt, Slots::Left, 3, count);
+        let rhs = made(&rt, Slots::Right, 3, count);
         assert!(rt;
             lhs.len() == predicate.len() && rhs.len() == predicate.len(),
             "as many"
         );
-        let chosen = if_then_else_primitive(rt.alloc(), &predicate, &lhs, &rhs);
-        check(
-            &rt,
-            "if then else",
-            chosen.expect(&rt, "memory"),
-            Slots::Chosen,
-            3,
-        );
-        let differing = nullif_primitive(rt.alloc(), &lhs, &rhs).expect(&rt, "memory");
-        check(&rt, "null if equal", differing, Slots::Differing, 3);
-        drop(rhs);
-        drop(lhs);
-        drop(predicate);
-    }
-}
-
-#[test]
-fn slots_of_several_words_are_taken(rt: HostRuntime) {
-    for count in COUNTS {
+        let row = Text::of(format_args!("slots of several words are chosen: Int32, {count} slots"));
+        let row = row.as_str();
+        let chosen = if_then_else_primitive(alloc, &predicate, &lhs, &rhs).expect(&rt, row);
+        assert_text::value(chosen, made(&rt, Slots::Chosen, 3, count)).expect(&rt, row);
+        let differing = nullif_primitive(alloc, &lhs, &rhs).expect(&rt, row);
+        assert_text::value(differing, made(&rt, Slots::Differing, 3, count)).expect(&rt, row);
+        drop((rhs, lhs));
+        let row = Text::of(format_args!("slots of several words are taken: Int32, {count} keys"));
+        let row = row.as_str();
         let array = made(&rt, Slots::Left, 3, 60);
-        let keys = made(&rt, Slots::Keys, 1, *count);
-        let taken = take_primitive(rt.alloc(), &array, &keys).expect(&rt, "keys in bounds");
-        check(&rt, "take", taken, Slots::Taken, 1);
-        drop(keys);
-        drop(array);
-    }
-}
-
-#[test]
-fn booleans_of_several_words_are_chosen_and_taken(rt: HostRuntime) {
-    for count in COUNTS {
-        let array = predicate(&rt, *count);
-        let chosen = if_then_else_boolean(rt.alloc(), &array, &array, &array);
-        let chosen = chosen.expect(&rt, "memory");
-        assert_text::value(chosen, predicate(&rt, *count)).expect(&rt, "if then else");
-        let differing = nullif_boolean(rt.alloc(), &array, &array).expect(&rt, "memory");
-        assert_text::value(differing.null_count(), *count).expect(
-            &rt,
-            "each is equal to itself, or null",
-        );
+        let keys = made(&rt, Slots::Keys, 1, count);
+        let taken = take_primitive(alloc, &array, &keys).expect(&rt, row);
+        assert_text::value(taken, made(&rt, Slots::Taken, 1, count)).expect(&rt, row);
+        drop((keys, array));
+        let test = "booleans of several words are chosen and taken";
+        let row = Text::of(format_args!("{test}: {count} slots"));
+        let row = row.as_str();
+        let chosen = if_then_else_boolean(alloc, &predicate, &predicate, &predicate);
+        let chosen = chosen.expect(&rt, row);
+        // a slot of the result is the predicate's own, or null where that is null
+        assert_text::value(&chosen, &predicate).expect(&rt, row);
+        drop(chosen);
+        let differing = nullif_boolean(alloc, &predicate, &predicate).expect(&rt, row);
+        // each is equal to itself, or null
+        assert_text::value(differing.null_count(), count).expect(&rt, row);
         drop(differing);
         let keys = made(&rt, Slots::Keys, 1, 60);
-        let taken = take_boolean(rt.alloc(), &array, &keys).expect(&rt, "keys in bounds");
-        assert_text::value(taken.len(), 60).expect(&rt, "a slot for each key");
-        assert!(rt; taken.len() == 60, "a slot for each key");
-        for i in 0..60 {
+        let taken = take_boolean(alloc, &predicate, &keys).expect(&rt, row);
+        drop((keys, predicate));
+        assert_text::value(taken.len(), 60).expect(&rt, row);
+        for (i, came) in taken.iter().enumerate() {
             let expected = if (i + 1) % 3 == 0 {
                 None
             } else {
                 choice(3 + (i + 1) * 7 % 50)
             };
-            assert_text::value(taken.get(i), expected).expect(&rt, "the slot at the key");
+            assert_text::value((i, came), (i, expected)).expect(&rt, row);
         }
         drop(taken);
-        drop(keys);
-        drop(array);
     }
 }
