@@ -1,8 +1,11 @@
 //! Arrays of slots, or of stored values and marks, and comparisons of answers with them. Marks are texts of `1` and `0`,
 //! and `none` without a mask. A failure names the test, the type, and the index and the case of the row.
+ghost use Rattle.std.specs.Iterator.{IsFinite};
+
 use arrow_boolean::BooleanArray;
 use arrow_byte_array::ByteArray;
 use arrow_bytes::{ByteItem, ByteKind};
+use arrow_memory::bitmap::Bitmap;
 use arrow_memory::buffer::Buffer;
 use arrow_primitive::PrimitiveArray;
 use arrow_types::data_type::DataType;
@@ -92,6 +95,34 @@ pub(crate) fn stored_items<K: ByteKind, O: Offset>(
     array.expect(rt, "parts that fit")
 }
 
+/// Compares a value in a row.
+pub(crate) fn check_value<T: PartialEq + Debug + Drop>(
+    rt: &impl Abort,
+    row: &str,
+    came: T,
+    expected: T,
+) {
+    assert_text::value(came, expected).expect(rt, row);
+}
+
+/// Compares slots in a row with a text, as `[1 _ 2]`.
+pub(crate) fn check_slots<T: Debug + Drop, I: Iterator<Item = Option<T>>>(
+    rt: &impl Abort,
+    row: &str,
+    slots: I,
+    expected: &str,
+)
+    requires can { I.can_next slots }
+    requires ends { IsFinite (I.remaining slots) }
+{
+    assert_text::slots(slots, expected).expect(rt, row);
+}
+
+/// Compares a mask in a row with a text, which is `none` if there is none.
+pub(crate) fn check_mask(rt: &impl Abort, row: &str, mask: Option<&Bitmap>, expected: &str) {
+    assert_text::mask(mask, expected).expect(rt, row);
+}
+
 /// Compares an answer with an error, or with the slots, the mask and the type of an array.
 pub(crate) fn check_numbers<T: NativeType + Debug>(
     rt: &impl Abort,
@@ -104,12 +135,12 @@ pub(crate) fn check_numbers<T: NativeType + Debug>(
     let row = row.as_str();
     let (slots, mask) = match expected {
         Ok(texts) => texts,
-        Err(error) => return assert_text::value(answer.err(), Some(error)).expect(rt, row),
+        Err(error) => return check_value(rt, row, answer.err(), Some(error)),
     };
     let array = answer.expect(rt, row);
-    assert_text::slots(array.iter(), slots).expect(rt, row);
-    assert_text::mask(array.validity(), mask).expect(rt, row);
-    assert_text::value(array.data_type(), data_type).expect(rt, row);
+    check_slots(rt, row, array.iter(), slots);
+    check_mask(rt, row, array.validity(), mask);
+    check_value(rt, row, array.data_type(), data_type);
     drop(array);
 }
 
@@ -124,9 +155,9 @@ pub(crate) fn check_booleans(
     let row = Text::of(format_args!("{row}, {call}"));
     let row = row.as_str();
     let array = answer.expect(rt, row);
-    assert_text::value(array.data_type(), &DataType::Boolean).expect(rt, row);
+    check_value(rt, row, array.data_type(), &DataType::Boolean);
     assert_text::bools(array.iter(), slots).expect(rt, row);
-    assert_text::mask(array.validity(), mask).expect(rt, row);
+    check_mask(rt, row, array.validity(), mask);
     drop(array);
 }
 
@@ -144,17 +175,17 @@ pub(crate) fn check_stored_items<K: ByteKind, O: Offset>(
         Ok(parts) => parts,
         Err(error) => {
             drop(data_type);
-            return assert_text::value(answer.err(), Some(error)).expect(rt, row);
+            return check_value(rt, row, answer.err(), Some(error));
         }
     };
     let array = answer.expect(rt, row);
     let numbers = array.offsets().buffer().as_slice().iter();
     let numbers = numbers.filter_map(|offset| offset.try_to_usize());
     let numbers: Vec<usize> = numbers.collect(rt.alloc()).expect(rt, "memory");
-    assert_text::value(array.data_type(), &data_type).expect(rt, row);
-    assert_text::value(numbers.as_slice(), offsets).expect(rt, row);
-    assert_text::value(array.values().as_slice(), bytes).expect(rt, row);
-    assert_text::mask(array.validity(), mask).expect(rt, row);
+    check_value(rt, row, array.data_type(), &data_type);
+    check_value(rt, row, numbers.as_slice(), offsets);
+    check_value(rt, row, array.values().as_slice(), bytes);
+    check_mask(rt, row, array.validity(), mask);
     drop(data_type);
     drop(numbers);
     drop(array);

@@ -1,5 +1,5 @@
 //! Groups of equal slots, which were worked out by hand, and which slots have equal hashes.
-use crate::arrays::{booleans, items, numbers, row};
+use crate::arrays::{booleans, check_mask, check_value, items, numbers, row};
 use arrow_binary::BinaryArray;
 use arrow_group::{
     Groups, group_binary, group_boolean, group_primitive, group_utf8, hash_binary, hash_boolean,
@@ -9,7 +9,7 @@ use arrow_primitive::PrimitiveArray;
 use arrow_types::error::Error;
 use arrow_utf8::Utf8Array;
 use std::process::Abort;
-use tests_support::{Text, assert_text};
+use tests_support::Text;
 
 /// Compares the first slot of each group, and the number of each slot's group.
 fn check_groups(
@@ -20,8 +20,8 @@ fn check_groups(
     indices: &[usize],
 ) {
     let groups = answer.expect(rt, row);
-    assert_text::value(groups.first.as_slice(), first).expect(rt, row);
-    assert_text::value(groups.indices.as_slice(), indices).expect(rt, row);
+    check_value(rt, row, groups.first.as_slice(), first);
+    check_value(rt, row, groups.indices.as_slice(), indices);
     drop(groups);
 }
 
@@ -63,42 +63,68 @@ const BYTES: &[Option<&[u8]>] = &[Some(&[255, 0]), None, Some(&[]), Some(&[255, 
 
 #[test]
 fn groups_of_equal_slots(rt: HostRuntime) {
+    let alloc = rt.alloc();
     for (index, (case, slots, first, indices)) in NUMBERS.iter().enumerate() {
         let row = row("groups of numbers", "Int64", index, *case);
         let array = numbers(&rt, *slots);
-        let groups = group_primitive(rt.alloc(), &array);
+        check_groups(
+            &rt,
+            row.as_str(),
+            group_primitive(alloc, &array),
+            *first,
+            *indices,
+        );
         drop(array);
-        check_groups(&rt, row.as_str(), groups, *first, *indices);
     }
     for (index, (case, slots, first, indices)) in BOOLEANS.iter().enumerate() {
         let row = row("groups of booleans", "Boolean", index, *case);
         let array = booleans(&rt, *slots);
-        let groups = group_boolean(rt.alloc(), &array);
+        check_groups(
+            &rt,
+            row.as_str(),
+            group_boolean(alloc, &array),
+            *first,
+            *indices,
+        );
         drop(array);
-        check_groups(&rt, row.as_str(), groups, *first, *indices);
     }
     for (index, (case, slots, first, indices)) in TEXTS.iter().enumerate() {
         let narrow = row("groups of texts", "Utf8", index, *case);
         let array: Utf8Array<i32> = items(&rt, *slots);
-        let groups = group_utf8(rt.alloc(), &array);
+        check_groups(
+            &rt,
+            narrow.as_str(),
+            group_utf8(alloc, &array),
+            *first,
+            *indices,
+        );
         drop(array);
-        check_groups(&rt, narrow.as_str(), groups, *first, *indices);
         let wide = row("groups of texts", "LargeUtf8", index, *case);
         let array: Utf8Array<i64> = items(&rt, *slots);
-        let groups = group_utf8(rt.alloc(), &array);
+        check_groups(
+            &rt,
+            wide.as_str(),
+            group_utf8(alloc, &array),
+            *first,
+            *indices,
+        );
         drop(array);
-        check_groups(&rt, wide.as_str(), groups, *first, *indices);
     }
     let array: BinaryArray<i32> = items(&rt, BYTES);
-    let groups = group_binary(rt.alloc(), &array);
+    let groups = group_binary(alloc, &array);
     drop(array);
-    let row = "groups of bytes";
-    check_groups(&rt, row, groups, &[0, 1, 2, 4], &[0, 1, 2, 0, 3, 1]);
+    check_groups(
+        &rt,
+        "groups of bytes",
+        groups,
+        &[0, 1, 2, 4],
+        &[0, 1, 2, 0, 3, 1],
+    );
     let array: BinaryArray<i64> = items(&rt, BYTES);
     assert!(rt; array.len() == 6, "six slots");
     // the slots around the slice are those of other groups
     let array = array.sliced(1, 3);
-    let groups = group_binary(rt.alloc(), &array);
+    let groups = group_binary(alloc, &array);
     drop(array);
     check_groups(
         &rt,
@@ -118,25 +144,34 @@ const TURNS: &[(u64, u64, usize, usize, usize)] = &[
 
 #[test]
 fn many_groups_and_keys_in_turn(rt: HostRuntime) {
-    let mut values = Vec::new(rt.alloc());
+    let alloc = rt.alloc();
+    let mut values = Vec::new(alloc);
     for i in 0..1000u32 {
         values.push(i % 300 * 65536).expect(&rt, "memory");
     }
     let array = PrimitiveArray::from_vec(values).expect(&rt, "memory");
-    let groups = group_primitive(rt.alloc(), &array).expect(&rt, "memory");
+    let groups = group_primitive(alloc, &array).expect(&rt, "memory");
     drop(array);
-    let came = (groups.first.len(), groups.indices.len());
-    assert_text::value(came, (300, 1000)).expect(&rt, "many groups: groups and slots");
+    check_value(
+        &rt,
+        "many groups: groups and slots",
+        (groups.first.len(), groups.indices.len()),
+        (300, 1000),
+    );
     let came = (groups.first.last().copied(), groups.indices.last().copied());
     drop(groups);
-    let expected = (Some(299), Some(99));
-    assert_text::value(came, expected).expect(&rt, "many groups: the last group, the last slot");
+    check_value(
+        &rt,
+        "many groups: the last group, the last slot",
+        came,
+        (Some(299), Some(99)),
+    );
     for (keys, nulls, first, last, null) in TURNS {
         let row = Text::of(format_args!("keys in turn: UInt64, {keys} keys"));
         let row = row.as_str();
         assert!(rt; *keys > 0, "keys");
         assert!(rt; *nulls > 0, "nulls");
-        let mut slots = Vec::new(rt.alloc());
+        let mut slots = Vec::new(alloc);
         for i in 0..2000u64 {
             let is_null = i % *nulls == *nulls - 1;
             let slot = if is_null { None } else { Some(i % *keys) };
@@ -144,22 +179,28 @@ fn many_groups_and_keys_in_turn(rt: HostRuntime) {
         }
         let array = numbers(&rt, &slots);
         drop(slots);
-        let groups = group_primitive(rt.alloc(), &array).expect(&rt, "memory");
+        let groups = group_primitive(alloc, &array).expect(&rt, "memory");
         drop(array);
-        assert_text::value(groups.indices.len(), 2000).expect(&rt, row);
+        check_value(&rt, row, groups.indices.len(), 2000);
         assert!(rt; groups.indices.len() == 2000, "slots");
-        let numbers = (groups.indices[1998], groups.indices[1999]);
-        let came = (groups.first.last().copied(), numbers);
+        check_value(
+            &rt,
+            row,
+            (
+                groups.first.last().copied(),
+                (groups.indices[1998], groups.indices[1999]),
+            ),
+            (Some(*first), (*last, *null)),
+        );
         drop(groups);
-        assert_text::value(came, (Some(*first), (*last, *null))).expect(&rt, row);
     }
 }
 
 /// Compares for each slot the first one of an equal hash.
 fn check_hashes(rt: &impl Abort, row: &str, made: PrimitiveArray<u64>, first: &[usize]) {
-    assert_text::mask(made.validity(), "none").expect(rt, row);
+    check_mask(rt, row, made.validity(), "none");
     let hashes = made.values().as_slice();
-    assert_text::value(hashes.len(), first.len()).expect(rt, row);
+    check_value(rt, row, hashes.len(), first.len());
     for (i, (hash, expected)) in hashes.iter().zip(first.iter()).enumerate() {
         let mut found = None;
         for (place, other) in hashes.iter().enumerate() {
@@ -167,31 +208,37 @@ fn check_hashes(rt: &impl Abort, row: &str, made: PrimitiveArray<u64>, first: &[
                 found = Some(place);
             }
         }
-        assert_text::value((i, found), (i, Some(*expected))).expect(rt, row);
+        check_value(rt, row, (i, found), (i, Some(*expected)));
     }
     drop(made);
 }
 
 #[test]
 fn equal_slots_have_equal_hashes(rt: HostRuntime) {
+    let alloc = rt.alloc();
     let array = numbers(&rt, &[Some(7), None, Some(0), Some(7), None]);
-    let made = hash_primitive::<i32>(rt.alloc(), &array).expect(&rt, "memory");
+    let made = hash_primitive::<i32>(alloc, &array).expect(&rt, "memory");
     drop(array);
     check_hashes(&rt, "Int32: seven, a null, zero", made, &[0, 1, 2, 0, 1]);
     let array = booleans(&rt, &[Some(true), None, Some(false), Some(true)]);
-    let made = hash_boolean(rt.alloc(), &array).expect(&rt, "memory");
+    let made = hash_boolean(alloc, &array).expect(&rt, "memory");
     drop(array);
     check_hashes(&rt, "Boolean: true, a null, false", made, &[0, 1, 2, 0]);
     let row = "equal items have equal hashes";
     let array: Utf8Array<i32> = items(&rt, &[Some("pear"), None, Some(""), Some("pear"), None]);
-    let texts = hash_utf8(rt.alloc(), &array).expect(&rt, "memory");
+    let texts = hash_utf8(alloc, &array).expect(&rt, "memory");
     drop(array);
     let array: BinaryArray<i64> = items(&rt, &[Some(b"pear".as_slice()), None]);
-    let bytes = hash_binary(rt.alloc(), &array).expect(&rt, "memory");
+    let bytes = hash_binary(alloc, &array).expect(&rt, "memory");
     drop(array);
     let (of_texts, of_bytes) = (texts.values().as_slice(), bytes.values().as_slice());
-    assert_text::value(of_bytes.first().copied(), of_texts.first().copied()).expect(&rt, row);
-    assert_text::value(of_bytes.last().copied(), of_texts.last().copied()).expect(&rt, row);
+    check_value(
+        &rt,
+        row,
+        of_bytes.first().copied(),
+        of_texts.first().copied(),
+    );
+    check_value(&rt, row, of_bytes.last().copied(), of_texts.last().copied());
     check_hashes(&rt, "LargeBinary: pear, a null", bytes, &[0, 1]);
     check_hashes(
         &rt,
@@ -203,25 +250,30 @@ fn equal_slots_have_equal_hashes(rt: HostRuntime) {
 
 #[test]
 fn groups_of_rows_of_three_columns(rt: HostRuntime) {
+    let alloc = rt.alloc();
     let slots = [Some("a"), Some("a"), None, Some("a"), None, Some("a")];
     let array: Utf8Array<i32> = items(&rt, &slots);
-    let names = group_utf8(rt.alloc(), &array).expect(&rt, "memory");
+    let names = group_utf8(alloc, &array).expect(&rt, "memory");
     drop(array);
     let slots = [Some(1i64), Some(2), Some(1), Some(1), Some(1), Some(1)];
     let array = numbers(&rt, &slots);
-    let ages = group_primitive(rt.alloc(), &array).expect(&rt, "memory");
+    let ages = group_primitive(alloc, &array).expect(&rt, "memory");
     drop(array);
     let slots = [Some(true), None, None, Some(true), Some(false), None];
     let array = booleans(&rt, &slots);
-    let marks = group_boolean(rt.alloc(), &array).expect(&rt, "memory");
+    let marks = group_boolean(alloc, &array).expect(&rt, "memory");
     drop(array);
-    let lens = [names.indices.len(), ages.indices.len(), marks.indices.len()];
-    assert_text::value(lens, [6; 3]).expect(&rt, "rows of each column");
+    check_value(
+        &rt,
+        "rows of each column",
+        [names.indices.len(), ages.indices.len(), marks.indices.len()],
+        [6; 3],
+    );
     assert!(rt; names.indices.len() == ages.indices.len(), "six rows");
-    let pairs = names.refine(rt.alloc(), &ages).expect(&rt, "memory");
+    let pairs = names.refine(alloc, &ages).expect(&rt, "memory");
     drop((names, ages));
     assert!(rt; pairs.indices.len() == marks.indices.len(), "six rows");
-    let rows = pairs.refine(rt.alloc(), &marks);
+    let rows = pairs.refine(alloc, &marks);
     drop(marks);
     check_groups(
         &rt,

@@ -1,13 +1,15 @@
 //! Sorts. What each returns was worked out by hand.
-use crate::arrays::{booleans, check_booleans, check_numbers, items, numbers, row};
-use arrow_primitive::PrimitiveArray;
+use crate::arrays::{
+    booleans, check_booleans, check_mask, check_numbers, check_slots, check_value, items, numbers,
+    row,
+};
 use arrow_sort::SortOptions;
 use arrow_sort::lexsort::{SortColumn, SortValues, lexsort_to_indices};
 use arrow_sort::sort::{sort, sort_to_indices};
 use arrow_types::data_type::DataType;
 use arrow_utf8::Utf8Array;
 use std::process::Abort;
-use tests_support::{Text, assert_text};
+use tests_support::Text;
 
 const ASCENDING: SortOptions = SortOptions {
     descending: false,
@@ -109,18 +111,25 @@ const BOOLEANS: &[(&str, Option<SortOptions>, &str, &str, &str)] = &[
 fn check_sorted_numbers(
     rt: &(impl Abort + AllocGlobal),
     test: &str,
-    array: &PrimitiveArray<i32>,
+    slots: &[Option<i32>],
     cases: &[Case],
 ) {
+    let array = numbers(rt, slots);
     for (index, (case, options, limit, indexes, slots, mask)) in cases.iter().enumerate() {
         let row = row(test, "Int32", index, *case);
         let row = row.as_str();
-        let keys = sort_to_indices(rt.alloc(), array, *options, *limit).expect(rt, row);
-        assert_text::slots(keys.iter(), *indexes).expect(rt, row);
+        let keys = sort_to_indices(rt.alloc(), &array, *options, *limit).expect(rt, row);
+        check_slots(rt, row, keys.iter(), *indexes);
         drop(keys);
-        let sorted = sort(rt.alloc(), array, *options, *limit);
-        check_numbers(rt, row, sorted, Ok((*slots, *mask)), &DataType::Int32);
+        check_numbers(
+            rt,
+            row,
+            sort(rt.alloc(), &array, *options, *limit),
+            Ok((*slots, *mask)),
+            &DataType::Int32,
+        );
     }
+    drop(array);
 }
 
 /// Sorts texts by each case's options, up to its limit, and compares what comes with the case.
@@ -135,11 +144,11 @@ fn check_sorted_texts(
         let row = row(test, "Utf8", index, *case);
         let row = row.as_str();
         let keys = sort_to_indices(rt.alloc(), &array, *options, *limit).expect(rt, row);
-        assert_text::slots(keys.iter(), *indexes).expect(rt, row);
+        check_slots(rt, row, keys.iter(), *indexes);
         drop(keys);
         let sorted = sort(rt.alloc(), &array, *options, *limit).expect(rt, row);
-        assert_text::slots(sorted.iter(), *slots).expect(rt, row);
-        assert_text::mask(sorted.validity(), *mask).expect(rt, row);
+        check_slots(rt, row, sorted.iter(), *slots);
+        check_mask(rt, row, sorted.validity(), *mask);
         drop(sorted);
     }
     drop(array);
@@ -147,22 +156,24 @@ fn check_sorted_texts(
 
 #[test]
 fn numbers_texts_and_booleans_are_sorted(rt: HostRuntime) {
-    let array = numbers(&rt, &[None, Some(3), Some(1), Some(3), Some(2), None]);
-    check_sorted_numbers(&rt, "numbers are sorted", &array, NUMBERS);
-    drop(array);
-    let mut slots = Vec::new(rt.alloc());
+    let alloc = rt.alloc();
+    let slots = [None, Some(3), Some(1), Some(3), Some(2), None];
+    check_sorted_numbers(&rt, "numbers are sorted", &slots, NUMBERS);
+    let mut slots = Vec::new(alloc);
     for i in 0..1200 {
         let slot = if i % 400 == 7 { None } else { Some(i % 100) };
         slots.push(slot).expect(&rt, "memory");
     }
-    let array = numbers(&rt, &slots);
+    check_sorted_numbers(&rt, "first of many slots are sorted", &slots, HUNDREDS);
     drop(slots);
-    check_sorted_numbers(&rt, "first of many slots are sorted", &array, HUNDREDS);
-    drop(array);
-    let slots = [Some("b"), Some("ab"), None, Some(""), Some("b"), Some("a")];
-    check_sorted_texts(&rt, "texts are sorted by their bytes", &slots, TEXTS);
+    check_sorted_texts(
+        &rt,
+        "texts are sorted by their bytes",
+        &[Some("b"), Some("ab"), None, Some(""), Some("b"), Some("a")],
+        TEXTS,
+    );
     check_sorted_texts(&rt, "texts that begin alike are sorted", ALIKE, ALIKE_CASES);
-    let mut slots = Vec::new(rt.alloc());
+    let mut slots = Vec::new(alloc);
     for i in 0..1600 {
         let text = ["b", "a", "c", "ab"][i % 4];
         slots.push(Some(text)).expect(&rt, "memory");
@@ -177,11 +188,16 @@ fn numbers_texts_and_booleans_are_sorted(rt: HostRuntime) {
         let row = row("booleans are sorted", "Boolean", index, *case);
         let row = row.as_str();
         let options = (*options).unwrap_or(SortOptions::default());
-        let keys = sort_to_indices(rt.alloc(), &array, options, None).expect(&rt, row);
-        assert_text::slots(keys.iter(), *indexes).expect(&rt, row);
+        let keys = sort_to_indices(alloc, &array, options, None).expect(&rt, row);
+        check_slots(&rt, row, keys.iter(), *indexes);
         drop(keys);
-        let sorted = sort(rt.alloc(), &array, options, None);
-        check_booleans(&rt, row, "sort", sorted, (*slots, *mask));
+        check_booleans(
+            &rt,
+            row,
+            "sort",
+            sort(alloc, &array, options, None),
+            (*slots, *mask),
+        );
     }
     drop(array);
 }
@@ -191,7 +207,8 @@ const LIMITS: &[usize] = &[0, 1, 9, 64, 240, 300, 2500];
 
 #[test]
 fn limit_cuts_the_sorted_indexes(rt: HostRuntime) {
-    let mut slots = Vec::new(rt.alloc());
+    let alloc = rt.alloc();
+    let mut slots = Vec::new(alloc);
     for i in 0..2000u32 {
         // Each number below 1,009 stands there once or twice.
         let slot = if i % 50 == 3 {
@@ -209,14 +226,14 @@ fn limit_cuts_the_sorted_indexes(rt: HostRuntime) {
         ("descending", DESCENDING),
         ("descending, nulls first", DESCENDING_NULLS_FIRST),
     ] {
-        let all = sort_to_indices(rt.alloc(), &array, options, None).expect(&rt, case);
+        let all = sort_to_indices(alloc, &array, options, None).expect(&rt, case);
         for limit in LIMITS {
             let row = Text::of(format_args!("Int32, {case}, limit {limit}"));
             let row = row.as_str();
-            let first = sort_to_indices(rt.alloc(), &array, options, Some(*limit)).expect(&rt, row);
-            assert_text::value(first.len(), all.len().min(*limit)).expect(&rt, row);
+            let first = sort_to_indices(alloc, &array, options, Some(*limit)).expect(&rt, row);
+            check_value(&rt, row, first.len(), all.len().min(*limit));
             for (i, (came, expected)) in first.iter().zip(all.iter()).enumerate() {
-                assert_text::value((i, came), (i, expected)).expect(&rt, row);
+                check_value(&rt, row, (i, came), (i, expected));
             }
             drop(first);
         }
@@ -252,7 +269,7 @@ fn rows_are_sorted_by_the_first_column_that_differs(rt: HostRuntime) {
         ];
         assert!(rt; names.len() == ages.len(), "columns of one length");
         let keys = lexsort_to_indices(rt.alloc(), &columns, *limit).expect(&rt, row.as_str());
-        assert_text::slots(keys.iter(), *expected).expect(&rt, row.as_str());
+        check_slots(&rt, row.as_str(), keys.iter(), *expected);
         drop(keys);
     }
     drop(ages);

@@ -1,13 +1,12 @@
 //! Aggregates of groups of booleans, bytes and texts.
 use super::groups::all_below;
-use crate::arrays::{items, row, stored_booleans};
+use crate::arrays::{check_mask, check_slots, items, row, stored_booleans};
 use arrow_aggregate::aggregate::{
     group_count, group_max_binary, group_max_boolean, group_max_string, group_min_binary,
     group_min_boolean, group_min_string,
 };
 use arrow_binary::BinaryArray;
 use arrow_utf8::Utf8Array;
-use tests_support::assert_text;
 
 /// A name, stored values, marks, the number of each slot's group, the number of groups, and the slots of
 /// the counts, of the least and of the greatest values.
@@ -49,6 +48,7 @@ const GROUPS: &[usize] = &[1, 1, 1, 0, 0];
 
 #[test]
 fn groups_of_booleans_and_texts(rt: HostRuntime) {
+    let alloc = rt.alloc();
     let rows = BOOLEANS.iter().enumerate();
     for (index, (case, values, mask, indices, groups, counts, least, greatest)) in rows {
         let row = row("groups of booleans", "Boolean", index, *case);
@@ -56,14 +56,14 @@ fn groups_of_booleans_and_texts(rt: HostRuntime) {
         let array = stored_booleans(&rt, (*values, *mask));
         assert!(rt; indices.len() == array.len(), "a number for each slot");
         assert!(rt; all_below(*indices, *groups), "numbers of groups");
-        let made = group_count(rt.alloc(), &array, *indices, *groups).expect(&rt, "memory");
-        assert_text::slots(made.iter(), *counts).expect(&rt, row);
+        let made = group_count(alloc, &array, *indices, *groups).expect(&rt, "memory");
+        check_slots(&rt, row, made.iter(), *counts);
         drop(made);
-        let made = group_min_boolean(rt.alloc(), &array, *indices, *groups).expect(&rt, "memory");
-        assert_text::slots(made.iter(), *least).expect(&rt, row);
+        let made = group_min_boolean(alloc, &array, *indices, *groups).expect(&rt, "memory");
+        check_slots(&rt, row, made.iter(), *least);
         drop(made);
-        let made = group_max_boolean(rt.alloc(), &array, *indices, *groups).expect(&rt, "memory");
-        assert_text::slots(made.iter(), *greatest).expect(&rt, row);
+        let made = group_max_boolean(alloc, &array, *indices, *groups).expect(&rt, "memory");
+        check_slots(&rt, row, made.iter(), *greatest);
         drop(made);
         drop(array);
     }
@@ -74,14 +74,14 @@ fn groups_of_booleans_and_texts(rt: HostRuntime) {
         let array: Utf8Array<i32> = items(&rt, *slots);
         assert!(rt; indices.len() == array.len(), "a number for each slot");
         assert!(rt; all_below(*indices, *groups), "numbers of groups");
-        let made = group_count(rt.alloc(), &array, *indices, *groups).expect(&rt, "memory");
-        assert_text::slots(made.iter(), *counts).expect(&rt, row);
+        let made = group_count(alloc, &array, *indices, *groups).expect(&rt, "memory");
+        check_slots(&rt, row, made.iter(), *counts);
         drop(made);
-        let made = group_min_string(rt.alloc(), &array, *indices, *groups).expect(&rt, "memory");
-        assert_text::slots(made.iter(), *least).expect(&rt, row);
+        let made = group_min_string(alloc, &array, *indices, *groups).expect(&rt, "memory");
+        check_slots(&rt, row, made.iter(), *least);
         drop(made);
-        let made = group_max_string(rt.alloc(), &array, *indices, *groups).expect(&rt, "memory");
-        assert_text::slots(made.iter(), *greatest).expect(&rt, row);
+        let made = group_max_string(alloc, &array, *indices, *groups).expect(&rt, "memory");
+        check_slots(&rt, row, made.iter(), *greatest);
         drop(made);
         drop(array);
     }
@@ -89,19 +89,20 @@ fn groups_of_booleans_and_texts(rt: HostRuntime) {
 
 #[test]
 fn groups_of_a_slice_of_bytes(rt: HostRuntime) {
+    let alloc = rt.alloc();
     let array: BinaryArray<i64> = items(&rt, BYTES);
     assert!(rt; array.len() == 6, "slots");
     let array = array.sliced(1, 5);
     assert!(rt; all_below(GROUPS, 2), "numbers of groups");
-    let made = group_count(rt.alloc(), &array, GROUPS, 2).expect(&rt, "memory");
-    assert_text::slots(made.iter(), "[2 2]").expect(&rt, "counts");
+    let made = group_count(alloc, &array, GROUPS, 2).expect(&rt, "memory");
+    check_slots(&rt, "counts", made.iter(), "[2 2]");
     drop(made);
-    let made = group_min_binary(rt.alloc(), &array, GROUPS, 2).expect(&rt, "memory");
-    assert_text::mask(made.validity(), "none").expect(&rt, "a mask that no slot needs");
-    assert_text::slots(made.iter(), "[[1] [127]]").expect(&rt, "least");
+    let made = group_min_binary(alloc, &array, GROUPS, 2).expect(&rt, "memory");
+    check_mask(&rt, "a mask that no slot needs", made.validity(), "none");
+    check_slots(&rt, "least", made.iter(), "[[1] [127]]");
     drop(made);
-    let made = group_max_binary(rt.alloc(), &array, GROUPS, 2).expect(&rt, "memory");
-    assert_text::slots(made.iter(), "[[255] [128]]").expect(&rt, "greatest");
+    let made = group_max_binary(alloc, &array, GROUPS, 2).expect(&rt, "memory");
+    check_slots(&rt, "greatest", made.iter(), "[[255] [128]]");
     drop(made);
     drop(array);
 }

@@ -1,7 +1,9 @@
 //! Aggregates of groups of numbers.
 ghost use Rattle.std.specs.Prelude.{◌<◌, All, IsTrue};
 
-use crate::arrays::{Slots, check_numbers, numbers, row, stored_numbers};
+use crate::arrays::{
+    Slots, check_mask, check_numbers, check_slots, check_value, numbers, row, stored_numbers,
+};
 use arrow_aggregate::aggregate::{
     group_count, group_max_primitive, group_min_primitive, group_sum,
 };
@@ -10,7 +12,6 @@ use arrow_types::data_type::DataType;
 use arrow_types::error::Error;
 use std::fmt::Debug;
 use std::process::Abort;
-use tests_support::assert_text;
 
 /// A name, values, marks, the number of each slot's group, the number of groups, and the slots of the
 /// counts, of the least and of the greatest values.
@@ -76,30 +77,46 @@ fn check_sums<T: NativeArithmetics + Debug>(
         let array = numbers(rt, *slots);
         assert!(rt; indices.len() == array.len(), "a number for each slot");
         assert!(rt; all_below(*indices, *groups), "numbers of groups");
-        let made = group_sum(rt.alloc(), &array, *indices, *groups);
+        check_numbers(
+            rt,
+            row.as_str(),
+            group_sum(rt.alloc(), &array, *indices, *groups),
+            *expected,
+            &data_type,
+        );
         drop(array);
-        check_numbers(rt, row.as_str(), made, *expected, &data_type);
         drop(data_type);
     }
 }
 
 #[test]
 fn groups_of_numbers(rt: HostRuntime) {
+    let alloc = rt.alloc();
     let rows = CASES.iter().enumerate();
     for (index, (case, values, mask, indices, groups, counts, least, greatest)) in rows {
         let array = stored_numbers(&rt, DataType::Date64, *values, *mask);
         assert!(rt; indices.len() == array.len(), "a number for each slot");
         assert!(rt; all_below(*indices, *groups), "numbers of groups");
         let count = row("counts of groups", "Date64", index, *case);
-        let made = group_count(rt.alloc(), &array, *indices, *groups).expect(&rt, "memory");
-        assert_text::slots(made.iter(), *counts).expect(&rt, count.as_str());
+        let made = group_count(alloc, &array, *indices, *groups).expect(&rt, "memory");
+        check_slots(&rt, count.as_str(), made.iter(), *counts);
         drop(made);
         let row = row("extremes of groups", "Date64", index, *case);
         let row = row.as_str();
-        let made = group_min_primitive(rt.alloc(), &array, *indices, *groups);
-        check_numbers(&rt, row, made, Ok(*least), &DataType::Date64);
-        let made = group_max_primitive(rt.alloc(), &array, *indices, *groups);
-        check_numbers(&rt, row, made, Ok(*greatest), &DataType::Date64);
+        check_numbers(
+            &rt,
+            row,
+            group_min_primitive(alloc, &array, *indices, *groups),
+            Ok(*least),
+            &DataType::Date64,
+        );
+        check_numbers(
+            &rt,
+            row,
+            group_max_primitive(alloc, &array, *indices, *groups),
+            Ok(*greatest),
+            &DataType::Date64,
+        );
         drop(array);
     }
 }
@@ -107,10 +124,11 @@ fn groups_of_numbers(rt: HostRuntime) {
 /// The last two sums are of the slots of a group among which every third is null: a mask is read by words of 64 marks.
 #[test]
 fn sums_of_groups(rt: HostRuntime) {
+    let alloc = rt.alloc();
     check_sums(&rt, "sums of groups", SUMS);
     check_sums(&rt, "sums of groups of wide numbers", WIDE_SUMS);
-    let mut slots = Vec::new(rt.alloc());
-    let mut indices = Vec::new(rt.alloc());
+    let mut slots = Vec::new(alloc);
+    let mut indices = Vec::new(alloc);
     let mut sums = [0i64, 0];
     for i in 0..150usize {
         let is_valid = i % 3 != 0;
@@ -126,10 +144,10 @@ fn sums_of_groups(rt: HostRuntime) {
     drop(slots);
     assert!(rt; indices.len() == array.len(), "a number for each slot");
     assert!(rt; all_below(indices.as_slice(), 2), "numbers of groups");
-    let made = group_sum(rt.alloc(), &array, indices.as_slice(), 2).expect(&rt, "memory");
+    let made = group_sum(alloc, &array, indices.as_slice(), 2).expect(&rt, "memory");
     drop((indices, array));
     let row = "sum of more than a word of marks: the even slots, the odd slots";
-    assert_text::value(made.values().as_slice(), sums.as_slice()).expect(&rt, row);
-    assert_text::mask(made.validity(), "none").expect(&rt, row);
+    check_value(&rt, row, made.values().as_slice(), sums.as_slice());
+    check_mask(&rt, row, made.validity(), "none");
     drop(made);
 }

@@ -1,11 +1,10 @@
 //! Least and greatest booleans, texts and bytes.
-use crate::arrays::{items, row, stored_booleans};
+use crate::arrays::{check_value, items, row, stored_booleans};
 use arrow_aggregate::aggregate::{
     count_valid, max_binary, max_boolean, max_string, min_binary, min_boolean, min_string,
 };
 use arrow_binary::BinaryArray;
 use arrow_utf8::Utf8Array;
-use tests_support::assert_text;
 
 /// A name, stored values, marks, the least and the greatest value, and how many slots are valid.
 #[rattlefmt::skip]
@@ -39,23 +38,23 @@ fn booleans_texts_and_bytes_are_compared(rt: HostRuntime) {
         let row = row("aggregates of booleans", "Boolean", index, *case);
         let row = row.as_str();
         let array = stored_booleans(&rt, (*values, *mask));
-        assert_text::value(min_boolean(&array), *least).expect(&rt, row);
-        assert_text::value(max_boolean(&array), *greatest).expect(&rt, row);
-        assert_text::value(count_valid(&array), *valid).expect(&rt, row);
+        check_value(&rt, row, min_boolean(&array), *least);
+        check_value(&rt, row, max_boolean(&array), *greatest);
+        check_value(&rt, row, count_valid(&array), *valid);
         drop(array);
     }
     for (index, (case, slots, least, greatest, valid)) in TEXTS.iter().enumerate() {
         let row = row("extremes of texts", "Utf8", index, *case);
         let row = row.as_str();
         let array: Utf8Array<i32> = items(&rt, *slots);
-        assert_text::value(min_string(&array), *least).expect(&rt, row);
-        assert_text::value(max_string(&array), *greatest).expect(&rt, row);
-        assert_text::value(count_valid(&array), *valid).expect(&rt, row);
+        check_value(&rt, row, min_string(&array), *least);
+        check_value(&rt, row, max_string(&array), *greatest);
+        check_value(&rt, row, count_valid(&array), *valid);
         drop(array);
     }
     let row = "extremes of bytes";
     let array: BinaryArray<i64> = items(&rt, BYTES);
-    assert_text::value(min_binary(&array), Some(b"\x00\xff".as_slice())).expect(&rt, row);
-    assert_text::value(max_binary(&array), Some(b"\xff".as_slice())).expect(&rt, row);
+    check_value(&rt, row, min_binary(&array), Some(b"\x00\xff".as_slice()));
+    check_value(&rt, row, max_binary(&array), Some(b"\xff".as_slice()));
     drop(array);
 }

@@ -1,5 +1,5 @@
 //! Sums, least and greatest values of numbers.
-use crate::arrays::{row, stored_numbers};
+use crate::arrays::{check_value, row, stored_numbers};
 use arrow_aggregate::aggregate::{
     SumOverflow, count_valid, max_primitive, min_primitive, sum_primitive,
 };
@@ -10,7 +10,7 @@ use arrow_primitive::PrimitiveArray;
 use arrow_types::data_type::DataType;
 use std::fmt::Debug;
 use std::process::Abort;
-use tests_support::{Text, assert_text};
+use tests_support::Text;
 
 /// A name, values, marks, the sum, the least and the greatest value, and how many slots are valid.
 type Row<T> = (
@@ -79,10 +79,10 @@ fn check_rows<T: NativeArithmetics + Debug>(
         let row = Text::of(format_args!("{test}: {:?}, row {index}, {case}", T::PRIMITIVE));
         let row = row.as_str();
         let numbers = stored_numbers(rt, T::PRIMITIVE.default_data_type(), *values, *mask);
-        assert_text::value(sum_primitive(&numbers), *sum).expect(rt, row);
-        assert_text::value(min_primitive(&numbers), *least).expect(rt, row);
-        assert_text::value(max_primitive(&numbers), *greatest).expect(rt, row);
-        assert_text::value(count_valid(&numbers), *valid).expect(rt, row);
+        check_value(rt, row, sum_primitive(&numbers), *sum);
+        check_value(rt, row, min_primitive(&numbers), *least);
+        check_value(rt, row, max_primitive(&numbers), *greatest);
+        check_value(rt, row, count_valid(&numbers), *valid);
         drop(numbers);
     }
 }
@@ -101,20 +101,21 @@ const PERIODS: &[(&str, usize, usize, i32, i32, i32)] = &[
 
 #[test]
 fn numbers_are_summed_and_compared(rt: HostRuntime) {
+    let alloc = rt.alloc();
     check_rows(&rt, "aggregates of numbers", LONG);
     check_rows(&rt, "sums of 128 bits", WIDE);
     check_rows(&rt, "sums of unsigned numbers", BYTES);
     check_rows(&rt, "sums of unsigned numbers", NATURALS);
-    let printed = SumOverflow.to_string(rt.alloc()).expect(&rt, "memory");
+    let printed = SumOverflow.to_string(alloc).expect(&rt, "memory");
     let text = "the sum does not fit in its type";
-    assert_text::value(printed.as_str(), text).expect(&rt, "an overflow prints its text");
+    check_value(&rt, "an overflow prints its text", printed.as_str(), text);
     drop(printed);
     for (index, (case, period, from, sum, least, greatest)) in PERIODS.iter().enumerate() {
         let row = row("aggregates of long arrays", "Int32", index, *case);
         let row = row.as_str();
         assert!(rt; *period != 0, "a period above zero");
-        let mut values = Vec::new(rt.alloc());
-        let mut marks = MutableBitmap::new(rt.alloc());
+        let mut values = Vec::new(alloc);
+        let mut marks = MutableBitmap::new(alloc);
         for i in 0..300usize {
             values.push(i as i32).expect(&rt, "memory");
             marks
@@ -124,9 +125,9 @@ fn numbers_are_summed_and_compared(rt: HostRuntime) {
         let values = Buffer::from_vec(values).expect(&rt, "memory");
         let mask = Some(marks.freeze().expect(&rt, "memory"));
         let numbers = PrimitiveArray::try_new(DataType::Int32, values, mask).expect(&rt, "parts");
-        assert_text::value(sum_primitive(&numbers), Ok(Some(*sum))).expect(&rt, row);
-        assert_text::value(min_primitive(&numbers), Some(*least)).expect(&rt, row);
-        assert_text::value(max_primitive(&numbers), Some(*greatest)).expect(&rt, row);
+        check_value(&rt, row, sum_primitive(&numbers), Ok(Some(*sum)));
+        check_value(&rt, row, min_primitive(&numbers), Some(*least));
+        check_value(&rt, row, max_primitive(&numbers), Some(*greatest));
         drop(numbers);
     }
 }

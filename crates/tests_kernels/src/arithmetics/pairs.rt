@@ -1,5 +1,5 @@
 //! Arithmetic of two arrays.
-use crate::arrays::{check_numbers, stored_numbers};
+use crate::arrays::{check_numbers, check_value, stored_numbers};
 use arrow_arithmetics::basic::{
     add, checked_add, checked_div, checked_mul, checked_rem, checked_sub, div, has_zero, mul, rem,
     saturating_add, saturating_mul, saturating_sub, sub,
@@ -7,7 +7,6 @@ use arrow_arithmetics::basic::{
 use arrow_primitive::PrimitiveArray;
 use arrow_types::data_type::DataType;
 use std::process::Abort;
-use tests_support::assert_text;
 
 /// Creates an array of small integers.
 fn bytes(rt: &(impl Abort + AllocGlobal), values: &[i8], mask: &str) -> PrimitiveArray<i8> {
@@ -17,33 +16,32 @@ fn bytes(rt: &(impl Abort + AllocGlobal), values: &[i8], mask: &str) -> Primitiv
 #[test]
 #[rattlefmt::skip]
 fn slots_of_two_arrays_are_combined(rt: HostRuntime) {
-    let alloc = rt.alloc();
-    // The last slot of the second is null, and stores zero.
-    let lhs = bytes(&rt, &[100, -100, 7, -7, -128, 5], "none");
-    let rhs = bytes(&rt, &[100, 100, 2, 2, -1, 0], "111110");
-    assert!(rt; lhs.len() == rhs.len(), "operands of one length");
-    assert!(rt; !has_zero(&rhs), "a zero under a null");
-    macro_rules! compare_answer {
-        ($kernel:ident, $slots:expr, $mask:expr) => {
-            let row = concat!("slots of two arrays are combined, saturate and divide: ", stringify!($kernel));
-            check_numbers(&rt, row, $kernel(alloc, &lhs, &rhs), Ok(($slots, $mask)), &DataType::Int8);
-        };
-    }
-    compare_answer!(add, "[-56 0 9 -5 127 _]", "111110");
-    compare_answer!(sub, "[0 56 5 -9 -127 _]", "111110");
-    compare_answer!(mul, "[16 -16 14 -14 -128 _]", "111110");
-    compare_answer!(div, "[1 -1 3 -3 -128 _]", "111110");
-    compare_answer!(rem, "[0 0 1 -1 0 _]", "111110");
-    compare_answer!(checked_add, "[_ 0 9 -5 _ _]", "011100");
-    compare_answer!(checked_sub, "[0 _ 5 -9 -127 _]", "101110");
-    compare_answer!(checked_mul, "[_ _ 14 -14 _ _]", "001100");
-    compare_answer!(checked_div, "[1 -1 3 -3 _ _]", "111100");
-    compare_answer!(checked_rem, "[0 0 1 -1 _ _]", "111100");
-    compare_answer!(saturating_add, "[127 0 9 -5 -128 _]", "111110");
-    compare_answer!(saturating_sub, "[0 -128 5 -9 -127 _]", "111110");
-    compare_answer!(saturating_mul, "[127 -128 14 -14 127 _]", "111110");
-    drop(lhs);
-    drop(rhs);
+let alloc = rt.alloc();
+// The last slot of the second is null, and stores zero.
+let lhs = bytes(&rt, &[100, -100, 7, -7, -128, 5], "none");
+let rhs = bytes(&rt, &[100, 100, 2, 2, -1, 0], "111110");
+assert!(rt; lhs.len() == rhs.len(), "operands of one length");
+assert!(rt; !has_zero(&rhs), "a zero under a null");
+macro_rules! compare_answer {
+($kernel:ident, $slots:expr, $mask:expr) => {
+check_numbers(&rt, concat!("slots of two arrays are combined, saturate and divide: ", stringify!($kernel)), $kernel(alloc, &lhs, &rhs), Ok(($slots, $mask)), &DataType::Int8);
+};
+}
+compare_answer!(add, "[-56 0 9 -5 127 _]", "111110");
+compare_answer!(sub, "[0 56 5 -9 -127 _]", "111110");
+compare_answer!(mul, "[16 -16 14 -14 -128 _]", "111110");
+compare_answer!(div, "[1 -1 3 -3 -128 _]", "111110");
+compare_answer!(rem, "[0 0 1 -1 0 _]", "111110");
+compare_answer!(checked_add, "[_ 0 9 -5 _ _]", "011100");
+compare_answer!(checked_sub, "[0 _ 5 -9 -127 _]", "101110");
+compare_answer!(checked_mul, "[_ _ 14 -14 _ _]", "001100");
+compare_answer!(checked_div, "[1 -1 3 -3 _ _]", "111100");
+compare_answer!(checked_rem, "[0 0 1 -1 _ _]", "111100");
+compare_answer!(saturating_add, "[127 0 9 -5 -128 _]", "111110");
+compare_answer!(saturating_sub, "[0 -128 5 -9 -127 _]", "111110");
+compare_answer!(saturating_mul, "[127 -128 14 -14 127 _]", "111110");
+drop(lhs);
+drop(rhs);
 }
 
 #[test]
@@ -51,51 +49,44 @@ fn a_zero_that_is_valid_divides_nothing(rt: HostRuntime) {
     let alloc = rt.alloc();
     let (lhs, rhs) = (bytes(&rt, &[6, 6, 6], "101"), bytes(&rt, &[0, 0, 4], "110"));
     assert!(rt; lhs.len() == rhs.len(), "operands of one length");
-    assert_text::value(has_zero(&rhs), true).expect(&rt, "a valid zero");
-    let made = checked_div(alloc, &lhs, &rhs);
+    check_value(&rt, "a valid zero", has_zero(&rhs), true);
     check_numbers(
         &rt,
         "zero, with nulls",
-        made,
+        checked_div(alloc, &lhs, &rhs),
         Ok(("[_ _ _]", "000")),
         &DataType::Int8,
     );
-    let made = checked_div(alloc, &rhs, &lhs);
     check_numbers(
         &rt,
         "by the left",
-        made,
+        checked_div(alloc, &rhs, &lhs),
         Ok(("[0 _ _]", "100")),
         &DataType::Int8,
     );
-    let made = add(alloc, &lhs, &rhs);
-    let expected = Ok(("[6 _ _]", "100"));
     check_numbers(
         &rt,
         "sums of slots with nulls",
-        made,
-        expected,
+        add(alloc, &lhs, &rhs),
+        Ok(("[6 _ _]", "100")),
         &DataType::Int8,
     );
     drop(lhs);
     drop(rhs);
     let (lhs, rhs) = (bytes(&rt, &[1, 2], "none"), bytes(&rt, &[3, 4], "none"));
     assert!(rt; lhs.len() == rhs.len(), "operands of one length");
-    let made = add(alloc, &lhs, &rhs);
     check_numbers(
         &rt,
         "without a mask",
-        made,
+        add(alloc, &lhs, &rhs),
         Ok(("[4 6]", "none")),
         &DataType::Int8,
     );
-    let made = checked_add(alloc, &lhs, &rhs);
-    let expected = Ok(("[4 6]", "11"));
     check_numbers(
         &rt,
         "a checked sum without nulls",
-        made,
-        expected,
+        checked_add(alloc, &lhs, &rhs),
+        Ok(("[4 6]", "11")),
         &DataType::Int8,
     );
     drop(lhs);

@@ -1,11 +1,11 @@
 //! Integers as decimal text.
-use crate::arrays::{Slots, numbers};
+use crate::arrays::{Slots, check_mask, check_slots, check_value, numbers};
 use arrow_cast::{primitive_to_binary, primitive_to_utf8};
 use arrow_integers::NativeArithmetics;
 use arrow_types::data_type::DataType;
 use arrow_types::error::Error;
 use std::process::Abort;
-use tests_support::{Text, Tiny, assert_text};
+use tests_support::{Text, Tiny};
 
 /// Compares the texts of `len` slots from slot `from` on, and their mask.
 fn check<T: NativeArithmetics>(
@@ -22,9 +22,9 @@ fn check<T: NativeArithmetics>(
     let array = array.sliced(from, len);
     let made = primitive_to_utf8::<T, i32>(rt.alloc(), &array).expect(rt, row);
     drop(array);
-    assert_text::slots(made.iter(), texts).expect(rt, row);
-    assert_text::mask(made.validity(), mask).expect(rt, row);
-    assert_text::value(made.data_type(), &DataType::Utf8).expect(rt, row);
+    check_slots(rt, row, made.iter(), texts);
+    check_mask(rt, row, made.validity(), mask);
+    check_value(rt, row, made.data_type(), &DataType::Utf8);
     drop(made);
 }
 
@@ -73,33 +73,38 @@ fn numbers_have_the_bytes_of_their_texts(rt: HostRuntime) {
     let words = numbers(&rt, &[Some(-70i64), None, Some(0)]);
     let made = primitive_to_binary::<i64, i64>(rt.alloc(), &words).expect(&rt, "memory");
     drop(words);
-    assert_text::slots(made.iter(), "[[45, 55, 48] _ [48]]").expect(&rt, "with a null");
-    assert_text::mask(made.validity(), "101").expect(&rt, "with a null");
-    assert_text::value(made.data_type(), &DataType::LargeBinary).expect(&rt, "with a null");
+    check_slots(&rt, "with a null", made.iter(), "[[45, 55, 48] _ [48]]");
+    check_mask(&rt, "with a null", made.validity(), "101");
+    check_value(&rt, "with a null", made.data_type(), &DataType::LargeBinary);
     drop(made);
     let bytes = numbers(&rt, &[Some(255u8)]);
     let made = primitive_to_binary::<u8, i32>(rt.alloc(), &bytes).expect(&rt, "memory");
     drop(bytes);
-    assert_text::slots(made.iter(), "[[50, 53, 53]]").expect(&rt, "no null");
-    assert_text::mask(made.validity(), "none").expect(&rt, "no null");
-    assert_text::value(made.data_type(), &DataType::Binary).expect(&rt, "no null");
+    check_slots(&rt, "no null", made.iter(), "[[50, 53, 53]]");
+    check_mask(&rt, "no null", made.validity(), "none");
+    check_value(&rt, "no null", made.data_type(), &DataType::Binary);
     drop(made);
 }
 
 #[test]
 fn texts_past_the_greatest_offset_overflow(rt: HostRuntime) {
+    let alloc = rt.alloc();
     let wide = numbers(&rt, &[Some(i128::MIN); 4]);
-    let made = primitive_to_binary::<i128, Tiny>(rt.alloc(), &wide).err();
+    let made = primitive_to_binary::<i128, Tiny>(alloc, &wide).err();
     drop(wide);
-    assert_text::value(made, Some(Error::Overflow)).expect(&rt, "160 bytes");
+    check_value(&rt, "160 bytes", made, Some(Error::Overflow));
     let least = Some(i128::MIN);
     let array = numbers(&rt, &[least, least, least, Some(1234567)]);
-    let made = primitive_to_utf8::<i128, Tiny>(rt.alloc(), &array).err();
-    assert_text::value(made, Some(Error::Overflow)).expect(&rt, "128 bytes");
+    check_value(
+        &rt,
+        "128 bytes",
+        primitive_to_utf8::<i128, Tiny>(alloc, &array).err(),
+        Some(Error::Overflow),
+    );
     assert!(rt; array.len() == 4, "slots");
     let array = array.sliced(1, 3);
-    let made = primitive_to_utf8::<i128, Tiny>(rt.alloc(), &array).expect(&rt, "94 bytes");
+    let made = primitive_to_utf8::<i128, Tiny>(alloc, &array).expect(&rt, "94 bytes");
     drop(array);
-    assert_text::value(made.len(), 3).expect(&rt, "94 bytes");
+    check_value(&rt, "94 bytes", made.len(), 3);
     drop(made);
 }

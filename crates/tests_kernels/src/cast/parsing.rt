@@ -1,5 +1,5 @@
 //! Integers of text.
-use crate::arrays::{Slots, items};
+use crate::arrays::{Slots, check_mask, check_slots, check_value, items};
 use arrow_binary::BinaryArray;
 use arrow_cast::{binary_to_primitive, utf8_to_primitive};
 use arrow_integers::NativeArithmetics;
@@ -7,7 +7,7 @@ use arrow_types::data_type::DataType;
 use arrow_utf8::Utf8Array;
 use std::fmt::Debug;
 use std::process::Abort;
-use tests_support::{Text, assert_text};
+use tests_support::Text;
 
 /// Compares the numbers of texts and their mask.
 fn check<T: NativeArithmetics + Debug>(
@@ -22,8 +22,8 @@ fn check<T: NativeArithmetics + Debug>(
     let data_type = T::PRIMITIVE.default_data_type();
     let made = utf8_to_primitive::<i32, T>(rt.alloc(), &array, data_type).expect(rt, row);
     drop(array);
-    assert_text::slots(made.iter(), slots).expect(rt, row);
-    assert_text::mask(made.validity(), mask).expect(rt, row);
+    check_slots(rt, row, made.iter(), slots);
+    check_mask(rt, row, made.validity(), mask);
     drop(made);
 }
 
@@ -121,9 +121,9 @@ fn sliced_texts_and_bytes_are_read_as_numbers(rt: HostRuntime) {
     let made = utf8_to_primitive::<i64, i32>(rt.alloc(), &array, DataType::Date32);
     drop(array);
     let made = made.expect(&rt, "memory");
-    assert_text::slots(made.iter(), "[-22 _]").expect(&rt, row);
-    assert_text::mask(made.validity(), "10").expect(&rt, row);
-    assert_text::value(made.data_type(), &DataType::Date32).expect(&rt, row);
+    check_slots(&rt, row, made.iter(), "[-22 _]");
+    check_mask(&rt, row, made.validity(), "10");
+    check_value(&rt, row, made.data_type(), &DataType::Date32);
     drop(made);
     let row = "bytes are read as text";
     let items_of_bytes = [
@@ -136,7 +136,7 @@ fn sliced_texts_and_bytes_are_read_as_numbers(rt: HostRuntime) {
     let made = binary_to_primitive::<i32, u32>(rt.alloc(), &array, DataType::UInt32);
     drop(array);
     let made = made.expect(&rt, "memory");
-    assert_text::slots(made.iter(), "[41 _ _ 2]").expect(&rt, row);
-    assert_text::mask(made.validity(), "1001").expect(&rt, row);
+    check_slots(&rt, row, made.iter(), "[41 _ _ 2]");
+    check_mask(&rt, row, made.validity(), "1001");
     drop(made);
 }

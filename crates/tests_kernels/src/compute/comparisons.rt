@@ -31,10 +31,20 @@ fn check_pairs<A: OrderedArray>(
     check_booleans(rt, row, "lt_eq", lt_eq(alloc, lhs, rhs), (at_most, mask));
     check_booleans(rt, row, "gt", gt(alloc, lhs, rhs), (greater, mask));
     check_booleans(rt, row, "gt_eq", gt_eq(alloc, lhs, rhs), (at_least, mask));
-    let answer = eq_and_validity(alloc, lhs, rhs);
-    check_booleans(rt, row, "eq_and_validity", answer, (same, "none"));
-    let answer = neq_and_validity(alloc, lhs, rhs);
-    check_booleans(rt, row, "neq_and_validity", answer, (differing, "none"));
+    check_booleans(
+        rt,
+        row,
+        "eq_and_validity",
+        eq_and_validity(alloc, lhs, rhs),
+        (same, "none"),
+    );
+    check_booleans(
+        rt,
+        row,
+        "neq_and_validity",
+        neq_and_validity(alloc, lhs, rhs),
+        (differing, "none"),
+    );
 }
 
 /// Compares an array with a value in each way.
@@ -82,45 +92,66 @@ const OTHER_BYTES: &[Option<&[u8]>] = &[Some(b"ab"), Some(b"ab"), Some(b"\xff"),
 fn numbers_and_booleans_are_compared(rt: HostRuntime) {
     let case = "numbers are compared slot by slot";
     let (lhs, rhs) = (numbers(&rt, FIRST), numbers(&rt, SECOND));
-    let expected = ["ftf___", "tft___", "tff___", "ttf___", "fft___", "ftt___"];
-    let same = ["ftffft", "tftttf"];
-    check_pairs(&rt, case, (&lhs, &rhs), (expected, "111000"), same);
-    drop(rhs);
-    let expected = ["ftf_f_", "tft_t_", "tff_f_", "ttf_f_", "fft_t_", "ftt_t_"];
-    check_scalar(&rt, "a value", &lhs, 2_i32, (expected, "111010"));
-    drop(lhs);
-    let lhs = stored_booleans(&rt, ("0011", "none"));
-    let rhs = stored_booleans(&rt, ("0101", "none"));
-    let case = "false is less than true";
-    let expected = ["tfft", "fttf", "ftff", "ttft", "fftf", "tftt"];
     check_pairs(
         &rt,
         case,
         (&lhs, &rhs),
-        (expected, "none"),
+        (
+            ["ftf___", "tft___", "tff___", "ttf___", "fft___", "ftt___"],
+            "111000",
+        ),
+        ["ftffft", "tftttf"],
+    );
+    drop(rhs);
+    check_scalar(
+        &rt,
+        "a value",
+        &lhs,
+        2_i32,
+        (
+            ["ftf_f_", "tft_t_", "tff_f_", "ttf_f_", "fft_t_", "ftt_t_"],
+            "111010",
+        ),
+    );
+    drop(lhs);
+    let lhs = stored_booleans(&rt, ("0011", "none"));
+    let rhs = stored_booleans(&rt, ("0101", "none"));
+    check_pairs(
+        &rt,
+        "false is less than true",
+        (&lhs, &rhs),
+        (["tfft", "fttf", "ftff", "ttft", "fftf", "tftt"], "none"),
         ["tfft", "fttf"],
     );
     drop(rhs);
-    let expected = ["fftt", "ttff", "ttff", "tttt", "ffff", "fftt"];
-    check_scalar(&rt, "true", &lhs, true, (expected, "none"));
-    let expected = ["ttff", "fftt", "ffff", "ttff", "fftt", "tttt"];
-    check_scalar(&rt, "false", &lhs, false, (expected, "none"));
+    check_scalar(
+        &rt,
+        "true",
+        &lhs,
+        true,
+        (["fftt", "ttff", "ttff", "tttt", "ffff", "fftt"], "none"),
+    );
+    check_scalar(
+        &rt,
+        "false",
+        &lhs,
+        false,
+        (["ttff", "fftt", "ffff", "ttff", "fftt", "tttt"], "none"),
+    );
     let rhs = stored_booleans(&rt, ("0101", "0110"));
     let same = ["ffff", "tttt"];
-    let expected = ["_ff_", "_tt_", "_tf_", "_tf_", "_ft_", "_ft_"];
     check_pairs(
         &rt,
         "the second's mask",
         (&lhs, &rhs),
-        (expected, "0110"),
+        (["_ff_", "_tt_", "_tf_", "_tf_", "_ft_", "_ft_"], "0110"),
         same,
     );
-    let expected = ["_ff_", "_tt_", "_ft_", "_ft_", "_tf_", "_tf_"];
     check_pairs(
         &rt,
         "the first's mask",
         (&rhs, &lhs),
-        (expected, "0110"),
+        (["_ff_", "_tt_", "_ft_", "_ft_", "_tf_", "_tf_"], "0110"),
         same,
     );
     drop(rhs);
@@ -132,12 +163,27 @@ fn bytes_and_text_are_compared(rt: HostRuntime) {
     let case = "bytes are compared lexicographically";
     let lhs: BinaryArray<i64> = items(&rt, BYTES);
     let rhs: BinaryArray<i64> = items(&rt, OTHER_BYTES);
-    let expected = ["fft__", "ttf__", "tff__", "tft__", "ftf__", "ftt__"];
-    let same = ["fftft", "ttftf"];
-    check_pairs(&rt, case, (&lhs, &rhs), (expected, "11100"), same);
+    check_pairs(
+        &rt,
+        case,
+        (&lhs, &rhs),
+        (
+            ["fft__", "ttf__", "tff__", "tft__", "ftf__", "ftt__"],
+            "11100",
+        ),
+        ["fftft", "ttftf"],
+    );
     drop(rhs);
-    let expected = ["fftf_", "ttft_", "ttft_", "tttt_", "ffff_", "fftf_"];
-    check_scalar(&rt, "a byte", &lhs, b"\xff".as_slice(), (expected, "11110"));
+    check_scalar(
+        &rt,
+        "a byte",
+        &lhs,
+        b"\xff".as_slice(),
+        (
+            ["fftf_", "ttft_", "ttft_", "tttt_", "ffff_", "fftf_"],
+            "11110",
+        ),
+    );
     drop(lhs);
     let case = "text is compared by its bytes";
     let lhs: Utf8Array<i32> = items(&rt, &[Some("Z"), Some("é"), None, Some("a")]);

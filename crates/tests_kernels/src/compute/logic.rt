@@ -1,7 +1,6 @@
 //! Logic of booleans in which a null stays null, and three-valued logic.
-use crate::arrays::{Booleans, check_booleans, numbers, row, stored_booleans};
+use crate::arrays::{Booleans, check_booleans, check_value, numbers, row, stored_booleans};
 use arrow_compute::{boolean, boolean_kleene};
-use tests_support::assert_text;
 
 /// A name, two arrays, and their results: of `and` and `or`, of three-valued `and` and `or`, and the
 /// mask of the first two.
@@ -76,14 +75,18 @@ fn booleans_are_combined_negated_and_summed_up(rt: HostRuntime) {
             boolean::or(alloc, &lhs, &rhs),
             (either, *mask),
         );
-        let answer = boolean_kleene::and(alloc, &lhs, &rhs);
-        check_booleans(&rt, row, "three-valued and", answer, (known_both, known[0]));
-        let answer = boolean_kleene::or(alloc, &lhs, &rhs);
+        check_booleans(
+            &rt,
+            row,
+            "three-valued and",
+            boolean_kleene::and(alloc, &lhs, &rhs),
+            (known_both, known[0]),
+        );
         check_booleans(
             &rt,
             row,
             "three-valued or",
-            answer,
+            boolean_kleene::or(alloc, &lhs, &rhs),
             (known_either, known[1]),
         );
         drop(rhs);
@@ -105,10 +108,18 @@ fn booleans_are_combined_negated_and_summed_up(rt: HostRuntime) {
             boolean::not(alloc, &array),
             (*opposites, stored.1),
         );
-        let came = [boolean::any(&array), boolean::all(&array)];
-        assert_text::value(came, *bare).expect(&rt, row);
-        let came = [boolean_kleene::any(&array), boolean_kleene::all(&array)];
-        assert_text::value(came, *known).expect(&rt, row);
+        check_value(
+            &rt,
+            row,
+            [boolean::any(&array), boolean::all(&array)],
+            *bare,
+        );
+        check_value(
+            &rt,
+            row,
+            [boolean_kleene::any(&array), boolean_kleene::all(&array)],
+            *known,
+        );
         drop(array);
     }
     let array = numbers(&rt, &[Some(0_u8), None, Some(2)]);
@@ -120,8 +131,13 @@ fn booleans_are_combined_negated_and_summed_up(rt: HostRuntime) {
         boolean::is_null(alloc, &array),
         ("ftf", "none"),
     );
-    let answer = boolean::is_not_null(alloc, &array);
-    check_booleans(&rt, row, "is_not_null", answer, ("tft", "none"));
+    check_booleans(
+        &rt,
+        row,
+        "is_not_null",
+        boolean::is_not_null(alloc, &array),
+        ("tft", "none"),
+    );
     drop(array);
     let array = stored_booleans(&rt, ("01", "none"));
     let row = "nulls of any kind are found: booleans, no mask";
@@ -132,7 +148,12 @@ fn booleans_are_combined_negated_and_summed_up(rt: HostRuntime) {
         boolean::is_null(alloc, &array),
         ("ff", "none"),
     );
-    let answer = boolean::is_not_null(alloc, &array);
-    check_booleans(&rt, row, "is_not_null", answer, ("tt", "none"));
+    check_booleans(
+        &rt,
+        row,
+        "is_not_null",
+        boolean::is_not_null(alloc, &array),
+        ("tt", "none"),
+    );
     drop(array);
 }

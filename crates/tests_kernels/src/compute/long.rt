@@ -73,33 +73,49 @@ fn booleans_and_numbers_are_read_64_at_a_time(rt: HostRuntime) {
         assert!(&rt; lhs.len() == rhs.len());
         let test = ("booleans are combined 64 at a time", len);
         let both = ["0", "1", "1", "0"];
-        let answer = eq(alloc, &lhs, &rhs);
-        check_cycle(&rt, test, "eq", answer, (["_", "t", "f", "_"], both));
-        let answer = lt(alloc, &lhs, &rhs);
-        check_cycle(&rt, test, "lt", answer, (["_", "f", "t", "_"], both));
-        let answer = boolean::or(alloc, &lhs, &rhs);
-        check_cycle(&rt, test, "or", answer, (["_", "f", "t", "_"], both));
+        check_cycle(
+            &rt,
+            test,
+            "eq",
+            eq(alloc, &lhs, &rhs),
+            (["_", "t", "f", "_"], both),
+        );
+        check_cycle(
+            &rt,
+            test,
+            "lt",
+            lt(alloc, &lhs, &rhs),
+            (["_", "f", "t", "_"], both),
+        );
+        check_cycle(
+            &rt,
+            test,
+            "or",
+            boolean::or(alloc, &lhs, &rhs),
+            (["_", "f", "t", "_"], both),
+        );
         let known = ["0", "1", "1", "1"];
-        let answer = boolean_kleene::and(alloc, &lhs, &rhs);
         check_cycle(
             &rt,
             test,
             "known and",
-            answer,
+            boolean_kleene::and(alloc, &lhs, &rhs),
             (["_", "f", "f", "f"], known),
         );
         let known = ["1", "1", "1", "0"];
-        let answer = boolean_kleene::or(alloc, &lhs, &rhs);
-        check_cycle(&rt, test, "known or", answer, (["t", "f", "t", "_"], known));
-        let answer = eq_and_validity(alloc, &lhs, &rhs);
-        let row = Text::of(format_args!("{}: {len} slots", test.0));
-        let same = cycle(["f", "t", "f", "f"], len);
+        check_cycle(
+            &rt,
+            test,
+            "known or",
+            boolean_kleene::or(alloc, &lhs, &rhs),
+            (["t", "f", "t", "_"], known),
+        );
         check_booleans(
             &rt,
-            row.as_str(),
+            Text::of(format_args!("{}: {len} slots", test.0)).as_str(),
             "validity",
-            answer,
-            (same.as_str(), "none"),
+            eq_and_validity(alloc, &lhs, &rhs),
+            (cycle(["f", "t", "f", "f"], len).as_str(), "none"),
         );
         drop(rhs);
         drop(lhs);
@@ -112,10 +128,20 @@ fn booleans_and_numbers_are_read_64_at_a_time(rt: HostRuntime) {
         let array = array.sliced(1, len);
         let test = ("numbers are compared 64 at a time", len);
         let marks = ["0", "1", "1", "1"];
-        let answer = lt_scalar(alloc, &array, 5_i16);
-        check_cycle(&rt, test, "lt", answer, (["_", "f", "t", "f"], marks));
-        let answer = eq_scalar(alloc, &array, 7_i16);
-        check_cycle(&rt, test, "eq", answer, (["_", "t", "f", "f"], marks));
+        check_cycle(
+            &rt,
+            test,
+            "lt",
+            lt_scalar(alloc, &array, 5_i16),
+            (["_", "f", "t", "f"], marks),
+        );
+        check_cycle(
+            &rt,
+            test,
+            "eq",
+            eq_scalar(alloc, &array, 7_i16),
+            (["_", "t", "f", "f"], marks),
+        );
         drop(array);
     }
     drop(slots);

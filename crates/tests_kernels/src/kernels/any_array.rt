@@ -2,7 +2,7 @@
 ghost use Rattle.std.specs.Prelude.{◌≡◌, ◌<◌, Some, length, not, slice_get};
 ghost use Rattle.arrow_column.specs.Column.{marks_of};
 
-use crate::arrays::{booleans, items, numbers};
+use crate::arrays::{booleans, check_mask, check_value, items, numbers};
 use arrow_binary::BinaryArray;
 use arrow_boolean::BooleanArray;
 use arrow_column::Array;
@@ -24,17 +24,29 @@ fn is_null_or_past<A: Array>(array: &A, i: usize) -> bool
 fn check<A: Array + Drop>(rt: &impl Abort, name: &str, array: A, empty: A) {
     let of = Text::of(format_args!("{}", array.data_type()));
     assert_text::text(of, name).expect(rt, name);
-    let sizes = (array.len(), array.is_empty(), array.null_count());
-    assert_text::value(sizes, (2, false, 1)).expect(rt, name);
-    assert_text::mask(array.validity(), "10").expect(rt, name);
-    let nulls = [0, 1, 2].map(|i| is_null_or_past(&array, i));
-    assert_text::value(nulls, [false, true, true]).expect(rt, name);
+    check_value(
+        rt,
+        name,
+        (array.len(), array.is_empty(), array.null_count()),
+        (2, false, 1),
+    );
+    check_mask(rt, name, array.validity(), "10");
+    check_value(
+        rt,
+        name,
+        [0, 1, 2].map(|i| is_null_or_past(&array, i)),
+        [false, true, true],
+    );
     assert!(rt; array.len() == 2);
-    assert_text::value(array.is_valid(0), true).expect(rt, name);
+    check_value(rt, name, array.is_valid(0), true);
     drop(array);
-    let sizes = (empty.len(), empty.is_empty(), empty.null_count());
-    assert_text::value(sizes, (0, true, 0)).expect(rt, name);
-    assert_text::mask(empty.validity(), "none").expect(rt, name);
+    check_value(
+        rt,
+        name,
+        (empty.len(), empty.is_empty(), empty.null_count()),
+        (0, true, 0),
+    );
+    check_mask(rt, name, empty.validity(), "none");
     drop(empty);
 }
 

@@ -1,5 +1,5 @@
 //! Kernels of booleans.
-use crate::arrays::{Booleans, TOO_GREAT, row, stored_booleans};
+use crate::arrays::{Booleans, TOO_GREAT, check_mask, check_value, row, stored_booleans};
 use arrow_boolean::BooleanArray;
 use arrow_kernels::{concat_boolean, filter_boolean, take_boolean, true_count};
 use arrow_types::error::Error;
@@ -15,11 +15,11 @@ fn check_stored(
 ) {
     let (values, mask) = match expected {
         Ok(parts) => parts,
-        Err(error) => return assert_text::value(answer.err(), Some(error)).expect(rt, row),
+        Err(error) => return check_value(rt, row, answer.err(), Some(error)),
     };
     let array = answer.expect(rt, row);
     assert_text::marks(array.values().iter(), values).expect(rt, row);
-    assert_text::mask(array.validity(), mask).expect(rt, row);
+    check_mask(rt, row, array.validity(), mask);
     drop(array);
 }
 
@@ -123,21 +123,29 @@ const COUNTS: &[(&str, Booleans, usize, usize, usize)] = &[
 
 #[test]
 fn booleans_are_filtered_taken_concatenated_and_counted(rt: HostRuntime) {
+    let alloc = rt.alloc();
     for (index, (case, array, filter, expected)) in FILTERS.iter().enumerate() {
         let row = row("filters keep slots at true", "Boolean", index, *case);
         let (array, filter) = (stored_booleans(&rt, *array), stored_booleans(&rt, *filter));
         assert!(rt; filter.len() == array.len());
-        let kept = filter_boolean(rt.alloc(), &array, &filter);
-        drop(filter);
-        drop(array);
-        check_stored(&rt, row.as_str(), kept, Ok(*expected));
+        check_stored(
+            &rt,
+            row.as_str(),
+            filter_boolean(alloc, &array, &filter),
+            Ok(*expected),
+        );
+        drop((filter, array));
     }
     for (index, (case, array, keys, expected)) in TAKES.iter().enumerate() {
         let row = row("takes keep slots at keys", "Boolean", index, *case);
         let array = stored_booleans(&rt, *array);
-        let taken = take_boolean(rt.alloc(), &array, *keys);
+        check_stored(
+            &rt,
+            row.as_str(),
+            take_boolean(alloc, &array, *keys),
+            *expected,
+        );
         drop(array);
-        check_stored(&rt, row.as_str(), taken, *expected);
     }
     for (index, (case, slices, expected)) in CONCATENATIONS.iter().enumerate() {
         let row = row(
@@ -146,21 +154,24 @@ fn booleans_are_filtered_taken_concatenated_and_counted(rt: HostRuntime) {
             index,
             *case,
         );
-        let mut arrays = Vec::new(rt.alloc());
+        let mut arrays = Vec::new(alloc);
         for (array, offset, len) in *slices {
             let slice = sliced(&rt, *array, *offset, *len);
             arrays.push(slice).expect(&rt, "memory");
         }
         assert!(rt; !arrays.is_empty());
-        let joined = concat_boolean(rt.alloc(), &arrays);
+        check_stored(
+            &rt,
+            row.as_str(),
+            concat_boolean(alloc, &arrays),
+            Ok(*expected),
+        );
         drop(arrays);
-        check_stored(&rt, row.as_str(), joined, Ok(*expected));
     }
     for (index, (case, array, offset, len, expected)) in COUNTS.iter().enumerate() {
         let row = row("true slots are counted", "Boolean", index, *case);
         let array = sliced(&rt, *array, *offset, *len);
-        let count = true_count(&array);
+        check_value(&rt, row.as_str(), true_count(&array), *expected);
         drop(array);
-        assert_text::value(count, *expected).expect(&rt, row.as_str());
     }
 }

@@ -128,13 +128,20 @@ fn check_filters<O: Offset>(rt: &(impl Abort + AllocGlobal), kind: &str) {
         let bytes = stored_items::<Binary, O>(rt, *array);
         let texts = stored_items::<Utf8, O>(rt, *array);
         assert!(rt; filter.len() == bytes.len() && filter.len() == texts.len());
-        let kept = filter_binary(rt.alloc(), &bytes, &filter);
+        check_stored_items(
+            rt,
+            row.as_str(),
+            filter_binary(rt.alloc(), &bytes, &filter),
+            Ok(*expected),
+        );
         drop(bytes);
-        check_stored_items(rt, row.as_str(), kept, Ok(*expected));
-        let kept = filter_utf8(rt.alloc(), &texts, &filter);
-        drop(texts);
-        drop(filter);
-        check_stored_items(rt, row.as_str(), kept, Ok(*expected));
+        check_stored_items(
+            rt,
+            row.as_str(),
+            filter_utf8(rt.alloc(), &texts, &filter),
+            Ok(*expected),
+        );
+        drop((texts, filter));
     }
 }
 
@@ -143,13 +150,21 @@ fn check_takes<O: Offset>(rt: &(impl Abort + AllocGlobal), kind: &str, cases: &[
     for (index, (case, array, keys, expected)) in cases.iter().enumerate() {
         let row = row("takes keep slots at keys", kind, index, *case);
         let bytes = stored_items::<Binary, O>(rt, *array);
-        let taken = take_binary(rt.alloc(), &bytes, *keys);
+        check_stored_items(
+            rt,
+            row.as_str(),
+            take_binary(rt.alloc(), &bytes, *keys),
+            *expected,
+        );
         drop(bytes);
-        check_stored_items(rt, row.as_str(), taken, *expected);
         let texts = stored_items::<Utf8, O>(rt, *array);
-        let taken = take_utf8(rt.alloc(), &texts, *keys);
+        check_stored_items(
+            rt,
+            row.as_str(),
+            take_utf8(rt.alloc(), &texts, *keys),
+            *expected,
+        );
         drop(texts);
-        check_stored_items(rt, row.as_str(), taken, *expected);
     }
 }
 
@@ -159,9 +174,10 @@ fn check_concatenations<O: Offset>(
     kind: &str,
     cases: &[Concatenation],
 ) {
+    let alloc = rt.alloc();
     for (index, (case, slices, expected)) in cases.iter().enumerate() {
         let row = row("concatenations have all slots in order", kind, index, *case);
-        let (mut arrays, mut others) = (Vec::new(rt.alloc()), Vec::new(rt.alloc()));
+        let (mut arrays, mut others) = (Vec::new(alloc), Vec::new(alloc));
         for (array, offset, len) in *slices {
             let bytes = stored_items::<Binary, O>(rt, *array);
             let texts = stored_items::<Utf8, O>(rt, *array);
@@ -175,12 +191,10 @@ fn check_concatenations<O: Offset>(
                 .expect(rt, "memory");
         }
         assert!(rt; !arrays.is_empty() && !others.is_empty());
-        let joined = concat_binary(rt.alloc(), &arrays);
+        check_stored_items(rt, row.as_str(), concat_binary(alloc, &arrays), *expected);
         drop(arrays);
-        check_stored_items(rt, row.as_str(), joined, *expected);
-        let joined = concat_utf8(rt.alloc(), &others);
+        check_stored_items(rt, row.as_str(), concat_utf8(alloc, &others), *expected);
         drop(others);
-        check_stored_items(rt, row.as_str(), joined, *expected);
     }
 }
 

@@ -1,11 +1,12 @@
 //! Kernels of numbers. All arrays are of dates, which each kernel keeps.
-use crate::arrays::{Booleans, NEGATIVE, TOO_GREAT, row, stored_booleans, stored_numbers};
+use crate::arrays::{
+    Booleans, NEGATIVE, TOO_GREAT, check_mask, check_value, row, stored_booleans, stored_numbers,
+};
 use arrow_kernels::{concat_primitive, filter_primitive, take_primitive};
 use arrow_primitive::PrimitiveArray;
 use arrow_types::data_type::DataType;
 use arrow_types::error::Error;
 use std::process::Abort;
-use tests_support::assert_text;
 
 /// Stored values and marks.
 type Numbers = (&'static [i64], &'static str);
@@ -19,12 +20,12 @@ fn check_stored(
 ) {
     let (values, mask) = match expected {
         Ok(parts) => parts,
-        Err(error) => return assert_text::value(answer.err(), Some(error)).expect(rt, row),
+        Err(error) => return check_value(rt, row, answer.err(), Some(error)),
     };
     let array = answer.expect(rt, row);
-    assert_text::value(array.values().as_slice(), values).expect(rt, row);
-    assert_text::mask(array.validity(), mask).expect(rt, row);
-    assert_text::value(array.data_type(), &DataType::Date64).expect(rt, row);
+    check_value(rt, row, array.values().as_slice(), values);
+    check_mask(rt, row, array.validity(), mask);
+    check_value(rt, row, array.data_type(), &DataType::Date64);
     drop(array);
 }
 
@@ -76,21 +77,28 @@ const CONCATENATIONS: &[(&str, &[Slice], Numbers)] = &[
 
 #[test]
 fn numbers_are_filtered_taken_and_concatenated(rt: HostRuntime) {
+    let alloc = rt.alloc();
     for (index, (case, (values, mask), filter, expected)) in FILTERS.iter().enumerate() {
         let row = row("filters keep slots at true", "Date64", index, *case);
         let array = stored_numbers(&rt, DataType::Date64, *values, *mask);
         let filter = stored_booleans(&rt, *filter);
         assert!(rt; filter.len() == array.len());
-        let kept = filter_primitive(rt.alloc(), &array, &filter);
-        drop(filter);
-        drop(array);
-        check_stored(&rt, row.as_str(), kept, Ok(*expected));
+        check_stored(
+            &rt,
+            row.as_str(),
+            filter_primitive(alloc, &array, &filter),
+            Ok(*expected),
+        );
+        drop((filter, array));
     }
     let array = stored_numbers(&rt, DataType::Date64, THREE.0, THREE.1);
     for (index, (case, keys, expected)) in TAKES.iter().enumerate() {
-        let row = row("takes keep slots at keys", "Date64", index, *case);
-        let taken = take_primitive(rt.alloc(), &array, *keys);
-        check_stored(&rt, row.as_str(), taken, *expected);
+        check_stored(
+            &rt,
+            row("takes keep slots at keys", "Date64", index, *case).as_str(),
+            take_primitive(alloc, &array, *keys),
+            *expected,
+        );
     }
     drop(array);
     for (index, (case, slices, expected)) in CONCATENATIONS.iter().enumerate() {
@@ -100,7 +108,7 @@ fn numbers_are_filtered_taken_and_concatenated(rt: HostRuntime) {
             index,
             *case,
         );
-        let mut arrays = Vec::new(rt.alloc());
+        let mut arrays = Vec::new(alloc);
         for ((values, mask), offset, len) in *slices {
             let array = stored_numbers(&rt, DataType::Date64, *values, *mask);
             assert!(rt; *offset <= array.len() && *len <= array.len() - *offset);
@@ -109,8 +117,12 @@ fn numbers_are_filtered_taken_and_concatenated(rt: HostRuntime) {
                 .expect(&rt, "memory");
         }
         assert!(rt; !arrays.is_empty());
-        let joined = concat_primitive(rt.alloc(), &arrays);
+        check_stored(
+            &rt,
+            row.as_str(),
+            concat_primitive(alloc, &arrays),
+            Ok(*expected),
+        );
         drop(arrays);
-        check_stored(&rt, row.as_str(), joined, Ok(*expected));
     }
 }

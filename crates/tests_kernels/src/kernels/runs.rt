@@ -1,12 +1,12 @@
 //! Filters of runs of rows, which end around the ends of words. Each is compared with an array of the slots of the rows that
 //! are set, which were pushed one by one.
-use crate::arrays::{booleans, items, numbers};
+use crate::arrays::{booleans, check_value, items, numbers};
 use arrow_boolean::BooleanArray;
 use arrow_kernels::{filter_boolean, filter_primitive, filter_utf8};
 use arrow_types::data_type::DataType;
 use arrow_utf8::Utf8Array;
 use std::process::Abort;
-use tests_support::{Text, assert_text};
+use tests_support::Text;
 
 /// A name, and lengths of runs of rows that are set and clear in turns, which are repeated.
 #[rattlefmt::skip]
@@ -128,8 +128,9 @@ const TEXTS: &[&str] = &[
 
 #[test]
 fn slots_of_runs_are_kept(rt: HostRuntime) {
+    let alloc = rt.alloc();
+    // no row is null if the remainder has to be 7
     for_each_filter(&rt, |name, filter, marks| {
-        // no row is null if the remainder has to be 7
         for (test, null) in [
             ("numbers of runs are kept", 3),
             ("long filters keep slots at true", 7),
@@ -140,11 +141,11 @@ fn slots_of_runs_are_kept(rt: HostRuntime) {
             let expected = numbers(&rt, &kept).to(DataType::Date64);
             drop((all, kept));
             assert!(rt; filter.len() == array.len());
-            let kept = filter_primitive(rt.alloc(), &array, filter).expect(&rt, "memory");
+            let kept = filter_primitive(alloc, &array, filter).expect(&rt, "memory");
             drop(array);
             let masks = (kept.validity().is_some(), expected.validity().is_some());
-            assert_text::value(masks.0, masks.1).expect(&rt, row.as_str());
-            assert_text::value(kept, expected).expect(&rt, row.as_str());
+            check_value(&rt, row.as_str(), masks.0, masks.1);
+            check_value(&rt, row.as_str(), kept, expected);
         }
         let row = Text::of(format_args!("booleans of runs are kept: {name}"));
         let (all, kept) = slots_of(&rt, marks, 3, |row| row % 3 == 0);
@@ -152,17 +153,17 @@ fn slots_of_runs_are_kept(rt: HostRuntime) {
         let expected = booleans(&rt, &kept);
         drop((all, kept));
         assert!(rt; filter.len() == array.len());
-        let kept = filter_boolean(rt.alloc(), &array, filter).expect(&rt, "memory");
+        let kept = filter_boolean(alloc, &array, filter).expect(&rt, "memory");
         drop(array);
-        assert_text::value(kept, expected).expect(&rt, row.as_str());
+        check_value(&rt, row.as_str(), kept, expected);
         let row = Text::of(format_args!("texts of runs are kept: {name}"));
         let (all, kept) = slots_of(&rt, marks, 3, |row| TEXTS[row % TEXTS.len()]);
         let array: Utf8Array<i32> = items(&rt, &all);
         let expected: Utf8Array<i32> = items(&rt, &kept);
         drop((all, kept));
         assert!(rt; filter.len() == array.len());
-        let kept = filter_utf8(rt.alloc(), &array, filter).expect(&rt, "memory");
+        let kept = filter_utf8(alloc, &array, filter).expect(&rt, "memory");
         drop(array);
-        assert_text::value(kept, expected).expect(&rt, row.as_str());
+        check_value(&rt, row.as_str(), kept, expected);
     });
 }

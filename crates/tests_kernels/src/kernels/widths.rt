@@ -17,15 +17,16 @@ const SLICES: &[(&str, Items, usize, usize, Items)] = &[
 
 #[test]
 fn slots_stay_at_either_width(rt: HostRuntime) {
+    let alloc = rt.alloc();
     for (index, (case, array, offset, len, expected)) in SLICES.iter().enumerate() {
         let row = row("slots stay at either width", "Binary", index, *case);
         let row = row.as_str();
         let array = stored_items::<Binary, i32>(&rt, *array);
         assert!(rt; *offset <= array.len() && *len <= array.len() - *offset);
         let array = array.sliced(*offset, *len);
-        let wide = widen_binary(rt.alloc(), &array).expect(&rt, row);
+        let wide = widen_binary(alloc, &array).expect(&rt, row);
         drop(array);
-        let narrow = narrow_binary(rt.alloc(), &wide);
+        let narrow = narrow_binary(alloc, &wide);
         check_stored_items(&rt, row, Ok(wide), Ok(*expected));
         check_stored_items(&rt, row, narrow, Ok(*expected));
     }
@@ -35,21 +36,21 @@ fn slots_stay_at_either_width(rt: HostRuntime) {
         let array = stored_items::<Utf8, i32>(&rt, *array);
         assert!(rt; *offset <= array.len() && *len <= array.len() - *offset);
         let array = array.sliced(*offset, *len);
-        let wide = widen_utf8(rt.alloc(), &array).expect(&rt, row);
+        let wide = widen_utf8(alloc, &array).expect(&rt, row);
         drop(array);
-        let narrow = narrow_utf8(rt.alloc(), &wide);
+        let narrow = narrow_utf8(alloc, &wide);
         check_stored_items(&rt, row, Ok(wide), Ok(*expected));
         check_stored_items(&rt, row, narrow, Ok(*expected));
     }
     let row = "slots stay at either width: the type becomes the default one";
     let (data_type, offsets, values, mask) = stored_items::<Utf8, i32>(&rt, LETTERS).into_inner();
-    let name = String::from_str(rt.alloc(), "name").expect(&rt, "memory");
-    let inner = Box::new(rt.alloc(), data_type).expect(&rt, "memory");
+    let name = String::from_str(alloc, "name").expect(&rt, "memory");
+    let inner = Box::new(alloc, data_type).expect(&rt, "memory");
     let data_type = DataType::Extension(name, inner, None);
     let array = Utf8Array::try_new(data_type, offsets, values, mask).expect(&rt, "parts that fit");
-    let wide = widen_utf8(rt.alloc(), &array).expect(&rt, row);
+    let wide = widen_utf8(alloc, &array).expect(&rt, row);
     drop(array);
-    let narrow = narrow_utf8(rt.alloc(), &wide);
+    let narrow = narrow_utf8(alloc, &wide);
     check_stored_items(&rt, row, Ok(wide), Ok(LETTERS));
     check_stored_items(&rt, row, narrow, Ok(LETTERS));
 }

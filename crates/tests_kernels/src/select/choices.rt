@@ -1,5 +1,5 @@
 //! Slots of one of two arrays by a predicate, and nulls where two arrays are equal.
-use crate::arrays::{booleans, check_booleans, check_numbers, items, numbers};
+use crate::arrays::{booleans, check_booleans, check_numbers, check_slots, items, numbers};
 use arrow_binary::BinaryArray;
 use arrow_select::if_then_else::{
     if_then_else_binary, if_then_else_boolean, if_then_else_primitive, if_then_else_utf8,
@@ -7,7 +7,6 @@ use arrow_select::if_then_else::{
 use arrow_select::nullif::{nullif_binary, nullif_boolean, nullif_primitive, nullif_utf8};
 use arrow_types::data_type::DataType;
 use arrow_utf8::Utf8Array;
-use tests_support::assert_text;
 
 #[test]
 fn numbers_and_booleans_are_chosen(rt: HostRuntime) {
@@ -24,30 +23,24 @@ fn numbers_and_booleans_are_chosen(rt: HostRuntime) {
         rhs.len() == predicate.len(),
         "another for each slot of the predicate"
     );
-    let made = if_then_else_primitive(alloc, &predicate, &lhs, &rhs);
-    let row = "numbers are chosen: if then else";
     check_numbers(
         &rt,
-        row,
-        made,
+        "numbers are chosen: if then else",
+        if_then_else_primitive(alloc, &predicate, &lhs, &rhs),
         Ok(("[1 _ 6 _ 5]", "10101")),
         &DataType::Int32,
     );
-    let made = nullif_primitive(alloc, &lhs, &rhs);
-    let row = "numbers are chosen: null if equal";
     check_numbers(
         &rt,
-        row,
-        made,
+        "numbers are chosen: null if equal",
+        nullif_primitive(alloc, &lhs, &rhs),
         Ok(("[1 2 3 _ _]", "11100")),
         &DataType::Int32,
     );
-    let made = nullif_primitive(alloc, &rhs, &lhs);
-    let row = "numbers are chosen: a null is equal to nothing";
     check_numbers(
         &rt,
-        row,
-        made,
+        "numbers are chosen: a null is equal to nothing",
+        nullif_primitive(alloc, &rhs, &lhs),
         Ok(("[4 5 6 7 _]", "11110")),
         &DataType::Int32,
     );
@@ -66,8 +59,13 @@ fn numbers_and_booleans_are_chosen(rt: HostRuntime) {
     let made = if_then_else_boolean(alloc, &predicate, &lhs, &rhs);
     let row = "booleans are chosen";
     check_booleans(&rt, row, "if then else", made, ("t_t_", "1010"));
-    let made = nullif_boolean(alloc, &lhs, &rhs);
-    check_booleans(&rt, row, "null if equal", made, ("t__f", "1001"));
+    check_booleans(
+        &rt,
+        row,
+        "null if equal",
+        nullif_boolean(alloc, &lhs, &rhs),
+        ("t__f", "1001"),
+    );
     drop((rhs, lhs, predicate));
 }
 
@@ -86,12 +84,20 @@ fn texts_and_bytes_are_chosen(rt: HostRuntime) {
         "another for each slot of the predicate"
     );
     let made = if_then_else_utf8(alloc, &predicate, &lhs, &rhs).expect(&rt, "memory");
-    let row = "texts are chosen: if then else";
-    assert_text::slots(made.iter(), "[\"a\" _ \"\"]").expect(&rt, row);
+    check_slots(
+        &rt,
+        "texts are chosen: if then else",
+        made.iter(),
+        "[\"a\" _ \"\"]",
+    );
     drop(made);
     let made = nullif_utf8(alloc, &lhs, &rhs).expect(&rt, "memory");
-    let row = "texts are chosen: null if equal";
-    assert_text::slots(made.iter(), "[\"a\" _ \"c\"]").expect(&rt, row);
+    check_slots(
+        &rt,
+        "texts are chosen: null if equal",
+        made.iter(),
+        "[\"a\" _ \"c\"]",
+    );
     drop(made);
     drop((rhs, lhs, predicate));
     let predicate = booleans(&rt, &[Some(false), Some(true)]);
@@ -106,12 +112,20 @@ fn texts_and_bytes_are_chosen(rt: HostRuntime) {
         "another for each slot of the predicate"
     );
     let made = if_then_else_binary(alloc, &predicate, &lhs, &rhs).expect(&rt, "memory");
-    let row = "bytes are chosen: if then else";
-    assert_text::slots(made.iter(), "[_ [98]]").expect(&rt, row);
+    check_slots(
+        &rt,
+        "bytes are chosen: if then else",
+        made.iter(),
+        "[_ [98]]",
+    );
     drop(made);
     let made = nullif_binary(alloc, &lhs, &rhs).expect(&rt, "memory");
-    let row = "bytes are chosen: null if equal";
-    assert_text::slots(made.iter(), "[[97] _]").expect(&rt, row);
+    check_slots(
+        &rt,
+        "bytes are chosen: null if equal",
+        made.iter(),
+        "[[97] _]",
+    );
     drop(made);
     drop((rhs, lhs, predicate));
 }

@@ -1,10 +1,9 @@
 //! Lengths of bytes and text, and concatenations of borrowed arrays.
-use crate::arrays::{booleans, check_booleans, check_numbers, items, numbers};
+use crate::arrays::{booleans, check_booleans, check_numbers, check_slots, items, numbers};
 use arrow_select::concatenate::{concatenate_boolean, concatenate_items, concatenate_primitive};
 use arrow_select::length::length;
 use arrow_types::data_type::DataType;
 use arrow_utf8::Utf8Array;
-use tests_support::assert_text;
 
 #[test]
 fn lengths_are_those_of_bytes(rt: HostRuntime) {
@@ -22,26 +21,31 @@ fn lengths_are_those_of_bytes(rt: HostRuntime) {
 
 #[test]
 fn borrowed_arrays_are_concatenated(rt: HostRuntime) {
+    let alloc = rt.alloc();
     let first = numbers(&rt, &[Some(1), None]).to(DataType::Date32);
     let second = numbers(&rt, &[Some(3)]);
-    let made = concatenate_primitive(rt.alloc(), &[&first, &second, &first]);
-    drop((first, second));
     check_numbers(
         &rt,
         "numbers",
-        made,
+        concatenate_primitive(alloc, &[&first, &second, &first]),
         Ok(("[1 _ 3 1 _]", "10110")),
         &DataType::Date32,
     );
+    drop((first, second));
     let first = booleans(&rt, &[Some(true), None]);
-    let made = concatenate_boolean(rt.alloc(), &[&first, &first]);
+    let made = concatenate_boolean(alloc, &[&first, &first]);
     drop(first);
-    let row = "borrowed booleans are concatenated";
-    check_booleans(&rt, row, "concatenate", made, ("t_t_", "1010"));
+    check_booleans(
+        &rt,
+        "borrowed booleans are concatenated",
+        "concatenate",
+        made,
+        ("t_t_", "1010"),
+    );
     let row = "borrowed texts are concatenated";
     let first: Utf8Array<i32> = items(&rt, &[Some("ab"), None]);
-    let made = concatenate_items(rt.alloc(), &[&first, &first]).expect(&rt, "memory");
+    let made = concatenate_items(alloc, &[&first, &first]).expect(&rt, "memory");
     drop(first);
-    assert_text::slots(made.iter(), "[\"ab\" _ \"ab\" _]").expect(&rt, row);
+    check_slots(&rt, row, made.iter(), "[\"ab\" _ \"ab\" _]");
     drop(made);
 }

@@ -1,14 +1,14 @@
 //! Takes by keys with nulls.
 use crate::arrays::{
-    NEGATIVE, Slots, TOO_GREAT, booleans, check_booleans, check_numbers, items, numbers, row,
-    stored_numbers,
+    NEGATIVE, Slots, TOO_GREAT, booleans, check_booleans, check_numbers, check_slots, check_value,
+    items, numbers, row, stored_numbers,
 };
 use arrow_binary::BinaryArray;
 use arrow_select::take::{take_binary, take_boolean, take_primitive, take_utf8};
 use arrow_types::data_type::DataType;
 use arrow_types::error::Error;
 use arrow_utf8::Utf8Array;
-use tests_support::{Tiny, assert_text};
+use tests_support::Tiny;
 
 /// A name, the stored values and marks of keys, and the slots and marks that they take of a ten, a
 /// null and a thirty.
@@ -33,38 +33,61 @@ const SIXTY: &str = "123456789 123456789 123456789 123456789 123456789 123456789
 
 #[test]
 fn slots_are_taken(rt: HostRuntime) {
+    let alloc = rt.alloc();
     let array = numbers(&rt, &[Some(10), None, Some(30)]).to(DataType::Date32);
     for (index, (case, (values, mask), expected)) in NUMBERS.iter().enumerate() {
         let row = row("numbers are taken", "Date32", index, *case);
         let keys = stored_numbers::<i8>(&rt, DataType::Int8, *values, *mask);
-        let taken = take_primitive(rt.alloc(), &array, &keys);
+        check_numbers(
+            &rt,
+            row.as_str(),
+            take_primitive(alloc, &array, &keys),
+            *expected,
+            &DataType::Date32,
+        );
         drop(keys);
-        check_numbers(&rt, row.as_str(), taken, *expected, &DataType::Date32);
     }
     drop(array);
     let keys = stored_numbers::<i8>(&rt, DataType::Int8, &[2, 0, 0, 1], "1011");
     let array = booleans(&rt, &[Some(true), None, Some(false)]);
-    let taken = take_boolean(rt.alloc(), &array, &keys);
+    let taken = take_boolean(alloc, &array, &keys);
     drop(array);
-    let row = "booleans are taken";
-    check_booleans(&rt, row, "a null key, and a null", taken, ("f_t_", "1010"));
+    check_booleans(
+        &rt,
+        "booleans are taken",
+        "a null key, and a null",
+        taken,
+        ("f_t_", "1010"),
+    );
     let texts: Utf8Array<i32> = items(&rt, &[Some("ab"), None, Some("c")]);
-    let taken = take_utf8(rt.alloc(), &texts, &keys).expect(&rt, "memory");
+    let taken = take_utf8(alloc, &texts, &keys).expect(&rt, "memory");
     drop(texts);
-    let row = "items are taken: text";
-    assert_text::slots(taken.iter(), "[\"c\" _ \"ab\" _]").expect(&rt, row);
+    check_slots(
+        &rt,
+        "items are taken: text",
+        taken.iter(),
+        "[\"c\" _ \"ab\" _]",
+    );
     drop(taken);
     let slots = [Some(b"ab".as_slice()), None, Some(b"c".as_slice())];
     let bytes: BinaryArray<i64> = items(&rt, &slots);
-    let taken = take_binary(rt.alloc(), &bytes, &keys).expect(&rt, "memory");
+    let taken = take_binary(alloc, &bytes, &keys).expect(&rt, "memory");
     drop((bytes, keys));
-    let row = "items are taken: bytes";
-    assert_text::slots(taken.iter(), "[[99] _ [97, 98] _]").expect(&rt, row);
+    check_slots(
+        &rt,
+        "items are taken: bytes",
+        taken.iter(),
+        "[[99] _ [97, 98] _]",
+    );
     drop(taken);
     let texts: Utf8Array<Tiny> = items(&rt, &[Some(SIXTY), Some("")]);
     let keys = stored_numbers::<i8>(&rt, DataType::Int8, &[0, 1, 0], "111");
-    let taken = take_utf8(rt.alloc(), &texts, &keys).err();
+    let taken = take_utf8(alloc, &texts, &keys).err();
     drop((keys, texts));
-    let row = "items that end past the greatest offset overflow: 120 bytes";
-    assert_text::value(taken, Some(Error::Overflow)).expect(&rt, row);
+    check_value(
+        &rt,
+        "items that end past the greatest offset overflow: 120 bytes",
+        taken,
+        Some(Error::Overflow),
+    );
 }

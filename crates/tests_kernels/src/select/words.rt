@@ -1,12 +1,12 @@
 //! Kernels over more slots than a word of a mask has marks.
-use crate::arrays::{booleans, numbers};
+use crate::arrays::{booleans, check_value, numbers};
 use arrow_boolean::BooleanArray;
 use arrow_primitive::PrimitiveArray;
 use arrow_select::if_then_else::{if_then_else_boolean, if_then_else_primitive};
 use arrow_select::nullif::{nullif_boolean, nullif_primitive};
 use arrow_select::take::{take_boolean, take_primitive};
 use std::process::Abort;
-use tests_support::{Text, assert_text};
+use tests_support::Text;
 
 /// Numbers of slots about one and two words of 64 marks.
 const COUNTS: &[usize] = &[63, 64, 65, 130];
@@ -107,16 +107,20 @@ fn slots_of_several_words_are_chosen_and_taken(rt: HostRuntime) {
         let row = Text::of(format_args!("slots of several words are chosen: Int32, {count} slots"));
         let row = row.as_str();
         let chosen = if_then_else_primitive(alloc, &predicate, &lhs, &rhs).expect(&rt, row);
-        assert_text::value(chosen, made(&rt, Slots::Chosen, 3, count)).expect(&rt, row);
-        let differing = nullif_primitive(alloc, &lhs, &rhs).expect(&rt, row);
-        assert_text::value(differing, made(&rt, Slots::Differing, 3, count)).expect(&rt, row);
+        check_value(&rt, row, chosen, made(&rt, Slots::Chosen, 3, count));
+        check_value(
+            &rt,
+            row,
+            nullif_primitive(alloc, &lhs, &rhs).expect(&rt, row),
+            made(&rt, Slots::Differing, 3, count),
+        );
         drop((rhs, lhs));
         let row = Text::of(format_args!("slots of several words are taken: Int32, {count} keys"));
         let row = row.as_str();
         let array = made(&rt, Slots::Left, 3, 60);
         let keys = made(&rt, Slots::Keys, 1, count);
         let taken = take_primitive(alloc, &array, &keys).expect(&rt, row);
-        assert_text::value(taken, made(&rt, Slots::Taken, 1, count)).expect(&rt, row);
+        check_value(&rt, row, taken, made(&rt, Slots::Taken, 1, count));
         drop((keys, array));
         let test = "booleans of several words are chosen and taken";
         let row = Text::of(format_args!("{test}: {count} slots"));
@@ -124,23 +128,23 @@ fn slots_of_several_words_are_chosen_and_taken(rt: HostRuntime) {
         let chosen = if_then_else_boolean(alloc, &predicate, &predicate, &predicate);
         let chosen = chosen.expect(&rt, row);
         // a slot of the result is the predicate's own, or null where that is null
-        assert_text::value(&chosen, &predicate).expect(&rt, row);
+        check_value(&rt, row, &chosen, &predicate);
         drop(chosen);
         let differing = nullif_boolean(alloc, &predicate, &predicate).expect(&rt, row);
         // each is equal to itself, or null
-        assert_text::value(differing.null_count(), count).expect(&rt, row);
+        check_value(&rt, row, differing.null_count(), count);
         drop(differing);
         let keys = made(&rt, Slots::Keys, 1, 60);
         let taken = take_boolean(alloc, &predicate, &keys).expect(&rt, row);
         drop((keys, predicate));
-        assert_text::value(taken.len(), 60).expect(&rt, row);
+        check_value(&rt, row, taken.len(), 60);
         for (i, came) in taken.iter().enumerate() {
             let expected = if (i + 1) % 3 == 0 {
                 None
             } else {
                 choice(3 + (i + 1) * 7 % 50)
             };
-            assert_text::value((i, came), (i, expected)).expect(&rt, row);
+            check_value(&rt, row, (i, came), (i, expected));
         }
         drop(taken);
     }
