@@ -6,7 +6,6 @@ use arrow_boolean::BooleanArray;
 use arrow_byte_array::ByteArray;
 use arrow_bytes::{ByteItem, ByteKind};
 use arrow_memory::bitmap::Bitmap;
-use arrow_memory::buffer::Buffer;
 use arrow_primitive::PrimitiveArray;
 use arrow_types::data_type::DataType;
 use arrow_types::error::Error;
@@ -15,7 +14,7 @@ use arrow_types::offset::Offset;
 use either::Either::{self, Left, Right};
 use std::fmt::Debug;
 use std::process::Abort;
-use tests_support::{Text, assert_text, frozen_mask, frozen_offsets};
+use tests_support::{Text, assert_text, buffer_of, frozen_mask, frozen_offsets};
 
 pub(crate) const TOO_GREAT: Error = Error::OutOfSpec(
     "a dictionary key must be below the length of the dictionary values",
@@ -53,8 +52,7 @@ pub(crate) fn stored_numbers<T: NativeType>(
     mask: &str,
 ) -> PrimitiveArray<T> {
     let mask = frozen_mask(rt.alloc(), mask).expect(rt, "memory");
-    let values = values.to_vec(rt.alloc()).expect(rt, "memory");
-    let values = Buffer::from_vec(values).expect(rt, "memory");
+    let values = buffer_of(rt.alloc(), values).expect(rt, "memory");
     PrimitiveArray::try_new(data_type, values, mask).expect(rt, "parts that fit")
 }
 
@@ -88,8 +86,7 @@ pub(crate) fn stored_items<K: ByteKind, O: Offset>(
     (offsets, bytes, mask): Items,
 ) -> ByteArray<K, O> {
     let offsets = frozen_offsets(rt.alloc(), offsets).expect(rt, "offsets");
-    let bytes = bytes.to_vec(rt.alloc()).expect(rt, "memory");
-    let bytes = Buffer::from_vec(bytes).expect(rt, "memory");
+    let bytes = buffer_of(rt.alloc(), bytes).expect(rt, "memory");
     let mask = frozen_mask(rt.alloc(), mask).expect(rt, "memory");
     let array = ByteArray::try_new(K::default_type(O::IS_LARGE), offsets, bytes, mask);
     array.expect(rt, "parts that fit")

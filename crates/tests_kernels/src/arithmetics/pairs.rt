@@ -14,34 +14,45 @@ fn bytes(rt: &(impl Abort + AllocGlobal), values: &[i8], mask: &str) -> Primitiv
 }
 
 #[test]
-#[rattlefmt::skip]
 fn slots_of_two_arrays_are_combined(rt: HostRuntime) {
-let alloc = rt.alloc();
-// The last slot of the second is null, and stores zero.
-let lhs = bytes(&rt, &[100, -100, 7, -7, -128, 5], "none");
-let rhs = bytes(&rt, &[100, 100, 2, 2, -1, 0], "111110");
-assert!(rt; lhs.len() == rhs.len(), "operands of one length");
-assert!(rt; !has_zero(&rhs), "a zero under a null");
-macro_rules! compare_answer {
-($kernel:ident, $slots:expr, $mask:expr) => {
-check_numbers(&rt, concat!("slots of two arrays are combined, saturate and divide: ", stringify!($kernel)), $kernel(alloc, &lhs, &rhs), Ok(($slots, $mask)), &DataType::Int8);
-};
-}
-compare_answer!(add, "[-56 0 9 -5 127 _]", "111110");
-compare_answer!(sub, "[0 56 5 -9 -127 _]", "111110");
-compare_answer!(mul, "[16 -16 14 -14 -128 _]", "111110");
-compare_answer!(div, "[1 -1 3 -3 -128 _]", "111110");
-compare_answer!(rem, "[0 0 1 -1 0 _]", "111110");
-compare_answer!(checked_add, "[_ 0 9 -5 _ _]", "011100");
-compare_answer!(checked_sub, "[0 _ 5 -9 -127 _]", "101110");
-compare_answer!(checked_mul, "[_ _ 14 -14 _ _]", "001100");
-compare_answer!(checked_div, "[1 -1 3 -3 _ _]", "111100");
-compare_answer!(checked_rem, "[0 0 1 -1 _ _]", "111100");
-compare_answer!(saturating_add, "[127 0 9 -5 -128 _]", "111110");
-compare_answer!(saturating_sub, "[0 -128 5 -9 -127 _]", "111110");
-compare_answer!(saturating_mul, "[127 -128 14 -14 127 _]", "111110");
-drop(lhs);
-drop(rhs);
+    let alloc = rt.alloc();
+    // The last slot of the second is null, and stores zero.
+    let lhs = bytes(&rt, &[100, -100, 7, -7, -128, 5], "none");
+    let rhs = bytes(&rt, &[100, 100, 2, 2, -1, 0], "111110");
+    macro_rules! compare_answer {
+        ($kernel:ident, $slots:expr, $mask:expr) => {
+            check_numbers(
+                &rt,
+                concat!("slots of two arrays are combined: ", stringify!($kernel)),
+                $kernel(alloc, &lhs, &rhs),
+                Ok(($slots, $mask)),
+                &DataType::Int8,
+            );
+        };
+    }
+    assert!(rt; lhs.len() == rhs.len(), "operands of one length");
+    compare_answer!(add, "[-56 0 9 -5 127 _]", "111110");
+    compare_answer!(sub, "[0 56 5 -9 -127 _]", "111110");
+    compare_answer!(mul, "[16 -16 14 -14 -128 _]", "111110");
+    compare_answer!(checked_add, "[_ 0 9 -5 _ _]", "011100");
+    compare_answer!(checked_sub, "[0 _ 5 -9 -127 _]", "101110");
+    compare_answer!(checked_mul, "[_ _ 14 -14 _ _]", "001100");
+    compare_answer!(checked_div, "[1 -1 3 -3 _ _]", "111100");
+    compare_answer!(checked_rem, "[0 0 1 -1 _ _]", "111100");
+    compare_answer!(saturating_add, "[127 0 9 -5 -128 _]", "111110");
+    compare_answer!(saturating_sub, "[0 -128 5 -9 -127 _]", "111110");
+    compare_answer!(saturating_mul, "[127 -128 14 -14 127 _]", "111110");
+    assert!(rt; !has_zero(&rhs), "a zero under a null");
+    check_numbers(
+        &rt,
+        "slots of two arrays saturate and divide: div",
+        div(alloc, &lhs, &rhs),
+        Ok(("[1 -1 3 -3 -128 _]", "111110")),
+        &DataType::Int8,
+    );
+    compare_answer!(rem, "[0 0 1 -1 0 _]", "111110");
+    drop(lhs);
+    drop(rhs);
 }
 
 #[test]

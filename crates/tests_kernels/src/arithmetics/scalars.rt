@@ -11,15 +11,23 @@ use arrow_types::data_type::DataType;
 const MASK: &str = "11011";
 
 #[test]
-#[rattlefmt::skip]
 fn slots_are_combined_with_a_value(rt: HostRuntime) {
     let alloc = rt.alloc();
     // The third slot is null.
     let lhs = stored_numbers::<i8>(&rt, DataType::Int8, &[100, -100, 7, -7, -128], MASK);
     macro_rules! compare_answer {
         ($kernel:ident($($value:expr)?), $slots:expr, $mask:expr) => {
-            let row = concat!("slots are combined with a value: ", stringify!($kernel), $(" by ", stringify!($value))?);
-            check_numbers(&rt, row, $kernel(alloc, &lhs $(, $value)?), Ok(($slots, $mask)), &DataType::Int8);
+            check_numbers(
+                &rt,
+                concat!(
+                    "slots are combined with a value, checked slots are null where nothing fits: ",
+                    stringify!($kernel)
+                    $(, " by ", stringify!($value))?
+                ),
+                $kernel(alloc, &lhs $(, $value)?),
+                Ok(($slots, $mask)),
+                &DataType::Int8,
+            );
         };
     }
     compare_answer!(add_scalar(100), "[-56 0 _ 93 -28]", MASK);
@@ -30,7 +38,7 @@ fn slots_are_combined_with_a_value(rt: HostRuntime) {
     compare_answer!(saturating_add_scalar(100), "[127 0 _ 93 -28]", MASK);
     compare_answer!(saturating_sub_scalar(100), "[0 -128 _ -107 -128]", MASK);
     compare_answer!(saturating_mul_scalar(-2), "[-128 127 _ 14 127]", MASK);
-    // A checked slot is null where its result does not fit, and by zero.
+    // Checked slots are null where nothing fits, and by zero.
     compare_answer!(checked_add_scalar(100), "[_ 0 _ 93 -28]", "01011");
     compare_answer!(checked_sub_scalar(100), "[0 _ _ -107 _]", "10010");
     compare_answer!(checked_mul_scalar(-1), "[-100 100 _ 7 _]", "11010");
