@@ -1,4 +1,5 @@
 """Runs the steps of ./test and ./verify side by side, and prints a line for each with its seconds."""
+import contextlib
 import os
 import signal
 import subprocess
@@ -91,22 +92,23 @@ class Run:
         word = "passed" if step.passed else "FAILED"
         self.told_end(step, f"{word}, {step.seconds:.0f} s ({step.processor:.0f} s of processors)")
 
-    def stop(self, number, _):
+    def stop(self):
+        """Ends the steps that run, with all that they started."""
         for step in self.running.values():
-            try:
+            with contextlib.suppress(ProcessLookupError, PermissionError):
                 os.killpg(step.process.pid, signal.SIGTERM)
-            except (ProcessLookupError, PermissionError):
-                pass
-        sys.exit(128 + number)
 
     def run(self):
         """Runs all steps, and returns whether each passed."""
-        for it in (signal.SIGHUP, signal.SIGINT, signal.SIGTERM):
-            signal.signal(it, self.stop)
-        while self.left or self.running:
-            self.begin()
-            if self.running:
-                self.wait()
+        for it in (signal.SIGHUP, signal.SIGTERM):
+            signal.signal(it, lambda number, _: sys.exit(128 + number))
+        try:
+            while self.left or self.running:
+                self.begin()
+                if self.running:
+                    self.wait()
+        finally:
+            self.stop()
         return all(it.passed for it in self.steps)
 
 
