@@ -1,0 +1,142 @@
+"""The crates of crates.txt, and the built libraries over which the edits of one are tried."""
+import functools
+import os
+import re
+import shutil
+
+from .sources import VISIBLE, files_below, module_of, read
+
+PARTS = ("src", "specs", "proofs")
+
+
+class Crate:
+    """A crate of crates.txt, with the crates of this repository below it and the libraries of the toolchain that it uses."""
+
+    def __init__(self, top, name, row, known):
+        line, uses = row
+        self.top, self.name, self.folder, self.line = top, name, f"{top}/crates/{name}", line
+        self.direct = [known[use] for use in uses if use in known]
+        self.libraries = ["std", *(use for use in uses if use not in known)]
+        self.below = []
+        for use in self.direct:
+            self.below += [it for it in [*use.below, use] if it not in self.below]
+        self.root = "src/main.rt" if os.path.isfile(f"{self.folder}/src/main.rt") else "src/lib.rt"
+        self.over = self.homes = None
+
+    def files(self, part, end=""):
+        """The files of one part of the crate, by their paths in its folder."""
+        return [os.path.relpath(it, self.folder) for it in files_below(f"{self.folder}/{part}", end)]
+
+    def read(self, file):
+        return read(f"{self.folder}/{file}")
+
+    def home(self, of_type):
+        """The module that declares a type of the crate, or None if no module does, or several do."""
+        if self.homes is None:
+            self.homes = {}
+            for file in self.files("src", ".rt"):
+                for name in re.findall(rf"^{VISIBLE}(?:struct|enum|union) (\w+)", self.read(file), re.M):
+                    self.homes.setdefault(name, []).append(module_of(file))
+        found = self.homes.get(of_type, [])
+        return found[0] if len(found) == 1 else None
+
+    def built(self):
+        """The crate's built library: in this repository, or in the tree that --over names."""
+        return f"{self.over or self.top}/crates/{self.name}/out/rlib/{self.name}.rlib"
+
+    def kept_proofs(self):
+        """Where a check of the crate left what it proved, or None."""
+        found = [f"{it}/crates/{self.name}/out/incremental" for it in (self.top, self.over) if it]
+        return next((it for it in found if os.path.isdir(it)), None)
+
+    def has_newer(self, mark):
+        """Whether the library was built and marked by this file, and no source of it or below has changed since."""
+        mark = f"{self.folder}/out/rlib/{mark}"
+        if not os.path.isdir(self.built()) or not os.path.isfile(mark):
+            return False
+        made = os.path.getmtime(mark)
+        files = (f"{it.folder}/{file}" for it in [self, *self.below] for part in PARTS for file in it.files(part))
+        return all(os.path.getmtime(file) < made for file in files)
+
+    def has_libraries(self):
+        """Whether the libraries below are built: all by `rt check` or `rt lib`, or all by the gate; these don't fit those."""
+        of_gate = lambda it: it.has_newer("gate") and not os.path.isfile(f"{it.folder}/out/rlib/stamp")
+        return all(it.has_newer("stamp") for it in self.below) or all(of_gate(it) for it in self.below)
+
+    def build_over(self, runs, say):
+        """Proves and builds the crates below that the tree of --over was not laid with."""
+        lacking = [it for it in self.below if not os.path.isdir(f"{self.over}/crates/{it.name}")]
+        for it in lacking:
+            left_out = shutil.ignore_patterns("out", "edits", "must-fail")
+            shutil.copytree(it.folder, f"{self.over}/crates/{it.name}", ignore=left_out)
+            with open(f"{self.over}/crates.txt", "a", encoding="utf-8") as file:
+                file.write(f"{it.line}\n")
+        if lacking:
+            names = [it.name for it in lacking]
+            say(f"{self.name}: proves and builds {' '.join(names)} by `rt ci` in {self.over}")
+            runs.output(["rt", "ci", *names], self.over)
+
+    @functools.cached_property
+    def fault_copy(self):
+        """What is wrong with this library in the tree that --over names, or None."""
+        if not os.path.exists(f"{self.built()}/format"):
+            return f"{self.over} has no built library {self.name}"
+        for file in (file for part in PARTS for file in self.files(part)):
+            copy = f"{self.over}/crates/{self.name}/{file}"
+            if not os.path.isfile(copy) or read(copy) != self.read(file):
+                return f"{self.over} was built of other sources: crates/{self.name}/{file} differs"
+        return None
+
+    def fault_over(self):
+        """What is wrong with the libraries below in the tree that --over names, or None."""
+        return next((it.fault_copy for it in self.below if it.fault_copy), None)
+
+    def build_below(self, runs, say):
+        """Builds the libraries that the crate stands on, unless they are built; returns why that failed, or None."""
+        if self.over:
+            self.build_over(runs, say)
+            return self.fault_over()
+        if self.has_libraries():
+            return None
+        for it in self.direct:
+            say(f"{self.name}: proves and builds {it.name} and the crates below it by `rt lib`, from nothing in up to an hour")
+            output, status = runs.output(["rt", "lib"], it.folder)
+            if status:
+                return f"the library {it.name} isn't proved:\n{output[-2000:]}"
+        return None
+
+    def words(self, kit):
+        """The words of `rattle check` for this crate, over the libraries as they are built."""
+        words = ["--crate-name", self.name, self.root]
+        for it in self.libraries:
+            words += ["--extern", f"{it}={kit}/rlibs/{it}.rlib"]
+        words += ["-L", f"dependency={kit}/rlibs"]
+        for it in self.direct:
+            words += ["--extern", f"{it.name}={it.built()}"]
+        for it in self.below:
+            words += ["-L", f"dependency={os.path.dirname(it.built())}"]
+        words += ["--antt-project", f"{kit}/rattle/logic/antt-project.json", "--logic-built", f"{kit}/logic_built"]
+        return [*words, "--links", f"{self.name}="]
+
+
+def crates(top, over=None):
+    """The crates of a repository's crates.txt by their names, in its order."""
+    rows = {}
+    for line in read(f"{top}/crates.txt").splitlines():
+        line = line.split("#")[0].strip()
+        if line:
+            head, _, uses = line.partition(":")
+            rows[head.split()[0]] = line, uses.split()
+    known = {}
+
+    def add(name):
+        if name not in known:
+            for use in rows[name][1]:
+                if use in rows:
+                    add(use)
+            known[name] = Crate(top, name, rows[name], known)
+            known[name].over = over
+
+    for name in rows:
+        add(name)
+    return known
