@@ -60,7 +60,7 @@ const CUTS: &[Cut] = &[
 ];
 
 #[test]
-fn slices_of_slices_add_their_offsets(rt: HostRuntime) {
+fn slices_of_slices_add_their_offsets_and_size_hints_count_down(rt: HostRuntime) {
     let mut bitmap = frozen(&rt, MARKS);
     for (index, (case, offset, len, expected, third, clear)) in CUTS.iter().enumerate() {
         let name = row(*case, index);
@@ -78,15 +78,14 @@ fn slices_of_slices_add_their_offsets(rt: HostRuntime) {
         assert_text::value((skipped, left), expected).expect(&rt, case);
     }
     drop(bitmap);
-}
-
-#[test]
-fn size_hints_count_down(rt: HostRuntime) {
     let bitmap = frozen(&rt, "101");
     let mut marks = bitmap.iter();
     for left in [3, 2, 1, 0] {
         let came = (marks.size_hint(), marks.next().is_some());
-        assert_text::value(came, ((left, Some(left)), left > 0)).expect(&rt, "before a mark");
+        assert_text::value(came, ((left, Some(left)), left > 0)).expect(
+            &rt,
+            "size hints count down",
+        );
     }
     drop(bitmap);
 }

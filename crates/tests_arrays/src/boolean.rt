@@ -43,12 +43,11 @@ const THREE: [Option<bool>; 3] = [Some(true), None, Some(false)];
 
 #[test]
 fn arrays_have_a_mask_only_for_nulls(rt: HostRuntime) {
-    let valid = [Some(true), Some(false)];
-    let array = BooleanArray::from(rt.alloc(), valid.as_slice()).expect(&rt, "memory");
+    let valid = &[Some(true), Some(false)];
+    let array = BooleanArray::from(rt.alloc(), valid).expect(&rt, "memory");
     check(&rt, "from, no null", &array, "tf", "10", "none");
     drop(array);
-    let array = BooleanArray::from_slice(rt.alloc(), [true, false].as_slice());
-    let array = array.expect(&rt, "memory");
+    let array = BooleanArray::from_slice(rt.alloc(), &[true, false]).expect(&rt, "memory");
     check(&rt, "from_slice", &array, "tf", "10", "none");
     drop(array);
     let array = BooleanArray::new_empty(rt.alloc(), DataType::Boolean).expect(&rt, "memory");
@@ -56,17 +55,6 @@ fn arrays_have_a_mask_only_for_nulls(rt: HostRuntime) {
     drop(array);
     let array = BooleanArray::new_null(rt.alloc(), DataType::Boolean, 3).expect(&rt, "memory");
     check(&rt, "new_null", &array, "___", "000", "000");
-    drop(array);
-}
-
-#[test]
-fn a_null_that_is_overwritten_leaves_its_mask(rt: HostRuntime) {
-    let mut builder = MutableBooleanArray::new(rt.alloc());
-    builder.push(None).expect(&rt, "memory");
-    assert!(rt; builder.len() == 1);
-    builder.set(0, Some(true)).expect(&rt, "memory");
-    let array = builder.freeze().expect(&rt, "memory");
-    check(&rt, "overwritten", &array, "t", "1", "1");
     drop(array);
 }
 
@@ -94,7 +82,7 @@ fn same(mask: Bitmap) -> Bitmap
 }
 
 #[test]
-fn masks_are_replaced_under_the_values(rt: HostRuntime) {
+fn masks_and_values_are_replaced(rt: HostRuntime) {
     let mut array = BooleanArray::new(DataType::Boolean, bits(&rt, "101"), None);
     let mask = bits(&rt, "011");
     assert!(rt; array.len() == mask.len());
@@ -105,10 +93,6 @@ fn masks_are_replaced_under_the_values(rt: HostRuntime) {
     let array = array.with_validity(None);
     check(&rt, "with_validity", &array, "tft", "101", "none");
     drop(array);
-}
-
-#[test]
-fn values_are_replaced_under_the_mask(rt: HostRuntime) {
     let array = BooleanArray::from(rt.alloc(), THREE.as_slice()).expect(&rt, "memory");
     let values = bits(&rt, "011");
     assert!(rt; array.len() == values.len());
@@ -136,41 +120,23 @@ fn reversed(marks: MutableBitmap) -> MutableBitmap
     marks
 }
 
+/// A clone without a mask shares the values.
 #[test]
-fn changes_of_a_clone_leave_the_first(rt: HostRuntime) {
+fn changes_of_a_clone_leave_the_first_which_thaws_alone(rt: HostRuntime) {
     let first = BooleanArray::from(rt.alloc(), THREE.as_slice()).expect(&rt, "memory");
     let mut second = first.clone().expect(&rt, "memory");
     second.apply_values_mut(reversed).expect(&rt, "memory");
     check(&rt, "the clone", &second, "f_t", "001", "101");
     drop(second);
     check(&rt, "the first", &first, "t_f", "100", "101");
-    drop(first);
-}
-
-#[test]
-fn an_array_thaws_once_no_clone_shares_it(rt: HostRuntime) {
-    let first = BooleanArray::from(rt.alloc(), THREE.as_slice()).expect(&rt, "memory");
-    let second = first.clone().expect(&rt, "memory");
-    let second = second
-        .into_mut()
-        .left()
-        .expect(&rt, "a shared array stays frozen");
-    drop(second);
+    let second = first.clone().expect(&rt, "memory").into_mut().left();
+    drop(second.expect(&rt, "a shared array stays frozen"));
     let builder = first.into_mut().right().expect(&rt, "an array alone thaws");
     drop(builder);
-}
-
-/// There is no mask that the clone could share instead.
-#[test]
-fn a_clone_without_a_mask_shares_the_values(rt: HostRuntime) {
-    let first = BooleanArray::from_slice(rt.alloc(), [true, false].as_slice());
-    let first = first.expect(&rt, "memory");
-    let second = first.clone().expect(&rt, "memory");
-    let second = second
-        .into_mut()
-        .left()
-        .expect(&rt, "shared values stay frozen");
-    check(&rt, "the clone", &second, "tf", "10", "none");
+    let first = BooleanArray::from_slice(rt.alloc(), &[true, false]).expect(&rt, "memory");
+    let second = first.clone().expect(&rt, "memory").into_mut().left();
+    let second = second.expect(&rt, "shared values without a mask stay frozen");
+    check(&rt, "the clone without a mask", &second, "tf", "10", "none");
     drop(second);
     drop(first);
 }
@@ -186,11 +152,25 @@ fn builders_grow_slot_by_slot(rt: HostRuntime) {
     let popped = [builder.pop(), builder.pop()];
     drop(builder);
     assert_text::value(popped, [None, Some(true)]).expect(&rt, "pop");
+    let mut builder = MutableBooleanArray::new(rt.alloc());
+    builder.push(None).expect(&rt, "memory");
+    assert!(rt; builder.len() == 1);
+    builder.set(0, Some(true)).expect(&rt, "memory");
+    let array = builder.freeze().expect(&rt, "memory");
+    check(
+        &rt,
+        "a null that is overwritten leaves its mask",
+        &array,
+        "t",
+        "1",
+        "1",
+    );
+    drop(array);
 }
 
 #[test]
 fn builders_grow_by_iterators(rt: HostRuntime) {
-    let builder = MutableBooleanArray::from_slice(rt.alloc(), [false, true].as_slice());
+    let builder = MutableBooleanArray::from_slice(rt.alloc(), &[false, true]);
     let mut builder = builder.expect(&rt, "memory");
     check_builder(&rt, "from_slice", &builder, "ft", "01", "none");
     let (values, slots, more) = ([true, false], [None], [Some(true)]);

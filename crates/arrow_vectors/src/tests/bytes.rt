@@ -21,11 +21,6 @@ fn check_nulls<O: Offset>(rt: &(impl Abort + AllocGlobal)) {
     check_array(rt, "texts", Ok(array), SLOTS);
 }
 
-#[test]
-fn nulls_store_no_byte(rt: HostRuntime) {
-    for_each_offset!(check_nulls, &rt);
-}
-
 /// Three slots of one, no and two bytes, the second null, with bytes around them that are no text.
 const AROUND: Parts = (&[2, 3, 3, 5], b"\xFF\xFF\x01\x04\x04\xC3", "101");
 
@@ -42,11 +37,6 @@ fn check_slice<O: Offset>(rt: &(impl Abort + AllocGlobal)) {
     let name = case_of::<Binary, O>("the null, the last slot, null_count of a slice");
     check_text(rt, name.as_str(), slots, "(None, Some([4, 4]), 1)");
     check_array(rt, "a slice", Ok(array), (&[3, 3, 5], AROUND.1, "01"));
-}
-
-#[test]
-fn slices_keep_all_bytes(rt: HostRuntime) {
-    for_each_offset!(check_slice, &rt);
 }
 
 /// A name, an offset, a length, and the offsets and the mask of that slice.
@@ -96,11 +86,6 @@ fn check_parts<K: ByteKind, O: Offset>(rt: &(impl Abort + AllocGlobal)) {
     check_values(rt, "popped", builder, (&[2, 3], b"\xFF\xFF\x01", "none"));
 }
 
-#[test]
-fn parts_of_slices_and_popped_builders_are_accepted(rt: HostRuntime) {
-    for_each_kind!(check_parts, &rt);
-}
-
 /// A name, the parts of an array, and the bytes and the mask of its builder.
 const THAWS: &[(&str, Parts, &[u8], &str)] = &[
     ("a byte behind", (&[0, 1], b"a\xFF", "none"), b"a", "none"),
@@ -116,11 +101,6 @@ fn check_thawed<K: ByteKind, O: Offset>(rt: &(impl Abort + AllocGlobal)) {
         let name = row(*case, index);
         check_builder(rt, name.as_str(), Ok(builder), (parts.0, *bytes, *mask));
     }
-}
-
-#[test]
-fn thawed_arrays_end_at_their_last_offset(rt: HostRuntime) {
-    for_each_kind!(check_thawed, &rt);
 }
 
 /// A name, and parts of three slots.
@@ -141,8 +121,12 @@ fn check_clone<K: ByteKind, O: Offset>(rt: &(impl Abort + AllocGlobal)) {
     }
 }
 
+/// Parts of slices and popped builders are accepted, thawed arrays end at their last offset, and an array thaws once its
+/// clone is dropped.
 #[test]
-fn an_array_thaws_once_its_clone_is_dropped(rt: HostRuntime) {
+fn parts_are_accepted_again_and_arrays_alone_thaw(rt: HostRuntime) {
+    for_each_kind!(check_parts, &rt);
+    for_each_kind!(check_thawed, &rt);
     for_each_kind!(check_clone, &rt);
 }
 
@@ -167,7 +151,10 @@ fn check_ends<O: Offset>(rt: &(impl Abort + AllocGlobal)) {
     check_again(rt, "behind another byte", builder, pushed);
 }
 
+/// Nulls store no byte, slices keep all bytes, and items are popped and pushed at the last offset.
 #[test]
-fn items_are_popped_and_pushed_at_the_last_offset(rt: HostRuntime) {
+fn nulls_store_no_byte_and_slices_keep_all(rt: HostRuntime) {
+    for_each_offset!(check_nulls, &rt);
+    for_each_offset!(check_slice, &rt);
     for_each_offset!(check_ends, &rt);
 }

@@ -4,7 +4,7 @@ use super::*;
 type Numbers = PrimitiveArray<i32>;
 
 #[test]
-fn a_null_stores_zero_or_false_under_a_clear_mark(rt: HostRuntime) {
+fn a_null_stores_zero_or_false_under_a_clear_mark_and_new_null_holds_a_mask(rt: HostRuntime) {
     macro_rules! check_slots {
         ($array:ident, $slots:ident, $values:expr, $data_type:ident) => {
             assert!(rt; $array.len() == 3);
@@ -28,6 +28,10 @@ fn a_null_stores_zero_or_false_under_a_clear_mark(rt: HostRuntime) {
     let booleans = BooleanArray::from(rt.alloc(), slots.as_slice()).expect(&rt, "memory");
     check_slots!(booleans, slots, [true, false, false], Boolean);
     check_booleans(&rt, "booleans", Ok(booleans), "100", "101");
+    let array = Numbers::new_null(rt.alloc(), DataType::Int32, 0);
+    check_numbers(&rt, "new_null of no slot", array, &[], "");
+    let array = Numbers::new_null(rt.alloc(), DataType::Int32, 3);
+    check_numbers(&rt, "new_null of three slots", array, &[0, 0, 0], "000");
 }
 
 /// A name, three slots, and the byte of their marks.
@@ -46,14 +50,6 @@ fn marks_are_packed_from_the_lowest_bit_on(rt: HostRuntime) {
         assert_text::value(bytes.as_slice(), &[*expected]).expect(&rt, row(*case, index).as_str());
         drop(bytes);
     }
-}
-
-#[test]
-fn new_null_holds_a_mask_for_any_length(rt: HostRuntime) {
-    let array = Numbers::new_null(rt.alloc(), DataType::Int32, 0);
-    check_numbers(&rt, "no slot", array, &[], "");
-    let array = Numbers::new_null(rt.alloc(), DataType::Int32, 3);
-    check_numbers(&rt, "three slots", array, &[0, 0, 0], "000");
 }
 
 /// Thaws an array that is not shared.
@@ -186,7 +182,7 @@ const AGAIN: &[(&str, &str, &str, &str)] = &[
 ];
 
 #[test]
-fn parts_of_numbers_are_accepted_again(rt: HostRuntime) {
+fn parts_of_numbers_and_booleans_are_accepted_again(rt: HostRuntime) {
     for (index, (case, mask, last, first)) in AGAIN.iter().enumerate() {
         let name = row(*case, index);
         let case = name.as_str();
@@ -203,12 +199,8 @@ fn parts_of_numbers_are_accepted_again(rt: HostRuntime) {
         let builder = MutablePrimitiveArray::try_new(data_type, values, mask);
         check_growing(&rt, case, builder, &[1, 2], *first);
     }
-}
-
-#[test]
-fn parts_of_booleans_are_accepted_again(rt: HostRuntime) {
     for (index, (case, mask, last, first)) in AGAIN.iter().enumerate() {
-        let name = row(*case, index);
+        let name = row_of(*case, "booleans", index);
         let case = name.as_str();
         let mask = frozen_mask(rt.alloc(), *mask).expect(&rt, "memory");
         let values = Bitmap::from_slice(rt.alloc(), BOOLEANS).expect(&rt, "memory");

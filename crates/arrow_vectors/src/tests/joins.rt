@@ -26,16 +26,15 @@ fn slots_behind_others_keep_their_marks(rt: HostRuntime) {
         drop(other);
         check_growing(&rt, row(*case, index).as_str(), Ok(builder), *values, *mask);
     }
-}
-
-#[test]
-fn values_of_a_vector_are_valid_behind_a_null(rt: HostRuntime) {
     let mut builder = MutablePrimitiveArray::<i32>::new(rt.alloc());
     builder.push(None).expect(&rt, "memory");
     let other = MutablePrimitiveArray::from_vec([1].to_vec(rt.alloc()).expect(&rt, "memory"));
     builder.try_extend_from_self(&other).expect(&rt, "memory");
     drop(other);
-    assert_text::slots(builder.iter(), "[_ 1]").expect(&rt, "slots");
+    assert_text::slots(builder.iter(), "[_ 1]").expect(
+        &rt,
+        "values of a vector are valid behind a null",
+    );
     check_growing(&rt, "values and marks", Ok(builder), &[0, 1], "01");
 }
 
@@ -77,13 +76,6 @@ const JOINS: &[Join] = &[
     ("nothing", X, NOTHING, Ok(X)),
 ];
 
-#[test]
-fn only_the_slots_of_another_builder_come(rt: HostRuntime) {
-    for (index, join) in JOINS.iter().enumerate() {
-        for_each_kind!(check_join, &rt, index, join);
-    }
-}
-
 const SIXTY: Parts = (&[0, 60], &[7; 60], "none");
 
 /// No slot, behind a hundred bytes.
@@ -103,7 +95,10 @@ const NARROW: &[Join] = &[
 ];
 
 #[test]
-fn slots_of_another_builder_end_at_the_greatest_offset(rt: HostRuntime) {
+fn only_the_slots_of_another_builder_come_and_end_at_the_greatest_offset(rt: HostRuntime) {
+    for (index, join) in JOINS.iter().enumerate() {
+        for_each_kind!(check_join, &rt, index, join);
+    }
     for (index, join) in NARROW.iter().enumerate() {
         check_join::<Binary, Tiny>(&rt, index, join);
     }

@@ -148,7 +148,7 @@ const TEXT_PUSHES: &[(&str, &str, &str, &[usize])] = &[
 ];
 
 #[test]
-fn refused_bytes_leave_the_builder(rt: HostRuntime) {
+fn refused_bytes_and_text_leave_the_builder(rt: HostRuntime) {
     let (alloc, rt) = (rt.alloc(), &rt);
     check_pushes! { rt, PUSHES;
         MutableByteArray::<Binary, Tiny>::new(alloc).expect(rt, "memory"), |slots, item| slots.push(Some(item));
@@ -159,11 +159,6 @@ fn refused_bytes_leave_the_builder(rt: HostRuntime) {
     check_pushes! { rt, PUSHES_BEHIND;
         own_builder::<Binary, Tiny>(rt, (&[40], &[7; 40], "none")), |slots, item| slots.push(Some(item));
     }
-}
-
-#[test]
-fn refused_text_leaves_the_builder(rt: HostRuntime) {
-    let (alloc, rt) = (rt.alloc(), &rt);
     check_pushes! { rt, TEXT_PUSHES;
         MutableByteArray::<Utf8, Tiny>::new(alloc).expect(rt, "memory"), |slots, item| slots.push(Some(item));
         MutableByteArray::<Utf8, Tiny>::new(alloc).expect(rt, "memory"), |slots, item| slots.try_push(Some(item));

@@ -23,11 +23,6 @@ fn check_cut<O: Offset>(rt: &(impl Abort + AllocGlobal)) {
     }
 }
 
-#[test]
-fn each_slot_is_text_by_itself(rt: HostRuntime) {
-    for_each_offset!(check_cut, &rt);
-}
-
 /// A name, bytes, and a `1` for each index at which they can be cut into two texts.
 const CUT_AT: &[(&str, &[u8], &str)] = &[
     ("one byte each", b"abc", "1111"),
@@ -57,6 +52,7 @@ fn check_cuts_at_each_index<O: Offset>(rt: &(impl Abort + AllocGlobal)) {
 }
 
 #[test]
-fn bytes_are_cut_between_characters(rt: HostRuntime) {
+fn each_slot_is_text_by_itself_and_cut_between_characters(rt: HostRuntime) {
+    for_each_offset!(check_cut, &rt);
     for_each_offset!(check_cuts_at_each_index, &rt);
 }

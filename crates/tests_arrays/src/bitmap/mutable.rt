@@ -85,14 +85,18 @@ fn room_is_reserved_and_given_back(rt: HostRuntime) {
 }
 
 #[test]
-fn a_clone_grows_alone(rt: HostRuntime) {
+fn a_clone_and_another_builder_of_the_allocator_grow_alone(rt: HostRuntime) {
     let first = pushed(&rt, "101");
     let mut second = first.clone().expect(&rt, "memory");
     second.push(false).expect(&rt, "memory");
     check(&rt, "the clone", second.iter(), "1010");
     drop(second);
     check(&rt, "the first", first.iter(), "101");
+    let mut other = MutableBitmap::new(first.allocator());
     drop(first);
+    other.push(true).expect(&rt, "memory");
+    check(&rt, "another builder", other.iter(), "1");
+    drop(other);
 }
 
 #[test]
@@ -152,14 +156,4 @@ fn marks_of_other_lengths_differ(rt: HostRuntime) {
     drop(one);
     drop(none);
     assert_text::value(came, [false, true, true, false]).expect(&rt, "none and one, one and one");
-}
-
-#[test]
-fn the_allocator_serves_another_builder(rt: HostRuntime) {
-    let first = pushed(&rt, "10");
-    let mut second = MutableBitmap::new(first.allocator());
-    drop(first);
-    second.push(true).expect(&rt, "memory");
-    assert_text::marks(second.iter(), "1").expect(&rt, "another builder");
-    drop(second);
 }

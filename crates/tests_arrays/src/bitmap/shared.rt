@@ -6,13 +6,24 @@ use arrow_bitmap::{Bitmap, MutableBitmap};
 use tests_support::assert_text;
 
 #[test]
-fn marks_that_were_cut_off_do_not_come_back(rt: HostRuntime) {
+fn marks_thaw_once_no_clone_shares_them_and_without_those_cut_off(rt: HostRuntime) {
+    let first = frozen(&rt, "1011000111");
+    let second = first.clone().expect(&rt, "memory");
+    let first = first.into_mut().left();
+    drop(first.expect(&rt, "shared marks stay frozen"));
+    let marks = second.into_mut().right().expect(&rt, "marks alone thaw");
+    drop(marks);
     let bytes = [0xff, 0x01].to_vec(rt.alloc()).expect(&rt, "memory");
     let mut mask = Bitmap::try_new(bytes, 9).expect(&rt, "bits for all marks");
     cut(&rt, &mut mask, 0, 8);
     let mut marks = mask.into_mut().right().expect(&rt, "marks alone thaw");
     marks.push(false).expect(&rt, "memory");
-    check(&rt, "a mark after eight", marks.iter(), "111111110");
+    check(
+        &rt,
+        "marks that were cut off do not come back",
+        marks.iter(),
+        "111111110",
+    );
     drop(marks);
 }
 
@@ -30,19 +41,6 @@ fn zeroed_marks_are_clear_and_thaw(rt: HostRuntime) {
     let is_empty = thawed.is_empty();
     drop(thawed);
     assert_text::value((came, is_empty), ((0, 0, true), true)).expect(&rt, "new");
-}
-
-#[test]
-fn marks_thaw_once_no_clone_shares_them(rt: HostRuntime) {
-    let first = frozen(&rt, "1011000111");
-    let second = first.clone().expect(&rt, "memory");
-    let first = first
-        .into_mut()
-        .left()
-        .expect(&rt, "shared marks stay frozen");
-    drop(first);
-    let marks = second.into_mut().right().expect(&rt, "marks alone thaw");
-    drop(marks);
 }
 
 /// Sets the second of some marks.
@@ -70,7 +68,7 @@ fn changes_of_a_sliced_clone_leave_the_first(rt: HostRuntime) {
 }
 
 #[test]
-fn owned_marks_come_from_both_ends(rt: HostRuntime) {
+fn owned_marks_come_from_both_ends_and_parts_are_given_back(rt: HostRuntime) {
     let mut bitmap = frozen(&rt, "00110");
     cut(&rt, &mut bitmap, 1, 3);
     let mut marks = bitmap.into_iter();
@@ -82,10 +80,6 @@ fn owned_marks_come_from_both_ends(rt: HostRuntime) {
     ];
     drop(marks);
     assert_text::value(came, [Some(true), Some(false), Some(true), None]).expect(&rt, "011");
-}
-
-#[test]
-fn parts_are_given_back(rt: HostRuntime) {
     let mut bitmap = frozen(&rt, "1011000111");
     cut(&rt, &mut bitmap, 3, 6);
     let (bytes, offset, length, unset) = bitmap.into_parts();

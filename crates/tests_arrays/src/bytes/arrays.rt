@@ -20,11 +20,6 @@ fn check_freeze<K: ByteKind, O: Offset>(rt: &(impl Abort + AllocGlobal)) {
     check_array(rt, "without nulls", array, ITEMS);
 }
 
-#[test]
-fn freeze_drops_a_mask_without_nulls(rt: HostRuntime) {
-    for_all_kinds!(check_freeze, &rt);
-}
-
 /// Slices an array, and the slice again, and makes an array of the parts of another, without its mask.
 fn check_slices<K: ByteKind, O: Offset>(rt: &(impl Abort + AllocGlobal)) {
     let array: ByteArray<K, O> = array_of(rt, AROUND);
@@ -38,11 +33,6 @@ fn check_slices<K: ByteKind, O: Offset>(rt: &(impl Abort + AllocGlobal)) {
     drop(validity);
     let array = ByteArray::<K, O>::new(data_type, offsets, values, None);
     check_array(rt, "parts without the mask", Ok(array), BARE);
-}
-
-#[test]
-fn slices_and_parts_keep_all_bytes(rt: HostRuntime) {
-    for_all_kinds!(check_slices, &rt);
 }
 
 /// Thaws an array only once no clone shares it, and no slice hides a slot.
@@ -61,8 +51,12 @@ fn check_thawing<K: ByteKind, O: Offset>(rt: &(impl Abort + AllocGlobal)) {
     check_array(rt, "a frozen slice", Ok(slice), (&[2, 2], ITEMS.1, "none"));
 }
 
+/// Freeze drops a mask without nulls, slices and parts keep all bytes, and arrays thaw if they are neither shared nor
+/// sliced.
 #[test]
-fn arrays_thaw_if_they_are_neither_shared_nor_sliced(rt: HostRuntime) {
+fn arrays_are_frozen_sliced_and_thawed(rt: HostRuntime) {
+    for_all_kinds!(check_freeze, &rt);
+    for_all_kinds!(check_slices, &rt);
     for_all_kinds!(check_thawing, &rt);
 }
 
@@ -89,15 +83,11 @@ fn any_bytes_are_an_item_and_may_lie_outside_of_items(rt: HostRuntime) {
 }
 
 #[test]
-fn new_items_are_empty(rt: HostRuntime) {
+fn new_items_are_empty_and_values_that_are_not_shared_thaw(rt: HostRuntime) {
     let values = ByteValues::<Binary, i32>::new_empty_items(rt.alloc(), 2).expect(&rt, "memory");
     assert!(rt; values.len() == 2);
     assert_text::value(values.value(1), &[]).expect(&rt, "the second of two empty items");
     drop(values);
-}
-
-#[test]
-fn values_that_are_not_shared_thaw(rt: HostRuntime) {
     let values = MutableByteValues::<Utf8, i64>::with_capacities(rt.alloc(), 2, 2);
     let values = values.expect(&rt, "memory").freeze().expect(&rt, "memory");
     let thawed = into_mut_values(values, None).right();

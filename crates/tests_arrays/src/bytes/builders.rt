@@ -93,11 +93,6 @@ fn check_joins<K: ByteKind, O: Offset>(rt: &(impl Abort + AllocGlobal)) {
     drop(builder);
 }
 
-#[test]
-fn only_items_of_another_builder_are_appended(rt: HostRuntime) {
-    for_all_kinds!(check_joins, &rt);
-}
-
 /// Compares room for slots, for offsets and for bytes with the least and the most there may be.
 fn check_room<K: ByteKind, O: Offset>(
     rt: &impl Abort,
@@ -171,11 +166,6 @@ fn check_copy<K: ByteKind, O: Offset>(rt: &(impl Abort + AllocGlobal)) {
     check_builder(rt, "its copy does not", copy, ITEMS);
 }
 
-#[test]
-fn a_copy_shares_nothing(rt: HostRuntime) {
-    for_all_kinds!(check_copy, &rt);
-}
-
 /// A name, the parts of a builder, the marks of another, and whether the builders are equal.
 const COMPARED: &[(&str, Parts, &str, bool)] = &[
     ("other bytes around and in a null", SLOTS, "101", true),
@@ -198,7 +188,10 @@ fn check_equality<K: ByteKind, O: Offset>(rt: &(impl Abort + AllocGlobal)) {
     }
 }
 
+/// Only the items of another builder are appended, a copy shares nothing, and builders of the same slots are equal.
 #[test]
-fn builders_of_the_same_slots_are_equal(rt: HostRuntime) {
+fn builders_are_joined_copied_and_compared(rt: HostRuntime) {
+    for_all_kinds!(check_joins, &rt);
+    for_all_kinds!(check_copy, &rt);
     for_all_kinds!(check_equality, &rt);
 }

@@ -21,19 +21,25 @@ fn check_default_type<K: ByteKind, O: Offset>(rt: &impl Abort, expected: &str) {
 }
 
 #[test]
-fn default_data_types_are_those_of_the_kind(rt: HostRuntime) {
+fn default_data_types_are_those_of_the_kind_and_may_be_written_out(rt: HostRuntime) {
     check_default_type::<Binary, i32>(&rt, "Binary");
     check_default_type::<Binary, i64>(&rt, "LargeBinary");
     check_default_type::<Utf8, i32>(&rt, "Utf8");
     check_default_type::<Utf8, i64>(&rt, "LargeUtf8");
-}
-
-#[test]
-fn data_types_may_be_written_out(rt: HostRuntime) {
     let nulls = Utf8Array::<i32>::new_null(rt.alloc(), DataType::Utf8, 2);
-    check_array(&rt, "new_null", nulls, (&[0, 0, 0], b"", "00"));
+    check_array(
+        &rt,
+        "new_null of a type that is written out",
+        nulls,
+        (&[0, 0, 0], b"", "00"),
+    );
     let none = Utf8Array::<i64>::new_empty(rt.alloc(), DataType::LargeUtf8);
-    check_array(&rt, "new_empty", none, NOTHING);
+    check_array(
+        &rt,
+        "new_empty of a type that is written out",
+        none,
+        NOTHING,
+    );
 }
 
 /// Compares arrays of no slot and of nulls, and builders of no slot.

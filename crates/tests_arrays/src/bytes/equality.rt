@@ -27,12 +27,8 @@ fn check<K: ByteKind, O: Offset>(rt: &(impl Abort + AllocGlobal)) {
 }
 
 #[test]
-fn arrays_are_equal_if_they_have_the_same_slots(rt: HostRuntime) {
+fn arrays_are_equal_if_they_have_the_same_type_and_slots(rt: HostRuntime) {
     for_all_kinds!(check, &rt);
-}
-
-#[test]
-fn arrays_of_another_data_type_differ(rt: HostRuntime) {
     let name = String::from_str(rt.alloc(), "name").expect(&rt, "memory");
     let inner = Box::new(rt.alloc(), DataType::Utf8).expect(&rt, "memory");
     let data_type = DataType::Extension(name, inner, None);
@@ -44,5 +40,8 @@ fn arrays_of_another_data_type_differ(rt: HostRuntime) {
     let are_equal = first == second;
     drop(second);
     drop(first);
-    assert_text::value(are_equal, false).expect(&rt, "an extension");
+    assert_text::value(are_equal, false).expect(
+        &rt,
+        "an extension: arrays of another data type differ",
+    );
 }

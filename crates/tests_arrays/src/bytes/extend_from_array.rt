@@ -86,14 +86,10 @@ fn check_case<K: ByteKind, O: Offset>(
 }
 
 #[test]
-fn ranges_of_arrays_are_appended(rt: HostRuntime) {
+fn ranges_of_arrays_are_appended_and_end_at_the_greatest_offset(rt: HostRuntime) {
     for (index, case) in CASES.iter().enumerate() {
         for_all_kinds!(check_case, &rt, index, case, "made");
     }
-}
-
-#[test]
-fn ranges_end_at_the_greatest_offset(rt: HostRuntime) {
     for (index, case) in CASES_THAT_FIT.iter().enumerate() {
         check_case::<Binary, Tiny>(&rt, index, case, "made");
         check_case::<Utf8, Tiny>(&rt, index, case, "made");

@@ -38,11 +38,6 @@ fn check_masks_of_arrays<K: ByteKind, O: Offset>(rt: &(impl Abort + AllocGlobal)
     check_array(rt, "set_validity of none", Ok(array), BARE);
 }
 
-#[test]
-fn masks_of_arrays_are_replaced_and_dropped(rt: HostRuntime) {
-    for_all_kinds!(check_masks_of_arrays, &rt);
-}
-
 /// Changes, replaces and drops the mask of builders.
 fn check_masks_of_builders<K: ByteKind, O: Offset>(rt: &(impl Abort + AllocGlobal)) {
     let mut builder: MutableByteArray<K, O> = builder_of(rt, SLOTS);
@@ -80,6 +75,7 @@ fn check_masks_of_builders<K: ByteKind, O: Offset>(rt: &(impl Abort + AllocGloba
 }
 
 #[test]
-fn masks_of_builders_are_replaced_changed_and_dropped(rt: HostRuntime) {
+fn masks_of_arrays_and_builders_are_replaced_changed_and_dropped(rt: HostRuntime) {
+    for_all_kinds!(check_masks_of_arrays, &rt);
     for_all_kinds!(check_masks_of_builders, &rt);
 }

@@ -31,7 +31,7 @@ fn two_items<K: ByteKind, O: Offset>(
 }
 
 #[test]
-fn arrays_are_written_behind_their_name(rt: HostRuntime) {
+fn arrays_are_written_behind_their_name_and_builders_by_fields(rt: HostRuntime) {
     let text = two_items::<Utf8, i32>(&rt, "10")
         .freeze()
         .expect(&rt, "memory");
@@ -46,10 +46,6 @@ fn arrays_are_written_behind_their_name(rt: HostRuntime) {
     check(&rt, bytes, "BinaryArray[[122, 104, 195, 169], None]");
     let bytes = ByteArray::<Binary, i64>::default(rt.alloc()).expect(&rt, "memory");
     check(&rt, bytes, "LargeBinaryArray[]");
-}
-
-#[test]
-fn fields_of_builders_are_written(rt: HostRuntime) {
     let expected = "MutableUtf8Array { values: MutableUtf8ValuesArray { data_type: LargeUtf8, \
         offsets: Offsets([0, 4, 5]), values: [122, 104, 195, 169, 34] }, validity: Some([0b______01]) }";
     check(&rt, two_items::<Utf8, i64>(&rt, "10"), expected);

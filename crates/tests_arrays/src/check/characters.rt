@@ -123,7 +123,7 @@ fn each_boundary_of_the_table(rt: HostRuntime) {
 }
 
 #[test]
-fn characters_across_blocks_of_64_bytes(rt: HostRuntime) {
+fn characters_across_blocks_of_64_bytes_and_long_parts(rt: HostRuntime) {
     for before in 61..64_usize {
         for row in ROWS.iter() {
             for choice in 0..256_usize {
@@ -136,10 +136,6 @@ fn characters_across_blocks_of_64_bytes(rt: HostRuntime) {
             }
         }
     }
-}
-
-#[test]
-fn characters_across_long_parts(rt: HostRuntime) {
     for before in 8189..8192_usize {
         check_after(&rt, ROWS[1], 0b01_01_01_01, before, 1);
         check_after(&rt, ROWS[7], 0b01_01_01_01, before, 1);

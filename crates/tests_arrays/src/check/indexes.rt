@@ -36,7 +36,7 @@ const SLOTS: &[(&str, [i32; 4], [bool; 4], &str)] = &[
 ];
 
 #[test]
-fn keys_of_nulls_are_not_checked(rt: HostRuntime) {
+fn keys_are_checked_but_those_of_nulls(rt: HostRuntime) {
     for (index, (case, keys, marks, expected)) in SLOTS.iter().enumerate() {
         let validity = Bitmap::from_slice(rt.alloc(), marks.as_slice()).expect(&rt, "memory");
         assert!(rt; validity.len() == 4);
@@ -44,13 +44,12 @@ fn keys_of_nulls_are_not_checked(rt: HostRuntime) {
         drop(validity);
         assert_text::value(came, *expected).expect(&rt, row(*case, index).as_str());
     }
-}
-
-#[test]
-fn keys_without_a_mask_are_checked(rt: HostRuntime) {
     let came = [
         tells(check_slots([0_u8, 3].as_slice(), None, 3)),
         tells(check_slots([0_u8, 2].as_slice(), None, 3)),
     ];
-    assert_text::value(came, [PAST, "made"]).expect(&rt, "one past the items, the last item");
+    assert_text::value(came, [PAST, "made"]).expect(
+        &rt,
+        "no mask: one past the items, the last item",
+    );
 }

@@ -42,24 +42,18 @@ const TENS: Numbers = Numbers {
 };
 
 #[test]
-fn items_come_from_both_ends(rt: HostRuntime) {
+fn items_of_arrays_and_ranges_come_from_both_ends(rt: HostRuntime) {
     let mut items = ArrayValuesIter::new(&TENS);
     let came = (items.len(), items.next(), items.next_back());
     assert_text::value(came, (3, Some(&10), Some(&30))).expect(&rt, "both ends");
     let left = (items.len(), items.size_hint());
     assert_text::value(left, (1, (1, Some(1)))).expect(&rt, "one item left");
-    let came = [items.nth(0), items.next(), items.next_back()];
-    assert_text::value(came, [Some(&20), None, None]).expect(&rt, "the last item");
-    assert_text::value(items.len(), 0).expect(&rt, "the end");
-}
-
-#[test]
-fn ranges_have_their_items(rt: HostRuntime) {
+    let came = (items.nth(0), items.next(), items.next_back(), items.len());
+    assert_text::value(came, (Some(&20), None, None, 0)).expect(&rt, "the last item, the end");
     assert!(rt; TENS.len() == 3);
     let mut last = ArrayValuesIter::new_range(&TENS, 1, 2);
-    assert_text::value(last.len(), 2).expect(&rt, "the last two");
-    let came = [last.next_back(), last.next(), last.next()];
-    assert_text::value(came, [Some(&30), Some(&20), None]).expect(&rt, "the last two");
+    let came = (last.len(), last.next_back(), last.next(), last.next());
+    assert_text::value(came, (2, Some(&30), Some(&20), None)).expect(&rt, "the last two");
     let mut first = ArrayValuesIter::new_range(&TENS, 0, 1);
     let mut none = ArrayValuesIter::new_range(&TENS, 3, 0);
     let came = [first.next(), first.next(), none.next()];
@@ -67,7 +61,7 @@ fn ranges_have_their_items(rt: HostRuntime) {
 }
 
 #[test]
-fn items_are_skipped_up_to_the_end(rt: HostRuntime) {
+fn items_are_skipped_up_to_the_end_and_a_clone_goes_on_alone(rt: HostRuntime) {
     let mut items = ArrayValuesIter::new(&TENS);
     let came = [items.nth(2), items.next()];
     assert_text::value(came, [Some(&30), None]).expect(&rt, "two of three");
@@ -77,10 +71,6 @@ fn items_are_skipped_up_to_the_end(rt: HostRuntime) {
     let mut items = ArrayValuesIter::new(&TENS);
     let came = (items.next(), items.nth(usize::MAX), items.len());
     assert_text::value(came, (Some(&10), None, 0)).expect(&rt, "more than all");
-}
-
-#[test]
-fn a_clone_goes_on_alone(rt: HostRuntime) {
     let mut items = ArrayValuesIter::new(&TENS);
     let first = items.next();
     let mut others = items.clone();

@@ -40,30 +40,6 @@ fn new_buffers_are_empty(rt: HostRuntime) {
     assert_text::value((len, is_empty), (0, true)).expect(&rt, "len and is_empty");
 }
 
-#[test]
-fn values_thaw_once_no_clone_shares_them(rt: HostRuntime) {
-    let first = three(&rt);
-    let second = first.clone().expect(&rt, "memory");
-    let first = first
-        .into_mut()
-        .left()
-        .expect(&rt, "shared values stay frozen");
-    drop(first);
-    let values = second.into_mut().right().expect(&rt, "values alone thaw");
-    drop(values);
-}
-
-/// A slice does not show the whole vector.
-#[test]
-fn slices_stay_frozen(rt: HostRuntime) {
-    let mut buffer = three(&rt);
-    assert!(rt; buffer.len() == 3);
-    buffer.slice(0, 2);
-    let buffer = buffer.into_mut().left().expect(&rt, "a slice stays frozen");
-    assert_text::value(buffer.as_slice(), [7, 8].as_slice()).expect(&rt, "the slice");
-    drop(buffer);
-}
-
 /// Writes at the first index, if there is one.
 fn write_first(values: &mut [i64]) {
     if let Some(first) = values.first_mut() {
@@ -71,18 +47,28 @@ fn write_first(values: &mut [i64]) {
     }
 }
 
+/// A slice does not show the whole vector.
 #[test]
-fn values_are_lent_once_no_clone_shares_them(rt: HostRuntime) {
+fn values_are_lent_and_thaw_once_they_are_neither_shared_nor_sliced(rt: HostRuntime) {
     let mut first = three(&rt);
     let second = first.clone().expect(&rt, "memory");
     let is_lent = first.get_mut_slice(write_first);
-    drop(second);
-    let is_lent_alone = first.get_mut_slice(write_first);
-    drop(first);
+    let first = first.into_mut().left();
+    drop(first.expect(&rt, "shared values stay frozen"));
+    let mut second = second;
+    let is_lent_alone = second.get_mut_slice(write_first);
+    let values = second.into_mut().right().expect(&rt, "values alone thaw");
+    drop(values);
     assert_text::value([is_lent, is_lent_alone], [false, true]).expect(
         &rt,
         "beside a clone, and alone",
     );
+    let mut buffer = three(&rt);
+    assert!(rt; buffer.len() == 3);
+    buffer.slice(0, 2);
+    let buffer = buffer.into_mut().left().expect(&rt, "slices stay frozen");
+    assert_text::value(buffer.as_slice(), &[7, 8]).expect(&rt, "the slice");
+    drop(buffer);
 }
 
 #[test]

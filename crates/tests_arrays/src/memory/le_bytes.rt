@@ -23,8 +23,10 @@ fn check<T: FromLeBytes + Debug + Drop>(
     drop(buffer);
 }
 
+/// The parts of a value come in the order in which they are declared, but the low half of a number of 256 bits comes
+/// first.
 #[test]
-fn unsigned_numbers_begin_with_their_lowest_byte(rt: HostRuntime) {
+fn values_begin_with_their_lowest_byte(rt: HostRuntime) {
     check::<u8>(&rt, "u8", &BYTES, &BYTES);
     let expected = [0x0201, 0x0403, 0x0605, 0x8007, 0x00ff, 0, 0xfffe, 0xffff];
     check::<u16>(&rt, "u16", &BYTES, &expected);
@@ -32,10 +34,6 @@ fn unsigned_numbers_begin_with_their_lowest_byte(rt: HostRuntime) {
     check::<u32>(&rt, "u32", &BYTES, &expected);
     let expected = [0x8007_0605_0403_0201, 0xffff_fffe_0000_00ff];
     check::<u64>(&rt, "u64", &BYTES, &expected);
-}
-
-#[test]
-fn signed_numbers_are_negative_by_their_highest_bit(rt: HostRuntime) {
     let expected = [1, 2, 3, 4, 5, 6, 7, -128, -1, 0, 0, 0, -2, -1, -1, -1];
     check::<i8>(&rt, "i8", &BYTES, &expected);
     let expected = [0x0201, 0x0403, 0x0605, -0x7ff9, 0xff, 0, -2, -1];
@@ -46,11 +44,6 @@ fn signed_numbers_are_negative_by_their_highest_bit(rt: HostRuntime) {
     check::<i64>(&rt, "i64", &BYTES, &expected);
     let expected = [-0x1_ffff_ff00_7ff8_f9fa_fbfc_fdff];
     check::<i128>(&rt, "i128", &BYTES, &expected);
-}
-
-/// Parts come in the order in which they are declared, but the low half of a number of 256 bits comes first.
-#[test]
-fn values_of_several_parts_lie_part_by_part(rt: HostRuntime) {
     let expected = [days_ms(0x0403_0201, -0x7ff8_f9fb), days_ms(0xff, -2)];
     check(&rt, "days and milliseconds", &BYTES, &expected);
     let expected = [months_days_ns(0x0403_0201, -0x7ff8_f9fb, -0x1_ffff_ff01)];

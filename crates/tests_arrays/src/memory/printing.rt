@@ -21,19 +21,6 @@ fn buffers_are_equal_if_they_have_the_same_values(rt: HostRuntime) {
     }
 }
 
-#[test]
-fn slices_are_printed_from_their_first_value(rt: HostRuntime) {
-    let mut buffer = buffer_of::<i64>(rt.alloc(), &[7, -8, 9]).expect(&rt, "memory");
-    let text = Text::of(format_args!("{buffer:?} {buffer}"));
-    assert_text::text(text, "[7, -8, 9] [7, -8, 9]").expect(&rt, "all");
-    assert!(rt; buffer.len() == 3);
-    buffer.slice(1, 1);
-    assert_text::text(Text::of(format_args!("{buffer:?}")), "[-8]").expect(&rt, "a slice");
-    assert!(rt; buffer.len() == 1);
-    assert_text::value(buffer[0], -8).expect(&rt, "by index");
-    drop(buffer);
-}
-
 /// A name, the numbers of two lists of offsets, and whether they are equal.
 const OFFSETS: &[(&str, &[usize], &[usize], bool)] = &[
     ("of no slot", &[0], &[0], true),
@@ -63,7 +50,18 @@ fn offsets_are_equal_if_they_have_the_same_numbers(rt: HostRuntime) {
 }
 
 #[test]
-fn offsets_are_printed_as_numbers(rt: HostRuntime) {
+fn slices_and_offsets_are_printed_from_their_first_number(rt: HostRuntime) {
+    let mut buffer = buffer_of::<i64>(rt.alloc(), &[7, -8, 9]).expect(&rt, "memory");
+    let text = Text::of(format_args!("{buffer:?} {buffer}"));
+    assert_text::text(text, "[7, -8, 9] [7, -8, 9]").expect(&rt, "all");
+    assert!(rt; buffer.len() == 3);
+    buffer.slice(1, 1);
+    let text = Text::of(format_args!("{buffer:?}"));
+    assert!(rt; buffer.len() == 1);
+    let value = buffer[0];
+    drop(buffer);
+    assert_text::text(text, "[-8]").expect(&rt, "a slice");
+    assert_text::value(value, -8).expect(&rt, "by index");
     let growing = offsets_of::<i32>(rt.alloc(), &[0, 3, 12]).expect(&rt, "offsets");
     let text = Text::of(format_args!("{growing:?} {growing}"));
     assert_text::text(text, "Offsets([0, 3, 12]) Offsets([0, 3, 12])").expect(&rt, "growing");

@@ -34,15 +34,6 @@ fn check_values(rt: &(impl Abort + AllocGlobal), case: &str, mask: Option<Bitmap
     assert_text::value(side(is_growing), expected).expect(rt, case);
 }
 
-#[test]
-fn values_thaw_unless_their_mask_is_shared(rt: HostRuntime) {
-    let mask = cut(&rt);
-    let other = mask.clone().expect(&rt, "memory");
-    check_values(&rt, "a shared mask", Some(mask), "frozen");
-    check_values(&rt, "a mask alone", Some(other), "growing");
-    check_values(&rt, "no mask", None, "growing");
-}
-
 /// Thaws bits with a mask, and compares which side comes with this one.
 fn check_bits(rt: &impl Abort, case: &str, bits: Bitmap, mask: Option<Bitmap>, expected: &str) {
     let thawed = into_mut_bits(bits, mask);
@@ -52,7 +43,12 @@ fn check_bits(rt: &impl Abort, case: &str, bits: Bitmap, mask: Option<Bitmap>, e
 }
 
 #[test]
-fn bits_thaw_unless_they_are_shared(rt: HostRuntime) {
+fn values_and_bits_thaw_unless_they_or_their_mask_are_shared(rt: HostRuntime) {
+    let mask = cut(&rt);
+    let other = mask.clone().expect(&rt, "memory");
+    check_values(&rt, "a shared mask", Some(mask), "frozen");
+    check_values(&rt, "a mask alone", Some(other), "growing");
+    check_values(&rt, "no mask", None, "growing");
     let first = bits(&rt);
     let other = first.clone().expect(&rt, "memory");
     check_bits(&rt, "shared bits", first, Some(bits(&rt)), "frozen");
@@ -102,6 +98,7 @@ fn check_slots(
     assert_text::text(came, expected).expect(rt, case);
 }
 
+/// Bytes that show only the beginning of their vector are not thawed.
 #[test]
 fn slots_thaw_to_the_bytes_before_their_last_offset(rt: HostRuntime) {
     let first = two_bytes(&rt);
@@ -110,11 +107,18 @@ fn slots_thaw_to_the_bytes_before_their_last_offset(rt: HostRuntime) {
     check_slots(&rt, "bytes alone", other, Some(cut(&rt)), "[97]");
     let bare = buffer_of(rt.alloc(), &[0x61]).expect(&rt, "memory");
     check_slots(&rt, "no mask", bare, None, "[97]");
-}
-
-/// Bytes that show only the beginning of their vector are not thawed.
-#[test]
-fn slots_over_the_beginning_of_a_vector_stay_frozen(rt: HostRuntime) {
-    check_slots(&rt, "a mask", cut_byte(&rt), Some(cut(&rt)), "frozen");
-    check_slots(&rt, "no mask", cut_byte(&rt), None, "frozen");
+    check_slots(
+        &rt,
+        "over the beginning, a mask",
+        cut_byte(&rt),
+        Some(cut(&rt)),
+        "frozen",
+    );
+    check_slots(
+        &rt,
+        "over the beginning, no mask",
+        cut_byte(&rt),
+        None,
+        "frozen",
+    );
 }

@@ -108,7 +108,7 @@ fn the_first_null_makes_a_mask(rt: HostRuntime) {
 }
 
 #[test]
-fn set_makes_a_mask_for_a_null(rt: HostRuntime) {
+fn set_makes_a_mask_for_a_null_which_freeze_drops_without_one(rt: HostRuntime) {
     let mut builder = growing::<i64>(&rt, &[1, 2, 3]);
     assert!(rt; builder.len() == 3);
     builder.set(1, None).expect(&rt, "memory");
@@ -116,10 +116,6 @@ fn set_makes_a_mask_for_a_null(rt: HostRuntime) {
     assert!(rt; builder.len() == 3);
     builder.set(1, Some(7)).expect(&rt, "memory");
     check_builder(&rt, "overwritten", Ok(builder), &[1, 7, 3], "111");
-}
-
-#[test]
-fn a_mask_without_a_null_is_dropped_by_freeze(rt: HostRuntime) {
     let mut builder = growing::<i64>(&rt, &[1]);
     builder.extend_constant(0, None).expect(&rt, "memory");
     check_builder(&rt, "no null appended", builder.clone(), &[1], "1");
@@ -128,8 +124,14 @@ fn a_mask_without_a_null_is_dropped_by_freeze(rt: HostRuntime) {
     builder.push(None).expect(&rt, "memory");
     assert!(rt; builder.len() == 1);
     builder.set(0, Some(7)).expect(&rt, "memory");
-    check_builder(&rt, "overwritten", builder.clone(), &[7], "1");
-    check(&rt, "overwritten", builder.freeze(), &[7], "none");
+    check_builder(&rt, "the null overwritten", builder.clone(), &[7], "1");
+    check(
+        &rt,
+        "a mask without a null is dropped",
+        builder.freeze(),
+        &[7],
+        "none",
+    );
 }
 
 /// Compares the copy of a builder of a value that replaced a null, and of another builder's value.

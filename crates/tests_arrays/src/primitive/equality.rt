@@ -26,7 +26,7 @@ const PAIRS: &[(&str, Stored, Stored, bool)] = &[
 ];
 
 #[test]
-fn arrays_are_equal_if_they_have_the_same_slots(rt: HostRuntime) {
+fn arrays_are_equal_if_they_have_the_same_type_and_slots(rt: HostRuntime) {
     for (index, (case, first, second, expected)) in PAIRS.iter().enumerate() {
         let (first, second) = (array_of(&rt, *first), array_of(&rt, *second));
         let are_equal = first == second;
@@ -34,17 +34,13 @@ fn arrays_are_equal_if_they_have_the_same_slots(rt: HostRuntime) {
         drop(first);
         assert_text::value(are_equal, *expected).expect(&rt, row(*case, index).as_str());
     }
-}
-
-#[test]
-fn arrays_of_another_data_type_differ(rt: HostRuntime) {
     let first = array_of(&rt, (&[1, 2], "none"));
     let date = array_of(&rt, (&[1, 2], "none")).to(DataType::Date64);
-    assert_text::value(first == date, false).expect(&rt, "a date");
-    drop(first);
-    let text = Text::of(format_args!("{date}"));
-    assert_text::text(text, "Date64[1, 2]").expect(&rt, "a date is written as its number");
+    let (are_equal, text) = (first == date, Text::of(format_args!("{date}")));
     drop(date);
+    drop(first);
+    assert_text::value(are_equal, false).expect(&rt, "arrays of another data type differ");
+    assert_text::text(text, "Date64[1, 2]").expect(&rt, "a date is written as its number");
 }
 
 /// A name, an array, and its text.
@@ -54,7 +50,7 @@ const TEXTS: &[(&str, Stored, &str)] = &[
 ];
 
 #[test]
-fn slots_are_written_behind_the_data_type(rt: HostRuntime) {
+fn slots_of_arrays_and_fields_of_builders_are_written(rt: HostRuntime) {
     for (index, (case, stored, expected)) in TEXTS.iter().enumerate() {
         let array = array_of(&rt, *stored);
         let texts = (
@@ -69,19 +65,21 @@ fn slots_are_written_behind_the_data_type(rt: HostRuntime) {
     builder.push(Some(days_ms(1, 2))).expect(&rt, "memory");
     let array = builder.freeze().expect(&rt, "memory");
     let text = Text::of(format_args!("{array:?}"));
-    assert_text::text(text, "Interval(DayTime)[days_ms(1, 2)]").expect(&rt, "an interval");
     drop(array);
-}
-
-#[test]
-fn fields_of_builders_are_written(rt: HostRuntime) {
+    assert_text::text(text, "Interval(DayTime)[days_ms(1, 2)]").expect(&rt, "an interval");
     let mut builder = MutablePrimitiveArray::<i16>::new(rt.alloc());
     builder.push(Some(-7)).expect(&rt, "memory");
     let expected = "MutablePrimitiveArray { data_type: Int16, values: [-7], validity: None }";
-    assert_text::text(Text::of(format_args!("{builder:?}")), expected).expect(&rt, "no mask");
+    assert_text::text(Text::of(format_args!("{builder:?}")), expected).expect(
+        &rt,
+        "fields without a mask",
+    );
     builder.push(None).expect(&rt, "memory");
     let expected =
         "MutablePrimitiveArray { data_type: Int16, values: [-7, 0], validity: Some([0b______01]) }";
-    assert_text::text(Text::of(format_args!("{builder}")), expected).expect(&rt, "a mask");
+    assert_text::text(Text::of(format_args!("{builder}")), expected).expect(
+        &rt,
+        "fields with a mask",
+    );
     drop(builder);
 }

@@ -47,7 +47,7 @@ fn named_arrays_and_builders_have_their_type(rt: HostRuntime) {
 }
 
 #[test]
-fn arrays_and_builders_keep_the_type_that_they_are_given(rt: HostRuntime) {
+fn arrays_and_builders_keep_their_type_and_values_stay_under_another(rt: HostRuntime) {
     let values = buffer(&rt, &[]);
     let array = PrimitiveArray::<i32>::new(DataType::Int32, values, None);
     let builder = MutablePrimitiveArray::from_data_type(rt.alloc(), DataType::Int32);
@@ -59,17 +59,8 @@ fn arrays_and_builders_keep_the_type_that_they_are_given(rt: HostRuntime) {
     let array = PrimitiveArray::<i64>::default(rt.alloc()).expect(&rt, "memory");
     let builder = MutablePrimitiveArray::with_capacity_from(rt.alloc(), 1, DataType::Date64);
     let (array, builder) = (array.to(DataType::Date64), builder.expect(&rt, "memory"));
-    check_types(
-        &rt,
-        "to, with_capacity_from",
-        array,
-        builder,
-        DataType::Date64,
-    );
-}
-
-#[test]
-fn values_stay_under_another_type(rt: HostRuntime) {
+    let case = "to, with_capacity_from";
+    check_types(&rt, case, array, builder, DataType::Date64);
     let array = growing::<i32>(&rt, &[1, 2]).freeze().expect(&rt, "memory");
     let dates = array.to(DataType::Date32);
     let numbers = dates.clone().expect(&rt, "memory").to(DataType::Int32);

@@ -68,16 +68,12 @@ const ZONES: &[(Option<&str>, &str)] = &[
 ];
 
 #[test]
-fn timestamps_print_their_zones(rt: HostRuntime) {
+fn timestamps_print_their_zones_and_extensions_what_they_extend(rt: HostRuntime) {
     for (zone, text) in ZONES {
         let time = timestamp(&rt, Microsecond, *zone);
         check(&rt, &time, *text, "Primitive(Int64)");
         drop(time);
     }
-}
-
-#[test]
-fn extensions_print_what_they_extend_and_have_its_layout(rt: HostRuntime) {
     let names = extension(&rt, "names", DataType::Utf8, None);
     check(&rt, &names, "Extension(\"names\", Utf8, None)", "Utf8");
     drop(names);
@@ -87,12 +83,8 @@ fn extensions_print_what_they_extend_and_have_its_layout(rt: HostRuntime) {
     check(&rt, &ages, text, "Primitive(Int32)");
     drop(ages);
     let foreign = extension(&rt, "名前", DataType::Utf8, Some("Übersicht 😀"));
-    check(
-        &rt,
-        &foreign,
-        "Extension(\"名前\", Utf8, Some(\"Übersicht 😀\"))",
-        "Utf8",
-    );
+    let text = "Extension(\"名前\", Utf8, Some(\"Übersicht 😀\"))";
+    check(&rt, &foreign, text, "Utf8");
     drop(foreign);
 }
 

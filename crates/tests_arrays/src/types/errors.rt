@@ -3,36 +3,24 @@ use arrow_types::error::Error;
 use std::alloc::AllocFailed;
 use tests_support::{Text, assert_text, row};
 
-/// Errors, and what they print.
+/// A name, an error, what it prints, and whether it equals that of a rule.
 #[rattlefmt::skip]
-const TEXTS: &[(Error, &str)] = &[
-    (Error::OutOfSpec("offsets must never fall"), "offsets must never fall"),
-    (Error::Overflow, "overflow"),
-    (Error::OutOfMemory, "out of memory"),
+const ERRORS: &[(&str, Error, &str, bool)] = &[
+    ("the same text", Error::OutOfSpec("a rule"), "a rule", true),
+    ("another text", Error::OutOfSpec("a role"), "a role", false),
+    ("offsets that fall", Error::OutOfSpec("offsets must never fall"), "offsets must never fall", false),
+    ("an overflow", Error::Overflow, "overflow", false),
+    ("refused memory", Error::OutOfMemory, "out of memory", false),
 ];
 
 #[test]
-fn errors_print_their_texts(rt: HostRuntime) {
-    for (index, (error, text)) in TEXTS.iter().enumerate() {
+fn errors_are_printed_and_compared_by_their_texts(rt: HostRuntime) {
+    for (index, (case, error, text, expected)) in ERRORS.iter().enumerate() {
         let printed = error.to_string(rt.alloc()).expect(&rt, "memory");
         let came = Text::of(printed.as_str());
         drop(printed);
-        assert_text::text(came, *text).expect(&rt, row(*text, index).as_str());
-    }
-}
-
-/// A name, an error, and whether it equals that of a rule.
-const COMPARED: &[(&str, Error, bool)] = &[
-    ("the same text", Error::OutOfSpec("a rule"), true),
-    ("another text", Error::OutOfSpec("a role"), false),
-    ("an overflow", Error::Overflow, false),
-    ("refused memory", Error::OutOfMemory, false),
-];
-
-#[test]
-fn errors_are_compared_by_their_texts(rt: HostRuntime) {
-    for (index, (case, other, expected)) in COMPARED.iter().enumerate() {
-        let are_equal = *other == Error::OutOfSpec("a rule");
+        let are_equal = *error == Error::OutOfSpec("a rule");
+        assert_text::text(came, *text).expect(&rt, row(*case, index).as_str());
         assert_text::value(are_equal, *expected).expect(&rt, row(*case, index).as_str());
     }
 }

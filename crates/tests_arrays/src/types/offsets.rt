@@ -49,17 +49,13 @@ fn offsets_know_their_greatest_and_whether_they_are_large(rt: HostRuntime) {
     check_greatest::<Tiny>(&rt, "Tiny", 100, false);
     check_greatest::<i32>(&rt, "i32", 2147483647, false);
     check_greatest::<i64>(&rt, "i64", 9223372036854775807, true);
-}
-
-#[test]
-fn negative_offsets_have_no_number(rt: HostRuntime) {
-    let came = [
+    let signed = (
         i32::MIN.try_to_usize(),
         (-1_i64).try_to_usize(),
         7_i32.try_to_usize(),
-    ];
-    assert_text::value(came, [None, None, Some(7)]).expect(&rt, "the least i32, -1, 7");
-    assert_text::value(7_i64.to_usize(), 7).expect(&rt, "7 of 64 bits");
+    );
+    let case = "negative offsets have no number: the least i32, -1, 7, 7 of 64 bits";
+    assert_text::value((signed, 7_i64.to_usize()), ((None, None, Some(7)), 7)).expect(&rt, case);
 }
 
 /// Returns the distance from the first number to the second, by the bound; `None` if it is below, or one does not fit.

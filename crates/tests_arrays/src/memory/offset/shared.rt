@@ -17,52 +17,35 @@ fn check_slice(
     assert!(rt; 1 <= len && offset <= slots && len - 1 <= slots - offset);
     offsets.slice(offset, len);
     let ends = (Some(offsets.first()), Some(offsets.last()));
-    let came = (offsets.buffer().as_slice(), ends, offsets.len_proxy());
+    let size = (offsets.len_proxy(), offsets.is_empty());
+    let came = (offsets.buffer().as_slice(), ends, size);
     let ends = (expected.first(), expected.last());
-    assert_text::value(came, (expected, ends, len - 1)).expect(rt, case);
+    assert_text::value(came, (expected, ends, (len - 1, len == 1))).expect(rt, case);
 }
 
 #[test]
 fn slices_count_offsets(rt: HostRuntime) {
-    let offsets = frozen_offsets::<i32>(rt.alloc(), [2, 3, 3, 5].as_slice());
+    let mut offsets = OffsetsBuffer::<i32>::new(rt.alloc()).expect(&rt, "memory");
+    check_slice(&rt, "new offsets are one zero", &mut offsets, 0, 1, &[0]);
+    drop(offsets);
+    let offsets = frozen_offsets::<i32>(rt.alloc(), &[2, 3, 3, 5]);
     let mut offsets = offsets.expect(&rt, "offsets");
     check_slice(&rt, "the last two slots", &mut offsets, 1, 3, &[3, 3, 5]);
-    assert_text::value(offsets.is_empty(), false).expect(&rt, "two slots");
     check_slice(&rt, "no slot of a slice", &mut offsets, 2, 1, &[5]);
-    assert_text::value(offsets.is_empty(), true).expect(&rt, "no slot");
-    drop(offsets);
-}
-
-#[test]
-fn offsets_thaw_once_no_clone_shares_them(rt: HostRuntime) {
-    let first = frozen_offsets::<i32>(rt.alloc(), [0, 2, 7].as_slice()).expect(&rt, "offsets");
-    let second = first.clone().expect(&rt, "memory");
-    let first = first
-        .into_mut()
-        .left()
-        .expect(&rt, "shared offsets stay frozen");
-    drop(first);
-    let offsets = second.into_mut().right().expect(&rt, "offsets alone thaw");
     drop(offsets);
 }
 
 /// A slice does not show the whole vector.
 #[test]
-fn slices_stay_frozen(rt: HostRuntime) {
-    let offsets = frozen_offsets::<i32>(rt.alloc(), [0, 2, 7].as_slice());
-    let mut offsets = offsets.expect(&rt, "offsets");
+fn offsets_thaw_once_they_are_neither_shared_nor_sliced(rt: HostRuntime) {
+    let first = frozen_offsets::<i32>(rt.alloc(), &[0, 2, 7]).expect(&rt, "offsets");
+    let second = first.clone().expect(&rt, "memory");
+    let first = first.into_mut().left();
+    drop(first.expect(&rt, "shared offsets stay frozen"));
+    let offsets = second.into_mut().right().expect(&rt, "offsets alone thaw");
+    let mut offsets = offsets.freeze().expect(&rt, "memory");
     check_slice(&rt, "the first slot", &mut offsets, 0, 2, &[0, 2]);
-    let offsets = offsets
-        .into_mut()
-        .left()
-        .expect(&rt, "a slice stays frozen");
-    drop(offsets);
-}
-
-#[test]
-fn new_offsets_are_one_zero(rt: HostRuntime) {
-    let mut offsets = OffsetsBuffer::<i32>::new(rt.alloc()).expect(&rt, "memory");
-    check_slice(&rt, "new", &mut offsets, 0, 1, &[0]);
+    let offsets = offsets.into_mut().left().expect(&rt, "slices stay frozen");
     drop(offsets);
 }
 
