@@ -49,40 +49,50 @@ const COMBINED: &[[&str; 5]] = &[
     ],
 ];
 
+/// Compares the answers of the operations on slices that begin at these indexes.
+fn check_from(
+    rt: &(impl Abort + AllocGlobal),
+    index: usize,
+    (offset, other): (usize, usize),
+    texts: &[&str; 5],
+) {
+    let first = sliced(rt, offset, texts[0]);
+    let second = sliced(rt, other, texts[1]);
+    assert!(rt; first.len() == second.len());
+    let both = and(rt.alloc(), &first, &second).expect(rt, "memory");
+    let either = or(rt.alloc(), &first, &second).expect(rt, "memory");
+    drop(second);
+    let none = not(rt.alloc(), &first).expect(rt, "memory");
+    drop(first);
+    let starts = Text::of(format_args!("from {offset} and {other}"));
+    check_answer(
+        rt,
+        row_of("and", starts.as_str(), index).as_str(),
+        both,
+        texts[2],
+    );
+    check_answer(
+        rt,
+        row_of("or", starts.as_str(), index).as_str(),
+        either,
+        texts[3],
+    );
+    check_answer(
+        rt,
+        row_of("not", starts.as_str(), index).as_str(),
+        none,
+        texts[4],
+    );
+}
+
 /// The indexes at which slices of the two lists begin.
 const STARTS: &[(usize, usize)] = &[(0, 0), (3, 0), (0, 5), (3, 5), (8, 13)];
 
 #[test]
 fn marks_are_combined_from_any_index(rt: HostRuntime) {
-    for (index, [marks, others, of_and, of_or, of_not]) in COMBINED.iter().enumerate() {
-        for (offset, other) in STARTS {
-            let first = sliced(&rt, *offset, *marks);
-            let second = sliced(&rt, *other, *others);
-            assert!(rt; first.len() == second.len());
-            let both = and(rt.alloc(), &first, &second).expect(&rt, "memory");
-            let either = or(rt.alloc(), &first, &second).expect(&rt, "memory");
-            drop(second);
-            let none = not(rt.alloc(), &first).expect(&rt, "memory");
-            drop(first);
-            let starts = Text::of(format_args!("from {offset} and {other}"));
-            check_answer(
-                &rt,
-                row_of("and", starts.as_str(), index).as_str(),
-                both,
-                *of_and,
-            );
-            check_answer(
-                &rt,
-                row_of("or", starts.as_str(), index).as_str(),
-                either,
-                *of_or,
-            );
-            check_answer(
-                &rt,
-                row_of("not", starts.as_str(), index).as_str(),
-                none,
-                *of_not,
-            );
+    for (index, texts) in COMBINED.iter().enumerate() {
+        for starts in STARTS {
+            check_from(&rt, index, *starts, texts);
         }
     }
 }

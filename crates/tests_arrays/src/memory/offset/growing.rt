@@ -2,7 +2,7 @@
 use arrow_memory::offset::Offsets;
 use arrow_types::offset::Offset;
 use std::process::Abort;
-use tests_support::{Tiny, assert_text};
+use tests_support::{Tiny, assert_text, offset_name, offsets_of};
 
 #[test]
 fn room_is_reserved_and_given_back(rt: HostRuntime) {
@@ -35,18 +35,28 @@ fn three<O: Offset>(rt: &(impl Abort + AllocGlobal)) -> Offsets<O> {
     offsets
 }
 
-/// Appends slots to offsets of a type, first their own, then the last two of others and their bytes.
-fn check_growth<O: Offset>(rt: &(impl Abort + AllocGlobal), name: &str) {
+/// Appends the slots of offsets of a type to themselves, and drops those after the second.
+fn check_growth<O: Offset>(rt: &(impl Abort + AllocGlobal)) {
     let mut offsets = three::<O>(rt);
     let copy = offsets.clone().expect(rt, "memory");
-    offsets
-        .try_extend_from_self(&copy)
-        .expect(rt, "room for 40");
+    let answer = offsets.try_extend_from_self(&copy);
     drop(copy);
-    assert_text::value((name, offsets.last().to_usize()), (name, 40)).expect(
-        rt,
-        "try_extend_from_self",
-    );
+    answer.expect(rt, "room for 40");
+    let end = (offset_name::<O>(), offsets.last().to_usize());
+    assert_text::value(end, (end.0, 40)).expect(rt, "try_extend_from_self");
+    assert!(rt; offsets.len_proxy() == 6);
+    offsets.truncate(2);
+    let ends = [offsets.first().to_usize(), offsets.last().to_usize()];
+    let came = (end.0, ends, offsets.len_proxy());
+    drop(offsets);
+    assert_text::value(came, (end.0, [0, 0], 2)).expect(rt, "truncate");
+}
+
+/// Appends the last two slots of frozen offsets and their bytes to offsets of a type.
+fn check_slots<O: Offset>(rt: &(impl Abort + AllocGlobal)) {
+    let name = offset_name::<O>();
+    let offsets = offsets_of::<O>(rt.alloc(), &[0, 0, 0, 20, 20, 20, 40]);
+    let mut offsets = offsets.expect(rt, "offsets");
     let other = three::<O>(rt).freeze().expect(rt, "memory");
     let copy = other.clone().expect(rt, "memory");
     drop(other);
@@ -56,19 +66,18 @@ fn check_growth<O: Offset>(rt: &(impl Abort + AllocGlobal), name: &str) {
     let answer = offsets.try_extend_slots(&mut values, &copy, b"a slot of 20 letters", 1, 2);
     drop(copy);
     answer.expect(rt, "room for 60");
-    let ends = [offsets.last().to_usize(), values.len()];
+    let ends = [offsets.last().to_usize(), offsets.len_proxy(), values.len()];
     drop(values);
-    assert_text::value((name, ends), (name, [60, 20])).expect(rt, "try_extend_slots");
-    assert!(rt; offsets.len_proxy() == 8);
-    offsets.truncate(2);
-    let ends = [offsets.first().to_usize(), offsets.last().to_usize()];
-    assert_text::value((name, ends, offsets.len_proxy()), (name, [0, 0], 2)).expect(rt, "truncate");
     drop(offsets);
+    assert_text::value((name, ends), (name, [60, 8, 20])).expect(rt, "try_extend_slots");
 }
 
 #[test]
 fn each_type_of_offset_grows(rt: HostRuntime) {
-    check_growth::<i32>(&rt, "i32");
-    check_growth::<i64>(&rt, "i64");
-    check_growth::<Tiny>(&rt, "Tiny");
+    check_growth::<i32>(&rt);
+    check_growth::<i64>(&rt);
+    check_growth::<Tiny>(&rt);
+    check_slots::<i32>(&rt);
+    check_slots::<i64>(&rt);
+    check_slots::<Tiny>(&rt);
 }
