@@ -12,12 +12,6 @@ fn source(rt: &(impl Abort + AllocGlobal)) -> Bitmap {
     marks.freeze().expect(rt, "memory")
 }
 
-fn push_all(rt: &impl Abort, marks: &mut MutableBitmap, all: BitmapIter<'_>) {
-    for mark in all {
-        marks.push(mark).expect(rt, "memory");
-    }
-}
-
 fn count_clear(marks: BitmapIter<'_>) -> usize {
     let mut clear = 0usize;
     for mark in marks {
@@ -26,31 +20,44 @@ fn count_clear(marks: BitmapIter<'_>) -> usize {
     clear
 }
 
-/// Appends marks from `start` on to the first `head` marks.
+/// Appends `len` marks from `start` on to others, and compares all marks with those that are expected.
 fn check_append(
-    rt: &(impl Abort + AllocGlobal),
+    rt: &impl Abort,
     source: &Bitmap,
-    head: usize,
-    start: usize,
-    len: usize,
+    first: &MutableBitmap,
+    (start, len): (usize, usize),
+    expected: &MutableBitmap,
 ) {
-    assert!(rt; head <= source.len() && start <= source.len() && len <= source.len() - start);
-    let mut expected = MutableBitmap::new(rt.alloc());
-    push_all(rt, &mut expected, source.iter_range(0, head));
-    let mut marks = expected.clone().expect(rt, "memory");
-    push_all(rt, &mut expected, source.iter_range(start, len));
-    let answer = marks.extend_from_range(source, start, len);
-    answer.expect(rt, "memory");
-    let is_same = marks.has_marks_of(&expected);
+    assert!(rt; start <= source.len() && len <= source.len() - start);
+    let mut marks = first.clone().expect(rt, "memory");
+    marks
+        .extend_from_range(source, start, len)
+        .expect(rt, "memory");
+    let is_same = marks.has_marks_of(expected);
     drop(marks);
-    drop(expected);
     // Texts are made of a failure alone, since there are many ranges.
     if !is_same {
-        assert_text::value((head, start, len, is_same), (head, start, len, true)).expect(
-            rt,
-            "marks after others, from a bit on, of a length",
-        );
+        let range = (first.len(), start, len);
+        let case = "marks after others, from a bit on, of a length";
+        assert_text::value((range, is_same), (range, true)).expect(rt, case);
     }
+}
+
+/// Appends ranges of marks from `start` on to the first `head` marks. Those that are expected grow mark by mark.
+fn check_appends(rt: &(impl Abort + AllocGlobal), source: &Bitmap, head: usize, start: usize) {
+    assert!(rt; head <= source.len() && start <= source.len() && 1060 <= source.len() - start);
+    let first = MutableBitmap::from_iter(rt.alloc(), source.iter_range(0, head));
+    let first = first.expect(rt, "memory");
+    let mut expected = first.clone().expect(rt, "memory");
+    for (len, mark) in source.iter_range(start, 1060).enumerate() {
+        // The longer ones have more than the 64 bytes that are copied at a time.
+        if len < 200 || 500 <= len && len < 550 || 1020 <= len {
+            check_append(rt, source, &first, (start, len), &expected);
+        }
+        expected.push(mark).expect(rt, "memory");
+    }
+    drop(expected);
+    drop(first);
 }
 
 #[test]
@@ -58,16 +65,7 @@ fn marks_are_appended_at_any_bit_from_any_bit(rt: HostRuntime) {
     let source = source(&rt);
     for head in 0..8 {
         for start in 0..8 {
-            for len in 0..200 {
-                check_append(&rt, &source, head, start, len);
-            }
-            // more than the 64 bytes that are copied at a time
-            for len in 500..550 {
-                check_append(&rt, &source, head, start, len);
-            }
-            for len in 1020..1060 {
-                check_append(&rt, &source, head, start, len);
-            }
+            check_appends(&rt, &source, head, start);
         }
     }
     drop(source);

@@ -1,6 +1,6 @@
 //! Constructors of arrays and builders.
 use super::*;
-use arrow_bytes::ByteItem;
+use arrow_bytes::{ByteItem, ItemError};
 use arrow_utf8::Utf8Array;
 
 fn check_default_type<K: ByteKind, O: Offset>(rt: &impl Abort, expected: &str) {
@@ -100,43 +100,50 @@ const THRICE: Parts = (
 );
 
 /// Makes arrays and builders of iterators over the slots and items of `SLOTS` and `ITEMS`, and extends the builders.
-macro_rules! check_of_iterators {
-    ($kind:ty, $rt:ident, $given:ident) => {{
-        let (alloc, slots, items) = ($rt.alloc(), $given.0, $given.1);
-        let array = ByteArray::<$kind, O>::from_iter(alloc, slots.iter().copied());
-        check_array($rt, "from_iter", array, SLOTS);
-        let array = ByteArray::<$kind, O>::from_iter_values(alloc, items.iter().copied());
-        check_array($rt, "from_iter_values", array, ITEMS);
-        let builder = MutableByteArray::<$kind, O>::from_iter(alloc, slots.iter().copied());
-        check_builder($rt, "from_iter", builder, SLOTS);
-        let builder = MutableByteArray::<$kind, O>::from_iter_values(alloc, items.iter().copied());
-        let mut builder = builder.expect($rt, "memory");
-        builder.extend(slots.iter().copied()).expect($rt, "extend");
-        builder.try_extend(slots.iter().copied()).expect($rt, "try_extend");
-        check_builder($rt, "from_iter_values, extend, try_extend", Ok(builder), (THRICE.0, THRICE.1, "111101101"));
-        let mut builder = MutableByteArray::<$kind, O>::default(alloc).expect($rt, "memory");
-        builder.extend_values(items.iter().copied()).expect($rt, "memory");
-        check_builder($rt, "default, extend_values", Ok(builder), ITEMS);
-        let values = MutableByteValuesArray::<$kind, O>::try_from_iter(alloc, items.iter().copied());
-        check_values($rt, "try_from_iter", values, ITEMS);
-        let values = MutableByteValuesArray::<$kind, O>::from_iter(alloc, items.iter().copied());
-        let mut values = values.expect($rt, "memory");
-        values.extend(items.iter().copied()).expect($rt, "extend");
-        values.try_extend(items.iter().copied()).expect($rt, "try_extend");
-        check_values($rt, "from_iter, extend, try_extend", Ok(values), THRICE);
-    }};
-}
-
-fn check_bytes<O: Offset>(rt: &(impl Abort + AllocGlobal), given: (&[Option<&[u8]>], &[&[u8]])) {
-    check_of_iterators!(Binary, rt, given);
-}
-
-fn check_texts<O: Offset>(rt: &(impl Abort + AllocGlobal), given: (&[Option<&str>], &[&str])) {
-    check_of_iterators!(Utf8, rt, given);
+fn check_of_iterators<K: ByteKind, O: Offset, T: ByteItem<K> + ItemError<Error = Error>>(
+    rt: &(impl Abort + AllocGlobal),
+    (slots, items): (&[Option<T>], &[T]),
+) {
+    let alloc = rt.alloc();
+    let array = ByteArray::<K, O>::from_iter(alloc, slots.iter().copied());
+    check_array(rt, "from_iter", array, SLOTS);
+    let array = ByteArray::<K, O>::from_iter_values(alloc, items.iter().copied());
+    check_array(rt, "from_iter_values", array, ITEMS);
+    let builder = MutableByteArray::<K, O>::from_iter(alloc, slots.iter().copied());
+    check_builder(rt, "from_iter", builder, SLOTS);
+    let builder = MutableByteArray::<K, O>::from_iter_values(alloc, items.iter().copied());
+    let mut builder = builder.expect(rt, "memory");
+    builder.extend(slots.iter().copied()).expect(rt, "extend");
+    builder
+        .try_extend(slots.iter().copied())
+        .expect(rt, "try_extend");
+    let thrice: Parts = (THRICE.0, THRICE.1, "111101101");
+    check_builder(
+        rt,
+        "from_iter_values, extend, try_extend",
+        Ok(builder),
+        thrice,
+    );
+    let mut builder = MutableByteArray::<K, O>::default(alloc).expect(rt, "memory");
+    builder
+        .extend_values(items.iter().copied())
+        .expect(rt, "memory");
+    check_builder(rt, "default, extend_values", Ok(builder), ITEMS);
+    let values = MutableByteValuesArray::<K, O>::try_from_iter(alloc, items.iter().copied());
+    check_values(rt, "try_from_iter", values, ITEMS);
+    let values = MutableByteValuesArray::<K, O>::from_iter(alloc, items.iter().copied());
+    let mut values = values.expect(rt, "memory");
+    values.extend(items.iter().copied()).expect(rt, "extend");
+    values
+        .try_extend(items.iter().copied())
+        .expect(rt, "try_extend");
+    check_values(rt, "from_iter, extend, try_extend", Ok(values), THRICE);
 }
 
 #[test]
 fn arrays_and_builders_take_items_and_slots_that_are_borrowed(rt: HostRuntime) {
-    for_both_widths!(check_bytes, &rt, BYTES);
-    for_both_widths!(check_texts, &rt, TEXTS);
+    check_of_iterators::<Binary, i32, &[u8]>(&rt, BYTES);
+    check_of_iterators::<Binary, i64, &[u8]>(&rt, BYTES);
+    check_of_iterators::<Utf8, i32, &str>(&rt, TEXTS);
+    check_of_iterators::<Utf8, i64, &str>(&rt, TEXTS);
 }
