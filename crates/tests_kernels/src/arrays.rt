@@ -2,6 +2,7 @@
 //! and `none` without a mask. A failure names the test, the type, and the index and the case of the row.
 ghost use Rattle.std.specs.Iterator.{IsFinite};
 
+use arrow_binary::BinaryArray;
 use arrow_boolean::BooleanArray;
 use arrow_byte_array::ByteArray;
 use arrow_bytes::{ByteItem, ByteKind};
@@ -11,6 +12,7 @@ use arrow_types::data_type::DataType;
 use arrow_types::error::Error;
 use arrow_types::native_type::NativeType;
 use arrow_types::offset::Offset;
+use arrow_utf8::Utf8Array;
 use either::Either::{self, Left, Right};
 use std::fmt::Debug;
 use std::process::Abort;
@@ -155,6 +157,31 @@ pub(crate) fn check_booleans(
     check_value(rt, row, array.data_type(), &DataType::Boolean);
     assert_text::bools(array.iter(), slots).expect(rt, row);
     check_mask(rt, row, array.validity(), mask);
+    drop(array);
+}
+
+/// Compares the slots of an array of text with a text. It stands here and not in the tests, since the borrow checker wants
+/// one such iterator in a function.
+pub(crate) fn check_texts(
+    rt: &impl Abort,
+    row: &str,
+    answer: Result<Utf8Array<i32>, Error>,
+    slots: &str,
+) {
+    let array = answer.expect(rt, row);
+    check_slots(rt, row, array.iter(), slots);
+    drop(array);
+}
+
+/// Compares the slots of an array of bytes with a text.
+pub(crate) fn check_bytes(
+    rt: &impl Abort,
+    row: &str,
+    answer: Result<BinaryArray<i64>, Error>,
+    slots: &str,
+) {
+    let array = answer.expect(rt, row);
+    check_slots(rt, row, array.iter(), slots);
     drop(array);
 }
 

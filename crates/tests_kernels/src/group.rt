@@ -213,6 +213,8 @@ fn check_hashes(rt: &impl Abort, row: &str, made: PrimitiveArray<u64>, first: &[
     drop(made);
 }
 
+const PEAR: &[Option<&[u8]>] = &[Some(b"pear"), None];
+
 #[test]
 fn equal_slots_have_equal_hashes(rt: HostRuntime) {
     let alloc = rt.alloc();
@@ -228,7 +230,7 @@ fn equal_slots_have_equal_hashes(rt: HostRuntime) {
     let array: Utf8Array<i32> = items(&rt, &[Some("pear"), None, Some(""), Some("pear"), None]);
     let texts = hash_utf8(alloc, &array).expect(&rt, "memory");
     drop(array);
-    let array: BinaryArray<i64> = items(&rt, &[Some(b"pear".as_slice()), None]);
+    let array: BinaryArray<i64> = items(&rt, PEAR);
     let bytes = hash_binary(alloc, &array).expect(&rt, "memory");
     drop(array);
     let (of_texts, of_bytes) = (texts.values().as_slice(), bytes.values().as_slice());
@@ -251,16 +253,22 @@ fn equal_slots_have_equal_hashes(rt: HostRuntime) {
 #[test]
 fn groups_of_rows_of_three_columns(rt: HostRuntime) {
     let alloc = rt.alloc();
-    let slots = [Some("a"), Some("a"), None, Some("a"), None, Some("a")];
-    let array: Utf8Array<i32> = items(&rt, &slots);
+    let array: Utf8Array<i32> = items(
+        &rt,
+        &[Some("a"), Some("a"), None, Some("a"), None, Some("a")],
+    );
     let names = group_utf8(alloc, &array).expect(&rt, "memory");
     drop(array);
-    let slots = [Some(1i64), Some(2), Some(1), Some(1), Some(1), Some(1)];
-    let array = numbers(&rt, &slots);
+    let array = numbers(
+        &rt,
+        &[Some(1i64), Some(2), Some(1), Some(1), Some(1), Some(1)],
+    );
     let ages = group_primitive(alloc, &array).expect(&rt, "memory");
     drop(array);
-    let slots = [Some(true), None, None, Some(true), Some(false), None];
-    let array = booleans(&rt, &slots);
+    let array = booleans(
+        &rt,
+        &[Some(true), None, None, Some(true), Some(false), None],
+    );
     let marks = group_boolean(alloc, &array).expect(&rt, "memory");
     drop(array);
     check_value(

@@ -77,7 +77,9 @@ const TEXTS: &[Case] = &[
     ("descending", DESCENDING, None, "[0 4 1 5 3 2]", "[\"b\" \"b\" \"ab\" \"a\" \"\" _]", "111110"),
 ];
 
-/// Cases of 400 times "b", "a", "c" and "ab".
+const FOUR_TEXTS: &[&str; 4] = &["b", "a", "c", "ab"];
+
+/// Cases of 400 times these.
 #[rattlefmt::skip]
 const MANY_TEXTS: &[Case] = &[
     ("ascending", ASCENDING, Some(3), "[1 5 9]", "[\"a\" \"a\" \"a\"]", "none"),
@@ -157,8 +159,8 @@ fn check_sorted_texts(
 #[test]
 fn numbers_texts_and_booleans_are_sorted(rt: HostRuntime) {
     let alloc = rt.alloc();
-    let slots = [None, Some(3), Some(1), Some(3), Some(2), None];
-    check_sorted_numbers(&rt, "numbers are sorted", &slots, NUMBERS);
+    let slots = &[None, Some(3), Some(1), Some(3), Some(2), None];
+    check_sorted_numbers(&rt, "numbers are sorted", slots, NUMBERS);
     let mut slots = Vec::new(alloc);
     for i in 0..1200 {
         let slot = if i % 400 == 7 { None } else { Some(i % 100) };
@@ -175,7 +177,7 @@ fn numbers_texts_and_booleans_are_sorted(rt: HostRuntime) {
     check_sorted_texts(&rt, "texts that begin alike are sorted", ALIKE, ALIKE_CASES);
     let mut slots = Vec::new(alloc);
     for i in 0..1600 {
-        let text = ["b", "a", "c", "ab"][i % 4];
+        let text = FOUR_TEXTS[i % 4];
         slots.push(Some(text)).expect(&rt, "memory");
     }
     check_sorted_texts(&rt, "first of many texts are sorted", &slots, MANY_TEXTS);
@@ -205,6 +207,13 @@ fn numbers_texts_and_booleans_are_sorted(rt: HostRuntime) {
 /// Limits below and above an eighth of 1,960 valid slots, and above all.
 const LIMITS: &[usize] = &[0, 1, 9, 64, 240, 300, 2500];
 
+const ORDERS: &[(&str, SortOptions)] = &[
+    ("ascending", ASCENDING),
+    ("ascending, nulls first", ASCENDING_NULLS_FIRST),
+    ("descending", DESCENDING),
+    ("descending, nulls first", DESCENDING_NULLS_FIRST),
+];
+
 #[test]
 fn limit_cuts_the_sorted_indexes(rt: HostRuntime) {
     let alloc = rt.alloc();
@@ -220,12 +229,8 @@ fn limit_cuts_the_sorted_indexes(rt: HostRuntime) {
     }
     let array = numbers(&rt, &slots);
     drop(slots);
-    for (case, options) in [
-        ("ascending", ASCENDING),
-        ("ascending, nulls first", ASCENDING_NULLS_FIRST),
-        ("descending", DESCENDING),
-        ("descending, nulls first", DESCENDING_NULLS_FIRST),
-    ] {
+    for (case, options) in ORDERS {
+        let (case, options) = (*case, *options);
         let all = sort_to_indices(alloc, &array, options, None).expect(&rt, case);
         for limit in LIMITS {
             let row = Text::of(format_args!("Int32, {case}, limit {limit}"));

@@ -1,6 +1,8 @@
 //! Aggregates of groups of booleans, bytes and texts.
 use super::groups::all_below;
-use crate::arrays::{check_mask, check_slots, items, row, stored_booleans};
+use crate::arrays::{
+    check_bytes, check_mask, check_slots, check_texts, items, row, stored_booleans,
+};
 use arrow_aggregate::aggregate::{
     group_count, group_max_binary, group_max_boolean, group_max_string, group_min_binary,
     group_min_boolean, group_min_string,
@@ -77,12 +79,10 @@ fn groups_of_booleans_and_texts(rt: HostRuntime) {
         let made = group_count(alloc, &array, *indices, *groups).expect(&rt, "memory");
         check_slots(&rt, row, made.iter(), *counts);
         drop(made);
-        let made = group_min_string(alloc, &array, *indices, *groups).expect(&rt, "memory");
-        check_slots(&rt, row, made.iter(), *least);
-        drop(made);
-        let made = group_max_string(alloc, &array, *indices, *groups).expect(&rt, "memory");
-        check_slots(&rt, row, made.iter(), *greatest);
-        drop(made);
+        let made = group_min_string(alloc, &array, *indices, *groups);
+        check_texts(&rt, row, made, *least);
+        let made = group_max_string(alloc, &array, *indices, *groups);
+        check_texts(&rt, row, made, *greatest);
         drop(array);
     }
 }
@@ -99,10 +99,8 @@ fn groups_of_a_slice_of_bytes(rt: HostRuntime) {
     drop(made);
     let made = group_min_binary(alloc, &array, GROUPS, 2).expect(&rt, "memory");
     check_mask(&rt, "a mask that no slot needs", made.validity(), "none");
-    check_slots(&rt, "least", made.iter(), "[[1] [127]]");
-    drop(made);
-    let made = group_max_binary(alloc, &array, GROUPS, 2).expect(&rt, "memory");
-    check_slots(&rt, "greatest", made.iter(), "[[255] [128]]");
-    drop(made);
+    check_bytes(&rt, "least", Ok(made), "[[1] [127]]");
+    let made = group_max_binary(alloc, &array, GROUPS, 2);
+    check_bytes(&rt, "greatest", made, "[[255] [128]]");
     drop(array);
 }

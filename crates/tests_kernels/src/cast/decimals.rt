@@ -33,7 +33,7 @@ const NUMBERS: &[Option<i32>] = &[Some(1), Some(-22), None, Some(333)];
 #[test]
 fn numbers_have_decimal_texts(rt: HostRuntime) {
     let row = "signed numbers have decimal texts";
-    let bytes = [
+    let bytes = &[
         Some(-128i8),
         Some(-1),
         Some(0),
@@ -42,10 +42,10 @@ fn numbers_have_decimal_texts(rt: HostRuntime) {
         Some(127),
     ];
     let texts = "[\"-128\" \"-1\" \"0\" \"9\" \"10\" \"127\"]";
-    check(&rt, row, &bytes, (0, 6), (texts, "none"));
-    let words = [Some(i64::MIN), None, Some(i64::MAX)];
+    check(&rt, row, bytes, (0, 6), (texts, "none"));
+    let words = &[Some(i64::MIN), None, Some(i64::MAX)];
     let texts = "[\"-9223372036854775808\" _ \"9223372036854775807\"]";
-    check(&rt, row, &words, (0, 3), (texts, "101"));
+    check(&rt, row, words, (0, 3), (texts, "101"));
     let texts = "[\"-170141183460469231731687303715884105728\"]";
     check(&rt, row, &[Some(i128::MIN)], (0, 1), (texts, "none"));
     let texts = "[\"170141183460469231731687303715884105727\"]";

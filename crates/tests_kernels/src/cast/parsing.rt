@@ -76,6 +76,9 @@ const PAST_128_BITS: &[Option<&str>] = &[
     Some("-340282366920938463463374607431768211457"),
 ];
 
+/// Bytes, of which the third are no text.
+const BYTES: &[Option<&[u8]>] = &[Some(b"41"), None, Some(b"\xff"), Some(b"+2")];
+
 #[test]
 fn texts_are_read_as_numbers(rt: HostRuntime) {
     let row = "signs and leading zeros are allowed";
@@ -126,13 +129,7 @@ fn sliced_texts_and_bytes_are_read_as_numbers(rt: HostRuntime) {
     check_value(&rt, row, made.data_type(), &DataType::Date32);
     drop(made);
     let row = "bytes are read as text";
-    let items_of_bytes = [
-        Some(b"41".as_slice()),
-        None,
-        Some(b"\xff".as_slice()),
-        Some(b"+2".as_slice()),
-    ];
-    let array: BinaryArray<i32> = items(&rt, &items_of_bytes);
+    let array: BinaryArray<i32> = items(&rt, BYTES);
     let made = binary_to_primitive::<i32, u32>(rt.alloc(), &array, DataType::UInt32);
     drop(array);
     let made = made.expect(&rt, "memory");

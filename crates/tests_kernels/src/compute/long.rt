@@ -8,7 +8,7 @@ use std::process::Abort;
 use tests_support::Text;
 
 /// Four letters that a text repeats.
-type Letters = [&'static str; 4];
+type Letters = &'static [&'static str; 4];
 
 /// Returns a text of `len` letters.
 fn cycle(letters: Letters, len: usize) -> Text {
@@ -54,6 +54,9 @@ fn check_cycle(
     );
 }
 
+/// What numbers go through again and again.
+const NUMBERS: &[Option<i16>; 4] = &[Some(5), None, Some(7), Some(-1)];
+
 /// Lengths of one word, of one and a piece, and of two and a piece.
 const LENGTHS: &[usize] = &[64, 67, 131];
 
@@ -62,64 +65,64 @@ fn booleans_and_numbers_are_read_64_at_a_time(rt: HostRuntime) {
     let alloc = rt.alloc();
     let mut slots = Vec::new(alloc);
     for i in 0..140 {
-        let slot = [Some(5_i16), None, Some(7), Some(-1)][i % 4];
+        let slot = NUMBERS[i % 4];
         slots.push(slot).expect(&rt, "memory");
     }
     for length in LENGTHS {
         let len = *length;
         // Slots t f f null, and null f t f.
-        let lhs = cut_bools(&rt, ["0", "0", "1", "1"], ["1", "1", "0", "1"], (3, len));
-        let rhs = cut_bools(&rt, ["0", "1", "0", "1"], ["1", "0", "1", "1"], (1, len));
+        let lhs = cut_bools(&rt, &["0", "0", "1", "1"], &["1", "1", "0", "1"], (3, len));
+        let rhs = cut_bools(&rt, &["0", "1", "0", "1"], &["1", "0", "1", "1"], (1, len));
         assert!(&rt; lhs.len() == rhs.len());
         let test = ("booleans are combined 64 at a time", len);
-        let both = ["0", "1", "1", "0"];
+        let both = &["0", "1", "1", "0"];
         check_cycle(
             &rt,
             test,
             "eq",
             eq(alloc, &lhs, &rhs),
-            (["_", "t", "f", "_"], both),
+            (&["_", "t", "f", "_"], both),
         );
         check_cycle(
             &rt,
             test,
             "lt",
             lt(alloc, &lhs, &rhs),
-            (["_", "f", "t", "_"], both),
+            (&["_", "f", "t", "_"], both),
         );
         check_cycle(
             &rt,
             test,
             "or",
             boolean::or(alloc, &lhs, &rhs),
-            (["_", "f", "t", "_"], both),
+            (&["_", "f", "t", "_"], both),
         );
-        let known = ["0", "1", "1", "1"];
+        let known = &["0", "1", "1", "1"];
         check_cycle(
             &rt,
             test,
             "known and",
             boolean_kleene::and(alloc, &lhs, &rhs),
-            (["_", "f", "f", "f"], known),
+            (&["_", "f", "f", "f"], known),
         );
-        let known = ["1", "1", "1", "0"];
+        let known = &["1", "1", "1", "0"];
         check_cycle(
             &rt,
             test,
             "known or",
             boolean_kleene::or(alloc, &lhs, &rhs),
-            (["t", "f", "t", "_"], known),
+            (&["t", "f", "t", "_"], known),
         );
         check_booleans(
             &rt,
             Text::of(format_args!("{}: {len} slots", test.0)).as_str(),
             "validity",
             eq_and_validity(alloc, &lhs, &rhs),
-            (cycle(["f", "t", "f", "f"], len).as_str(), "none"),
+            (cycle(&["f", "t", "f", "f"], len).as_str(), "none"),
         );
         drop(rhs);
         drop(lhs);
-        // Numbers of the cycle 5, null, 7, -1, from its second on.
+        // The numbers from the second on.
         let array = numbers(&rt, &slots);
         assert!(rt;
             1 <= array.len() && len <= array.len() - 1,
@@ -127,20 +130,20 @@ fn booleans_and_numbers_are_read_64_at_a_time(rt: HostRuntime) {
         );
         let array = array.sliced(1, len);
         let test = ("numbers are compared 64 at a time", len);
-        let marks = ["0", "1", "1", "1"];
+        let marks = &["0", "1", "1", "1"];
         check_cycle(
             &rt,
             test,
             "lt",
             lt_scalar(alloc, &array, 5_i16),
-            (["_", "f", "t", "f"], marks),
+            (&["_", "f", "t", "f"], marks),
         );
         check_cycle(
             &rt,
             test,
             "eq",
             eq_scalar(alloc, &array, 7_i16),
-            (["_", "t", "f", "f"], marks),
+            (&["_", "t", "f", "f"], marks),
         );
         drop(array);
     }

@@ -126,17 +126,19 @@ const TEXTS: &[&str] = &[
     "\u{e4}\u{20ac}",
 ];
 
+/// A test, and the first row that is null: none if it is 7.
+const NULLS: &[(&str, usize)] = &[
+    ("numbers of runs are kept", 3),
+    ("long filters keep slots at true", 7),
+];
+
 #[test]
 fn slots_of_runs_are_kept(rt: HostRuntime) {
     let alloc = rt.alloc();
-    // no row is null if the remainder has to be 7
     for_each_filter(&rt, |name, filter, marks| {
-        for (test, null) in [
-            ("numbers of runs are kept", 3),
-            ("long filters keep slots at true", 7),
-        ] {
+        for (test, null) in NULLS {
             let row = Text::of(format_args!("{test}: {name}"));
-            let (all, kept) = slots_of(&rt, marks, null, |row| row as i64);
+            let (all, kept) = slots_of(&rt, marks, *null, |row| row as i64);
             let array = numbers(&rt, &all).to(DataType::Date64);
             let expected = numbers(&rt, &kept).to(DataType::Date64);
             drop((all, kept));

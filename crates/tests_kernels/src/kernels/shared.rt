@@ -9,6 +9,8 @@ const FILTERS: &[(&str, Booleans, bool)] = &[
     ("all but the last slot", ("110", "none"), false),
 ];
 
+const BYTES: &[Option<&[u8]>] = &[Some(b"a"), None, Some(b"bc")];
+
 #[test]
 fn a_filter_that_keeps_every_slot_shares_the_parts_of_its_array(rt: HostRuntime) {
     let alloc = rt.alloc();
@@ -50,8 +52,7 @@ fn a_filter_that_keeps_every_slot_shares_the_parts_of_its_array(rt: HostRuntime)
         );
     }
     drop(array);
-    let slots = [Some(b"a".as_slice()), None, Some(b"bc".as_slice())];
-    let array: BinaryArray<i32> = items(&rt, &slots);
+    let array: BinaryArray<i32> = items(&rt, BYTES);
     for (index, (case, filter, is_shared)) in FILTERS.iter().enumerate() {
         let test = "a filter that keeps every item shares offsets bytes and mask";
         let row = row(test, "Binary", index, *case);

@@ -1,5 +1,7 @@
 //! Slots of one of two arrays by a predicate, and nulls where two arrays are equal.
-use crate::arrays::{booleans, check_booleans, check_numbers, check_slots, items, numbers};
+use crate::arrays::{
+    booleans, check_booleans, check_bytes, check_numbers, check_texts, items, numbers,
+};
 use arrow_binary::BinaryArray;
 use arrow_select::if_then_else::{
     if_then_else_binary, if_then_else_boolean, if_then_else_primitive, if_then_else_utf8,
@@ -11,8 +13,10 @@ use arrow_utf8::Utf8Array;
 #[test]
 fn numbers_and_booleans_are_chosen(rt: HostRuntime) {
     let alloc = rt.alloc();
-    let predicate = [Some(true), None, Some(false), Some(true), Some(false)];
-    let predicate = booleans(&rt, &predicate);
+    let predicate = booleans(
+        &rt,
+        &[Some(true), None, Some(false), Some(true), Some(false)],
+    );
     let lhs = numbers(&rt, &[Some(1), Some(2), Some(3), None, Some(5)]);
     let rhs = numbers(&rt, &[Some(4), Some(5), Some(6), Some(7), Some(5)]);
     assert!(rt;
@@ -69,6 +73,10 @@ fn numbers_and_booleans_are_chosen(rt: HostRuntime) {
     drop((rhs, lhs, predicate));
 }
 
+const BYTES: &[Option<&[u8]>] = &[Some(b"a"), Some(b"b")];
+
+const OTHER_BYTES: &[Option<&[u8]>] = &[None, Some(b"b")];
+
 #[test]
 fn texts_and_bytes_are_chosen(rt: HostRuntime) {
     let alloc = rt.alloc();
@@ -83,26 +91,22 @@ fn texts_and_bytes_are_chosen(rt: HostRuntime) {
         rhs.len() == predicate.len(),
         "another for each slot of the predicate"
     );
-    let made = if_then_else_utf8(alloc, &predicate, &lhs, &rhs).expect(&rt, "memory");
-    check_slots(
+    check_texts(
         &rt,
         "texts are chosen: if then else",
-        made.iter(),
+        if_then_else_utf8(alloc, &predicate, &lhs, &rhs),
         "[\"a\" _ \"\"]",
     );
-    drop(made);
-    let made = nullif_utf8(alloc, &lhs, &rhs).expect(&rt, "memory");
-    check_slots(
+    check_texts(
         &rt,
         "texts are chosen: null if equal",
-        made.iter(),
+        nullif_utf8(alloc, &lhs, &rhs),
         "[\"a\" _ \"c\"]",
     );
-    drop(made);
     drop((rhs, lhs, predicate));
     let predicate = booleans(&rt, &[Some(false), Some(true)]);
-    let lhs: BinaryArray<i64> = items(&rt, &[Some(b"a".as_slice()), Some(b"b".as_slice())]);
-    let rhs: BinaryArray<i64> = items(&rt, &[None, Some(b"b".as_slice())]);
+    let lhs: BinaryArray<i64> = items(&rt, BYTES);
+    let rhs: BinaryArray<i64> = items(&rt, OTHER_BYTES);
     assert!(rt;
         lhs.len() == predicate.len(),
         "a value for each slot of the predicate"
@@ -111,21 +115,17 @@ fn texts_and_bytes_are_chosen(rt: HostRuntime) {
         rhs.len() == predicate.len(),
         "another for each slot of the predicate"
     );
-    let made = if_then_else_binary(alloc, &predicate, &lhs, &rhs).expect(&rt, "memory");
-    check_slots(
+    check_bytes(
         &rt,
         "bytes are chosen: if then else",
-        made.iter(),
+        if_then_else_binary(alloc, &predicate, &lhs, &rhs),
         "[_ [98]]",
     );
-    drop(made);
-    let made = nullif_binary(alloc, &lhs, &rhs).expect(&rt, "memory");
-    check_slots(
+    check_bytes(
         &rt,
         "bytes are chosen: null if equal",
-        made.iter(),
+        nullif_binary(alloc, &lhs, &rhs),
         "[[97] _]",
     );
-    drop(made);
     drop((rhs, lhs, predicate));
 }

@@ -1,7 +1,7 @@
 //! Takes by keys with nulls.
 use crate::arrays::{
-    NEGATIVE, Slots, TOO_GREAT, booleans, check_booleans, check_numbers, check_slots, check_value,
-    items, numbers, row, stored_numbers,
+    NEGATIVE, Slots, TOO_GREAT, booleans, check_booleans, check_bytes, check_numbers, check_texts,
+    check_value, items, numbers, row, stored_numbers,
 };
 use arrow_binary::BinaryArray;
 use arrow_select::take::{take_binary, take_boolean, take_primitive, take_utf8};
@@ -28,6 +28,8 @@ const NUMBERS: &[Case] = &[
     ("a key past the end", (&[0, 3, -1], "111"), Err(TOO_GREAT)),
     ("a negative key", (&[7, -1, 3], "011"), Err(NEGATIVE)),
 ];
+
+const BYTES: &[Option<&[u8]>] = &[Some(b"ab"), None, Some(b"c")];
 
 const SIXTY: &str = "123456789 123456789 123456789 123456789 123456789 123456789 ";
 
@@ -60,26 +62,21 @@ fn slots_are_taken(rt: HostRuntime) {
         ("f_t_", "1010"),
     );
     let texts: Utf8Array<i32> = items(&rt, &[Some("ab"), None, Some("c")]);
-    let taken = take_utf8(alloc, &texts, &keys).expect(&rt, "memory");
-    drop(texts);
-    check_slots(
+    check_texts(
         &rt,
         "items are taken: text",
-        taken.iter(),
+        take_utf8(alloc, &texts, &keys),
         "[\"c\" _ \"ab\" _]",
     );
-    drop(taken);
-    let slots = [Some(b"ab".as_slice()), None, Some(b"c".as_slice())];
-    let bytes: BinaryArray<i64> = items(&rt, &slots);
-    let taken = take_binary(alloc, &bytes, &keys).expect(&rt, "memory");
-    drop((bytes, keys));
-    check_slots(
+    drop(texts);
+    let bytes: BinaryArray<i64> = items(&rt, BYTES);
+    check_bytes(
         &rt,
         "items are taken: bytes",
-        taken.iter(),
+        take_binary(alloc, &bytes, &keys),
         "[[99] _ [97, 98] _]",
     );
-    drop(taken);
+    drop((bytes, keys));
     let texts: Utf8Array<Tiny> = items(&rt, &[Some(SIXTY), Some("")]);
     let keys = stored_numbers::<i8>(&rt, DataType::Int8, &[0, 1, 0], "111");
     let taken = take_utf8(alloc, &texts, &keys).err();
