@@ -13,6 +13,8 @@ from .sources import functions_of, read
 
 # A message of the prover that names something which the edit took away.
 NAME_IS_GONE = re.compile(r"has no field|is not in scope|has no `|is no name|was not admitted")
+# What stands for the goal of an error in a proof file that names none.
+UNNAMED = "an answer"
 
 
 class Stopped(Exception):
@@ -80,7 +82,7 @@ class Answer:
         if error:
             is_gone = NAME_IS_GONE.search("\n".join([error[4], *(it for it in later if it.startswith("  "))]))
             path = error[1].replace("/+", "/").lstrip("+").replace("/", "::")
-            self.broken.setdefault(path, []).append((bool(is_gone), error[2], error[3] or "an answer"))
+            self.broken.setdefault(path, []).append((bool(is_gone), error[2], error[3] or UNNAMED))
 
     def open_goals(self, crate, name, spans):
         """The goals of a function that its own body leaves open, by its lines (None for all of the crate), and whether a name
@@ -161,7 +163,7 @@ def settle(edit, crate, answer, folder, is_alone):
         waits = waits or "which is not proved" in answer.verdicts[name] or "waits" in answer.verdicts[name]
         proved.append(answer.verdicts[name] == "proved")
     if goals:
-        edit.goals = sorted(set(goals))
+        edit.goals = sorted(set(goals) - {UNNAMED}) or [UNNAMED]
         edit.said = refused(edit.goals)
     elif names and all(proved) and all(any(it.has(name) for name in names) for it in edit.places):
         edit.said = "proved"
