@@ -17,7 +17,7 @@ use std::process::Abort;
 use tests_support::{Text, assert_text};
 
 /// Runs each command on a table, or on a new one of some entries, and compares its reply with a text. A failure names
-/// the command.
+/// the command, its number in the list, and the types of the table.
 macro_rules! steps {
     ($rt:expr, Table<$native:ty, $offset:ty>, $entries:expr; $($steps:tt)*) => {
         let made = arrow_table::Table::<$native, $offset>::new($rt.alloc(), $entries);
@@ -26,9 +26,11 @@ macro_rules! steps {
         drop(table);
     };
     ($rt:expr, $table:expr; $($command:ident($($argument:expr),*) => $reply:expr;)*) => {
+        let mut row = 0;
         $($crate::table::check_step(
             $rt,
             $table,
+            &mut row,
             stringify!($command($($argument),*)),
             arrow_table::Command::$command($($argument),*),
             $reply,
@@ -81,6 +83,15 @@ pub(crate) fn reply_text<T: Debug>(reply: &Reply<T>) -> Text {
     }
 }
 
+/// Returns the text of a case of a row, and of the types of its table's values and offsets.
+pub(crate) fn case_text<T: NativeType, O: Offset>(case: &str, row: usize) -> Text {
+    let offsets = if O::IS_LARGE { "large" } else { "small" };
+    Text::of(format_args!(
+        "{case}, row {row}, {:?} and {offsets} offsets",
+        T::PRIMITIVE
+    ))
+}
+
 /// Returns the texts of the replies of a run, behind the number of commands that it did.
 pub(crate) fn run_text<T: Debug>(done: usize, replies: &[Reply<T>]) -> Text {
     let mut written = Text::of(format_args!("{done}:"));
@@ -91,10 +102,11 @@ pub(crate) fn run_text<T: Debug>(done: usize, replies: &[Reply<T>]) -> Text {
     written
 }
 
-/// Compares the reply to a command with a text.
+/// Compares the reply to a command, which is the row after those before, with a text.
 pub(crate) fn check_step<T: NativeType + Debug, O: Offset>(
     rt: &(impl Abort + AllocGlobal),
     table: &mut Table<T, O>,
+    row: &mut usize,
     case: &str,
     command: Command<T, O>,
     expected: &str,
@@ -109,5 +121,6 @@ pub(crate) fn check_step<T: NativeType + Debug, O: Offset>(
         _ => run_text(done, &replies),
     };
     drop(replies);
-    assert_text::text(came, expected).expect(rt, case);
+    assert_text::text(came, expected).expect(rt, case_text::<T, O>(case, *row).as_str());
+    *row = row.wrapping_add(1);
 }

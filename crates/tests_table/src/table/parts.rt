@@ -1,7 +1,7 @@
 //! Raw parts that no line of the program writes: bits that do not fit in their bytes or are set behind the last one,
 //! and stored values of another kind. Other parts are in `examples/parts.txt`, and some of each kind also here, since a
 //! command copies what the program moves.
-use super::run_text;
+use super::{case_text, run_text};
 use arrow_table::Kind::*;
 use arrow_table::{Bits, Command, Kind, Parts, Raw, Table, run};
 use arrow_types::data_type::DataType;
@@ -178,7 +178,7 @@ fn check<T: NativeType + Debug, O: Offset + From<i32>>(
     rt: &(impl Abort + AllocGlobal),
     values: &[T],
 ) {
-    for (case, kind, named, mask, stored, expected) in CASES {
+    for (row, (case, kind, named, mask, stored, expected)) in CASES.iter().enumerate() {
         let mut table = Table::<T, O>::new(rt.alloc(), 1).expect(rt, "memory");
         let parts = parts(rt, *kind, *named, *mask, stored, values);
         let mut commands = Vec::new(rt.alloc());
@@ -195,7 +195,8 @@ fn check<T: NativeType + Debug, O: Offset + From<i32>>(
             false => (*expected, "not met"),
         };
         let expected = tests_support::Text::of(format_args!("2: {first}, {second}"));
-        assert_text::text(came, expected.as_str()).expect(rt, *case);
+        let case = case_text::<T, O>(*case, row);
+        assert_text::text(came, expected.as_str()).expect(rt, case.as_str());
     }
 }
 

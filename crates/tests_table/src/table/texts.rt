@@ -2,7 +2,7 @@
 //! bytes it is looked whether a character begins there.
 use super::parts::Stored::Pieces;
 use super::parts::{NOT_UTF8, Stored, Type, parts};
-use super::{check_step, steps};
+use super::{case_text, check_step, steps};
 use arrow_table::{Command, Item, Kind, Raw, Table};
 use arrow_types::offset::Offset;
 use std::process::Abort;
@@ -33,11 +33,13 @@ fn cost<O: Offset>(table: &Table<i64, O>) -> [u64; 3] {
 fn check_few<O: Offset + From<i32>>(rt: &(impl Abort + AllocGlobal)) {
     let mut table = Table::<i64, O>::new(rt.alloc(), COSTS.len()).expect(rt, "memory");
     assert_text::value(cost(&table), [0, 0, 0]).expect(rt, "a new table");
+    let mut row = 0;
     for (entry, (case, stored, expected, wanted)) in COSTS.iter().enumerate() {
         let parts = parts(rt, Kind::Utf8, Type::Text, None, stored, &[]);
         let command = Command::Parts(entry, parts);
-        check_step(rt, &mut table, *case, command, *expected);
-        assert_text::value(cost(&table), *wanted).expect(rt, *case);
+        check_step(rt, &mut table, &mut row, *case, command, *expected);
+        let case = case_text::<i64, O>(*case, entry);
+        assert_text::value(cost(&table), *wanted).expect(rt, case.as_str());
     }
     drop(table);
 }
@@ -60,7 +62,8 @@ fn check_hundred<O: Offset + From<i32>>(rt: &(impl Abort + AllocGlobal)) {
         let mut hundred = parts(rt, Kind::Utf8, Type::Text, None, &Pieces(&[0], b""), &[]);
         hundred.raw = Raw::Pieces(offsets, bytes);
         steps!(rt, &mut table; Parts(e, hundred) => "ok";);
-        assert_text::value(cost(&table), wanted).expect(rt, "a hundred texts");
+        let case = case_text::<i64, O>("a hundred texts", e);
+        assert_text::value(cost(&table), wanted).expect(rt, case.as_str());
     }
     let letter = Item::Text(String::from_str(rt.alloc(), "é").expect(rt, "memory"));
     let (text, cut) = (
@@ -78,7 +81,8 @@ fn check_hundred<O: Offset + From<i32>>(rt: &(impl Abort + AllocGlobal)) {
         Clone(1, 3) => "ok"; Drop(0) => "ok"; Thaw(3) => "left"; Drop(1) => "ok"; Thaw(3) => "right";
         Push(3, Some(letter)) => "ok"; Freeze(3) => "ok";
     );
-    assert_text::value(cost(&table), [2, 2, 198]).expect(rt, "no new text");
+    let case = case_text::<i64, O>("no new text", 2);
+    assert_text::value(cost(&table), [2, 2, 198]).expect(rt, case.as_str());
     drop(table);
 }
 

@@ -4,19 +4,22 @@ use super::parts::{Type, parts};
 use super::{list, reply_text, run_text};
 use arrow_table::{BothCommand, Command, Item, Kind, Reply, Tables, Width, run_both};
 use std::process::Abort;
-use tests_support::assert_text;
+use tests_support::{Text, assert_text};
 
-/// Compares a reply with a text.
-fn check_reply(rt: &impl Abort, case: &str, reply: Reply<i64>, expected: &str) {
+/// Compares a reply, which is that of the row after those before, with a text.
+fn check_reply(rt: &impl Abort, row: &mut usize, case: &str, reply: Reply<i64>, expected: &str) {
     let came = reply_text(&reply);
     drop(reply);
-    assert_text::text(came, expected).expect(rt, case);
+    let case = Text::of(format_args!("{case}, row {}", *row));
+    assert_text::text(came, expected).expect(rt, case.as_str());
+    *row = row.wrapping_add(1);
 }
 
-/// Compares the replies of calls, in order. A failure names the call.
+/// Compares the replies of calls, in order. A failure names the call and its number in the list.
 macro_rules! replies {
     ($rt:expr; $($reply:expr => $expected:expr;)*) => {
-        $(check_reply($rt, stringify!($reply), $reply, $expected);)*
+        let mut row = 0;
+        $(check_reply($rt, &mut row, stringify!($reply), $reply, $expected);)*
     };
 }
 
