@@ -39,11 +39,8 @@ fn count_text(array: &PrimitiveArray<u64>) -> Text {
 #[test]
 fn groups_of_numbers_answer_again(rt: HostRuntime) -> Result<(), Fail> {
     let alloc = rt.alloc();
-    let Ok(array) = PrimitiveArray::from_slice(alloc, [7, 8, 9].as_slice()) else {
-        return end(true);
-    };
-    assert!(&rt; GROUPS.len() == array.len());
-    assert!(&rt; all_below(GROUPS, 2));
+    let array = PrimitiveArray::from_slice(alloc, [7, 8, 9].as_slice()).expect(&rt, "refused");
+    assert!(&rt; GROUPS.len() == array.len() && all_below(GROUPS, 2));
     let is_refused = results! { &rt;
         count_text: group_count(alloc, &array, GROUPS, 2) => "[1, 2]";
         number_text: group_sum(alloc, &array, GROUPS, 2) => "8 16";
@@ -57,11 +54,10 @@ fn groups_of_numbers_answer_again(rt: HostRuntime) -> Result<(), Fail> {
 #[test]
 fn groups_of_booleans_answer_again(rt: HostRuntime) -> Result<(), Fail> {
     let alloc = rt.alloc();
-    let Ok(array) = BooleanArray::from_slice(alloc, [true, false, false].as_slice()) else {
-        return end(true);
-    };
-    assert!(&rt; GROUPS.len() == array.len());
-    assert!(&rt; all_below(GROUPS, 2));
+    let array = BooleanArray::from_slice(alloc, [true, false, false].as_slice()).expect(
+        &rt, "refused",
+    );
+    assert!(&rt; GROUPS.len() == array.len() && all_below(GROUPS, 2));
     let is_refused = results! { &rt;
         boolean_text: group_max_boolean(alloc, &array, GROUPS, 2) => "false true";
     };
@@ -77,11 +73,8 @@ const TEXTS: &[Option<&str>] = &[Some("ab"), None, Some("cde")];
 #[test]
 fn groups_of_bytes_answer_again(rt: HostRuntime) -> Result<(), Fail> {
     let alloc = rt.alloc();
-    let Ok(array) = BinaryArray::<i32>::from(alloc, BYTES) else {
-        return end(true);
-    };
-    assert!(&rt; GROUPS.len() == array.len());
-    assert!(&rt; all_below(GROUPS, 2));
+    let array = BinaryArray::<i32>::from(alloc, BYTES).expect(&rt, "refused");
+    assert!(&rt; GROUPS.len() == array.len() && all_below(GROUPS, 2));
     let is_refused = results! { &rt;
         array_text: group_max_binary(alloc, &array, GROUPS, 2) => "(<>) <cde>";
     };
@@ -92,11 +85,8 @@ fn groups_of_bytes_answer_again(rt: HostRuntime) -> Result<(), Fail> {
 #[test]
 fn groups_of_text_answer_again(rt: HostRuntime) -> Result<(), Fail> {
     let alloc = rt.alloc();
-    let Ok(array) = Utf8Array::<i32>::from(alloc, TEXTS) else {
-        return end(true);
-    };
-    assert!(&rt; GROUPS.len() == array.len());
-    assert!(&rt; all_below(GROUPS, 2));
+    let array = Utf8Array::<i32>::from(alloc, TEXTS).expect(&rt, "refused");
+    assert!(&rt; GROUPS.len() == array.len() && all_below(GROUPS, 2));
     let is_refused = results! { &rt;
         array_text: group_min_string(alloc, &array, GROUPS, 2) => "(<>) <ab>";
     };

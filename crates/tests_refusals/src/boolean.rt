@@ -27,12 +27,6 @@ fn builder_text(builder: &MutableBooleanArray) -> Text {
 /// A true slot and a null.
 const PAIR: [Option<bool>; 2] = [Some(true), None];
 
-/// Creates a builder and an array of a true slot and a null.
-fn both(alloc: Global) -> Result<(MutableBooleanArray, BooleanArray), Error> {
-    let builder = MutableBooleanArray::from(alloc, PAIR.as_slice())?;
-    Ok((builder, BooleanArray::from(alloc, PAIR.as_slice())?))
-}
-
 /// Appends the last slot of an array.
 fn extend_from_last(builder: &mut MutableBooleanArray, array: &BooleanArray) -> Result<(), Error> {
     if array.len() == 0 {
@@ -55,9 +49,8 @@ const SLOTS: [Option<bool>; 3] = [Some(true), None, Some(true)];
 #[test]
 fn builders_grow_or_are_left(rt: HostRuntime) -> Result<(), Fail> {
     let alloc = rt.alloc();
-    let Ok((other, array)) = both(alloc) else {
-        return end(true);
-    };
+    let other = MutableBooleanArray::from(alloc, PAIR.as_slice()).expect(&rt, "refused");
+    let array = BooleanArray::from(alloc, PAIR.as_slice()).expect(&rt, "refused");
     let is_refused =
         changes! { &rt, bits: MutableBooleanArray::from_slice(alloc, &[false]), builder_text, "false";
         bits.push(Some(true)) => "false true";
@@ -80,19 +73,15 @@ fn builders_grow_or_are_left(rt: HostRuntime) -> Result<(), Fail> {
 
 #[test]
 fn a_refused_apply_values_mut_does_not_run(rt: HostRuntime) -> Result<(), Fail> {
-    let Ok((builder, array)) = both(rt.alloc()) else {
-        return end(true);
-    };
-    drop(builder);
-    let Ok(mut clone) = array.clone() else {
-        return end(true);
-    };
+    let array = BooleanArray::from(rt.alloc(), PAIR.as_slice()).expect(&rt, "refused");
+    let mut clone = array.clone().expect(&rt, "refused");
     let ran = Cell::new(false);
     let answer = clone.apply_values_mut(|values| clear_first(values, &ran));
     let is_any_refused = is_refused(&rt, "apply_values_mut", answer);
     assert_text::value(ran.get(), !is_any_refused).expect(&rt, "whether the change ran");
     if is_any_refused {
-        assert_text::text(array_text(&clone), "true (false)").expect(&rt, "refused");
+        let left = array_text(&clone);
+        assert_text::text(left, "true (false)").expect(&rt, "apply_values_mut, refused");
         let answer = clone.apply_values_mut(|values| clear_first(values, &ran));
         answer.expect(&rt, "apply_values_mut again");
     }
@@ -121,9 +110,8 @@ fn frozen(alloc: Global) -> Result<BooleanArray, Error> {
 #[test]
 fn arrays_and_builders_are_created(rt: HostRuntime) -> Result<(), Fail> {
     let alloc = rt.alloc();
-    let Ok((builder, array)) = both(alloc) else {
-        return end(true);
-    };
+    let builder = MutableBooleanArray::from(alloc, PAIR.as_slice()).expect(&rt, "refused");
+    let array = BooleanArray::from(alloc, PAIR.as_slice()).expect(&rt, "refused");
     let is_refused = results! { &rt;
         array_text: BooleanArray::from_slice(alloc, [true, false].as_slice()) => "true false";
         array_text: BooleanArray::from(alloc, PAIR.as_slice()) => "true (false)";
@@ -153,12 +141,10 @@ fn more_slots_than_memory_holds_are_refused(rt: HostRuntime) {
 }
 
 #[test]
-fn pushes_into_room_need_no_memory(rt: HostRuntime) -> Result<(), Fail> {
-    end(
-        pushes! { &rt, bits: MutableBooleanArray::with_capacity(rt.alloc(), 100);
+fn pushes_into_room_need_no_memory(rt: HostRuntime) {
+    pushes! { &rt, bits: MutableBooleanArray::with_capacity(rt.alloc(), 100);
         bits.reserve(0) => 100 of bits.push(Some(true));
         bits.push(None) => 0 of bits.push(None);
         bits.reserve(200) => 200 of bits.push(None);
-    },
-    )
+    }
 }

@@ -45,24 +45,6 @@ fn values_of<X: ByteItem<K> + ItemError<Error = Error>, K: ByteKind, O: Offset>(
     MutableByteValuesArray::<K, O>::from_iter(alloc, items.iter().copied())
 }
 
-/// A builder, one without nulls, and an array.
-type Made<K, O> = (
-    MutableByteArray<K, O>,
-    MutableByteValuesArray<K, O>,
-    ByteArray<K, O>,
-);
-
-/// Creates a builder and an array of slots, and a builder of items without nulls.
-fn made<X: ByteItem<K> + ItemError<Error = Error>, K: ByteKind, O: Offset>(
-    alloc: Global,
-    items: &[X],
-    slots: &[Option<X>],
-) -> Result<Made<K, O>, Error> {
-    let builder = MutableByteArray::from(alloc, slots)?;
-    let values = values_of(alloc, items)?;
-    Ok((builder, values, ByteArray::from(alloc, slots)?))
-}
-
 /// Appends the last slot of an array.
 fn extend_from_last<K: ByteKind, O: Offset>(
     builder: &mut MutableByteArray<K, O>,
@@ -117,9 +99,8 @@ const TEXT: Items<&str> = (
 macro_rules! check_growth {
     ($rt:ident, $kind:ident, $offset:ident, $items:ident) => {{
         let (alloc, (one, long, items, slots, popped)) = ($rt.alloc(), $items);
-        let Ok((builder, values, array)) = made::<_, $kind, $offset>(alloc, items, slots) else {
-            return end(true);
-        };
+        let builder = MutableByteArray::<$kind, $offset>::from(alloc, slots).expect(&$rt, "refused");
+        let array = ByteArray::<$kind, $offset>::from(alloc, slots).expect(&$rt, "refused");
         let are_slots_refused = changes! { &$rt,
             slot: builder_of::<_, $kind, $offset>(alloc, one), builder_text, "<a>";
             slot.push(Some(long)) => "<a> <bcdefghijklmnopqrstuvwxyz0123456789é>";
@@ -137,6 +118,7 @@ macro_rules! check_growth {
         };
         drop(array);
         drop(builder);
+        let values = values_of::<_, $kind, $offset>(alloc, items).expect(&$rt, "refused");
         let are_items_refused = changes! { &$rt,
             item: values_of::<_, $kind, $offset>(alloc, one), values_text, "<a>";
             item.push(long) => "<a> <bcdefghijklmnopqrstuvwxyz0123456789é>";
@@ -231,9 +213,10 @@ fn check_clones<X: ByteItem<K> + ItemError<Error = Error>, K: ByteKind, O: Offse
     items: &[X],
     slots: &[Option<X>],
 ) -> bool {
-    let Ok((builder, values, array)) = made::<X, K, O>(rt.alloc(), items, slots) else {
-        return true;
-    };
+    let alloc = rt.alloc();
+    let array = ByteArray::<K, O>::from(alloc, slots).expect(rt, "refused");
+    let builder = MutableByteArray::<K, O>::from(alloc, slots).expect(rt, "refused");
+    let values = values_of::<X, K, O>(alloc, items).expect(rt, "refused");
     let is_refused = results! { rt;
         array_text: array.clone() => "<é> (<>) <there>";
         builder_text: builder.clone() => "<é> (<>) <there>";
@@ -270,28 +253,24 @@ fn arrays_and_builders_of_text_are_created(rt: HostRuntime) -> Result<(), Fail> 
 }
 
 #[test]
-fn pushes_of_bytes_into_room_need_no_memory(rt: HostRuntime) -> Result<(), Fail> {
+fn pushes_of_bytes_into_room_need_no_memory(rt: HostRuntime) {
     let item = Some(b"\xC3\xA9".as_slice());
-    end(
-        pushes! { &rt, slots: MutableByteArray::<Binary, i32>::new(rt.alloc());
+    pushes! { &rt, slots: MutableByteArray::<Binary, i32>::new(rt.alloc());
         slots.reserve(3, 6) => 3 of slots.push(item);
         slots.reserve(3, 6) => 3 of slots.push(item);
         slots.push_null() => 0 of slots.push_null();
         slots.reserve(100, 0) => 100 of slots.push_null();
-    },
-    )
+    }
 }
 
 #[test]
-fn pushes_of_text_into_room_need_no_memory(rt: HostRuntime) -> Result<(), Fail> {
-    end(
-        pushes! { &rt, slots: MutableByteArray::<Utf8, i64>::with_capacities(rt.alloc(), 3, 6);
+fn pushes_of_text_into_room_need_no_memory(rt: HostRuntime) {
+    pushes! { &rt, slots: MutableByteArray::<Utf8, i64>::with_capacities(rt.alloc(), 3, 6);
         slots.reserve(0, 0) => 3 of slots.push(Some("é"));
         slots.reserve(3, 6) => 3 of slots.push(Some("é"));
         slots.push_null() => 0 of slots.push_null();
         slots.reserve(100, 0) => 100 of slots.push_null();
-    },
-    )
+    }
 }
 
 /// Checks that more slots, or more bytes, than any memory holds are refused.
@@ -309,7 +288,11 @@ fn check_too_many<K: ByteKind, O: Offset>(rt: &(impl Abort + AllocGlobal)) {
 }
 
 #[test]
-fn more_slots_than_memory_holds_are_refused(rt: HostRuntime) {
+fn more_bytes_than_memory_holds_are_refused(rt: HostRuntime) {
     check_too_many::<Binary, i32>(&rt);
+}
+
+#[test]
+fn more_text_than_memory_holds_is_refused(rt: HostRuntime) {
     check_too_many::<Utf8, i64>(&rt);
 }

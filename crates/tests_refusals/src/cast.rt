@@ -12,9 +12,7 @@ use std::test::Fail;
 #[test]
 fn casts_of_integers_to_text_and_bytes_answer_again(rt: HostRuntime) -> Result<(), Fail> {
     let (alloc, slots) = (rt.alloc(), [Some(7), None, Some(-12)]);
-    let Ok(array) = PrimitiveArray::<i64>::from(alloc, slots.as_slice()) else {
-        return end(true);
-    };
+    let array = PrimitiveArray::<i64>::from(alloc, slots.as_slice()).expect(&rt, "refused");
     let is_refused = results! { &rt;
         array_text: primitive_to_utf8::<i64, i32>(alloc, &array) => "<7> (<>) <-12>";
         array_text: primitive_to_binary::<i64, i32>(alloc, &array) => "<7> (<>) <-12>";
@@ -26,9 +24,7 @@ fn casts_of_integers_to_text_and_bytes_answer_again(rt: HostRuntime) -> Result<(
 #[test]
 fn casts_of_text_to_integers_answer_again(rt: HostRuntime) -> Result<(), Fail> {
     let (alloc, slots) = (rt.alloc(), [Some("7"), None, Some("-12")]);
-    let Ok(array) = Utf8Array::<i32>::from(alloc, slots.as_slice()) else {
-        return end(true);
-    };
+    let array = Utf8Array::<i32>::from(alloc, slots.as_slice()).expect(&rt, "refused");
     let is_refused = results! { &rt;
         number_text: utf8_to_primitive::<i32, i64>(alloc, &array, DataType::Int64) => "7 (0) -12";
     };
@@ -42,9 +38,7 @@ fn casts_of_bytes_to_integers_answer_again(rt: HostRuntime) -> Result<(), Fail> 
         rt.alloc(),
         [Some(b"7".as_slice()), None, Some(b"x".as_slice())],
     );
-    let Ok(array) = BinaryArray::<i32>::from(alloc, slots.as_slice()) else {
-        return end(true);
-    };
+    let array = BinaryArray::<i32>::from(alloc, slots.as_slice()).expect(&rt, "refused");
     let is_refused = results! { &rt;
         number_text: binary_to_primitive::<i32, i64>(alloc, &array, DataType::Int64) => "7 (0) (0)";
     };

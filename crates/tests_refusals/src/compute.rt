@@ -10,19 +10,8 @@ use arrow_compute::comparison::{eq_scalar, lt};
 use arrow_primitive::PrimitiveArray;
 use arrow_sort::SortOptions;
 use arrow_sort::sort::{sort, sort_to_indices};
-use arrow_types::error::Error;
-use std::alloc::Global;
 use std::test::Fail;
 use tests_support::Text;
-
-/// Creates three numbers, and three others.
-fn numbers(alloc: Global) -> Result<(PrimitiveArray<i64>, PrimitiveArray<i64>), Error> {
-    let first = PrimitiveArray::from_slice(alloc, [7, 8, 9].as_slice())?;
-    Ok((
-        first,
-        PrimitiveArray::from_slice(alloc, [8, 8, 8].as_slice())?,
-    ))
-}
 
 /// Writes indexes.
 fn index_text(array: &PrimitiveArray<u64>) -> Text {
@@ -38,9 +27,8 @@ const DESCENDING: SortOptions = SortOptions {
 #[test]
 fn kernels_that_compute_with_numbers_answer_again(rt: HostRuntime) -> Result<(), Fail> {
     let alloc = rt.alloc();
-    let Ok((lhs, rhs)) = numbers(alloc) else {
-        return end(true);
-    };
+    let lhs = PrimitiveArray::<i64>::from_slice(alloc, &[7, 8, 9]).expect(&rt, "refused");
+    let rhs = PrimitiveArray::<i64>::from_slice(alloc, &[8, 8, 8]).expect(&rt, "refused");
     assert!(&rt; lhs.len() == rhs.len());
     let is_refused = results! { &rt;
         boolean_text: lt(alloc, &lhs, &rhs) => "true false false";
@@ -57,21 +45,11 @@ fn kernels_that_compute_with_numbers_answer_again(rt: HostRuntime) -> Result<(),
     end(is_refused)
 }
 
-/// Creates three booleans, and three others.
-fn booleans(alloc: Global) -> Result<(BooleanArray, BooleanArray), Error> {
-    let first = BooleanArray::from_slice(alloc, [true, true, false].as_slice())?;
-    Ok((
-        first,
-        BooleanArray::from_slice(alloc, [true, false, false].as_slice())?,
-    ))
-}
-
 #[test]
 fn kernels_that_compute_with_booleans_answer_again(rt: HostRuntime) -> Result<(), Fail> {
     let alloc = rt.alloc();
-    let Ok((lhs, rhs)) = booleans(alloc) else {
-        return end(true);
-    };
+    let lhs = BooleanArray::from_slice(alloc, &[true, true, false]).expect(&rt, "refused");
+    let rhs = BooleanArray::from_slice(alloc, &[true, false, false]).expect(&rt, "refused");
     assert!(&rt; lhs.len() == rhs.len());
     let is_refused = results! { &rt;
         boolean_text: boolean::and(alloc, &lhs, &rhs) => "true false false";

@@ -26,18 +26,14 @@ const BYTES: &[Option<&[u8]>] = &[Some(b"ab"), None, Some(b"cde")];
 
 const TEXTS: &[Option<&str>] = &[Some("ab"), None, Some("cde")];
 
-/// Creates a filter that asks for the last two of three slots.
-fn filter(alloc: Global) -> Result<BooleanArray, Error> {
-    BooleanArray::from_slice(alloc, [false, true, true].as_slice())
-}
+/// The last two of three slots.
+const FILTER: &[bool] = &[false, true, true];
 
 #[test]
 fn kernels_of_numbers_answer_again(rt: HostRuntime) -> Result<(), Fail> {
     let (alloc, slots) = (rt.alloc(), [Some(7), None, Some(9)]);
-    let (Ok(array), Ok(filter)) = (PrimitiveArray::from(alloc, slots.as_slice()), filter(alloc))
-    else {
-        return end(true);
-    };
+    let array = PrimitiveArray::from(alloc, slots.as_slice()).expect(&rt, "refused");
+    let filter = BooleanArray::from_slice(alloc, FILTER).expect(&rt, "refused");
     assert!(&rt; array.len() == filter.len());
     let is_refused = results! { &rt;
         number_text: filter_primitive(alloc, &array, &filter) => "(0) 9";
@@ -52,10 +48,8 @@ fn kernels_of_numbers_answer_again(rt: HostRuntime) -> Result<(), Fail> {
 #[test]
 fn kernels_of_booleans_answer_again(rt: HostRuntime) -> Result<(), Fail> {
     let (alloc, slots) = (rt.alloc(), [Some(true), None, Some(true)]);
-    let (Ok(array), Ok(filter)) = (BooleanArray::from(alloc, slots.as_slice()), filter(alloc))
-    else {
-        return end(true);
-    };
+    let array = BooleanArray::from(alloc, slots.as_slice()).expect(&rt, "refused");
+    let filter = BooleanArray::from_slice(alloc, FILTER).expect(&rt, "refused");
     assert!(&rt; array.len() == filter.len());
     let is_refused = results! { &rt;
         boolean_text: filter_boolean(alloc, &array, &filter) => "(false) true";
@@ -78,9 +72,8 @@ fn resize_binary(alloc: Global, array: &BinaryArray<i32>) -> Result<BinaryArray<
 #[test]
 fn kernels_of_bytes_answer_again(rt: HostRuntime) -> Result<(), Fail> {
     let alloc = rt.alloc();
-    let (Ok(array), Ok(filter)) = (BinaryArray::<i32>::from(alloc, BYTES), filter(alloc)) else {
-        return end(true);
-    };
+    let array = BinaryArray::<i32>::from(alloc, BYTES).expect(&rt, "refused");
+    let filter = BooleanArray::from_slice(alloc, FILTER).expect(&rt, "refused");
     assert!(&rt; array.len() == filter.len());
     let is_refused = results! { &rt;
         array_text: filter_binary(alloc, &array, &filter) => "(<>) <cde>";
@@ -104,9 +97,8 @@ fn resize_utf8(alloc: Global, array: &Utf8Array<i32>) -> Result<Utf8Array<i32>, 
 #[test]
 fn kernels_of_text_answer_again(rt: HostRuntime) -> Result<(), Fail> {
     let alloc = rt.alloc();
-    let (Ok(array), Ok(filter)) = (Utf8Array::<i32>::from(alloc, TEXTS), filter(alloc)) else {
-        return end(true);
-    };
+    let array = Utf8Array::<i32>::from(alloc, TEXTS).expect(&rt, "refused");
+    let filter = BooleanArray::from_slice(alloc, FILTER).expect(&rt, "refused");
     assert!(&rt; array.len() == filter.len());
     let is_refused = results! { &rt;
         array_text: filter_utf8(alloc, &array, &filter) => "(<>) <cde>";

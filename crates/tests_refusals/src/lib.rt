@@ -1,6 +1,7 @@
 //! What calls answer and leave if memory is refused. A test that met a refusal, and the right answer to it, fails with
-//! the word `refused`, and only so: the script `refusals` refuses each allocation in turn, until no test fails. All
-//! crates are tested in one, so that one build serves for all allocations.
+//! the word `refused`, and only so; one that is refused a value that it begins with aborts with that word. The script
+//! `refusals` refuses each allocation in turn, until no test fails. All crates are tested in one, so that one build
+//! serves for all allocations.
 #![tactic(auto)]
 
 #[cfg(test)]

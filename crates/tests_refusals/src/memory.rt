@@ -91,18 +91,11 @@ fn extend_from_fifth(marks: &mut MutableBitmap, other: &Bitmap) -> Result<(), Er
     marks.extend_from_range(other, 5, 10)
 }
 
-/// Creates a hundred clear marks, growing and frozen.
-fn hundred(alloc: Global) -> Result<(MutableBitmap, Bitmap), Error> {
-    let growing = MutableBitmap::from_slice(alloc, [false; 100].as_slice())?;
-    Ok((growing, Bitmap::new_zeroed(alloc, 100)?))
-}
-
 #[test]
 fn marks_grow_or_are_left(rt: HostRuntime) -> Result<(), Fail> {
     let alloc = rt.alloc();
-    let Ok((growing, frozen)) = hundred(alloc) else {
-        return end(true);
-    };
+    let growing = MutableBitmap::from_slice(alloc, [false; 100].as_slice()).expect(&rt, "refused");
+    let frozen = Bitmap::new_zeroed(alloc, 100).expect(&rt, "refused");
     let is_refused =
         changes! { &rt, marks: MutableBitmap::from_slice(alloc, &[true]), growing_text, "1, 0 clear";
         marks.extend_from_bitmap(&growing) => HUNDRED_AND_ONE;
@@ -135,16 +128,14 @@ fn a_refused_extension_by_an_iterator_leaves_a_beginning(rt: HostRuntime) -> Res
 }
 
 #[test]
-fn more_marks_than_memory_holds_are_refused(rt: HostRuntime) -> Result<(), Fail> {
-    let Ok(mut marks) = MutableBitmap::from_slice(rt.alloc(), [true].as_slice()) else {
-        return end(true);
-    };
+fn more_marks_than_memory_holds_are_refused(rt: HostRuntime) {
+    let mut marks = MutableBitmap::from_slice(rt.alloc(), &[true]).expect(&rt, "refused");
     for count in [usize::MAX, usize::MAX - 8] {
-        check_refusal(&rt, "clear marks", marks.extend_constant(count, false));
+        let case = Text::of(format_args!("{count} clear marks"));
+        check_refusal(&rt, case.as_str(), marks.extend_constant(count, false));
     }
-    assert_text::text(growing_text(&marks), "1, 0 clear").expect(&rt, "refused");
+    assert_text::text(growing_text(&marks), "1, 0 clear").expect(&rt, "clear marks, refused");
     drop(marks);
-    Ok(())
 }
 
 /// Clears the first mark, and notes that it ran.
@@ -161,24 +152,16 @@ pub(crate) fn clear_first(mut marks: MutableBitmap, ran: &Cell<bool>) -> Mutable
 /// Three marks, the first of which is set.
 const THREE: &[bool] = &[true, false, false];
 
-/// Creates a set mark and its clone.
-fn clones(alloc: Global) -> Result<(Bitmap, Bitmap), Error> {
-    let first = Bitmap::from_slice(alloc, [true].as_slice())?;
-    let second = first.clone()?;
-    Ok((first, second))
-}
-
 #[test]
 fn a_refused_apply_mut_does_not_run(rt: HostRuntime) -> Result<(), Fail> {
-    let Ok((first, mut second)) = clones(rt.alloc()) else {
-        return end(true);
-    };
+    let first = Bitmap::from_slice(rt.alloc(), [true].as_slice()).expect(&rt, "refused");
+    let mut second = first.clone().expect(&rt, "refused");
     let ran = Cell::new(false);
     let answer = second.apply_mut(|marks| clear_first(marks, &ran));
     let is_any_refused = is_refused(&rt, "apply_mut", answer);
     assert_text::value(ran.get(), !is_any_refused).expect(&rt, "whether the change ran");
     if is_any_refused {
-        assert_text::marks(second.iter(), "1").expect(&rt, "refused");
+        assert_text::marks(second.iter(), "1").expect(&rt, "apply_mut, refused");
         let answer = second.apply_mut(|marks| clear_first(marks, &ran));
         answer.expect(&rt, "apply_mut again");
     }
@@ -223,19 +206,12 @@ fn bitmaps_are_created(rt: HostRuntime) -> Result<(), Fail> {
     })
 }
 
-/// Creates three growing marks, as many frozen ones, and others.
-fn threes(alloc: Global) -> Result<(MutableBitmap, Bitmap, Bitmap), Error> {
-    let growing = MutableBitmap::from_slice(alloc, THREE)?;
-    let other = Bitmap::from_slice(alloc, [true, false, true].as_slice())?;
-    Ok((growing, Bitmap::from_slice(alloc, THREE)?, other))
-}
-
 #[test]
 fn bitmaps_are_created_from_others(rt: HostRuntime) -> Result<(), Fail> {
     let alloc = rt.alloc();
-    let Ok((growing, first, second)) = threes(alloc) else {
-        return end(true);
-    };
+    let growing = MutableBitmap::from_slice(alloc, THREE).expect(&rt, "refused");
+    let first = Bitmap::from_slice(alloc, THREE).expect(&rt, "refused");
+    let second = Bitmap::from_slice(alloc, [true, false, true].as_slice()).expect(&rt, "refused");
     assert!(&rt; first.len() == second.len());
     let is_refused = results! { &rt;
         growing_text: growing.clone() => "100, 2 clear";
@@ -261,9 +237,7 @@ fn pair(alloc: Global) -> Result<Buffer<i64>, Error> {
 #[test]
 fn buffers_are_created(rt: HostRuntime) -> Result<(), Fail> {
     let alloc = rt.alloc();
-    let Ok(buffer) = pair(alloc) else {
-        return end(true);
-    };
+    let buffer = pair(alloc).expect(&rt, "refused");
     let is_refused = results! { &rt;
         buffer_text: Buffer::new(alloc) => "[]";
         buffer_text: pair(alloc) => "[7, 8]";

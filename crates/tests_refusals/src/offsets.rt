@@ -36,9 +36,7 @@ fn items_text(items: &(Offsets<i32>, Vec<u8>)) -> Text {
 #[test]
 fn offsets_grow_or_are_left(rt: HostRuntime) -> Result<(), Fail> {
     let alloc = rt.alloc();
-    let Ok(other) = offsets_of(alloc, &[3, 4, 7]) else {
-        return end(true);
-    };
+    let other = offsets_of(alloc, &[3, 4, 7]).expect(&rt, "refused");
     let is_refused = changes! { &rt, offsets: offsets_of(alloc, &[0, 2]), offsets_text, "[0, 2]";
         offsets.try_push_usize(1) => "[0, 2, 3]";
         offsets.push_empty() => "[0, 2, 2]";
@@ -67,9 +65,7 @@ fn extend_items(items: &mut (Offsets<i32>, Vec<u8>), other: &Offsets<i32>) -> Re
 #[test]
 fn offsets_and_bytes_grow_together_or_are_left(rt: HostRuntime) -> Result<(), Fail> {
     let alloc = rt.alloc();
-    let Ok(other) = offsets_of(alloc, &[3, 4, 7]) else {
-        return end(true);
-    };
+    let other = offsets_of(alloc, &[3, 4, 7]).expect(&rt, "refused");
     let is_refused = changes! { &rt, items: item(alloc), items_text, "<ab>";
         items.0.try_push_item(&mut items.1, b"c") => "<ab> <c>";
         extend_items(items, &other) => "<ab> <d> <efg>";
@@ -79,19 +75,16 @@ fn offsets_and_bytes_grow_together_or_are_left(rt: HostRuntime) -> Result<(), Fa
 }
 
 #[test]
-fn more_offsets_than_memory_holds_are_refused(rt: HostRuntime) -> Result<(), Fail> {
+fn more_offsets_than_memory_holds_are_refused(rt: HostRuntime) {
     let alloc = rt.alloc();
     let zeroed = Offsets::<i32>::new_zeroed(alloc, usize::MAX);
     check_refusal(&rt, "new_zeroed", zeroed);
     let room = Offsets::<i64>::with_capacity(alloc, usize::MAX - 1);
     check_refusal(&rt, "with_capacity", room);
-    let Ok(mut offsets) = offsets_of(alloc, &[0, 2]) else {
-        return end(true);
-    };
+    let mut offsets = offsets_of(alloc, &[0, 2]).expect(&rt, "refused");
     check_refusal(&rt, "reserve", offsets.reserve(usize::MAX));
     assert_text::text(offsets_text(&offsets), "[0, 2]").expect(&rt, "reserve, refused");
     drop(offsets);
-    Ok(())
 }
 
 /// Creates offsets and freezes them.
@@ -119,17 +112,11 @@ fn widened_and_narrowed(alloc: Global) -> Result<OffsetsBuffer<i32>, Error> {
     frozen(alloc)?.widen()?.narrow()
 }
 
-/// Creates growing and frozen offsets.
-fn both(alloc: Global) -> Result<(Offsets<i32>, OffsetsBuffer<i32>), Error> {
-    Ok((offsets_of(alloc, &[0, 2])?, frozen(alloc)?))
-}
-
 #[test]
 fn offsets_are_created(rt: HostRuntime) -> Result<(), Fail> {
     let alloc = rt.alloc();
-    let Ok((offsets, buffer)) = both(alloc) else {
-        return end(true);
-    };
+    let offsets = offsets_of(alloc, &[0, 2]).expect(&rt, "refused");
+    let buffer = frozen(alloc).expect(&rt, "refused");
     let is_refused = results! { &rt;
         offsets_text: Offsets::new(alloc) => "[0]";
         offsets_text: Offsets::new_zeroed(alloc, 2) => "[0, 0, 0]";

@@ -1,13 +1,10 @@
 //! Growth past the greatest offset, which is an overflow whether memory would be refused or not, and asks for none.
-use crate::refusal::end;
 use arrow_byte_array::{ByteArray, MutableByteArray};
-use arrow_bytes::{Binary, ByteItem, ByteKind, ItemError, Utf8};
+use arrow_bytes::{Binary, ByteKind, Utf8};
 use arrow_memory::offset::Offsets;
 use arrow_types::error::Error;
 use arrow_types::offset::Offset;
-use std::alloc::Global;
 use std::process::Abort;
-use std::test::Fail;
 use tests_support::{Text, Tiny, assert_text};
 
 /// Checks that an answer is an overflow.
@@ -16,14 +13,10 @@ fn check_overflow(rt: &impl Abort, case: &str, answer: Result<(), Error>) {
 }
 
 #[test]
-fn offsets_past_the_greatest_overflow(rt: HostRuntime) -> Result<(), Fail> {
-    let Ok(mut other) = Offsets::<Tiny>::with_capacity(rt.alloc(), 1) else {
-        return end(true);
-    };
+fn offsets_past_the_greatest_overflow(rt: HostRuntime) {
+    let mut other = Offsets::<Tiny>::with_capacity(rt.alloc(), 1).expect(&rt, "refused");
     other.try_push_usize(41).expect(&rt, "room for a slot");
-    let Ok(mut offsets) = Offsets::<Tiny>::with_capacity(rt.alloc(), 1) else {
-        return end(true);
-    };
+    let mut offsets = Offsets::<Tiny>::with_capacity(rt.alloc(), 1).expect(&rt, "refused");
     offsets.try_push_usize(60).expect(&rt, "room for a slot");
     let before = (2, Some(60), offsets.capacity());
     check_overflow(&rt, "try_push_usize", offsets.try_push_usize(41));
@@ -34,24 +27,6 @@ fn offsets_past_the_greatest_overflow(rt: HostRuntime) -> Result<(), Fail> {
     let left = (offsets.as_slice().len(), last, offsets.capacity());
     drop(offsets);
     assert_text::value(left, before).expect(&rt, "offsets and capacity after overflows");
-    Ok(())
-}
-
-/// A builder, another one, and an array.
-type Parts<K> = (
-    MutableByteArray<K, Tiny>,
-    MutableByteArray<K, Tiny>,
-    ByteArray<K, Tiny>,
-);
-
-/// Creates a builder with room for an item of sixty bytes, and a builder and an array of an item.
-fn parts_of<X: ByteItem<K> + ItemError<Error = Error>, K: ByteKind>(
-    alloc: Global,
-    item: &[X],
-) -> Result<Parts<K>, Error> {
-    let builder = MutableByteArray::with_capacities(alloc, 1, 60)?;
-    let other = MutableByteArray::from_iter_values(alloc, item.iter().copied())?;
-    Ok((builder, other, ByteArray::from_slice(alloc, item)?))
 }
 
 /// Writes the room for slots, for their offsets and for bytes, and the bytes.
@@ -64,9 +39,12 @@ fn room_text<K: ByteKind>(builder: &MutableByteArray<K, Tiny>) -> Text {
 /// Checks that forty-one bytes overflow behind sixty. A macro, since the calls are proved of each kind alone.
 macro_rules! check_items {
     ($rt:expr, $kind:ident, $sixty:expr, $forty_one:expr) => {{
-        let Ok((mut builder, other, array)) = parts_of::<_, $kind>($rt.alloc(), [$forty_one].as_slice()) else {
-            return end(true);
-        };
+        let (alloc, items) = ($rt.alloc(), [$forty_one]);
+        let builder = MutableByteArray::<$kind, Tiny>::with_capacities(alloc, 1, 60);
+        let mut builder = builder.expect($rt, "refused");
+        let other = MutableByteArray::<$kind, Tiny>::from_iter_values(alloc, items.iter().copied());
+        let other = other.expect($rt, "refused");
+        let array = ByteArray::<$kind, Tiny>::from_slice(alloc, items.as_slice()).expect($rt, "refused");
         builder.push(Some($sixty)).expect($rt, "room for an item");
         let before = room_text(&builder);
         check_overflow($rt, "push", builder.push(Some($forty_one)));
@@ -88,13 +66,11 @@ pub(crate) const SIXTY: &str = "€€€€€€€€€€€€€€€€
 pub(crate) const FORTY_ONE: &str = "ééééééééééééééééééééa";
 
 #[test]
-fn bytes_past_the_greatest_offset_overflow(rt: HostRuntime) -> Result<(), Fail> {
+fn bytes_past_the_greatest_offset_overflow(rt: HostRuntime) {
     check_items!(&rt, Binary, SIXTY.as_bytes(), FORTY_ONE.as_bytes());
-    Ok(())
 }
 
 #[test]
-fn text_past_the_greatest_offset_overflows(rt: HostRuntime) -> Result<(), Fail> {
+fn text_past_the_greatest_offset_overflows(rt: HostRuntime) {
     check_items!(&rt, Utf8, SIXTY, FORTY_ONE);
-    Ok(())
 }

@@ -34,12 +34,6 @@ fn seven(alloc: Global) -> Result<MutablePrimitiveArray<i64>, Error> {
 /// A value and a null.
 const PAIR: [Option<i64>; 2] = [Some(7), None];
 
-/// Creates a builder and an array of a value and a null.
-fn both(alloc: Global) -> Result<(MutablePrimitiveArray<i64>, PrimitiveArray<i64>), Error> {
-    let builder = MutablePrimitiveArray::from(alloc, PAIR.as_slice())?;
-    Ok((builder, PrimitiveArray::from(alloc, PAIR.as_slice())?))
-}
-
 /// Appends the last slot of an array.
 fn extend_from_last(
     builder: &mut MutablePrimitiveArray<i64>,
@@ -65,9 +59,8 @@ const SLOTS: [Option<i64>; 5] = [Some(1), None, Some(3), Some(4), Some(5)];
 #[test]
 fn builders_grow_or_are_left(rt: HostRuntime) -> Result<(), Fail> {
     let alloc = rt.alloc();
-    let Ok((other, array)) = both(alloc) else {
-        return end(true);
-    };
+    let other = MutablePrimitiveArray::from(alloc, PAIR.as_slice()).expect(&rt, "refused");
+    let array = PrimitiveArray::from(alloc, PAIR.as_slice()).expect(&rt, "refused");
     let is_refused = changes! { &rt, numbers: seven(alloc), builder_text, "7";
         numbers.push(Some(8)) => "7 8";
         numbers.push(None) => "7 (0)";
@@ -91,18 +84,18 @@ fn builders_grow_or_are_left(rt: HostRuntime) -> Result<(), Fail> {
 }
 
 #[test]
-fn more_slots_than_memory_holds_are_refused(rt: HostRuntime) -> Result<(), Fail> {
-    let Ok(mut numbers) = seven(rt.alloc()) else {
-        return end(true);
-    };
+fn more_slots_than_memory_holds_are_refused(rt: HostRuntime) {
+    let mut numbers = seven(rt.alloc()).expect(&rt, "refused");
     for count in [usize::MAX, usize::MAX - 8] {
-        check_refusal(&rt, "nulls", numbers.extend_constant(count, None));
-        check_refusal(&rt, "values", numbers.extend_constant(count, Some(1)));
-        check_refusal(&rt, "reserve", numbers.reserve(count));
+        let case = Text::of(format_args!("{count} nulls"));
+        check_refusal(&rt, case.as_str(), numbers.extend_constant(count, None));
+        let case = Text::of(format_args!("{count} values"));
+        check_refusal(&rt, case.as_str(), numbers.extend_constant(count, Some(1)));
+        let case = Text::of(format_args!("reserve {count}"));
+        check_refusal(&rt, case.as_str(), numbers.reserve(count));
     }
-    assert_text::text(builder_text(&numbers), "7").expect(&rt, "refused");
+    assert_text::text(builder_text(&numbers), "7").expect(&rt, "too many slots, refused");
     drop(numbers);
-    Ok(())
 }
 
 /// Creates an array of a vector of two values.
@@ -118,9 +111,8 @@ fn frozen(alloc: Global) -> Result<PrimitiveArray<i64>, Error> {
 #[test]
 fn arrays_and_builders_are_created(rt: HostRuntime) -> Result<(), Fail> {
     let alloc = rt.alloc();
-    let Ok((builder, array)) = both(alloc) else {
-        return end(true);
-    };
+    let builder = MutablePrimitiveArray::from(alloc, PAIR.as_slice()).expect(&rt, "refused");
+    let array = PrimitiveArray::from(alloc, PAIR.as_slice()).expect(&rt, "refused");
     let is_refused = results! { &rt;
         array_text: from_vec(alloc) => "7 0";
         array_text: PrimitiveArray::from_slice(alloc, [7, 0].as_slice()) => "7 0";
@@ -145,13 +137,11 @@ fn arrays_and_builders_are_created(rt: HostRuntime) -> Result<(), Fail> {
 }
 
 #[test]
-fn pushes_into_room_need_no_memory(rt: HostRuntime) -> Result<(), Fail> {
-    end(
-        pushes! { &rt, numbers: MutablePrimitiveArray::<i64>::with_capacity(rt.alloc(), 3);
+fn pushes_into_room_need_no_memory(rt: HostRuntime) {
+    pushes! { &rt, numbers: MutablePrimitiveArray::<i64>::with_capacity(rt.alloc(), 3);
         numbers.reserve(0) => 3 of numbers.push(Some(1));
         numbers.reserve(3) => 3 of numbers.push(Some(1));
         numbers.push_null() => 0 of numbers.push_null();
         numbers.reserve(100) => 100 of numbers.push_null();
-    },
-    )
+    }
 }

@@ -1,6 +1,7 @@
 //! The checks of calls to which memory may be refused. A call has to do what it should, or, if it is refused memory, to
 //! leave what was there, and to do what it should when it is called once more. A test that met a refusal ends with the
-//! word `refused`; a wrong answer aborts it, with the case, what was expected and what came.
+//! word `refused`. What a test begins with is created by `expect` with that word, which adds no exit to the test. A wrong
+//! answer aborts it, with the case, what was expected and what came.
 use arrow_types::error::Error;
 use std::fmt::Debug;
 use std::process::Abort;
@@ -34,16 +35,13 @@ macro_rules! changes {
         [$($unused:literal)*] ($($arm:tt)*) ($($row:tt)*)) => {
         crate::refusal::check_changes(
             $rt,
-            $made,
+            $made.expect($rt, "refused"),
             |$value, step| {
                 let answer = match step {
-                    None => match $made {
-                        Ok(made) => {
-                            *$value = made;
-                            Ok(())
-                        }
-                        Err(error) => Err(error),
-                    },
+                    None => {
+                        *$value = $made.expect($rt, "refused");
+                        Ok(())
+                    }
                     Some(index) => match index {
                         $($arm)*
                         _ => Err(arrow_types::error::Error::Overflow),
@@ -71,24 +69,17 @@ macro_rules! changes {
     };
 }
 
-/// Pushes into the room that each call makes, for which no memory may be asked. Returns whether a call was refused.
+/// Pushes into the room that each call makes, for which no memory may be asked.
 macro_rules! pushes {
     ($rt:expr, $value:ident: $made:expr; $($room:expr => $count:literal of $push:expr;)*) => {{
-        let Ok(mut $value) = $made else {
-            return crate::refusal::end(true);
-        };
-        let mut is_any_refused = false;
+        let mut $value = $made.expect($rt, "refused");
         $(
-            if !is_any_refused {
-                is_any_refused = crate::refusal::is_refused($rt, stringify!($room), $room);
-                let count = if is_any_refused { 0 } else { $count };
-                for _ in 0..count {
-                    $push.expect($rt, stringify!($push, in the room of $room));
-                }
+            $room.expect($rt, "refused");
+            for _ in 0..$count {
+                $push.expect($rt, stringify!($push, in the room of $room));
             }
         )*
         drop($value);
-        is_any_refused
     }};
 }
 
@@ -137,21 +128,21 @@ pub(crate) fn check_refusal<V: Drop, E: Debug + Drop>(
     assert_text::value(came, "OutOfMemory").expect(rt, case);
 }
 
-/// Compares a text with what is expected, or what is right if memory is refused, and ends the test.
-pub(crate) fn end_with(
+/// Compares a text with what is expected, or what is right if memory is refused. Returns whether it was.
+pub(crate) fn check_text(
     rt: &impl Abort,
     case: &str,
     came: Text,
     expected: &str,
     refused: &[&str],
-) -> Result<(), Fail> {
+) -> bool {
     for text in refused {
         if came.as_str() == *text {
-            return end(true);
+            return true;
         }
     }
     assert_text::text(came, expected).expect(rt, case);
-    Ok(())
+    false
 }
 
 /// Compares the text of what a call returned with another. It may be out of memory unless a call before it was. Returns
@@ -223,24 +214,18 @@ fn check_left(rt: &impl Abort, row: Row, case: &str, left: Text, before: &str, t
 
 /// Compares what each call makes of a new value with a text, and, if it is refused memory, what it leaves, and what it
 /// then makes of that. A call without an index makes the value anew. Returns whether a call was refused.
-pub(crate) fn check_changes<V: Drop, E: Drop, F: FnMut(&mut V, Option<usize>) -> (Text, Text)>(
+pub(crate) fn check_changes<V: Drop, F: FnMut(&mut V, Option<usize>) -> (Text, Text)>(
     rt: &impl Abort,
-    value: Result<V, E>,
+    mut value: V,
     mut call: F,
     before: &str,
     rows: &[(&str, &str, Row)],
 ) -> bool
     requires { F.IsAlwaysCallable call }
 {
-    let Ok(mut value) = value else {
-        return true;
-    };
     let mut is_any_refused = false;
     for (index, (case, text, row)) in rows.iter().enumerate() {
-        if is_answer_refused(rt, *case, call(&mut value, None).0) {
-            is_any_refused = true;
-            break;
-        }
+        let _ = call(&mut value, None);
         let (answer, mut came) = call(&mut value, Some(index));
         let mut expected = Text::of(*text);
         if is_answer_refused(rt, *case, answer) {

@@ -4,11 +4,10 @@
 //! Replies are written as words: `ok`, `-` if a condition does not hold, `refused` and `overflow`, numbers, and
 //! `[=1 _]` for slots.
 use crate::overflows::{FORTY_ONE, SIXTY};
-use crate::refusal::{end, end_with};
+use crate::refusal::{check_text, end};
 use arrow_table::{Command, Item, Kind, Reply, Table, run};
 use arrow_types::error::Error;
 use arrow_types::offset::Offset;
-use std::alloc::Global;
 use std::process::Abort;
 use std::test::Fail;
 use tests_support::{Text, Tiny};
@@ -49,17 +48,15 @@ fn reply_text(reply: &Reply<i64>) -> Text {
 }
 
 /// Compares the replies to commands on a table of two entries with a line, or, if a command was refused memory, with
-/// others. If the list of replies was refused memory, a second run does the rest.
+/// others. If the list of replies was refused memory, a second run does the rest. Returns whether any was refused.
 fn check_replies<O: Offset>(
     rt: &(impl Abort + AllocGlobal),
     case: &str,
     commands: &[Command<i64, O>],
     expected: &str,
     refused: &[&str],
-) -> Result<(), Fail> {
-    let Ok(mut table) = Table::<i64, O>::new(rt.alloc(), 2) else {
-        return end(true);
-    };
+) -> bool {
+    let mut table = Table::<i64, O>::new(rt.alloc(), 2).expect(rt, "refused");
     let mut replies = Vec::new(rt.alloc());
     let done = run(&mut table, commands, &mut replies);
     let rest = run(&mut table, &commands[done..], &mut replies);
@@ -70,11 +67,8 @@ fn check_replies<O: Offset>(
         written = written.and(gap, 1).and(reply_text(reply).as_str(), 100);
     }
     drop(replies);
-    if rest > 0 {
-        end_with(rt, case, written, expected, &[])?;
-        return end(true);
-    }
-    end_with(rt, case, written, expected, refused)
+    let refused: &[&str] = if rest > 0 { &[] } else { refused };
+    check_text(rt, case, written, expected, refused) || rest > 0
 }
 
 /// All slots but the one that was refused are there; a builder that could not be frozen is lost.
@@ -99,16 +93,17 @@ fn a_refused_push_or_freeze_says_so(rt: HostRuntime) -> Result<(), Fail> {
         "ok ok ok 2 ok ok 3 refused",
     ];
     let expected = "ok ok ok 2 ok ok 3 [=1 _ =-3]";
-    let answer = check_replies(&rt, "numbers", &commands, expected, refused);
+    let is_refused = check_replies(&rt, "numbers", &commands, expected, refused);
     drop(commands);
-    answer
+    end(is_refused)
 }
 
 /// Creates the item of a kind of bytes or of text that a text writes.
-fn item(alloc: Global, kind: Kind, text: &str) -> Result<Item<i64>, Error> {
+fn item(rt: &(impl Abort + AllocGlobal), kind: Kind, text: &str) -> Option<Item<i64>> {
+    let text = String::from_str(rt.alloc(), text).expect(rt, "refused");
     match kind {
-        Kind::MutableUtf8 | Kind::Utf8Values => Ok(Item::Text(String::from_str(alloc, text)?)),
-        _ => Ok(Item::Bytes(text.as_bytes().to_vec(alloc)?)),
+        Kind::MutableUtf8 | Kind::Utf8Values => Some(Item::Text(text)),
+        _ => Some(Item::Bytes(text.into_bytes())),
     }
 }
 
@@ -125,36 +120,20 @@ type Replies = (&'static str, &'static [&'static str]);
 
 /// Compares the replies to commands for each kind: for builders of slots, and for those without nulls.
 macro_rules! check_kinds {
-    ($rt:ident, $commands:ident, $slots:expr, $items:expr) => {{
-        for (case, kind) in KINDS {
-            let (expected, refused) = match kind {
+    ($rt:expr, $offset:ident, $slots:expr, $items:expr; $kind:ident => $commands:expr) => {{
+        let mut is_any_refused = false;
+        for (case, $kind) in KINDS {
+            let (expected, refused) = match $kind {
                 Kind::MutableBinary | Kind::MutableUtf8 => $slots,
                 _ => $items,
             };
-            let Ok(commands) = $commands($rt.alloc(), kind) else {
-                return end(true);
-            };
-            let answer = check_replies(&$rt, case, &commands, expected, refused);
+            let commands = $commands;
+            let is_refused = check_replies::<$offset>($rt, case, &commands, expected, refused);
             drop(commands);
-            answer?;
+            is_any_refused = is_any_refused || is_refused;
         }
-        Ok(())
+        end(is_any_refused)
     }};
-}
-
-/// Creates a builder and pushes sixty, forty-one and one byte.
-fn pushes(alloc: Global, kind: Kind) -> Result<[Command<i64, Tiny>; 6], Error> {
-    let first = item(alloc, kind, SIXTY)?;
-    let second = item(alloc, kind, FORTY_ONE)?;
-    let third = item(alloc, kind, "a")?;
-    Ok([
-        Command::New(0, kind),
-        Command::Push(0, Some(first)),
-        Command::Push(0, Some(second)),
-        Command::Len(0),
-        Command::Push(0, Some(third)),
-        Command::Len(0),
-    ])
 }
 
 /// Forty-one bytes behind sixty would end past the greatest offset, and one byte does not.
@@ -164,19 +143,12 @@ const PUSHED: Replies = ("ok ok overflow 1 ok 2",
 
 #[test]
 fn pushes_past_the_greatest_offset_overflow(rt: HostRuntime) -> Result<(), Fail> {
-    check_kinds!(rt, pushes, PUSHED, PUSHED)
-}
-
-/// Creates builders of sixty and of forty-one bytes, and appends the second to the first.
-fn joins(alloc: Global, kind: Kind) -> Result<[Command<i64, Tiny>; 6], Error> {
-    let first = item(alloc, kind, SIXTY)?;
-    let second = item(alloc, kind, FORTY_ONE)?;
-    Ok([
+    check_kinds!(&rt, Tiny, PUSHED, PUSHED; kind => [
         Command::New(0, kind),
-        Command::Push(0, Some(first)),
-        Command::New(1, kind),
-        Command::Push(1, Some(second)),
-        Command::ExtendFromSelf(0, 1),
+        Command::Push(0, item(&rt, kind, SIXTY)),
+        Command::Push(0, item(&rt, kind, FORTY_ONE)),
+        Command::Len(0),
+        Command::Push(0, item(&rt, kind, "a")),
         Command::Len(0),
     ])
 }
@@ -185,21 +157,15 @@ fn joins(alloc: Global, kind: Kind) -> Result<[Command<i64, Tiny>; 6], Error> {
 const JOINED: Replies = ("ok ok ok ok overflow 1",
     &["refused - ok ok - -", "ok refused ok ok ok 1", "ok ok refused - - 1", "ok ok ok refused ok 1"]);
 
+/// Appends a builder of forty-one bytes to one of sixty.
 #[test]
 fn joins_past_the_greatest_offset_overflow(rt: HostRuntime) -> Result<(), Fail> {
-    check_kinds!(rt, joins, JOINED, JOINED)
-}
-
-/// Creates a builder of an item and a null, and pops three slots.
-fn pops(alloc: Global, kind: Kind) -> Result<[Command<i64, i32>; 7], Error> {
-    let item = item(alloc, kind, "ab")?;
-    Ok([
+    check_kinds!(&rt, Tiny, JOINED, JOINED; kind => [
         Command::New(0, kind),
-        Command::Push(0, Some(item)),
-        Command::PushNull(0),
-        Command::Pop(0),
-        Command::Pop(0),
-        Command::Pop(0),
+        Command::Push(0, item(&rt, kind, SIXTY)),
+        Command::New(1, kind),
+        Command::Push(1, item(&rt, kind, FORTY_ONE)),
+        Command::ExtendFromSelf(0, 1),
         Command::Len(0),
     ])
 }
@@ -214,7 +180,16 @@ const POPPED: Replies = ("ok ok ok _ =ab _ 0",
 const POPPED_ITEMS: Replies = ("ok ok ok = =ab _ 0",
     &["refused - - - - - -", "ok refused ok = _ _ 0", "ok ok refused =ab _ _ 0", "ok ok ok = refused =ab 0"]);
 
+/// Pops three slots of a builder of an item and a null.
 #[test]
 fn a_refused_pop_leaves_its_item(rt: HostRuntime) -> Result<(), Fail> {
-    check_kinds!(rt, pops, POPPED, POPPED_ITEMS)
+    check_kinds!(&rt, i32, POPPED, POPPED_ITEMS; kind => [
+        Command::New(0, kind),
+        Command::Push(0, item(&rt, kind, "ab")),
+        Command::PushNull(0),
+        Command::Pop(0),
+        Command::Pop(0),
+        Command::Pop(0),
+        Command::Len(0),
+    ])
 }

@@ -9,23 +9,15 @@ use arrow_select::if_then_else::{if_then_else_primitive, if_then_else_utf8};
 use arrow_select::length::length;
 use arrow_select::nullif::{nullif_primitive, nullif_utf8};
 use arrow_select::take::{take_primitive, take_utf8};
-use arrow_types::error::Error;
 use arrow_utf8::Utf8Array;
-use std::alloc::Global;
 use std::test::Fail;
 use tests_support::Text;
 
 /// Keys, the second of which is null.
 const KEYS: &[Option<u32>] = &[Some(2), None, Some(0)];
 
-/// Creates an array of keys, and a predicate.
-fn selection(alloc: Global) -> Result<(PrimitiveArray<u32>, BooleanArray), Error> {
-    let keys = PrimitiveArray::from(alloc, KEYS)?;
-    Ok((
-        keys,
-        BooleanArray::from_slice(alloc, [true, false, true].as_slice())?,
-    ))
-}
+/// Which slots are chosen of the first array.
+const PREDICATE: &[bool] = &[true, false, true];
 
 /// Writes the indexes of the first slots of groups, and the number of the group of each slot.
 fn group_text(groups: &Groups) -> Text {
@@ -49,15 +41,10 @@ fn hash_text(hashes: &PrimitiveArray<u64>) -> Text {
 #[test]
 fn selections_and_groups_of_numbers_answer_again(rt: HostRuntime) -> Result<(), Fail> {
     let alloc = rt.alloc();
-    let Ok((keys, predicate)) = selection(alloc) else {
-        return end(true);
-    };
-    let Ok(lhs) = PrimitiveArray::from_slice(alloc, [7, 8, 7].as_slice()) else {
-        return end(true);
-    };
-    let Ok(rhs) = PrimitiveArray::from_slice(alloc, [6, 8, 9].as_slice()) else {
-        return end(true);
-    };
+    let keys = PrimitiveArray::from(alloc, KEYS).expect(&rt, "refused");
+    let predicate = BooleanArray::from_slice(alloc, PREDICATE).expect(&rt, "refused");
+    let lhs = PrimitiveArray::from_slice(alloc, [7, 8, 7].as_slice()).expect(&rt, "refused");
+    let rhs = PrimitiveArray::from_slice(alloc, [6, 8, 9].as_slice()).expect(&rt, "refused");
     assert!(&rt; lhs.len() == rhs.len() && lhs.len() == predicate.len());
     let is_refused = results! { &rt;
         number_text: take_primitive(alloc, &rhs, &keys) => "9 (6) 6";
@@ -81,15 +68,10 @@ const OTHERS: &[Option<&str>] = &[Some("ab"), Some("x"), Some("y")];
 #[test]
 fn selections_and_groups_of_text_answer_again(rt: HostRuntime) -> Result<(), Fail> {
     let alloc = rt.alloc();
-    let Ok((keys, predicate)) = selection(alloc) else {
-        return end(true);
-    };
-    let Ok(lhs) = Utf8Array::<i32>::from(alloc, TEXTS) else {
-        return end(true);
-    };
-    let Ok(rhs) = Utf8Array::<i32>::from(alloc, OTHERS) else {
-        return end(true);
-    };
+    let keys = PrimitiveArray::from(alloc, KEYS).expect(&rt, "refused");
+    let predicate = BooleanArray::from_slice(alloc, PREDICATE).expect(&rt, "refused");
+    let lhs = Utf8Array::<i32>::from(alloc, TEXTS).expect(&rt, "refused");
+    let rhs = Utf8Array::<i32>::from(alloc, OTHERS).expect(&rt, "refused");
     assert!(&rt; lhs.len() == rhs.len() && lhs.len() == predicate.len());
     let is_refused = results! { &rt;
         array_text: take_utf8(alloc, &rhs, &keys) => "<y> (<>) <ab>";

@@ -1,5 +1,5 @@
 //! Sessions.
-use crate::refusal::end_with;
+use crate::refusal::{check_text, end};
 use arrow_session::counted::Counted;
 use arrow_session::outcome::Outcome;
 use arrow_session::session::session;
@@ -29,7 +29,7 @@ fn run_session(alloc: Global, lines: &str) -> Text {
 #[test]
 fn a_refusal_ends_a_session_or_is_the_reply_of_its_command(rt: HostRuntime) -> Result<(), Fail> {
     let came = run_session(rt.alloc(), "new 0 mprim\npush 0 v1\nlen 0");
-    end_with(
+    end(check_text(
         &rt,
         "three commands",
         came,
@@ -39,7 +39,7 @@ fn a_refusal_ends_a_session_or_is_the_reply_of_its_command(rt: HostRuntime) -> R
             "out of memory: \"................................\"",
             "out of memory, input left: \"................................\"",
         ],
-    )
+    ))
 }
 
 /// Lines of which the last is no command. Those before it would need memory.
@@ -50,11 +50,11 @@ const BAD_AT_ITS_END: &str =
 #[test]
 fn the_first_bad_line_is_named_before_any_is_run(rt: HostRuntime) -> Result<(), Fail> {
     let came = run_session(rt.alloc(), BAD_AT_ITS_END);
-    end_with(
+    end(check_text(
         &rt,
         "a bad last line",
         came,
         "line 6: not a command: \"................................\"",
         &["out of memory, input left: \"................................\""],
-    )
+    ))
 }

@@ -42,9 +42,8 @@ fn type_text(data_type: &DataType) -> Text {
 #[test]
 fn types_are_cloned(rt: HostRuntime) -> Result<(), Fail> {
     let alloc = rt.alloc();
-    let (Ok(timestamp), Ok(extension)) = (timestamp(alloc), nested_extension(alloc)) else {
-        return end(true);
-    };
+    let timestamp = timestamp(alloc).expect(&rt, "refused");
+    let extension = nested_extension(alloc).expect(&rt, "refused");
     let is_refused = results! { &rt;
         type_text: clone(&timestamp) => "Timestamp(Second, Some(\"UTC\"))";
         type_text: clone(&extension) => "Extension(\"ages\", Extension(\"ages\", Int32, Some(\"whole\")), None)";
