@@ -4,17 +4,19 @@ use super::*;
 use arrow_bytes::{ByteValues, MutableByteValues, into_mut_values};
 use arrow_memory::offset::OffsetsBuffer;
 
+/// A name, the marks of a builder, and those of the array that it freezes to.
+const FREEZES: &[(&str, &str, &str)] = &[
+    ("no null", "11", "none"),
+    ("a null", "10", "10"),
+    ("no mask", "none", "none"),
+];
+
 /// Freezes builders with and without a null.
 fn check_freeze<K: ByteKind, O: Offset>(rt: &(impl Abort + AllocGlobal)) {
-    let masks = [
-        ("no null", "11", "none"),
-        ("a null", "10", "10"),
-        ("no mask", "none", "none"),
-    ];
-    for (index, (case, before, after)) in masks.into_iter().enumerate() {
-        let builder: MutableByteArray<K, O> = builder_of(rt, (&[0, 1, 1], b"x", before));
-        let expected: Parts = (&[0, 1, 1], b"x", after);
-        check_array(rt, row(case, index).as_str(), builder.freeze(), expected);
+    for (index, (case, before, after)) in FREEZES.iter().enumerate() {
+        let builder: MutableByteArray<K, O> = builder_of(rt, (&[0, 1, 1], b"x", *before));
+        let expected: Parts = (&[0, 1, 1], b"x", *after);
+        check_array(rt, row(*case, index).as_str(), builder.freeze(), expected);
     }
     let array = values_of::<K, O>(rt, ITEMS).freeze();
     check_array(rt, "without nulls", array, ITEMS);

@@ -77,16 +77,19 @@ fn slots_are_popped_with_their_bytes(rt: HostRuntime) {
     check_pops::<Utf8, i64>(&rt, texts);
 }
 
+/// Offsets and bytes.
+const OTHERS: &[(&[usize], &[u8])] = &[(&[0, 0], b""), (&[0, 1], b"x"), (&[1, 2], b"\xFFz")];
+
 /// Extends a builder without nulls by an empty item, one of a byte, and one with another byte before it.
 fn check_joins<K: ByteKind, O: Offset>(rt: &(impl Abort + AllocGlobal)) {
     let builder = MutableByteValuesArray::<K, O>::with_capacities(rt.alloc(), 1, 1);
     let mut builder = builder.expect(rt, "memory");
-    let others: [(&[usize], &[u8]); 3] = [(&[0, 0], b""), (&[0, 1], b"x"), (&[1, 2], b"\xFFz")];
-    for (index, (offsets, bytes)) in others.into_iter().enumerate() {
-        let other = values_of::<K, O>(rt, (offsets, bytes, "none"));
+    for (index, (offsets, bytes)) in OTHERS.iter().enumerate() {
+        let parts: Parts = (*offsets, *bytes, "none");
+        let other = values_of::<K, O>(rt, parts);
         builder.try_extend_from_self(&other).expect(rt, "memory");
         let name = row("the other stays", index);
-        check_values(rt, name.as_str(), Ok(other), (offsets, bytes, "none"));
+        check_values(rt, name.as_str(), Ok(other), parts);
     }
     let joined: Parts = (&[0, 0, 1, 2], b"xz", "none");
     check_values(rt, "the items of all, copied", builder.clone(), joined);

@@ -204,11 +204,16 @@ fn capacity_is_reserved_and_given_back(rt: HostRuntime) {
     drop(builder);
 }
 
+/// A name, a slot after 1, and whether the two equal those of 1 and of a null that stores 9.
+const SECONDS: &[(&str, Option<i64>, bool)] = &[
+    ("a null that stores 0", None, true),
+    ("9", Some(9), false),
+];
+
 #[test]
 fn stored_values_of_nulls_are_not_compared(rt: HostRuntime) {
-    let slots = [("a null that stores 0", None, true), ("9", Some(9), false)];
-    for (index, (case, second, expected)) in slots.into_iter().enumerate() {
-        let slots = [Some(1), second];
+    for (index, (case, second, expected)) in SECONDS.iter().enumerate() {
+        let slots = [Some(1), *second];
         let left = MutablePrimitiveArray::<i64>::from(rt.alloc(), slots.as_slice());
         let left = left.expect(&rt, "memory");
         let mask = growing_mask(rt.alloc(), "10").expect(&rt, "memory");
@@ -218,6 +223,6 @@ fn stored_values_of_nulls_are_not_compared(rt: HostRuntime) {
         let are_equal = left == right;
         drop(right);
         drop(left);
-        assert_text::value(are_equal, expected).expect(&rt, row(case, index).as_str());
+        assert_text::value(are_equal, *expected).expect(&rt, row(*case, index).as_str());
     }
 }
