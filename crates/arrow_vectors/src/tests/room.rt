@@ -53,11 +53,12 @@ fn six_bytes_fit_in_room_for_six(rt: HostRuntime) {
 
 /// Compares capacities with the thousand that were reserved, and, once room was given back, with less.
 fn check_capacities(rt: &impl Abort, case: &str, is_shrunk: bool, capacities: [usize; 3]) {
+    let [first, second, third] = capacities;
     if is_shrunk {
-        let came = capacities.map(|capacity| capacity.max(999));
+        let came = [first.max(999), second.max(999), third.max(999)];
         assert_text::value(came, [999; 3]).expect(rt, case);
     } else {
-        let came = capacities.map(|capacity| capacity.min(1000));
+        let came = [first.min(1000), second.min(1000), third.min(1000)];
         assert_text::value(came, [1000; 3]).expect(rt, case);
     }
 }

@@ -38,10 +38,10 @@ fn check_cuts<O: Offset>(rt: &(impl Abort + AllocGlobal), characters: &Character
         } else {
             NO_TEXT
         };
-        let counts = [cost.ascii_tests(), cost.whole_tests(), cost.bytes_looked()];
-        let came = (tells(answer), counts.map(|count| count.max(1)));
+        let tests = (cost.ascii_tests().max(1), cost.whole_tests().max(1));
+        let came = (tells(answer), tests, cost.bytes_looked().max(1));
         let name = Text::of(format_args!("{case}, cut at {k} ({})", offset_name::<O>()));
-        assert_text::value(came, (expected, [1; 3])).expect(rt, name.as_str());
+        assert_text::value(came, (expected, (1, 1), 1)).expect(rt, name.as_str());
     }
 }
 
