@@ -10,7 +10,7 @@ use arrow_types::error::Error;
 use arrow_types::offset::Offset;
 use std::process::Abort;
 use std::test::Fail;
-use tests_support::{Text, Tiny};
+use tests_support::{Text, Tiny, assert_text};
 
 /// Writes a slot.
 fn slot_text(slot: &Option<Item<i64>>) -> Text {
@@ -67,8 +67,11 @@ fn check_replies<O: Offset>(
         written = written.and(gap, 1).and(reply_text(reply).as_str(), 100);
     }
     drop(replies);
-    let refused: &[&str] = if rest > 0 { &[] } else { refused };
-    check_text(rt, case, written, expected, refused) || rest > 0
+    if rest == 0 {
+        return check_text(rt, case, written, expected, refused);
+    }
+    assert_text::text(written, expected).expect(rt, case);
+    true
 }
 
 /// All slots but the one that was refused are there; a builder that could not be frozen is lost.
