@@ -187,31 +187,26 @@ pub(crate) fn check_bytes(
 
 /// Compares an answer with an error, or with the parts of an array of the default type.
 pub(crate) fn check_stored_items<K: ByteKind, O: Offset>(
-    rt: &(impl Abort + AllocGlobal),
+    rt: &impl Abort,
     row: &str,
     answer: Result<ByteArray<K, O>, Error>,
     expected: Result<Items, Error>,
 ) {
-    let data_type = K::default_type(O::IS_LARGE);
-    let row = Text::of(format_args!("{row}, {data_type}"));
-    let row = row.as_str();
     let (offsets, bytes, mask) = match expected {
         Ok(parts) => parts,
-        Err(error) => {
-            drop(data_type);
-            return check_value(rt, row, answer.err(), Some(error));
-        }
+        Err(error) => return assert_text::value(answer.err(), Some(error)).expect(rt, row),
     };
     let array = answer.expect(rt, row);
-    let numbers = array.offsets().buffer().as_slice().iter();
-    let numbers = numbers.filter_map(|offset| offset.try_to_usize());
-    let numbers: Vec<usize> = numbers.collect(rt.alloc()).expect(rt, "memory");
+    let data_type = K::default_type(O::IS_LARGE);
     check_value(rt, row, array.data_type(), &data_type);
-    check_value(rt, row, numbers.as_slice(), offsets);
+    drop(data_type);
+    let came = array.offsets().buffer().as_slice();
+    check_value(rt, row, came.len(), offsets.len());
+    for (i, (offset, expected)) in came.iter().zip(offsets.iter()).enumerate() {
+        check_value(rt, row, (i, offset.try_to_usize()), (i, Some(*expected)));
+    }
     check_value(rt, row, array.values().as_slice(), bytes);
     check_mask(rt, row, array.validity(), mask);
-    drop(data_type);
-    drop(numbers);
     drop(array);
 }
 

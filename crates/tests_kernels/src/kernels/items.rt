@@ -2,7 +2,8 @@
 use crate::arrays::{
     Booleans, Items, NEGATIVE, TOO_GREAT, check_stored_items, row, stored_booleans, stored_items,
 };
-use arrow_bytes::{Binary, Utf8};
+use arrow_byte_array::ByteArray;
+use arrow_bytes::{Binary, ByteKind, Utf8};
 use arrow_kernels::{
     concat_binary, concat_utf8, filter_binary, filter_utf8, take_binary, take_utf8,
 };
@@ -123,24 +124,17 @@ const TINY_CONCATENATIONS: &[Concatenation] = &[
 /// Filters bytes and texts over offsets whose name is `kind`.
 fn check_filters<O: Offset>(rt: &(impl Abort + AllocGlobal), kind: &str) {
     for (index, (case, array, filter, expected)) in FILTERS.iter().enumerate() {
-        let row = row("filters keep slots at true", kind, index, *case);
+        let name = row("filters keep slots at true, Binary", kind, index, *case);
         let filter = stored_booleans(rt, *filter);
         let bytes = stored_items::<Binary, O>(rt, *array);
         let texts = stored_items::<Utf8, O>(rt, *array);
         assert!(rt; filter.len() == bytes.len() && filter.len() == texts.len());
-        check_stored_items(
-            rt,
-            row.as_str(),
-            filter_binary(rt.alloc(), &bytes, &filter),
-            Ok(*expected),
-        );
+        let kept = filter_binary(rt.alloc(), &bytes, &filter);
+        check_stored_items(rt, name.as_str(), kept, Ok(*expected));
         drop(bytes);
-        check_stored_items(
-            rt,
-            row.as_str(),
-            filter_utf8(rt.alloc(), &texts, &filter),
-            Ok(*expected),
-        );
+        let name = row("filters keep slots at true, Utf8", kind, index, *case);
+        let kept = filter_utf8(rt.alloc(), &texts, &filter);
+        check_stored_items(rt, name.as_str(), kept, Ok(*expected));
         drop((texts, filter));
     }
 }
@@ -148,24 +142,33 @@ fn check_filters<O: Offset>(rt: &(impl Abort + AllocGlobal), kind: &str) {
 /// Takes bytes and texts over offsets whose name is `kind`.
 fn check_takes<O: Offset>(rt: &(impl Abort + AllocGlobal), kind: &str, cases: &[Take]) {
     for (index, (case, array, keys, expected)) in cases.iter().enumerate() {
-        let row = row("takes keep slots at keys", kind, index, *case);
+        let name = row("takes keep slots at keys, Binary", kind, index, *case);
         let bytes = stored_items::<Binary, O>(rt, *array);
-        check_stored_items(
-            rt,
-            row.as_str(),
-            take_binary(rt.alloc(), &bytes, *keys),
-            *expected,
-        );
+        let taken = take_binary(rt.alloc(), &bytes, *keys);
+        check_stored_items(rt, name.as_str(), taken, *expected);
         drop(bytes);
+        let name = row("takes keep slots at keys, Utf8", kind, index, *case);
         let texts = stored_items::<Utf8, O>(rt, *array);
-        check_stored_items(
-            rt,
-            row.as_str(),
-            take_utf8(rt.alloc(), &texts, *keys),
-            *expected,
-        );
+        let taken = take_utf8(rt.alloc(), &texts, *keys);
+        check_stored_items(rt, name.as_str(), taken, *expected);
         drop(texts);
     }
+}
+
+/// Creates slices of arrays.
+fn slices_of<K: ByteKind, O: Offset>(
+    rt: &(impl Abort + AllocGlobal),
+    slices: &[Slice],
+) -> Vec<ByteArray<K, O>> {
+    let mut arrays = Vec::new(rt.alloc());
+    for (array, offset, len) in slices {
+        let array = stored_items::<K, O>(rt, *array);
+        assert!(rt; *offset <= array.len() && *len <= array.len() - *offset);
+        arrays
+            .push(array.sliced(*offset, *len))
+            .expect(rt, "memory");
+    }
+    arrays
 }
 
 /// Concatenates bytes and texts over offsets whose name is `kind`.
@@ -174,28 +177,28 @@ fn check_concatenations<O: Offset>(
     kind: &str,
     cases: &[Concatenation],
 ) {
-    let alloc = rt.alloc();
     for (index, (case, slices, expected)) in cases.iter().enumerate() {
-        let row = row("concatenations have all slots in order", kind, index, *case);
-        let mut arrays = Vec::new(alloc);
-        for (array, offset, len) in *slices {
-            let array = stored_items::<Binary, O>(rt, *array);
-            assert!(rt; *offset <= array.len() && *len <= array.len() - *offset);
-            let slice = array.sliced(*offset, *len);
-            arrays.push(slice).expect(rt, "memory");
-        }
+        let name = row(
+            "concatenations have all slots in order, Binary",
+            kind,
+            index,
+            *case,
+        );
+        let arrays = slices_of::<Binary, O>(rt, *slices);
         assert!(rt; !arrays.is_empty());
-        check_stored_items(rt, row.as_str(), concat_binary(alloc, &arrays), *expected);
+        let joined = concat_binary(rt.alloc(), &arrays);
+        check_stored_items(rt, name.as_str(), joined, *expected);
         drop(arrays);
-        let mut arrays = Vec::new(alloc);
-        for (array, offset, len) in *slices {
-            let array = stored_items::<Utf8, O>(rt, *array);
-            assert!(rt; *offset <= array.len() && *len <= array.len() - *offset);
-            let slice = array.sliced(*offset, *len);
-            arrays.push(slice).expect(rt, "memory");
-        }
+        let name = row(
+            "concatenations have all slots in order, Utf8",
+            kind,
+            index,
+            *case,
+        );
+        let arrays = slices_of::<Utf8, O>(rt, *slices);
         assert!(rt; !arrays.is_empty());
-        check_stored_items(rt, row.as_str(), concat_utf8(alloc, &arrays), *expected);
+        let joined = concat_utf8(rt.alloc(), &arrays);
+        check_stored_items(rt, name.as_str(), joined, *expected);
         drop(arrays);
     }
 }
