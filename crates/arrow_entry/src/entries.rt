@@ -6,6 +6,7 @@ ghost use Rattle.arrow_model.specs.Step.{entry_at};
 use crate::Entry;
 use arrow_types::native_type::NativeType;
 use arrow_types::offset::Offset;
+use std::mem;
 
 /// Returns the array or builder in an entry of a table; `None` if the entry is empty or out of bounds.
 #[inline(always)]
@@ -25,5 +26,6 @@ pub fn entry_at<T: NativeType, O: Offset>(
 pub fn replace<T: NativeType, O: Offset>(entry: &mut Option<Entry<T, O>>, with: Option<Entry<T, O>>)
     ensures { entry.new ≡ with }
 {
-    *entry = with;
+    // By a call: without one, what each of the ten kinds drops would be proved again here.
+    drop(mem::replace(entry, with));
 }
