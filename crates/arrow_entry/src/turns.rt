@@ -1,255 +1,137 @@
 //! Iterators over what slots store, asked from both ends.
 ghost use Rattle.std.specs.Prelude.{◌≡◌, IfOk, List, map, option_map, ⊤};
 ghost use Rattle.std.specs.Iterator.{YieldsFirstBy, YieldsLastBy};
-ghost use Rattle.std.specs.Slice.Iter.{iter_rest};
 ghost use Rattle.arrow_column.specs.Column.{stored_values};
 ghost use Rattle.arrow_entry.specs.Entry.{value_of};
-ghost use Rattle.arrow_entry.specs.Slot.{stored_ref};
+ghost use Rattle.arrow_entry.specs.Slot.{StoresAs, stored_ref};
 ghost use Rattle.arrow_memory.specs.Items.{SkipsThenFirstBy};
 ghost use Rattle.arrow_model.specs.Change.{TurnGives, turns_of};
-ghost use Rattle.arrow_model.specs.Item.{Stored, stored_slot};
+ghost use Rattle.arrow_model.specs.Item.{Stored, stored_item, stored_slot};
 
 use crate::{Entry, Item, SlotRef, Turn};
-use arrow_binary::{BinaryArray, MutableBinaryArray, MutableBinaryValuesArray};
+use arrow_check::accessor::ArrayAccessor;
 use arrow_check::values_iter::ArrayValuesIter;
 use arrow_memory::bitmap::BitmapIter;
 use arrow_types::native_type::NativeType;
 use arrow_types::offset::Offset;
-use arrow_utf8::{MutableUtf8Array, MutableUtf8ValuesArray, Utf8Array};
 use std::alloc::{AllocError, Global};
 use std::slice::Iter;
 
-/// An iterator from both ends over what slots store.
-trait SlotIterator<'a, T: NativeType>: Drop {
-    /// What the slots that are left store, in order.
-    ghost left: { Self → List (Stored T) };
+/// An iterator from both ends that can skip items.
+trait TurnsIterator: Drop {
+    /// The type of the items.
+    type Item;
+
+    /// What contracts see of an item.
+    ghost Seen: { Type 0 };
+
+    /// What contracts see of this item.
+    ghost seen: { Self.Item → Seen };
+
+    /// The items that are left, in order.
+    ghost left: { Self → List Seen };
 
     /// What holds of an iterator that may be asked; it stays so.
     ghost can_turn: { Self → Type 0 } = { λ _. ⊤ };
 
     /// Returns the next item from the front.
-    fn first(&mut self) -> Option<SlotRef<'a, T>>
+    fn first(&mut self) -> Option<Self::Item>
         requires { can_turn self.old }
         ensures keeps { can_turn self.new }
-        ensures gives { YieldsFirstBy stored_ref left self.old result self.new };
+        ensures gives { YieldsFirstBy seen left self.old result self.new };
 
     /// Returns the next item from the back.
-    fn last(&mut self) -> Option<SlotRef<'a, T>>
+    fn last(&mut self) -> Option<Self::Item>
         requires { can_turn self.old }
         ensures keeps { can_turn self.new }
-        ensures gives { YieldsLastBy stored_ref left self.old result self.new };
+        ensures gives { YieldsLastBy seen left self.old result self.new };
 
     /// Skips `n` items from the front and returns the next.
-    fn skip_to(&mut self, n: usize) -> Option<SlotRef<'a, T>>
+    fn skip_to(&mut self, n: usize) -> Option<Self::Item>
         requires { can_turn self.old }
         ensures keeps { can_turn self.new }
-        ensures gives { SkipsThenFirstBy stored_ref left n self.old result self.new };
+        ensures gives { SkipsThenFirstBy seen left n self.old result self.new };
 }
 
-/// Skips `n` items of a slice and returns the next.
-fn nth_of<'a, T>(items: &mut Iter<'a, T>, n: usize) -> Option<&'a T>
-    ensures { SkipsThenFirstBy (λ x. x.now) iter_rest n items.old result items.new }
-{
-    items.nth(n)
-}
-
-#[tactic(auto, using(crate::proofs::TurnLemmas::turn_maps))]
-impl<'a, T: NativeType> SlotIterator<'a, T> for Iter<'a, T> {
-    ghost use Rattle.std.specs.Prelude.{map};
+impl<'a, T> TurnsIterator for Iter<'a, T> {
     ghost use Rattle.std.specs.Slice.Iter.{iter_rest};
-    ghost use Rattle.arrow_model.specs.Item.{value};
 
-    ghost left = { λ items. map value (iter_rest items) };
+    type Item = &'a T;
 
-    fn first(&mut self) -> Option<SlotRef<'a, T>> {
-        Some(SlotRef::Value(*self.next()?))
+    ghost Seen = { T };
+
+    ghost seen = { λ item. item.now };
+
+    ghost left = { iter_rest };
+
+    fn first(&mut self) -> Option<&'a T> {
+        self.next()
     }
 
-    fn last(&mut self) -> Option<SlotRef<'a, T>> {
-        Some(SlotRef::Value(*self.next_back()?))
+    fn last(&mut self) -> Option<&'a T> {
+        self.next_back()
     }
 
-    fn skip_to(&mut self, n: usize) -> Option<SlotRef<'a, T>> {
-        Some(SlotRef::Value(*nth_of(self, n)?))
-    }
-}
-
-#[tactic(auto, using(crate::proofs::TurnLemmas::turn_maps))]
-impl<'a, T: NativeType> SlotIterator<'a, T> for BitmapIter<'a> {
-    ghost use Rattle.std.specs.Prelude.{map};
-    ghost use Rattle.arrow_model.specs.Item.{bit};
-
-    ghost left = { λ marks. map bit marks };
-
-    fn first(&mut self) -> Option<SlotRef<'a, T>> {
-        Some(SlotRef::Bit(self.next()?))
-    }
-
-    fn last(&mut self) -> Option<SlotRef<'a, T>> {
-        Some(SlotRef::Bit(self.next_back()?))
-    }
-
-    fn skip_to(&mut self, n: usize) -> Option<SlotRef<'a, T>> {
-        Some(SlotRef::Bit(self.nth(n)?))
+    fn skip_to(&mut self, n: usize) -> Option<&'a T> {
+        self.nth(n)
     }
 }
 
-#[tactic(auto, using(crate::proofs::TurnLemmas::turn_maps))]
-impl<'a, T: NativeType, O: Offset> SlotIterator<'a, T> for ArrayValuesIter<'a, BinaryArray<O>> {
-    ghost use Rattle.std.specs.Prelude.{false, map};
-    ghost use Rattle.arrow_column.specs.Column.{stored_values};
+impl<'a> TurnsIterator for BitmapIter<'a> {
+    ghost use Rattle.std.specs.Prelude.{Bool};
+
+    type Item = bool;
+
+    ghost Seen = { Bool };
+
+    ghost seen = { λ mark. mark };
+
+    ghost left = { λ marks. marks };
+
+    fn first(&mut self) -> Option<bool> {
+        self.next()
+    }
+
+    fn last(&mut self) -> Option<bool> {
+        self.next_back()
+    }
+
+    fn skip_to(&mut self, n: usize) -> Option<bool> {
+        self.nth(n)
+    }
+}
+
+impl<'a, A: ArrayAccessor<'a>> TurnsIterator for ArrayValuesIter<'a, A> {
     ghost use Rattle.arrow_check.specs.Items.{IsWithin, rest_of};
-    ghost use Rattle.arrow_model.specs.Item.{bytes_item};
 
-    ghost left = { λ items. map (bytes_item false) (rest_of stored_values items) };
+    type Item = A::Item;
 
-    ghost can_turn = { IsWithin stored_values };
+    ghost Seen = { A.Seen };
 
-    fn first(&mut self) -> Option<SlotRef<'a, T>> {
-        Some(SlotRef::Bytes(self.next()?))
+    ghost seen = { A.seen };
+
+    ghost left = { rest_of A.items };
+
+    ghost can_turn = { IsWithin A.items };
+
+    fn first(&mut self) -> Option<A::Item> {
+        self.next()
     }
 
-    fn last(&mut self) -> Option<SlotRef<'a, T>> {
-        Some(SlotRef::Bytes(self.next_back()?))
+    fn last(&mut self) -> Option<A::Item> {
+        self.next_back()
     }
 
-    fn skip_to(&mut self, n: usize) -> Option<SlotRef<'a, T>> {
-        Some(SlotRef::Bytes(self.nth(n)?))
-    }
-}
-
-#[tactic(auto, using(crate::proofs::TurnLemmas::turn_maps))]
-impl<'a, T: NativeType, O: Offset> SlotIterator<'a, T>
-    for ArrayValuesIter<'a, MutableBinaryArray<O>> {
-    ghost use Rattle.std.specs.Prelude.{false, map};
-    ghost use Rattle.arrow_column.specs.Column.{stored_values};
-    ghost use Rattle.arrow_check.specs.Items.{IsWithin, rest_of};
-    ghost use Rattle.arrow_model.specs.Item.{bytes_item};
-
-    ghost left = { λ items. map (bytes_item false) (rest_of stored_values items) };
-
-    ghost can_turn = { IsWithin stored_values };
-
-    fn first(&mut self) -> Option<SlotRef<'a, T>> {
-        Some(SlotRef::Bytes(self.next()?))
-    }
-
-    fn last(&mut self) -> Option<SlotRef<'a, T>> {
-        Some(SlotRef::Bytes(self.next_back()?))
-    }
-
-    fn skip_to(&mut self, n: usize) -> Option<SlotRef<'a, T>> {
-        Some(SlotRef::Bytes(self.nth(n)?))
-    }
-}
-
-#[tactic(auto, using(crate::proofs::TurnLemmas::turn_maps))]
-impl<'a, T: NativeType, O: Offset> SlotIterator<'a, T>
-    for ArrayValuesIter<'a, MutableBinaryValuesArray<O>> {
-    ghost use Rattle.std.specs.Prelude.{false, map};
-    ghost use Rattle.arrow_column.specs.Column.{stored_values};
-    ghost use Rattle.arrow_check.specs.Items.{IsWithin, rest_of};
-    ghost use Rattle.arrow_model.specs.Item.{bytes_item};
-
-    ghost left = { λ items. map (bytes_item false) (rest_of stored_values items) };
-
-    ghost can_turn = { IsWithin stored_values };
-
-    fn first(&mut self) -> Option<SlotRef<'a, T>> {
-        Some(SlotRef::Bytes(self.next()?))
-    }
-
-    fn last(&mut self) -> Option<SlotRef<'a, T>> {
-        Some(SlotRef::Bytes(self.next_back()?))
-    }
-
-    fn skip_to(&mut self, n: usize) -> Option<SlotRef<'a, T>> {
-        Some(SlotRef::Bytes(self.nth(n)?))
-    }
-}
-
-#[tactic(auto, using(crate::proofs::TurnLemmas::turn_maps))]
-impl<'a, T: NativeType, O: Offset> SlotIterator<'a, T> for ArrayValuesIter<'a, Utf8Array<O>> {
-    ghost use Rattle.std.specs.Prelude.{map, true};
-    ghost use Rattle.arrow_column.specs.Column.{stored_values};
-    ghost use Rattle.arrow_check.specs.Items.{IsWithin, rest_of};
-    ghost use Rattle.arrow_model.specs.Item.{bytes_item};
-
-    ghost left = { λ items. map (bytes_item true) (rest_of stored_values items) };
-
-    ghost can_turn = { IsWithin stored_values };
-
-    fn first(&mut self) -> Option<SlotRef<'a, T>> {
-        Some(SlotRef::Text(self.next()?))
-    }
-
-    fn last(&mut self) -> Option<SlotRef<'a, T>> {
-        Some(SlotRef::Text(self.next_back()?))
-    }
-
-    fn skip_to(&mut self, n: usize) -> Option<SlotRef<'a, T>> {
-        Some(SlotRef::Text(self.nth(n)?))
-    }
-}
-
-#[tactic(auto, using(crate::proofs::TurnLemmas::turn_maps))]
-impl<'a, T: NativeType, O: Offset> SlotIterator<'a, T>
-    for ArrayValuesIter<'a, MutableUtf8Array<O>> {
-    ghost use Rattle.std.specs.Prelude.{map, true};
-    ghost use Rattle.arrow_column.specs.Column.{stored_values};
-    ghost use Rattle.arrow_check.specs.Items.{IsWithin, rest_of};
-    ghost use Rattle.arrow_model.specs.Item.{bytes_item};
-
-    ghost left = { λ items. map (bytes_item true) (rest_of stored_values items) };
-
-    ghost can_turn = { IsWithin stored_values };
-
-    fn first(&mut self) -> Option<SlotRef<'a, T>> {
-        Some(SlotRef::Text(self.next()?))
-    }
-
-    fn last(&mut self) -> Option<SlotRef<'a, T>> {
-        Some(SlotRef::Text(self.next_back()?))
-    }
-
-    fn skip_to(&mut self, n: usize) -> Option<SlotRef<'a, T>> {
-        Some(SlotRef::Text(self.nth(n)?))
-    }
-}
-
-#[tactic(auto, using(crate::proofs::TurnLemmas::turn_maps))]
-impl<'a, T: NativeType, O: Offset> SlotIterator<'a, T>
-    for ArrayValuesIter<'a, MutableUtf8ValuesArray<O>> {
-    ghost use Rattle.std.specs.Prelude.{map, true};
-    ghost use Rattle.arrow_column.specs.Column.{stored_values};
-    ghost use Rattle.arrow_check.specs.Items.{IsWithin, rest_of};
-    ghost use Rattle.arrow_model.specs.Item.{bytes_item};
-
-    ghost left = { λ items. map (bytes_item true) (rest_of stored_values items) };
-
-    ghost can_turn = { IsWithin stored_values };
-
-    fn first(&mut self) -> Option<SlotRef<'a, T>> {
-        Some(SlotRef::Text(self.next()?))
-    }
-
-    fn last(&mut self) -> Option<SlotRef<'a, T>> {
-        Some(SlotRef::Text(self.next_back()?))
-    }
-
-    fn skip_to(&mut self, n: usize) -> Option<SlotRef<'a, T>> {
-        Some(SlotRef::Text(self.nth(n)?))
+    fn skip_to(&mut self, n: usize) -> Option<A::Item> {
+        self.nth(n)
     }
 }
 
 /// Asks an iterator for one turn.
-fn turn_of<'a, T: NativeType, I: SlotIterator<'a, T>>(
-    items: &mut I,
-    turn: Turn,
-) -> Option<SlotRef<'a, T>>
+fn turn_of<I: TurnsIterator>(items: &mut I, turn: Turn) -> Option<I::Item>
     requires { I.can_turn items.old }
     ensures keeps { I.can_turn items.new }
-    ensures gives { TurnGives turn (I.left items.old) (option_map stored_ref result) (I.left items.new) }
+    ensures gives { TurnGives turn (I.left items.old) (option_map I.seen result) (I.left items.new) }
 {
     match turn {
         Turn::Front => items.first(),
@@ -258,16 +140,58 @@ fn turn_of<'a, T: NativeType, I: SlotIterator<'a, T>>(
     }
 }
 
-/// Returns the item of a slot that an iterator gave; bytes and texts are copied.
-///
-/// # Errors
-/// `AllocError` if the copy fails.
-fn to_slot<T>(alloc: Global, item: Option<SlotRef<'_, T>>) -> Result<Option<Item<T>>, AllocError>
-    ensures { IfOk result (λ slot. stored_slot slot ≡ option_map stored_ref item.entry) }
-{
-    match item {
-        Some(item) => Ok(Some(item.to_item(alloc)?)),
-        None => Ok(None),
+/// What an iterator lends of a slot.
+trait SlotItem<T>: Copy {
+    /// What the slot stores.
+    ghost stored: { Self → Stored T };
+
+    /// Returns the item, whose bytes are a copy.
+    ///
+    /// # Errors
+    /// `AllocError` if the copy of bytes or of a text fails.
+    fn to_item(&self, alloc: Global) -> Result<Item<T>, AllocError>
+        ensures { IfOk result (λ item. stored_item item ≡ stored self.now) };
+}
+
+impl<'a, T: NativeType> SlotItem<T> for &'a T {
+    ghost use Rattle.arrow_model.specs.Item.{value};
+
+    ghost stored = { λ item. value item.now };
+
+    fn to_item(&self, alloc: Global) -> Result<Item<T>, AllocError> {
+        SlotRef::Value(**self).to_item(alloc)
+    }
+}
+
+impl<T> SlotItem<T> for bool {
+    ghost use Rattle.arrow_model.specs.Item.{bit};
+
+    ghost stored = { bit };
+
+    fn to_item(&self, alloc: Global) -> Result<Item<T>, AllocError> {
+        SlotRef::Bit(*self).to_item(alloc)
+    }
+}
+
+impl<'a, T> SlotItem<T> for &'a [u8] {
+    ghost use Rattle.std.specs.Prelude.{false};
+    ghost use Rattle.arrow_model.specs.Item.{bytes_item};
+
+    ghost stored = { λ item. bytes_item false item.now };
+
+    fn to_item(&self, alloc: Global) -> Result<Item<T>, AllocError> {
+        SlotRef::Bytes(*self).to_item(alloc)
+    }
+}
+
+impl<'a, T> SlotItem<T> for &'a str {
+    ghost use Rattle.std.specs.Prelude.{true};
+    ghost use Rattle.arrow_model.specs.Item.{bytes_item};
+
+    ghost stored = { λ item. bytes_item true item.now };
+
+    fn to_item(&self, alloc: Global) -> Result<Item<T>, AllocError> {
+        SlotRef::Text(*self).to_item(alloc)
     }
 }
 
@@ -275,19 +199,23 @@ fn to_slot<T>(alloc: Global, item: Option<SlotRef<'_, T>>) -> Result<Option<Item
 ///
 /// # Errors
 /// `AllocError` if an allocation fails.
-fn all_turns<'a, T: NativeType, I: SlotIterator<'a, T>>(
+fn all_turns<T: NativeType, I: TurnsIterator>(
     alloc: Global,
     mut items: I,
     turns: &[Turn],
 ) -> Result<Vec<Option<Item<T>>>, AllocError>
+where
+    I::Item: SlotItem<T>,
     requires { I.can_turn items }
-    ensures { IfOk result (λ slots. map stored_slot slots.items ≡ turns_of turns.now (I.left items)) }
+    ensures { StoresAs I.Item.stored I.seen (λ stored. IfOk result (λ slots.
+        map stored_slot slots.items ≡ turns_of turns.now (map stored (I.left items)))) }
 {
     let mut slots = Vec::new(alloc);
     for i in 0..turns.len() {
-        let turn = turns[i];
-        let item = turn_of(&mut items, turn);
-        let slot = to_slot(alloc, item)?;
+        let slot = match turn_of(&mut items, turns[i]) {
+            Some(item) => Some(item.to_item(alloc)?),
+            None => None,
+        };
         slots.push(slot)?;
     }
     Ok(slots)
