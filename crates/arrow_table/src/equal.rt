@@ -53,27 +53,19 @@ fn compare<T: NativeType, O: Offset>(
     ensures { ComparesWith (value_in first.now) (value_in (option_copied second.entry)) (answer_of result)
         (value_in first.now) }
 {
-    match first {
-        Some(Entry::MutablePrimitive(first)) => match second {
-            Some(Entry::MutablePrimitive(second)) => Reply::Flag(same_values(first, second)),
-            _ => Reply::NotMet,
-        },
-        Some(Entry::MutableBoolean(first)) => match second {
-            Some(Entry::MutableBoolean(second)) => Reply::Flag(same_bits::<T>(first, second)),
-            _ => Reply::NotMet,
-        },
-        Some(Entry::MutableBinary(first)) => match second {
-            Some(Entry::MutableBinary(second)) => Reply::Flag(same_items::<T, Binary, O>(
-                first, second,
-            )),
-            _ => Reply::NotMet,
-        },
-        Some(Entry::MutableUtf8(first)) => match second {
-            Some(Entry::MutableUtf8(second)) => Reply::Flag(same_items::<T, Utf8, O>(
-                first, second,
-            )),
-            _ => Reply::NotMet,
-        },
+    match (first, second) {
+        (Some(Entry::MutablePrimitive(first)), Some(Entry::MutablePrimitive(second))) => {
+            Reply::Flag(same_values(first, second))
+        }
+        (Some(Entry::MutableBoolean(first)), Some(Entry::MutableBoolean(second))) => {
+            Reply::Flag(same_bits::<T>(first, second))
+        }
+        (Some(Entry::MutableBinary(first)), Some(Entry::MutableBinary(second))) => {
+            Reply::Flag(same_items::<T, Binary, O>(first, second))
+        }
+        (Some(Entry::MutableUtf8(first)), Some(Entry::MutableUtf8(second))) => {
+            Reply::Flag(same_items::<T, Utf8, O>(first, second))
+        }
         _ => Reply::NotMet,
     }
 }

@@ -22,33 +22,28 @@ fn join<T: NativeType, O: Offset>(
 ) -> Result<Reply<T>, Error>
     ensures { ExtendsEntry T.NativeType O.Offset entry.old (option_copied other.entry) (outcome result) entry.new }
 {
-    match entry {
-        Some(Entry::MutablePrimitive(builder)) => match other {
-            Some(Entry::MutablePrimitive(other)) => builder.try_extend_from_self(other)?,
-            _ => return Ok(Reply::NotMet),
-        },
-        Some(Entry::MutableBoolean(builder)) => match other {
-            Some(Entry::MutableBoolean(other)) => builder.try_extend_from_self(other)?,
-            _ => return Ok(Reply::NotMet),
-        },
-        Some(Entry::MutableBinary(builder)) => match other {
-            Some(Entry::MutableBinary(other)) => builder.try_extend_from_self(other)?,
-            _ => return Ok(Reply::NotMet),
-        },
-        Some(Entry::MutableUtf8(builder)) => match other {
-            Some(Entry::MutableUtf8(other)) => builder.try_extend_from_self(other)?,
-            _ => return Ok(Reply::NotMet),
-        },
-        Some(Entry::BinaryValues(builder)) => match other {
-            Some(Entry::BinaryValues(other)) => builder.try_extend_from_self(other)?,
-            _ => return Ok(Reply::NotMet),
-        },
-        Some(Entry::Utf8Values(builder)) => match other {
-            Some(Entry::Utf8Values(other)) => builder.try_extend_from_self(other)?,
-            _ => return Ok(Reply::NotMet),
-        },
+    let joined = match (entry, other) {
+        (Some(Entry::MutablePrimitive(builder)), Some(Entry::MutablePrimitive(other))) => {
+            builder.try_extend_from_self(other)
+        }
+        (Some(Entry::MutableBoolean(builder)), Some(Entry::MutableBoolean(other))) => {
+            builder.try_extend_from_self(other)
+        }
+        (Some(Entry::MutableBinary(builder)), Some(Entry::MutableBinary(other))) => {
+            builder.try_extend_from_self(other)
+        }
+        (Some(Entry::MutableUtf8(builder)), Some(Entry::MutableUtf8(other))) => {
+            builder.try_extend_from_self(other)
+        }
+        (Some(Entry::BinaryValues(builder)), Some(Entry::BinaryValues(other))) => {
+            builder.try_extend_from_self(other)
+        }
+        (Some(Entry::Utf8Values(builder)), Some(Entry::Utf8Values(other))) => {
+            builder.try_extend_from_self(other)
+        }
         _ => return Ok(Reply::NotMet),
-    }
+    };
+    joined?;
     Ok(Reply::Done)
 }
 
