@@ -8,7 +8,7 @@ ghost use Rattle.arrow_model.specs.Change.{cut_value};
 ghost use Rattle.arrow_model.specs.Kind.{is_frozen};
 ghost use Rattle.arrow_model.specs.Request as ask;
 
-use crate::command::ChangesEntry;
+use crate::command::{ChangesEntry, UpdatesEntry};
 use arrow_entry::{Entry, frozen, replace};
 use arrow_model::Reply;
 use arrow_types::data_type::DataType;
@@ -40,15 +40,12 @@ fn slice_array<T: NativeType, O: Offset>(entry: &mut Entry<T, O>, offset: usize,
 #[derive(Drop)]
 pub struct Slice(pub usize, pub usize);
 
-impl<T: NativeType, O: Offset> ChangesEntry<T, O> for Slice {
+impl<T: NativeType, O: Offset> UpdatesEntry<T, O> for Slice {
     ghost use Rattle.arrow_model.specs.Request.{slice};
 
     ghost asks = { λ command. slice command.0 command.1 };
 
-    fn run(&self, _alloc: Global, entry: &mut Option<Entry<T, O>>) -> Result<Reply<T>, Error> {
-        let Some(entry) = entry else {
-            return Ok(Reply::NotMet);
-        };
+    fn update(&self, _alloc: Global, entry: &mut Entry<T, O>) -> Result<Reply<T>, Error> {
         if !entry.is_array() {
             return Ok(Reply::NotMet);
         }
@@ -89,15 +86,17 @@ fn freeze_taken<T: NativeType, O: Offset>(
 ) -> (Option<Entry<T, O>>, Result<Reply<T>, Error>)
     ensures { EntryStep T.NativeType O.Offset ask.freeze taken (outcome result.1) result.0 }
 {
-    let Some(entry) = taken else {
-        return (None, Ok(Reply::NotMet));
-    };
-    if entry.is_array() {
-        return (Some(entry), Ok(Reply::NotMet));
-    }
-    match frozen(entry) {
-        Ok(array) => (Some(array), Ok(Reply::Done)),
-        Err(refused) => (None, Err(refused)),
+    match taken {
+        Some(entry) => {
+            if entry.is_array() {
+                return (Some(entry), Ok(Reply::NotMet));
+            }
+            match frozen(entry) {
+                Ok(array) => (Some(array), Ok(Reply::Done)),
+                Err(refused) => (None, Err(refused)),
+            }
+        }
+        none => (none, Ok(Reply::NotMet)),
     }
 }
 

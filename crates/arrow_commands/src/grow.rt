@@ -9,7 +9,7 @@ ghost use Rattle.arrow_model.specs.Item.{bit, bytes_item, stored_slot, value};
 ghost use Rattle.arrow_model.specs.Kind.{is_builder, is_var_binary, with_nulls};
 ghost use Rattle.arrow_model.specs.Request as ask;
 
-use crate::command::ChangesEntry;
+use crate::command::UpdatesEntry;
 use arrow_entry::{Entry, items_fit, push_items, push_slots, slots_fit};
 use arrow_model::{Item, Reply};
 use arrow_primitive::MutablePrimitiveArray;
@@ -22,16 +22,13 @@ use std::alloc::Global;
 #[derive(Drop)]
 pub struct Push<'a, T>(pub &'a Option<Item<T>>);
 
-impl<'a, T: NativeType, O: Offset> ChangesEntry<T, O> for Push<'a, T> {
+impl<'a, T: NativeType, O: Offset> UpdatesEntry<T, O> for Push<'a, T> {
     ghost use Rattle.arrow_model.specs.Item.{stored_slot};
     ghost use Rattle.arrow_model.specs.Request.{push};
 
     ghost asks = { λ command. push (stored_slot command.0.now) };
 
-    fn run(&self, _alloc: Global, entry: &mut Option<Entry<T, O>>) -> Result<Reply<T>, Error> {
-        let Some(entry) = entry else {
-            return Ok(Reply::NotMet);
-        };
+    fn update(&self, _alloc: Global, entry: &mut Entry<T, O>) -> Result<Reply<T>, Error> {
         if !entry.can_push(self.0) {
             return Ok(Reply::NotMet);
         }
@@ -44,15 +41,12 @@ impl<'a, T: NativeType, O: Offset> ChangesEntry<T, O> for Push<'a, T> {
 #[derive(Drop)]
 pub struct PushNull;
 
-impl<T: NativeType, O: Offset> ChangesEntry<T, O> for PushNull {
+impl<T: NativeType, O: Offset> UpdatesEntry<T, O> for PushNull {
     ghost use Rattle.arrow_model.specs.Request.{push_null};
 
     ghost asks = { λ command. push_null };
 
-    fn run(&self, _alloc: Global, entry: &mut Option<Entry<T, O>>) -> Result<Reply<T>, Error> {
-        let Some(entry) = entry else {
-            return Ok(Reply::NotMet);
-        };
+    fn update(&self, _alloc: Global, entry: &mut Entry<T, O>) -> Result<Reply<T>, Error> {
         if entry.is_array() {
             return Ok(Reply::NotMet);
         }
@@ -129,15 +123,12 @@ fn pop_slot<T: NativeType, O: Offset>(entry: &mut Entry<T, O>) -> Result<Option<
 #[derive(Drop)]
 pub struct Pop;
 
-impl<T: NativeType, O: Offset> ChangesEntry<T, O> for Pop {
+impl<T: NativeType, O: Offset> UpdatesEntry<T, O> for Pop {
     ghost use Rattle.arrow_model.specs.Request.{pop};
 
     ghost asks = { λ command. pop };
 
-    fn run(&self, _alloc: Global, entry: &mut Option<Entry<T, O>>) -> Result<Reply<T>, Error> {
-        let Some(entry) = entry else {
-            return Ok(Reply::NotMet);
-        };
+    fn update(&self, _alloc: Global, entry: &mut Entry<T, O>) -> Result<Reply<T>, Error> {
         if entry.is_array() {
             return Ok(Reply::NotMet);
         }
@@ -149,24 +140,21 @@ impl<T: NativeType, O: Offset> ChangesEntry<T, O> for Pop {
 #[derive(Drop)]
 pub struct Extend<'a, T>(pub &'a [Option<Item<T>>]);
 
-impl<'a, T: NativeType, O: Offset> ChangesEntry<T, O> for Extend<'a, T> {
+impl<'a, T: NativeType, O: Offset> UpdatesEntry<T, O> for Extend<'a, T> {
     ghost use Rattle.std.specs.Prelude.{map};
     ghost use Rattle.arrow_model.specs.Item.{stored_slot};
     ghost use Rattle.arrow_model.specs.Request.{extend};
 
     ghost asks = { λ command. extend (map stored_slot command.0.now) };
 
-    fn run(&self, _alloc: Global, entry: &mut Option<Entry<T, O>>) -> Result<Reply<T>, Error> {
-        let Some(builder) = entry else {
-            return Ok(Reply::NotMet);
-        };
-        if !builder.is_builder_with_nulls() {
+    fn update(&self, _alloc: Global, entry: &mut Entry<T, O>) -> Result<Reply<T>, Error> {
+        if !entry.is_builder_with_nulls() {
             return Ok(Reply::NotMet);
         }
-        if !slots_fit(builder.kind(), self.0) {
+        if !slots_fit(entry.kind(), self.0) {
             return Ok(Reply::NotMet);
         }
-        match push_slots(builder, self.0) {
+        match push_slots(entry, self.0) {
             Ok(()) => Ok(Reply::Done),
             Err(refused) => Err(refused),
         }
@@ -177,17 +165,14 @@ impl<'a, T: NativeType, O: Offset> ChangesEntry<T, O> for Extend<'a, T> {
 #[derive(Drop)]
 pub struct ExtendValues<'a, T>(pub &'a [Item<T>]);
 
-impl<'a, T: NativeType, O: Offset> ChangesEntry<T, O> for ExtendValues<'a, T> {
+impl<'a, T: NativeType, O: Offset> UpdatesEntry<T, O> for ExtendValues<'a, T> {
     ghost use Rattle.std.specs.Prelude.{map};
     ghost use Rattle.arrow_model.specs.Item.{stored_item};
     ghost use Rattle.arrow_model.specs.Request.{extend_values};
 
     ghost asks = { λ command. extend_values (map stored_item command.0.now) };
 
-    fn run(&self, _alloc: Global, entry: &mut Option<Entry<T, O>>) -> Result<Reply<T>, Error> {
-        let Some(entry) = entry else {
-            return Ok(Reply::NotMet);
-        };
+    fn update(&self, _alloc: Global, entry: &mut Entry<T, O>) -> Result<Reply<T>, Error> {
         if entry.is_array() {
             return Ok(Reply::NotMet);
         }
@@ -224,17 +209,15 @@ fn extend_natives<T: NativeType, O: Offset>(
 #[derive(Drop)]
 pub struct ExtendConstant<'a, T>(pub usize, pub &'a Option<Item<T>>);
 
-impl<'a, T: NativeType, O: Offset> ChangesEntry<T, O> for ExtendConstant<'a, T> {
+impl<'a, T: NativeType, O: Offset> UpdatesEntry<T, O> for ExtendConstant<'a, T> {
     ghost use Rattle.arrow_model.specs.Item.{stored_slot};
     ghost use Rattle.arrow_model.specs.Request.{extend_constant};
 
     ghost asks = { λ command. extend_constant command.0 (stored_slot command.1.now) };
 
-    fn run(&self, _alloc: Global, entry: &mut Option<Entry<T, O>>) -> Result<Reply<T>, Error> {
+    fn update(&self, _alloc: Global, entry: &mut Entry<T, O>) -> Result<Reply<T>, Error> {
         match entry {
-            Some(Entry::MutablePrimitive(builder)) => extend_natives::<T, O>(
-                builder, self.0, self.1,
-            ),
+            Entry::MutablePrimitive(builder) => extend_natives::<T, O>(builder, self.0, self.1),
             _ => Ok(Reply::NotMet),
         }
     }
@@ -268,15 +251,12 @@ fn reserve_room<T: NativeType, O: Offset>(
 #[derive(Drop)]
 pub struct Reserve(pub usize, pub usize);
 
-impl<T: NativeType, O: Offset> ChangesEntry<T, O> for Reserve {
+impl<T: NativeType, O: Offset> UpdatesEntry<T, O> for Reserve {
     ghost use Rattle.arrow_model.specs.Request.{reserve};
 
     ghost asks = { λ command. reserve };
 
-    fn run(&self, _alloc: Global, entry: &mut Option<Entry<T, O>>) -> Result<Reply<T>, Error> {
-        let Some(entry) = entry else {
-            return Ok(Reply::NotMet);
-        };
+    fn update(&self, _alloc: Global, entry: &mut Entry<T, O>) -> Result<Reply<T>, Error> {
         if entry.is_array() {
             return Ok(Reply::NotMet);
         }
@@ -309,15 +289,12 @@ fn drop_room<T: NativeType, O: Offset>(entry: &mut Entry<T, O>) -> Result<(), Er
 #[derive(Drop)]
 pub struct Shrink;
 
-impl<T: NativeType, O: Offset> ChangesEntry<T, O> for Shrink {
+impl<T: NativeType, O: Offset> UpdatesEntry<T, O> for Shrink {
     ghost use Rattle.arrow_model.specs.Request.{shrink};
 
     ghost asks = { λ command. shrink };
 
-    fn run(&self, _alloc: Global, entry: &mut Option<Entry<T, O>>) -> Result<Reply<T>, Error> {
-        let Some(entry) = entry else {
-            return Ok(Reply::NotMet);
-        };
+    fn update(&self, _alloc: Global, entry: &mut Entry<T, O>) -> Result<Reply<T>, Error> {
         if entry.is_array() {
             return Ok(Reply::NotMet);
         }

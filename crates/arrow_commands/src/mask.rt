@@ -6,7 +6,7 @@ ghost use Rattle.arrow_entry.specs.Entry.{value_of};
 ghost use Rattle.arrow_model.specs.Change.{with_value_mask};
 ghost use Rattle.arrow_model.specs.Kind.{applies_mask, sets_mask};
 
-use crate::command::ChangesEntry;
+use crate::command::UpdatesEntry;
 use arrow_boolean::BooleanArray;
 use arrow_byte_array::{ByteArray, MutableByteArray};
 use arrow_bytes::{Binary, ByteKind, Utf8};
@@ -57,15 +57,22 @@ fn replace_mask<T: NativeType, O: Offset>(
     ensures ok { OnOk result (value_of entry.new ≡ with_value_mask (value_of entry.old) mask) }
     ensures err { OutOfMemoryKeeps result (value_of entry.old) (value_of entry.new) }
 {
-    match entry {
-        Entry::Primitive(array) => array.set_validity(frozen_mask(mask)?),
-        Entry::Boolean(array) => array.set_validity(frozen_mask(mask)?),
-        Entry::Binary(array) => array.set_validity(frozen_mask(mask)?),
-        Entry::Utf8(array) => array.set_validity(frozen_mask(mask)?),
-        Entry::MutablePrimitive(builder) => builder.set_validity(mask),
-        Entry::MutableBinary(builder) => builder.set_validity(mask),
-        Entry::MutableUtf8(builder) => builder.set_validity(mask),
-        _ => unreachable!(),
+    if entry.is_array() {
+        let mask = frozen_mask(mask)?;
+        match entry {
+            Entry::Primitive(array) => array.set_validity(mask),
+            Entry::Boolean(array) => array.set_validity(mask),
+            Entry::Binary(array) => array.set_validity(mask),
+            Entry::Utf8(array) => array.set_validity(mask),
+            _ => unreachable!(),
+        }
+    } else {
+        match entry {
+            Entry::MutablePrimitive(builder) => builder.set_validity(mask),
+            Entry::MutableBinary(builder) => builder.set_validity(mask),
+            Entry::MutableUtf8(builder) => builder.set_validity(mask),
+            _ => unreachable!(),
+        }
     }
     Ok(())
 }
@@ -74,28 +81,26 @@ fn replace_mask<T: NativeType, O: Offset>(
 #[derive(Drop)]
 pub struct SetMask<'a>(pub &'a Option<Vec<bool>>);
 
-impl<'a, T: NativeType, O: Offset> ChangesEntry<T, O> for SetMask<'a> {
+impl<'a, T: NativeType, O: Offset> UpdatesEntry<T, O> for SetMask<'a> {
     ghost use Rattle.std.specs.Prelude.{option_map};
     ghost use Rattle.arrow_model.specs.Request.{set_mask};
 
     ghost asks = { λ command. set_mask (option_map (λ marks. marks.items) command.0.now) };
 
-    fn run(&self, alloc: Global, entry: &mut Option<Entry<T, O>>) -> Result<Reply<T>, Error> {
-        let Some(entry) = entry else {
-            return Ok(Reply::NotMet);
-        };
+    fn update(&self, alloc: Global, entry: &mut Entry<T, O>) -> Result<Reply<T>, Error> {
         if !sets_mask(entry) {
             return Ok(Reply::NotMet);
         }
-        let Some(marks) = self.0 else {
-            replace_mask(entry, None)?;
-            return Ok(Reply::Done);
+        let mask = match self.0 {
+            Some(marks) => {
+                if marks.len() != entry.len() {
+                    return Ok(Reply::NotMet);
+                }
+                Some(MutableBitmap::from_slice(alloc, marks.as_slice())?)
+            }
+            None => None,
         };
-        if marks.len() != entry.len() {
-            return Ok(Reply::NotMet);
-        }
-        let mask = MutableBitmap::from_slice(alloc, marks.as_slice())?;
-        replace_mask(entry, Some(mask))?;
+        replace_mask(entry, mask)?;
         Ok(Reply::Done)
     }
 }
@@ -150,14 +155,22 @@ fn marks_of<T: NativeType, O: Offset>(entry: &Entry<T, O>) -> Option<BitmapIter<
     requires { IsTrue (applies_mask (value_of entry.now).shape) }
     ensures { result ≡ mask_of (value_of entry.now).column }
 {
-    match entry {
-        Entry::Primitive(array) => Some(array.validity()?.iter()),
-        Entry::Boolean(array) => Some(array.validity()?.iter()),
-        Entry::Binary(array) => Some(array.validity()?.iter()),
-        Entry::Utf8(array) => Some(array.validity()?.iter()),
-        Entry::MutableBinary(builder) => Some(builder.validity()?.iter()),
-        Entry::MutableUtf8(builder) => Some(builder.validity()?.iter()),
-        _ => unreachable!(),
+    if entry.is_array() {
+        let mask = match entry {
+            Entry::Primitive(array) => array.validity(),
+            Entry::Boolean(array) => array.validity(),
+            Entry::Binary(array) => array.validity(),
+            Entry::Utf8(array) => array.validity(),
+            _ => unreachable!(),
+        };
+        Some(mask?.iter())
+    } else {
+        let mask = match entry {
+            Entry::MutableBinary(builder) => builder.validity(),
+            Entry::MutableUtf8(builder) => builder.validity(),
+            _ => unreachable!(),
+        };
+        Some(mask?.iter())
     }
 }
 
@@ -283,36 +296,32 @@ fn change_mask<T: NativeType, O: Offset>(
 #[derive(Drop)]
 pub struct ApplyMask<'a, T>(pub &'a Change<T>);
 
-impl<'a, T: NativeType, O: Offset> ChangesEntry<T, O> for ApplyMask<'a, T> {
+impl<'a, T: NativeType, O: Offset> UpdatesEntry<T, O> for ApplyMask<'a, T> {
     ghost use Rattle.arrow_model.specs.Item.{change_of};
     ghost use Rattle.arrow_model.specs.Request.{apply_mask};
 
     ghost asks = { λ command. apply_mask (change_of command.0.now) };
 
-    fn run(&self, alloc: Global, entry: &mut Option<Entry<T, O>>) -> Result<Reply<T>, Error> {
-        let Some(entry) = entry else {
-            return Ok(Reply::NotMet);
-        };
+    fn update(&self, alloc: Global, entry: &mut Entry<T, O>) -> Result<Reply<T>, Error> {
         if !applies_mask(entry) {
             return Ok(Reply::NotMet);
         }
-        match self.0 {
+        let marks = match self.0 {
             Change::Fill(Item::Bit(mark)) => {
-                if entry.is_masked() {
-                    let marks = filled(alloc, entry.len(), *mark)?;
-                    change_mask(entry, marks)?;
+                if !entry.is_masked() {
+                    return Ok(Reply::Done);
                 }
-                Ok(Reply::Done)
+                filled(alloc, entry.len(), *mark)?
             }
             Change::Reverse => {
                 let Some(marks) = marks_of(entry) else {
                     return Ok(Reply::Done);
                 };
-                let marks = reversed(alloc, marks)?;
-                change_mask(entry, marks)?;
-                Ok(Reply::Done)
+                reversed(alloc, marks)?
             }
-            _ => Ok(Reply::NotMet),
-        }
+            _ => return Ok(Reply::NotMet),
+        };
+        change_mask(entry, marks)?;
+        Ok(Reply::Done)
     }
 }

@@ -11,7 +11,7 @@ ghost use Rattle.arrow_model.specs.Item.{bit, can_replace, change_of, fits, slot
 ghost use Rattle.arrow_model.specs.Kind.{boolean, native, shape};
 ghost use Rattle.arrow_model.specs.Request as ask;
 
-use crate::command::ChangesEntry;
+use crate::command::UpdatesEntry;
 use arrow_boolean::BooleanArray;
 use arrow_column::LendValues;
 use arrow_entry::{Entry, items_fit};
@@ -103,17 +103,14 @@ fn replace_values<T: NativeType, O: Offset>(
 #[derive(Drop)]
 pub struct SetValues<'a, T>(pub &'a [Item<T>]);
 
-impl<'a, T: NativeType, O: Offset> ChangesEntry<T, O> for SetValues<'a, T> {
+impl<'a, T: NativeType, O: Offset> UpdatesEntry<T, O> for SetValues<'a, T> {
     ghost use Rattle.std.specs.Prelude.{map};
     ghost use Rattle.arrow_model.specs.Item.{stored_item};
     ghost use Rattle.arrow_model.specs.Request.{set_values};
 
     ghost asks = { λ command. set_values (map stored_item command.0.now) };
 
-    fn run(&self, alloc: Global, entry: &mut Option<Entry<T, O>>) -> Result<Reply<T>, Error> {
-        let Some(entry) = entry else {
-            return Ok(Reply::NotMet);
-        };
+    fn update(&self, alloc: Global, entry: &mut Entry<T, O>) -> Result<Reply<T>, Error> {
         if !all_fit(entry.kind(), self.0, entry.len()) {
             return Ok(Reply::NotMet);
         }
@@ -197,47 +194,27 @@ fn reverse_bits(array: &mut BooleanArray) -> Result<(), Error>
 }
 
 /// Changes the stored values of a builder of native values, or of a boolean array: all become equal, or are reversed.
-///
-/// # Errors
-/// `OutOfMemory` if an allocation fails; the entry is then as before.
-#[tactic(auto, using(arrow_entry::proofs::CallerLemmas::seen_reads, arrow_entry::proofs::CallerLemmas::seen_changes, crate::proofs::ValueLists::seen_turns))]
-fn change_values<T: NativeType, O: Offset>(
-    entry: &mut Entry<T, O>,
-    change: &Change<T>,
-) -> Result<Reply<T>, Error>
-    ensures { StepOfHeld T.NativeType O.Offset (ask.apply_values (change_of change.now)) entry.old result entry.new }
-{
-    match entry {
-        Entry::MutablePrimitive(builder) => match change {
-            Change::Fill(Item::Value(x)) => fill_values(builder, *x),
-            Change::Reverse => reverse_values(builder),
-            _ => return Ok(Reply::NotMet),
-        },
-        Entry::Boolean(array) => match change {
-            Change::Fill(Item::Bit(x)) => fill_bits(array, *x)?,
-            Change::Reverse => reverse_bits(array)?,
-            _ => return Ok(Reply::NotMet),
-        },
-        _ => return Ok(Reply::NotMet),
-    }
-    Ok(Reply::Done)
-}
-
-/// Changes the stored values of a builder of native values, or of a boolean array: all become equal, or are reversed.
 #[derive(Drop)]
 pub struct ApplyValues<'a, T>(pub &'a Change<T>);
 
-impl<'a, T: NativeType, O: Offset> ChangesEntry<T, O> for ApplyValues<'a, T> {
+#[tactic(auto, using(arrow_entry::proofs::CallerLemmas::seen_reads, arrow_entry::proofs::CallerLemmas::seen_changes, crate::proofs::ValueLists::seen_turns))]
+impl<'a, T: NativeType, O: Offset> UpdatesEntry<T, O> for ApplyValues<'a, T> {
     ghost use Rattle.arrow_model.specs.Item.{change_of};
     ghost use Rattle.arrow_model.specs.Request.{apply_values};
 
     ghost asks = { λ command. apply_values (change_of command.0.now) };
 
-    fn run(&self, _alloc: Global, entry: &mut Option<Entry<T, O>>) -> Result<Reply<T>, Error> {
-        match entry {
-            Some(entry) => change_values(entry, self.0),
-            None => Ok(Reply::NotMet),
+    fn update(&self, _alloc: Global, entry: &mut Entry<T, O>) -> Result<Reply<T>, Error> {
+        match (entry, self.0) {
+            (Entry::MutablePrimitive(builder), Change::Fill(Item::Value(x))) => {
+                fill_values(builder, *x)
+            }
+            (Entry::MutablePrimitive(builder), Change::Reverse) => reverse_values(builder),
+            (Entry::Boolean(array), Change::Fill(Item::Bit(x))) => fill_bits(array, *x)?,
+            (Entry::Boolean(array), Change::Reverse) => reverse_bits(array)?,
+            _ => return Ok(Reply::NotMet),
         }
+        Ok(Reply::Done)
     }
 }
 
@@ -296,16 +273,13 @@ fn set_slot<T: NativeType, O: Offset>(
 #[derive(Drop)]
 pub struct Set<'a, T>(pub usize, pub &'a Option<Item<T>>);
 
-impl<'a, T: NativeType, O: Offset> ChangesEntry<T, O> for Set<'a, T> {
+impl<'a, T: NativeType, O: Offset> UpdatesEntry<T, O> for Set<'a, T> {
     ghost use Rattle.arrow_model.specs.Item.{stored_slot};
     ghost use Rattle.arrow_model.specs.Request.{set};
 
     ghost asks = { λ command. set command.0 (stored_slot command.1.now) };
 
-    fn run(&self, _alloc: Global, entry: &mut Option<Entry<T, O>>) -> Result<Reply<T>, Error> {
-        let Some(entry) = entry else {
-            return Ok(Reply::NotMet);
-        };
+    fn update(&self, _alloc: Global, entry: &mut Entry<T, O>) -> Result<Reply<T>, Error> {
         if self.0 >= entry.len() {
             return Ok(Reply::NotMet);
         }
@@ -359,16 +333,13 @@ fn write_item<T: NativeType, O: Offset>(
 #[derive(Drop)]
 pub struct Write<'a, T>(pub usize, pub &'a Item<T>);
 
-impl<'a, T: NativeType, O: Offset> ChangesEntry<T, O> for Write<'a, T> {
+impl<'a, T: NativeType, O: Offset> UpdatesEntry<T, O> for Write<'a, T> {
     ghost use Rattle.arrow_model.specs.Item.{stored_item};
     ghost use Rattle.arrow_model.specs.Request.{write};
 
     ghost asks = { λ command. write command.0 (stored_item command.1.now) };
 
-    fn run(&self, _alloc: Global, entry: &mut Option<Entry<T, O>>) -> Result<Reply<T>, Error> {
-        let Some(entry) = entry else {
-            return Ok(Reply::NotMet);
-        };
+    fn update(&self, _alloc: Global, entry: &mut Entry<T, O>) -> Result<Reply<T>, Error> {
         if self.0 >= entry.len() {
             return Ok(Reply::NotMet);
         }

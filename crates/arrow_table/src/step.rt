@@ -10,7 +10,7 @@ use crate::check_indexes::check_indexes;
 use crate::equal::equal_at;
 use crate::extend_from_self::extend_at;
 use arrow_check::cost::TextCost;
-use arrow_commands::command::{read_at, run_at};
+use arrow_commands::command::{read_at, run_at, update_at};
 use arrow_commands::convert::{DropEntry, Freeze, Nullable, Slice, Thaw, To};
 use arrow_commands::grow::{
     Extend, ExtendConstant, ExtendValues, Pop, Push, PushNull, Reserve, Shrink,
@@ -67,24 +67,29 @@ fn change<T: NativeType, O: Offset>(
         &Command::Held(e) => read_at(alloc, entries, e, Held),
         &Command::Bytes(e) => read_at(alloc, entries, e, Bytes),
         &Command::Offsets(e) => read_at(alloc, entries, e, Offsets),
-        &Command::Slice(e, offset, length) => run_at(alloc, entries, e, Slice(offset, length)),
+        &Command::Slice(e, offset, length) => update_at(alloc, entries, e, Slice(offset, length)),
         &Command::Clone(e, f) => put_at(alloc, entries, f, Clone(e)),
         &Command::Drop(e) => run_at(alloc, entries, e, DropEntry),
-        Command::SetMask(e, mask) => run_at(alloc, entries, *e, SetMask(mask)),
-        Command::ApplyMask(e, change) => run_at(alloc, entries, *e, ApplyMask(change)),
-        Command::SetValues(e, items) => run_at(alloc, entries, *e, SetValues(items)),
-        Command::ApplyValues(e, change) => run_at(alloc, entries, *e, ApplyValues(change)),
-        Command::Set(e, i, slot) => run_at(alloc, entries, *e, Set(*i, slot)),
-        Command::Write(e, i, item) => run_at(alloc, entries, *e, Write(*i, item)),
-        Command::Push(e, slot) => run_at(alloc, entries, *e, Push(slot)),
-        &Command::PushNull(e) => run_at(alloc, entries, e, PushNull),
-        &Command::Pop(e) => run_at(alloc, entries, e, Pop),
-        Command::Extend(e, slots) => run_at(alloc, entries, *e, Extend(slots)),
-        Command::ExtendValues(e, items) => run_at(alloc, entries, *e, ExtendValues(items)),
-        Command::ExtendConstant(e, n, slot) => run_at(alloc, entries, *e, ExtendConstant(*n, slot)),
+        Command::SetMask(e, mask) => update_at(alloc, entries, *e, SetMask(mask)),
+        Command::ApplyMask(e, change) => update_at(alloc, entries, *e, ApplyMask(change)),
+        Command::SetValues(e, items) => update_at(alloc, entries, *e, SetValues(items)),
+        Command::ApplyValues(e, change) => update_at(alloc, entries, *e, ApplyValues(change)),
+        Command::Set(e, i, slot) => update_at(alloc, entries, *e, Set(*i, slot)),
+        Command::Write(e, i, item) => update_at(alloc, entries, *e, Write(*i, item)),
+        Command::Push(e, slot) => update_at(alloc, entries, *e, Push(slot)),
+        &Command::PushNull(e) => update_at(alloc, entries, e, PushNull),
+        &Command::Pop(e) => update_at(alloc, entries, e, Pop),
+        Command::Extend(e, slots) => update_at(alloc, entries, *e, Extend(slots)),
+        Command::ExtendValues(e, items) => update_at(alloc, entries, *e, ExtendValues(items)),
+        Command::ExtendConstant(e, n, slot) => update_at(
+            alloc,
+            entries,
+            *e,
+            ExtendConstant(*n, slot),
+        ),
         &Command::ExtendFromSelf(e, f) => extend_at(entries, e, f),
-        &Command::Reserve(e, slots, bytes) => run_at(alloc, entries, e, Reserve(slots, bytes)),
-        &Command::Shrink(e) => run_at(alloc, entries, e, Shrink),
+        &Command::Reserve(e, slots, bytes) => update_at(alloc, entries, e, Reserve(slots, bytes)),
+        &Command::Shrink(e) => update_at(alloc, entries, e, Shrink),
         &Command::Freeze(e) => run_at(alloc, entries, e, Freeze),
         &Command::Thaw(e) => run_at(alloc, entries, e, Thaw),
         &Command::Nullable(e) => run_at(alloc, entries, e, Nullable),

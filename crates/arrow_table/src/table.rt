@@ -17,7 +17,7 @@ use crate::sequence::{Executor, run_all};
 use crate::step::{reply_of, step};
 use crate::{Command, Entry, Item, Kind, Parts, Reply};
 use arrow_check::cost::TextCost;
-use arrow_commands::command::run_at;
+use arrow_commands::command::update_at;
 use arrow_commands::grow::Push;
 use arrow_creation::parts::parts_at;
 use arrow_entry::entry_at;
@@ -108,7 +108,7 @@ impl<T: NativeType, O: Offset> Table<T, O> {
             (answer_of result) self.new }
     {
         let alloc = *self.entries.allocator();
-        reply_of(run_at(alloc, &mut self.entries, i, Push(slot)))
+        reply_of(update_at(alloc, &mut self.entries, i, Push(slot)))
     }
 
     /// Makes a value of raw parts in an empty entry, and returns the reply. This is the command `Parts`, but the parts

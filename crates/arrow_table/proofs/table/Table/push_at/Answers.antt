@@ -10,6 +10,6 @@ use Rattle.arrow_table.proofs.table.Table.push_at.Goals as goal
 pub invariant_of-self : goal.invariant_of-self
 invariant_of-self g c =
     fine-changes (types g.T.NativeType.zero g.T.NativeType.PRIMITIVE g.O.Offset.most g.O.Offset.IS_LARGE)
-    (state_of c.self.inside.entries.items) (at c.args.i (push (stored_slot c.args.slot.now))) (outcome c.run_at.result)
-    (state_of c.run_at.new.entries.items) (request-is g.O.Offset.number (command.Push c.args.i c.args.slot.now))
-    c.self.invariant c.run_at.ensures
+    (state_of c.self.inside.entries.items) (at c.args.i (push (stored_slot c.args.slot.now))) (outcome c.update_at.result)
+    (state_of c.update_at.new.entries.items) (request-is g.O.Offset.number (command.Push c.args.i c.args.slot.now))
+    c.self.invariant c.update_at.ensures
