@@ -1,10 +1,11 @@
 -- What is put into an empty entry is a step of the whole table.
 use Rattle.std.proofs.Common.{◌≡◌, ℕ, true, false, List, map, is_some, slice_get, slice_set, Option, Some, None}
-use Rattle.std.proofs.Common.{option_map, refl, arith}
+use Rattle.std.proofs.Common.{option_map, Ok, refl, arith}
+use Rattle.arrow_creation.specs.Outcome.{MadeBy}
 use Rattle.arrow_entry.specs.declared.entry.Entry.{Entry}
 use Rattle.arrow_entry.specs.Entry.{value_of}
 use Rattle.arrow_entry.proofs.CallerLemmas.{at-row, stays-row}
-use Rattle.arrow_model.specs.Answer.{Answer, not_met}
+use Rattle.arrow_model.specs.Answer.{Answer, done, not_met}
 use Rattle.arrow_model.specs.Transition.{Transition}
 use Rattle.arrow_model.specs.Step.{AtEntry, IntoEmpty}
 
@@ -25,6 +26,17 @@ module _ {T O : Type 0} (row : Transition T) where
       → IntoEmpty row (option_map value_of x) reply (option_map value_of x)
   none-stays None reply none h = h
   none-stays (Some entry) reply none h = grind arith
+
+  -- what was made, and the answer
+  pub made-done : (made : Option (Entry T O)) → is_some made ≡ true → MadeBy (Ok made) row
+      → row done (option_map value_of made)
+  made-done None some h = grind arith
+  made-done (Some entry) some h = h
+
+  pub made-unmet : (made : Option (Entry T O)) → is_some made ≡ false → MadeBy (Ok made) row
+      → row not_met (option_map value_of made)
+  made-unmet None none h = h
+  made-unmet (Some entry) none h = grind arith
 
   -- an entry of a table, which was read
   module _ (entries : List (Option (Entry T O))) (e : ℕ) (x : Option (Entry T O))

@@ -16,7 +16,7 @@ use crate::kinds::{builder_kind, holds_values_alone, is_array};
 use crate::make::MakesEntry;
 use arrow_binary::BinaryArray;
 use arrow_boolean::BooleanArray;
-use arrow_entry::{Entry, frozen, items_fit, push_items, push_slots, slots_fit};
+use arrow_entry::{Entry, discard, frozen, items_fit, push_items, push_slots, slots_fit};
 use arrow_model::{Item, Kind};
 use arrow_primitive::PrimitiveArray;
 use arrow_types::data_type::DataType;
@@ -157,8 +157,7 @@ fn finish<T: NativeType, O: Offset>(
             }
         }
         Err(refused) => {
-            // By a call: without one, what each of the ten kinds drops would be proved again here.
-            drop(builder);
+            discard(builder);
             Err(refused)
         }
     }

@@ -48,11 +48,12 @@ pub fn put_at<T: NativeType, O: Offset, R: MakesEntry<T, O>>(
     if entries[e].is_some() {
         return Ok(Reply::NotMet);
     }
-    match command.make(alloc, entries)? {
-        Some(made) => {
-            replace(&mut entries[e], Some(made));
-            Ok(Reply::Done)
-        }
-        None => Ok(Reply::NotMet),
-    }
+    let made = command.make(alloc, entries)?;
+    let reply = if made.is_some() {
+        Reply::Done
+    } else {
+        Reply::NotMet
+    };
+    replace(&mut entries[e], made);
+    Ok(reply)
 }

@@ -67,13 +67,14 @@ fn put_parts<T: NativeType, O: Offset>(
     if entry.is_some() {
         return Ok(Reply::NotMet);
     }
-    match entry_from_parts(given, cost)? {
-        Some(made) => {
-            replace(entry, Some(made));
-            Ok(Reply::Done)
-        }
-        None => Ok(Reply::NotMet),
-    }
+    let made = entry_from_parts(given, cost)?;
+    let reply = if made.is_some() {
+        Reply::Done
+    } else {
+        Reply::NotMet
+    };
+    replace(entry, made);
+    Ok(reply)
 }
 
 /// Puts what raw parts make into the entry at an index; the command's condition fails if that is not empty or

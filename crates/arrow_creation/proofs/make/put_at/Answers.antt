@@ -1,11 +1,12 @@
-use Rattle.std.proofs.Common.{◌<◌, length, rules, Some, arith}
+use Rattle.std.proofs.Common.{◌<◌, length, option_map, rules, arith}
 use Rattle.std.proofs.lemmas.Result.{err_from_is_err_and}
 use Rattle.arrow_types.specs.Types.{refusal}
-use Rattle.arrow_entry.specs.Entry.{state_of}
-use Rattle.arrow_model.specs.Answer.{done, not_met, refused}
+use Rattle.arrow_entry.specs.Entry.{state_of, value_of}
+use Rattle.arrow_model.specs.Answer.{answer_of, refused}
 use Rattle.arrow_entry.proofs.CallerLemmas.{got}
-use Rattle.arrow_creation.proofs.Steps.{empty-filled, empty-stays, filled-unmet}
+use Rattle.arrow_creation.proofs.Steps.{empty-filled, empty-stays, filled-unmet, made-done, made-unmet}
 use Rattle.arrow_creation.proofs.make.put_at.Goals as goal
+use Rattle.arrow_creation.proofs.make.put_at.Goals.{else-is_some-2, then-is_some-2}
 
 pub returns-then-is_some : goal.returns-then-is_some
 returns-then-is_some g c =
@@ -29,17 +30,15 @@ pub returns : goal.returns
 returns g c =
     let entries = c.args.entries.now.items in
     let within : c.args.e < length entries = omega arith in
-    empty-stays (g.R.MakesEntry.makes c.args.command (state_of entries)) entries c.args.e c.index.result.now
-    (got entries c.args.e c.index.result.now c.index.result.now within c.index.ensures)
-    not_met (search rules) (rw (c.in-None.is) at c.in_ok-made.ensures)
-
-pub returns-in-Some : goal.returns-in-Some
-returns-in-Some g c =
-    let entries = c.args.entries.now.items in
-    let within : c.args.e < length entries = omega arith in
     let row = g.R.MakesEntry.makes c.args.command (state_of entries) in
+    let made = c.in_ok-made.made in
+    let answer = answer_of c.if-is_some-2.reply in
+    let puts : row answer (option_map value_of made) = elim c.if-is_some-2.branch [
+      | then-is_some-2 w ↦ rw w.reply-is (made-done row made (search rules) c.in_ok-made.ensures)
+      | else-is_some-2 w ↦ rw w.reply-is (made-unmet row made (search rules) c.in_ok-made.ensures)
+    ] in
     rw c.replace.ensures (
     empty-filled row entries c.args.e c.index.result.now
     (got entries c.args.e c.index.result.now c.index.result.now within c.index.ensures)
-    (Some c.in-Some.made) done (search rules) (rw (c.in-Some.is) at c.in_ok-made.ensures)
+    made answer (search rules) puts
     )
