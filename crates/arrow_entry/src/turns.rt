@@ -3,7 +3,7 @@ ghost use Rattle.std.specs.Prelude.{◌≡◌, IfOk, List, map, option_map, ⊤}
 ghost use Rattle.std.specs.Iterator.{YieldsFirstBy, YieldsLastBy};
 ghost use Rattle.arrow_column.specs.Column.{stored_values};
 ghost use Rattle.arrow_entry.specs.Entry.{value_of};
-ghost use Rattle.arrow_entry.specs.Slot.{StoresAs, stored_ref};
+ghost use Rattle.arrow_entry.specs.Slot.{AreTurnsOf, StoresAs, stored_ref};
 ghost use Rattle.arrow_memory.specs.Items.{SkipsThenFirstBy};
 ghost use Rattle.arrow_model.specs.Change.{TurnGives, turns_of};
 ghost use Rattle.arrow_model.specs.Item.{Stored, stored_item, stored_slot};
@@ -207,8 +207,8 @@ fn all_turns<T: NativeType, I: TurnsIterator>(
 where
     I::Item: SlotItem<T>,
     requires { I.can_turn items }
-    ensures { StoresAs I.Item.stored I.seen (λ stored. IfOk result (λ slots.
-        map stored_slot slots.items ≡ turns_of turns.now (map stored (I.left items)))) }
+    ensures { StoresAs I.Item.stored I.seen
+        (λ stored. IfOk result (λ slots. AreTurnsOf turns.now stored (I.left items) slots.items)) }
 {
     let mut slots = Vec::new(alloc);
     for i in 0..turns.len() {
