@@ -198,8 +198,10 @@ pub(crate) fn check_stored_items<K: ByteKind, O: Offset>(
     };
     let array = answer.expect(rt, row);
     let data_type = K::default_type(O::IS_LARGE);
-    check_value(rt, row, array.data_type(), &data_type);
+    let default_type = Text::of(format_args!("{data_type}"));
     drop(data_type);
+    let of_array = Text::of(format_args!("{}", array.data_type()));
+    assert_text::text(of_array, default_type.as_str()).expect(rt, row);
     let came = array.offsets().buffer().as_slice();
     check_value(rt, row, came.len(), offsets.len());
     for (i, (offset, expected)) in came.iter().zip(offsets.iter()).enumerate() {

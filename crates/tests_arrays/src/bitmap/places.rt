@@ -49,11 +49,13 @@ fn check_appends(rt: &(impl Abort + AllocGlobal), source: &Bitmap, head: usize, 
     let first = MutableBitmap::from_iter(rt.alloc(), source.iter_range(0, head));
     let first = first.expect(rt, "memory");
     let mut expected = first.clone().expect(rt, "memory");
-    for (len, mark) in source.iter_range(start, 1060).enumerate() {
+    let mut marks = source.iter_range(start, 1060);
+    for len in 0..1060 {
         // The longer ones have more than the 64 bytes that are copied at a time.
         if len < 200 || 500 <= len && len < 550 || 1020 <= len {
             check_append(rt, source, &first, (start, len), &expected);
         }
+        let mark = marks.next().expect(rt, "a mark for each length");
         expected.push(mark).expect(rt, "memory");
     }
     drop(expected);

@@ -54,9 +54,10 @@ macro_rules! check_slots {
         let rest = (slots.size_hint(), slots.next(), slots.next_back(), slots.next());
         let expected = "(\"iter, the null between\", ((1, Some(1)), Some(None), None, None))";
         check_text($rt, $case, ("iter, the null between", rest), expected);
-        let name = Text::of(format_args!("into_iter of {}", $case));
-        let all = concat!("[", $one, " _ ", $two, "]");
-        assert_text::slots($array.into_iter(), all).expect($rt, name.as_str());
+        let mut slots = $array.into_iter();
+        let all = (slots.next(), slots.next(), slots.next(), slots.next());
+        let expected = concat!("(\"into_iter\", (Some(Some(", $one, ")), Some(None), Some(Some(", $two, ")), None))");
+        check_text($rt, $case, ("into_iter", all), expected);
         let mut items = $array.values_iter();
         let ends = (items.size_hint(), items.next(), items.next_back());
         let expected = concat!("(\"values_iter\", ((3, Some(3)), Some(", $one, "), Some(", $two, ")))");
@@ -164,6 +165,15 @@ fn slots_are_read_by_index_and_from_both_ends(rt: HostRuntime) {
     for_both_widths!(check_all, &rt);
 }
 
+/// Appends to a text what an iterator over slots returned, `_` for a null and a period at the end.
+fn append<T: Copy + Debug>(text: Text, slot: Option<Option<T>>) -> Text {
+    match slot {
+        Some(Some(item)) => text.and(format_args!("{item:?} "), 40),
+        Some(None) => text.and("_ ", 2),
+        None => text.and(".", 1),
+    }
+}
+
 /// A name, an offset and a length, and the slots from either end.
 type Range<'a> = (&'a str, usize, usize, &'a str, &'a str);
 
@@ -174,10 +184,14 @@ macro_rules! check_ranges {
             let name = case_of::<$kind, O>(row(*case, index).as_str());
             let case = name.as_str();
             assert!($rt; *offset <= $array.len() && *len <= $array.len() - *offset);
-            let range = $array.iter_range(*offset, *len);
-            assert_text::value(range.size_hint(), (*len, Some(*len))).expect($rt, case);
-            assert_text::slots(range, *slots).expect($rt, case);
-            assert_text::slots($array.iter_range(*offset, *len).rev(), *reversed).expect($rt, case);
+            let (mut front, mut back) = ($array.iter_range(*offset, *len), $array.iter_range(*offset, *len));
+            assert_text::value(front.size_hint(), (*len, Some(*len))).expect($rt, case);
+            let mut texts = (Text::new(), Text::new());
+            for _ in 0..len.saturating_add(1) {
+                texts = (append(texts.0, front.next()), append(texts.1, back.next_back()));
+            }
+            assert_text::text(texts.0, *slots).expect($rt, case);
+            assert_text::text(texts.1, *reversed).expect($rt, case);
         }
     };
 }
@@ -203,16 +217,16 @@ macro_rules! check_item_range {
 fn check_ranges_of_texts<O: Offset>(rt: &(impl Abort + AllocGlobal)) {
     let mut array: ByteArray<Utf8, O> = array_of(rt, (&[1, 3, 3, 4, 7], b"-abcdef-", "1101"));
     let ranges: &[Range<'_>] = &[
-        ("all", 0, 4, r#"["ab" "" _ "def"]"#, r#"["def" _ "" "ab"]"#),
-        ("the last two", 2, 2, r#"[_ "def"]"#, r#"["def" _]"#),
-        ("none in the middle", 1, 0, "[]", "[]"),
-        ("none at the end", 4, 0, "[]", "[]"),
+        ("all", 0, 4, r#""ab" "" _ "def" ."#, r#""def" _ "" "ab" ."#),
+        ("the last two", 2, 2, r#"_ "def" ."#, r#""def" _ ."#),
+        ("none in the middle", 1, 0, ".", "."),
+        ("none at the end", 4, 0, ".", "."),
     ];
     check_texts(rt, &array, ranges);
     assert!(rt; array.len() == 4);
     check_item_range!(rt, "a null of text", Utf8, array, 2, r#""c""#, r#""def""#);
     array.slice(1, 3);
-    check_texts(rt, &array, &[("a null of a slice", 1, 1, "[_]", "[_]")]);
+    check_texts(rt, &array, &[("a null of a slice", 1, 1, "_ .", "_ .")]);
     assert!(rt; array.len() == 3);
     check_item_range!(rt, "items of a slice", Utf8, array, 0, r#""""#, r#""c""#);
     drop(array);
@@ -221,15 +235,15 @@ fn check_ranges_of_texts<O: Offset>(rt: &(impl Abort + AllocGlobal)) {
 fn check_ranges_of_bytes<O: Offset>(rt: &(impl Abort + AllocGlobal)) {
     let mut array: ByteArray<Binary, O> = array_of(rt, (&[1, 3, 3, 4, 7], b"-abcdef-", "none"));
     let ranges: &[Range<'_>] = &[
-        ("three", 0, 3, "[[97, 98] [] [99]]", "[[99] [] [97, 98]]"),
-        ("the third", 2, 1, "[[99]]", "[[99]]"),
-        ("none at the end", 4, 0, "[]", "[]"),
+        ("three", 0, 3, "[97, 98] [] [99] .", "[99] [] [97, 98] ."),
+        ("the third", 2, 1, "[99] .", "[99] ."),
+        ("none at the end", 4, 0, ".", "."),
     ];
     check_bytes(rt, &array, ranges);
     assert!(rt; array.len() == 4);
     check_item_range!(rt, "items in the middle", Binary, array, 1, "[]", "[99]");
     array.slice(1, 3);
-    check_bytes(rt, &array, &[("of a slice", 1, 1, "[[99]]", "[[99]]")]);
+    check_bytes(rt, &array, &[("of a slice", 1, 1, "[99] .", "[99] .")]);
     assert!(rt; array.len() == 3);
     check_item_range!(
         rt,

@@ -93,6 +93,7 @@ fn groups_of_a_slice_of_bytes(rt: HostRuntime) {
     let array: BinaryArray<i64> = items(&rt, BYTES);
     assert!(rt; array.len() == 6, "slots");
     let array = array.sliced(1, 5);
+    assert!(rt; GROUPS.len() == array.len(), "a number for each slot");
     assert!(rt; all_below(GROUPS, 2), "numbers of groups");
     let made = group_count(alloc, &array, GROUPS, 2).expect(&rt, "memory");
     check_slots(&rt, "counts", made.iter(), "[2 2]");

@@ -94,11 +94,11 @@ fn for_each_filter<R: Abort + AllocGlobal, F: FnMut(&str, &BooleanArray, &[bool]
 
 /// Returns the slots of all rows, whose values `value` makes, and those of the rows that are set. Each seventh row is null,
 /// from the row `null` on.
-fn slots_of<R: Abort + AllocGlobal, T: Copy, F: FnMut(usize) -> T>(
+fn slots_of<R: Abort + AllocGlobal, T: Copy, F: Fn(usize) -> T>(
     rt: &R,
     marks: &[bool],
     null: usize,
-    mut value: F,
+    value: F,
 ) -> (Vec<Option<T>>, Vec<Option<T>>)
     requires { F.IsAlwaysCallable value }
 {

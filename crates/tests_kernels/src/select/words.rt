@@ -142,7 +142,7 @@ fn slots_of_several_words_are_chosen_and_taken(rt: HostRuntime) {
             let expected = if (i + 1) % 3 == 0 {
                 None
             } else {
-                choice(3 + (i + 1) * 7 % 50)
+                choice(3 + (i + 1) % 50 * 7 % 50)
             };
             check_value(&rt, row, (i, came), (i, expected));
         }
