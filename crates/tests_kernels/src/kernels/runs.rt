@@ -138,7 +138,7 @@ fn slots_of_runs_are_kept(rt: HostRuntime) {
     for_each_filter(&rt, |name, filter, marks| {
         for (test, null) in NULLS {
             let row = Text::of(format_args!("{test}: {name}"));
-            let (all, kept) = slots_of(&rt, marks, *null, |row| row as i64);
+            let (all, kept) = slots_of(&rt, marks, *null, |row| (row % 1_000_000) as i64);
             let array = numbers(&rt, &all).to(DataType::Date64);
             let expected = numbers(&rt, &kept).to(DataType::Date64);
             drop((all, kept));
