@@ -135,7 +135,7 @@ fn groups_of_equal_slots(rt: HostRuntime) {
     );
 }
 
-/// A number of keys through which 2,000 slots go again and again, of which each so-and-so-manieth is null; the first null
+/// A number of keys through which 2,000 slots go again and again, of which one in a given number is null; the first null
 /// slot; and the numbers of the last two slots, the second of which is null.
 const TURNS: &[(u64, u64, usize, usize, usize)] = &[
     (20, 50, 49, 18, 20),
