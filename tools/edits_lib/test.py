@@ -8,8 +8,10 @@ sys.path.insert(0, os.path.dirname(os.path.dirname(os.path.realpath(__file__))))
 
 from edits_lib.crates import crates
 from edits_lib.edits import edits_of
+from edits_lib.names import name_of
 from edits_lib.record import Sums
-from edits_lib.sources import functions_of, name_of, without_bodies, without_comments
+from repository import without_comments
+from rt_syntax import functions_of, without_bodies
 
 # Headers of impls and traits in src/a/b.rt, and what a check names a function f of theirs by. `Here` is a type of that
 # module, `There` one of src/c.rt.

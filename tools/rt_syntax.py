@@ -1,54 +1,98 @@
-"""Reads source files in `rt fmt`'s layout: their functions, what a check names these by, and what is left without comments
-or without bodies."""
-import os
+"""Reads a source file (.rt) in `rt fmt`'s layout: its functions with their contracts, its types, traits and impls, the
+clauses of contracts, and what is left without comments or without bodies. tools/repository.py reads the files."""
+import functools
 import re
 
-# Texts and letters, in which no comment begins, and the two kinds of comments of a .rt file.
-RT_TOKEN = re.compile(
+# Texts and letters, in which no comment begins, and the two kinds of comments.
+TOKEN = re.compile(
     r"""(?P<text>\bb?r(?P<marks>\#*)".*?"(?P=marks)|b?"(?:\\.|[^"\\])*"|b?'(?:\\[^\n']+|\\'|[^\\'\n])')"""
     r"""|(?P<comment>//[^\n]*|/\*.*?\*/)""",
     re.S,
 )
-ANTT_TOKEN = re.compile(r"""(?P<text>"(?:\\.|[^"\\])*")|(?<!\S)(?P<comment>--[^\n]*)""", re.S)
 VISIBLE = r"(?:pub(?:\([^)]*\))? )?"
 FUNCTION = re.compile(rf'( *){VISIBLE}(?:unsafe |const )*(?:extern "C" )?fn (\w+)')
 ASSOCIATED = re.compile(rf"( +){VISIBLE}const (\w+)")
 BLOCK = re.compile(rf"{VISIBLE}(?:unsafe )?(?:impl|trait)\b")
+DECLARATION = re.compile(rf"{VISIBLE}(?:unsafe )?(struct|enum|union|type|trait|impl)\b(?: (\w+))?")
 ITEM = re.compile(rf"{VISIBLE}(?:unsafe )?(?:const|static|struct|enum|union|type|macro_rules!) (\w+)")
 
 
-def read(path):
-    with open(path, encoding="utf-8") as file:
-        return file.read()
-
-
-def files_below(folder, end=""):
-    for at, folders, names in os.walk(folder):
-        folders.sort()
-        yield from (os.path.join(at, it) for it in sorted(names) if it.endswith(end))
-
-
-def without_comments(path, text):
-    """The text of a .rt or .antt file without its comments, and without the lines that hold nothing else."""
-    token = RT_TOKEN if path.endswith(".rt") else ANTT_TOKEN if path.endswith(".antt") else None
-    if not token:
-        return text
+def drop_comments(token, text):
+    """A text without what a pattern finds as a comment, and without the lines that hold nothing else."""
     gone = "\x00"
     marked = token.sub(lambda it: gone if it["comment"] else it[0], text)
     lines = [(it, it.replace(gone, "").rstrip() if gone in it else it) for it in marked.split("\n")]
     return "\n".join(left for line, left in lines if left or gone not in line)
 
 
-class Function:
-    """A function, or an associated constant, of a source file: its lines, counted from 1, with its attributes; the text
-    before its body, and its body; and the header of the impl or trait around it, with the attributes of that."""
+def without_comments(text):
+    """A source file without its comments, and without the lines that hold nothing else."""
+    return drop_comments(TOKEN, text)
 
-    def __init__(self, name, header, lines, head, body, is_constant):
+
+class Function:
+    """A function, or an associated constant: its lines, counted from 1, with its description and attributes, which are
+    `above`; its signature with its contract, both as lines; its body; and the header of the impl or trait around it, with
+    the attributes of that."""
+
+    def __init__(self, name, header, lines, above, signature, body, is_constant):
         self.name, self.header, (self.first, self.last) = name, header, lines
-        self.head, self.body, self.is_constant = head, body, is_constant
+        self.above, self.signature, self.body, self.is_constant = above, signature, body, is_constant
+        self.at = self.first + len(above)
+
+    @functools.cached_property
+    def head(self):
+        """The text before the body."""
+        return "\n".join([*self.above, *self.signature])
+
+    @property
+    def is_public(self):
+        return re.match(r" *pub ", (self.signature or [self.body])[0]) is not None
+
+    @functools.cached_property
+    def parameters(self):
+        """The parameters, `self` among them."""
+        text = "\n".join(self.signature)
+        rest = after_generics(text[re.search(rf"\bfn {self.name}\b", text).end() :])
+        return [it.strip() for it in at_top(rest[1 : close_of(rest, 0)], ",") if it.strip()]
+
+    @property
+    def is_method(self):
+        return any(re.fullmatch(r"(?:mut |&(?:'\w+ )?(?:mut )?)*self(?:: .*)?", it) for it in self.parameters[:1])
+
+    @property
+    def returned(self):
+        """What the first line behind the parameters says of the result."""
+        text = "\n".join(self.signature)
+        rest = after_generics(text[re.search(rf"\bfn {self.name}\b", text).end() :])
+        return rest[close_of(rest, 0) + 1 :].split("\n")[0].partition("->")[2]
 
     def is_same(self, other):
         return (self.name, self.header) == (other.name, other.header)
+
+
+class Clause:
+    """A clause of a contract, or a ghost member: the number of its first line, that of the line after its last, its
+    keyword, its name or nothing, and what stands in its braces, on one line."""
+
+    def __init__(self, first, end, text):
+        self.first, self.end = first, end
+        found = re.match(r"(requires|ensures\*?|ghost)\s*([^\s{:=]*)", text)
+        self.keyword, self.name = found[1], found[2]
+        self.text = text[text.index("{") + 1 : text.rindex("}")].strip()
+
+
+class Declaration:
+    """A type, a trait or an impl: its kind, its name (but of an impl), its lines, counted from 1, with its description and
+    attributes; its header on one line; what stands in its braces, as lines, or None; and its functions."""
+
+    def __init__(self, kind, name, lines, at, header, body):
+        self.kind, self.name, (self.first, self.last), self.at = kind, name, lines, at
+        self.header, self.body, self.functions = header, body, []
+
+    @property
+    def is_public(self):
+        return self.header.startswith("pub ")
 
 
 def end_of(lines, at, indent):
@@ -98,15 +142,24 @@ def attributes_before(lines, at):
     return first
 
 
+def header_of(lines, at):
+    """The header of the impl, trait or type in line `at`, on one line, up to its opening brace."""
+    end = next((it for it in range(at, len(lines)) if lines[it].rstrip().endswith(("{", "{}", ";"))), at)
+    return " ".join(it.strip() for it in lines[at : end + 1])
+
+
+def attributes_of(lines, at):
+    """The attributes of an item in line `at`, each line by itself."""
+    return [it.strip() for it in lines[attributes_before(lines, at) : at] if not it.strip().startswith("///")]
+
+
 def functions_of(text):
     """The functions of a source file, in their order; those inside of a function are a part of it."""
     lines, found, header, at = text.split("\n"), [], None, 0
     while at < len(lines):
         line = lines[at]
         if BLOCK.match(line):
-            end = next((it for it in range(at, len(lines)) if lines[it].rstrip().endswith(("{", "{}"))), at)
-            around = (it.strip() for it in lines[attributes_before(lines, at) : end + 1])
-            header = " ".join(it for it in around if not it.startswith("///"))
+            header = " ".join([*attributes_of(lines, at), header_of(lines, at)])
         elif line == "}":
             header = None
         began = FUNCTION.match(line) or (header and ASSOCIATED.match(line))
@@ -117,11 +170,52 @@ def functions_of(text):
         while last > at + 1 and not lines[last - 1].strip():
             last -= 1
         first, is_function = attributes_before(lines, at), FUNCTION.match(line)
-        head, body = split_body(lines[at:last], began[1]) if is_function else ([], lines[at:last])
-        head, body = "\n".join([*lines[first:at], *head]), "\n".join(body)
-        found.append(Function(began[2], header if began[1] else None, (first + 1, last), head, body, not is_function))
+        signature, body = split_body(lines[at:last], began[1]) if is_function else ([], lines[at:last])
+        around, span = header if began[1] else None, (first + 1, last)
+        found.append(Function(began[2], around, span, lines[first:at], signature, "\n".join(body), not is_function))
         at = last
     return found
+
+
+def declarations_of(text):
+    """The types, traits and impls of a source file that stand in no module within, in their order."""
+    lines, found = text.split("\n"), []
+    functions = functions_of(text)
+    for at, line in enumerate(lines):
+        began = DECLARATION.match(line)
+        if not began:
+            continue
+        first, last, header = attributes_before(lines, at) + 1, end_of(lines, at, ""), header_of(lines, at)
+        opened = next((it for it in range(at, last) if lines[it].rstrip().endswith("{")), None)
+        body = None if opened is None and not header.endswith("{}") else lines[(opened or last) + 1 : last - 1]
+        name = None if began[1] == "impl" else began[2]
+        made = Declaration(began[1], name, (first, last), at + 1, header, body)
+        made.functions = [it for it in functions if first <= it.first and it.last <= last]
+        found.append(made)
+    return found
+
+
+def contract_parts(text):
+    """The clauses, ghost members and ghost imports of a source file: of each the numbers of its first line and of the line
+    after its last, and its text on one line."""
+    lines, found, at = text.split("\n"), [], 0
+    is_open = lambda it: it.count("{") > it.count("}") or "{" not in it and ";" not in it
+    while at < len(lines):
+        part, first = lines[at].strip(), at
+        at += 1
+        if not re.match(r"(?:ensures|requires|(?:pub )?ghost)\b", part):
+            continue
+        while is_open(part) and at < len(lines):
+            part += " " + lines[at].strip()
+            at += 1
+        found.append((first + 1, at + 1, re.sub(r"^pub ", "", part)))
+    return found
+
+
+def clauses_of(text):
+    """The clauses of contracts and the ghost members of a source file that say something in braces."""
+    is_clause = lambda it: "{" in it and "}" in it and not it.startswith("ghost use ")
+    return [Clause(*it) for it in contract_parts(text) if is_clause(it[2])]
 
 
 def items_of(text):
@@ -174,6 +268,11 @@ def close_of(text, at):
     return len(text) - 1
 
 
+def after_generics(text):
+    """What stands behind the angle brackets with which a text begins."""
+    return text[close_of(text, 0) + 1 :].strip() if text.startswith("<") else text.strip()
+
+
 def at_top(text, mark):
     """Parts a text at a mark that stands outside of brackets."""
     made, depth, start = [], 0, 0
@@ -200,52 +299,3 @@ def read_header(header):
     inside = at_top(at_top(inside, "{")[0], " where ")[0].strip()
     of, *of_type = at_top(inside, " for ")
     return (names, of.strip(), of_type[0].strip()) if of_type else (names, None, of.strip())
-
-
-def words_of(text):
-    """The words of a type, in the order in which they stand, each kind of type that has no name by a word of its own."""
-    words, at = [], 0
-    for found in re.finditer(r"&(?:'\w+ )?(mut )?|'\w+|\w+|\[|\(", text):
-        it, at = found[0], found.start()
-        if it.startswith("&"):
-            words += ["ref", "mut"] if found[1] else ["ref"]
-        elif it == "[":
-            words.append("array" if len(at_top(text[at + 1 : close_of(text, at)], ";")) > 1 else "slice")
-        elif it == "(":
-            inside = text[at + 1 : close_of(text, at)].strip().rstrip(",")
-            words.append(f"tuple{len(at_top(inside, ','))}" if inside else "unit")
-        elif not it.startswith("'") and it not in ("crate", "self", "super"):
-            words.append(it)
-    return words
-
-
-def arguments_of(text):
-    """Parts a type or a trait into its path and its arguments, but for lifetimes."""
-    path, _, given = text.partition("<")
-    given = at_top(given[: close_of("<" + given, 0) - 1], ",") if given else []
-    return path, [it.strip() for it in given if it.strip() and not it.strip().startswith("'")]
-
-
-def owner_of(header):
-    """What a check names the impl or trait of a header by, and whether it has the module of its type instead of its file's,
-    as an impl of every instance of the type has."""
-    names, of, of_type = read_header(header)
-    path, given = arguments_of(of_type if of is None else of)
-    if of is not None:
-        words = ["any"] if of_type in names else [it for it in words_of(of_type) if it not in names]
-        words.append(re.sub(r".*::", "", path))
-        words += [it for of_this in given if of_this != of_type for it in words_of(of_this) if it not in names]
-        return "".join(it[:1].upper() + it[1:] for it in words), False
-    if all(it in names for it in given) and len(set(given)) == len(given):
-        return re.sub(r".*::", "", path), True
-    return "+".join(words_of(of_type)), False
-
-
-def name_of(crate, file, function, home):
-    """The function as a check names it. `home` finds the module of a type of the crate, or None."""
-    owner, module = None, module_of(file)
-    if function.header:
-        owner, has_all = owner_of(function.header)
-        found = home(owner) if has_all else None
-        module = module if found is None else found
-    return "::".join(it for it in (crate, module, owner, function.name) if it)
