@@ -82,13 +82,35 @@ class Clause:
         self.text = text[text.index("{") + 1 : text.rindex("}")].strip()
 
 
+class Member:
+    """An item as a reader of its interface sees it: its kind and name, the number of its line, its description and
+    attributes, and its signature with its contract, both as lines without what they are indented by."""
+
+    def __init__(self, kind, name, at, above, code):
+        self.kind, self.name, self.at = kind, name, at
+        self.above, self.code = [it.strip() for it in above], code
+
+    @property
+    def is_public(self):
+        return self.code[0].startswith("pub ")
+
+
 class Declaration:
     """A type, a trait or an impl: its kind, its name (but of an impl), its lines, counted from 1, with its description and
-    attributes; its header on one line; what stands in its braces, as lines, or None; and its functions."""
+    attributes; its rows, from the first of its header on; that header as lines and on one line; what stands in its
+    braces, as lines, or None; its functions; and its members, in their order."""
 
-    def __init__(self, kind, name, lines, at, header, body):
-        self.kind, self.name, (self.first, self.last), self.at = kind, name, lines, at
-        self.header, self.body, self.functions = header, body, []
+    def __init__(self, kind, name, first, lines):
+        self.kind, self.name, self.first, self.last = kind, name, first, first + len(lines) - 1
+        above = next(at for at, it in enumerate(lines) if not it.startswith(("///", "#[", " ", "]", ")")))
+        self.at, self.above, self.rows = first + above, lines[:above], lines[above:]
+        self.header = header_of(self.rows, 0)
+        opened = next((at for at, it in enumerate(self.rows) if it.rstrip().endswith("{")), None)
+        self.head, self.body = self.rows[:1], [] if self.header.endswith("{}") else None
+        if opened is not None:
+            head = [*self.rows[:opened], self.rows[opened].rstrip()[:-1].rstrip()]
+            self.head, self.body = [it for it in head if it], self.rows[opened + 1 : -1]
+        self.functions, self.members = [], []
 
     @property
     def is_public(self):
@@ -185,13 +207,42 @@ def declarations_of(text):
         began = DECLARATION.match(line)
         if not began:
             continue
-        first, last, header = attributes_before(lines, at) + 1, end_of(lines, at, ""), header_of(lines, at)
-        opened = next((it for it in range(at, last) if lines[it].rstrip().endswith("{")), None)
-        body = None if opened is None and not header.endswith("{}") else lines[(opened or last) + 1 : last - 1]
-        name = None if began[1] == "impl" else began[2]
-        made = Declaration(began[1], name, (first, last), at + 1, header, body)
-        made.functions = [it for it in functions if first <= it.first and it.last <= last]
+        first, last = attributes_before(lines, at), end_of(lines, at, "")
+        made = Declaration(began[1], None if began[1] == "impl" else began[2], first + 1, lines[first:last])
+        made.functions = [it for it in functions if first < it.first and it.last <= last]
+        if made.kind in ("trait", "impl"):
+            made.members = members_of(lines, made)
         found.append(made)
+    return found
+
+
+def statement_of(lines, at):
+    """The lines of an item without a body, from its own, of this number, to the one that ends with its semicolon."""
+    indent = len(lines[at]) - len(lines[at].lstrip())
+    for end in range(at + 1, len(lines) + 1):
+        text = "\n".join(lines[at:end])
+        is_whole = all(text.count(one) == text.count(other) for one, other in ("{}", "()", "[]"))
+        if text.endswith(";") and is_whole:
+            return [it[indent:] for it in lines[at:end]]
+    return [lines[at][indent:]]
+
+
+def member_of(function):
+    indent = len(function.signature[0]) - len(function.signature[0].lstrip())
+    return Member("fn", function.name, function.at, function.above, [it[indent:] for it in function.signature])
+
+
+def members_of(lines, declared):
+    """The members of a trait or an impl: functions, types, constants and ghost items."""
+    functions = {it.at: it for it in declared.functions}
+    found = []
+    for number in range(declared.at + 1, declared.last):
+        named = re.match(r"    (?:pub )?(fn|type|const|ghost) (?!use\b|fn\b)(\w+)", lines[number - 1])
+        if number in functions and not functions[number].is_constant:
+            found.append(member_of(functions[number]))
+        elif named:
+            above = lines[attributes_before(lines, number - 1) : number - 1]
+            found.append(Member(named[1], named[2], number, above, statement_of(lines, number - 1)))
     return found
 
 
