@@ -48,6 +48,8 @@ def all_steps(room):
         ["tools/check_docs"],
         ["tools/contracts", "--check"],
         ["tools/check_crates"],
+        ["tools/check_commits"],
+        ["tools/measure"],
         ["tools/repository_test"],
         ["tools/check_scripts"],
         ["examples/check_run"],
