@@ -1,5 +1,6 @@
-"""Reads a file of specs/ or proofs/ (.antt) in `rt fmt`'s layout: its definitions and lemmas, each with its comment and the
-modules around it, and what two of them have in common but for the names that they bind. tools/repository.py reads the files."""
+"""Reads a file of specs/ or proofs/ (.antt) in `rt fmt`'s layout: its definitions and lemmas, each with its comment and
+the modules around it, and what two of them have in common but for the names that they bind. tools/repository.py reads
+the files."""
 import re
 
 from rt_syntax import close_of, drop_comments
@@ -17,8 +18,8 @@ CLAIMS = re.compile(r"[≡≤<↔⊎⊥]|\b(?:Is|Are|Fits|On|If|Has|Same)[A-Z]")
 
 
 class Definition:
-    """A definition or a lemma: its name, the number of its first line, its comment, its lines, and the heads of the modules
-    around it, each as lines."""
+    """A definition or a lemma: its name, the number of its first line, its comment, its lines, and the heads of the
+    modules around it, each as lines."""
 
     def __init__(self, name, words, line, doc, modules, depth):
         self.name, self.words, self.line, self.doc = name, words.split(), line, doc
@@ -123,7 +124,7 @@ def names_within(text):
 
 
 def numbered(text, bound, name=""):
-    """A text with a number for each of the names that it binds, in the order in which they stand, and `it` for its own."""
+    """A text with a number for each of the names that it binds, as they come, and `it` for its own."""
     numbers = {name: "it"}
     named = lambda it: numbers.setdefault(it[0], f"#{len(numbers)}") if it[0] == name or it[0] in bound else it[0]
     return re.sub(r"\s+", " ", re.sub(WORD, named, text)).strip()
@@ -158,7 +159,8 @@ def binders_of(text):
 
 def needed(outside, used):
     """Of the parameters of modules those that are used, and those that say something of a used value."""
-    kept, values = {name for name, _ in outside if name in used}, {name for name, it in outside if not it.startswith("Type ")}
+    kept = {name for name, _ in outside if name in used}
+    values = {name for name, of_type in outside if not of_type.startswith("Type ")}
     is_growing = True
     while is_growing:
         count = len(kept)
@@ -173,8 +175,8 @@ def needed(outside, used):
 
 
 def claim(lemma):
-    """What a lemma claims, so that two which differ in names, in how arguments are given, or in the modules around them,
-    claim the same; None for a definition that claims nothing."""
+    """What a lemma claims, so that two which differ in names, in how arguments are given, or in the modules around
+    them, claim the same; None for a definition that claims nothing."""
     outside = []
     for head in lemma.modules:
         inside = re.sub(r"\s+", " ", " ".join(head)).strip()

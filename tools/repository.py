@@ -1,8 +1,8 @@
-"""The repository as its tools see it: the crates of crates.txt with their tiers, the files of each, what these say, and sums
-of them. tools/repository_test tests it on a small repository.
+"""The repository as its tools see it: the crates of crates.txt with their tiers, the files of each, what these say, and
+sums of them. tools/repository_test tests it on a small repository.
 
-A line of crates.txt is a crate: `NAME: what it stands on`. A line `## TIER: TEXT` is a heading, and the crates below it, up to
-the next heading, are of that tier; a tier may have several. No list of crates or of tiers stands anywhere else.
+A line of crates.txt is a crate: `NAME: what it stands on`. A line `## TIER: TEXT` is a heading, and the crates below
+it, up to the next heading, are of that tier; a tier may have several. No list of crates stands anywhere else.
 """
 import functools
 import hashlib
@@ -135,7 +135,7 @@ class Crate:
         return " ".join(it.removeprefix("//!").strip() for it in head).strip()
 
     def sum(self):
-        """A sum of the crate's own files, but for what was built, its edits and its manual, and of its line in crates.txt."""
+        """A sum of the crate's line in crates.txt and of its files, but for what was built, edits and manuals."""
         total = hashlib.sha256(self.line.encode())
         for path in files_below(self.folder, left_out=LEFT_OUT):
             if not path.endswith(".md"):

@@ -32,8 +32,8 @@ def without_comments(text):
 
 class Function:
     """A function, or an associated constant: its lines, counted from 1, with its description and attributes, which are
-    `above`; its signature with its contract, both as lines; its body; and the header of the impl or trait around it, with
-    the attributes of that."""
+    `above`; its signature with its contract, both as lines; its body; and the header of the impl or trait around it,
+    with the attributes of that."""
 
     def __init__(self, name, header, lines, above, signature, body, is_constant):
         self.name, self.header, (self.first, self.last) = name, header, lines
@@ -96,8 +96,8 @@ class Member:
 
 
 class Declaration:
-    """A type, a trait or an impl: its kind, its name (but of an impl), its lines, counted from 1, with its description and
-    attributes; its rows, from the first of its header on; that header as lines and on one line; what stands in its
+    """A type, a trait or an impl: its kind, its name (but of an impl), its lines, counted from 1, with its description
+    and attributes; its rows, from the first of its header on; that header as lines and on one line; what stands in its
     braces, as lines, or None; its functions; and its members, in their order."""
 
     def __init__(self, kind, name, first, lines):
@@ -118,8 +118,8 @@ class Declaration:
 
 
 def end_of(lines, at, indent):
-    """The number of lines up to the end of the item that begins in line `at`: a brace below its first letter, or the next
-    item, or the end of what is around it."""
+    """The number of lines up to the end of the item that begins in line `at`: a brace below its first letter, or the
+    next item, or the end of what is around it."""
     if lines[at].rstrip().endswith((";", "{}")) or re.search(r"\{ .* \}$", lines[at]):
         return at + 1
     for later in range(at + 1, len(lines)):
@@ -247,8 +247,8 @@ def members_of(lines, declared):
 
 
 def contract_parts(text):
-    """The clauses, ghost members and ghost imports of a source file: of each the numbers of its first line and of the line
-    after its last, and its text on one line."""
+    """The clauses, ghost members and ghost imports of a source file: of each the numbers of its first line and of the
+    line after its last, and its text on one line."""
     lines, found, at = text.split("\n"), [], 0
     is_open = lambda it: it.count("{") > it.count("}") or "{" not in it and ";" not in it
     while at < len(lines):
@@ -270,7 +270,7 @@ def clauses_of(text):
 
 
 def items_of(text):
-    """What a source file declares outside of functions, impls and traits: the name and the lines, counted from 1, of each."""
+    """The name and the lines, counted from 1, of what a source file declares outside of functions, impls and traits."""
     lines, found = text.split("\n"), []
     for at, line in enumerate(lines):
         began = ITEM.match(line)
