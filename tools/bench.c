@@ -11,101 +11,8 @@
 #include <string.h>
 #include <time.h>
 
-/* A slice is a pointer and a length, and an allocator is nothing. `uint64_t` is a checksum, UINT64_MAX where memory was
-   refused. Marks, bits and patterns are bytes, 0 or 1; an item is ITEM bytes of `data`. */
-typedef const int64_t *numbers;
-typedef const uint8_t *bytes;
-typedef const int32_t *ends;
-
-/* one builder, filled in each round, or one array, read in each */
-uint64_t rattle_flat_prim_push(numbers, size_t, bytes, size_t, size_t rounds);
-uint64_t rattle_flat_prim_push_reserved(numbers, size_t, size_t rounds);
-uint64_t rattle_flat_prim_push_null(size_t count, size_t rounds);
-uint64_t rattle_flat_prim_extend_null(size_t count, size_t rounds);
-uint64_t rattle_flat_prim_push_pop(numbers, size_t, bytes, size_t, size_t rounds);
-uint64_t rattle_flat_prim_push_freeze(numbers, size_t, bytes, size_t, size_t rounds);
-uint64_t rattle_flat_prim_extend(numbers, size_t, bytes, size_t, size_t rounds);
-uint64_t rattle_flat_prim_extend_slice(numbers, size_t, size_t piece, size_t rounds);
-uint64_t rattle_flat_prim_extend_self(numbers, size_t, bytes, size_t, size_t rounds);
-uint64_t rattle_flat_prim_extend_array(numbers, size_t, bytes, size_t, size_t rounds);
-uint64_t rattle_flat_prim_iter_sum(numbers, size_t, bytes, size_t, size_t rounds);
-uint64_t rattle_flat_prim_range_sum(numbers, size_t, bytes, size_t, size_t window, size_t rounds);
-uint64_t rattle_flat_prim_builder_iter_sum(numbers, size_t, bytes, size_t, size_t rounds);
-uint64_t rattle_flat_prim_values_sum(numbers, size_t, size_t rounds);
-uint64_t rattle_flat_prim_value_sum(numbers, size_t, size_t rounds);
-uint64_t rattle_flat_prim_get_sum(numbers, size_t, bytes, size_t, size_t rounds);
-uint64_t rattle_flat_prim_slice_sum(numbers, size_t, bytes, size_t, size_t window, size_t rounds);
-uint64_t rattle_flat_bits_push(bytes, size_t, size_t times, size_t rounds);
-uint64_t rattle_flat_bits_extend_constant(size_t piece, size_t times, size_t rounds);
-uint64_t rattle_flat_bits_unset(bytes, size_t, size_t times, size_t rounds);
-uint64_t rattle_flat_bits_freeze_unset(bytes, size_t, size_t times, size_t rounds);
-uint64_t rattle_flat_bits_and(bytes, size_t, size_t times, size_t rounds);
-uint64_t rattle_flat_bits_or(bytes, size_t, size_t times, size_t rounds);
-uint64_t rattle_flat_bits_not(bytes, size_t, size_t times, size_t rounds);
-uint64_t rattle_flat_bits_iter(bytes, size_t, size_t times, size_t rounds);
-uint64_t rattle_flat_bits_get_bit(bytes, size_t, size_t times, size_t rounds);
-uint64_t rattle_flat_bits_get(bytes, size_t, size_t times, size_t rounds);
-uint64_t rattle_flat_bits_set(bytes, size_t, size_t rounds);
-uint64_t rattle_flat_bool_push(bytes, size_t, bytes, size_t, size_t rounds);
-uint64_t rattle_flat_bool_iter(bytes, size_t, bytes, size_t, size_t rounds);
-uint64_t rattle_flat_bool_extend_array(bytes, size_t, bytes, size_t, size_t rounds);
-uint64_t rattle_flat_bool_true_count(bytes, size_t, bytes, size_t, size_t rounds);
-uint64_t rattle_flat_bin_push(bytes, size_t, size_t item, size_t times, bytes, size_t, size_t rounds);
-uint64_t rattle_flat_vbin_push(bytes, size_t, size_t item, size_t times, size_t rounds);
-uint64_t rattle_flat_bin_extend(bytes, size_t, size_t item, size_t times, size_t rounds);
-uint64_t rattle_flat_bin_extend_values(bytes, size_t, size_t item, size_t times, size_t rounds);
-uint64_t rattle_flat_bin_extend_self(bytes, size_t, size_t item, bytes, size_t, size_t rounds);
-uint64_t rattle_flat_bin_extend_array(bytes, size_t, size_t item, bytes, size_t, size_t rounds);
-uint64_t rattle_flat_utf8_try_new(bytes, size_t, ends, size_t, size_t rounds);
-uint64_t rattle_flat_utf8_iter(bytes, size_t, ends, size_t, size_t rounds);
-uint64_t rattle_flat_utf8_push(bytes, size_t, size_t item, size_t times, bytes, size_t, size_t rounds);
-uint64_t rattle_flat_utf8_extend_self(bytes, size_t, size_t item, bytes, size_t, size_t rounds);
-uint64_t rattle_flat_utf8_extend_array(bytes, size_t, size_t item, bytes, size_t, size_t rounds);
-/* kernels: a filter by marks, the slots at keys, and a concatenation of one array in two parts */
-uint64_t rattle_flat_filter_prim(numbers, size_t, bytes, size_t, bytes marks, size_t, size_t rounds);
-uint64_t rattle_flat_filter_utf8(bytes, size_t, ends, size_t, bytes, size_t, bytes marks, size_t, size_t rounds);
-uint64_t rattle_flat_take_prim(numbers, size_t, bytes, size_t, numbers keys, size_t, size_t rounds);
-uint64_t rattle_flat_take_utf8(bytes, size_t, ends, size_t, bytes, size_t, numbers keys, size_t, size_t rounds);
-uint64_t rattle_flat_concat_prim(numbers, size_t, bytes, size_t, size_t rounds);
-uint64_t rattle_flat_concat_utf8(bytes, size_t, ends, size_t, bytes, size_t, size_t rounds);
-/* kernels that compute: of one array, or of two, of which the second has no null */
-uint64_t rattle_flat_cmp_lt(numbers, size_t, numbers, size_t, bytes, size_t, size_t rounds);
-uint64_t rattle_flat_cmp_eq(numbers, size_t, numbers, size_t, bytes, size_t, size_t rounds);
-uint64_t rattle_flat_cmp_lt_scalar(numbers, size_t, bytes, size_t, size_t rounds);
-uint64_t rattle_flat_cmp_eq_utf8(bytes, size_t, bytes others, size_t, ends, size_t, size_t rounds);
-uint64_t rattle_flat_logic_and(bytes, size_t, bytes others, size_t, bytes, size_t, size_t rounds);
-uint64_t rattle_flat_kleene_and(bytes, size_t, bytes others, size_t, bytes, size_t, size_t rounds);
-uint64_t rattle_flat_arith_add_i64(numbers, size_t, numbers, size_t, bytes, size_t, size_t rounds);
-uint64_t rattle_flat_arith_checked_add_i64(numbers, size_t, numbers, size_t, bytes, size_t, size_t rounds);
-uint64_t rattle_flat_arith_mul_i64(numbers, size_t, numbers, size_t, bytes, size_t, size_t rounds);
-uint64_t rattle_flat_arith_add_i32(numbers, size_t, numbers, size_t, size_t rounds);
-uint64_t rattle_flat_arith_saturating_add_i32(numbers, size_t, numbers, size_t, size_t rounds);
-uint64_t rattle_flat_cast_wrap_i32(numbers, size_t, bytes, size_t, size_t rounds);
-uint64_t rattle_flat_cast_fit_i32(numbers, size_t, bytes, size_t, size_t rounds);
-uint64_t rattle_flat_cast_to_utf8(numbers, size_t, bytes, size_t, size_t rounds);
-uint64_t rattle_flat_cast_of_utf8(bytes, size_t, ends, size_t, bytes, size_t, size_t rounds);
-uint64_t rattle_flat_agg_sum(numbers, size_t, bytes, size_t, size_t rounds);
-uint64_t rattle_flat_agg_min(numbers, size_t, bytes, size_t, size_t rounds);
-uint64_t rattle_flat_agg_max(numbers, size_t, bytes, size_t, size_t rounds);
-uint64_t rattle_flat_agg_min_utf8(bytes, size_t, ends, size_t, bytes, size_t, size_t rounds);
-uint64_t rattle_flat_group_prim(numbers, size_t, bytes, size_t, size_t rounds);
-uint64_t rattle_flat_group_utf8(bytes, size_t, ends, size_t, bytes, size_t, size_t rounds);
-uint64_t rattle_flat_group_sum(numbers, size_t, numbers keys, size_t, bytes, size_t, size_t rounds);
-uint64_t rattle_flat_hash_prim(numbers, size_t, bytes, size_t, size_t rounds);
-uint64_t rattle_flat_select_take(numbers keys, size_t, numbers, size_t, bytes, size_t, size_t rounds);
-uint64_t rattle_flat_select_if_then_else(bytes, size_t, numbers, size_t, numbers, size_t, bytes, size_t, size_t rounds);
-uint64_t rattle_flat_select_nullif(numbers, size_t, numbers, size_t, bytes, size_t, size_t rounds);
-uint64_t rattle_flat_sort_prim(numbers, size_t, bytes, size_t, size_t rounds);
-uint64_t rattle_flat_sort_utf8(bytes, size_t, ends, size_t, bytes, size_t, size_t rounds);
-/* whole arrays, whose cost hangs on their masks alone, if on anything */
-uint64_t rattle_flat_prim_null_count(numbers, size_t, bytes, size_t, size_t rounds);
-uint64_t rattle_flat_prim_equal(numbers, size_t, bytes, size_t, size_t rounds);
-uint64_t rattle_flat_bits_equal(bytes, size_t, size_t times, size_t rounds);
-uint64_t rattle_flat_prim_print(numbers, size_t, bytes, size_t, size_t rounds);
-uint64_t rattle_flat_slice_print(numbers, size_t, size_t rounds);
-uint64_t rattle_flat_prim_freeze_thaw(numbers, size_t, bytes, size_t, size_t rounds);
-uint64_t rattle_flat_prim_thaw_push(numbers, size_t, bytes, size_t, size_t rounds);
-uint64_t rattle_flat_bin_freeze_thaw(bytes, size_t, size_t item, bytes, size_t, size_t rounds);
+/* The functions, with what each is given: an item here is ITEM bytes of `data`. */
+#include "comparison/driver/rattle_flat.h"
 
 enum { ITEM = 12, DIGITS = 6, FEW = 100, TIMES = 9, SIZES = 3 };
 
@@ -226,7 +133,7 @@ struct traffic {
 };
 
 #define VALUES in->values, n
-#define ALL_VALID (bytes)"", 0
+#define ALL_VALID (const uint8_t *)"", 0
 #define NULLS in->valid.of, n
 #define ONES ones, n
 #define BITS in->bits.of, n

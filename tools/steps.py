@@ -8,7 +8,8 @@ import tempfile
 import threading
 import time
 
-TOP = os.path.dirname(os.path.dirname(os.path.realpath(__file__)))
+from repository import TOP
+
 # How many lines of a step that failed are printed.
 SHOWN = 30
 

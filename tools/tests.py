@@ -2,10 +2,9 @@
 import os
 import shutil
 
-import crates
+from repository import TOP, Repository, read
 from steps import Step
 
-TOP = crates.TOP
 # Where the examples of a program lie, and with which ending.
 EXAMPLES = {"arrow_cli": ("examples", ".txt"), "example_csv": ("examples/csv", ".csv")}
 
@@ -29,26 +28,29 @@ def lay_cases(name, room):
             out.write(wanted.read().replace(f"Usage: {name} ".encode(), b"Usage: program "))
         if os.path.isfile(f"{TOP}/{folder}/{case}.args"):
             with open(f"{to}/{case}.args", "w", encoding="utf-8") as out:
-                out.write("".join(f"{it}\n" for it in crates.read(f"{TOP}/{folder}/{case}.args").split()))
+                out.write("".join(f"{it}\n" for it in read(f"{TOP}/{folder}/{case}.args").split()))
     return to
 
 
 def all_steps(room):
     """The steps, those first that take longest."""
-    known = crates.rows()
+    crates = list(Repository().crates.values())
     found = [Step("examples/check_vendor", ["examples/check_vendor"])]
-    for name in known:
-        if crates.is_program(name):
-            found.append(Step(name, ["tools/try", name, lay_cases(name, room)]))
-    for name in reversed(known):
-        if not crates.is_program(name) and crates.has_tests(name):
+    for it in crates:
+        if it.is_program:
+            found.append(Step(it.name, ["tools/try", it.name, lay_cases(it.name, room)]))
+    for it in reversed(crates):
+        if not it.is_program and it.has_tests:
             # Those of refused memory are run with ample memory first.
-            words = ["./refusals", "--unproved"] if name == "tests_refusals" else ["tools/try", name]
-            found.append(Step(name, words))
+            words = ["./refusals", "--unproved"] if it.name == "tests_refusals" else ["tools/try", it.name]
+            found.append(Step(it.name, words))
     for words in (
         ["tools/check_docs"],
         ["tools/contracts", "--check"],
         ["tools/check_crates"],
+        ["tools/check_commits"],
+        ["tools/measure"],
+        ["tools/repository_test"],
         ["tools/check_scripts"],
         ["examples/check_run"],
     ):

@@ -1,2 +1,2 @@
-"""The parts of tools/edits: sources are read in `sources`, crates in `crates`, edits in `edits`, the record is kept in
-`record`, and edits are tried in `tries`."""
+"""The parts of tools/edits: what a check names functions by is in `names`, libraries that are built are in `crates`, edits
+are read in `edits`, the record is kept in `record`, and edits are tried in `tries`."""

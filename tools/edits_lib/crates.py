@@ -1,34 +1,27 @@
-"""The crates of crates.txt, and the built libraries over which the edits of one are tried."""
+"""The crates of the repository, and the built libraries over which the edits of one are tried."""
 import functools
 import os
 import re
 import shutil
 
-from .sources import VISIBLE, files_below, module_of, read
+import repository
+from repository import read
+from rt_syntax import VISIBLE, module_of
 
 PARTS = ("src", "specs", "proofs")
 
 
-class Crate:
-    """A crate of crates.txt, with the crates of this repository below it and the libraries of the toolchain that it uses."""
+class Crate(repository.Crate):
+    """A crate with the crates of this repository below it and the libraries of the toolchain that it uses."""
 
-    def __init__(self, top, name, row, known):
-        line, uses = row
-        self.top, self.name, self.folder, self.line = top, name, f"{top}/crates/{name}", line
-        self.direct = [known[use] for use in uses if use in known]
-        self.libraries = ["std", *(use for use in uses if use not in known)]
+    def __init__(self, crate, known, over):
+        super().__init__(crate.top, crate.name, crate.line, crate.uses, crate.tier)
+        self.direct = [known[use] for use in self.uses if use in known]
+        self.libraries = ["std", *(use for use in self.uses if use not in known)]
         self.below = []
         for use in self.direct:
             self.below += [it for it in [*use.below, use] if it not in self.below]
-        self.root = "src/main.rt" if os.path.isfile(f"{self.folder}/src/main.rt") else "src/lib.rt"
-        self.over = self.homes = None
-
-    def files(self, part, end=""):
-        """The files of one part of the crate, by their paths in its folder."""
-        return [os.path.relpath(it, self.folder) for it in files_below(f"{self.folder}/{part}", end)]
-
-    def read(self, file):
-        return read(f"{self.folder}/{file}")
+        self.over, self.homes = over, None
 
     def home(self, of_type):
         """The module that declares a type of the crate, or None if no module does, or several do."""
@@ -120,23 +113,8 @@ class Crate:
 
 
 def crates(top, over=None):
-    """The crates of a repository's crates.txt by their names, in its order."""
-    rows = {}
-    for line in read(f"{top}/crates.txt").splitlines():
-        line = line.split("#")[0].strip()
-        if line:
-            head, _, uses = line.partition(":")
-            rows[head.split()[0]] = line, uses.split()
-    known = {}
-
-    def add(name):
-        if name not in known:
-            for use in rows[name][1]:
-                if use in rows:
-                    add(use)
-            known[name] = Crate(top, name, rows[name], known)
-            known[name].over = over
-
-    for name in rows:
-        add(name)
+    """The crates of a repository by their names, each behind those that it stands on."""
+    here, known = repository.Repository(top), {}
+    for name in here.below(here.crates):
+        known[name] = Crate(here.crates[name], known, over)
     return known

@@ -2,7 +2,10 @@
 import os
 import re
 
-from .sources import files_below, functions_of, items_of, module_of, name_of, owner_of, without_comments, without_functions
+from repository import files_below, without_comments
+from rt_syntax import functions_of, items_of, module_of, without_functions
+
+from .names import name_of, owner_of
 
 
 class Place:

@@ -9,7 +9,8 @@ import os
 import re
 import threading
 
-from .sources import module_of, read, without_bodies, without_comments
+from repository import read, without_comments
+from rt_syntax import module_of, without_bodies
 
 HEAD = "# Edits that the prover refused: edit, sum of the sources that decide it, goals that refused it. By tools/edits --write."
 OLD = "\n# A row with - for its goals stands for an edit that the gate of 29 November 2026 refused."

@@ -1,5 +1,5 @@
-"""Tests what tools/edits reads from sources: names of functions, bodies, comments, and sums. tools/edits_test runs it with a
-folder in which it makes crates of its own."""
+"""Tests what tools/edits reads from sources: names of functions, bodies, and sums. tools/edits_test runs it with a folder in
+which it makes crates of its own."""
 import os
 import shutil
 import sys
@@ -8,8 +8,9 @@ sys.path.insert(0, os.path.dirname(os.path.dirname(os.path.realpath(__file__))))
 
 from edits_lib.crates import crates
 from edits_lib.edits import edits_of
+from edits_lib.names import name_of
 from edits_lib.record import Sums
-from edits_lib.sources import functions_of, name_of, without_bodies, without_comments
+from rt_syntax import functions_of, without_bodies
 
 # Headers of impls and traits in src/a/b.rt, and what a check names a function f of theirs by. `Here` is a type of that
 # module, `There` one of src/c.rt.
@@ -38,12 +39,6 @@ NAMES = [
     ("impl Does for [u8; 4]", "k::a::b::ArrayU84Does::f"),
     ("impl<T: NativeType + Ord> Scalar<PrimitiveArray<T>> for T", "k::a::b::AnyScalarPrimitiveArray::f"),
     ("impl<T> Of<T, i32> for days_ms where T: Copy", "k::a::b::Days_msOfI32::f"),
-]
-
-COMMENTS = [
-    ("a.rt", "/// Says.\nfn f() -> &str {\n    // Why.\n    \"// no\" // yes\n}\n", 'fn f() -> &str {\n    "// no"\n}\n'),
-    ("a.rt", "let a = '\"'; // a\nlet b: &'a str = r#\"\" // \"#;", "let a = '\"';\nlet b: &'a str = r#\"\" // \"#;"),
-    ("a.antt", "-- Says.\na : b -- why\na = \"-- no\"\n\n--\nc--d", 'a : b\na = "-- no"\n\nc--d'),
 ]
 
 SOURCE = """impl<T> Here<T> {
@@ -174,8 +169,6 @@ def test_sources():
         text = f"{header} {{\n    fn f() {{\n    }}\n}}\n" if header else "fn f() {\n}\n"
         expect(header, name_of("k", "src/a/b.rt", functions_of(text)[0], home), wanted)
     expect("a function of the root", name_of("k", "src/lib.rt", functions_of("fn f() {}")[0], home), "k::f")
-    for file, text, wanted in COMMENTS:
-        expect("a text without comments", without_comments(file, text), wanted)
     expect("a text without bodies", without_bodies(SOURCE), BODILESS)
     names = [f"{it.name} {it.first} {it.last}" for it in functions_of(SOURCE)]
     expect("functions", names, ["MOST 2 2", "long 4 10", "f 12 16", "f 20 21", "g 23 23", "empty 26 26"])

@@ -8,8 +8,10 @@ import tempfile
 import threading
 import time
 
+from repository import read
+from rt_syntax import functions_of
+
 from .crates import PARTS
-from .sources import functions_of, read
 
 # A message of the prover that names something which the edit took away.
 NAME_IS_GONE = re.compile(r"has no field|is not in scope|has no `|is no name|was not admitted")
