@@ -1,4 +1,5 @@
--- The values that are folded: those of valid slots, and one that stands for each null.
+-- The values that are folded: those of valid slots, and one that stands for each null. Only private functions cite
+-- this.
 use Rattle.std.specs.Prelude.{Bool, List, map, unwrap_or}
 use Rattle.std.specs.List.{zip}
 use Rattle.arrow_column.specs.Column.{ColumnWith, slots_of}

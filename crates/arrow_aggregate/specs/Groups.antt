@@ -1,4 +1,5 @@
--- Aggregates of groups of slots.
+-- Aggregates of groups of slots: the sum, the least and the greatest value, and the number of valid slots of each
+-- group.
 use Rattle.std.specs.Prelude.{◌≡◌, [], MatchOption, ◌+◌, ◌^◌, ◌%◌, ◌==◌, ℕ, List, length, Option, Some, None, if◌then◌else◌, slice_get}
 use Rattle.std.specs.List.{filter_map, zip}
 use Rattle.std.specs.declared.cmp.Ordering.{Ordering}

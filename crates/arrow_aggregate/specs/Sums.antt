@@ -1,4 +1,4 @@
--- Sums of integers.
+-- Sums of integers, and how they are added up.
 use Rattle.std.specs.Prelude.{ℕ, ℤ, pos, ◌+ℤ◌, ◌-ℤ◌, ◌*ℤ◌, ◌^◌, ◌&&◌, Bool, if◌then◌else◌, nat_le, unsigned_abs, Option}
 use Rattle.std.specs.Prelude.{option_map, unwrap_or}
 use Rattle.std.specs.Prelude.{◌≡◌, FitsSigned, MatchOption}

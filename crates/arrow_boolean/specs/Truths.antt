@@ -1,4 +1,4 @@
--- True values.
+-- Marks that are set in both of two lists. Only private functions cite this.
 use Rattle.std.specs.Prelude.{◌&&◌, Bool, List, map}
 use Rattle.std.specs.List.{zip}
 use Rattle.arrow_memory.specs.Rows.{Row}

@@ -1,4 +1,4 @@
--- Columns whose slots store bytes.
+-- Columns whose slots store bytes, and the offsets and bytes that they hold.
 use Rattle.std.specs.Prelude.{ℕ, Bool, List, [], length, Option, None}
 use Rattle.std.specs.List.{concat}
 use Rattle.arrow_types.specs.Types.{LogicalType}

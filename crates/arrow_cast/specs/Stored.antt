@@ -1,4 +1,4 @@
--- What slots store, and which of them are null: `f` is what is made of a slot.
+-- What slots store, and which of them are null: `f` is what is made of a slot. Only private functions cite this.
 use Rattle.std.specs.Prelude.{◌≡◌, ◌+◌, ℕ, ℤ, Bool, true, false, nat_lt, List, [], ◌∷◌, ◌++◌, length, map}
 use Rattle.std.specs.Prelude.{Option, Some, None, is_some, option_map, unwrap_or}
 use Rattle.std.specs.List.{concat}

@@ -1,4 +1,4 @@
--- Where parts of arrays are wrong.
+-- Where parts of arrays are wrong: where offsets first fall, and which item is the first that is no text.
 use Rattle.std.specs.Prelude.{ℕ, ℤ, List, ◌∷◌, Bool, Option, int_lt, not, pos, position}
 use Rattle.std.specs.List.{zip}
 use Rattle.std.specs.Str.{is_utf8}

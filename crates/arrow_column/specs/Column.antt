@@ -1,4 +1,5 @@
--- A column: what contracts see of an array or a builder, without its memory.
+-- A column: what contracts see of an array or a builder, without its memory; the parts that make one; its cuts,
+-- appends, removals and replacements; rows joined, and another mask or other values.
 use Rattle.std.specs.Prelude.{⊤, ◌≡◌, ◌||◌, ◌&&◌, slice_set, option_map, ℕ, ◌-◌, ◌≤◌, Bool, true, false}
 use Rattle.std.specs.Prelude.{replicate, not, List, [], ◌∷◌, ◌++◌, length, map, take, drop, Option, Some, None}
 use Rattle.std.specs.Prelude.{option_and_then, is_some, slice_get, codes, if◌then◌else◌, IsTrue}

@@ -1,4 +1,4 @@
--- The first bytes of byte strings.
+-- The first bytes of byte strings. Only private functions cite this.
 use Rattle.std.specs.Prelude.{ℕ, ◌+◌, ◌*◌, ◌<◌, List, get_or}
 
 -- the first four bytes as a number, the first byte as its highest

@@ -1,4 +1,5 @@
--- What contracts see of data types and refusals: Arrow's logical and physical types.
+-- What contracts see of data types and refusals: Arrow's logical and physical types, which type is right for values,
+-- and the texts of refusals.
 use Rattle.std.specs.Prelude.{◌≡◌, ℕ, List, [], ◌∷◌, Option, codes, String, string_bytes, option_map}
 use Rattle.std.specs.declared.alloc.Global.{Global}
 use Rattle.arrow_types.specs.declared.data_type.DataType.{DataType}
