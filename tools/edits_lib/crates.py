@@ -42,32 +42,28 @@ class Crate(repository.Crate):
         found = [f"{it}/crates/{self.name}/out/incremental" for it in (self.top, self.over) if it]
         return next((it for it in found if os.path.isdir(it)), None)
 
-    def has_newer(self, mark):
-        """Whether the library was built and marked by this file, and no source of it or below has changed since."""
-        mark = f"{self.folder}/out/rlib/{mark}"
+    def is_built(self):
+        """Whether `rt check` or `rt lib` built the library, and no source of it or below has changed since."""
+        mark = f"{self.folder}/out/rlib/stamp"
         if not os.path.isdir(self.built()) or not os.path.isfile(mark):
             return False
         made = os.path.getmtime(mark)
         files = (f"{it.folder}/{file}" for it in [self, *self.below] for part in PARTS for file in it.files(part))
         return all(os.path.getmtime(file) < made for file in files)
 
-    def has_libraries(self):
-        """Whether the libraries below are built: all by `rt check` or `rt lib`, or all by the gate; these don't fit those."""
-        of_gate = lambda it: it.has_newer("gate") and not os.path.isfile(f"{it.folder}/out/rlib/stamp")
-        return all(it.has_newer("stamp") for it in self.below) or all(of_gate(it) for it in self.below)
-
-    def build_over(self, runs, say):
-        """Proves and builds the crates below that the tree of --over was not laid with."""
-        lacking = [it for it in self.below if not os.path.isdir(f"{self.over}/crates/{it.name}")]
-        for it in lacking:
-            left_out = shutil.ignore_patterns("out", "edits", "must-fail")
-            shutil.copytree(it.folder, f"{self.over}/crates/{it.name}", ignore=left_out)
-            with open(f"{self.over}/crates.txt", "a", encoding="utf-8") as file:
-                file.write(f"{it.line}\n")
-        if lacking:
-            names = [it.name for it in lacking]
-            say(f"{self.name}: proves and builds {' '.join(names)} by `rt ci` in {self.over}")
-            runs.output(["rt", "ci", *names], self.over)
+    def build_over(self, kit, runs, say):
+        """Proves and builds the crates below that the tree of --over was not laid with; returns why that failed, or None."""
+        for it in self.below:
+            folder = f"{self.over}/crates/{it.name}"
+            if os.path.isdir(folder):
+                continue
+            say(f"{self.name}: proves and builds {it.name} in {self.over}")
+            shutil.copytree(it.folder, folder, ignore=shutil.ignore_patterns("out", "edits", "must-fail"))
+            os.makedirs(os.path.dirname(it.built()))
+            output, status = runs.output([f"{kit}/bin/rattle", "build", *it.words(kit), "-o", it.built()], folder)
+            if status:
+                return f"the library {it.name} isn't proved:\n{output[-2000:]}"
+        return None
 
     @functools.cached_property
     def fault_copy(self):
@@ -84,12 +80,11 @@ class Crate(repository.Crate):
         """What is wrong with the libraries below in the tree that --over names, or None."""
         return next((it.fault_copy for it in self.below if it.fault_copy), None)
 
-    def build_below(self, runs, say):
+    def build_below(self, kit, runs, say):
         """Builds the libraries that the crate stands on, unless they are built; returns why that failed, or None."""
         if self.over:
-            self.build_over(runs, say)
-            return self.fault_over()
-        if self.has_libraries():
+            return self.build_over(kit, runs, say) or self.fault_over()
+        if all(it.is_built() for it in self.below):
             return None
         for it in self.direct:
             say(f"{self.name}: proves and builds {it.name} and the crates below it by `rt lib`, from nothing in up to an hour")
