@@ -1,4 +1,4 @@
--- Marks that are counted as the bits of words. Only private functions cite this.
+-- Marks that are counted as the bits of words.
 use Rattle.std.specs.Prelude.{ℕ, List}
 use Rattle.std.specs.Int.Count.{ones}
 use Rattle.std.specs.List.{sum_by}

@@ -1,2 +1,1 @@
-pub mod SlotLemmas
 mod TruthLemmas

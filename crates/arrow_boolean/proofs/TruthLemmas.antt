@@ -19,7 +19,7 @@ use Rattle.std.proofs.lemmas.Slice.Zip.{length-zip}
 use Rattle.arrow_memory.specs.Marks.{bits_of}
 use Rattle.arrow_memory.specs.Rows.{Row, slot}
 use Rattle.arrow_column.specs.Column.{Column, IsColumn, marks_of, mask_of, slots_of, stored_values}
-use Rattle.arrow_boolean.specs.Truths.{both_set}
+use Rattle.arrow_column.specs.Combined.{set_in_both}
 use Rattle.arrow_column.proofs.CallerLemmas.{slots_valid, valid_by_held}
 
 -- one more of a list
@@ -46,7 +46,7 @@ take-bits rows n (suc c) word read =
 -- ---- marks that are set in both of two lists
 
 pub both-at : (values marks : List Bool) (i : ℕ) (v m : Bool) → slice_get values i ≡ Some v
-    → slice_get marks i ≡ Some m → slice_get (both_set values marks) i ≡ Some (m && v)
+    → slice_get marks i ≡ Some m → slice_get (set_in_both values marks) i ≡ Some (m && v)
 both-at [] marks i v m e f = cc
 both-at (x ∷ values) [] i v m e f = cc
 both-at (x ∷ values) (y ∷ marks) zero v m e f =
@@ -57,7 +57,7 @@ both-at (x ∷ values) (y ∷ marks) (suc i) v m e f = both-at values marks i v 
 
 -- where the mark is clear
 pub both-clear : (values marks : List Bool) (i : ℕ) (m : Bool) → slice_get marks i ≡ Some m → m ≡ false
-    → i < length values → slice_get (both_set values marks) i ≡ Some false
+    → i < length values → slice_get (set_in_both values marks) i ≡ Some false
 both-clear [] marks i m e f low = absurd (omega arith)
 both-clear (x ∷ values) [] i m e f low = cc
 both-clear (x ∷ values) (y ∷ marks) zero m e f low =
@@ -66,7 +66,7 @@ both-clear (x ∷ values) (y ∷ marks) zero m e f low =
 both-clear (x ∷ values) (y ∷ marks) (suc i) m e f low = both-clear values marks i m e f (omega (arith, low))
 
 pub length-both : (values marks : List Bool) → length marks ≡ length values
-    → length (both_set values marks) ≡ length values
+    → length (set_in_both values marks) ≡ length values
 length-both values marks same = omega (
   arith,
   length-map (zip values marks) (λ (row : Row Bool). row.1 && row.0),
@@ -87,7 +87,7 @@ both-bit (suc (suc a)) b p q = absurd (omega arith)
 pub both-found : (values marks : List Bool) (n v m : ℕ)
     → ((k : ℕ) → k < 64 → slice_get values (n + k) ≡ Some (bit_at v k == 1))
     → ((k : ℕ) → k < 64 → slice_get marks (n + k) ≡ Some (bit_at m k == 1))
-    → (k : ℕ) → k < 64 → slice_get (both_set values marks) (n + k) ≡ Some (bit_at (bit_and v m) k == 1)
+    → (k : ℕ) → k < 64 → slice_get (set_in_both values marks) (n + k) ≡ Some (bit_at (bit_and v m) k == 1)
 both-found values marks n v m read held k low =
     both-at values marks (n + k) (bit_at v k == 1) (bit_at m k == 1) (read k low) (held k low)
     ∙ ap Some (both-bit (bit_at v k) (bit_at m k) (bit_at-lt v k) (bit_at-lt m k)
@@ -97,9 +97,9 @@ both-found values marks n v m read held k low =
 pub both-word : (values marks : List Bool) (n v m : ℕ)
     → ((k : ℕ) → k < 64 → slice_get values (n + k) ≡ Some (bit_at v k == 1))
     → ((k : ℕ) → k < 64 → slice_get marks (n + k) ≡ Some (bit_at m k == 1))
-    → take (n + 64) (both_set values marks) ≡ take n (both_set values marks) ++ bits_of (bit_and v m) 64
+    → take (n + 64) (set_in_both values marks) ≡ take n (set_in_both values marks) ++ bits_of (bit_and v m) 64
 both-word values marks n v m read held =
-    take-bits (both_set values marks) n 64 (bit_and v m) (both-found values marks n v m read held)
+    take-bits (set_in_both values marks) n 64 (bit_and v m) (both-found values marks n v m read held)
 
 -- marks are clear or set
 pub clear-and-set : (marks : List Bool) → count_by not marks + count_by (λ mark. mark) marks ≡ length marks
@@ -160,10 +160,10 @@ count-word word small = ones-set (λ k. bit_at word k == 1) 64 0 word small (λ 
 pub count-both-word : (values marks : List Bool) (n v m : ℕ) → v < 2 ^ 64
     → ((k : ℕ) → k < 64 → slice_get values (n + k) ≡ Some (bit_at v k == 1))
     → ((k : ℕ) → k < 64 → slice_get marks (n + k) ≡ Some (bit_at m k == 1))
-    → count_by (λ mark. mark) (take (n + 64) (both_set values marks))
-    ≡ count_by (λ mark. mark) (take n (both_set values marks)) + ones (bit_and v m)
+    → count_by (λ mark. mark) (take (n + 64) (set_in_both values marks))
+    ≡ count_by (λ mark. mark) (take n (set_in_both values marks)) + ones (bit_and v m)
 count-both-word values marks n v m small read held =
-    let both = both_set values marks in
+    let both = set_in_both values marks in
     ap (count_by (λ mark. mark)) (both-word values marks n v m read held)
     ∙ sum_by-append (λ mark. cond mark 1 0) (take n both) (bits_of (bit_and v m) 64)
     ∙ ap (λ k. count_by (λ mark. mark) (take n both) + k)
@@ -199,19 +199,19 @@ module _ (values marks : List Bool) (place from v m : ℕ) (small : v < 2 ^ 64) 
   bit-from : ℕ → Bool
   bit-from k = bit_at (bit_and v m) (k - place) == 1
 
-  length-last : length (drop from (both_set values marks)) ≡ length values - from
-  length-last = omega (arith, length-drop from (both_set values marks), length-both values marks same)
+  length-last : length (drop from (set_in_both values marks)) ≡ length values - from
+  length-last = omega (arith, length-drop from (set_in_both values marks), length-both values marks same)
 
-  last-bits : drop from (both_set values marks) ≡ map bit-from (range_with_len from (length values - from))
+  last-bits : drop from (set_in_both values marks) ≡ map bit-from (range_with_len from (length values - from))
   unfolding bit-from
   last-bits = same_lists _ _ (length-last ∙ sym (length-map-range_with_len bit-from from (length values
       - from))) (λ i d inner.
       let up : i < length values - from = subst (λ k. i < k) length-last inner in
       let here : place + (from - place + i) ≡ from + i = omega arith in
       let there : from - place + i ≡ from + i - place = omega arith in
-      get_or-drop from (both_set values marks) i d
-      ∙ get_or_from_slice_get (both_set values marks) (from + i) (bit_at (bit_and v m) (from - place + i) == 1) d
-      (ap (slice_get (both_set values marks)) (sym here)
+      get_or-drop from (set_in_both values marks) i d
+      ∙ get_or_from_slice_get (set_in_both values marks) (from + i) (bit_at (bit_and v m) (from - place + i) == 1) d
+      (ap (slice_get (set_in_both values marks)) (sym here)
       ∙ both-found values marks place v m read held (from - place + i) (omega (arith, up)))
       ∙ ap (λ k. bit_at (bit_and v m) k == 1) there
       ∙ sym (get_or-map-range_with_len bit-from from (length values - from) i (from + i) d up refl))
@@ -227,7 +227,7 @@ module _ (values marks : List Bool) (place from v m : ℕ) (small : v < 2 ^ 64) 
       ∙ ap (λ k. bit_at (bit_and v m) k == 1) (let e : from - place + i ≡ from + i - place = omega arith in e)
 
   pub count-last : ones (bit_and v m / 2 ^ (from - place))
-      ≡ count_by (λ mark. mark) (drop from (both_set values marks))
+      ≡ count_by (λ mark. mark) (drop from (set_in_both values marks))
   count-last =
       sym (ap (count_by (λ mark. mark)) last-bits
       ∙ ones-set bit-from (length values - from) from (bit_and v m / 2 ^ (from - place)) last-fits last-bit)
@@ -250,13 +250,13 @@ true-slot value false = refl
 
 -- those of valid and true slots are those set in both the values and the marks
 true-rows : (rows : List (Row Bool))
-    → count_by is_true (map slot rows) ≡ count_by (λ mark. mark) (both_set (map (λ row. row.0) rows)
+    → count_by is_true (map slot rows) ≡ count_by (λ mark. mark) (set_in_both (map (λ row. row.0) rows)
     (map (λ row. row.1) rows))
 true-rows [] = refl
 true-rows (row ∷ rows) =
     sum_by-cons (λ shown. cond (is_true shown) 1 0) (slot row) (map slot rows)
     ∙ ap₂ (λ b n. cond b 1 0 + n) (true-slot row.0 row.1) (true-rows rows)
-    ∙ sym (sum_by-cons (λ mark. cond mark 1 0) (row.1 && row.0) (both_set (map (λ row. row.0) rows)
+    ∙ sym (sum_by-cons (λ mark. cond mark 1 0) (row.1 && row.0) (set_in_both (map (λ row. row.0) rows)
     (map (λ row. row.1) rows)))
 
 true-values : (values : List Bool)
@@ -300,7 +300,7 @@ bare-true c is_column bare = sym (
 
 -- with a mask
 pub masked-true : (c : Column Bool) (marks : List Bool) → mask_of c ≡ Some marks
-    → count_by (λ mark. mark) (both_set (stored_values c) marks) ≡ count_by is_true (slots_of c)
+    → count_by (λ mark. mark) (set_in_both (stored_values c) marks) ≡ count_by is_true (slots_of c)
 masked-true c marks mask =
-    ap (λ ms. count_by (λ mark. mark) (both_set (stored_values c) ms)) (sym (held-marks c.held c.rows marks mask))
+    ap (λ ms. count_by (λ mark. mark) (set_in_both (stored_values c) ms)) (sym (held-marks c.held c.rows marks mask))
     ∙ sym (true-rows c.rows)

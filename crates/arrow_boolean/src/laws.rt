@@ -10,7 +10,10 @@ ghost use Rattle.arrow_boolean.specs.Fits.{boolean_array_tests, boolean_builder_
 /// The parts of an array or a builder, which `into_inner` returns, pass the tests of `try_new` and
 /// make the same value again.
 pub fn parts_again()
-    ensures array { (c : Column Bool) → IsRightType Boolean c.data_type → Passes (own_tests boolean_array_tests c) }
-    ensures builder { (c : Column Bool) → IsRightType Boolean c.data_type → Passes (own_tests boolean_builder_tests c) }
-    ensures same { (c : Column Bool) → IsColumn c → column_of_parts c.data_type (stored_values c) (mask_of c) ≡ c }
+    ensures array { (c : Column Bool) → IsRightType Boolean c.data_type
+        → Passes (own_tests boolean_array_tests c) }
+    ensures builder { (c : Column Bool) → IsRightType Boolean c.data_type
+        → Passes (own_tests boolean_builder_tests c) }
+    ensures same { (c : Column Bool) → IsColumn c
+        → column_of_parts c.data_type (stored_values c) (mask_of c) ≡ c }
 {}

@@ -1,7 +1,7 @@
 //! How many slots of an array of booleans are true.
 ghost use Rattle.std.specs.Prelude.{◌≡◌, ◌+◌, ◌<◌, ◌≤◌, Some, count_by, drop, false, length, slice_get, unwrap_or};
 ghost use Rattle.arrow_column.specs.Column.{slots_of};
-ghost use Rattle.arrow_boolean.specs.Truths.{both_set};
+ghost use Rattle.arrow_column.specs.Combined.{set_in_both};
 
 use crate::BooleanArray;
 use arrow_memory::bitmap::Bitmap;
@@ -10,7 +10,7 @@ use arrow_memory::bitmap::Bitmap;
 fn is_set_in_both(values: &Bitmap, validity: &Bitmap, i: usize) -> bool
     requires same { length validity.now ≡ length values.now }
     requires within { i < length values.now }
-    ensures { slice_get (both_set values.now validity.now) i ≡ Some result }
+    ensures { slice_get (set_in_both values.now validity.now) i ≡ Some result }
 {
     if validity.get_bit(i) {
         values.get_bit(i)
@@ -29,7 +29,7 @@ fn count_set(marks: &Bitmap) -> usize
 /// Counts the marks that are set in both of two short lists of equal length, one by one.
 fn count_few(values: &Bitmap, validity: &Bitmap) -> usize
     requires { length validity.now ≡ length values.now }
-    ensures { result ≡ count_by (λ mark. mark) (both_set values.now validity.now) }
+    ensures { result ≡ count_by (λ mark. mark) (set_in_both values.now validity.now) }
 {
     let mut count = 0;
     for i in 0..values.len() {
@@ -47,7 +47,7 @@ fn count_last(values: &Bitmap, validity: &Bitmap, from: usize) -> usize
     requires long { 64 ≤ length values.now }
     requires within { from ≤ length values.now }
     requires few { length values.now < from + 64 }
-    ensures { result ≡ count_by (λ mark. mark) (drop from (both_set values.now validity.now)) }
+    ensures { result ≡ count_by (λ mark. mark) (drop from (set_in_both values.now validity.now)) }
 {
     if from == values.len() {
         return 0;
@@ -61,7 +61,7 @@ fn count_last(values: &Bitmap, validity: &Bitmap, from: usize) -> usize
 /// Counts the marks that are set in both of two lists of equal length, 64 at a time.
 fn count_both(values: &Bitmap, validity: &Bitmap) -> usize
     requires { length validity.now ≡ length values.now }
-    ensures { result ≡ count_by (λ mark. mark) (both_set values.now validity.now) }
+    ensures { result ≡ count_by (λ mark. mark) (set_in_both values.now validity.now) }
 {
     if values.len() < 64 {
         return count_few(values, validity);

@@ -10,7 +10,7 @@ use Rattle.arrow_bytes.specs.Kinds.{AreItems}
 use Rattle.arrow_bytes.proofs.CallerLemmas.{column-back, end-back, items-back}
 
 -- they cut its stored values out again
-items-held : (c : ByteColumn) → items_of (offsets_held c) (bytes_held c) ≡ stored_values c
+pub items-held : (c : ByteColumn) → items_of (offsets_held c) (bytes_held c) ≡ stored_values c
 items-held c = items-back c.around.lead (stored_values c) c.around.tail
 
 pub are-items : (text : Bool) (c : ByteColumn) → AreItems text (stored_values c)

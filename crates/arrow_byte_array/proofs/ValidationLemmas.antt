@@ -17,7 +17,7 @@ pub array-first : (text : Bool) (layout : PhysicalType) (wrong_type : Refusal) (
 array-first text layout wrong_type t offsets bytes mask r first =
     (first.0, λ within. ((first.1 within).0, λ items. absurd ((first.1 within).1 items)))
 
--- the same of a builder's
+-- the test that failed among the first of a builder's is the first that failed of all
 pub builder-first : (text : Bool) (layout : PhysicalType) (wrong_type : Refusal) (t : LogicalType)
     (offsets bytes : List ℕ) (mask : Option (List Bool)) (r : Refusal)
     → IsFirstFailure (typed_tests text layout wrong_type t offsets bytes accept) r

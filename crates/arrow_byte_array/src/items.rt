@@ -140,10 +140,10 @@ impl<'a, K: BorrowItem<'a>, O: Offset> MutableByteArray<K, O> {
         requires { i < length self.now.rows }
         ensures { slice_get (slots_of self.now) i ≡ Some (option_map K.Borrowed.bytes result) }
     {
-        if !self.column.is_null(i) {
-            return Some(self.value(i));
+        if self.column.is_null(i) {
+            return None;
         }
-        None
+        Some(self.value(i))
     }
 
     /// Appends a slot. A null stores no byte, and the builder holds a mask from then on.

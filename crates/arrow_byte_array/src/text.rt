@@ -37,10 +37,8 @@ fn write_values<K: ByteKind, O: Offset, W: fmt::Write>(
 {
     write_head(f, name, column.data_type(), ", offsets: ")?;
     let values = column.values();
-    fmt::Debug::fmt(values.offsets(), f)?;
-    f.write_str(", values: ")?;
-    fmt::Debug::fmt(values.bytes(), f)?;
-    f.write_str(" }")
+    let (offsets, bytes) = (values.offsets(), values.bytes());
+    write!(f, "{offsets:?}, values: {bytes:?} }}")
 }
 
 /// Writes the fields of a builder with nulls: the builder of its values, and its mask.

@@ -88,11 +88,11 @@ pub within-back : (lead : List ℕ) (items : List (List ℕ)) (tail : List ℕ)
     → last_of (offsets_of (length lead) items) ≤ length (bytes_of lead items tail)
 within-back lead items tail = omega (arith, end-back lead items tail)
 
-lead-back : (lead : List ℕ) (items : List (List ℕ)) (tail : List ℕ)
+pub lead-back : (lead : List ℕ) (items : List (List ℕ)) (tail : List ℕ)
     → lead_of (offsets_of (length lead) items) (bytes_of lead items tail) ≡ lead
 lead-back lead items tail = take_at lead (concat items ++ tail) (length lead) refl
 
-tail-back : (lead : List ℕ) (items : List (List ℕ)) (tail : List ℕ)
+pub tail-back : (lead : List ℕ) (items : List (List ℕ)) (tail : List ℕ)
     → tail_of (offsets_of (length lead) items) (bytes_of lead items tail) ≡ tail
 tail-back lead items tail =
     ap₂ drop

@@ -60,7 +60,7 @@ module _ {X : Type 0} (shown : X → List ℕ) (most : ℕ) where
   abbrev pub ItemsRefused : LogicalType → List X → Error → Type 0
   ItemsRefused t items e = MatchGrowth e (ItemsOverflow (item_overflows shown most) shown [] items (empty_bytes t)) ⊤
 
-  -- the same of what an iterator gives
+  -- slots and items that an iterator gives
   module _ {I : Type 0} where
     -- all slots that an iterator gives are appended
     abbrev pub BytesBySlots : (I → Option (Option X) → I → Type 0) → I → ByteColumn → ByteColumn → Type 0

@@ -1,10 +1,10 @@
--- Columns whose slots store bytes, and the offsets and bytes that they hold.
+-- Columns whose slots store bytes.
 use Rattle.std.specs.Prelude.{ℕ, Bool, List, [], length, Option, None}
 use Rattle.std.specs.List.{concat}
 use Rattle.arrow_types.specs.Types.{LogicalType}
 use Rattle.arrow_column.specs.Column.{ColumnWith, column_with, stored_values}
 use Rattle.arrow_check.specs.Pieces.{bytes_of, items_of, offsets_of}
-use Rattle.arrow_bytes.specs.Pieces.{Around, around_of, nothing_around, overflows_by}
+use Rattle.arrow_bytes.specs.Pieces.{Around, around_of, lead_only, nothing_around, overflows_by}
 
 -- a column of bytes
 abbrev pub ByteColumn : Type 0
@@ -26,9 +26,9 @@ offsets_held column = offsets_of (length column.around.lead) (stored_values colu
 abbrev pub bytes_held : ByteColumn → List ℕ
 bytes_held column = bytes_of column.around.lead (stored_values column) column.around.tail
 
--- the same column with no bytes after its slots
+-- a column without the bytes after its slots
 abbrev pub column_without_tail : ByteColumn → ByteColumn
-column_without_tail column = record column { around = record column.around { tail = [] } }
+column_without_tail column = record column { around = lead_only column.around }
 
 -- whether the end of an item would be above the greatest offset; shown are the item's bytes
 abbrev pub item_overflows : {X : Type 0} → (X → List ℕ) → ℕ → Around → List (List ℕ) → X → Bool

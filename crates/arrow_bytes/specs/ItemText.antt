@@ -13,7 +13,8 @@ bytes_text bytes = debug_list (λ b. Some (decimal b)) bytes
 -- a builder without nulls, as its name and its fields
 abbrev pub values_builder_text : List ℕ → ByteColumn → Option (List ℕ)
 values_builder_text name column =
-    head_text name column.data_type (codes ", offsets: ") ++? offsets_text (codes "Offsets") (offsets_held column)
+    Some (head_text name column.data_type (codes ", offsets: "))
+    ++? offsets_text (codes "Offsets") (offsets_held column)
     ++? Some (codes ", values: ") ++? bytes_text (bytes_held column) ++? Some (codes " }")
 
 -- a builder with nulls: the builder of its values, whose name is the second, and its mask

@@ -35,9 +35,8 @@ abbrev pub LegalEndItems : Bool → List ℕ → List ℕ → Type 0
 LegalEndItems text offsets bytes = IsOffsets offsets × (last_of offsets ≡ length bytes)
     × AreItems text (items_of offsets bytes)
 
--- from some counts of what text checks cost to later ones: of these bytes the window was tested once at most,
--- whether it
--- is ASCII and whether it is UTF-8, and each inner offset was looked at once at most
+-- from some counts of what text checks cost to later ones: the window of these bytes was tested once at most whether
+-- it is ASCII, and once at most whether it is UTF-8; each inner offset was looked at once at most
 abbrev pub TestsOnce : List ℕ → List ℕ → Cost → Cost → Type 0
 TestsOnce offsets bytes old new = ReadsAtMost 1 1 (length offsets - 2) (record { bytes = bytes; cost = old })
     (record { bytes = bytes; cost = new })

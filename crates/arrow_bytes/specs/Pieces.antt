@@ -1,7 +1,7 @@
 -- Stored values of bytes: items, and what lies around them.
-use Rattle.std.specs.Prelude.{◌≡◌, ℕ, ◌+◌, Bool, nat_lt, List, [], ◌++◌, length, take, drop}
+use Rattle.std.specs.Prelude.{ℕ, ◌+◌, Bool, nat_lt, List, [], ◌++◌, length, take, drop}
 use Rattle.std.specs.List.{concat}
-use Rattle.arrow_check.specs.Pieces.{bytes_of, items_of, lead_of, offsets_of, tail_of}
+use Rattle.arrow_check.specs.Pieces.{items_of, lead_of, tail_of}
 
 -- what lies around items: the bytes before the first of them, and those after the last
 pub record Around : Type 0 where
@@ -25,12 +25,6 @@ around_of offsets bytes = record { lead = lead_of offsets bytes; tail = tail_of 
 abbrev pub pieces_of : List ℕ → List ℕ → Pieces
 pieces_of offsets bytes = record { around = around_of offsets bytes; items = items_of offsets bytes }
 
--- the offsets and the bytes of items and of what lies around them cut out the same pieces
-abbrev pub PiecesAgain : Around → List (List ℕ) → Type 0
-PiecesAgain around items =
-    pieces_of (offsets_of (length around.lead) items) (bytes_of around.lead items around.tail)
-    ≡ record { around = around; items = items }
-
 -- what lies around n of these items from index a on: the items before them are then part of the lead, and those
 -- after them part of the tail
 abbrev pub around_cut : Around → List (List ℕ) → ℕ → ℕ → Around
@@ -39,9 +33,9 @@ around_cut around items a n = record {
   tail = concat (drop (a + n) items) ++ around.tail;
 }
 
--- the same items with nothing after them
-abbrev pub without_tail : Pieces → Pieces
-without_tail pieces = record pieces { around = record pieces.around { tail = [] } }
+-- what lies before the items alone
+abbrev pub lead_only : Around → Around
+lead_only around = record around { tail = [] }
 
 -- whether `added` bytes more after these items would end above the greatest offset
 abbrev pub overflows_by : ℕ → Around → List (List ℕ) → ℕ → Bool

@@ -1,8 +1,8 @@
 -- What kernels make of columns: a column of some of the rows of another, those that a filter selects, or those at the
 -- indexes that keys are; and the concatenation of several columns.
-use Rattle.std.specs.Prelude.{◌≡◌, ◌&&◌, ℕ, ℤ, Bool, false, not, nat_lt, List, [], ◌∷◌, ◌++◌, length, map, find}
+use Rattle.std.specs.Prelude.{◌≡◌, ℕ, ℤ, Bool, false, not, nat_lt, List, [], ◌∷◌, length, map, find}
 use Rattle.std.specs.Prelude.{flat_map}
-use Rattle.std.specs.Prelude.{Option, None, Some, slice_get, option_and_then, unwrap_or, count_by, take}
+use Rattle.std.specs.Prelude.{Option, None, slice_get, option_and_then, unwrap_or, count_by, take}
 use Rattle.std.specs.List.{concat, filter_map, zip}
 use Rattle.arrow_types.specs.IndexKey.{index_of}
 use Rattle.arrow_memory.specs.Offsets.{last_of}
@@ -31,14 +31,6 @@ set_before n marks xs = where_set (take n marks) (take n xs)
 -- the number of set marks
 abbrev pub count_set : List Bool → ℕ
 count_set marks = count_by (λ mark. mark) marks
-
--- marks of lists one after the other select from each list what its own marks select
-abbrev pub SelectsJoined : {X : Type 0} → List Bool → List Bool → List X → List X → Type 0
-SelectsJoined marks others xs ys = where_set (marks ++ others) (xs ++ ys) ≡ where_set marks xs ++ where_set others ys
-
--- a mark for each of as many values and marks: set where both are
-abbrev pub set_in_both : List Bool → List Bool → List Bool
-set_in_both values marks = map (λ row. row.1 && row.0) (zip values marks)
 
 -- which rows a filter selects: those at which its slot is valid and true
 abbrev pub asked : Column Bool → List Bool
@@ -109,16 +101,7 @@ abbrev pub ForTakes : (A S K : Type 0) → ((K → ℤ) → ColumnWith A S → L
 ForTakes A S K P = (nothing : A) (number : K → ℤ) (column : ColumnWith A S) (keys : List K)
     → P number column keys (taken nothing number column keys)
 
--- each slot of what is taken is the one at its key
-abbrev pub TakesEach : {A S K : Type 0} → (K → ℤ) → ColumnWith A S → List K → ColumnWith A S → Type 0
-TakesEach {A} {S} {K} number column keys made = (i : ℕ) (key : K) → first_out_of_bounds number column keys ≡ None
-    → slice_get keys i ≡ Some key → slice_get (slots_of made) i ≡ at_key (slots_of column) (number key)
-
--- a fact of any concatenation: of the columns and what is made of them
-abbrev pub ForConcats : (A S : Type 0) → (List (ColumnWith A S) → ColumnWith A S → Type 0) → Type 0
-ForConcats A S P = (nothing : A) (columns : List (ColumnWith A S)) (made : ColumnWith A S)
-    → Concatenates nothing columns made → P columns made
-
--- a concatenation has the data type of the first column
-abbrev pub HasFirstType : {A S : Type 0} → A → ColumnWith A S → List (ColumnWith A S) → ColumnWith A S → Type 0
-HasFirstType nothing first others made = Concatenates nothing (first ∷ others) made → made.data_type ≡ first.data_type
+-- a fact of any take whose keys are all in bounds
+abbrev pub ForFitTakes : (A S K : Type 0) → ((K → ℤ) → ColumnWith A S → List K → ColumnWith A S → Type 0) → Type 0
+ForFitTakes A S K P = (nothing : A) (number : K → ℤ) (column : ColumnWith A S) (keys : List K)
+    → first_out_of_bounds number column keys ≡ None → P number column keys (taken nothing number column keys)

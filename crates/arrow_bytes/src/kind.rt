@@ -110,7 +110,7 @@ pub trait BorrowItem<'a>: ByteKind {
 pub trait ItemError {
     ghost use Rattle.arrow_types.specs.declared.error.Error.{Error};
 
-    /// `Error`.
+    /// The type of the error: `Error` for each item of this library.
     type Error: Drop;
 
     /// The error as an `Error`.

@@ -6,6 +6,7 @@ ghost use Rattle.arrow_bytes.specs.Kinds.{IsItem};
 use crate::{Binary, BorrowItem, ByteKind, ByteValues, Utf8};
 use arrow_column::WriteValues;
 use arrow_types::offset::Offset;
+use arrow_types::quoted::write_quoted;
 use std::fmt;
 
 /// A kind of items that can be printed, with the names of its array and builders.
@@ -57,7 +58,7 @@ impl WriteKind for Binary {
 
     /// Writes the bytes as numbers, as in `[1, 255]`.
     fn write_item<W: fmt::Write>(f: &mut fmt::Formatter<W>, bytes: &[u8]) -> fmt::Result {
-        fmt::Debug::fmt(&bytes, f)
+        write!(f, "{bytes:?}")
     }
 
     fn array_name(is_large: bool) -> &'static str {
@@ -78,10 +79,10 @@ impl WriteKind for Binary {
 }
 
 impl WriteKind for Utf8 {
-    ghost use Rattle.std.specs.Prelude.{codes, if◌then◌else◌};
-    ghost use Rattle.std.specs.Fmt.{debug_str};
+    ghost use Rattle.std.specs.Prelude.{Some, codes, if◌then◌else◌};
+    ghost use Rattle.arrow_types.specs.QuotedText.{quoted_text};
 
-    ghost item_text = { debug_str };
+    ghost item_text = { λ text. Some (quoted_text text) };
 
     ghost array_name = { λ is_large. if is_large then codes "LargeUtf8Array" else codes "Utf8Array" };
 
@@ -89,9 +90,10 @@ impl WriteKind for Utf8 {
 
     ghost values_builder_name = { codes "MutableUtf8ValuesArray" };
 
-    /// Writes the text in quotes, as in `"ab"`.
+    /// Writes the text in quotes, as in `"ab"`, with escapes for quotes, backslashes and control characters of ASCII.
+    /// Every other character is written as it is.
     fn write_item<W: fmt::Write>(f: &mut fmt::Formatter<W>, bytes: &[u8]) -> fmt::Result {
-        fmt::Debug::fmt(&Utf8::borrow_item(bytes), f)
+        write_quoted(f, Utf8::borrow_item(bytes))
     }
 
     fn array_name(is_large: bool) -> &'static str {

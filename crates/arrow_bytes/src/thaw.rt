@@ -1,6 +1,6 @@
 //! Thawing of stored byte strings together with their mask.
 ghost use Rattle.either.specs.Either.{MatchEither};
-ghost use Rattle.arrow_bytes.specs.Pieces.{without_tail};
+ghost use Rattle.arrow_bytes.specs.Pieces.{lead_only};
 ghost use Rattle.arrow_memory.specs.Thaw.{AreParts};
 
 use crate::{ByteKind, ByteValues, MutableByteValues};
@@ -18,7 +18,8 @@ pub fn into_mut_values<K: ByteKind, O: Offset>(
     values: ByteValues<K, O>,
     validity: Option<Bitmap>,
 ) -> Either<(ByteValues<K, O>, Option<Bitmap>), (MutableByteValues<K, O>, Option<MutableBitmap>)>
-    ensures { MatchEither result (AreParts values validity) (AreParts (without_tail values) validity) }
+    ensures { MatchEither result (AreParts values validity)
+        (AreParts (record values { around = lead_only values.around }) validity) }
 {
     let ByteValues { offsets, bytes, .. } = values;
     match into_mut_bytes(offsets, bytes, validity) {

@@ -1,19 +1,20 @@
 -- Lemmas about the first element of a list that passes a test, and about items by index.
 use Rattle.std.proofs.Common.{◌≡◌, ℕ, zero, suc, ◌+◌, ◌-◌, ◌<◌, ◌≤◌, ℤ, pos, negsuc, ◌<ℤ◌, Bool, true, false, cond}
 use Rattle.std.proofs.Common.{nat_lt, List, [], ◌∷◌, length, map, get_or, slice_get, Some, None, option_map, refl, sym}
-use Rattle.std.proofs.Common.{subst, ap, ap₂, ◌∙◌, arith, drop, inl, inr, min, take, ◌⊎◌, ◌↔◌}
-use Rattle.std.specs.Prelude.{int_lt, IsTrue, IsUtf8, not, position, slice_range}
-use Rattle.std.specs.List.{position_or_len, zip}
-use Rattle.std.specs.Str.{is_utf8}
-use Rattle.std.proofs.lemmas.Bool.{cases_lt, le-ltb, lt-ltb}
+use Rattle.std.proofs.Common.{subst, ap, ap₂, ◌∙◌, arith, drop, inl, inr, min, take, ◌⊎◌, ◌↔◌, ◌≤ℤ◌}
+use Rattle.std.specs.Prelude.{if◌then◌else◌, int_lt, IsSomeAnd, IsTrue, IsUtf8, not, position, slice_range}
+use Rattle.std.specs.List.{All, position_or_len, zip}
+use Rattle.std.proofs.lemmas.Bool.{cases_lt, false≢true, le-ltb, lt-ltb, or_from, or_parts}
 use Rattle.std.proofs.lemmas.Int.{ints}
 use Rattle.std.proofs.lemmas.List.{drop_all, length-drop, take_all}
+use Rattle.std.proofs.lemmas.List.Elements.{All-cons, All-head, All-more, All-nil, All-tail}
 use Rattle.std.proofs.lemmas.List.Sums.{fails_before_first}
-use Rattle.std.proofs.lemmas.Option.{slice_get-map, slice_get_read, slice_get_within}
-use Rattle.std.proofs.lemmas.Str.{IsUtf8-from_is_utf8, is_utf8-from_IsUtf8}
+use Rattle.std.proofs.lemmas.Option.{get_or_from_slice_get, slice_get-map, slice_get_read, slice_get_within}
+use Rattle.arrow_memory.specs.Offsets.{falls_after, first_fault}
 use Rattle.arrow_check.specs.Pieces.{items_after, items_of}
-use Rattle.arrow_check.specs.Places.{is_unfit, steps_of}
+use Rattle.arrow_check.specs.Places.{falls, first_fall, IsFirstUnfit, steps_of}
 use Rattle.arrow_check.specs.Texts.{AreTexts}
+use Rattle.arrow_check.specs.Utf8.{IsWellFormed}
 use Rattle.arrow_check.proofs.Utf8Lemmas.{well_formed-IsUtf8}
 
 -- ---- the first that passes
@@ -164,22 +165,126 @@ range-within {X} xs start end first past low high order =
         ap (λ a. take (past - first) (drop a xs)) here ∙ take_all (past - first) rest short
         ∙ sym (take_all (end - start) rest long)
 
--- a test of text is that of the library
-pub is-text : (answer : Bool) (bytes : List ℕ) → (IsTrue answer ↔ IsUtf8 bytes) → answer ≡ is_utf8 bytes
-is-text true bytes tells = sym (is_utf8-from_IsUtf8 bytes (tells.0 refl))
-is-text false bytes tells = by_test (is_utf8 bytes) refl
-  where
-    by_test : (b : Bool) → is_utf8 bytes ≡ b → false ≡ is_utf8 bytes
-    by_test true is = tells.1 (IsUtf8-from_is_utf8 bytes is) ∙ sym is
-    by_test false is = sym is
+-- a test of text by the library is one by Unicode's table
+pub is-text : (answer : Bool) (bytes : List ℕ) → (IsTrue answer ↔ IsUtf8 bytes)
+    → IsTrue answer ↔ IsWellFormed bytes
+is-text answer bytes tells = (
+  λ yes. (well_formed-IsUtf8 bytes).1 (tells.0 yes),
+  λ text. tells.1 ((well_formed-IsUtf8 bytes).0 text),
+)
 
--- where no item was passed by, each is text
-pub all-texts : (items : List (List ℕ)) → length items ≤ position_or_len is_unfit items → AreTexts items
-all-texts items all k d low =
-    let item = get_or items k d in
-    let fits : not (is_utf8 item) ≡ false = fails_before_first is_unfit items k d (omega (arith, low, all)) in
-    (well_formed-IsUtf8 item).1 (IsUtf8-from_is_utf8 item (passes (is_utf8 item) fits))
+-- ---- the first item that is no text
+
+-- where the test says no, the bytes are no text
+pub no-text : (bytes : List ℕ) → (IsTrue false ↔ IsWellFormed bytes) → ¬ IsWellFormed bytes
+no-text bytes tells text = false≢true (tells.1 text)
+
+-- an item that is no text, behind texts
+pub first-unfit : (items : List (List ℕ)) (i : ℕ) (item : List ℕ) → slice_get items i ≡ Some item
+    → ¬ IsWellFormed item → AreTexts (take i items) → IsFirstUnfit items i
+first-unfit items i item at unfit before =
+    (before, subst (λ found. IsSomeAnd found (λ item. ¬ IsWellFormed item)) (sym at) unfit)
+
+-- where it is, not all items are texts
+pub not-all : (items : List (List ℕ)) (i : ℕ) (item : List ℕ) → slice_get items i ≡ Some item
+    → ¬ IsWellFormed item → (Some i ≡ None) ↔ AreTexts items
+not-all items i item at unfit = (
+  λ none. absurd (cc),
+  λ all. absurd (unfit (subst IsWellFormed (get_or_from_slice_get items i item item at)
+      (all i item (slice_get_within items i item at)))),
+)
+
+-- one more text
+pub one-more-text : (items : List (List ℕ)) (i : ℕ) (item : List ℕ) → slice_get items i ≡ Some item
+    → IsWellFormed item → AreTexts (take i items) → AreTexts (take (i + 1) items)
+one-more-text items i item at text before =
+    All-more IsWellFormed items i item (slice_get_within items i item at) before
+    (subst IsWellFormed (sym (get_or_from_slice_get items i item item at)) text)
+
+-- where all items were passed, all are texts
+pub all-texts : (items : List (List ℕ)) (i : ℕ) → length items ≤ i → AreTexts (take i items) → AreTexts items
+all-texts items i all texts = subst AreTexts (take_all i items all) texts
+
+-- ---- integers that never fall
+
+-- the second of two integers is at least the first
+abbrev pub IsRise : ℤ × ℤ → Type 0
+IsRise step = step.0 ≤ℤ step.1
+
+rises : (a b : ℤ) → int_lt b a ≡ false → a ≤ℤ b
+rises a b fails = omega (arith, ints)
+
+not-below : (a b : ℤ) → a ≤ℤ b → int_lt b a ≡ false
+not-below a b up = by_test (int_lt b a) refl
   where
-    passes : (b : Bool) → not b ≡ false → b ≡ true
-    passes true e = refl
-    passes false e = cc
+    by_test : (t : Bool) → int_lt b a ≡ t → t ≡ false
+    by_test true is = absurd (omega (arith, ints))
+    by_test false is = refl
+
+-- where none passes, all were passed by
+none-behind : {X : Type 0} (p : X → Bool) (xs : List X) → position p xs ≡ None → length xs ≤ position_or_len p xs
+none-behind p xs none =
+    elim (cases_lt (position_or_len p xs) (length xs)) [
+      | inl low ↦ absurd (not_some (position_or_len p xs) (sym none
+          ∙ ap (λ b. cond b (Some (position_or_len p xs)) None) (lt-ltb (position_or_len p xs) (length xs) low)))
+      | inr all ↦ all
+    ]
+  where
+    not_some : (n : ℕ) → ¬ (None ≡ Some n)
+    not_some n e = cc
+
+all-rise : (steps : List (ℤ × ℤ)) → position falls steps ≡ None → All IsRise steps
+all-rise steps none k d low =
+    rises (get_or steps k d).0 (get_or steps k d).1
+    (fails_before_first falls steps k d (omega (arith, low, none-behind falls steps none)))
+
+none-falls : (steps : List (ℤ × ℤ)) → All IsRise steps → length steps ≤ position_or_len falls steps
+none-falls [] all = omega arith
+none-falls (step ∷ steps) all =
+    let rest = none-falls steps (All-tail IsRise step steps all) in
+    subst (λ b. suc (length steps) ≤ cond (not b) (1 + position_or_len falls steps) 0)
+    (sym (not-below step.0 step.1 (All-head IsRise step steps all))) (omega arith)
+
+-- no integer falls exactly if each is at least the one before it, which before the first is 0
+pub never-falls : (zs : List ℤ) → (first_fall zs ≡ None) ↔ All IsRise (zip (pos 0 ∷ zs) zs)
+never-falls zs =
+    (all-rise (steps_of zs), λ all. sym (none-passes falls (steps_of zs) (none-falls (steps_of zs) all)))
+
+rising : (z : ℤ) (zs : List ℤ) → falls_after z zs ≡ false → All IsRise (zip (z ∷ zs) zs)
+rising z [] fails = All-nil IsRise
+rising z (y ∷ ys) fails =
+    let parts = or_parts (int_lt y z) (falls_after y ys) fails in
+    All-cons IsRise (z, y) (zip (y ∷ ys) ys) (rises z y parts.0) (rising y ys parts.1)
+
+never-after : (z : ℤ) (zs : List ℤ) → All IsRise (zip (z ∷ zs) zs) → falls_after z zs ≡ false
+never-after z [] all = refl
+never-after z (y ∷ ys) all =
+    or_from (int_lt y z) (falls_after y ys) (not-below z y (All-head IsRise (z, y) (zip (y ∷ ys) ys) all))
+    (never-after y ys (All-tail IsRise (z, y) (zip (y ∷ ys) ys) all))
+
+no-fault-1 : (a b : Bool) (s t : List ℕ) → (if a then Some s else (if b then Some t else None)) ≡ None → a ≡ false
+no-fault-1 true b s t e = absurd (cc)
+no-fault-1 false b s t e = refl
+
+no-fault-2 : (a b : Bool) (s t : List ℕ) → (if a then Some s else (if b then Some t else None)) ≡ None → b ≡ false
+no-fault-2 true b s t e = absurd (cc)
+no-fault-2 false true s t e = absurd (cc)
+no-fault-2 false false s t e = refl
+
+no-faults : (a b : Bool) (s t : List ℕ) → a ≡ false → b ≡ false
+    → (if a then Some s else (if b then Some t else None)) ≡ None
+no-faults a b s t first rest = ap₂ (λ x y. if x then Some s else (if y then Some t else None)) first rest
+
+-- no integer falls exactly if they break no rule of offsets
+pub fall-is-fault : (z : ℤ) (zs : List ℤ) → (first_fall (z ∷ zs) ≡ None) ↔ (first_fault (z ∷ zs) ≡ None)
+fall-is-fault z zs = (
+  λ none.
+      let all = all-rise (steps_of (z ∷ zs)) none in
+      no-faults (int_lt z (pos 0)) (falls_after z zs) _ _
+      (not-below (pos 0) z (All-head IsRise (pos 0, z) (zip (z ∷ zs) zs) all))
+      (never-after z zs (All-tail IsRise (pos 0, z) (zip (z ∷ zs) zs) all)),
+  λ none.
+      let first = rises (pos 0) z (no-fault-1 (int_lt z (pos 0)) (falls_after z zs) _ _ none) in
+      let rest = rising z zs (no-fault-2 (int_lt z (pos 0)) (falls_after z zs) _ _ none) in
+      (never-falls (z ∷ zs)).1 (All-cons IsRise (pos 0, z) (zip (z ∷ zs) zs) first rest),
+)

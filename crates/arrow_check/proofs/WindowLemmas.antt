@@ -4,7 +4,7 @@ use Rattle.std.proofs.Common.{Some, slice_get, List, [], ◌∷◌, ◌++◌, le
 use Rattle.std.proofs.Common.{subst, inl, inr, arith, length-take, length-drop}
 use Rattle.std.specs.Prelude.{slice_range}
 use Rattle.std.proofs.lemmas.Bool.{cases_lt, false≢true}
-use Rattle.std.proofs.lemmas.List.{drop-drop, drop-take, take-take, take-append-drop, get_or-take, get_or-drop}
+use Rattle.std.proofs.lemmas.List.{drop_all, take_all, drop-drop, drop-take, take-take, take-append-drop, get_or-take, get_or-drop}
 use Rattle.std.proofs.lemmas.Option.{get_or_from_slice_get}
 use Rattle.std.proofs.lemmas.List.Elements.{All-from_recursion, recursion_from_All, All-from_get_or, All-get_or}
 use Rattle.std.proofs.lemmas.Str.{IsUtf8-append, IsUtf8-nil, IsUtf8-take, IsUtf8-drop, IsCharBoundary-start}
@@ -44,6 +44,18 @@ text-cut bytes n text within cuts =
       (well_formed-IsUtf8 (take n bytes)).1 (IsUtf8-take bytes n utf8 at),
       (well_formed-IsUtf8 (drop n bytes)).1 (IsUtf8-drop bytes n utf8 at),
     )
+
+-- a cut past the end leaves the text as it is, and nothing behind it
+pub text-cut-at : (bytes : List ℕ) (n : ℕ) → IsWellFormed bytes → CutsBetween (length bytes) bytes n
+    → IsWellFormed (take n bytes) × IsWellFormed (drop n bytes)
+text-cut-at bytes n text cuts =
+    elim (cases_lt (length bytes) n) [
+      | inl past ↦ (
+        subst IsWellFormed (sym (take_all n bytes (omega (arith, past)))) text,
+        subst IsWellFormed (sym (drop_all n bytes (omega (arith, past)))) no-bytes,
+      )
+      | inr within ↦ text-cut bytes n text within cuts
+    ]
 
 -- a text begins with no continuation byte
 pub text-start : (bytes : List ℕ) → IsWellFormed bytes → 0 < length bytes → ¬ IsContinuation (get_or bytes 0 0)

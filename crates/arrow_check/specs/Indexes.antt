@@ -12,7 +12,7 @@ use Rattle.arrow_memory.specs.Rows.{rows_of, slot}
 abbrev pub in_bounds : ℕ → ℤ → Bool
 in_bounds length key = option_map_or (λ index. nat_lt index length) (index_of key) false
 
--- the refusal of a number that is no such index: it is no index, or else it is past the items
+-- the refusal of a key that is out of bounds: it is negative or does not fit in a usize, or else it is past the items
 abbrev pub key_refusal : ℤ → Refusal
 key_refusal key =
     if is_some (index_of key)

@@ -1,9 +1,9 @@
 -- Three pieces: the items that offsets cut out of bytes, the bytes before the first of them, and the bytes after
 -- the last (Arrow columnar format, "Variable-size Binary Layout").
-use Rattle.std.specs.Prelude.{◌≡◌, Some, slice_get, ℕ, ◌+◌, ◌≤◌, List, [], ◌∷◌, ◌++◌, length, take, drop, slice_index}
+use Rattle.std.specs.Prelude.{ℕ, ◌+◌, List, [], ◌∷◌, ◌++◌, length, take, drop, slice_index}
 use Rattle.std.specs.Prelude.{slice_range}
 use Rattle.std.specs.List.{concat}
-use Rattle.arrow_memory.specs.Offsets.{first_of, last_of, IsOffsets}
+use Rattle.arrow_memory.specs.Offsets.{first_of, last_of}
 
 -- the items that end at each of these offsets, the first of which begins at start
 abbrev pub items_after : {X : Type 0} → ℕ → List ℕ → List X → List (List X)
@@ -16,14 +16,9 @@ abbrev pub items_of : {X : Type 0} → List ℕ → List X → List (List X)
 items_of [] xs = []
 items_of (start ∷ ends) xs = items_after start ends xs
 
--- a fact of any legal offsets that lie within bytes
-abbrev pub ForFitOffsets : (List ℕ → List ℕ → Type 0) → Type 0
-ForFitOffsets P = (offsets bytes : List ℕ) → IsOffsets offsets → last_of offsets ≤ length bytes → P offsets bytes
-
--- item i is what lies from offset i up to the next
-abbrev pub ItemLiesBetween : {X : Type 0} → List ℕ → List X → ℕ → Type 0
-ItemLiesBetween offsets xs i = slice_get (items_of offsets xs) i
-    ≡ Some (slice_range xs (slice_index offsets i) (slice_index offsets (i + 1)))
+-- what lies from offset i up to the next
+abbrev pub item_from : {X : Type 0} → List ℕ → List X → ℕ → List X
+item_from offsets xs i = slice_range xs (slice_index offsets i) (slice_index offsets (i + 1))
 
 -- what lies before the first item
 abbrev pub lead_of : List ℕ → List ℕ → List ℕ

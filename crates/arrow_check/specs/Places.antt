@@ -1,17 +1,12 @@
--- Where parts of arrays are wrong: where offsets first fall, and which item is the first that is no text.
-use Rattle.std.specs.Prelude.{ℕ, ℤ, List, ◌∷◌, Bool, Option, int_lt, not, pos, position}
+-- Where parts of arrays are wrong.
+use Rattle.std.specs.Prelude.{ℕ, ℤ, List, ◌∷◌, Bool, IsSomeAnd, Option, int_lt, pos, position, slice_get, take}
 use Rattle.std.specs.List.{zip}
-use Rattle.std.specs.Str.{is_utf8}
-use Rattle.arrow_check.specs.Pieces.{items_of}
+use Rattle.arrow_check.specs.Texts.{AreTexts}
+use Rattle.arrow_check.specs.Utf8.{IsWellFormed}
 
--- whether bytes are no text, by the test of Rattle's library, which the texts of Unicode's table pass
--- (`laws::well_formed_is_utf8`)
-abbrev pub is_unfit : List ℕ → Bool
-is_unfit item = not (is_utf8 item)
-
--- the index of the first item that is no text
-abbrev pub first_unfit : List ℕ → List ℕ → Option ℕ
-first_unfit offsets bytes = position is_unfit (items_of offsets bytes)
+-- the items before index i are texts, and item i is not
+abbrev pub IsFirstUnfit : List (List ℕ) → ℕ → Type 0
+IsFirstUnfit items i = AreTexts (take i items) × IsSomeAnd (slice_get items i) (λ item. ¬ IsWellFormed item)
 
 -- whether the second of two integers is below the first
 abbrev pub falls : ℤ × ℤ → Bool

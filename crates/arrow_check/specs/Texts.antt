@@ -1,5 +1,5 @@
 -- Which offsets cut bytes into texts, and why others are refused.
-use Rattle.std.specs.Prelude.{◌≡◌, ℕ, ◌≤◌, List, length, take, drop, All, nat_lt, codes, if◌then◌else◌}
+use Rattle.std.specs.Prelude.{◌≡◌, ℕ, ◌≤◌, List, length, All, nat_lt, codes, if◌then◌else◌}
 use Rattle.arrow_types.specs.Types.{Refusal, out_of_spec, refusal}
 use Rattle.arrow_types.specs.declared.error.Error.{Error}
 use Rattle.arrow_memory.specs.Offsets.{last_of}
@@ -26,7 +26,3 @@ text_refusal offsets bytes = if nat_lt (length bytes) (last_of offsets) then pas
 -- the offsets don't pass a test over the bytes, and the error says why
 abbrev pub RefusesText : (List ℕ → List ℕ → Type 0) → List ℕ → List ℕ → Error → Type 0
 RefusesText passes offsets bytes e = (¬ (passes offsets bytes)) × (refusal e ≡ text_refusal offsets bytes)
-
--- the bytes before index i, and those from it on, are texts
-abbrev pub SplitsText : List ℕ → ℕ → Type 0
-SplitsText bytes i = IsWellFormed (take i bytes) × IsWellFormed (drop i bytes)

@@ -7,7 +7,6 @@ use Rattle.std.specs.Str.{IsAscii}
 use Rattle.arrow_memory.specs.Offsets.{last_of}
 -- the bytes from the first offset up to the last
 pub use Rattle.arrow_memory.specs.Offsets.{window_of}
-use Rattle.arrow_check.specs.Utf8.{IsWellFormed}
 use Rattle.arrow_check.specs.Reading.{Reading, LooksAtMost, after_ascii, after_looks, after_whole_test}
 
 -- a byte that goes on with a character, and begins none (Unicode Standard, Table 3-7)
@@ -42,10 +41,6 @@ pub record PassesWhole (Accepts : List ℕ → Type 0) (offsets bytes : List ℕ
   pub window : Accepts (window_of offsets bytes)
   pub inner : InnerCutBetween offsets bytes
 
--- the window is text, and the inner offsets cut no character of it
-abbrev pub WindowCutsTexts : List ℕ → List ℕ → Type 0
-WindowCutsTexts offsets bytes = IsWellFormed (window_of offsets bytes) × InnerCutBetween offsets bytes
-
 -- the inner offsets: all but the first and the last
 abbrev pub inner_of : List ℕ → List ℕ
 inner_of offsets = take (length offsets - 2) (drop 1 offsets)
@@ -67,10 +62,9 @@ abbrev pub StopsAfterAscii : (List ℕ → Type 0) → List ℕ → Reading → 
 StopsAfterAscii accepts offsets old new = last_of offsets ≤ length old.bytes
     → ¬ accepts (window_of offsets old.bytes) → new ≡ after_whole_test (after_ascii old)
 
--- what a check of offsets reads: nothing where the last of them is past the bytes; of a window that is ASCII
--- nothing but
--- that it is, by one test; any other window by one test more, and of the inner offsets' bytes each once at most. Where
--- the offsets pass, each inner offset before the window's end was looked at
+-- what a check of offsets reads: nothing if the last of them is past the bytes; a window that is ASCII by one test;
+-- any other window by a second test, and the byte at each inner offset once at most. If the offsets pass, each inner
+-- offset before the window's end was looked at
 pub record ReadsOnce (Passes : Type 0) (offsets : List ℕ) (old new : Reading) : Type 0 where
   pub past : length old.bytes < last_of offsets → new ≡ old
   pub ascii : last_of offsets ≤ length old.bytes → IsAscii (window_of offsets old.bytes) → new ≡ after_ascii old

@@ -19,7 +19,7 @@ fn points_at_item<K: IndexKey>(key: &K, len: usize) -> bool
     key.to_index().unwrap_or(usize::MAX) < len
 }
 
-/// Returns the error about a key that is no index below the length.
+/// Returns the error for a key that is not an index below the length.
 #[cold]
 #[inline(never)]
 fn key_fault<K: IndexKey>(key: &K) -> Error
@@ -45,7 +45,7 @@ fn all_point_at_items<K: IndexKey>(keys: &[K], len: usize) -> bool
     all
 }
 
-/// Returns the first key that is no index below `len`.
+/// Returns the first key that is not an index below `len`.
 #[inline(always)]
 fn first_out_of_bounds<K: IndexKey>(keys: &[K], len: usize) -> Option<&K>
     ensures first { option_copied result ≡ first_bad_key K.number len keys.now }
@@ -58,8 +58,8 @@ fn first_out_of_bounds<K: IndexKey>(keys: &[K], len: usize) -> Option<&K>
 /// format, "Dictionary-encoded Layout"). Keys after the first that is not are not read.
 ///
 /// # Errors
-/// `OutOfSpec` with the fault of the first key that is no such index: it is negative or does not
-/// fit in a `usize`, or else it is not below `len`.
+/// `OutOfSpec` for the first key that is out of bounds: it is negative or does not fit in a `usize`, or else it is not
+/// below `len`.
 pub fn check_indexes<K: IndexKey>(keys: &[K], len: usize) -> Result<(), Error>
     ensures first { ChecksKeys K.number len keys.now result }
     ensures ok { OnOk result (AllInBounds K.number len keys.now) }
@@ -70,8 +70,8 @@ pub fn check_indexes<K: IndexKey>(keys: &[K], len: usize) -> Result<(), Error>
     }
 }
 
-/// Checks that every key with a set mark is an index below `len`. Marks are read only where a key is
-/// not.
+/// Checks that every key with a set mark is an index below `len`. All keys are read first, and a mark only if its key is
+/// out of bounds.
 fn check_marked<K: IndexKey>(keys: &[K], marks: &Bitmap, len: usize) -> Result<(), Error>
     requires { length marks.now ≡ length keys.now }
     ensures first { ChecksKeys K.number len (valid_keys keys.now (Some marks.now)) result }
@@ -89,11 +89,12 @@ fn check_marked<K: IndexKey>(keys: &[K], marks: &Bitmap, len: usize) -> Result<(
     Ok(())
 }
 
-/// Checks that the key of every valid slot is an index below `len`, as [`check_indexes`]. The keys
-/// of null slots may be anything. Without a validity bitmap every slot is valid.
+/// Checks that the key of every valid slot is an index below `len`. The keys of null slots may be anything. Without a
+/// validity bitmap every slot is valid, and this is [`check_indexes`]; with one, all keys are read at first, and once more
+/// up to the first fault if any of them is out of bounds.
 ///
 /// # Errors
-/// `OutOfSpec` with the fault of the first key of a valid slot that is no such index.
+/// `OutOfSpec` for the first key of a valid slot that is out of bounds.
 pub fn check_slots<K: IndexKey>(
     keys: &[K],
     validity: Option<&Bitmap>,

@@ -105,7 +105,7 @@ set-valid values (Some marks) i fits low = (
 module _ {S : Type 0} (values others : List S) (mask otherMask : Option (List Bool)) (n : ℕ)
     (fits : FitsMask values mask) (otherFits : FitsMask others otherMask) (long : n ≡ length values)
     (same : length values ≡ length others) where
-  -- the same marks, and the same values where these are set, are the same slots
+  -- columns of equal marks, and of equal values where these are set, have equal slots
   pub slots-agree : unwrap_or mask (replicate n true) ≡ unwrap_or otherMask (replicate n true)
       → AgreeWhere mask values others → map slot (rows_of values mask) ≡ map slot (rows_of others otherMask)
   slots-agree marks agree =

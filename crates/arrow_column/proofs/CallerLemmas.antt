@@ -21,6 +21,11 @@ pub use Rattle.arrow_column.proofs.SlotLemmas.{shown-stored}
 pub use Rattle.arrow_column.proofs.SlotLemmas.{one-slot, many-slots}
 -- A cut of a list: its length, and a map of it, as a whole and at an index.
 pub use Rattle.arrow_column.proofs.SlotLemmas.{length-cut, map-piece, get-piece}
+-- Slots that are appended as they are, none of which is more than a vector can count.
+pub use Rattle.arrow_column.proofs.AppendLemmas.{never-over, same-slots}
+-- What follows from the clause of a success and of an error.
+pub use Rattle.arrow_column.proofs.AppendLemmas.{if-err}
+pub use Rattle.arrow_column.proofs.RowLemmas.{on-ok}
 -- The parts of a column make it again.
 pub use Rattle.arrow_column.proofs.ColumnLemmas.{column_again}
 

@@ -1,15 +1,17 @@
 -- Lemmas about columns.
 use Rattle.std.proofs.Common.{◌≡◌, ℕ, zero, suc, ◌-◌, ◌<◌, Bool, true, false, ◌&&◌, IsTrue, if◌then◌else◌}
 use Rattle.std.proofs.Common.{ap₂, List, [], ◌∷◌, ◌++◌, length, map, take}
-use Rattle.std.proofs.Common.{slice_get, Option, Some, None, option_and_then, refl, sym, ap}
+use Rattle.std.proofs.Common.{get_or, slice_get, Option, Some, None, option_and_then, refl, sym, ap}
 use Rattle.std.proofs.Common.{◌∙◌, arith, append_assoc}
 use Rattle.std.specs.Prelude.{not, replicate}
-use Rattle.std.specs.List.{list_all}
+use Rattle.std.specs.List.{list_all, zip}
+use Rattle.std.proofs.lemmas.Option.{slice_get-get_or}
 use Rattle.std.proofs.lemmas.List.{length-map, append-nil, length_push, take_at}
 use Rattle.arrow_types.specs.Types.{LogicalType}
-use Rattle.arrow_memory.specs.Rows.{FitsMask, Row, slot, rows_of}
+use Rattle.arrow_memory.specs.Rows.{FitsMask, IsValidAt, Row, slot, rows_of}
 use Rattle.arrow_column.specs.Column.{ColumnWith, IsColumn, column_with, append_nulls, append_slot}
 use Rattle.arrow_column.specs.Column.{append_slots, append_values, last_slot, without_needless_mask, without_last}
+use Rattle.arrow_column.proofs.RowLemmas.{null-at, slot-at}
 
 -- ---- columns
 
@@ -80,28 +82,25 @@ rest-push : {X : Type 0} (xs : List X) (x : X) → take (length (xs ++ x ∷ [])
 rest-push xs x = take_at xs (x ∷ []) (length (xs ++ x ∷ []) - 1) (let e : length xs ≡ length (xs ++ x ∷ []) - 1 =
     omega (arith, length_push xs x) in e)
 
--- the slot at a place
-slot-at : {S : Type 0} (rows : List (Row S)) (i : ℕ) (v : S) (m : Bool)
-    → slice_get (map (λ (row : Row S). row.0) rows) i ≡ Some v
-    → slice_get (map (λ (row : Row S). row.1) rows) i ≡ Some m
-    → slice_get (map slot rows) i ≡ Some (if m then Some v else None)
-slot-at [] i v m e f = cc
-slot-at (row ∷ rows) zero v m e f =
-    let value : row.0 ≡ v = cc in
-    let mark : row.1 ≡ m = cc in
-    ap Some (ap₂ (λ b x. if b then Some x else None) mark value)
-slot-at (row ∷ rows) (suc i) v m e f = slot-at rows i v m e f
-
 -- ---- slots of columns
 
-pub masked-slot : {S : Type 0} (held : Bool) (rows : List (Row S)) (mask : List Bool) (i : ℕ) (v : S) (m : Bool)
+-- the rows by a mask that is held
+pub masked-slots : {S : Type 0} (held : Bool) (rows : List (Row S)) (mask : List Bool)
     → (if held then Some (map (λ (row : Row S). row.1) rows) else None) ≡ Some mask
-    → slice_get (map (λ (row : Row S). row.0) rows) i ≡ Some v → slice_get mask i ≡ Some m
-    → slice_get (map slot rows) i ≡ Some (if m then Some v else None)
-masked-slot true rows mask i v m e f g =
-    let same : map (λ row. row.1) rows ≡ mask = cc in
-    slot-at rows i v m f (ap (λ marks. slice_get marks i) same ∙ g)
-masked-slot false rows mask i v m e f g = cc
+    → map slot rows ≡ map slot (zip (map (λ (row : Row S). row.0) rows) mask)
+masked-slots {S} true rows mask e =
+    let same : map (λ (row : Row S). row.1) rows ≡ mask = cc in
+    ap (map slot) (sym (rows_marked rows) ∙ ap (zip (map (λ (row : Row S). row.0) rows)) same)
+masked-slots false rows mask e = cc
+
+-- a mark in a mask that is held
+pub mask-mark : {S : Type 0} (held : Bool) (rows : List (Row S)) (mask : List Bool) (i : ℕ)
+    → (if held then Some (map (λ (row : Row S). row.1) rows) else None) ≡ Some mask
+    → slice_get mask i ≡ slice_get (map (λ (row : Row S). row.1) rows) i
+mask-mark {S} true rows mask i e =
+    let same : mask ≡ map (λ (row : Row S). row.1) rows = cc in
+    ap (λ marks. slice_get marks i) same
+mask-mark false rows mask i e = cc
 
 valid-slot : {S : Type 0} (rows : List (Row S)) (i : ℕ) (v : S) → IsTrue (list_all (λ row. row.1) rows)
     → slice_get (map (λ row. row.0) rows) i ≡ Some v → slice_get (map slot rows) i ≡ Some (Some v)
@@ -114,12 +113,28 @@ valid-slot rows i v all e = ap (λ slots. slice_get slots i) (slots_valid rows a
     some-at (x ∷ values) zero v e = ap Some e
     some-at (x ∷ values) (suc i) v e = some-at values i v e
 
-pub bare-slot : {S : Type 0} (held : Bool) (rows : List (Row S)) (i : ℕ) (v : S)
+-- a slot that the mask says is valid
+pub shown-slot : {S : Type 0} (held : Bool) (rows : List (Row S)) (i : ℕ) (v : S)
     → (held ≡ false → list_all (λ (row : Row S). row.1) rows ≡ true)
-    → (if held then Some (map (λ (row : Row S). row.1) rows) else None) ≡ None
+    → IsValidAt (if held then Some (map (λ (row : Row S). row.1) rows) else None) i
     → slice_get (map (λ (row : Row S). row.0) rows) i ≡ Some v → slice_get (map slot rows) i ≡ Some (Some v)
-bare-slot true rows i v is_column e f = cc
-bare-slot false rows i v is_column e f = valid-slot rows i v (is_column refl) f
+shown-slot true rows i v is_column valid stored = slot-at rows i v true stored valid
+shown-slot false rows i v is_column valid stored = valid-slot rows i v (is_column refl) stored
+
+-- a slot that it says is not
+pub null-slot : {S : Type 0} (held : Bool) (rows : List (Row S)) (i : ℕ) → i < length rows
+    → ¬ IsValidAt (if held then Some (map (λ (row : Row S). row.1) rows) else None) i
+    → slice_get (map slot rows) i ≡ Some None
+null-slot {S} true rows i low clear =
+    let marks = map (λ (row : Row S). row.1) rows in
+    let inside : i < length marks = omega (arith, low, length-map rows (λ (row : Row S). row.1)) in
+    by_mark (get_or marks i false) (slice_get-get_or marks i false inside)
+  where
+    by_mark : (m : Bool) → slice_get (map (λ (row : Row S). row.1) rows) i ≡ Some m
+        → slice_get (map slot rows) i ≡ Some None
+    by_mark true at = absurd (clear at)
+    by_mark false at = null-at rows i low at
+null-slot false rows i low clear = absurd (clear tt)
 
 pub pushed-slot : {A S : Type 0} (default : S) (column : ColumnWith A S) (shown : Option S)
     → last_slot (append_slot default column shown) ≡ shown

@@ -1,4 +1,5 @@
 mod AgreeLemmas
+mod AppendLemmas
 pub mod CallerLemmas
 pub mod ColumnLemmas
 mod CutLemmas

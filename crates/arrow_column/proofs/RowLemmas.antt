@@ -424,7 +424,7 @@ pub fit-to : {A S X : Type 0} (overflows : A → List S → X → Bool) (shown :
 fit-to overflows shown default column xs ys x e fit last = ap (slots_fit overflows shown default column) e
     ∙ fit-more overflows shown default column xs x fit last
 
--- the same of values, which are valid slots
+-- values one after the other, each of which is a valid slot
 valid-shown : {X S : Type 0} (shown : X → S) (xs : List X)
     → map (λ x. Some (shown x)) xs ≡ map (option_map shown) (map Some xs)
 valid-shown shown [] = refl

@@ -1,7 +1,7 @@
 -- Slots and items that are appended one after the other, where any growth may fail: `overflows` says which item
 -- is more than can be counted, `shown` what is stored of an item, and `default` what a null stores.
 use Rattle.std.specs.Prelude.{◌≡◌, Bool, true, List, ◌∷◌, ◌++◌, map, Option, None, Some, option_map}
-use Rattle.std.specs.Iterator.{Drains, Yields, YieldsThen}
+use Rattle.std.specs.Iterator.{Drains, YieldsThen}
 use Rattle.arrow_types.specs.Types.{LogicalType}
 use Rattle.arrow_types.specs.declared.error.Error.{Error}
 use Rattle.arrow_types.specs.declared.error.Error.TheVariants as error
@@ -43,7 +43,7 @@ module _ {A S X : Type 0} (overflows : A → List S → X → Bool) (shown : X �
       × (new ≡ append_slots default old (map (λ x. Some (shown x)) begun))
       × (e ≡ refused_growth (overflows new.around (stored_values new) last))
 
-  -- the same of a list
+  -- all slots of a list before one of them are appended, and that one is refused; items likewise
   abbrev pub StopsAmongSlots : List (Option X) → ColumnWith A S → ColumnWith A S → Error → Type 0
   StopsAmongSlots slots old new e = (begun rest : List (Option X)) × (last : Option X)
       × (slots ≡ begun ++ last ∷ rest) × StopsAtSlot old begun last new e
@@ -65,7 +65,7 @@ module _ {A S X : Type 0} (overflows : A → List S → X → Bool) (shown : X �
       × (slots_fit overflows shown default old (map Some begun) ≡ true)
       × (slot_overflows overflows (append_slots default old (map (λ x. Some (shown x)) begun)) (Some last) ≡ true)
 
-  -- the same of what an iterator gives, which may have more left
+  -- what an iterator gives is appended; if a growth is refused, it may have more left
   module _ {I : Type 0} where
     abbrev pub ExtendsBySlots : (I → Option (Option X) → I → Type 0) → I → ColumnWith A S → ColumnWith A S → Type 0
     ExtendsBySlots gives iter old new = (slots : List (Option X)) × Drains gives iter slots × AppendsSlots old slots new
@@ -107,20 +107,22 @@ module _ {A S I : Type 0} (default : S) where
   ExtendsAll gives iter old new = (items : List (Option S)) × Drains gives iter items
       × (new ≡ append_slots default old items)
 
-  -- the slots that it gave before an allocation failed
+  -- the slots that it gave before one for which an allocation failed
   abbrev pub ExtendsUntil : (I → Option (Option S) → I → Type 0) → I → ColumnWith A S → ColumnWith A S → Error → Type 0
-  ExtendsUntil gives iter old new e = (e ≡ error.OutOfMemory) × ((begun : List (Option S)) × (rest : I)
-      × Yields gives iter begun rest × (new ≡ append_slots default old begun))
+  ExtendsUntil gives iter old new e =
+      (e ≡ error.OutOfMemory) × ((begun : List (Option S)) × (last : Option S) × (rest : I)
+      × YieldsThen gives iter begun (Some last) rest × (new ≡ append_slots default old begun))
 
   -- all its values, in valid slots
   abbrev pub ExtendsAllValues : (I → Option S → I → Type 0) → I → ColumnWith A S → ColumnWith A S → Type 0
   ExtendsAllValues gives iter old new = (items : List S) × Drains gives iter items
       × (new ≡ append_slots default old (map Some items))
 
-  -- the values that it gave before an allocation failed
+  -- the values that it gave before one for which an allocation failed
   abbrev pub ExtendsValuesUntil : (I → Option S → I → Type 0) → I → ColumnWith A S → ColumnWith A S → Error → Type 0
-  ExtendsValuesUntil gives iter old new e = (e ≡ error.OutOfMemory) × ((begun : List S) × (rest : I)
-      × Yields gives iter begun rest × (new ≡ append_slots default old (map Some begun)))
+  ExtendsValuesUntil gives iter old new e =
+      (e ≡ error.OutOfMemory) × ((begun : List S) × (last : S) × (rest : I)
+      × YieldsThen gives iter begun (Some last) rest × (new ≡ append_slots default old (map Some begun)))
 
 -- an array of this type is all that an iterator gives
 module _ {S I : Type 0} where

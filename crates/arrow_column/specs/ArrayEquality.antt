@@ -21,11 +21,11 @@ TypedSlots S = LogicalType × List (Option S)
 abbrev pub typed_slots : {A S : Type 0} → ColumnWith A S → TypedSlots S
 typed_slots column = (column.data_type, slots_of column)
 
--- are both the same? The test is of stored values
+-- whether types and slots are equal, those of stored values by a test
 abbrev pub same_typed : {S : Type 0} → (S → S → Bool) → TypedSlots S → TypedSlots S → Bool
 same_typed test x y = same_type x.0 y.0 && same_slots test x.1 y.1
 
--- the same of two columns
+-- whether two columns have equal types and equal slots, by a test of stored values
 abbrev pub same_typed_slots : {A B S : Type 0} → (S → S → Bool) → ColumnWith A S → ColumnWith B S → Bool
 same_typed_slots test a b = same_typed test (typed_slots a) (typed_slots b)
 

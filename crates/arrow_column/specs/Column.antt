@@ -1,5 +1,4 @@
--- A column: what contracts see of an array or a builder, without its memory; the parts that make one; its cuts,
--- appends, removals and replacements; rows joined, and another mask or other values.
+-- A column: what contracts see of an array or a builder, without its memory.
 use Rattle.std.specs.Prelude.{⊤, ◌≡◌, ◌||◌, ◌&&◌, slice_set, option_map, ℕ, ◌-◌, ◌≤◌, Bool, true, false}
 use Rattle.std.specs.Prelude.{replicate, not, List, [], ◌∷◌, ◌++◌, length, map, take, drop, Option, Some, None}
 use Rattle.std.specs.Prelude.{option_and_then, is_some, slice_get, codes, if◌then◌else◌, IsTrue}
@@ -13,7 +12,7 @@ use Rattle.arrow_memory.specs.Rows.{Row, slot, rows_of}
 abbrev pub unfit_mask : Refusal
 unfit_mask = out_of_spec (codes "validity mask length must match the number of values")
 
--- the same refusal in the words of byte and text builders
+-- how builders of bytes and text word the refusal of a mask that has another number of marks
 abbrev pub unfit_builder_mask : Refusal
 unfit_builder_mask = out_of_spec (codes "validity's length must be equal to the number of values")
 
@@ -40,7 +39,7 @@ column_with t around values mask = record {
       is_some mask;
 }
 
--- the same with nothing around the stored values
+-- the column of a type, stored values and a mask, with nothing around the stored values
 abbrev pub column_of_parts : {S : Type 0} → LogicalType → List S → Option (List Bool) → Column S
 column_of_parts t values mask = column_with t tt values mask
 
@@ -97,7 +96,7 @@ cut_with around column a n = record column {
       take n (drop a column.rows);
 }
 
--- the same where nothing is around
+-- the n rows from index a on of a column with nothing around its stored values
 abbrev pub cut : {S : Type 0} → Column S → ℕ → ℕ → Column S
 cut column a n = record column { rows = take n (drop a column.rows) }
 
@@ -150,7 +149,7 @@ array_of_slots default t slots = without_needless_mask (append_slots default (em
 abbrev pub push_nulls : {A S : Type 0} → S → ColumnWith A S → ℕ → ColumnWith A S
 push_nulls default column n = append_slots default column (replicate n None)
 
--- the same column with a mask
+-- a column as it is, but with a mask
 abbrev pub masked : {A S : Type 0} → ColumnWith A S → ColumnWith A S
 masked column = record column { held = true }
 

@@ -1,4 +1,4 @@
--- How growths that may overflow end: what they make of a column, or leave.
+-- How growths that may overflow end.
 use Rattle.std.specs.Prelude.{◌≡◌, ℕ, ◌+◌, ◌≤◌, Bool, false, List, ◌++◌, length, take, drop, Result, OnOk, IfOk}
 use Rattle.arrow_types.specs.declared.error.Error.{Error}
 use Rattle.arrow_types.specs.Failures.{FailureKeeps}

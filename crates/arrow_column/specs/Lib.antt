@@ -9,3 +9,4 @@ pub mod Appends
 pub mod ArrayEquality
 pub mod SlotText
 pub mod SlotOrder
+pub mod Combined

@@ -28,7 +28,7 @@ AcceptedBy tests result value = IfOk result (λ made. Passes tests × (made ≡ 
 abbrev pub RefusedBy : {V : Type 0} → Tests → Result V Error → Type 0
 RefusedBy tests result = IfErr result (λ e. IsFirstFailure tests (refusal e))
 
--- the same of the tests of a type, values and a mask, of which a column is made
+-- calls that make a column of a type, values and a mask, and the tests of these parts
 module _ {S : Type 0} (tests : LogicalType → List S → Option (List Bool) → Tests) where
   -- a call that succeeds returns the column of this type, values and mask, which pass the tests
   abbrev pub AcceptsParts : LogicalType → List S → Option (List Bool) → Result (Column S) Error → Type 0

@@ -1,7 +1,8 @@
-//! The text of columns: the slots of a frozen column, and the fields of a growing one.
+//! The text of columns: the slots of a frozen column, and the fields of a growing one. Each part is written without the
+//! options of the whole, so that `{:#?}` and `{:5?}` write what `{:?}` does.
 ghost use Rattle.std.specs.Prelude.{ℕ, ◌<◌, List, Option, length, map};
-ghost use Rattle.std.specs.Fmt.{DisplaysOnOk};
-ghost use Rattle.arrow_types.specs.ListText.{text_at};
+ghost use Rattle.std.specs.Fmt.{DisplaysOnOk, WritesOnOk};
+ghost use Rattle.arrow_types.specs.ListText.{slot_at};
 ghost use Rattle.arrow_types.specs.Types.{logical_type};
 ghost use Rattle.arrow_column.specs.Column.{mask_of};
 ghost use Rattle.arrow_column.specs.SlotText.{array_text, builder_text, head_text, named_text, validity_text};
@@ -26,14 +27,15 @@ pub trait WriteValues: Values {
     /// `Error` if the formatter fails.
     fn write_value<W: fmt::Write>(&self, f: &mut fmt::Formatter<W>, i: usize) -> fmt::Result
         requires { i < length (Self.stored self.now) }
-        ensures { DisplaysOnOk W.write_str_gives f.old result (text_at (map text (Self.stored self.now)) i) f.new };
+        ensures { DisplaysOnOk W.write_str_gives f.old result (slot_at (map text (Self.stored self.now)) i) f.new };
 }
 
 impl<T: NativeType + fmt::Debug> WriteValues for Buffer<T> {
     ghost text = { T.debug_output };
 
     fn write_value<W: fmt::Write>(&self, f: &mut fmt::Formatter<W>, i: usize) -> fmt::Result {
-        fmt::Debug::fmt(&self.as_slice()[i], f)
+        let value = self.as_slice()[i];
+        write!(f, "{value:?}")
     }
 }
 
@@ -43,7 +45,8 @@ impl WriteValues for Bitmap {
     ghost text = { boolean_text };
 
     fn write_value<W: fmt::Write>(&self, f: &mut fmt::Formatter<W>, i: usize) -> fmt::Result {
-        fmt::Debug::fmt(&self.get_bit(i), f)
+        let value = self.get_bit(i);
+        write!(f, "{value:?}")
     }
 }
 
@@ -74,17 +77,21 @@ impl<V: WriteValues> FrozenColumn<V> {
     pub fn write<W: fmt::Write>(&self, f: &mut fmt::Formatter<W>) -> fmt::Result
         ensures { DisplaysOnOk W.write_str_gives f.old result (array_text V.text self.now) f.new }
     {
-        fmt::Display::fmt(&self.data_type, f)?;
+        write!(f, "{}", self.data_type)?;
         write_list(f, self)
     }
 
-    /// Writes the name of an array and the slots, as in `BooleanArray[true, None]`.
+    /// Writes the name of an array and the slots, as in `BooleanArray[true, None]`. The data type stands in place of
+    /// the name if it is an extension.
     ///
     /// # Errors
     /// `Error` if the formatter fails.
     pub fn write_named<W: fmt::Write>(&self, f: &mut fmt::Formatter<W>, name: &str) -> fmt::Result
         ensures { DisplaysOnOk W.write_str_gives f.old result (named_text name.now V.text self.now) f.new }
     {
+        if self.data_type.is_extension() {
+            return self.write(f);
+        }
         f.write_str(name)?;
         write_list(f, self)
     }
@@ -109,7 +116,7 @@ impl<T: NativeType + fmt::Debug> WriteMutableValues for Vec<T> {
     ghost all_text = { debug_list T.debug_output };
 
     fn write_values<W: fmt::Write>(&self, f: &mut fmt::Formatter<W>) -> fmt::Result {
-        fmt::Debug::fmt(self, f)
+        write!(f, "{self:?}")
     }
 }
 
@@ -127,13 +134,11 @@ impl WriteMutableValues for MutableBitmap {
 fn write_mask<W: fmt::Write>(f: &mut fmt::Formatter<W>, mask: &Option<MutableBitmap>) -> fmt::Result
     ensures { DisplaysOnOk W.write_str_gives f.old result (validity_text mask.now) f.new }
 {
-    f.write_str(", validity: ")?;
-    fmt::Debug::fmt(mask, f)?;
-    f.write_str(" }")
+    write!(f, ", validity: {mask:?} }}")
 }
 
-/// Writes the name of a builder, its data type, and the name of the next field, as in
-/// `Builder { data_type: Int32, values: `.
+/// Writes the name of a builder, its data type, and the name of the next field, as in `Builder { data_type: Int32,
+/// values: `.
 ///
 /// # Errors
 /// `Error` if the formatter fails.
@@ -143,13 +148,10 @@ pub fn write_head<W: fmt::Write>(
     data_type: &DataType,
     next: &str,
 ) -> fmt::Result
-    ensures { DisplaysOnOk W.write_str_gives f.old result
+    ensures { WritesOnOk W.write_str_gives f.old result
         (head_text name.now (logical_type data_type.now) next.now) f.new }
 {
-    f.write_str(name)?;
-    f.write_str(" { data_type: ")?;
-    fmt::Display::fmt(data_type, f)?;
-    f.write_str(next)
+    write!(f, "{name} {{ data_type: {data_type}{next}")
 }
 
 impl<V: MutableValues> GrowingColumn<V> {
@@ -165,8 +167,8 @@ impl<V: MutableValues> GrowingColumn<V> {
 }
 
 impl<V: WriteMutableValues> GrowingColumn<V> {
-    /// Writes the name of a builder and its fields, as in
-    /// `Builder { data_type: Int32, values: [1, 2], validity: None }`.
+    /// Writes the name of a builder and its fields, as in `Builder { data_type: Int32, values: [1, 2], validity: None
+    /// }`.
     ///
     /// # Errors
     /// `Error` if the formatter fails.

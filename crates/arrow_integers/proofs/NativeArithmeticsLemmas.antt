@@ -183,7 +183,7 @@ unsigned_saturated w n r e = omega (arith, ints)
 pub unsigned_saturated_sub : (w : Width) (a b r : ℕ) → a < 2 ^ bits w → r ≡ a - b → r ≡ saturate_unsigned w (pos a -ℤ pos b)
 unsigned_saturated_sub w a b r f e = omega (arith, ints)
 
--- ---- the same, at values that are cast to their bits and back
+-- ---- what is made, where values are cast to their bits and back
 
 abbrev back : Width → ℤ → ℤ
 back w z = cast_signed w (cast_unsigned w z)

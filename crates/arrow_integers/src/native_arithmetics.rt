@@ -1,7 +1,8 @@
 //! Arithmetic on native integers.
-ghost use Rattle.std.specs.Prelude.{◌≡◌, ◌≢◌, ◌+ℤ◌, ◌-ℤ◌, ◌*ℤ◌, ℤ, Bool, true, pos, neg_ℤ, int_div, int_rem, FitsSigned};
+ghost use Rattle.std.specs.Prelude.{◌≡◌, ◌≢◌, ◌+ℤ◌, ◌-ℤ◌, ◌*ℤ◌, ◌≤ℤ◌, ◌^◌, ℕ, ℤ, Bool, true, pos, neg_ℤ, int_div};
+ghost use Rattle.std.specs.Prelude.{int_rem, FitsSigned};
 ghost use Rattle.std.specs.Int.{w128};
-ghost use Rattle.arrow_integers.specs.NativeArithmetics.{divides, some_if};
+ghost use Rattle.arrow_integers.specs.NativeArithmetics.{DiffersByMultiple, divides, some_if};
 
 mod signed;
 mod unsigned;
@@ -11,6 +12,9 @@ use arrow_types::native_type::NativeType;
 /// A native type of integers, with wrapping, checked and saturating arithmetic. Results are stated by
 /// the numbers of values.
 pub trait NativeArithmetics: NativeType + Ord {
+    /// The number of bits of a value.
+    ghost bits: { ℕ };
+
     /// The number of a value.
     ghost number: { Self → ℤ };
 
@@ -124,4 +128,19 @@ pub trait NativeArithmetics: NativeType + Ord {
 
     /// Every number of the type fits in 128 bits.
     ghost within: { (z : ℤ) → fits z ≡ true → FitsSigned w128 z };
+
+    /// A number wraps to one that differs by a multiple of two to the number of bits.
+    ghost differs: { (z : ℤ) → DiffersByMultiple (2 ^ bits) z (number (wrap z)) };
+
+    /// The number that is nearest to another fits.
+    ghost has_nearest: { (z : ℤ) → fits (number (nearest z)) ≡ true };
+
+    /// A number that fits is the nearest to itself.
+    ghost is_nearest: { (z : ℤ) → fits z ≡ true → number (nearest z) ≡ z };
+
+    /// No number of the type lies between a number and a greater nearest one.
+    ghost nearest_below: { (z y : ℤ) → fits y ≡ true → z ≤ℤ y → number (nearest z) ≤ℤ y };
+
+    /// No number of the type lies between a number and a lesser nearest one.
+    ghost nearest_above: { (z y : ℤ) → fits y ≡ true → y ≤ℤ z → y ≤ℤ number (nearest z) };
 }

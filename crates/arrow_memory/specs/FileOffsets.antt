@@ -1,4 +1,4 @@
--- Offsets as files hold them, and which rule integers that are no offsets break first.
+-- Offsets as files hold them.
 use Rattle.std.specs.Prelude.{◌≡◌, ℤ, List, [], MatchOption, map}
 use Rattle.arrow_types.specs.Types.{out_of_spec, refusal}
 use Rattle.arrow_types.specs.declared.error.Error.{Error}

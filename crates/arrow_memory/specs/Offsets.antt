@@ -1,6 +1,5 @@
--- Offsets: n slots have n + 1 of them, and slot i is the bytes from offset i up to offset i + 1 (Arrow columnar
--- format, "Variable-size Binary Layout"). Which are legal, and which rule integers break first; how they grow, and
--- why that fails.
+-- Offsets: n slots have n + 1 of them, and slot i is the bytes from offset i up to offset i + 1
+-- (Arrow columnar format, "Variable-size Binary Layout").
 use Rattle.std.specs.Prelude.{◌≡◌, ℕ, ◌+◌, ◌-◌, ◌<◌, ◌≤◌, ℤ, pos, Bool, false, ◌||◌, List, [], ◌∷◌, ◌++◌, length, map}
 use Rattle.std.specs.Prelude.{take, drop, slice_index, slice_range, Option, Some, None, MatchOption, codes}
 use Rattle.std.specs.Prelude.{if◌then◌else◌}

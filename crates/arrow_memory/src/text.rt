@@ -1,4 +1,5 @@
-//! The text of buffers and of offsets.
+//! The text of buffers and of offsets. A value is written without the options of the whole, so that `{:#?}` writes what
+//! `{:?}` does.
 ghost use Rattle.std.specs.Prelude.{codes};
 ghost use Rattle.std.specs.Fmt.{debug_list};
 ghost use Rattle.arrow_memory.specs.NumberText.{number_texts, offsets_text};
@@ -14,7 +15,7 @@ impl<T: fmt::Debug + Drop> fmt::Debug for Buffer<T> {
 
     /// Writes the values as a slice is written, as in `[1, 2, 3]`.
     fn fmt<W: fmt::Write>(&self, f: &mut fmt::Formatter<W>) -> fmt::Result {
-        fmt::Debug::fmt(&self.as_slice(), f)
+        write!(f, "{:?}", self.as_slice())
     }
 }
 
@@ -23,7 +24,7 @@ impl<T: fmt::Debug + Drop> fmt::Display for Buffer<T> {
 
     /// Writes the values as `{:?}` does.
     fn fmt<W: fmt::Write>(&self, f: &mut fmt::Formatter<W>) -> fmt::Result {
-        fmt::Debug::fmt(&self.as_slice(), f)
+        fmt::Debug::fmt(self, f)
     }
 }
 
@@ -37,7 +38,7 @@ impl<O: Offset> WriteItems for OffsetsBuffer<O> {
 
     fn write_item<W: fmt::Write>(&self, f: &mut fmt::Formatter<W>, i: usize) -> fmt::Result {
         let number = number_at(self.offsets.as_slice(), i);
-        fmt::Display::fmt(&number, f)
+        write!(f, "{number}")
     }
 }
 
@@ -50,7 +51,7 @@ impl<O: Offset> WriteItems for Offsets<O> {
 
     fn write_item<W: fmt::Write>(&self, f: &mut fmt::Formatter<W>, i: usize) -> fmt::Result {
         let number = number_at(self.offsets.as_slice(), i);
-        fmt::Display::fmt(&number, f)
+        write!(f, "{number}")
     }
 }
 

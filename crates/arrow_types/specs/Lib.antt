@@ -4,6 +4,8 @@ pub mod Decisions
 pub mod TypeEquality
 pub mod NativeEquality
 pub mod IndexKey
+pub mod QuotedText
 pub mod TypeText
 pub mod ListText
 pub mod LeBytes
+pub mod NativeText

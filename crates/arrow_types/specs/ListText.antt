@@ -6,9 +6,9 @@ use Rattle.std.specs.Fmt.{comma_space, debug_list}
 abbrev pub list_text : List (Option (List ℕ)) → Option (List ℕ)
 list_text texts = debug_list (λ text. text) texts
 
--- the text of the item at a place
-abbrev pub text_at : List (Option (List ℕ)) → ℕ → Option (List ℕ)
-text_at texts i = slice_index_or texts i None
+-- the slot at an index, past the end a null; of texts of items, the text of the item there
+abbrev pub slot_at : {X : Type 0} → List (Option X) → ℕ → Option X
+slot_at slots i = slice_index_or slots i None
 
 -- what stands before the item at a place
 abbrev pub separator : ℕ → List ℕ

@@ -1,6 +1,6 @@
--- What contracts see of data types and refusals: Arrow's logical and physical types, which type is right for values,
--- and the texts of refusals.
-use Rattle.std.specs.Prelude.{◌≡◌, ℕ, List, [], ◌∷◌, Option, codes, String, string_bytes, option_map}
+-- What contracts see of data types and refusals: Arrow's logical and physical types.
+use Rattle.std.specs.Prelude.{◌≡◌, ℕ, Bool, List, [], ◌∷◌, Option, codes, String, string_bytes, option_map}
+use Rattle.std.specs.Prelude.{length, nat_lt}
 use Rattle.std.specs.declared.alloc.Global.{Global}
 use Rattle.arrow_types.specs.declared.data_type.DataType.{DataType}
 use Rattle.arrow_types.specs.declared.data_type.DataType as data_type
@@ -48,6 +48,10 @@ pub record Extension : Type 0 where
 pub record LogicalType : Type 0 where
   pub extensions : List Extension
   pub base : Base
+
+-- whether a type has an extension around it
+abbrev pub is_extension : LogicalType → Bool
+is_extension t = nat_lt 0 (length t.extensions)
 
 -- the bytes of a text that may be there
 abbrev pub text_bytes : Option (String Global) → Option (List ℕ)

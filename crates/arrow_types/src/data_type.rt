@@ -4,7 +4,7 @@ use crate::primitive_type::PrimitiveType;
 use crate::units::{IntervalUnit, TimeUnit};
 
 /// A logical type of the Arrow columnar format: what the values of an array mean.
-#[derive(Debug, Drop)]
+#[derive(Drop)]
 pub enum DataType {
     /// True or false.
     Boolean,
@@ -58,13 +58,20 @@ pub enum DataType {
 
 impl DataType {
     ghost use Rattle.std.specs.Prelude.{◌≡◌, IsTrue, ◌↔◌};
-    ghost use Rattle.arrow_types.specs.Types.{logical_type, physical_type, IsRightType};
+    ghost use Rattle.arrow_types.specs.Types.{is_extension, logical_type, physical_type, IsRightType};
 
     /// Returns whether this type's physical type is `physical`.
     pub fn is_right_for(&self, physical: PhysicalType) -> bool
         ensures { IsTrue result ↔ IsRightType physical (logical_type self.now) }
     {
         self.to_physical_type() == physical
+    }
+
+    /// Returns whether this type is an extension around another.
+    pub fn is_extension(&self) -> bool
+        ensures { result ≡ is_extension (logical_type self.now) }
+    {
+        matches!(self, DataType::Extension(_, _, _))
     }
 
     /// Returns the physical type: how the values of this type lie in memory. An extension's is that

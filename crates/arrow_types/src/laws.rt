@@ -135,16 +135,17 @@ pub fn byte_counts()
 
 /// The value of bytes of each native type, the least significant first.
 pub fn values_of_bytes()
-    ensures i8 { (bytes : List ℕ) → ⟦<i8 as FromLeBytes>⟧.of_bytes bytes ≡ signed_of_bytes w8 bytes }
-    ensures i16 { (bytes : List ℕ) → ⟦<i16 as FromLeBytes>⟧.of_bytes bytes ≡ signed_of_bytes w16 bytes }
-    ensures i32 { (bytes : List ℕ) → ⟦<i32 as FromLeBytes>⟧.of_bytes bytes ≡ signed_of_bytes w32 bytes }
-    ensures i64 { (bytes : List ℕ) → ⟦<i64 as FromLeBytes>⟧.of_bytes bytes ≡ signed_of_bytes w64 bytes }
-    ensures i128 { (bytes : List ℕ) → ⟦<i128 as FromLeBytes>⟧.of_bytes bytes ≡ signed_of_bytes w128 bytes }
-    ensures i256 { (bytes : List ℕ) → ⟦<i256 as FromLeBytes>⟧.of_bytes bytes ≡ i256_of_bytes bytes }
-    ensures u8 { (bytes : List ℕ) → ⟦<u8 as FromLeBytes>⟧.of_bytes bytes ≡ from_le_bytes w8 bytes }
-    ensures u16 { (bytes : List ℕ) → ⟦<u16 as FromLeBytes>⟧.of_bytes bytes ≡ from_le_bytes w16 bytes }
-    ensures u32 { (bytes : List ℕ) → ⟦<u32 as FromLeBytes>⟧.of_bytes bytes ≡ from_le_bytes w32 bytes }
-    ensures u64 { (bytes : List ℕ) → ⟦<u64 as FromLeBytes>⟧.of_bytes bytes ≡ from_le_bytes w64 bytes }
-    ensures days_ms { (bytes : List ℕ) → ⟦<days_ms as FromLeBytes>⟧.of_bytes bytes ≡ days_ms_of_bytes bytes }
-    ensures months_days_ns { (bytes : List ℕ) → ⟦<months_days_ns as FromLeBytes>⟧.of_bytes bytes ≡ months_days_ns_of_bytes bytes }
+    ensures i8 { (xs : List ℕ) → ⟦<i8 as FromLeBytes>⟧.of_bytes xs ≡ signed_of_bytes w8 xs }
+    ensures i16 { (xs : List ℕ) → ⟦<i16 as FromLeBytes>⟧.of_bytes xs ≡ signed_of_bytes w16 xs }
+    ensures i32 { (xs : List ℕ) → ⟦<i32 as FromLeBytes>⟧.of_bytes xs ≡ signed_of_bytes w32 xs }
+    ensures i64 { (xs : List ℕ) → ⟦<i64 as FromLeBytes>⟧.of_bytes xs ≡ signed_of_bytes w64 xs }
+    ensures i128 { (xs : List ℕ) → ⟦<i128 as FromLeBytes>⟧.of_bytes xs ≡ signed_of_bytes w128 xs }
+    ensures i256 { (xs : List ℕ) → ⟦<i256 as FromLeBytes>⟧.of_bytes xs ≡ i256_of_bytes xs }
+    ensures u8 { (xs : List ℕ) → ⟦<u8 as FromLeBytes>⟧.of_bytes xs ≡ from_le_bytes w8 xs }
+    ensures u16 { (xs : List ℕ) → ⟦<u16 as FromLeBytes>⟧.of_bytes xs ≡ from_le_bytes w16 xs }
+    ensures u32 { (xs : List ℕ) → ⟦<u32 as FromLeBytes>⟧.of_bytes xs ≡ from_le_bytes w32 xs }
+    ensures u64 { (xs : List ℕ) → ⟦<u64 as FromLeBytes>⟧.of_bytes xs ≡ from_le_bytes w64 xs }
+    ensures days_ms { (xs : List ℕ) → ⟦<days_ms as FromLeBytes>⟧.of_bytes xs ≡ days_ms_of_bytes xs }
+    ensures months_days_ns { (xs : List ℕ)
+        → ⟦<months_days_ns as FromLeBytes>⟧.of_bytes xs ≡ months_days_ns_of_bytes xs }
 {}

@@ -1,7 +1,7 @@
 //! The text of lists whose items are written one by one, such as the slots of an array.
 ghost use Rattle.std.specs.Prelude.{ℕ, ◌≡◌, ◌<◌, List, Option, length};
 ghost use Rattle.std.specs.Fmt.{DisplaysOnOk, WritesOnOk};
-ghost use Rattle.arrow_types.specs.ListText.{list_text, separator, text_at};
+ghost use Rattle.arrow_types.specs.ListText.{list_text, separator, slot_at};
 
 use std::fmt;
 
@@ -20,7 +20,7 @@ pub trait WriteItems {
     /// `Error` if the formatter fails.
     fn write_item<W: fmt::Write>(&self, f: &mut fmt::Formatter<W>, i: usize) -> fmt::Result
         requires { i < length (texts self.now) }
-        ensures { DisplaysOnOk W.write_str_gives f.old result (text_at (texts self.now) i) f.new };
+        ensures { DisplaysOnOk W.write_str_gives f.old result (slot_at (texts self.now) i) f.new };
 }
 
 /// Writes the items in brackets with a comma between two, as in `[1, None, 3]`.

@@ -192,15 +192,15 @@ impl NativeType for u64 {
 }
 
 /// A signed integer of 256 bits, as a high half and a low half.
-#[derive(Clone, Copy, Debug, PartialEq, Eq)]
+#[derive(Clone, Copy, PartialEq, Eq)]
 pub struct i256(pub i128, pub u128);
 
 /// An interval of days and milliseconds.
-#[derive(Clone, Copy, Debug, PartialEq, Eq)]
+#[derive(Clone, Copy, PartialEq, Eq)]
 pub struct days_ms(pub i32, pub i32);
 
 /// An interval of months, days and nanoseconds.
-#[derive(Clone, Copy, Debug, PartialEq, Eq)]
+#[derive(Clone, Copy, PartialEq, Eq)]
 pub struct months_days_ns(pub i32, pub i32, pub i64);
 
 impl NativeType for i256 {

@@ -2,11 +2,15 @@
 ghost use Rattle.std.specs.Prelude.{refl};
 ghost use Rattle.std.specs.Int.{w8, w16, w32, w64, w128, int_wrap, saturate_signed};
 ghost use Rattle.arrow_integers.specs.NativeArithmetics.{fits_signed};
-ghost use Rattle.arrow_integers.specs.NativeNumbers.{signed_has_wrapped, signed_stays, signed_within};
+ghost use Rattle.arrow_integers.specs.NativeNumbers.{signed_differs, signed_has_wrapped, signed_nearest_above};
+ghost use Rattle.arrow_integers.specs.NativeNumbers.{signed_nearest_below, signed_nearest_fits, signed_nearest_stays};
+ghost use Rattle.arrow_integers.specs.NativeNumbers.{signed_stays, signed_within};
 
 use crate::native_arithmetics::NativeArithmetics;
 
 impl NativeArithmetics for i8 {
+    ghost bits = { 8 };
+
     ghost number = { λ x. x };
 
     ghost fits = { fits_signed w8 };
@@ -26,6 +30,16 @@ impl NativeArithmetics for i8 {
     ghost again = { signed_stays w8 };
 
     ghost within = { signed_within w8 };
+
+    ghost differs = { signed_differs w8 };
+
+    ghost has_nearest = { signed_nearest_fits w8 };
+
+    ghost is_nearest = { signed_nearest_stays w8 };
+
+    ghost nearest_below = { signed_nearest_below w8 };
+
+    ghost nearest_above = { signed_nearest_above w8 };
 
     #[inline(always)]
     fn wrapping_add(self, rhs: i8) -> i8 {
@@ -104,6 +118,8 @@ impl NativeArithmetics for i8 {
 }
 
 impl NativeArithmetics for i16 {
+    ghost bits = { 16 };
+
     ghost number = { λ x. x };
 
     ghost fits = { fits_signed w16 };
@@ -123,6 +139,16 @@ impl NativeArithmetics for i16 {
     ghost again = { signed_stays w16 };
 
     ghost within = { signed_within w16 };
+
+    ghost differs = { signed_differs w16 };
+
+    ghost has_nearest = { signed_nearest_fits w16 };
+
+    ghost is_nearest = { signed_nearest_stays w16 };
+
+    ghost nearest_below = { signed_nearest_below w16 };
+
+    ghost nearest_above = { signed_nearest_above w16 };
 
     #[inline(always)]
     fn wrapping_add(self, rhs: i16) -> i16 {
@@ -201,6 +227,8 @@ impl NativeArithmetics for i16 {
 }
 
 impl NativeArithmetics for i32 {
+    ghost bits = { 32 };
+
     ghost number = { λ x. x };
 
     ghost fits = { fits_signed w32 };
@@ -220,6 +248,16 @@ impl NativeArithmetics for i32 {
     ghost again = { signed_stays w32 };
 
     ghost within = { signed_within w32 };
+
+    ghost differs = { signed_differs w32 };
+
+    ghost has_nearest = { signed_nearest_fits w32 };
+
+    ghost is_nearest = { signed_nearest_stays w32 };
+
+    ghost nearest_below = { signed_nearest_below w32 };
+
+    ghost nearest_above = { signed_nearest_above w32 };
 
     #[inline(always)]
     fn wrapping_add(self, rhs: i32) -> i32 {
@@ -298,6 +336,8 @@ impl NativeArithmetics for i32 {
 }
 
 impl NativeArithmetics for i64 {
+    ghost bits = { 64 };
+
     ghost number = { λ x. x };
 
     ghost fits = { fits_signed w64 };
@@ -317,6 +357,16 @@ impl NativeArithmetics for i64 {
     ghost again = { signed_stays w64 };
 
     ghost within = { signed_within w64 };
+
+    ghost differs = { signed_differs w64 };
+
+    ghost has_nearest = { signed_nearest_fits w64 };
+
+    ghost is_nearest = { signed_nearest_stays w64 };
+
+    ghost nearest_below = { signed_nearest_below w64 };
+
+    ghost nearest_above = { signed_nearest_above w64 };
 
     #[inline(always)]
     fn wrapping_add(self, rhs: i64) -> i64 {
@@ -395,6 +445,8 @@ impl NativeArithmetics for i64 {
 }
 
 impl NativeArithmetics for i128 {
+    ghost bits = { 128 };
+
     ghost number = { λ x. x };
 
     ghost fits = { fits_signed w128 };
@@ -414,6 +466,16 @@ impl NativeArithmetics for i128 {
     ghost again = { signed_stays w128 };
 
     ghost within = { signed_within w128 };
+
+    ghost differs = { signed_differs w128 };
+
+    ghost has_nearest = { signed_nearest_fits w128 };
+
+    ghost is_nearest = { signed_nearest_stays w128 };
+
+    ghost nearest_below = { signed_nearest_below w128 };
+
+    ghost nearest_above = { signed_nearest_above w128 };
 
     #[inline(always)]
     fn wrapping_add(self, rhs: i128) -> i128 {

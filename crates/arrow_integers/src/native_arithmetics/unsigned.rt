@@ -3,11 +3,16 @@ ghost use Rattle.std.specs.Prelude.{pos, refl, unsigned_abs};
 ghost use Rattle.std.proofs.Common.{ap};
 ghost use Rattle.std.specs.Int.{w8, w16, w32, w64, saturate_unsigned};
 ghost use Rattle.arrow_integers.specs.NativeArithmetics.{fits_unsigned, wrap_unsigned};
-ghost use Rattle.arrow_integers.specs.NativeNumbers.{unsigned_again, unsigned_has_wrapped, unsigned_stays, unsigned_within};
+ghost use Rattle.arrow_integers.specs.NativeNumbers.{unsigned_again, unsigned_differs, unsigned_has_wrapped};
+ghost use Rattle.arrow_integers.specs.NativeNumbers.{unsigned_nearest_above, unsigned_nearest_below};
+ghost use Rattle.arrow_integers.specs.NativeNumbers.{unsigned_nearest_fits, unsigned_nearest_stays, unsigned_stays};
+ghost use Rattle.arrow_integers.specs.NativeNumbers.{unsigned_within};
 
 use crate::native_arithmetics::NativeArithmetics;
 
 impl NativeArithmetics for u8 {
+    ghost bits = { 8 };
+
     ghost number = { λ x. pos x };
 
     ghost fits = { fits_unsigned w8 };
@@ -27,6 +32,16 @@ impl NativeArithmetics for u8 {
     ghost again = { unsigned_again w8 };
 
     ghost within = { unsigned_within w8 refl };
+
+    ghost differs = { unsigned_differs w8 };
+
+    ghost has_nearest = { unsigned_nearest_fits w8 };
+
+    ghost is_nearest = { unsigned_nearest_stays w8 };
+
+    ghost nearest_below = { unsigned_nearest_below w8 };
+
+    ghost nearest_above = { unsigned_nearest_above w8 };
 
     #[inline(always)]
     fn wrapping_add(self, rhs: u8) -> u8 {
@@ -105,6 +120,8 @@ impl NativeArithmetics for u8 {
 }
 
 impl NativeArithmetics for u16 {
+    ghost bits = { 16 };
+
     ghost number = { λ x. pos x };
 
     ghost fits = { fits_unsigned w16 };
@@ -124,6 +141,16 @@ impl NativeArithmetics for u16 {
     ghost again = { unsigned_again w16 };
 
     ghost within = { unsigned_within w16 refl };
+
+    ghost differs = { unsigned_differs w16 };
+
+    ghost has_nearest = { unsigned_nearest_fits w16 };
+
+    ghost is_nearest = { unsigned_nearest_stays w16 };
+
+    ghost nearest_below = { unsigned_nearest_below w16 };
+
+    ghost nearest_above = { unsigned_nearest_above w16 };
 
     #[inline(always)]
     fn wrapping_add(self, rhs: u16) -> u16 {
@@ -202,6 +229,8 @@ impl NativeArithmetics for u16 {
 }
 
 impl NativeArithmetics for u32 {
+    ghost bits = { 32 };
+
     ghost number = { λ x. pos x };
 
     ghost fits = { fits_unsigned w32 };
@@ -221,6 +250,16 @@ impl NativeArithmetics for u32 {
     ghost again = { unsigned_again w32 };
 
     ghost within = { unsigned_within w32 refl };
+
+    ghost differs = { unsigned_differs w32 };
+
+    ghost has_nearest = { unsigned_nearest_fits w32 };
+
+    ghost is_nearest = { unsigned_nearest_stays w32 };
+
+    ghost nearest_below = { unsigned_nearest_below w32 };
+
+    ghost nearest_above = { unsigned_nearest_above w32 };
 
     #[inline(always)]
     fn wrapping_add(self, rhs: u32) -> u32 {
@@ -299,6 +338,8 @@ impl NativeArithmetics for u32 {
 }
 
 impl NativeArithmetics for u64 {
+    ghost bits = { 64 };
+
     ghost number = { λ x. pos x };
 
     ghost fits = { fits_unsigned w64 };
@@ -318,6 +359,16 @@ impl NativeArithmetics for u64 {
     ghost again = { unsigned_again w64 };
 
     ghost within = { unsigned_within w64 refl };
+
+    ghost differs = { unsigned_differs w64 };
+
+    ghost has_nearest = { unsigned_nearest_fits w64 };
+
+    ghost is_nearest = { unsigned_nearest_stays w64 };
+
+    ghost nearest_below = { unsigned_nearest_below w64 };
+
+    ghost nearest_above = { unsigned_nearest_above w64 };
 
     #[inline(always)]
     fn wrapping_add(self, rhs: u64) -> u64 {

@@ -111,7 +111,7 @@ impl<O: Offset> Offsets<O> {
         self.offsets.len() - 1
     }
 
-    /// Returns whether there is no slot, which one offset shows.
+    /// Returns whether there is no slot: there is one offset, which begins and ends them all.
     #[inline(always)]
     pub fn is_empty(&self) -> bool
         ensures { result ≡ (length self.now == 1) }

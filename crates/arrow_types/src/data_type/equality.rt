@@ -31,40 +31,35 @@ impl Eq for DataType {
 fn same(first: &DataType, second: &DataType) -> bool
     ensures { IsTrue result ↔ logical_type first.now ≡ logical_type second.now }
 {
-    match first {
-        DataType::Boolean => matches!(second, DataType::Boolean),
-        DataType::Int8 => matches!(second, DataType::Int8),
-        DataType::Int16 => matches!(second, DataType::Int16),
-        DataType::Int32 => matches!(second, DataType::Int32),
-        DataType::Int64 => matches!(second, DataType::Int64),
-        DataType::UInt8 => matches!(second, DataType::UInt8),
-        DataType::UInt16 => matches!(second, DataType::UInt16),
-        DataType::UInt32 => matches!(second, DataType::UInt32),
-        DataType::UInt64 => matches!(second, DataType::UInt64),
-        DataType::Date32 => matches!(second, DataType::Date32),
-        DataType::Date64 => matches!(second, DataType::Date64),
-        DataType::Time32(unit) => matches!(second, DataType::Time32(other) if unit == other),
-        DataType::Time64(unit) => matches!(second, DataType::Time64(other) if unit == other),
-        DataType::Timestamp(unit, zone) => {
-            matches!(second, DataType::Timestamp(other, place) if unit == other && zone == place)
+    match (first, second) {
+        (DataType::Boolean, DataType::Boolean)
+        | (DataType::Int8, DataType::Int8)
+        | (DataType::Int16, DataType::Int16)
+        | (DataType::Int32, DataType::Int32)
+        | (DataType::Int64, DataType::Int64)
+        | (DataType::UInt8, DataType::UInt8)
+        | (DataType::UInt16, DataType::UInt16)
+        | (DataType::UInt32, DataType::UInt32)
+        | (DataType::UInt64, DataType::UInt64)
+        | (DataType::Date32, DataType::Date32)
+        | (DataType::Date64, DataType::Date64)
+        | (DataType::Binary, DataType::Binary)
+        | (DataType::LargeBinary, DataType::LargeBinary)
+        | (DataType::Utf8, DataType::Utf8)
+        | (DataType::LargeUtf8, DataType::LargeUtf8) => true,
+        (DataType::Time32(unit), DataType::Time32(other))
+        | (DataType::Time64(unit), DataType::Time64(other))
+        | (DataType::Duration(unit), DataType::Duration(other)) => unit == other,
+        (DataType::Interval(unit), DataType::Interval(other)) => unit == other,
+        (DataType::Timestamp(unit, zone), DataType::Timestamp(other, place)) => {
+            unit == other && zone == place
         }
-        DataType::Duration(unit) => matches!(second, DataType::Duration(other) if unit == other),
-        DataType::Interval(unit) => matches!(second, DataType::Interval(other) if unit == other),
-        DataType::Decimal(digits, scale) => {
-            matches!(second, DataType::Decimal(m, n) if digits == m && scale == n)
+        (DataType::Decimal(digits, scale), DataType::Decimal(m, n))
+        | (DataType::Decimal256(digits, scale), DataType::Decimal256(m, n)) => {
+            digits == m && scale == n
         }
-        DataType::Decimal256(digits, scale) => {
-            matches!(second, DataType::Decimal256(m, n) if digits == m && scale == n)
-        }
-        DataType::Binary => matches!(second, DataType::Binary),
-        DataType::LargeBinary => matches!(second, DataType::LargeBinary),
-        DataType::Utf8 => matches!(second, DataType::Utf8),
-        DataType::LargeUtf8 => matches!(second, DataType::LargeUtf8),
-        DataType::Extension(name, inner, metadata) => match second {
-            DataType::Extension(other, within, noted) => {
-                name == other && metadata == noted && same(inner, within)
-            }
-            _ => false,
-        },
+        (DataType::Extension(name, inner, metadata), DataType::Extension(other, within, noted)) =>
+            name == other && metadata == noted && same(inner, within),
+        _ => false,
     }
 }

@@ -1,6 +1,6 @@
 use Rattle.std.proofs.Common.{◌≡◌, ◌+◌, ◌*◌, ◌/◌, ap, arith, count_by, take}
 use Rattle.std.proofs.lemmas.List.Sums.{count_by-le-length}
-use Rattle.arrow_boolean.specs.Truths.{both_set}
+use Rattle.arrow_column.specs.Combined.{set_in_both}
 use Rattle.arrow_boolean.proofs.TruthLemmas.{length-both}
 use Rattle.arrow_boolean.proofs.TruthLemmas.{count-both-word, count-first, count-parts}
 use Rattle.arrow_boolean.proofs.true_count.count_both.Goals as goal
@@ -15,7 +15,7 @@ overflow_add-count c =
       arith,
       c.loop-at.invariant,
       more,
-      count-first (both_set values marks) (64 * c.loop-at.at + 64),
+      count-first (set_in_both values marks) (64 * c.loop-at.at + 64),
       length-both values marks c.requires,
       c.len-words.ensures,
       c.len-words.type_inv,
@@ -32,12 +32,12 @@ loop-at-preserved c =
       arith,
       c.loop-at.invariant,
       more,
-      ap (λ n. count_by (λ mark. mark) (take n (both_set values marks))) next,
+      ap (λ n. count_by (λ mark. mark) (take n (set_in_both values marks))) next,
     )
 
 pub overflow_add-result : goal.overflow_add-result
 overflow_add-result c =
-    let both = both_set c.args.values.now c.args.validity.now in
+    let both = set_in_both c.args.values.now c.args.validity.now in
     let all : c.loop-at.at ≡ c.len-words.result / 64 = omega (arith, c.loop-at-test.false, c.loop-at.auto.at-end) in
     omega (
       arith,
@@ -53,7 +53,7 @@ overflow_add-result c =
 
 pub returns : goal.returns
 returns c =
-    let both = both_set c.args.values.now c.args.validity.now in
+    let both = set_in_both c.args.values.now c.args.validity.now in
     let all : c.loop-at.at ≡ c.len-words.result / 64 = omega (arith, c.loop-at-test.false, c.loop-at.auto.at-end) in
     omega (
       arith,

@@ -1,6 +1,6 @@
 use Rattle.std.proofs.Common.{◌≡◌, ℕ, ap, arith, cond, count_by, length, take, ◌∙◌}
 use Rattle.std.proofs.Math.Seq.{take-length}
-use Rattle.arrow_boolean.specs.Truths.{both_set}
+use Rattle.arrow_column.specs.Combined.{set_in_both}
 use Rattle.arrow_boolean.proofs.TruthLemmas.{length-both}
 use Rattle.arrow_boolean.proofs.TruthLemmas.{count-more}
 use Rattle.arrow_boolean.proofs.true_count.count_few.Goals as goal
@@ -8,7 +8,7 @@ use Rattle.arrow_boolean.proofs.true_count.count_few.Goals.{then-is_set_in_both,
 
 pub loop-i-preserved : goal.loop-i-preserved
 loop-i-preserved c =
-    let more = count-more (both_set c.args.values.now c.args.validity.now) c.loop-i.i c.is_set_in_both.result
+    let more = count-more (set_in_both c.args.values.now c.args.validity.now) c.loop-i.i c.is_set_in_both.result
     c.is_set_in_both.ensures in
     elim c.if-is_set_in_both.branch [
       | then-is_set_in_both w ↦ omega (
@@ -29,7 +29,7 @@ loop-i-preserved c =
 
 pub returns : goal.returns
 returns c =
-    let both = both_set c.args.values.now c.args.validity.now in
+    let both = set_in_both c.args.values.now c.args.validity.now in
     let all : c.loop-i.i ≡ length both = omega (
       arith,
       c.loop-i-test.false,

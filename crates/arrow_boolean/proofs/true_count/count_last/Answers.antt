@@ -1,13 +1,13 @@
 use Rattle.std.proofs.Common.{◌≡◌, ◌-◌, ap, arith, count_by, drop, length, sym, ◌∙◌}
 use Rattle.std.proofs.Math.Seq.{drop-length}
-use Rattle.arrow_boolean.specs.Truths.{both_set}
+use Rattle.arrow_column.specs.Combined.{set_in_both}
 use Rattle.arrow_boolean.proofs.TruthLemmas.{length-both}
 use Rattle.arrow_boolean.proofs.TruthLemmas.{count-last}
 use Rattle.arrow_boolean.proofs.true_count.count_last.Goals as goal
 
 pub returns-then-from-len : goal.returns-then-from-len
 returns-then-from-len c =
-    let both = both_set c.args.values.now c.args.validity.now in
+    let both = set_in_both c.args.values.now c.args.validity.now in
     let all : c.args.from ≡ length both = omega (
       arith,
       c.if-from-len.true,

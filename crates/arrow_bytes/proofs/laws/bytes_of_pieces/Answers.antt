@@ -1,6 +1,4 @@
-use Rattle.std.proofs.Common.{ap₂}
-use Rattle.arrow_bytes.proofs.BackLemmas.{around-back, items-back, last-offset, legal-offsets, within-back}
-use Rattle.arrow_bytes.specs.Pieces.{Pieces}
+use Rattle.arrow_bytes.proofs.BackLemmas.{items-back, last-offset, lead-back, legal-offsets, tail-back, within-back}
 use Rattle.arrow_bytes.proofs.laws.bytes_of_pieces.Goals as goal
 
 pub returns-clause-legal : goal.returns-clause-legal
@@ -12,6 +10,11 @@ returns-clause-last c = last-offset
 pub returns-clause-within : goal.returns-clause-within
 returns-clause-within c = within-back
 
-pub returns-clause-pieces : goal.returns-clause-pieces
-returns-clause-pieces c = λ around items. ap₂ (λ a xs. let whole : Pieces = record { around = a; items = xs } in
-    whole) (around-back around items) (items-back around.lead items around.tail)
+pub returns-clause-lead : goal.returns-clause-lead
+returns-clause-lead c = lead-back
+
+pub returns-clause-items : goal.returns-clause-items
+returns-clause-items c = items-back
+
+pub returns-clause-tail : goal.returns-clause-tail
+returns-clause-tail c = tail-back

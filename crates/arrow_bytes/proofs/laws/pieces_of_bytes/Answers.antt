@@ -5,7 +5,7 @@ use Rattle.arrow_bytes.proofs.PieceLemmas.{bytes-again, offsets-again}
 use Rattle.arrow_bytes.proofs.laws.pieces_of_bytes.Goals as goal
 
 pub returns-clause-bytes : goal.returns-clause-bytes
-returns-clause-bytes c = λ offsets bytes legal within. bytes-again offsets bytes legal
+returns-clause-bytes c = bytes-again
 
 pub returns-clause-lead : goal.returns-clause-lead
 returns-clause-lead c = λ offsets bytes legal within.

@@ -1,13 +1,11 @@
-use Rattle.std.proofs.Common.{◌≡◌, ◌+◌, ◌≤◌, length, map, take, drop, ap, ap₂, ◌∙◌, sym, arith}
+use Rattle.std.proofs.Common.{◌≡◌, map, take, drop, ap, ap₂, ◌∙◌, sym}
 use Rattle.std.proofs.lemmas.List.{take-map, drop-map}
 use Rattle.arrow_column.specs.Column.{stored_values}
-use Rattle.arrow_memory.proofs.CallerLemmas.{length-piece, piece-piece}
+use Rattle.arrow_memory.proofs.CallerLemmas.{piece-piece}
 use Rattle.arrow_column.proofs.laws.cut_of_cut.Goals as goal
 
 pub returns : goal.returns
-returns g c = λ column a n b m outer inner.
-    let whole : a + n ≤ length column.rows = omega (arith, outer) in
-    let within : b + m ≤ n = omega (arith, inner, length-piece column.rows a n whole) in
+returns g c = λ column a n b m within.
     let stored : map (λ row. row.0) (take n (drop a column.rows)) ≡ take n (drop a (stored_values column)) =
     sym (ap (take n) (drop-map (λ row. row.0) a column.rows) ∙ take-map (λ row. row.0) n (drop a column.rows)) in
     ap₂ (λ around rows. record column { around = around; rows = rows })

@@ -1,4 +1,4 @@
-use Rattle.std.proofs.Common.{sym}
+use Rattle.std.proofs.Common.{None, Some, refl, sym}
 use Rattle.arrow_column.proofs.RowLemmas.{length-rows, mask-rows, stored-rows, valid-rows}
 use Rattle.arrow_column.proofs.SlotLemmas.{bare-marks, held-marks}
 use Rattle.arrow_column.proofs.laws.rows_of_parts.Goals as goal
@@ -16,7 +16,7 @@ pub returns-clause-mask : goal.returns-clause-mask
 returns-clause-mask g c = λ t around values mask fits. sym (mask-rows values mask fits)
 
 pub returns-clause-marks : goal.returns-clause-marks
-returns-clause-marks g c = λ t around values mask marks fits held. held-marks values mask marks fits held
+returns-clause-marks g c = λ t around values mask fits. held-marks values (Some mask) mask fits refl
 
 pub returns-clause-all_set : goal.returns-clause-all_set
-returns-clause-all_set g c = λ t around values mask bare. bare-marks values mask bare
+returns-clause-all_set g c = λ t around values. bare-marks values None refl

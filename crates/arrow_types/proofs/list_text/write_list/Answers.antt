@@ -2,7 +2,7 @@ use Rattle.std.proofs.Common.{◌<◌, [], ◌∷◌, length, take, Some, None, 
 use Rattle.std.proofs.lemmas.List.{get_or_default, take_all}
 use Rattle.std.specs.Fmt.{◌++?◌, debug_items}
 use Rattle.std.proofs.Debugs.{shows_then, shows_part_then, shows_from, displays_from, debug_items-take}
-use Rattle.arrow_types.specs.ListText.{list_text, separator, text_at}
+use Rattle.arrow_types.specs.ListText.{list_text, separator, slot_at}
 use Rattle.arrow_types.proofs.list_text.write_list.Goals as goal
 
 pub loop-i-preserved : goal.loop-i-preserved
@@ -11,7 +11,7 @@ loop-i-preserved g c =
     let texts = g.L.WriteItems.texts c.args.items.now in
     let f = c.args.f.now in
     let i = c.loop-i.i in
-    let text = text_at texts i in
+    let text = slot_at texts i in
     let low : i < length texts = omega (arith, c.loop-i-test.true, c.item_count-i-end.ensures) in
     let more = debug_items-take (λ t. t) texts i text low (get_or_default texts i None text low) in
     λ plain.

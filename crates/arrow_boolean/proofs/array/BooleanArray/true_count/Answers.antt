@@ -1,6 +1,6 @@
 use Rattle.std.proofs.Common.{ap, count_by, sym, ◌∙◌}
 use Rattle.std.specs.Option.{option_copied}
-use Rattle.arrow_boolean.specs.Truths.{both_set}
+use Rattle.arrow_column.specs.Combined.{set_in_both}
 use Rattle.arrow_boolean.proofs.TruthLemmas.{bare-true, masked-true, valid-true}
 use Rattle.arrow_boolean.proofs.array.BooleanArray.true_count.Goals as goal
 
@@ -20,5 +20,5 @@ returns-then-null_count-eq0 c =
 pub returns : goal.returns
 returns c =
     c.count_both.ensures
-    ∙ ap (λ values. count_by (λ mark. mark) (both_set values c.in-Some.validity.now)) c.values-2.ensures
+    ∙ ap (λ values. count_by (λ mark. mark) (set_in_both values c.in-Some.validity.now)) c.values-2.ensures
     ∙ masked-true c.args.self.now c.in-Some.validity.now (sym c.in-Some.ensures.mask)

@@ -1,4 +1,4 @@
-use Rattle.arrow_boolean.proofs.SlotLemmas.{on-ok}
+use Rattle.arrow_column.proofs.CallerLemmas.{on-ok}
 use Rattle.arrow_boolean.proofs.builder.MutableBooleanArray.extend_from_array.Goals as goal
 
 pub returns-clause-ok : goal.returns-clause-ok

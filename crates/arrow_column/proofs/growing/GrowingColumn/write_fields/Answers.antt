@@ -1,4 +1,4 @@
-use Rattle.std.proofs.Common.{codes, is_ok, ap}
+use Rattle.std.proofs.Common.{Some, codes, is_ok, ap}
 use Rattle.std.specs.Fmt.{◌++?◌}
 use Rattle.std.proofs.Output.{displays_on_IsOk_append}
 use Rattle.arrow_column.specs.Column.{mask_of, stored_values}
@@ -14,7 +14,7 @@ returns g c =
     let end = c.write_validity.new.f in
     let last = c.write_validity.result in
     displays_on_IsOk_append took c.args.f.now c.write_head.new.f end c.write_head.result last
-    (head_text c.args.name.now column.data_type (codes ", values: ")) (values ++? mask)
+    (Some (head_text c.args.name.now column.data_type (codes ", values: "))) (values ++? mask)
     (λ _. ap is_ok c.in_ok-write_head.was) (rw c.data_type.ensures at c.write_head.ensures)
     (displays_on_IsOk_append took c.write_head.new.f c.write_values.new.f end c.write_values.result last
     values mask

@@ -4,7 +4,7 @@ use Rattle.std.proofs.lemmas.List.{length-map}
 use Rattle.std.proofs.lemmas.Option.{slice_get_cases}
 use Rattle.arrow_memory.specs.Rows.{slot}
 use Rattle.std.proofs.Output.{displays_on_ok_of_eq}
-use Rattle.arrow_types.specs.ListText.{text_at}
+use Rattle.arrow_types.specs.ListText.{slot_at}
 use Rattle.arrow_column.specs.Column.{slots_of, stored_values}
 use Rattle.arrow_column.specs.SlotText.{debug_slot, debug_slots}
 use Rattle.arrow_column.proofs.text.FrozenColumnWriteItems.write_item.Goals as goal
@@ -15,7 +15,7 @@ found-text h None = None
 found-text h (Some x) = h x
 
 text-found : {X : Type 0} (h : X → Option (List ℕ)) (xs : List X) (i : ℕ)
-    → text_at (map h xs) i ≡ found-text h (slice_get xs i)
+    → slot_at (map h xs) i ≡ found-text h (slice_get xs i)
 unfolding found-text
 text-found h [] i = refl
 text-found h (x ∷ xs) zero = refl
@@ -24,7 +24,7 @@ text-found h (x ∷ xs) (suc i) = text-found h xs i
 -- a valid slot is written as its value
 same-text : {S : Type 0} (text : S → Option (List ℕ)) (stored : List S) (slots : List (Option S)) (i : ℕ)
     → i < length stored → ((value : S) → slice_get stored i ≡ Some value → slice_get slots i ≡ Some (Some value))
-    → text_at (map text stored) i ≡ text_at (debug_slots text slots) i
+    → slot_at (map text stored) i ≡ slot_at (debug_slots text slots) i
 unfolding found-text
 same-text text stored slots i low shown = elim (slice_get_cases stored i).1 [
   | inl found ↦
@@ -39,8 +39,8 @@ returns g c =
     let column = c.args.self.now in
     let shown = c.is_null.ensures.valid (ap not c.if-is_null.false) in
     displays_on_ok_of_eq g.W.Write.write_str_gives c.args.f.now c.write_value.new.f c.write_value.result
-    (text_at (map g.V.WriteValues.text (stored_values column)) c.args.i)
-    (text_at (debug_slots g.V.WriteValues.text (slots_of column)) c.args.i)
+    (slot_at (map g.V.WriteValues.text (stored_values column)) c.args.i)
+    (slot_at (debug_slots g.V.WriteValues.text (slots_of column)) c.args.i)
     (same-text g.V.WriteValues.text (stored_values column) (slots_of column) c.args.i
     (omega (
       arith,

@@ -1,6 +1,6 @@
 use Rattle.std.proofs.Common.{ap, ◌∙◌}
 use Rattle.arrow_column.specs.Column.{append_slots, refused_growth}
-use Rattle.arrow_primitive.proofs.SlotLemmas.{if-err, on-ok, never-over, same-slots}
+use Rattle.arrow_column.proofs.CallerLemmas.{if-err, never-over, on-ok, same-slots}
 use Rattle.arrow_primitive.proofs.builder.MutablePrimitiveArray.extend.Goals as goal
 
 pub returns-clause-ok : goal.returns-clause-ok
@@ -14,8 +14,9 @@ returns-clause-err g c =
       refused.4.2 ∙ ap refused_growth (never-over c.extend.new.self refused.1),
       (
         refused.0,
-        refused.3.0,
-        refused.3.1,
+        refused.1,
+        refused.2,
+        refused.3,
         refused.4.1 ∙ ap (append_slots g.T.NativeType.zero c.self.inside.column) (same-slots refused.0),
       ),
     ))

@@ -1,4 +1,4 @@
-use Rattle.arrow_primitive.proofs.SlotLemmas.{on-ok}
+use Rattle.arrow_column.proofs.CallerLemmas.{on-ok}
 use Rattle.arrow_primitive.proofs.builder.MutablePrimitiveArray.extend_from_array.Goals as goal
 
 pub returns-clause-ok : goal.returns-clause-ok

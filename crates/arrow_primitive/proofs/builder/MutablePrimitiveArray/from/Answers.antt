@@ -1,6 +1,6 @@
 use Rattle.std.proofs.Common.{ap₂, ◌∙◌}
 use Rattle.arrow_column.specs.Column.{append_slots}
-use Rattle.arrow_primitive.proofs.SlotLemmas.{same-slots}
+use Rattle.arrow_column.proofs.CallerLemmas.{same-slots}
 use Rattle.arrow_primitive.proofs.builder.MutablePrimitiveArray.from.Goals as goal
 
 pub returns-clause-ok : goal.returns-clause-ok

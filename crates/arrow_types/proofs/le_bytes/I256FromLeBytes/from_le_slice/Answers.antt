@@ -1,4 +1,4 @@
-use Rattle.std.proofs.Common.{◌≡◌, ap, ap₂, arith, drop, length, of_z, take, to_z, ℕ, ℤ, ◌∙◌}
+use Rattle.std.proofs.Common.{◌≡◌, ap, ap₂, arith, drop, of_z, to_z, ℕ, ℤ, ◌∙◌}
 use Rattle.std.proofs.lemmas.Int.{ints}
 use Rattle.std.proofs.lemmas.List.{length-drop, take_all}
 use Rattle.std.specs.Int.{w128}

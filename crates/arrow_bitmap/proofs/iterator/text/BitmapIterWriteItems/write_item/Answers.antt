@@ -5,7 +5,7 @@ use Rattle.std.proofs.lemmas.List.FromFn.{get_or-map-range_with_len, length-map-
 use Rattle.std.specs.Fmt.{HasWritten}
 use Rattle.std.proofs.Output.{has_written_append, has_written_of_eq}
 use Rattle.std.proofs.Debugs.{displays_from, Shows}
-use Rattle.arrow_types.specs.ListText.{text_at}
+use Rattle.arrow_types.specs.ListText.{slot_at}
 use Rattle.arrow_bitmap.specs.MarkText.{byte_digits, byte_text, byte_texts, mark_digit}
 use Rattle.arrow_bitmap.proofs.iterator.text.BitmapIterWriteItems.write_item.Goals as goal
 
@@ -32,13 +32,13 @@ pub returns : goal.returns
 returns g c =
     let ms = c.args.self.now in
     let i = c.args.i in
-    let text : text_at (byte_texts ms) i ≡ Some (byte_text ms i) =
+    let text : slot_at (byte_texts ms) i ≡ Some (byte_text ms i) =
     get_or-map-range_with_len (λ i. Some (byte_text ms i)) 0 (div_ceil (length ms) 8) i i None
     (omega (arith, c.requires, bytes-of ms)) (zero-add i) in
     let took = g.W.Write.write_str_gives in
     let f = c.args.f.now in
     let end = c.loop-k.f in
     let all : c.loop-k.k ≡ 8 = omega (arith, c.loop-k-test.false, c.loop-k.auto.k-end) in
-    displays_from took f end (Ok tt) (text_at (byte_texts ms) i) (λ p ok.
+    displays_from took f end (Ok tt) (slot_at (byte_texts ms) i) (λ p ok.
     subst (λ o. Shows took f o end) (sym text)
     (subst (λ n. HasWritten took f (codes "0b" ++ byte_digits ms i n) end) all (c.loop-k.invariant p)))

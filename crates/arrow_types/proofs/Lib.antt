@@ -1,0 +1,2 @@
+mod NativeTextLemmas
+mod QuotedLemmas
