@@ -22,7 +22,7 @@ use Rattle.arrow_memory.specs.Rows.{Row, slot}
 use Rattle.arrow_column.specs.Column.{Column, ColumnWith, all_valid, column_of_parts, slots_of}
 use Rattle.arrow_column.proofs.CallerLemmas.{all-bare, bare-shown}
 use Rattle.arrow_aggregate.specs.Aggregates.{better_slot, greater_slot, lesser_slot}
-use Rattle.arrow_aggregate.specs.Groups.{BestOfGroups, GroupSlots, IsBestSlot, IsGreatestSlot, IsLeastSlot, IsMadeOf, as_seen, count_step}
+use Rattle.arrow_aggregate.specs.Groups.{BestOfGroups, GroupSlots, IsBestSlot, IsGreatestSlot, IsLeastSlot, MakesSlots, as_seen, count_step}
 use Rattle.arrow_aggregate.specs.Groups.{fold_slot, group_values, values_at}
 use Rattle.arrow_aggregate.proofs.AggregateLemmas.{greatest_slot, least_slot, valid}
 
@@ -95,7 +95,7 @@ row_more step states pairs i k g slot current next s at is_current is_next befor
 -- ---- arrays of groups
 
 pub groups_made : {A Z : Type 0} (t : LogicalType) (groups : ℕ) (Holds : ℕ → Option Z → Type 0) (made : ColumnWith A Z)
-    (slots : List (Option Z)) → IsMadeOf t slots made → length slots ≡ groups
+    (slots : List (Option Z)) → MakesSlots t slots made → length slots ≡ groups
     → ((g : ℕ) → g < groups → (o : Option Z) → slice_get slots g ≡ Some o → Holds g o) → GroupSlots t groups Holds made
 groups_made t groups Holds made slots is count each = record {
   data_type = is.data_type;
@@ -145,11 +145,11 @@ module _ {X : Type 0} (cmp : X → X → Ordering) (order : IsTotalOrder cmp) wh
 
     -- the array of the best values
     pub bests_made : {B : Type 0} (shown : List (Option X)) (made : ColumnWith B X) → length best ≡ groups → shown ≡ best
-        → IsMadeOf column.data_type shown made
+        → MakesSlots column.data_type shown made
         → GroupSlots column.data_type groups (λ g. IsBestSlot greatest cmp (group_values column indices g)) made
     bests_made shown made count same is =
         groups_made column.data_type groups (λ g. IsBestSlot greatest cmp (group_values column indices g)) made best
-        (subst (λ slots. IsMadeOf column.data_type slots made) same is) count best_each
+        (subst (λ slots. MakesSlots column.data_type slots made) same is) count best_each
 
 -- slots that are seen as they are
 pub same_slots : {X : Type 0} (slots : List (Option X)) → as_seen (λ x. x) slots ≡ slots

@@ -20,13 +20,13 @@ use Rattle.arrow_column.proofs.CallerLemmas.{many-slots}
 use Rattle.arrow_bytes.specs.Appends.{FrozenOfSlots, SlotsRefused}
 use Rattle.arrow_bytes.specs.Column.{ByteColumn, empty_bytes, item_overflows, offsets_held}
 use Rattle.arrow_bytes.proofs.CallerLemmas.{last-offset}
-use Rattle.arrow_aggregate.specs.Groups.{IsMadeOf, as_seen, total_size, values_at}
+use Rattle.arrow_aggregate.specs.Groups.{MakesSlots, as_seen, total_size, values_at}
 use Rattle.arrow_aggregate.proofs.GroupLemmas.{set_other, set_same}
 
 -- ---- arrays of slots
 
 pub made_of_numbers : {X : Type 0} (default : X) (t u : LogicalType) (slots : List (Option X)) (made : Column X)
-    → made ≡ with_type (array_of_slots default t slots) u → IsMadeOf u slots made
+    → made ≡ with_type (array_of_slots default t slots) u → MakesSlots u slots made
 made_of_numbers default t u slots made is = record {
   data_type = ap (λ c. c.data_type) is;
   slots = ap slots_of is ∙ many-slots default (empty_masked t) slots;
@@ -63,7 +63,7 @@ needed_all default column (o ∷ slots) needed =
     needed_all default (append_slot default column o) slots (needed_more default column o needed)
 
 pub made_of_booleans : (t u : LogicalType) (slots : List (Option Bool)) (made : Column Bool)
-    → made ≡ with_type (append_slots false (empty_column t) slots) u → IsMadeOf u slots made
+    → made ≡ with_type (append_slots false (empty_column t) slots) u → MakesSlots u slots made
 made_of_booleans t u slots made is = record {
   data_type = ap (λ c. c.data_type) is;
   slots = ap slots_of is ∙ many-slots false (empty_column t) slots;
@@ -71,16 +71,16 @@ made_of_booleans t u slots made is = record {
       subst (λ c. c.held ≡ not (all_valid c)) (sym is) (needed_all false (empty_column t) slots refl);
 }
 
--- the same under an equal type
+-- an array that is made of slots under a type is made of them under an equal one
 pub made_under : {A S : Type 0} (t u : LogicalType) (shown : List (Option S)) (made : ColumnWith A S) → t ≡ u
-    → IsMadeOf t shown made → IsMadeOf u shown made
-made_under t u shown made same is = subst (λ v. IsMadeOf v shown made) same is
+    → MakesSlots t shown made → MakesSlots u shown made
+made_under t u shown made same is = subst (λ v. MakesSlots v shown made) same is
 
 -- ---- arrays of items
 
 module _ {X : Type 0} (shown : X → List ℕ) (most : ℕ) where
   pub made_of_items : (t u : LogicalType) (slots : List (Option X)) (frozen made : ByteColumn)
-      → FrozenOfSlots shown most t slots frozen → made ≡ with_type frozen u → IsMadeOf u (as_seen shown slots) made
+      → FrozenOfSlots shown most t slots frozen → made ≡ with_type frozen u → MakesSlots u (as_seen shown slots) made
   made_of_items t u slots frozen made (fit, is) typed = record {
     data_type = ap (λ c. c.data_type) typed;
     slots =

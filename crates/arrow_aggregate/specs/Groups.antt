@@ -9,6 +9,8 @@ use Rattle.std.specs.Option.{option_map_or}
 use Rattle.arrow_types.specs.Types.{LogicalType, default_logical_type}
 use Rattle.arrow_types.specs.declared.primitive_type.PrimitiveType.TheVariants.{UInt64}
 use Rattle.arrow_column.specs.Column.{Column, ColumnWith, all_valid, slots_of}
+-- an array of a type and slots, which holds a mask exactly if one of them is null
+pub use Rattle.arrow_column.specs.Combined.{MakesSlots}
 use Rattle.arrow_aggregate.specs.Aggregates.{IsGreatest, IsLeast, better_slot}
 
 -- the values of the slots of group g among slots and their groups
@@ -22,12 +24,6 @@ group_values column indices g = values_at (zip indices (slots_of column)) g
 -- the sizes of the values of the valid slots together
 abbrev pub total_size : {S : Type 0} → (S → ℕ) → List (Option S) → ℕ
 total_size size slots = sum_by (λ slot. option_map_or size slot 0) slots
-
--- an array of this type and these slots, which holds a mask exactly if one of them is null
-pub record IsMadeOf {A S : Type 0} (t : LogicalType) (shown : List (Option S)) (made : ColumnWith A S) : Type 0 where
-  pub data_type : made.data_type ≡ t
-  pub slots : slots_of made ≡ shown
-  pub held : made.held ≡ not (all_valid made)
 
 -- an array of this type with a slot for each group, which is as this says; a mask is held exactly if one is null
 pub record GroupSlots {A S : Type 0} (t : LogicalType) (groups : ℕ) (Holds : ℕ → Option S → Type 0)
@@ -60,7 +56,7 @@ IsLeastSlot cmp values slot = MatchOption slot (values ≡ []) (IsLeast cmp valu
 abbrev pub IsGreatestSlot : {X : Type 0} → (X → X → Ordering) → List X → Option X → Type 0
 IsGreatestSlot cmp values slot = MatchOption slot (values ≡ []) (IsGreatest cmp values)
 
--- the same of the greatest or the least
+-- a slot that is the greatest of the values, or else the least, and null if there is none
 abbrev pub IsBestSlot : {X : Type 0} → Bool → (X → X → Ordering) → List X → Option X → Type 0
 IsBestSlot true cmp = IsGreatestSlot cmp
 IsBestSlot false cmp = IsLeastSlot cmp
@@ -70,7 +66,7 @@ abbrev pub StatesOf : {S Y : Type 0} → (Y → S → Y) → Y → List (ℕ × 
 StatesOf step start pairs groups states = (g : ℕ) → g < groups
     → slice_get states g ≡ Some (fold step start (values_at pairs g))
 
--- the same of the slots of a column
+-- states of groups after the slots of a column were folded into them
 abbrev pub GroupStates : {A S Y : Type 0} → (Y → S → Y) → Y → ColumnWith A S → List ℕ → ℕ → List Y → Type 0
 GroupStates step start column indices groups states = StatesOf step start (zip indices (slots_of column)) groups states
 

@@ -21,4 +21,4 @@ pub use groups::{
 };
 pub use items::{max_binary, max_string, min_binary, min_string};
 pub use numbers::{max_primitive, min_primitive};
-pub use sum::{SumOverflow, sum_primitive};
+pub use sum::sum_primitive;

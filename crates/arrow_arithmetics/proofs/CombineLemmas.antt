@@ -9,9 +9,9 @@ use Rattle.std.proofs.lemmas.Slice.Zip.{length-zip}
 use Rattle.arrow_types.specs.Types.{LogicalType}
 use Rattle.arrow_column.specs.Column.{Column, IsColumn, column_of_parts, mask_of, stored_values}
 use Rattle.arrow_memory.specs.Rows.{FitsMask, Row, rows_of, slot}
-use Rattle.arrow_compute.specs.Slots.{MapsSlots, both_masks}
+use Rattle.arrow_compute.specs.Slots.{MapsSlots, both_masks, combine_valid}
 use Rattle.arrow_arithmetics.specs.Arithmetic.{CombinesValues, CombinesValuesIf, FitsMarks, MapsSlotsIf}
-use Rattle.arrow_arithmetics.specs.Arithmetic.{of_both, of_both_if, of_pairs, outcome_marks, outcome_values, with_marks}
+use Rattle.arrow_arithmetics.specs.Arithmetic.{of_both_if, of_pairs, outcome_marks, outcome_values, with_marks}
 use Rattle.arrow_arithmetics.proofs.ListLemmas.{length-of_pairs}
 
 -- the stored values, the marks, and whether all are set, of rows
@@ -64,18 +64,18 @@ one_fits false xs made count = tt
 
 module _ {X : Type 0} (make : X → X → X) where
   abbrev shown : List (Row X) → List (Row X) → List (Option X)
-  shown xs ys = map (λ pair. of_both make pair.0 pair.1) (zip (map slot xs) (map slot ys))
+  shown xs ys = map (λ pair. combine_valid make pair.0 pair.1) (zip (map slot xs) (map slot ys))
 
-  both_shown : (x y : Row X) → slot (make x.0 y.0, x.1 && y.1) ≡ of_both make (slot x) (slot y)
+  both_shown : (x y : Row X) → slot (make x.0 y.0, x.1 && y.1) ≡ combine_valid make (slot x) (slot y)
   both_shown (x, true) (y, true) = refl
   both_shown (x, true) (y, false) = refl
   both_shown (x, false) (y, m) = refl
 
-  first_shown : (x : Row X) (y : X) → slot (make x.0 y, x.1) ≡ of_both make (slot x) (Some y)
+  first_shown : (x : Row X) (y : X) → slot (make x.0 y, x.1) ≡ combine_valid make (slot x) (Some y)
   first_shown (x, true) y = refl
   first_shown (x, false) y = refl
 
-  second_shown : (x : X) (y : Row X) → slot (make x y.0, y.1) ≡ of_both make (Some x) (slot y)
+  second_shown : (x : X) (y : Row X) → slot (make x y.0, y.1) ≡ combine_valid make (Some x) (slot y)
   second_shown x (y, true) = refl
   second_shown x (y, false) = refl
 

@@ -2,15 +2,16 @@
 //! A slot of the result is null where an operand is. Plain forms wrap; `checked_` forms give a null
 //! where the result does not fit or the divisor is zero, and always hold a mask; `saturating_` forms
 //! give the number of the type that is nearest. The result has the data type of `lhs`.
-ghost use Rattle.std.specs.Prelude.{◌≡◌, ◌≢◌, ◌+ℤ◌, ◌-ℤ◌, ◌*ℤ◌, IfOk, int_div, int_rem, length, neg_ℤ, pos};
+ghost use Rattle.std.specs.Prelude.{◌≡◌, ◌≢◌, ◌+ℤ◌, ◌-ℤ◌, ◌*ℤ◌, IfOk, List, Option, int_div, int_rem};
+ghost use Rattle.std.specs.Prelude.{length, neg_ℤ, pos};
 ghost use Rattle.arrow_integers.specs.NativeArithmetics.{some_if};
 ghost use Rattle.arrow_types.specs.Failures.{OnlyOutOfMemory};
 ghost use Rattle.std.specs.Bool.{OnFalse};
-ghost use Rattle.std.specs.List.{list_any};
+ghost use Rattle.std.specs.List.{list_any, zip};
 ghost use Rattle.arrow_column.specs.Column.{slots_of};
 ghost use Rattle.arrow_arithmetics.specs.Arithmetic.{CombinesValues, CombinesValuesIf, MapsValues, MapsValuesIf};
-ghost use Rattle.arrow_arithmetics.specs.Arithmetic.{NoSlotIsZero, if_dividing, if_fitting, on_numbers};
-ghost use Rattle.arrow_arithmetics.specs.Arithmetic.{slot_is_zero};
+ghost use Rattle.arrow_arithmetics.specs.Arithmetic.{NoSlotIsZero, NoZeroDivisor, divides_by_zero, if_dividing};
+ghost use Rattle.arrow_arithmetics.specs.Arithmetic.{if_fitting, on_numbers, slot_is_zero};
 
 use crate::combine::{combine, combine_checked, combine_checked_scalar, combine_scalar};
 use crate::operation::{
@@ -323,10 +324,10 @@ pub fn saturating_mul_scalar<T: NativeArithmetics>(
     combine_scalar::<T, SaturatingMul>(alloc, lhs, rhs)
 }
 
-/// Divides each slot of `lhs` by the slot of `rhs` at its place, rounding toward zero. No valid
-/// slot of `rhs` may be zero; what null slots store is not tested. The least number of a signed
-/// type divided by -1 wraps to itself. Both arrays must have equally many slots. The result holds a
-/// mask if either array does.
+/// Divides each slot of `lhs` by the slot of `rhs` at its place, rounding toward zero. Where both
+/// slots are valid, that of `rhs` must not be zero, which [`has_zero_divisor`] tests. The least
+/// number of a signed type divided by -1 wraps to itself. Both arrays must have equally many slots.
+/// The result holds a mask if either array does.
 ///
 /// # Errors
 /// `OutOfMemory` if an allocation fails.
@@ -336,7 +337,7 @@ pub fn div<T: NativeArithmetics>(
     rhs: &PrimitiveArray<T>,
 ) -> Result<PrimitiveArray<T>, Error>
     requires same { length lhs.now.rows ≡ length rhs.now.rows }
-    requires divisors { NoSlotIsZero T.number (slots_of rhs.now) }
+    requires divisors { NoZeroDivisor T.number (slots_of lhs.now) (slots_of rhs.now) }
     ensures ok { IfOk result (CombinesValues (on_numbers T.number T.wrap int_div) lhs.now rhs.now) }
     ensures err { OnlyOutOfMemory result }
 {
@@ -396,8 +397,9 @@ pub fn checked_div_scalar<T: NativeArithmetics>(
 }
 
 /// Returns the remainder of each slot of `lhs` divided by the slot of `rhs` at its place, which has
-/// the sign of the dividend. No valid slot of `rhs` may be zero; what null slots store is not
-/// tested. Both arrays must have equally many slots. The result holds a mask if either array does.
+/// the sign of the dividend. Where both slots are valid, that of `rhs` must not be zero, which
+/// [`has_zero_divisor`] tests. Both arrays must have equally many slots. The result holds a mask if
+/// either array does.
 ///
 /// # Errors
 /// `OutOfMemory` if an allocation fails.
@@ -407,7 +409,7 @@ pub fn rem<T: NativeArithmetics>(
     rhs: &PrimitiveArray<T>,
 ) -> Result<PrimitiveArray<T>, Error>
     requires same { length lhs.now.rows ≡ length rhs.now.rows }
-    requires divisors { NoSlotIsZero T.number (slots_of rhs.now) }
+    requires divisors { NoZeroDivisor T.number (slots_of lhs.now) (slots_of rhs.now) }
     ensures ok { IfOk result (CombinesValues (on_numbers T.number T.wrap int_rem) lhs.now rhs.now) }
     ensures err { OnlyOutOfMemory result }
 {
@@ -503,7 +505,8 @@ pub fn checked_negate<T: NativeArithmetics>(
     alloc: Global,
     array: &PrimitiveArray<T>,
 ) -> Result<PrimitiveArray<T>, Error>
-    ensures ok { IfOk result (MapsValuesIf (λ x. some_if (T.fits (neg_ℤ (T.number x))) (T.wrap (neg_ℤ (T.number x)))) array.now) }
+    ensures ok { IfOk result (MapsValuesIf (λ x. some_if (T.fits (neg_ℤ (T.number x)))
+        (T.wrap (neg_ℤ (T.number x)))) array.now) }
     ensures err { OnlyOutOfMemory result }
 {
     combine_checked_scalar::<T, CheckedNegate>(alloc, array, T::default())
@@ -520,13 +523,46 @@ fn is_zero<T: NativeArithmetics>(slot: Option<T>) -> bool
     }
 }
 
-/// Returns whether a valid slot is zero. An array by which [`div`] or [`rem`] divide must have none.
+/// Returns whether a valid slot is zero. If not, [`div`] and [`rem`] can divide any array of equal length by this one.
 pub fn has_zero<T: NativeArithmetics>(array: &PrimitiveArray<T>) -> bool
     ensures value { result ≡ list_any (slot_is_zero T.number) (slots_of array.now) }
     ensures none { OnFalse result (NoSlotIsZero T.number (slots_of array.now)) }
+    ensures divides { OnFalse result ((dividends : List (Option T))
+        → NoZeroDivisor T.number dividends (slots_of array.now)) }
 {
     for i in 0..array.len() {
         if is_zero(array.get(i)) {
+            return true;
+        }
+    }
+    false
+}
+
+/// Returns whether both slots are valid, and the second is zero.
+#[inline(always)]
+fn divides_by_zero<T: NativeArithmetics>(dividend: Option<T>, divisor: Option<T>) -> bool
+    ensures { result ≡ divides_by_zero T.number dividend divisor }
+{
+    if let Some(_) = dividend {
+        is_zero(divisor)
+    } else {
+        false
+    }
+}
+
+/// Returns whether `rhs` has a valid zero at an index where the slot of `lhs` is valid. If not, [`div`] and [`rem`] can
+/// divide `lhs` by `rhs`. Both arrays must have equally many slots.
+pub fn has_zero_divisor<T: NativeArithmetics>(
+    lhs: &PrimitiveArray<T>,
+    rhs: &PrimitiveArray<T>,
+) -> bool
+    requires { length lhs.now.rows ≡ length rhs.now.rows }
+    ensures value { result ≡ list_any (λ pair. divides_by_zero T.number pair.0 pair.1)
+        (zip (slots_of lhs.now) (slots_of rhs.now)) }
+    ensures none { OnFalse result (NoZeroDivisor T.number (slots_of lhs.now) (slots_of rhs.now)) }
+{
+    for i in 0..lhs.len() {
+        if divides_by_zero(lhs.get(i), rhs.get(i)) {
             return true;
         }
     }

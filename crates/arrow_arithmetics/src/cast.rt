@@ -4,12 +4,11 @@ ghost use Rattle.arrow_types.specs.Failures.{OnlyOutOfMemory};
 ghost use Rattle.arrow_types.specs.Types.{IsRightType, logical_type};
 ghost use Rattle.arrow_types.specs.declared.physical_type.PhysicalType.TheVariants as PhysicalType;
 ghost use Rattle.arrow_boolean.specs.Fits.{boolean_type};
-ghost use Rattle.arrow_bytes.specs.Kinds.{text_layout};
-ghost use Rattle.arrow_column.specs.Column.{stored_values, with_type};
 ghost use Rattle.arrow_memory.specs.Marks.{bits_of};
 ghost use Rattle.arrow_compute.specs.Slots.{MapsSlots};
 ghost use Rattle.arrow_arithmetics.specs.Arithmetic.{MapsSlotsIf};
-ghost use Rattle.arrow_arithmetics.specs.Cast.{CastsSlots, FailsAsText, is_nonzero, number_of_bool, of_same_number};
+ghost use Rattle.arrow_arithmetics.specs.Cast.{BecomesText, CastsSlots, FailsAsText, is_nonzero, number_of_bool};
+ghost use Rattle.arrow_arithmetics.specs.Cast.{of_same_number};
 
 use crate::combine::mask_and;
 use crate::wrap_number::WrapNumber;
@@ -238,21 +237,22 @@ pub fn primitive_to_boolean<T: NativeArithmetics>(
     Ok(BooleanArray::new(DataType::Boolean, marks, validity))
 }
 
-/// Returns the same slots as text, without copying any. Each item has to be UTF-8 by itself, also
-/// those that null slots store. The data type must have the physical type of an array of text. The result
-/// holds a mask if the array does.
+/// Returns the same slots as text, without copying any. Each item must be UTF-8 by itself, also the items that null
+/// slots store. The result holds a mask if the array does.
 ///
 /// # Errors
-/// `OutOfSpec` if an item is not UTF-8 by itself; `OutOfMemory` if an allocation fails.
+/// As [`Utf8Array::try_new`] of the array's parts:
+/// - `OutOfSpec` if an item is not UTF-8 by itself, or else if the data type does not have the
+///   physical type of an array of text.
+/// - `OutOfMemory` if an allocation fails.
 pub fn binary_to_utf8<O: Offset>(
     array: &BinaryArray<O>,
     data_type: DataType,
 ) -> Result<Utf8Array<O>, Error>
-    requires { IsRightType (text_layout O.IS_LARGE) (logical_type data_type) }
-    ensures ok { IfOk result (λ made. made ≡ with_type array.now (logical_type data_type)) }
-    ensures err { FailsAsText (stored_values array.now) result }
+    ensures ok { BecomesText O.IS_LARGE array.now (logical_type data_type) result }
+    ensures err { FailsAsText O.IS_LARGE array.now (logical_type data_type) result }
 {
-    // The law of an array's parts.
+    // Called for its contract: an array is made again of its own parts.
     array_again();
     let offsets = array.offsets().clone()?;
     let values = array.values().clone()?;

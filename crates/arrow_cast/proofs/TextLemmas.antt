@@ -1,18 +1,19 @@
 -- Lemmas about the decimal texts of slots, which lie one after the other.
-use Rattle.std.proofs.Common.{◌≡◌, ◌∙◌, ℕ, ℤ, ◌+◌, ◌≤◌, Bool, true, false, nat_lt, List, [], ◌∷◌, ◌++◌, map, take, length}
+use Rattle.std.proofs.Common.{◌≡◌, ◌∙◌, ℕ, ℤ, ◌+◌, ◌<◌, ◌≤◌, Bool, true, false, nat_lt, List, [], ◌∷◌, ◌++◌, map, take, length}
 use Rattle.std.proofs.Common.{Option, Some, None, option_map, slice_get, unwrap_or, refl, ap, ap₂, sym, subst}
 use Rattle.std.proofs.Common.{arith, drop, length-append, suc}
 use Rattle.std.specs.Prelude.{⊤}
 use Rattle.std.specs.List.{concat}
+use Rattle.std.specs.Option.{option_map_or}
 use Rattle.std.proofs.lemmas.List.{append-nil}
 use Rattle.std.proofs.lemmas.List.Elements.{All-nil, All-push}
+use Rattle.std.proofs.lemmas.Bool.{lt-ltb}
 use Rattle.std.proofs.lemmas.List.Folds.{concat-append}
+use Rattle.std.proofs.lemmas.List.Sums.{sum_by_more, sum_by-take-le}
+use Rattle.std.proofs.lemmas.Option.{get_or_from_slice_get, slice_get_within}
 use Rattle.arrow_types.specs.Types.{LogicalType}
-use Rattle.arrow_types.specs.declared.error.Error.{Error}
-use Rattle.arrow_types.specs.declared.error.Error.TheVariants as error
-use Rattle.arrow_memory.specs.Offsets.{MatchGrowth, last_of}
+use Rattle.arrow_memory.specs.Offsets.{last_of}
 use Rattle.arrow_memory.specs.Rows.{FitsMask}
-use Rattle.arrow_column.specs.Appends.{SlotsOverflow}
 use Rattle.arrow_column.specs.Column.{ColumnWith, append_slots, column_with, mask_of, slot_overflows, slots_fit}
 use Rattle.arrow_column.specs.Column.{slots_of, without_needless_mask}
 use Rattle.arrow_column.specs.Masks.{mask_with_nulls}
@@ -22,7 +23,7 @@ use Rattle.arrow_bytes.specs.Column.{byte_column, empty_bytes, item_overflows}
 use Rattle.arrow_bytes.specs.Kinds.{AreItems, CutItems, IsItem}
 use Rattle.arrow_bytes.specs.Pieces.{around_of, nothing_around}
 use Rattle.arrow_bytes.proofs.CallerLemmas.{around-back, items-back, last-offset, within-back}
-use Rattle.arrow_cast.specs.Decimals.{decimal_of}
+use Rattle.arrow_cast.specs.Decimals.{decimal_bytes, value_decimal}
 use Rattle.arrow_cast.specs.Stored.{AppendsDecimal, HoldTexts, decimal_text, decimal_texts, ends_past, valid_of}
 use Rattle.arrow_cast.proofs.SlotLemmas.{fit-next, one-more}
 use Rattle.arrow_cast.proofs.StoredLemmas.{appended-around, appended-stored, array-of-parts, map-map, map-next, mask-needed, parts-fit, same-marks, split-at}
@@ -66,17 +67,17 @@ module _ {X : Type 0} (number : X → ℤ) (most : ℕ) (is_text : Bool) (t : Lo
   -- whether a slot overflows, by where its text begins
   overflows-there : (slots : List (Option X)) (offsets : List ℕ) (next : Option X)
       → offsets ≡ offsets_of 0 (decimal_texts number slots)
-      → slot_overflows (item_overflows (decimal_of number) most)
-      (append_slots [] (empty_bytes t) (map (option_map (decimal_of number)) slots)) next
+      → slot_overflows (item_overflows (value_decimal number) most)
+      (append_slots [] (empty_bytes t) (map (option_map (value_decimal number)) slots)) next
       ≡ ends_past number most (last_of offsets) next
   overflows-there slots offsets None ends = refl
   overflows-there slots offsets (Some x) ends =
-      let before = append_slots [] (empty_bytes t) (map (option_map (decimal_of number)) slots) in
-      ap₂ (λ lead items. nat_lt most (length lead + length (concat items) + length (decimal_of number x)))
-      (ap (λ around. around.lead) (appended-around [] (empty_bytes t) (map (option_map (decimal_of number)) slots)))
-      (appended-stored [] (empty_bytes t) (map (option_map (decimal_of number)) slots)
-      ∙ map-map (λ shown. unwrap_or shown []) (option_map (decimal_of number)) slots)
-      ∙ ap (λ end. nat_lt most (end + length (decimal_of number x)))
+      let before = append_slots [] (empty_bytes t) (map (option_map (value_decimal number)) slots) in
+      ap₂ (λ lead items. nat_lt most (length lead + length (concat items) + length (value_decimal number x)))
+      (ap (λ around. around.lead) (appended-around [] (empty_bytes t) (map (option_map (value_decimal number)) slots)))
+      (appended-stored [] (empty_bytes t) (map (option_map (value_decimal number)) slots)
+      ∙ map-map (λ shown. unwrap_or shown []) (option_map (value_decimal number)) slots)
+      ∙ ap (λ end. nat_lt most (end + length (value_decimal number x)))
       (sym (ap last_of ends ∙ last-offset 0 (decimal_texts number slots)))
 
   module _ (slots : List (Option X)) (i : ℕ) (offsets bytes : List ℕ) (next : Option X)
@@ -92,9 +93,9 @@ module _ {X : Type 0} (number : X → ℤ) (most : ℕ) (is_text : Bool) (t : Lo
         let more : decimal_texts number (take (i + 1) slots) ≡ texts ++ decimal_text number next ∷ [] =
         map-next (λ x. decimal_text number x) slots i next found in
         record {
-          fit = subst (λ xs. slots_fit (item_overflows (decimal_of number) most) (decimal_of number) [] (empty_bytes t) xs
+          fit = subst (λ xs. slots_fit (item_overflows (value_decimal number) most) (value_decimal number) [] (empty_bytes t) xs
               ≡ true) (sym (one-more slots i next found))
-              (fit-next (item_overflows (decimal_of number) most) (decimal_of number) [] (empty_bytes t) (take i slots) next
+              (fit-next (item_overflows (value_decimal number) most) (value_decimal number) [] (empty_bytes t) (take i slots) next
               held.fit (overflows-there (take i slots) offsets next held.ends ∙ fits));
           items = subst (AreItems is_text) (sym more)
               (push-of is_text texts (decimal_text number next) held.items item);
@@ -104,22 +105,7 @@ module _ {X : Type 0} (number : X → ℤ) (most : ℕ) (is_text : Bool) (t : Lo
               ∙ sym (ap concat more ∙ concat-push texts (decimal_text number next));
         }
 
-    -- the next slot is refused
-    pub next-refused : (e : Error) → MatchGrowth e (ends_past number most (last_of offsets) next ≡ true) ⊤
-        → MatchGrowth e (SlotsOverflow (item_overflows (decimal_of number) most) (decimal_of number) [] slots
-        (empty_bytes t)) ⊤
-    next-refused (error.OutOfSpec why) refused = refused
-    next-refused error.OutOfMemory refused = tt
-    next-refused error.Overflow refused = (
-      take i slots,
-      drop (suc i) slots,
-      next,
-      split-at slots i next found,
-      held.fit,
-      overflows-there (take i slots) offsets next held.ends ∙ refused,
-    )
-
-  -- the same offsets and bytes, frozen
+  -- offsets and bytes that are frozen hold what they held while they grew
   pub still-held : (slots : List (Option X)) (offsets bytes ends values : List ℕ) → ends ≡ offsets → values ≡ bytes
       → HoldTexts number most is_text t slots offsets bytes → HoldTexts number most is_text t slots ends values
   still-held slots offsets bytes ends values first second held =
@@ -143,23 +129,41 @@ module _ {X : Type 0} (number : X → ℤ) (most : ℕ) (is_text : Bool) (t : Lo
     )
 
     same-mask : mask_of (without_needless_mask column)
-        ≡ mask_with_nulls (Some (valid_of (option_map (decimal_of number)) (slots_of column)))
+        ≡ mask_with_nulls (Some (valid_of (option_map (value_decimal number)) (slots_of column)))
     same-mask = mask-needed column
-        ∙ ap (λ marks. mask_with_nulls (Some marks)) (sym (same-marks (decimal_of number) column.rows))
+        ∙ ap (λ marks. mask_with_nulls (Some marks)) (sym (same-marks (value_decimal number) column.rows))
 
     pub mask-fits : (mask : Option (List Bool)) → mask ≡ mask_of (without_needless_mask column)
         → FitsMask (items_of offsets bytes) mask
     mask-fits mask is =
         subst (FitsMask (items_of offsets bytes)) (sym (is ∙ same-mask))
-        (subst (λ items. FitsMask items (mask_with_nulls (Some (valid_of (option_map (decimal_of number)) (slots_of column)))))
-        (sym cut-back) (parts-fit [] (option_map (decimal_of number)) (slots_of column)))
+        (subst (λ items. FitsMask items (mask_with_nulls (Some (valid_of (option_map (value_decimal number)) (slots_of column)))))
+        (sym cut-back) (parts-fit [] (option_map (value_decimal number)) (slots_of column)))
 
     pub array-made : (mask : Option (List Bool)) → mask ≡ mask_of (without_needless_mask column)
         → byte_column t offsets bytes mask
-        ≡ without_needless_mask (append_slots [] (empty_bytes t) (map (option_map (decimal_of number)) (slots_of column)))
+        ≡ without_needless_mask (append_slots [] (empty_bytes t) (map (option_map (value_decimal number)) (slots_of column)))
     array-made mask is =
         ap₂ (λ around items. column_with t around items mask)
         (ap₂ around_of held.ends all-bytes ∙ around-back nothing_around (decimal_texts number (slots_of column)))
         cut-back
         ∙ ap (column_with t nothing_around (decimal_texts number (slots_of column))) (is ∙ same-mask)
-        ∙ array-of-parts [] (option_map (decimal_of number)) (empty_bytes t) (slots_of column) refl
+        ∙ array-of-parts [] (option_map (value_decimal number)) (empty_bytes t) (slots_of column) refl
+
+-- ---- how many bytes texts have
+
+-- how many bytes the text of a slot has
+abbrev pub size_of : {X : Type 0} → (X → ℤ) → Option X → ℕ
+size_of number slot = option_map_or (λ x. length (value_decimal number x)) slot 0
+
+module _ {X : Type 0} (number : X → ℤ) (slots : List (Option X)) (i : ℕ) (next : Option X)
+    (found : slice_get slots i ≡ Some next) where
+  pub more-counted : decimal_bytes number (take (i + 1) slots) ≡ decimal_bytes number (take i slots) + size_of number next
+  more-counted = sum_by_more (size_of number) slots i next (slice_get_within slots i next found)
+      ∙ ap (λ slot. decimal_bytes number (take i slots) + size_of number slot) (get_or_from_slice_get slots i next next found)
+
+  -- all texts have more bytes than the greatest offset if those up to the next slot do
+  pub past-counted : (most : ℕ) → most < decimal_bytes number (take i slots) + size_of number next
+      → nat_lt most (decimal_bytes number slots) ≡ true
+  past-counted most h = lt-ltb most (decimal_bytes number slots)
+      (omega (arith, h, more-counted, sum_by-take-le (size_of number) slots (i + 1)))

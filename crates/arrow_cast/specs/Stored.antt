@@ -8,7 +8,7 @@ use Rattle.arrow_column.specs.Column.{slots_fit}
 use Rattle.arrow_check.specs.Pieces.{offsets_of}
 use Rattle.arrow_bytes.specs.Column.{empty_bytes, item_overflows}
 use Rattle.arrow_bytes.specs.Kinds.{AreItems}
-use Rattle.arrow_cast.specs.Decimals.{decimal_of}
+use Rattle.arrow_cast.specs.Decimals.{value_decimal}
 
 -- the value that each stores, the default where there is none
 abbrev pub stored_of : {X S : Type 0} → S → (X → Option S) → List X → List S
@@ -21,11 +21,11 @@ valid_of f xs = map (λ x. is_some (f x)) xs
 module _ {X : Type 0} (number : X → ℤ) where
   -- the bytes that a slot stores: the decimal text of its number, and none if it is null
   abbrev pub decimal_text : Option X → List ℕ
-  decimal_text slot = unwrap_or (option_map (decimal_of number) slot) []
+  decimal_text slot = unwrap_or (option_map (value_decimal number) slot) []
 
-  -- the same of each slot
+  -- the bytes that each slot stores
   abbrev pub decimal_texts : List (Option X) → List (List ℕ)
-  decimal_texts slots = stored_of [] (option_map (decimal_of number)) slots
+  decimal_texts slots = stored_of [] (option_map (value_decimal number)) slots
 
   -- the end of a slot's text is appended to offsets
   abbrev pub AppendsDecimal : List ℕ → Option X → List ℕ → Type 0
@@ -34,12 +34,13 @@ module _ {X : Type 0} (number : X → ℤ) where
   -- whether the text of a slot that begins here ends above the greatest offset; a null never does
   abbrev pub ends_past : ℕ → ℕ → Option X → Bool
   ends_past most start None = false
-  ends_past most start (Some x) = nat_lt most (start + length (decimal_of number x))
+  ends_past most start (Some x) = nat_lt most (start + length (value_decimal number x))
 
 -- offsets and bytes are those of the decimal texts of these slots, none of which ends above the greatest offset
 pub record HoldTexts {X : Type 0} (number : X → ℤ) (most : ℕ) (is_text : Bool) (t : LogicalType)
     (slots : List (Option X)) (offsets bytes : List ℕ) : Type 0 where
-  pub fit : slots_fit (item_overflows (decimal_of number) most) (decimal_of number) [] (empty_bytes t) slots ≡ true
+  pub fit : slots_fit (item_overflows (value_decimal number) most) (value_decimal number) [] (empty_bytes t) slots
+      ≡ true
   pub items : AreItems is_text (decimal_texts number slots)
   pub ends : offsets ≡ offsets_of 0 (decimal_texts number slots)
   pub texts : bytes ≡ concat (decimal_texts number slots)

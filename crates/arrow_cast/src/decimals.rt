@@ -57,3 +57,10 @@ pub(crate) fn append_number(bytes: &mut Vec<u8>, number: i128) -> Result<(), All
         Err(_) => append_long(bytes, number),
     }
 }
+
+/// Returns the number of bytes of the decimal text of a number.
+pub(crate) fn text_length(number: i128) -> usize
+    ensures { result ≡ length (signed_decimal number) }
+{
+    Buffer::new().format(number).len()
+}

@@ -86,7 +86,7 @@ all_counted xs n len is whole = elim (cases_eq n len) [
     same : (n : ℕ) → nat_eq n n ≡ true
     same n = elim (eqb_tells n n) [ inl is_same ↦ is_same.0 | inr apart ↦ absurd (apart.1 refl) ]
 
--- ---- the same of three values
+-- ---- any and all of slots of three values: true, false and null
 
 pub any_some : (xs : List (Option Bool)) → 0 < trues xs → Some true ≡ any_of xs
 any_some [] some = absurd (omega (arith, some))

@@ -2,6 +2,7 @@
 use Rattle.std.proofs.Common.{◌≡◌, ℕ, zero, suc, min, Bool, List, [], ◌∷◌, Some, slice_get, length, map}
 use Rattle.std.proofs.Common.{◌∙◌}
 use Rattle.std.specs.List.{zip}
+use Rattle.std.specs.Ordering.{is_eq}
 use Rattle.std.specs.declared.cmp.Ordering.{Ordering}
 use Rattle.std.proofs.lemmas.List.{length-map}
 use Rattle.std.proofs.lemmas.Slice.Zip.{length-zip}
@@ -16,7 +17,7 @@ combined_at f (a ∷ xs) [] i x y e g = absurd (cc)
 combined_at f (a ∷ xs) (b ∷ ys) zero x y e g = cc
 combined_at f (a ∷ xs) (b ∷ ys) (suc i) x y e g = combined_at f xs ys i x y e g
 
-module _ {X : Type 0} (test : Ordering → Bool) (cmp : X → X → Ordering) where
+module _ {X R : Type 0} (test : R → Bool) (cmp : X → X → R) where
   pub length-pairs : (xs ys : List X) → length (compare_values test cmp xs ys) ≡ min (length xs) (length ys)
   length-pairs xs ys = length-map (zip xs ys) (λ (pair : X × X). test (cmp pair.0 pair.1)) ∙ length-zip xs ys
 
@@ -33,3 +34,14 @@ module _ {X : Type 0} (test : Ordering → Bool) (cmp : X → X → Ordering) wh
   scalar_at [] value i x e = absurd (cc)
   scalar_at (a ∷ xs) value zero x e = cc
   scalar_at (a ∷ xs) value (suc i) x e = scalar_at xs value i x e
+
+-- a test of equality as a comparison by an order that tells equal values
+module _ {X : Type 0} (test : Ordering → Bool) (holds : Bool → Bool) (same : (order : Ordering) → test order ≡ holds (is_eq order))
+    (cmp : X → X → Ordering) where
+  pub pairs_by_order : (xs ys : List X)
+      → compare_values test cmp xs ys ≡ compare_values holds (λ x y. is_eq (cmp x y)) xs ys
+  pairs_by_order xs ys = λ i. map (λ (pair : X × X). same (cmp pair.0 pair.1) i) (zip xs ys)
+
+  pub scalar_by_order : (xs : List X) (value : X)
+      → compare_scalar test cmp xs value ≡ compare_scalar holds (λ x y. is_eq (cmp x y)) xs value
+  scalar_by_order xs value = λ i. map (λ x. same (cmp x value) i) xs

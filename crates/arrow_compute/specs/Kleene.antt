@@ -27,18 +27,19 @@ abbrev pub all_of : List (Option Bool) → Option Bool
 all_of [] = Some true
 all_of (x ∷ xs) = kleene_and x (all_of xs)
 
--- at which index an operation makes a boolean that is known of the slots of two lists
+-- whether the result of an operation on the slots at each index of two lists is known, that is, not null
 abbrev pub known_slots : (Option Bool → Option Bool → Option Bool) → List (Option Bool) → List (Option Bool) → List Bool
 known_slots table xs ys = map (λ pair. is_some (table pair.0 pair.1)) (zip xs ys)
 
--- these results of an operation are known, of slots with these marks and valid slots of these values, on either side
+-- which results of an operation are known if the slots on one side have these marks and those on the other are valid
+-- and have these values; it makes no difference which side is on the left
 pub record KnownBeside (table : Option Bool → Option Bool → Option Bool) (marks values known : List Bool) : Type 0 where
   pub left : (rows : List (Row Bool)) → marks ≡ map (λ row. row.1) rows
       → known ≡ known_slots table (map slot rows) (map Some values)
   pub right : (rows : List (Row Bool)) → marks ≡ map (λ row. row.1) rows
       → known ≡ known_slots table (map Some values) (map slot rows)
 
--- the mask of what an operation makes of the slots of two arrays, if either holds one
+-- the mask of the result of an operation on two arrays, if either holds one
 abbrev pub mask_of_known : (Option Bool → Option Bool → Option Bool) → Column Bool → Column Bool → Option (List Bool)
 mask_of_known table lhs rhs =
     if lhs.held || rhs.held then Some (known_slots table (slots_of lhs) (slots_of rhs)) else None

@@ -1,4 +1,4 @@
--- Logic in which what is made of a null is null.
+-- Logic of booleans in which a null operand makes a null.
 use Rattle.std.specs.Prelude.{◌&&◌, ◌||◌, Bool, false, not, Option, option_map, unwrap_or}
 use Rattle.arrow_compute.specs.Slots.{combine_valid}
 
@@ -14,6 +14,6 @@ or_slots = combine_valid (λ x y. x || y)
 abbrev pub not_slot : Option Bool → Option Bool
 not_slot = option_map not
 
--- a slot is valid and true
+-- whether a slot is valid and true
 abbrev pub is_true : Option Bool → Bool
 is_true slot = unwrap_or slot false

@@ -29,7 +29,7 @@ combine_valid f None y = None
 abbrev pub booleans : List Bool → Column Bool
 booleans values = unmasked boolean_type tt values
 
--- two masks, where both are held, have as many marks
+-- two masks are equally long if both are held
 abbrev pub FitEachOther : Option (List Bool) → Option (List Bool) → Type 0
 FitEachOther (Some lhs) (Some rhs) = length lhs ≡ length rhs
 FitEachOther (Some lhs) None = ⊤

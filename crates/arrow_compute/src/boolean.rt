@@ -61,7 +61,7 @@ pub fn not(alloc: Global, array: &BooleanArray) -> Result<BooleanArray, Error>
     Ok(BooleanArray::new(DataType::Boolean, values, validity))
 }
 
-/// Returns a bitmap of `count` times the same mark.
+/// Returns a bitmap of `count` marks that are all `mark`.
 fn repeat_mark(alloc: Global, count: usize, mark: bool) -> Result<Bitmap, Error>
     ensures ok { IfOk result (λ marks. marks ≡ replicate count mark) }
     ensures err { OnlyOutOfMemory result }
@@ -118,14 +118,14 @@ pub fn is_not_null<A: Array>(alloc: Global, array: &A) -> Result<BooleanArray, E
     Ok(BooleanArray::new(DataType::Boolean, valid, None))
 }
 
-/// Returns whether a slot is valid and true.
+/// Returns whether any slot is valid and true.
 pub fn any(array: &BooleanArray) -> bool
     ensures { result ≡ list_any is_true (slots_of array.now) }
 {
     array.true_count() > 0
 }
 
-/// Returns whether all slots are valid and true, as they are in an array of no slot.
+/// Returns whether all slots are valid and true, which holds of an empty array.
 pub fn all(array: &BooleanArray) -> bool
     ensures { result ≡ list_all is_true (slots_of array.now) }
 {

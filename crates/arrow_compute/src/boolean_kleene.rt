@@ -191,7 +191,7 @@ pub fn or(alloc: Global, lhs: &BooleanArray, rhs: &BooleanArray) -> Result<Boole
     Ok(BooleanArray::new(DataType::Boolean, values, validity))
 }
 
-/// Returns whether a slot is true: `None` if no slot is true and one is null.
+/// Returns whether any slot is true: `None` if no slot is true and at least one is null.
 pub fn any(array: &BooleanArray) -> Option<bool>
     ensures { result ≡ any_of (slots_of array.now) }
 {
@@ -204,7 +204,7 @@ pub fn any(array: &BooleanArray) -> Option<bool>
     }
 }
 
-/// Returns whether all slots are true: `None` if no slot is false and one is null.
+/// Returns whether all slots are true: `None` if no slot is false and at least one is null.
 pub fn all(array: &BooleanArray) -> Option<bool>
     ensures { result ≡ all_of (slots_of array.now) }
 {

@@ -1,26 +1,31 @@
 //! Comparisons of two arrays, slot by slot, and of an array with one value.
 //!
-//! They take arrays of every kind whose values have an order. The modules `primitive`, `boolean`,
-//! `binary` and `utf8` pass the same functions on.
-ghost use Rattle.std.specs.Prelude.{◌≡◌, IfOk, length};
-ghost use Rattle.std.specs.Ordering.{is_eq, is_ne, is_lt, is_le, is_gt, is_ge};
+//! `eq`, `neq` and the functions whose names begin so take arrays of every kind and type. The others take arrays whose
+//! values have an order, which those of the types `i256`, `days_ms` and `months_days_ns` do not have. The modules
+//! `primitive`, `boolean`, `binary` and `utf8` export the same functions.
+ghost use Rattle.std.specs.Prelude.{◌≡◌, IfOk, length, option_map};
+ghost use Rattle.std.specs.Ordering.{is_lt, is_le, is_gt, is_ge};
 ghost use Rattle.arrow_types.specs.Failures.{OnlyOutOfMemory};
 ghost use Rattle.arrow_boolean.specs.Fits.{boolean_type};
 ghost use Rattle.arrow_compute.specs.Comparison.{compare_slot, compare_slots, compare_stored, equal_slots};
-ghost use Rattle.arrow_compute.specs.Comparison.{unequal_slots};
-ghost use Rattle.arrow_compute.specs.Slots.{CombinesSlots, MapsSlots, booleans};
+ghost use Rattle.arrow_compute.specs.Comparison.{unequal, unequal_slots};
+ghost use Rattle.arrow_compute.specs.Slots.{CombinesSlots, MapsSlots, booleans, combine_valid};
 
 pub mod binary;
 pub mod boolean;
 mod booleans;
 mod bytes;
+pub mod equal;
 mod numbers;
 pub mod operators;
 pub mod ordered;
 pub mod primitive;
 pub mod utf8;
 
-use self::operators::{Comparison, Equal, Greater, GreaterOrEqual, Less, LessOrEqual, Unequal};
+use self::equal::{EqualArray, EqualScalar};
+use self::operators::{
+    Comparison, Equal, Equality, Greater, GreaterOrEqual, Less, LessOrEqual, Unequal,
+};
 use self::ordered::{OrderedArray, Scalar};
 use crate::masks::{clone_mask, mask_of_both};
 use arrow_boolean::BooleanArray;
@@ -59,18 +64,49 @@ fn compare_with_scalar<C: Comparison, A: OrderedArray, S: Scalar<A>>(
     Ok(BooleanArray::new(DataType::Boolean, truths, validity))
 }
 
+/// Returns whether `==` or `!=` holds of each pair of slots of two arrays of equal length.
+fn compare_equal<C: Equality, A: EqualArray>(
+    alloc: Global,
+    lhs: &A,
+    rhs: &A,
+) -> Result<BooleanArray, Error>
+    requires { length (A.column lhs.now).rows ≡ length (A.column rhs.now).rows }
+    ensures ok { IfOk result (CombinesSlots boolean_type (compare_slots C.holds A.equal)
+        (A.column lhs.now) (A.column rhs.now)) }
+    ensures err { OnlyOutOfMemory result }
+{
+    let truths = A::equal_stored::<C>(alloc, lhs, rhs)?;
+    let validity = mask_of_both(alloc, lhs.validity(), rhs.validity())?;
+    Ok(BooleanArray::new(DataType::Boolean, truths, validity))
+}
+
+/// Returns whether `==` or `!=` holds of each slot and `rhs`.
+fn compare_equal_scalar<C: Equality, A: EqualArray, S: EqualScalar<A>>(
+    alloc: Global,
+    lhs: &A,
+    rhs: S,
+) -> Result<BooleanArray, Error>
+    ensures ok { IfOk result (MapsSlots boolean_type (compare_slot C.holds A.equal (S.value rhs))
+        (A.column lhs.now)) }
+    ensures err { OnlyOutOfMemory result }
+{
+    let truths = S::equal_stored::<C>(alloc, lhs, rhs)?;
+    let validity = clone_mask(lhs.validity())?;
+    Ok(BooleanArray::new(DataType::Boolean, truths, validity))
+}
+
 /// Returns whether each slot of `lhs` is equal to the slot of `rhs` at its place; null where either
 /// is null. Both arrays must have equally many slots. The result holds a mask if either array does.
 ///
 /// # Errors
 /// `OutOfMemory` if an allocation fails.
-pub fn eq<A: OrderedArray>(alloc: Global, lhs: &A, rhs: &A) -> Result<BooleanArray, Error>
+pub fn eq<A: EqualArray>(alloc: Global, lhs: &A, rhs: &A) -> Result<BooleanArray, Error>
     requires { length (A.column lhs.now).rows ≡ length (A.column rhs.now).rows }
-    ensures ok { IfOk result (CombinesSlots boolean_type (compare_slots is_eq A.order)
+    ensures ok { IfOk result (CombinesSlots boolean_type (combine_valid A.equal)
         (A.column lhs.now) (A.column rhs.now)) }
     ensures err { OnlyOutOfMemory result }
 {
-    compare::<Equal, A>(alloc, lhs, rhs)
+    compare_equal::<Equal, A>(alloc, lhs, rhs)
 }
 
 /// Returns whether each slot of `lhs` is equal to `rhs`; null where the slot is null. The result
@@ -78,15 +114,16 @@ pub fn eq<A: OrderedArray>(alloc: Global, lhs: &A, rhs: &A) -> Result<BooleanArr
 ///
 /// # Errors
 /// `OutOfMemory` if an allocation fails.
-pub fn eq_scalar<A: OrderedArray, S: Scalar<A>>(
+pub fn eq_scalar<A: EqualArray, S: EqualScalar<A>>(
     alloc: Global,
     lhs: &A,
     rhs: S,
 ) -> Result<BooleanArray, Error>
-    ensures ok { IfOk result (MapsSlots boolean_type (compare_slot is_eq A.order (S.value rhs)) (A.column lhs.now)) }
+    ensures ok { IfOk result (MapsSlots boolean_type (option_map (λ x. A.equal x (S.value rhs)))
+        (A.column lhs.now)) }
     ensures err { OnlyOutOfMemory result }
 {
-    compare_with_scalar::<Equal, A, S>(alloc, lhs, rhs)
+    compare_equal_scalar::<Equal, A, S>(alloc, lhs, rhs)
 }
 
 /// Returns whether each slot of `lhs` is different from the slot of `rhs` at its place; null where
@@ -95,13 +132,13 @@ pub fn eq_scalar<A: OrderedArray, S: Scalar<A>>(
 ///
 /// # Errors
 /// `OutOfMemory` if an allocation fails.
-pub fn neq<A: OrderedArray>(alloc: Global, lhs: &A, rhs: &A) -> Result<BooleanArray, Error>
+pub fn neq<A: EqualArray>(alloc: Global, lhs: &A, rhs: &A) -> Result<BooleanArray, Error>
     requires { length (A.column lhs.now).rows ≡ length (A.column rhs.now).rows }
-    ensures ok { IfOk result (CombinesSlots boolean_type (compare_slots is_ne A.order)
+    ensures ok { IfOk result (CombinesSlots boolean_type (combine_valid (unequal A.equal))
         (A.column lhs.now) (A.column rhs.now)) }
     ensures err { OnlyOutOfMemory result }
 {
-    compare::<Unequal, A>(alloc, lhs, rhs)
+    compare_equal::<Unequal, A>(alloc, lhs, rhs)
 }
 
 /// Returns whether each slot of `lhs` is different from `rhs`; null where the slot is null. The
@@ -109,15 +146,16 @@ pub fn neq<A: OrderedArray>(alloc: Global, lhs: &A, rhs: &A) -> Result<BooleanAr
 ///
 /// # Errors
 /// `OutOfMemory` if an allocation fails.
-pub fn neq_scalar<A: OrderedArray, S: Scalar<A>>(
+pub fn neq_scalar<A: EqualArray, S: EqualScalar<A>>(
     alloc: Global,
     lhs: &A,
     rhs: S,
 ) -> Result<BooleanArray, Error>
-    ensures ok { IfOk result (MapsSlots boolean_type (compare_slot is_ne A.order (S.value rhs)) (A.column lhs.now)) }
+    ensures ok { IfOk result (MapsSlots boolean_type (option_map (λ x. unequal A.equal x (S.value rhs)))
+        (A.column lhs.now)) }
     ensures err { OnlyOutOfMemory result }
 {
-    compare_with_scalar::<Unequal, A, S>(alloc, lhs, rhs)
+    compare_equal_scalar::<Unequal, A, S>(alloc, lhs, rhs)
 }
 
 /// Returns whether each slot of `lhs` is less than the slot of `rhs` at its place; null where
@@ -244,17 +282,17 @@ pub fn gt_eq_scalar<A: OrderedArray, S: Scalar<A>>(
     compare_with_scalar::<GreaterOrEqual, A, S>(alloc, lhs, rhs)
 }
 
-/// Returns where slots are valid in both of two arrays and their stored values are equal, and where
-/// they are null in both. `truths` says which stored values are equal.
-fn equal_or_null<A: OrderedArray>(
+/// Returns whether the slots at each index of two arrays are both null, or both valid with equal values. `truths` says
+/// which stored values are equal.
+fn equal_or_null<A: EqualArray>(
     alloc: Global,
     truths: Bitmap,
     lhs: &A,
     rhs: &A,
 ) -> Result<Bitmap, Error>
     requires same { length (A.column lhs.now).rows ≡ length (A.column rhs.now).rows }
-    requires truths { truths ≡ compare_stored is_eq A.order (A.column lhs.now) (A.column rhs.now) }
-    ensures ok { IfOk result (λ equal. equal ≡ equal_slots A.order (A.column lhs.now) (A.column rhs.now)) }
+    requires truths { truths ≡ compare_stored (λ truth. truth) A.equal (A.column lhs.now) (A.column rhs.now) }
+    ensures ok { IfOk result (λ equal. equal ≡ equal_slots A.equal (A.column lhs.now) (A.column rhs.now)) }
     ensures err { OnlyOutOfMemory result }
 {
     match (lhs.validity(), rhs.validity()) {
@@ -275,16 +313,16 @@ fn equal_or_null<A: OrderedArray>(
 ///
 /// # Errors
 /// `OutOfMemory` if an allocation fails.
-pub fn eq_and_validity<A: OrderedArray>(
+pub fn eq_and_validity<A: EqualArray>(
     alloc: Global,
     lhs: &A,
     rhs: &A,
 ) -> Result<BooleanArray, Error>
     requires { length (A.column lhs.now).rows ≡ length (A.column rhs.now).rows }
-    ensures ok { IfOk result (λ made. made ≡ booleans (equal_slots A.order (A.column lhs.now) (A.column rhs.now))) }
+    ensures ok { IfOk result (λ made. made ≡ booleans (equal_slots A.equal (A.column lhs.now) (A.column rhs.now))) }
     ensures err { OnlyOutOfMemory result }
 {
-    let truths = A::compare_stored::<Equal>(alloc, lhs, rhs)?;
+    let truths = A::equal_stored::<Equal>(alloc, lhs, rhs)?;
     let equal = equal_or_null(alloc, truths, lhs, rhs)?;
     Ok(BooleanArray::new(DataType::Boolean, equal, None))
 }
@@ -295,16 +333,16 @@ pub fn eq_and_validity<A: OrderedArray>(
 ///
 /// # Errors
 /// `OutOfMemory` if an allocation fails.
-pub fn neq_and_validity<A: OrderedArray>(
+pub fn neq_and_validity<A: EqualArray>(
     alloc: Global,
     lhs: &A,
     rhs: &A,
 ) -> Result<BooleanArray, Error>
     requires { length (A.column lhs.now).rows ≡ length (A.column rhs.now).rows }
-    ensures ok { IfOk result (λ made. made ≡ booleans (unequal_slots A.order (A.column lhs.now) (A.column rhs.now))) }
+    ensures ok { IfOk result (λ made. made ≡ booleans (unequal_slots A.equal (A.column lhs.now) (A.column rhs.now))) }
     ensures err { OnlyOutOfMemory result }
 {
-    let truths = A::compare_stored::<Equal>(alloc, lhs, rhs)?;
+    let truths = A::equal_stored::<Equal>(alloc, lhs, rhs)?;
     let equal = equal_or_null(alloc, truths, lhs, rhs)?;
     Ok(BooleanArray::new(DataType::Boolean, bitmap::not(alloc, &equal)?, None))
 }

@@ -114,8 +114,8 @@ fn push_word(bytes: &mut Vec<u8>, word: u64) -> Result<(), AllocError>
     bytes.extend_from_slice(&word.to_le_bytes())
 }
 
-/// Returns the bitmap of all marks. The error is `AllocError`, which has no contents: a result with a
-/// larger error would be copied once more.
+/// Returns the bitmap of all marks. The error is `AllocError`, which has no contents, since a result with a larger
+/// error would be copied once more.
 pub fn collect_marks<S: MarkWords>(alloc: Global, source: &S) -> Result<MutableBitmap, AllocError>
     ensures { IfOk result (λ bitmap. bitmap ≡ S.marks source.now) }
 {

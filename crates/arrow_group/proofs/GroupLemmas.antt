@@ -5,7 +5,8 @@ use Rattle.std.specs.Bool.{Decides}
 use Rattle.std.specs.Hash as fed
 use Rattle.std.specs.List.{list_all, list_any}
 use Rattle.std.specs.Prelude.{◌≤◌, IsTrue, count_by, nat_le, not, option_map}
-use Rattle.std.proofs.Common.{cond, take}
+use Rattle.std.proofs.Common.{◌*◌, ◌/◌, cond, take}
+use Rattle.std.proofs.Math.Nat.{pow-suc}
 use Rattle.std.proofs.lemmas.List.{length-map, length_push, map_more}
 use Rattle.std.proofs.lemmas.List.Sums.{sum_by-cons}
 use Rattle.std.proofs.lemmas.Map.Keys.{any_passes_from_place}
@@ -15,7 +16,7 @@ use Rattle.arrow_memory.specs.Rows.{Row, slot}
 use Rattle.arrow_column.specs.Column.{ColumnWith, marks_of, slots_of, stored_values}
 use Rattle.arrow_column.proofs.CallerLemmas.{slots_valid}
 use Rattle.arrow_group.specs.Hashes.{hash_of, hash_slot}
-use Rattle.arrow_group.specs.Grouping.{AddsHint, HintsNumber, IsGrouping, null_first, null_number, number_of}
+use Rattle.arrow_group.specs.Grouping.{AddsHint, ArePlaces, HintsNumber, IsGrouping, null_first, null_number, number_of}
 
 -- ---- the element at a place of a list with one element more
 
@@ -422,6 +423,17 @@ module _ {K X : Type 0} (eq : K → K → Bool) (seen : K → X) (decides : (x y
       let long : number ≡ length xs = is_number ∙ before.groups.same ∙ length-map xs Some in
       ap (λ groups. slice_get groups g) (ap (λ m. insert_null m xs) long ∙ insert_end xs)
       ∙ get_before (map Some xs) None g (Some (seen k)) (are i k g hint)
+
+-- ---- places for hints
+
+-- four times as many places, if there are few enough for that
+pub places_more : (count places : ℕ) → ArePlaces count places → places ≤ 4096 → places ≤ count / 4 → ArePlaces count (places * 4)
+places_more count places (inl none) small few = inl (omega (arith, none))
+places_more count places (inr ((k, is), most, within)) small few = inr (
+  (suc (suc k), omega (arith, is, pow-suc 2 (suc k), pow-suc 2 k)),
+  omega (arith, small),
+  omega (arith, few),
+)
 
 -- all slots
 pub all_groups : {X : Type 0} (slots : List X) (n : ℕ) (groups : List X) (first numbers : List ℕ)

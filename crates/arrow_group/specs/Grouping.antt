@@ -1,6 +1,7 @@
 -- Groups of equal slots, numbered in the order of their first slots.
 use Rattle.std.specs.Prelude.{◌≡◌, ◌≢◌, ℕ, ◌+◌, ◌<◌, nat_le, Option, None, ◌++◌, ◌∷◌, ◌⊎◌, [], Bool, true, List, length, Some, slice_get}
-use Rattle.std.specs.Prelude.{if◌then◌else◌}
+use Rattle.std.specs.Prelude.{if◌then◌else◌, ◌≤◌, ◌^◌}
+use Rattle.std.specs.Int.{IsPowerOfTwo}
 use Rattle.std.specs.List.{list_any, zip}
 use Rattle.arrow_column.specs.Column.{ColumnWith, slots_of}
 use Rattle.arrow_group.specs.declared.grouper.Groups.{Groups}
@@ -26,11 +27,11 @@ abbrev pub ForGroupings : (A S : Type 0) → (ColumnWith A S → List ℕ → Li
 ForGroupings A S P = (column : ColumnWith A S) (first numbers : List ℕ)
     → IsGrouping (slots_of column) first numbers → P column first numbers
 
--- the first places after a key at this place: it is one more if no key of a group is equal
+-- the first slots of groups after a key at this index, which begins a new group if no key of a group is equal
 abbrev pub first_after : {K : Type 0} → (K → K → Bool) → List K → List ℕ → ℕ → K → List ℕ
 first_after eq groups first place key = if list_any (eq key) groups then first else first ++ place ∷ []
 
--- the number of the group of the key at this index, where that of the null slots is passed over
+-- the number of the group of the key at this index among the keys, in which the group of the null slots has no key
 abbrev pub number_of : Option ℕ → ℕ → ℕ
 number_of None index = index
 number_of (Some null) index = if nat_le null index then index + 1 else index
@@ -45,16 +46,21 @@ abbrev pub null_number : Option ℕ → List ℕ → ℕ
 null_number None first = length first
 null_number (Some null) first = null
 
--- the first places after a null at this place
+-- the first slots of groups after a null at this index
 abbrev pub null_first : Option ℕ → List ℕ → ℕ → List ℕ
 null_first None first place = first ++ place ∷ []
 null_first (Some null) first place = first
 
--- a hint is a key and the number of its group. One of these has a key equal to this, and this number
+-- a hint is a key and the number of its group: one of these hints has a key that is equal to this one, and this number
 abbrev pub HintsNumber : {K : Type 0} → (K → K → Bool) → List (K × ℕ) → K → ℕ → Type 0
 HintsNumber {K} eq hints key number = (i : ℕ) × (k : K) × (slice_get hints i ≡ Some (k, number)) × (eq key k ≡ true)
 
--- each hint is one of those before, or this
+-- each of the new hints is one of the old ones, or this one
 abbrev pub AddsHint : {K : Type 0} → List (K × ℕ) → K × ℕ → List (K × ℕ) → Type 0
 AddsHint {K} old hint new = (i : ℕ) (h : K × ℕ) → slice_get new i ≡ Some h
     → ((j : ℕ) × (slice_get old j ≡ Some h)) ⊎ (h ≡ hint)
+
+-- a number of places for hints at the groups of this many slots: none, or a power of two that is at most 16384 and at
+-- most the number of slots
+abbrev pub ArePlaces : ℕ → ℕ → Type 0
+ArePlaces count places = (places ≡ 0) ⊎ (IsPowerOfTwo places × (places ≤ 2 ^ 14) × (places ≤ count))

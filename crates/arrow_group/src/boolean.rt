@@ -8,8 +8,9 @@ use crate::grouper::{Groups, group_slots};
 use arrow_boolean::BooleanArray;
 use arrow_types::error::Error;
 use std::alloc::Global;
+use std::hash::{BuildHasher, BuildHasherDefault, FoldHasher};
 
-/// Returns the groups of equal slots, three at the most. The null slots are one group.
+/// Groups equal slots, numbered in the order of their first slots: at most three groups, of true, false and null slots.
 ///
 /// # Errors
 /// `OutOfMemory` if an allocation fails.
@@ -17,5 +18,21 @@ pub fn group_boolean(alloc: Global, array: &BooleanArray) -> Result<Groups, Erro
     ensures ok { IfOk result (λ groups. IsGrouping (slots_of array.now) groups.first.items groups.indices.items) }
     ensures err { OnlyOutOfMemory result }
 {
-    Ok(group_slots(alloc, array)?)
+    group_boolean_with(alloc, BuildHasherDefault::<FoldHasher>::new(), array)
+}
+
+/// Groups equal slots as [`group_boolean`] does, but hashes them by `hashers`. This is for code that treats all types
+/// alike: random keys make no difference, since there are only three different slots.
+///
+/// # Errors
+/// `OutOfMemory` if an allocation fails.
+pub fn group_boolean_with<S: BuildHasher + Copy>(
+    alloc: Global,
+    hashers: S,
+    array: &BooleanArray,
+) -> Result<Groups, Error>
+    ensures ok { IfOk result (λ groups. IsGrouping (slots_of array.now) groups.first.items groups.indices.items) }
+    ensures err { OnlyOutOfMemory result }
+{
+    Ok(group_slots(alloc, hashers, array)?)
 }

@@ -15,7 +15,7 @@ use arrow_types::error::Error;
 use arrow_types::offset::Offset;
 use arrow_utf8::Utf8Array;
 use std::alloc::Global;
-use std::hash::{Hash, Hasher};
+use std::hash::{BuildHasher, BuildHasherDefault, FoldHasher, Hash, Hasher};
 
 /// The bytes of an item. They are hashed as those of a text are.
 #[derive(Clone, Copy)]
@@ -121,7 +121,10 @@ impl<'a, O: Offset> Keys<'a> for Utf8Array<O> {
     }
 }
 
-/// Returns the groups of equal slots. The null slots are one group.
+/// Groups equal slots, numbered in the order of their first slots. The null slots are one group.
+///
+/// Slots are hashed with fixed, public keys: whoever chooses the slots can make many of them have the same hash, and
+/// grouping these takes time quadratic in their number. For slots from outside use [`group_binary_with`].
 ///
 /// # Errors
 /// `OutOfMemory` if an allocation fails.
@@ -129,10 +132,31 @@ pub fn group_binary<O: Offset>(alloc: Global, array: &BinaryArray<O>) -> Result<
     ensures ok { IfOk result (λ groups. IsGrouping (slots_of array.now) groups.first.items groups.indices.items) }
     ensures err { OnlyOutOfMemory result }
 {
-    Ok(group_slots(alloc, array)?)
+    group_binary_with(alloc, BuildHasherDefault::<FoldHasher>::new(), array)
 }
 
-/// Returns the groups of equal slots. The null slots are one group.
+/// Groups equal slots as [`group_binary`] does, but hashes them by `hashers`, which changes only how long it takes.
+///
+/// This is for slots from outside: with the random keys of `RandomState::new(&rt)?` as `hashers`, nobody can choose
+/// many slots that have the same hash.
+///
+/// # Errors
+/// `OutOfMemory` if an allocation fails.
+pub fn group_binary_with<O: Offset, S: BuildHasher + Copy>(
+    alloc: Global,
+    hashers: S,
+    array: &BinaryArray<O>,
+) -> Result<Groups, Error>
+    ensures ok { IfOk result (λ groups. IsGrouping (slots_of array.now) groups.first.items groups.indices.items) }
+    ensures err { OnlyOutOfMemory result }
+{
+    Ok(group_slots(alloc, hashers, array)?)
+}
+
+/// Groups equal slots, numbered in the order of their first slots. The null slots are one group.
+///
+/// Slots are hashed with fixed, public keys: whoever chooses the slots can make many of them have the same hash, and
+/// grouping these takes time quadratic in their number. For slots from outside use [`group_utf8_with`].
 ///
 /// # Errors
 /// `OutOfMemory` if an allocation fails.
@@ -140,5 +164,23 @@ pub fn group_utf8<O: Offset>(alloc: Global, array: &Utf8Array<O>) -> Result<Grou
     ensures ok { IfOk result (λ groups. IsGrouping (slots_of array.now) groups.first.items groups.indices.items) }
     ensures err { OnlyOutOfMemory result }
 {
-    Ok(group_slots(alloc, array)?)
+    group_utf8_with(alloc, BuildHasherDefault::<FoldHasher>::new(), array)
+}
+
+/// Groups equal slots as [`group_utf8`] does, but hashes them by `hashers`, which changes only how long it takes.
+///
+/// This is for slots from outside: with the random keys of `RandomState::new(&rt)?` as `hashers`, nobody can choose
+/// many slots that have the same hash.
+///
+/// # Errors
+/// `OutOfMemory` if an allocation fails.
+pub fn group_utf8_with<O: Offset, S: BuildHasher + Copy>(
+    alloc: Global,
+    hashers: S,
+    array: &Utf8Array<O>,
+) -> Result<Groups, Error>
+    ensures ok { IfOk result (λ groups. IsGrouping (slots_of array.now) groups.first.items groups.indices.items) }
+    ensures err { OnlyOutOfMemory result }
+{
+    Ok(group_slots(alloc, hashers, array)?)
 }

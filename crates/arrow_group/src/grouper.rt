@@ -1,22 +1,22 @@
 //! Groups of slots of any type.
-ghost use Rattle.std.specs.Prelude.{◌≡◌, ◌<◌, ◌^◌, IfOk, OnOk};
+ghost use Rattle.std.specs.Prelude.{◌≡◌, ◌<◌, ◌^◌, IfOk, OnOk, length};
 ghost use Rattle.indexmap.specs.IndexSet.{insert_key};
-ghost use Rattle.arrow_group.specs.Grouping.{AddsHint, IsGrouping, NumbersKey, first_after, null_first, null_number, number_of};
+ghost use Rattle.arrow_group.specs.Grouping.{AddsHint, ArePlaces, IsGrouping, NumbersKey};
+ghost use Rattle.arrow_group.specs.Grouping.{first_after, null_first, null_number, number_of};
 
-use crate::hints::{add_hint, hinted_number, known_number};
+use crate::hints::{Progress, add_hint, hinted_number, known_number};
 use crate::keys::Keys;
 use indexmap::IndexSet;
 use std::alloc::{AllocError, Global};
-use std::hash::Hash;
+use std::hash::{BuildHasher, Hash};
 
-/// The groups of equal slots of an array. They are numbered from zero in the order of their first
-/// slots.
+/// The groups of equal slots of an array, numbered from zero in the order of their first slots.
 #[derive(Drop)]
 pub struct Groups {
-    /// The index of the first slot of each group.
+    /// The index of the first slot of each group, by the number of the group.
     pub first: Vec<usize>,
 
-    /// The number of the group of each slot.
+    /// The number of the group of each slot, by the index of the slot.
     pub indices: Vec<usize>,
 }
 
@@ -33,11 +33,11 @@ fn number_of(null: Option<usize>, index: usize) -> usize
     }
 }
 
-/// Adds a valid slot, which is at `place` of `count`, hints at its group, and returns the number of the
+/// Adds the valid slot at index `place` of `count` slots, writes a hint at its group, and returns the number of the
 /// group. `keys` has a key for each group but that of the null slots, whose number is `null`.
 #[inline(always)]
-fn add_key<K: Eq + Hash + Copy>(
-    keys: &mut IndexSet<K>,
+fn add_key<K: Eq + Hash + Copy, B: BuildHasher + Copy>(
+    keys: &mut IndexSet<K, B>,
     first: &mut Vec<usize>,
     hints: &mut Vec<(K, usize)>,
     null: Option<usize>,
@@ -45,10 +45,12 @@ fn add_key<K: Eq + Hash + Copy>(
     count: usize,
     key: K,
 ) -> Result<usize, AllocError>
+    requires { ArePlaces count (length hints.old.items) }
     ensures keys { OnOk result (keys.new.keys ≡ insert_key K.eq keys.old.keys key) }
     ensures first { OnOk result (first.new.items ≡ first_after K.eq keys.old.keys first.old.items place key) }
     ensures number { IfOk result (NumbersKey K.eq key keys.new.keys null) }
     ensures hints { IfOk result (λ number. AddsHint hints.old.items (key, number) hints.new.items) }
+    ensures places { OnOk result (ArePlaces count (length hints.new.items)) }
 {
     let (index, is_new) = keys.insert_full(key)?;
     // Below 2 ^ 63, which the sum in `number_of` needs.
@@ -57,11 +59,16 @@ fn add_key<K: Eq + Hash + Copy>(
         first.push(place)?;
     }
     let number = number_of(null, index);
-    add_hint(hints, groups, place, count, key, number)?;
+    let progress = Progress {
+        groups,
+        passed: place,
+        count,
+    };
+    add_hint(*keys.hasher(), hints, progress, key, number);
     Ok(number)
 }
 
-/// Adds a null slot, which is at `place`, and returns the number of its group.
+/// Adds the null slot at index `place`, and returns the number of its group.
 #[inline(always)]
 fn add_null(first: &mut Vec<usize>, null: Option<usize>, place: usize) -> Result<usize, AllocError>
     ensures first { OnOk result (first.new.items ≡ null_first null first.old.items place) }
@@ -75,10 +82,12 @@ fn add_null(first: &mut Vec<usize>, null: Option<usize>, place: usize) -> Result
     Ok(number)
 }
 
-/// Returns the groups of equal slots. Its state is in variables and not in a struct, since a call that
-/// grows one field of a struct makes the compiler load the others again.
-pub(crate) fn group_slots<'a, S: Keys<'a>>(
+/// Returns the groups of equal slots. Its state is in variables and not in a struct, since a call that grows one field
+/// of a struct makes the compiler load the others again. Keys are hashed by `hashers` alone, both in the set and for
+/// the hints, so `hashers` decides which keys collide.
+pub(crate) fn group_slots<'a, S: Keys<'a>, B: BuildHasher + Copy>(
     alloc: Global,
+    hashers: B,
     source: &'a S,
 ) -> Result<Groups, AllocError>
     ensures { IfOk result (λ groups. IsGrouping (S.slots source.now) groups.first.items groups.indices.items) }
@@ -86,12 +95,12 @@ pub(crate) fn group_slots<'a, S: Keys<'a>>(
     let count = source.count();
     let mut indices = Vec::with_capacity(alloc, count)?;
     let mut first = Vec::new(alloc);
-    let mut keys = IndexSet::new(alloc);
+    let mut keys = IndexSet::with_hasher(alloc, hashers);
     let mut hints = Vec::new(alloc);
     let mut null = None;
     for i in 0..count {
         let (key, is_valid) = source.row(i);
-        let hinted = hinted_number(&hints, key);
+        let hinted = hinted_number(hashers, &hints, key);
         let number = match known_number(is_valid, hinted, null) {
             Some(number) => number,
             None => {

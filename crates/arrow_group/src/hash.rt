@@ -17,7 +17,7 @@ use std::hash::{FoldHasher, Hash, Hasher};
 
 /// Returns the hash of a key.
 #[inline(always)]
-pub(crate) fn hash_key<K: Hash + Copy>(key: K) -> u64
+fn hash_key<K: Hash + Copy>(key: K) -> u64
     ensures { result ≡ hash_of (K.hash_input key) }
 {
     let mut state = FoldHasher::default();
@@ -46,8 +46,9 @@ fn hash_slots<'a, S: Keys<'a>>(alloc: Global, source: &'a S) -> Result<Vec<u64>,
     Ok(hashes)
 }
 
-/// Returns a hash for each slot, which depends on the slot alone: equal slots have equal hashes, and
-/// so do null ones. The result has no mask.
+/// Returns a hash for each slot, which depends on the slot alone: equal slots have equal hashes, and so do null ones.
+/// The result has no mask. The keys of the hash function are fixed and public, so whoever chooses the slots can make
+/// many of them have the same hash.
 ///
 /// # Errors
 /// `OutOfMemory` if an allocation fails.
@@ -61,8 +62,9 @@ pub fn hash_primitive<T: NativeType + Eq + Hash>(
     PrimitiveArray::from_vec(hash_slots(alloc, array)?)
 }
 
-/// Returns a hash for each slot, which depends on the slot alone: equal slots have equal hashes, and
-/// so do null ones. The result has no mask.
+/// Returns a hash for each slot, which depends on the slot alone: equal slots have equal hashes, and so do null ones.
+/// The result has no mask. The keys of the hash function are fixed and public, so whoever chooses the slots can make
+/// many of them have the same hash.
 ///
 /// # Errors
 /// `OutOfMemory` if an allocation fails.
@@ -73,8 +75,9 @@ pub fn hash_boolean(alloc: Global, array: &BooleanArray) -> Result<PrimitiveArra
     PrimitiveArray::from_vec(hash_slots(alloc, array)?)
 }
 
-/// Returns a hash for each slot, which depends on the slot alone: equal slots have equal hashes, and
-/// so do null ones. The hash is that of a text of the same bytes. The result has no mask.
+/// Returns a hash for each slot, which depends on the slot alone: equal slots have equal hashes, and so do null ones.
+/// The hash is that of a text of the same bytes. The result has no mask. The keys of the hash function are fixed and
+/// public, so whoever chooses the slots can make many of them have the same hash.
 ///
 /// # Errors
 /// `OutOfMemory` if an allocation fails.
@@ -88,8 +91,9 @@ pub fn hash_binary<O: Offset>(
     PrimitiveArray::from_vec(hash_slots(alloc, array)?)
 }
 
-/// Returns a hash for each slot, which depends on the slot alone: equal slots have equal hashes, and
-/// so do null ones. The result has no mask.
+/// Returns a hash for each slot, which depends on the slot alone: equal slots have equal hashes, and so do null ones.
+/// The result has no mask. The keys of the hash function are fixed and public, so whoever chooses the slots can make
+/// many of them have the same hash.
 ///
 /// # Errors
 /// `OutOfMemory` if an allocation fails.

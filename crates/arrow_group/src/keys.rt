@@ -22,10 +22,11 @@ pub(crate) trait Keys<'a> {
     /// The slots in order.
     ghost slots: { Self → List (Option Seen) };
 
-    /// What of a key is fed to the hash function.
+    /// What a key feeds to the hash function.
     ghost input: { Seen → List (List ℕ) };
 
-    /// Returns the number of slots. Keys are equal exactly if contracts see no difference.
+    /// Returns the number of slots. Its contract states besides that keys are equal exactly if what contracts see of
+    /// them is, and what of a key is hashed.
     fn count(&self) -> usize
         ensures count { result ≡ length (slots self.now) }
         ensures same { (x y : Self.Key) → Decides (Self.Key.eq x y) (seen x ≡ seen y) }

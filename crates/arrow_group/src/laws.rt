@@ -3,8 +3,8 @@
 ghost use Rattle.std.specs.Prelude.{◌≡◌, ◌<◌, All, length};
 ghost use Rattle.arrow_group.specs.Grouping.{ForGroupings};
 
-/// Groups meet the conditions of takes and aggregates: there is a number for each slot, each number is
-/// that of a group, and the first slots of the groups are slots.
+/// States that groups meet the conditions of takes and aggregates: each slot has the number of a group, each number is
+/// less than the number of groups, and the index of each group's first slot is in bounds.
 pub fn grouped_slots<A, S>()
     ensures count { ForGroupings A S (λ column first numbers. length numbers ≡ length column.rows) }
     ensures numbers { ForGroupings A S (λ column first numbers. All (λ g. g < length first) numbers) }

@@ -12,8 +12,8 @@ pub mod laws;
 mod primitive;
 mod refine;
 
-pub use boolean::group_boolean;
-pub use bytes::{group_binary, group_utf8};
+pub use boolean::{group_boolean, group_boolean_with};
+pub use bytes::{group_binary, group_binary_with, group_utf8, group_utf8_with};
 pub use grouper::Groups;
 pub use hash::{hash_binary, hash_boolean, hash_primitive, hash_utf8};
-pub use primitive::group_primitive;
+pub use primitive::{group_primitive, group_primitive_with};

@@ -7,7 +7,7 @@ use crate::grouper::{Groups, group_slots};
 use crate::keys::Keys;
 use arrow_types::error::Error;
 use std::alloc::Global;
-use std::hash::Hash;
+use std::hash::{BuildHasher, BuildHasherDefault, FoldHasher, Hash};
 
 /// The numbers of two groups for each row.
 #[derive(Clone, Copy)]
@@ -43,8 +43,11 @@ impl<'a, 'b> Keys<'a> for Pairs<'b> {
 }
 
 impl Groups {
-    /// Returns the groups of rows that are equal in both columns, of which these are the groups. A
-    /// table of more columns is grouped by refining the groups of the first by those of each other.
+    /// Groups the rows that are equal in two columns, given the groups of each column, which must have equally many
+    /// slots. A table of more columns is grouped by refining the groups of the first by those of each other column.
+    ///
+    /// Pairs of group numbers are hashed with fixed, public keys: whoever chooses the rows can make many of these pairs
+    /// have the same hash. For rows from outside use [`Groups::refine_with`].
     ///
     /// # Errors
     /// `OutOfMemory` if an allocation fails.
@@ -53,8 +56,27 @@ impl Groups {
         ensures ok { IfOk result (GroupsPairs self.now other.now) }
         ensures err { OnlyOutOfMemory result }
     {
+        self.refine_with(alloc, BuildHasherDefault::<FoldHasher>::new(), other)
+    }
+
+    /// Groups the rows that are equal in two columns as [`Groups::refine`] does, but hashes the pairs of group numbers
+    /// by `hashers`, which changes only how long it takes. This is for rows from outside, with the random keys of
+    /// `RandomState::new(&rt)?`.
+    ///
+    /// # Errors
+    /// `OutOfMemory` if an allocation fails.
+    pub fn refine_with<S: BuildHasher + Copy>(
+        &self,
+        alloc: Global,
+        hashers: S,
+        other: &Groups,
+    ) -> Result<Groups, Error>
+        requires { length self.now.indices.items ≡ length other.now.indices.items }
+        ensures ok { IfOk result (GroupsPairs self.now other.now) }
+        ensures err { OnlyOutOfMemory result }
+    {
         let left = self.indices.as_slice();
         let right = other.indices.as_slice();
-        Ok(group_slots(alloc, &Pairs { left, right })?)
+        Ok(group_slots(alloc, hashers, &Pairs { left, right })?)
     }
 }

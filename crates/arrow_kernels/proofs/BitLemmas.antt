@@ -13,7 +13,8 @@ use Rattle.std.proofs.lemmas.Option.{get_or_from_slice_get, slice_get-get_or, sl
 use Rattle.std.proofs.lemmas.Slice.Zip.{length-zip}
 use Rattle.arrow_memory.specs.Marks.{bits_of}
 use Rattle.arrow_memory.specs.Rows.{Row}
-use Rattle.arrow_bytes.specs.Selection.{set_in_both, where_set}
+use Rattle.arrow_column.specs.Combined.{set_in_both}
+use Rattle.arrow_bytes.specs.Selection.{where_set}
 use Rattle.arrow_kernels.proofs.ChoiceLemmas.{where-append, where-full}
 
 -- one more of a list

@@ -1,9 +1,10 @@
 -- What proofs of callers cite about kernels.
 
--- Some of a list, as a filter or keys choose them: what is said of each of these is said of each of the list first.
+-- Mapping a function over a list before items of it are selected, by a filter or by keys, is the same as mapping it
+-- after.
 pub use Rattle.arrow_kernels.proofs.ChoiceLemmas.{keys-map, where-map}
--- How many a filter asks for of its slots, and how many marks leave.
+-- The number of rows that a filter selects, and the number of items that marks select.
 pub use Rattle.arrow_kernels.proofs.LawLemmas.{length-asked, length-where}
--- The offsets and bytes that items have alone: those of one item more, that they lie within each other and cut out items of
--- the kind, and that they cut out these items again.
+-- Offsets and bytes of items alone: those of one item more, that the offsets lie within the bytes and cut out items of
+-- the kind, and that these are the same items.
 pub use Rattle.arrow_kernels.proofs.ItemLemmas.{bytes-more, cut-alone, items-are, offsets-more}

@@ -1,4 +1,4 @@
--- Lemmas about some elements of a list: those with a set mark, and those at the indexes that keys are.
+-- Lemmas about some elements of a list: those with a set mark, and those at keys.
 use Rattle.std.proofs.Common.{◌≡◌, ℕ, zero, suc, ◌+◌, ◌-◌, ◌<◌, ◌≤◌, ℤ, Bool, true, false, ◌&&◌, cond, IsTrue}
 use Rattle.std.proofs.Common.{if◌then◌else◌, List, [], ◌∷◌, ◌++◌, length, map, take, drop, get_or, slice_get}
 use Rattle.std.proofs.Common.{Option, Some, None, option_and_then, option_map, refl, zero-add, sym, subst, ap, ap₂}
@@ -20,7 +20,7 @@ use Rattle.arrow_column.specs.Column.{Column, ColumnWith, IsColumn, column_with,
 use Rattle.arrow_column.proofs.CallerLemmas.{column_again, slots_valid, valid_by_held}
 use Rattle.arrow_check.specs.Indexes.{in_bounds}
 use Rattle.arrow_bytes.specs.Selection.{asked, at_key, at_keys, column_of_rows, filtered, first_out_of_bounds}
-use Rattle.arrow_bytes.specs.Selection.{set_in_both}
+use Rattle.arrow_column.specs.Combined.{set_in_both}
 use Rattle.arrow_bytes.specs.Selection.{taken, where_set}
 
 -- ---- one more
@@ -71,7 +71,7 @@ where-gap marks xs i (suc d) clear =
     ∙ where-clear marks xs (i + d) (clear (i + d) (omega arith) (omega arith))
     ∙ where-gap marks xs i d (λ k low high. clear k low (omega arith))
 
--- the same up to a later place
+-- no item is selected between two places if all marks between them are clear
 pub where-gap-up : {X : Type 0} (marks : List Bool) (xs : List X) (i j : ℕ) → i ≤ j
     → ((k : ℕ) → i ≤ k → k < j → slice_get marks k ≡ Some false)
     → where_set (take j marks) (take j xs) ≡ where_set (take i marks) (take i xs)
@@ -90,7 +90,7 @@ where-next marks xs i j x e f up clear =
     ∙ where-gap marks xs (i + 1) (j - (i + 1)) (λ k low high. clear k low (omega arith))
     ∙ where-set marks xs i x e f
 
--- the same of a list that grows by what is asked for
+-- a list of the selected items below i becomes that below j, if the item at i is pushed and none after it is selected
 pub where-grown : {X : Type 0} (marks : List Bool) (xs : List X) (i j : ℕ) (x : X) (old new : List X)
     → slice_get marks i ≡ Some true → slice_get xs i ≡ Some x
     → i + 1 ≤ j → ((k : ℕ) → i + 1 ≤ k → k < j → slice_get marks k ≡ Some false)
@@ -138,7 +138,7 @@ keys-append number keys xs i n =
     ap (λ ks. at_keys number ks xs) (take-add i n keys)
     ∙ filter_map-append (λ key. at_key xs (number key)) (take i keys) (take n (drop i keys))
 
--- the same of a list that grows by what stands at the key's place
+-- a list of the elements at the first i keys becomes that at i + 1 by pushing the element at the next key
 pub keys-grown : {K X : Type 0} (number : K → ℤ) (keys : List K) (xs : List X) (i : ℕ) (key : K) (x : X)
     (old new : List X) → i < length keys → key ≡ get_or keys i key → at_key xs (number key) ≡ Some x
     → old ≡ at_keys number (take i keys) xs → new ≡ old ++ x ∷ [] → new ≡ at_keys number (take (i + 1) keys) xs

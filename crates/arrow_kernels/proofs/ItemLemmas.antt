@@ -51,7 +51,7 @@ offsets-push items item =
 pub bytes-push : (items : List (List ℕ)) (item : List ℕ) → concat (items ++ item ∷ []) ≡ concat items ++ item
 bytes-push items item = concat-append items (item ∷ []) ∙ ap (λ rest. concat items ++ rest) (append-nil item)
 
--- the same of offsets and bytes that were those of some items
+-- offsets and bytes of some items become those of one item more by pushing its end and its bytes
 pub offsets-more : (old new : List ℕ) (items : List (List ℕ)) (item : List ℕ) → old ≡ offsets_of 0 items
     → new ≡ old ++ (last_of old + length item) ∷ [] → new ≡ offsets_of 0 (items ++ item ∷ [])
 offsets-more old new items item was pushed = pushed ∙ ap (λ os. os ++ (last_of os + length item) ∷ []) was
@@ -185,7 +185,7 @@ pub cut-of-alone : (text : Bool) (items : List (List ℕ)) → AreItems text ite
     → CutItems text (offsets_of 0 items) (concat items)
 cut-of-alone text items all = (omega (arith, last-offset 0 items), subst (AreItems text) (sym (items-alone items)) all)
 
--- the same of offsets and bytes that are those of items
+-- offsets and bytes that are those of items alone pass the tests of a cut
 pub cut-alone : (text : Bool) (items : List (List ℕ)) (os bytes : List ℕ) → os ≡ offsets_of 0 items
     → bytes ≡ concat items → AreItems text items → CutItems text os bytes
 cut-alone text items os bytes e f all =

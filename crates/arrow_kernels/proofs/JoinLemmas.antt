@@ -33,7 +33,7 @@ joined-more f xs i x low read =
     ∙ flat_map-append f (take i xs) (x ∷ [])
     ∙ ap (λ ys. flat_map f (take i xs) ++ ys) (append-nil (f x))
 
--- the same of a list that grows by what is made of it
+-- a list of what is made of the first i elements becomes that of i + 1 by appending what is made of the next
 pub joined-grown : {X Y : Type 0} (f : X → List Y) (xs : List X) (i : ℕ) (x : X) (old new : List Y) → i < length xs
     → x ≡ get_or xs i x → old ≡ flat_map f (take i xs) → new ≡ old ++ f x → new ≡ flat_map f (take (i + 1) xs)
 joined-grown f xs i x old new low read was pushed = pushed ∙ ap (λ ys. ys ++ f x) was
@@ -139,7 +139,7 @@ makes-joined nothing first columns t values mask same e m =
     column.rows) columns)))
     ∙ needed first.data_type nothing true (flat_map (λ column. column.rows) columns) (λ f. cc)
 
--- the same as the concatenation of columns of which there is a first
+-- the concatenation under the first column's type, if there is one, is that of the columns
 pub concatenates : {A S : Type 0} (nothing : A) (columns : List (ColumnWith A S)) (first made : ColumnWith A S)
     → 0 < length columns → first ≡ get_or columns 0 first → made ≡ concatenated nothing first columns
     → Concatenates nothing columns made

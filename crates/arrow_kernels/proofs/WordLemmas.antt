@@ -186,7 +186,7 @@ where-room (false ∷ rows) (y ∷ xs) (suc i) x e f =
     let same : count_by not (false ∷ rows) ≡ 1 + count_by not rows = sum_by-cons (λ m. cond (not m) 1 0) false rows in
     omega (arith, same, where-room rows xs i x e f)
 
--- the same of a list of as many with room for all that is asked for
+-- a list of the selected items before a selected one has room left, if it has room for all that are selected
 pub room-left : {X : Type 0} (rows : List Bool) (xs kept : List X) (i len room : ℕ) (x : X)
     → slice_get rows i ≡ Some true → slice_get xs i ≡ Some x
     → kept ≡ where_set (take i rows) (take i xs) → len ≡ length kept → length rows ≤ room + count_by not rows

@@ -7,8 +7,8 @@ ghost use Rattle.arrow_column.specs.Column.{refused_growth};
 ghost use Rattle.arrow_bytes.specs.Pieces.{nothing_around};
 ghost use Rattle.arrow_bytes.specs.Selection.{Concatenates, concat_overflows};
 
-use crate::join::{join_truths, join_values, joined_length, joined_pieces};
-use crate::marks::join_masks;
+use crate::concat_parts::{concat_bits, concat_length, concat_pieces, concat_values};
+use crate::marks::concat_validity;
 use arrow_binary::BinaryArray;
 use arrow_boolean::BooleanArray;
 use arrow_byte_array::ByteArray;
@@ -33,8 +33,8 @@ pub fn concat_primitive<T: NativeType>(
     ensures ok { IfOk result (λ made. Concatenates tt arrays.now made) }
     ensures err { OnlyOutOfMemory result }
 {
-    let values = join_values(alloc, arrays)?;
-    let mask = join_masks(alloc, arrays)?;
+    let values = concat_values(alloc, arrays)?;
+    let mask = concat_validity(alloc, arrays)?;
     let data_type = arrays[0].data_type().clone()?;
     Ok(PrimitiveArray::new(data_type, Buffer::from_vec(values)?, mask))
 }
@@ -48,15 +48,15 @@ pub fn concat_boolean(alloc: Global, arrays: &[BooleanArray]) -> Result<BooleanA
     ensures ok { IfOk result (λ made. Concatenates tt arrays.now made) }
     ensures err { OnlyOutOfMemory result }
 {
-    let values = join_truths(alloc, arrays)?;
-    let mask = join_masks(alloc, arrays)?;
+    let values = concat_bits(alloc, arrays)?;
+    let mask = concat_validity(alloc, arrays)?;
     let data_type = arrays[0].data_type().clone()?;
     Ok(BooleanArray::new(data_type, values, mask))
 }
 
-/// Returns the slots of arrays whose items together end at most at the greatest offset, one array
-/// after the other. Items are not checked again: they are items of the kind where they are.
-fn joined_items<K: ByteKind, O: Offset>(
+/// Returns the slots of arrays whose items together end at most at the greatest offset, one array after the other.
+/// Items are not validated again, since each is an item of one of the arrays.
+fn concatenated_items<K: ByteKind, O: Offset>(
     alloc: Global,
     arrays: &[ByteArray<K, O>],
     room: usize,
@@ -65,8 +65,8 @@ fn joined_items<K: ByteKind, O: Offset>(
     ensures ok { IfOk result (λ made. Concatenates nothing_around arrays.now made) }
     ensures err { OnlyOutOfMemory result }
 {
-    let (offsets, bytes) = joined_pieces(alloc, arrays, room)?;
-    let mask = join_masks(alloc, arrays)?;
+    let (offsets, bytes) = concat_pieces(alloc, arrays, room)?;
+    let mask = concat_validity(alloc, arrays)?;
     let data_type = arrays[0].data_type().clone()?;
     Ok(ByteArray::new(data_type, offsets, bytes, mask))
 }
@@ -86,8 +86,8 @@ pub fn concat_items<K: ByteKind, O: Offset>(
         × Concatenates nothing_around arrays.now made) }
     ensures err { IfErr result (λ e. e ≡ refused_growth (concat_overflows O.most arrays.now)) }
 {
-    let room = joined_length(arrays)?;
-    joined_items(alloc, arrays, room)
+    let room = concat_length(arrays)?;
+    concatenated_items(alloc, arrays, room)
 }
 
 /// Returns the slots of the arrays, one array after the other, with the data type of the first.

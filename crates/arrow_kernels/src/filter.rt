@@ -6,8 +6,8 @@ ghost use Rattle.arrow_types.specs.Failures.{OnlyOutOfMemory};
 ghost use Rattle.arrow_bytes.specs.Pieces.{nothing_around};
 ghost use Rattle.arrow_bytes.specs.Selection.{filtered};
 
-use crate::asked::Asked;
-use crate::keep::{keep_marks, keep_mask, keep_values, kept_pieces};
+use crate::filter_mask::FilterMask;
+use crate::filter_parts::{filter_marks, filter_pieces, filter_validity, filter_values};
 use arrow_binary::BinaryArray;
 use arrow_boolean::BooleanArray;
 use arrow_byte_array::ByteArray;
@@ -33,9 +33,9 @@ pub fn filter_primitive<T: NativeType>(
     ensures ok { IfOk result (λ kept. kept ≡ filtered tt array.now filter.now) }
     ensures err { OnlyOutOfMemory result }
 {
-    let asked = Asked::of(alloc, filter)?;
-    let values = keep_values(alloc, array.values(), &asked)?;
-    let mask = keep_mask(alloc, array.validity(), &asked)?;
+    let selected = FilterMask::of(alloc, filter)?;
+    let values = filter_values(alloc, array.values(), &selected)?;
+    let mask = filter_validity(alloc, array.validity(), &selected)?;
     let data_type = array.data_type().clone()?;
     Ok(PrimitiveArray::new(data_type, values, mask))
 }
@@ -54,15 +54,15 @@ pub fn filter_boolean(
     ensures ok { IfOk result (λ kept. kept ≡ filtered tt array.now filter.now) }
     ensures err { OnlyOutOfMemory result }
 {
-    let asked = Asked::of(alloc, filter)?;
-    let values = keep_marks(alloc, array.values(), &asked)?;
-    let mask = keep_mask(alloc, array.validity(), &asked)?;
+    let selected = FilterMask::of(alloc, filter)?;
+    let values = filter_marks(alloc, array.values(), &selected)?;
+    let mask = filter_validity(alloc, array.validity(), &selected)?;
     let data_type = array.data_type().clone()?;
     Ok(BooleanArray::new(data_type, values, mask))
 }
 
-/// Returns the slots of `array` where `filter` is valid and true. Both must have equally many
-/// slots. Items are not checked again: some of the items of a kind are items of the kind.
+/// Returns the slots of `array` where `filter` is valid and true. Both must have equally many slots. Items are not
+/// validated again, since each is an item of `array`.
 ///
 /// # Errors
 /// `OutOfMemory` if an allocation fails.
@@ -75,9 +75,9 @@ pub fn filter_items<K: ByteKind, O: Offset>(
     ensures ok { IfOk result (λ kept. kept ≡ filtered nothing_around array.now filter.now) }
     ensures err { OnlyOutOfMemory result }
 {
-    let asked = Asked::of(alloc, filter)?;
-    let (offsets, bytes) = kept_pieces(alloc, array, &asked)?;
-    let mask = keep_mask(alloc, array.validity(), &asked)?;
+    let selected = FilterMask::of(alloc, filter)?;
+    let (offsets, bytes) = filter_pieces(alloc, array, &selected)?;
+    let mask = filter_validity(alloc, array.validity(), &selected)?;
     let data_type = array.data_type().clone()?;
     Ok(ByteArray::new(data_type, offsets, bytes, mask))
 }

@@ -25,7 +25,7 @@ pub(crate) fn extend_marks(joined: &mut MutableBitmap, marks: &Bitmap) -> Result
     joined.extend_from_range(marks, 0, marks.len())
 }
 
-/// Appends the marks of a mask, or without one as many set marks as there are slots.
+/// Appends the marks of a mask, or `slots` set marks if there is none.
 fn extend_mask(
     joined: &mut MutableBitmap,
     validity: Option<&Bitmap>,
@@ -119,7 +119,7 @@ impl<K: ByteKind, O: Offset> HasMarks for ByteArray<K, O> {
     }
 }
 
-/// Returns whether one of the slots is null.
+/// Returns whether a slot of an array is null.
 fn has_nulls<A: HasMarks>(arrays: &[A]) -> bool
     ensures { result ≡ not (list_all (λ mark. mark) (flat_map A.marks arrays.now)) }
 {
@@ -131,7 +131,7 @@ fn has_nulls<A: HasMarks>(arrays: &[A]) -> bool
     false
 }
 
-/// Returns the number of slots, or the greatest `usize` if it is above that.
+/// Returns the number of slots of all arrays, or `usize::MAX` if it does not fit.
 pub(crate) fn count_slots<A: HasMarks>(arrays: &[A]) -> usize
     ensures { result ≡ min (length (flat_map A.marks arrays.now)) (2 ^ 64 - 1) }
 {
@@ -142,8 +142,8 @@ pub(crate) fn count_slots<A: HasMarks>(arrays: &[A]) -> usize
     count
 }
 
-/// Returns the marks of the slots. Room is reserved once.
-fn join_marks<A: HasMarks>(alloc: Global, arrays: &[A]) -> Result<Bitmap, Error>
+/// Returns the marks of the slots of all arrays. Room is reserved once.
+fn concat_marks<A: HasMarks>(alloc: Global, arrays: &[A]) -> Result<Bitmap, Error>
     ensures ok { IfOk result (λ joined. joined ≡ flat_map A.marks arrays.now) }
     ensures err { OnlyOutOfMemory result }
 {
@@ -154,14 +154,17 @@ fn join_marks<A: HasMarks>(alloc: Global, arrays: &[A]) -> Result<Bitmap, Error>
     joined.freeze()
 }
 
-/// Returns the mask of the slots, which is held exactly if one of them is null. If no slot is null,
-/// none is made.
-pub(crate) fn join_masks<A: HasMarks>(alloc: Global, arrays: &[A]) -> Result<Option<Bitmap>, Error>
+/// Returns the mask of the slots of all arrays, which is held exactly if one of them is null. Allocates nothing if none
+/// is.
+pub(crate) fn concat_validity<A: HasMarks>(
+    alloc: Global,
+    arrays: &[A],
+) -> Result<Option<Bitmap>, Error>
     ensures ok { IfOk result (λ mask. mask ≡ mask_with_nulls (Some (flat_map A.marks arrays.now))) }
     ensures err { OnlyOutOfMemory result }
 {
     if !has_nulls(arrays) {
         return Ok(None);
     }
-    Ok(Some(join_marks(alloc, arrays)?))
+    Ok(Some(concat_marks(alloc, arrays)?))
 }

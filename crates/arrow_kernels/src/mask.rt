@@ -4,7 +4,7 @@ ghost use Rattle.arrow_column.specs.Masks.{mask_with_nulls};
 
 use arrow_memory::bitmap::Bitmap;
 
-/// Returns these marks as a mask if one of them is clear.
+/// Returns `marks` as a mask if one of them is clear, and no mask otherwise.
 pub fn needed_mask(marks: Bitmap) -> Option<Bitmap>
     ensures { result ≡ mask_with_nulls (Some marks) }
 {

@@ -33,8 +33,8 @@ pub(crate) fn run_end(word: u64, first: usize) -> usize
     first + (word >> first).trailing_ones() as usize
 }
 
-/// Returns whether runs of set bits have `length` bits on average, so that taking them run by run is faster than one by
-/// one. Only speed depends on the answer, so a contract has nothing to say.
+/// Returns whether runs of set bits have `length` bits or more on average, so that appending run by run is faster than
+/// row by row. It has no contract, since only speed depends on the result.
 #[inline(always)]
 pub(crate) fn has_long_runs(word: u64, length: u32) -> bool
     requires { 0 < length }

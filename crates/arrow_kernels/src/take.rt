@@ -1,7 +1,6 @@
-//! Takes: the rows at the indexes that keys are, in the order of the keys. Data types and stored
-//! values stay; the new array has no bytes around its slots, and holds a mask exactly if one of
-//! them is null. All keys are checked, and the lengths of all items added, before memory is
-//! allocated.
+//! Takes: the rows at keys, in the order of the keys. A key is the index of a row. Data types and stored values stay;
+//! the new array has no bytes around its slots, and holds a mask exactly if one of them is null. All keys are checked,
+//! and the lengths of all items added, before memory is allocated.
 ghost use Rattle.std.specs.Prelude.{◌≡◌, ⊤, length, None, IfOk, IfErr};
 ghost use Rattle.std.specs.Prelude.{MatchOption};
 ghost use Rattle.arrow_types.specs.Failures.{OnlyOutOfMemory};
@@ -9,7 +8,7 @@ ghost use Rattle.arrow_check.specs.Indexes.{AllInBounds, FailsAt};
 ghost use Rattle.arrow_bytes.specs.Pieces.{nothing_around};
 ghost use Rattle.arrow_bytes.specs.Selection.{first_out_of_bounds, taken, TakesItems, TakeRefused};
 
-use crate::pick::{items_length, pick_marks, pick_mask, pick_values, picked_pieces};
+use crate::take_parts::{items_length, take_marks, take_pieces, take_validity, take_values};
 use arrow_binary::BinaryArray;
 use arrow_boolean::BooleanArray;
 use arrow_byte_array::ByteArray;
@@ -27,8 +26,8 @@ use std::alloc::Global;
 /// Returns the slots of `array` at the keys.
 ///
 /// # Errors
-/// - `OutOfSpec` with the fault of the first key that is no index of a slot: it is negative or does
-///   not fit in a `usize`, or else it is not below the number of slots.
+/// - `OutOfSpec` for the first key that is out of bounds: it is negative, does not fit in a `usize`, or is not less
+///   than the number of slots.
 /// - `OutOfMemory` if an allocation fails.
 pub fn take_primitive<T: NativeType, K: IndexKey>(
     alloc: Global,
@@ -41,8 +40,8 @@ pub fn take_primitive<T: NativeType, K: IndexKey>(
 {
     let stored = array.values().as_slice();
     check_indexes(keys, stored.len())?;
-    let values = pick_values(alloc, stored, keys)?;
-    let mask = pick_mask(alloc, array.validity(), keys)?;
+    let values = take_values(alloc, stored, keys)?;
+    let mask = take_validity(alloc, array.validity(), keys)?;
     let data_type = array.data_type().clone()?;
     Ok(PrimitiveArray::new(data_type, Buffer::from_vec(values)?, mask))
 }
@@ -61,14 +60,14 @@ pub fn take_boolean<K: IndexKey>(
     ensures err { IfErr result (λ e. first_out_of_bounds K.number array.now keys.now ≡ None → e ≡ Error.OutOfMemory) }
 {
     check_indexes(keys, array.len())?;
-    let values = pick_marks(alloc, array.values(), keys)?;
-    let mask = pick_mask(alloc, array.validity(), keys)?;
+    let values = take_marks(alloc, array.values(), keys)?;
+    let mask = take_validity(alloc, array.validity(), keys)?;
     let data_type = array.data_type().clone()?;
     Ok(BooleanArray::new(data_type, values, mask))
 }
 
-/// Returns the slots of `array` at keys, all of which are indexes. Items are not checked again:
-/// some of the items of a kind are items of the kind.
+/// Returns the slots of `array` at keys, all of which are in bounds. Items are not validated again, since each is an
+/// item of `array`.
 fn taken_items<K: ByteKind, O: Offset, I: IndexKey>(
     alloc: Global,
     array: &ByteArray<K, O>,
@@ -79,8 +78,8 @@ fn taken_items<K: ByteKind, O: Offset, I: IndexKey>(
     ensures ok { IfOk result (λ made. made ≡ taken nothing_around I.number array.now keys.now) }
     ensures err { OnlyOutOfMemory result }
 {
-    let (offsets, bytes) = picked_pieces(alloc, array, keys, room)?;
-    let mask = pick_mask(alloc, array.validity(), keys)?;
+    let (offsets, bytes) = take_pieces(alloc, array, keys, room)?;
+    let mask = take_validity(alloc, array.validity(), keys)?;
     let data_type = array.data_type().clone()?;
     Ok(ByteArray::new(data_type, offsets, bytes, mask))
 }
@@ -88,8 +87,8 @@ fn taken_items<K: ByteKind, O: Offset, I: IndexKey>(
 /// Returns the slots of `array` at the keys.
 ///
 /// # Errors
-/// - `OutOfSpec` with the fault of the first key that is no index of a slot: it is negative or does
-///   not fit in a `usize`, or else it is not below the number of slots.
+/// - `OutOfSpec` for the first key that is out of bounds: it is negative, does not fit in a `usize`, or is not less
+///   than the number of slots.
 /// - Otherwise `Overflow` if the items together have more bytes than the greatest offset.
 /// - `OutOfMemory` if an allocation fails.
 pub fn take_items<K: ByteKind, O: Offset, I: IndexKey>(

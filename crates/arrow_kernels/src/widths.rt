@@ -1,6 +1,6 @@
-//! Arrays over offsets of one width as arrays over offsets of the other: the same rows with the
-//! same bytes around them, every offset the same number, of the default data type of the other
-//! width. Bytes and masks are shared, and text is not checked again.
+//! Conversions of arrays of bytes and text between offsets of 32 and of 64 bits. Rows, bytes and the numbers of the
+//! offsets stay, and the data type becomes the default one of the other width. Bytes and masks are shared, and text is
+//! not validated again.
 ghost use Rattle.std.specs.Prelude.{◌≡◌, false, true, IfOk, IfErr};
 ghost use Rattle.arrow_types.specs.Failures.{OnlyOutOfMemory};
 ghost use Rattle.arrow_column.specs.Column.{refused_growth, with_type};
@@ -17,7 +17,7 @@ use arrow_types::offset::Offset;
 use arrow_utf8::Utf8Array;
 use std::alloc::Global;
 
-/// Returns the same slots over offsets of another type, which have the same numbers.
+/// Returns the same slots over `offsets`, which have the same numbers as the offsets of `array`.
 ///
 /// # Errors
 /// `OutOfMemory` if an allocation fails.
@@ -33,8 +33,8 @@ fn over_offsets<K: ByteKind, O: Offset, P: Offset>(
     Ok(ByteArray::new(K::default_type(P::IS_LARGE), offsets, values, validity))
 }
 
-/// Returns the same slots over offsets of 64 bits. As every kernel it takes the allocator first; the
-/// offsets are allocated by that of the array.
+/// Returns the same slots over offsets of 64 bits. `_alloc` is a parameter as in every kernel, but the offsets are
+/// allocated by the allocator of the array.
 ///
 /// # Errors
 /// `OutOfMemory` if an allocation fails.
@@ -48,12 +48,11 @@ pub fn widen_items<K: ByteKind>(
     over_offsets(array, array.offsets().widen()?)
 }
 
-/// Returns the same slots over offsets of 32 bits. As every kernel it takes the allocator first; the
-/// offsets are allocated by that of the array.
+/// Returns the same slots over offsets of 32 bits. `_alloc` is a parameter as in every kernel, but the offsets are
+/// allocated by the allocator of the array.
 ///
 /// # Errors
-/// - `Overflow` if the last offset is above 2147483647, however many bytes lie after it; this is
-///   checked before memory is allocated.
+/// - `Overflow` if the last offset is above 2147483647; this is checked before memory is allocated.
 /// - `OutOfMemory` if an allocation fails.
 pub fn narrow_items<K: ByteKind>(
     _alloc: Global,

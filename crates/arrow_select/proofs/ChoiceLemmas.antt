@@ -10,7 +10,7 @@ use Rattle.std.proofs.lemmas.Slice.Zip.{length-zip}
 use Rattle.arrow_memory.specs.Marks.{bits_of}
 use Rattle.arrow_memory.specs.Rows.{Row, slot}
 use Rattle.arrow_compute.proofs.CallerLemmas.{and_bit, not_bit, or_bit}
-use Rattle.arrow_select.specs.Selects.{chosen_slot, chosen_slots, chosen_values, marks_shown, mask_shown}
+use Rattle.arrow_select.specs.Selects.{chosen_slot, chosen_slots, chosen_values, mask_shown}
 use Rattle.arrow_select.proofs.ShownLemmas.{StoresShown}
 
 -- ---- bits
@@ -170,7 +170,7 @@ module _ {X : Type 0} where
       → slice_get (map (λ (row : Row Bool). row.1) ps) i ≡ Some m
       → slice_get (map (λ (row : Row X). row.1) xs) i ≡ Some a
       → slice_get (map (λ (row : Row X). row.1) ys) i ≡ Some b
-      → slice_get (marks_shown (chosen_slots (map slot ps) (map slot xs) (map slot ys))) i
+      → slice_get (map is_some (chosen_slots (map slot ps) (map slot xs) (map slot ys))) i
       ≡ Some (m && (if t then a else b))
   chosen-mark-at [] xs ys i t m a b e f g h = absurd (cc)
   chosen-mark-at (p ∷ ps) [] ys i t m a b e f g h = absurd (cc)
@@ -191,12 +191,12 @@ module _ {X : Type 0} where
   -- no slot of valid ones is null
   all-chosen : (ps : List (Row Bool)) (xs ys : List (Row X)) → IsTrue (list_all (λ (row : Row Bool). row.1) ps)
       → IsTrue (list_all (λ (row : Row X). row.1) xs) → IsTrue (list_all (λ (row : Row X). row.1) ys)
-      → list_all (λ mark. mark) (marks_shown (chosen_slots (map slot ps) (map slot xs) (map slot ys))) ≡ true
+      → list_all (λ mark. mark) (map is_some (chosen_slots (map slot ps) (map slot xs) (map slot ys))) ≡ true
   all-chosen [] xs ys p x y = refl
   all-chosen (p ∷ ps) [] ys e x y = refl
   all-chosen (p ∷ ps) (x ∷ xs) [] e f y = refl
   all-chosen ((t, true) ∷ ps) ((v, true) ∷ xs) ((w, true) ∷ ys) e f g =
-      ap (λ mark. mark && list_all (λ m. m) (marks_shown (chosen_slots (map slot ps) (map slot xs) (map slot ys))))
+      ap (λ mark. mark && list_all (λ m. m) (map is_some (chosen_slots (map slot ps) (map slot xs) (map slot ys))))
       (shown-choice t v w) ∙ all-chosen ps xs ys e f g
   all-chosen ((t, false) ∷ ps) (x ∷ xs) (y ∷ ys) e f g = absurd (true≢false (sym e))
   all-chosen ((t, true) ∷ ps) ((v, false) ∷ xs) (y ∷ ys) e f g = absurd (true≢false (sym f))
@@ -207,7 +207,7 @@ module _ {X : Type 0} where
       → IsTrue (list_all (λ (row : Row X). row.1) xs) → IsTrue (list_all (λ (row : Row X). row.1) ys)
       → None ≡ mask_shown (chosen_slots (map slot ps) (map slot xs) (map slot ys))
   none-chosen ps xs ys e f g =
-      let marks = marks_shown (chosen_slots (map slot ps) (map slot xs) (map slot ys)) in
+      let marks = map is_some (chosen_slots (map slot ps) (map slot xs) (map slot ys)) in
       sym (ap (λ b. if b then None else Some marks) (all-chosen ps xs ys e f g))
 
   pub length-slots : (ps : List (Row Bool)) (xs ys : List (Row X))
@@ -220,7 +220,7 @@ module _ {X : Type 0} where
       ∙ ap₂ min (length-map xs slot) (length-map ys slot))
 
   pub length-marks : (ps : List (Row Bool)) (xs ys : List (Row X))
-      → length (marks_shown (chosen_slots (map slot ps) (map slot xs) (map slot ys)))
+      → length (map is_some (chosen_slots (map slot ps) (map slot xs) (map slot ys)))
       ≡ min (length ps) (min (length xs) (length ys))
   length-marks ps xs ys =
       length-map (chosen_slots (map slot ps) (map slot xs) (map slot ys)) is_some ∙ length-slots ps xs ys

@@ -8,7 +8,7 @@ use Rattle.arrow_types.specs.IndexKey.{index_of}
 use Rattle.arrow_memory.specs.Rows.{Row, slot}
 use Rattle.arrow_column.specs.Masks.{mask_with_nulls}
 use Rattle.arrow_bytes.specs.Selection.{at_key}
-use Rattle.arrow_select.specs.Selects.{marks_shown, slot_at_key, slots_at_keys, values_at_keys}
+use Rattle.arrow_select.specs.Selects.{slot_at_key, slots_at_keys, values_at_keys}
 use Rattle.arrow_select.proofs.ShownLemmas.{StoresShown}
 
 module _ {X : Type 0} where
@@ -70,7 +70,7 @@ module _ {K X : Type 0} (number : K → ℤ) (rows : List (Row X)) where
   -- the marks at keys are those of the result
   pub marks-taken : (keys : List (Row K))
       → map (λ (row : Row K). row.1 && unwrap_or (at_key (map (λ (r : Row X). r.1) rows) (number row.0)) false) keys
-      ≡ marks_shown (slots_at_keys number (map slot rows) (map slot keys))
+      ≡ map is_some (slots_at_keys number (map slot rows) (map slot keys))
   marks-taken [] = refl
   marks-taken ((key, true) ∷ keys) = ap₂ (λ m ms. m ∷ ms) (mark-at rows (index_of (number key))) (marks-taken keys)
   marks-taken ((key, false) ∷ keys) = ap (λ ms. false ∷ ms) (marks-taken keys)
@@ -78,7 +78,7 @@ module _ {K X : Type 0} (number : K → ℤ) (rows : List (Row X)) where
   -- keys in bounds of an array without a null
   pub marks-bare : (keys : List (Row K)) → IsTrue (list_all (λ (row : Row X). row.1) rows)
       → All (λ key. IsSomeAnd (index_of (number key)) (λ i. i < length rows)) (filter_map slot keys)
-      → map (λ (row : Row K). row.1) keys ≡ marks_shown (slots_at_keys number (map slot rows) (map slot keys))
+      → map (λ (row : Row K). row.1) keys ≡ map is_some (slots_at_keys number (map slot rows) (map slot keys))
   marks-bare [] valid all = refl
   marks-bare ((key, true) ∷ keys) valid all =
       ap₂ (λ m ms. m ∷ ms)

@@ -5,7 +5,8 @@ use Rattle.std.specs.List.{zip}
 use Rattle.std.proofs.lemmas.List.{length-map}
 use Rattle.std.proofs.lemmas.Slice.Zip.{length-zip}
 use Rattle.arrow_memory.specs.Rows.{Row, slot}
-use Rattle.arrow_select.specs.Selects.{equal_values, marks_shown, null_if_equal, slots_null_if}
+use Rattle.arrow_column.specs.Combined.{of_pairs}
+use Rattle.arrow_select.specs.Selects.{null_if_equal, slots_null_if}
 use Rattle.arrow_select.proofs.ShownLemmas.{StoresShown}
 
 shown-if : {X : Type 0} (b : Bool) (x : X) → is_some (if b then None else Some x) ≡ not b
@@ -27,8 +28,8 @@ module _ {X : Type 0} (same : X → X → Bool) where
   -- the mark of a slot of the result, by the marks of both slots and whether their stored values are equal
   pub differing-at : (xs ys : List (Row X)) (i : ℕ) (m n e : Bool)
       → slice_get (map (λ (row : Row X). row.1) xs) i ≡ Some m → slice_get (map (λ (row : Row X). row.1) ys) i ≡ Some n
-      → slice_get (equal_values same (map (λ (row : Row X). row.0) xs) (map (λ (row : Row X). row.0) ys)) i ≡ Some e
-      → slice_get (marks_shown (slots_null_if same (map slot xs) (map slot ys))) i ≡ Some (m && not (n && e))
+      → slice_get (of_pairs same (map (λ (row : Row X). row.0) xs) (map (λ (row : Row X). row.0) ys)) i ≡ Some e
+      → slice_get (map is_some (slots_null_if same (map slot xs) (map slot ys))) i ≡ Some (m && not (n && e))
   differing-at [] ys i m n e first second third = absurd (cc)
   differing-at (x ∷ xs) [] i m n e first second third = absurd (cc)
   differing-at ((v, p) ∷ xs) ((w, q) ∷ ys) zero m n e first second third =
@@ -40,17 +41,17 @@ module _ {X : Type 0} (same : X → X → Bool) where
   differing-at (x ∷ xs) (y ∷ ys) (suc i) m n e first second third = differing-at xs ys i m n e first second third
 
   pub length-differing : (xs ys : List (Row X))
-      → length (marks_shown (slots_null_if same (map slot xs) (map slot ys))) ≡ min (length xs) (length ys)
+      → length (map is_some (slots_null_if same (map slot xs) (map slot ys))) ≡ min (length xs) (length ys)
   length-differing xs ys =
       length-map (slots_null_if same (map slot xs) (map slot ys)) is_some
       ∙ length-map (zip (map slot xs) (map slot ys)) (λ (pair : Option X × Option X). null_if_equal same pair.0 pair.1)
       ∙ length-zip (map slot xs) (map slot ys) ∙ ap₂ min (length-map xs slot) (length-map ys slot)
 
-  pub length-equal-values : (xs ys : List X) → length (equal_values same xs ys) ≡ min (length xs) (length ys)
+  pub length-equal-values : (xs ys : List X) → length (of_pairs same xs ys) ≡ min (length xs) (length ys)
   length-equal-values xs ys = length-map (zip xs ys) (λ (pair : X × X). same pair.0 pair.1) ∙ length-zip xs ys
 
   pub length-equal : (xs ys : List (Row X))
-      → length (equal_values same (map (λ (row : Row X). row.0) xs) (map (λ (row : Row X). row.0) ys))
+      → length (of_pairs same (map (λ (row : Row X). row.0) xs) (map (λ (row : Row X). row.0) ys))
       ≡ min (length xs) (length ys)
   length-equal xs ys =
       length-equal-values (map (λ (row : Row X). row.0) xs) (map (λ (row : Row X). row.0) ys)

@@ -6,7 +6,8 @@ use Rattle.std.proofs.lemmas.List.{length-map}
 use Rattle.arrow_types.specs.Types.{LogicalType}
 use Rattle.arrow_memory.specs.Rows.{FitsMask, Row, slot}
 use Rattle.arrow_column.specs.Column.{ColumnWith, all_valid, column_with, stored_values, with_mask}
-use Rattle.arrow_select.specs.Selects.{MakesSlots, marks_shown, mask_shown}
+use Rattle.arrow_column.specs.Combined.{MakesSlots}
+use Rattle.arrow_select.specs.Selects.{mask_shown}
 
 -- stored values are what slots show, each at its place; what is stored of a null may be anything
 abbrev pub StoresShown : {X : Type 0} → List X → List (Option X) → Type 0
@@ -24,17 +25,17 @@ stores-length (v ∷ vs) (Some x ∷ slots) stores = ap (λ n. suc n) (stores-le
 stores-length (v ∷ vs) (None ∷ slots) stores = ap (λ n. suc n) (stores-length vs slots stores)
 
 masked-slots : {X : Type 0} (vs : List X) (slots : List (Option X)) → StoresShown vs slots
-    → map slot (zip vs (marks_shown slots)) ≡ slots
+    → map slot (zip vs (map is_some slots)) ≡ slots
 masked-slots [] [] stores = refl
 masked-slots [] (shown ∷ slots) stores = absurd stores
 masked-slots (v ∷ vs) [] stores = absurd stores
 masked-slots (v ∷ vs) (Some x ∷ slots) stores =
-    ap (λ w. Some w ∷ map slot (zip vs (marks_shown slots))) stores.0
+    ap (λ w. Some w ∷ map slot (zip vs (map is_some slots))) stores.0
     ∙ ap (λ rest. Some x ∷ rest) (masked-slots vs slots stores.1)
 masked-slots (v ∷ vs) (None ∷ slots) stores = ap (λ rest. None ∷ rest) (masked-slots vs slots stores)
 
 bare-slots : {X : Type 0} (vs : List X) (slots : List (Option X)) → StoresShown vs slots
-    → list_all (λ mark. mark) (marks_shown slots) ≡ true → map slot (map (λ value. (value, true)) vs) ≡ slots
+    → list_all (λ mark. mark) (map is_some slots) ≡ true → map slot (map (λ value. (value, true)) vs) ≡ slots
 bare-slots [] [] stores valid = refl
 bare-slots [] (shown ∷ slots) stores valid = absurd stores
 bare-slots (v ∷ vs) [] stores valid = absurd stores
@@ -44,7 +45,7 @@ bare-slots (v ∷ vs) (Some x ∷ slots) stores valid =
 bare-slots (v ∷ vs) (None ∷ slots) stores valid = cc
 
 masked-valid : {X : Type 0} (vs : List X) (slots : List (Option X)) → StoresShown vs slots
-    → list_all (λ (row : Row X). row.1) (zip vs (marks_shown slots)) ≡ list_all (λ mark. mark) (marks_shown slots)
+    → list_all (λ (row : Row X). row.1) (zip vs (map is_some slots)) ≡ list_all (λ mark. mark) (map is_some slots)
 masked-valid [] [] stores = refl
 masked-valid [] (shown ∷ slots) stores = absurd stores
 masked-valid (v ∷ vs) [] stores = absurd stores
@@ -58,9 +59,9 @@ bare-valid (v ∷ vs) = bare-valid vs
 module _ {A X : Type 0} (t : LogicalType) (around : A) (vs : List X) (slots : List (Option X))
     (stores : StoresShown vs slots) where
   abbrev made_if : Bool → ColumnWith A X
-  made_if b = column_with t around vs (if b then None else Some (marks_shown slots))
+  made_if b = column_with t around vs (if b then None else Some (map is_some slots))
 
-  makes-if : (b : Bool) → list_all (λ mark. mark) (marks_shown slots) ≡ b → MakesSlots t slots (made_if b)
+  makes-if : (b : Bool) → list_all (λ mark. mark) (map is_some slots) ≡ b → MakesSlots t slots (made_if b)
   makes-if true valid = record {
     data_type = refl;
     slots = bare-slots vs slots stores valid;
@@ -73,10 +74,10 @@ module _ {A X : Type 0} (t : LogicalType) (around : A) (vs : List X) (slots : Li
   }
 
   pub makes-shown : MakesSlots t slots (column_with t around vs (mask_shown slots))
-  makes-shown = makes-if (list_all (λ mark. mark) (marks_shown slots)) refl
+  makes-shown = makes-if (list_all (λ mark. mark) (map is_some slots)) refl
 
 fits-if : {X : Type 0} (vs : List X) (slots : List (Option X)) → StoresShown vs slots → (b : Bool)
-    → FitsMask vs (if b then None else Some (marks_shown slots))
+    → FitsMask vs (if b then None else Some (map is_some slots))
 fits-if vs slots stores true = tt
 fits-if vs slots stores false = length-map slots is_some ∙ sym (stores-length vs slots stores)
 
@@ -85,7 +86,7 @@ pub fits-shown : {X : Type 0} (slots : List (Option X)) (vs ws : List X) (mask :
     → mask ≡ mask_shown slots → StoresShown ws slots → FitsMask vs mask
 fits-shown slots vs ws mask e f stores =
     subst (λ xs. FitsMask xs mask) (sym e) (subst (λ m. FitsMask ws m) (sym f)
-    (fits-if ws slots stores (list_all (λ mark. mark) (marks_shown slots))))
+    (fits-if ws slots stores (list_all (λ mark. mark) (map is_some slots))))
 
 pub made-shown : {A X : Type 0} (t u : LogicalType) (around : A) (slots : List (Option X)) (vs ws : List X)
     (mask : Option (List Bool)) (made : ColumnWith A X) → made ≡ column_with t around vs mask → t ≡ u → vs ≡ ws
@@ -96,7 +97,7 @@ made-shown t u around slots vs ws mask made is same e f stores =
     ∙ ap (λ m. column_with u around ws m) f))
     (makes-shown u around ws slots stores)
 
--- the same stored values under a mask that is that of slots
+-- the mask of slots has as many marks as an equal column has rows
 pub fits-rows : {A X : Type 0} (column copy : ColumnWith A X) (slots : List (Option X)) (mask : Option (List Bool))
     → copy ≡ column → mask ≡ mask_shown slots → StoresShown (stored_values column) slots
     → IfSome mask (λ marks. length marks ≡ length copy.rows)

@@ -38,9 +38,9 @@ struct EqualNumbers<'a, T> {
 }
 
 impl<'a, T: NativeType> Marks for EqualNumbers<'a, T> {
-    ghost use Rattle.arrow_select.specs.Selects.{equal_values};
+    ghost use Rattle.arrow_column.specs.Combined.{of_pairs};
 
-    ghost marks = { λ pairs. equal_values T.eq pairs.lhs.now pairs.rhs.now };
+    ghost marks = { λ pairs. of_pairs T.eq pairs.lhs.now pairs.rhs.now };
 
     #[inline(always)]
     fn len(&self) -> usize {

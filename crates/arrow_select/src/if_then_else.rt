@@ -5,7 +5,8 @@ ghost use Rattle.std.specs.Int.{bit_at};
 ghost use Rattle.std.specs.Vec.{vec_capacity};
 ghost use Rattle.arrow_memory.specs.Marks.{bits_of};
 ghost use Rattle.arrow_types.specs.Failures.{OnlyOutOfMemory};
-ghost use Rattle.arrow_select.specs.Selects.{MakesItems, MakesSlots, RefusesItems, chosen_values, mask_shown};
+ghost use Rattle.arrow_column.specs.Combined.{MakesSlots};
+ghost use Rattle.arrow_select.specs.Selects.{MakesItems, RefusesItems, chosen_values, mask_shown};
 ghost use Rattle.arrow_select.specs.Selects.{slots_chosen};
 
 use crate::items::{ItemSource, collect_items, shown_item};
@@ -34,9 +35,10 @@ struct ChosenMarks<'a, A> {
 }
 
 impl<'a, A: Array> MarkWords for ChosenMarks<'a, A> {
-    ghost use Rattle.arrow_select.specs.Selects.{marks_shown, slots_chosen};
+    ghost use Rattle.std.specs.Prelude.{is_some, map};
+    ghost use Rattle.arrow_select.specs.Selects.{slots_chosen};
 
-    ghost marks = { λ chosen. marks_shown
+    ghost marks = { λ chosen. map is_some
         (slots_chosen chosen.predicate.now (A.column chosen.lhs.now) (A.column chosen.rhs.now)) };
 
     #[inline(always)]

@@ -3,7 +3,8 @@
 ghost use Rattle.std.specs.Prelude.{◌≡◌, length, nat_eq, IfErr, IfOk};
 ghost use Rattle.std.specs.Cmp.Lexicographic.{pointwise};
 ghost use Rattle.arrow_types.specs.Failures.{OnlyOutOfMemory};
-ghost use Rattle.arrow_select.specs.Selects.{MakesItems, MakesSlots, RefusesItems, mask_shown, slots_differing};
+ghost use Rattle.arrow_column.specs.Combined.{MakesSlots};
+ghost use Rattle.arrow_select.specs.Selects.{MakesItems, RefusesItems, mask_shown, slots_differing};
 
 use crate::equal::EqualWords;
 use crate::masks::{collect_mask, differing_bits};
@@ -28,9 +29,10 @@ struct DifferingMarks<'a, A> {
 }
 
 impl<'a, A: EqualWords> MarkWords for DifferingMarks<'a, A> {
-    ghost use Rattle.arrow_select.specs.Selects.{marks_shown, slots_differing};
+    ghost use Rattle.std.specs.Prelude.{is_some, map};
+    ghost use Rattle.arrow_select.specs.Selects.{slots_differing};
 
-    ghost marks = { λ pair. marks_shown
+    ghost marks = { λ pair. map is_some
         (slots_differing A.same (A.Array.column pair.lhs.now) (A.Array.column pair.rhs.now)) };
 
     #[inline(always)]

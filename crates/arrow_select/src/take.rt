@@ -5,7 +5,8 @@ ghost use Rattle.arrow_types.specs.Failures.{OnlyOutOfMemory};
 ghost use Rattle.arrow_types.specs.IndexKey.{index_of};
 ghost use Rattle.arrow_check.specs.Indexes.{AllInBounds, FailsAt};
 ghost use Rattle.arrow_bytes.specs.Selection.{at_key};
-ghost use Rattle.arrow_select.specs.Selects.{ItemsNotTaken, MakesItems, MakesSlots, first_bad_shown, keys_shown};
+ghost use Rattle.arrow_column.specs.Combined.{MakesSlots};
+ghost use Rattle.arrow_select.specs.Selects.{ItemsNotTaken, MakesItems, first_bad_shown, keys_shown};
 ghost use Rattle.arrow_select.specs.Selects.{mask_shown, slots_taken, values_at_keys};
 
 use crate::items::{ItemSource, collect_items, shown_item};
@@ -29,8 +30,8 @@ use arrow_types::offset::Offset;
 use arrow_utf8::Utf8Array;
 use std::alloc::Global;
 
-/// Returns the index that a key gives, without a branch: `usize::MAX`, which is the index of no slot,
-/// if it gives none.
+/// Returns a key as an index, without a branch: `usize::MAX`, which is out of bounds of every array, if the key is
+/// negative or does not fit in a `usize`.
 #[inline(always)]
 fn index_of_key<K: IndexKey>(key: &K) -> usize
     ensures { result ≡ unwrap_or (index_of (K.number key.now)) (2 ^ 64 - 1) }

@@ -1,4 +1,4 @@
--- Entries that are sorted, and the indexes that they give.
+-- Pairs of a value and its index that are sorted, and the indexes that they give.
 use Rattle.std.proofs.Common.{◌≡◌, ◌&&◌, ◌∙◌, ℕ, ◌+◌, ◌-◌, ◌<◌, ◌≤◌, ◌⊎◌, Bool, true, false, cond, if◌then◌else◌, not, List, [], ◌∷◌, ◌++◌, map, length, get_or, Option, Some, None, is_some, option_map, slice_get, refl, ap, ap₂, sym, subst, arith, zero-add, inl, inr, true≢false, length-append}
 use Rattle.std.specs.List.{All, filter, range_with_len}
 use Rattle.std.specs.List.Sorted.{IsPermutation, IsSorted, IsSortedBy, IsStableBy, IsStrictlyIncreasing}
@@ -14,28 +14,28 @@ use Rattle.std.proofs.lemmas.List.Kept.{IsStrictlyIncreasing-filter}
 use Rattle.std.proofs.lemmas.List.Sorted.{All-permutation, IsPermutation-append_comm, IsPermutation-append_left, IsPermutation-filter_both, IsPermutation-map, IsPermutation-trans, ranks_by, ties_stay_sorted}
 use Rattle.std.proofs.lemmas.Option.{get_or_from_slice_get}
 use Rattle.arrow_sort.specs.declared.options.SortOptions.{SortOptions}
-use Rattle.arrow_sort.specs.Entries.{PushesEntry, SplitsSlots, by_index, entry_order, entry_order_by, first_nulls, is_null_at, is_valid_at}
+use Rattle.arrow_sort.specs.IndexedValues.{PushesPair, SplitsSlots, by_index, pair_order, pair_order_by, first_nulls, is_null_at, is_valid_at}
 use Rattle.arrow_types.specs.Types.{LogicalType, plain, uint64}
 use Rattle.arrow_column.specs.Column.{Column, column_of_parts, stored_values}
 use Rattle.arrow_sort.specs.Sort.{AreSorted, HoldsSorted, SortsIndexes, index_order, slot_at, slot_order}
 
--- entries in the order of their indexes that are sorted by their values, and stay so where these are equal
+-- pairs in the order of their indexes that are sorted by their values, and stay so where these are equal
 module _ {V : Type 0} (cmp : V → V → Ordering) (total : IsTotalOrder cmp) where
   abbrev by_value : V × ℕ → V × ℕ → Bool
   by_value x y = is_lt (cmp x.0 y.0)
 
   pub values-order : IsStrictWeakOrder by_value
-  values-order = ranks_by total (λ (entry : V × ℕ). entry.0)
+  values-order = ranks_by total (λ (pair : V × ℕ). pair.0)
 
   indexes-order : IsStrictWeakOrder {X = V × ℕ} by_index
-  indexes-order = ranks_by nat_cmp_total (λ (entry : V × ℕ). entry.1)
+  indexes-order = ranks_by nat_cmp_total (λ (pair : V × ℕ). pair.1)
 
-  pub stable-entries : (xs ys : List (V × ℕ)) → IsSortedBy by_index xs → IsSortedBy by_value ys
-      → IsStableBy by_value xs ys → IsSorted (entry_order cmp) ys
-  stable-entries xs ys rising sorted stable k d low high = by-order (cmp (get_or ys (k + 1) d).0 (get_or ys k d).0) refl
+  pub stable-pairs : (xs ys : List (V × ℕ)) → IsSortedBy by_index xs → IsSortedBy by_value ys
+      → IsStableBy by_value xs ys → IsSorted (pair_order cmp) ys
+  stable-pairs xs ys rising sorted stable k d low high = by-order (cmp (get_or ys (k + 1) d).0 (get_or ys k d).0) refl
     where
       by-order : (o : Ordering) → cmp (get_or ys (k + 1) d).0 (get_or ys k d).0 ≡ o
-          → is_lt (entry_order cmp (get_or ys (k + 1) d) (get_or ys k d)) ≡ false
+          → is_lt (pair_order cmp (get_or ys (k + 1) d) (get_or ys k d)) ≡ false
       by-order Less e = absurd (true≢false (sym (ap is_lt e) ∙ sorted k d low high))
       by-order Greater e =
           ap (λ o. is_lt (ordering_then o (nat_cmp (get_or ys (k + 1) d).1 (get_or ys k d).1))) e
@@ -45,13 +45,13 @@ module _ {V : Type 0} (cmp : V → V → Ordering) (total : IsTotalOrder cmp) wh
           (ap₂ (λ p q. not (is_lt p) && not (is_lt q))
           (tied_back total (get_or ys (k + 1) d).0 (get_or ys k d).0 e) e)
 
--- the order of entries is one
-pub entries-weak : {V : Type 0} (cmp : V → V → Ordering) → IsTotalOrder cmp → (descending : Bool)
-    → IsStrictWeakOrder (λ x y. is_lt (entry_order_by descending cmp x y))
-entries-weak cmp total true =
-    ranks_by (then_total (on_total (λ (entry : _ × ℕ). entry.0) (back_total total)) (on_total (λ entry. entry.1) nat_cmp_total)) (λ entry. entry)
-entries-weak cmp total false =
-    ranks_by (then_total (on_total (λ (entry : _ × ℕ). entry.0) total) (on_total (λ entry. entry.1) nat_cmp_total)) (λ entry. entry)
+-- the order of pairs is one
+pub pairs-weak : {V : Type 0} (cmp : V → V → Ordering) → IsTotalOrder cmp → (descending : Bool)
+    → IsStrictWeakOrder (λ x y. is_lt (pair_order_by descending cmp x y))
+pairs-weak cmp total true =
+    ranks_by (then_total (on_total (λ (pair : _ × ℕ). pair.0) (back_total total)) (on_total (λ pair. pair.1) nat_cmp_total)) (λ pair. pair)
+pairs-weak cmp total false =
+    ranks_by (then_total (on_total (λ (pair : _ × ℕ). pair.0) total) (on_total (λ pair. pair.1) nat_cmp_total)) (λ pair. pair)
 
 -- ---- the indexes below a number
 pub range-more : (n : ℕ) → range_with_len 0 (n + 1) ≡ range_with_len 0 n ++ n ∷ []
@@ -80,17 +80,17 @@ filter-same p n e =
 -- ---- the loop over the slots
 module _ {V X : Type 0} (seen : V → X) (slots : List (Option X)) where
   pub no-slot : SplitsSlots seen slots 0 [] []
-  no-slot = record { shown = All-nil (λ entry. slot_at slots entry.1 ≡ Some (seen entry.0)); valid = refl; null = refl }
+  no-slot = record { shown = All-nil (λ pair. slot_at slots pair.1 ≡ Some (seen pair.0)); valid = refl; null = refl }
 
   pub next-slot : (n : ℕ) (values : List (V × ℕ)) (nulls : List ℕ) (values' : List (V × ℕ)) (nulls' : List ℕ)
       (slot : Option V) → slice_get slots n ≡ Some (option_map seen slot) → SplitsSlots seen slots n values nulls
-      → PushesEntry slot n values nulls values' nulls' → SplitsSlots seen slots (n + 1) values' nulls'
+      → PushesPair slot n values nulls values' nulls' → SplitsSlots seen slots (n + 1) values' nulls'
   next-slot n values nulls values' nulls' None found split pushed =
       let at : slot_at slots n ≡ None = get_or_from_slice_get slots n None None found in
       record {
-        shown = subst (All (λ entry. slot_at slots entry.1 ≡ Some (seen entry.0))) (sym pushed.0) split.shown;
+        shown = subst (All (λ pair. slot_at slots pair.1 ≡ Some (seen pair.0))) (sym pushed.0) split.shown;
         valid =
-            ap (map (λ entry. entry.1)) pushed.0 ∙ split.valid ∙ sym (filter-same (is_valid_at slots) n (ap is_some at));
+            ap (map (λ pair. pair.1)) pushed.0 ∙ split.valid ∙ sym (filter-same (is_valid_at slots) n (ap is_some at));
         null =
             pushed.1 ∙ ap (λ xs. xs ++ n ∷ []) split.null
             ∙ sym (filter-more (is_null_at slots) n (ap (λ o. not (is_some o)) at));
@@ -99,10 +99,10 @@ module _ {V X : Type 0} (seen : V → X) (slots : List (Option X)) where
       let at : slot_at slots n ≡ Some (seen value) = get_or_from_slice_get slots n (Some (seen value)) None found in
       record {
         shown =
-            subst (All (λ entry. slot_at slots entry.1 ≡ Some (seen entry.0))) (sym pushed.0)
-            (All-push (λ entry. slot_at slots entry.1 ≡ Some (seen entry.0)) values (value, n) split.shown at);
+            subst (All (λ pair. slot_at slots pair.1 ≡ Some (seen pair.0))) (sym pushed.0)
+            (All-push (λ pair. slot_at slots pair.1 ≡ Some (seen pair.0)) values (value, n) split.shown at);
         valid =
-            ap (map (λ entry. entry.1)) pushed.0 ∙ map_push (λ entry. entry.1) values (value, n)
+            ap (map (λ pair. pair.1)) pushed.0 ∙ map_push (λ pair. pair.1) values (value, n)
             ∙ ap (λ xs. xs ++ n ∷ []) split.valid ∙ sym (filter-more (is_valid_at slots) n (ap is_some at));
         null =
             pushed.1 ∙ split.null ∙ sym (filter-same (is_null_at slots) n (ap (λ o. not (is_some o)) at));
@@ -157,10 +157,10 @@ increasing n k within =
     )
 
 -- the values of slots are in the order of their indexes
-pub rising-entries : {V X : Type 0} (seen : V → X) (slots : List (Option X)) (n : ℕ) (values : List (V × ℕ))
+pub rising-pairs : {V X : Type 0} (seen : V → X) (slots : List (Option X)) (n : ℕ) (values : List (V × ℕ))
     (nulls : List ℕ) → SplitsSlots seen slots n values nulls → IsSortedBy by_index values
-rising-entries {V} seen slots n values nulls split k d low high =
-    let number : V × ℕ → ℕ = λ entry. entry.1 in
+rising-pairs {V} seen slots n values nulls split k d low high =
+    let number : V × ℕ → ℕ = λ pair. pair.1 in
     let here : k < length values = omega (arith, high) in
     let rising : IsStrictlyIncreasing (map number values) =
     subst IsStrictlyIncreasing (sym split.valid)
@@ -182,7 +182,7 @@ module _ {V X : Type 0} (seen : V → X) (slots : List (Option X)) (options : So
   by_slots = index_order (slot_order options order) slots
 
   abbrev Shown : V × ℕ → Type 0
-  Shown entry = slot_at slots entry.1 ≡ Some (seen entry.0)
+  Shown pair = slot_at slots pair.1 ≡ Some (seen pair.0)
 
   abbrev IsValue : ℕ → Type 0
   IsValue i = (value : V) × (slot_at slots i ≡ Some (seen value))
@@ -190,19 +190,19 @@ module _ {V X : Type 0} (seen : V → X) (slots : List (Option X)) (options : So
   abbrev IsNull : ℕ → Type 0
   IsNull i = slot_at slots i ≡ None
 
-  -- two entries are ordered as their indexes
-  compares : (x y : V × ℕ) → Shown x → Shown y → by_slots x.1 y.1 ≡ entry_order directed x y
+  -- two pairs are ordered as their indexes
+  compares : (x y : V × ℕ) → Shown x → Shown y → by_slots x.1 y.1 ≡ pair_order directed x y
   compares x y p q =
       ap (λ o. ordering_then o (nat_cmp x.1 y.1))
       (ap₂ (slot_order options order) p q
       ∙ sym (ap₂ (λ a b. if options.descending then a else b) (agrees y.0 x.0) (agrees x.0 y.0)))
 
-  values-sorted : (values : List (V × ℕ)) → All Shown values → IsSorted (entry_order directed) values
-      → IsSorted by_slots (map (λ entry. entry.1) values)
+  values-sorted : (values : List (V × ℕ)) → All Shown values → IsSorted (pair_order directed) values
+      → IsSorted by_slots (map (λ pair. pair.1) values)
   values-sorted [] all sorted k d low high = absurd (omega (arith, high))
   values-sorted (first ∷ rest) all sorted k d low high =
       let values : List (V × ℕ) = first ∷ rest in
-      let number : V × ℕ → ℕ = λ entry. entry.1 in
+      let number : V × ℕ → ℕ = λ pair. pair.1 in
       let next : k + 1 < length values = omega (arith, length-map values number, high) in
       let here : k < length values = omega (arith, next) in
       ap₂ (λ i j. is_lt (by_slots i j)) (get_or-map number values (k + 1) first d next)
@@ -246,10 +246,10 @@ module _ {V X : Type 0} (seen : V → X) (slots : List (Option X)) (options : So
   moved false n nulls indexes moves = moves
 
   pub sorts : (n : ℕ) (values sorted : List (V × ℕ)) (nulls : List ℕ) → SplitsSlots seen slots n values nulls
-      → IsPermutation values sorted → IsSorted (entry_order directed) sorted
-      → SortsIndexes by_slots n (first_nulls options.nulls_first nulls (map (λ entry. entry.1) sorted))
+      → IsPermutation values sorted → IsSorted (pair_order directed) sorted
+      → SortsIndexes by_slots n (first_nulls options.nulls_first nulls (map (λ pair. pair.1) sorted))
   sorts n values sorted nulls split moves up =
-      let number : V × ℕ → ℕ = λ entry. entry.1 in
+      let number : V × ℕ → ℕ = λ pair. pair.1 in
       let indexes : List ℕ = map number sorted in
       let range : List ℕ = range_with_len 0 n in
       let shown : All Shown sorted = All-permutation Shown values sorted moves split.shown in
@@ -260,7 +260,7 @@ module _ {V X : Type 0} (seen : V → X) (slots : List (Option X)) (options : So
       let rising : IsStrictlyIncreasing nulls =
       subst IsStrictlyIncreasing (sym split.null) (IsStrictlyIncreasing-filter (is_null_at slots) range (increasing n)) in
       let each : All IsValue indexes =
-      All-map IsValue number sorted (All-weaker Shown (λ entry. IsValue (number entry)) (λ entry at. (entry.0, at)) sorted shown) in
+      All-map IsValue number sorted (All-weaker Shown (λ pair. IsValue (number pair)) (λ pair at. (pair.0, at)) sorted shown) in
       let chosen : IsPermutation range (map number values ++ nulls) =
       ap₂-permutation (sym split.valid) (sym split.null)
       (IsPermutation-filter_both (is_valid_at slots) (is_null_at slots) (λ i. refl) range) in

@@ -1,4 +1,4 @@
--- Selections of the first entries of a list.
+-- Selections of the first elements of a list.
 use Rattle.std.proofs.Common.{◌≡◌, ◌∙◌, ℕ, zero, suc, ◌+◌, ◌-◌, ◌<◌, ◌≤◌, Bool, true, false, cond, not, List, [], ◌∷◌, ◌++◌, length, get_or, take, drop, refl, ap, sym, subst, arith, inl, inr, true≢false, Option, Some, option_map, slice_get, map, IsTrue}
 use Rattle.std.specs.Cmp.{IsStrictWeakOrder}
 use Rattle.std.specs.List.{All, count_by, filter}
@@ -12,9 +12,9 @@ use Rattle.std.proofs.lemmas.List.Elements.{All-append, All-cons, All-from_get_o
 use Rattle.std.proofs.lemmas.List.Kept.{IsSortedBy-filter}
 use Rattle.std.proofs.lemmas.List.Sorted.{All-permutation, IsPermutation-append_comm, IsPermutation-append_left, IsPermutation-append_right, IsPermutation-cons, IsPermutation-filter_both, IsPermutation-refl, IsPermutation-trans, length_permutation, sorted_far, sum_by-IsPermutation}
 use Rattle.std.proofs.lemmas.List.Sums.{count_by-le-length, sum_by-append, sum_by-cons, sum_by_push}
-use Rattle.arrow_sort.specs.Entries.{AreFirst, BeginsWithFirst, IsPastFirst, KeepsFirst, KeepsSlots, OffersSlot, PushesEntry, SelectsFirst, SortsFirst, SortsFirstSlots, entry_order_by, first_nulls}
+use Rattle.arrow_sort.specs.IndexedValues.{AreFirst, BeginsWithFirst, IsPastFirst, KeepsFirst, KeepsSlots, OffersSlot, PushesPair, SelectsFirst, SortsFirst, SortsFirstSlots, pair_order_by, first_nulls}
 use Rattle.arrow_sort.specs.Sort.{AreSortedSlots}
-use Rattle.arrow_sort.specs.declared.entries.Entries.{Entries}
+use Rattle.arrow_sort.specs.declared.indexed_values.IndexedValues.{IndexedValues}
 use Rattle.arrow_sort.specs.declared.options.SortOptions.{SortOptions}
 use Rattle.arrow_sort.proofs.OrderLemmas.{next-slot, no-slot, sorted-append, sorts}
 
@@ -110,7 +110,7 @@ module _ {X : Type 0} (cmp : X → X → Ordering) (weak : IsStrictWeakOrder (λ
   sortable [] = ([], IsPermutation-refl [], λ k d from within. absurd (omega (arith, within)))
   sortable (x ∷ xs) = let rest = sortable xs in inserted x xs rest.0 rest.1 rest.2
 
-  -- ---- entries of which the last comes after none of as many others
+  -- ---- elements of which the last comes after none of as many others
   all-low : (limit : ℕ) (first rest : List X) (are : AreFirst cmp limit first rest) → All (Low are.last) first
   all-low limit first rest are =
       subst (All (Low are.last)) (sym are.is)
@@ -196,10 +196,10 @@ module _ {X : Type 0} (cmp : X → X → Ordering) (weak : IsStrictWeakOrder (λ
         };
       }
 
-  begins-pushed : (limit : ℕ) (all kept : List X) (entry : X) → BeginsWithFirst cmp limit all kept
-      → BeginsWithFirst cmp limit (all ++ entry ∷ []) (kept ++ entry ∷ [])
-  begins-pushed limit all kept entry begins =
-      let one : List X = entry ∷ [] in
+  begins-pushed : (limit : ℕ) (all kept : List X) (element : X) → BeginsWithFirst cmp limit all kept
+      → BeginsWithFirst cmp limit (all ++ element ∷ []) (kept ++ element ∷ [])
+  begins-pushed limit all kept element begins =
+      let one : List X = element ∷ [] in
       record {
         first = begins.first;
         more = begins.more ++ one;
@@ -219,28 +219,28 @@ module _ {X : Type 0} (cmp : X → X → Ordering) (weak : IsStrictWeakOrder (λ
   keeps-none limit positive =
       record { few = λ less. refl; many = λ enough. absurd (omega (arith, positive, enough)) }
 
-  -- an entry is pushed, and there are not yet as many that they are selected
-  pub keeps-pushed : (limit : ℕ) (all kept : List X) (entry : X) → (length (kept ++ entry ∷ []) ≡ limit → ⊥)
-      → KeepsFirst cmp limit all kept → KeepsFirst cmp limit (all ++ entry ∷ []) (kept ++ entry ∷ [])
-  keeps-pushed limit all kept entry other keeps =
+  -- an element is pushed, and there are not yet as many that they are selected
+  pub keeps-pushed : (limit : ℕ) (all kept : List X) (element : X) → (length (kept ++ element ∷ []) ≡ limit → ⊥)
+      → KeepsFirst cmp limit all kept → KeepsFirst cmp limit (all ++ element ∷ []) (kept ++ element ∷ [])
+  keeps-pushed limit all kept element other keeps =
       record {
-        few = λ less. ap (λ l. l ++ entry ∷ []) (keeps.few (omega (arith, less, length_push kept entry)));
+        few = λ less. ap (λ l. l ++ element ∷ []) (keeps.few (omega (arith, less, length_push kept element)));
         many = λ enough. elim (cases_lt (length kept) limit) [
-          | inl less ↦ absurd (other (omega (arith, less, enough, length_push kept entry)))
-          | inr within ↦ begins-pushed limit all kept entry (keeps.many within)
+          | inl less ↦ absurd (other (omega (arith, less, enough, length_push kept element)))
+          | inr within ↦ begins-pushed limit all kept element (keeps.many within)
         ];
       }
 
-  -- an entry is pushed, and the first are selected
-  keeps-selected : (limit : ℕ) (all kept : List X) (entry : X) (first : List X)
-      → SelectsFirst cmp limit (kept ++ entry ∷ []) first → KeepsFirst cmp limit all kept
-      → KeepsFirst cmp limit (all ++ entry ∷ []) first
-  keeps-selected limit all kept entry first selects keeps = elim (cases_lt (length kept) limit) [
-    | inl less ↦ begins-selected limit (all ++ entry ∷ []) first
-        (subst (λ l. SelectsFirst cmp limit (l ++ entry ∷ []) first) (keeps.few less) selects)
-    | inr within ↦ begins-selected limit (all ++ entry ∷ []) first
-        (again limit (all ++ entry ∷ []) (kept ++ entry ∷ []) first
-        (begins-pushed limit all kept entry (keeps.many within)) selects)
+  -- an element is pushed, and the first are selected
+  keeps-selected : (limit : ℕ) (all kept : List X) (element : X) (first : List X)
+      → SelectsFirst cmp limit (kept ++ element ∷ []) first → KeepsFirst cmp limit all kept
+      → KeepsFirst cmp limit (all ++ element ∷ []) first
+  keeps-selected limit all kept element first selects keeps = elim (cases_lt (length kept) limit) [
+    | inl less ↦ begins-selected limit (all ++ element ∷ []) first
+        (subst (λ l. SelectsFirst cmp limit (l ++ element ∷ []) first) (keeps.few less) selects)
+    | inr within ↦ begins-selected limit (all ++ element ∷ []) first
+        (again limit (all ++ element ∷ []) (kept ++ element ∷ []) first
+        (begins-pushed limit all kept element (keeps.many within)) selects)
   ]
 
   last-at : (limit : ℕ) (first rest more : List X) (are : AreFirst cmp limit first rest) (d : X)
@@ -254,11 +254,11 @@ module _ {X : Type 0} (cmp : X → X → Ordering) (weak : IsStrictWeakOrder (λ
       ∙ get_or-append_right are.others (are.last ∷ more) (limit - 1) (limit - 1) d n (omega arith)
       ∙ ap (λ i. get_or (are.last ∷ more) i d) here
 
-  -- an entry is passed over
-  pub keeps-past : (limit : ℕ) (all kept : List X) (entry : X) → IsPastFirst cmp limit kept entry
-      → KeepsFirst cmp limit all kept → KeepsFirst cmp limit (all ++ entry ∷ []) kept
-  keeps-past limit all kept entry past keeps =
-      let one : List X = entry ∷ [] in
+  -- an element is passed over
+  pub keeps-past : (limit : ℕ) (all kept : List X) (element : X) → IsPastFirst cmp limit kept element
+      → KeepsFirst cmp limit all kept → KeepsFirst cmp limit (all ++ element ∷ []) kept
+  keeps-past limit all kept element past keeps =
+      let one : List X = element ∷ [] in
       let begins : BeginsWithFirst cmp limit all kept = keeps.many past.enough in
       let last : past.last ≡ begins.are.last =
       past.at ∙ ap (λ l. get_or l (limit - 1) past.last) begins.is
@@ -280,8 +280,8 @@ module _ {X : Type 0} (cmp : X → X → Ordering) (weak : IsStrictWeakOrder (λ
             count = begins.are.count;
             low = begins.are.low;
             high =
-                All-push (High begins.are.last) begins.rest entry begins.are.high
-                (subst (λ x. lt entry x ≡ false) last past.past);
+                All-push (High begins.are.last) begins.rest element begins.are.high
+                (subst (λ x. lt element x ≡ false) last past.past);
           };
         };
       }
@@ -329,13 +329,13 @@ module _ {X : Type 0} (cmp : X → X → Ordering) (weak : IsStrictWeakOrder (λ
       subst (λ n. SelectsFirst cmp n all (take n (x ∷ xs))) one
       (selects-sorted (limit - 1) all x xs (omega (arith, positive, within)) moves up)
 
-  -- an entry is pushed, and the first are kept, sorted
-  pub keeps-sorted : (limit : ℕ) (all kept : List X) (entry : X) (first : List X) → 0 < limit
-      → limit ≤ length (kept ++ entry ∷ []) → SortsFirst cmp limit (kept ++ entry ∷ []) first
-      → KeepsFirst cmp limit all kept → KeepsFirst cmp limit (all ++ entry ∷ []) first
-  keeps-sorted limit all kept entry first positive enough sorts keeps =
-      let more : List X = kept ++ entry ∷ [] in
-      keeps-selected limit all kept entry first
+  -- an element is pushed, and the first are kept, sorted
+  pub keeps-sorted : (limit : ℕ) (all kept : List X) (element : X) (first : List X) → 0 < limit
+      → limit ≤ length (kept ++ element ∷ []) → SortsFirst cmp limit (kept ++ element ∷ []) first
+      → KeepsFirst cmp limit all kept → KeepsFirst cmp limit (all ++ element ∷ []) first
+  keeps-sorted limit all kept element first positive enough sorts keeps =
+      let more : List X = kept ++ element ∷ [] in
+      keeps-selected limit all kept element first
       (subst (SelectsFirst cmp limit more) (sym sorts.is)
       (selects-first limit more sorts.whole positive
       (omega (arith, enough, length_permutation more sorts.whole sorts.permutation)) sorts.permutation sorts.sorted))
@@ -382,7 +382,7 @@ module _ {V X : Type 0} (seen : V → X) (order : V × ℕ → V × ℕ → Orde
       (subst (KeepsSlots seen order limit slots 0 []) (sym no-nulls)
       (record { all = []; split = no-slot seen slots; keeps = keeps-none order weak limit positive }))
 
-  pub keeps-next : (n : ℕ) (old new : Entries V) (slot : Option V) → slice_get slots n ≡ Some (option_map seen slot)
+  pub keeps-next : (n : ℕ) (old new : IndexedValues V) (slot : Option V) → slice_get slots n ≡ Some (option_map seen slot)
       → KeepsSlots seen order limit slots n old.values.items old.nulls.items → OffersSlot order limit slot n old new
       → KeepsSlots seen order limit slots (n + 1) new.values.items new.nulls.items
   keeps-next n old new slot found keeps offers =
@@ -395,24 +395,24 @@ module _ {V X : Type 0} (seen : V → X) (order : V × ℕ → V × ℕ → Orde
       }
 
 pub offers-past : {V : Type 0} (order : V × ℕ → V × ℕ → Ordering) → IsStrictWeakOrder (λ x y. is_lt (order x y))
-    → (limit : ℕ) (slot : Option V) (value : V) (i : ℕ) (kept : Entries V) → slot ≡ Some value
+    → (limit : ℕ) (slot : Option V) (value : V) (i : ℕ) (kept : IndexedValues V) → slot ≡ Some value
     → IsPastFirst order limit kept.values.items (value, i) → OffersSlot order limit slot i kept kept
 offers-past order weak limit slot value i kept is past all keeps =
     let one : List (_ × ℕ) = (value, i) ∷ [] in
     let values : List (_ × ℕ) = kept.values.items in
     let nulls : List ℕ = kept.nulls.items in
-    subst (λ s. (all' : List (_ × ℕ)) × PushesEntry s i all nulls all' nulls × KeepsFirst order limit all' values) (sym is)
+    subst (λ s. (all' : List (_ × ℕ)) × PushesPair s i all nulls all' nulls × KeepsFirst order limit all' values) (sym is)
     (all ++ one, (refl, refl), keeps-past order weak limit all values (value, i) past keeps)
 
 -- ---- the indexes of the first slots
 pub selected : {V X : Type 0} (seen : V → X) (slots : List (Option X)) (options : SortOptions) (cmp : V → V → Ordering)
     (order : X → X → Ordering) → ((x y : V) → cmp x y ≡ order (seen x) (seen y)) → (limit room : ℕ) → limit ≤ room
-    → (first : Entries V) (indexes keys : List ℕ)
-    → SortsFirstSlots seen (entry_order_by options.descending cmp) room slots first
-    → indexes ≡ first_nulls options.nulls_first first.nulls.items (map (λ entry. entry.1) first.values.items)
+    → (first : IndexedValues V) (indexes keys : List ℕ)
+    → SortsFirstSlots seen (pair_order_by options.descending cmp) room slots first
+    → indexes ≡ first_nulls options.nulls_first first.nulls.items (map (λ element. element.1) first.values.items)
     → keys ≡ take limit indexes → AreSortedSlots options order slots (Some limit) keys
 selected {V} seen slots options cmp order agrees limit room within first indexes keys firsts joined cut =
-    let number : V × ℕ → ℕ = λ entry. entry.1 in
+    let number : V × ℕ → ℕ = λ element. element.1 in
     let whole : List (V × ℕ) = firsts.sorts.whole in
     let nulls : List ℕ = first.nulls.items in
     let numbers : map number first.values.items ≡ take room (map number whole) =

@@ -14,7 +14,8 @@ use Rattle.arrow_sort.specs.Sort.{default_options, slot_at, slot_order}
 abbrev pub order_at : {A X : Type 0} → (X → X → Ordering) → ColumnWith A X → SortOptions → ℕ → ℕ → Ordering
 order_at cmp column options i j = slot_order options cmp (slot_at (slots_of column) i) (slot_at (slots_of column) j)
 
--- the same of an array of any kind: numbers by their own order, false before true, bytes and text by their bytes
+-- the order of the slots of an array of any kind at two indexes: numbers by their own order, false before true, bytes
+-- and text by their bytes
 abbrev pub values_order : SortValues → SortOptions → ℕ → ℕ → Ordering
 values_order (values.Int8 array) = order_at int_cmp array.now
 values_order (values.Int16 array) = order_at int_cmp array.now

@@ -1,4 +1,4 @@
 pub mod Bytes
 pub mod Sort
-pub mod Entries
+pub mod IndexedValues
 pub mod Columns

@@ -18,7 +18,7 @@ fn slot_or_null<'a, A: LendSlots<'a>>(array: &'a A, i: usize) -> Option<A::Value
     None
 }
 
-/// Returns the order of two values, the other way round if descending.
+/// Returns the order of two values, reversed if descending.
 #[inline(always)]
 fn compare_values<V: Ord>(lhs: &V, rhs: &V, descending: bool) -> Ordering
     ensures { result ≡ (if descending then V.cmp rhs.now lhs.now else V.cmp lhs.now rhs.now) }
@@ -71,7 +71,7 @@ pub(crate) fn compare_slots<'a, A: LendSlots<'a>>(
     compare_options(&slot_or_null(array, i), &slot_or_null(array, j), options)
 }
 
-/// How values are compared in a sort: as their order says.
+/// A way in which a sort compares values. Each gives the order of the values, but not at the same speed.
 pub(crate) trait CompareValues<V: Ord> {
     /// Returns the order of two values.
     fn compare_values(lhs: &V, rhs: &V) -> Ordering
@@ -88,7 +88,7 @@ impl<V: Ord> CompareValues<V> for ByOrder {
     }
 }
 
-/// Compares byte strings by their first bytes, and only if these are the same by the others.
+/// Compares byte strings by their first four bytes, and by the others only if these are the same.
 pub(crate) struct ByFirstBytes;
 
 impl<'a> CompareValues<&'a [u8]> for ByFirstBytes {

@@ -34,8 +34,8 @@ pub(crate) trait LendSlots<'a> {
     fn count(&self) -> usize
         ensures { result ≡ length (slots self.now) };
 
-    /// Returns the number of null slots, for which room is reserved. Values compare by the order
-    /// that contracts see.
+    /// Returns the number of null slots, for which room is reserved; only speed depends on it. Its contract states that
+    /// values compare by `order`.
     fn nulls(&self) -> usize
         ensures { (x y : Self.Value) → Self.Value.cmp x y ≡ order (seen x) (seen y) };
 

@@ -5,7 +5,7 @@ ghost use Rattle.arrow_types.specs.Failures.{OnlyOutOfMemory};
 ghost use Rattle.arrow_sort.specs.Columns.{AreColumns, rows_count, rows_order, values_count, values_order};
 ghost use Rattle.arrow_sort.specs.Sort.{HoldsSorted, SortsIndexes, default_options};
 
-use crate::entries::truncate_to;
+use crate::indexed_values::truncate_to;
 use crate::{SortOptions, SortableArray};
 use arrow_binary::BinaryArray;
 use arrow_boolean::BooleanArray;

@@ -4,7 +4,7 @@
 
 mod bytes;
 mod compare;
-mod entries;
+mod indexed_values;
 mod lend;
 pub mod lexsort;
 mod options;

@@ -6,7 +6,7 @@ ghost use Rattle.arrow_sort.specs.Sort.{AreSortedSlots, PickOnce, SortsSlots, sl
 
 use crate::SortOptions;
 use crate::compare::{ByFirstBytes, ByOrder, compare_slots};
-use crate::entries::sorted_indexes;
+use crate::indexed_values::sorted_indexes;
 use crate::select::first_indexes;
 use arrow_boolean::BooleanArray;
 use arrow_byte_array::ByteArray;

@@ -27,10 +27,12 @@ pub use Rattle.arrow_memory.specs.Offsets
 pub use Rattle.arrow_memory.specs.FileOffsets
 pub use Rattle.arrow_memory.specs.LeBytes as BufferBytes
 pub use Rattle.arrow_memory.specs.Rows
+pub use Rattle.arrow_memory.specs.NumberEquality
 pub use Rattle.arrow_memory.specs.Changes as ValueChanges
 pub use Rattle.arrow_memory.specs.Thaw
 -- columns, which are what contracts see of arrays and builders, what their slots show, and how they change and grow
 pub use Rattle.arrow_column.specs.Column
+pub use Rattle.arrow_column.specs.Combined
 pub use Rattle.arrow_column.specs.SlotOrder
 pub use Rattle.arrow_column.specs.Slots
 pub use Rattle.arrow_column.specs.Changes

@@ -41,9 +41,12 @@ pub mod filter {
     };
 }
 
-/// Groups of equal slots.
+/// Groups of equal slots. The calls whose names end in `with` hash by the caller's keys, the others by public ones.
 pub mod group {
-    pub use arrow_group::{Groups, group_binary, group_boolean, group_primitive, group_utf8};
+    pub use arrow_group::{
+        Groups, group_binary, group_binary_with, group_boolean, group_boolean_with,
+        group_primitive, group_primitive_with, group_utf8, group_utf8_with,
+    };
 }
 
 /// Hashes of slots, which depend on the slot alone.

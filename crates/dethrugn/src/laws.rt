@@ -7,6 +7,7 @@ pub use arrow_bytes::{BytesAround, laws as bytes};
 pub use arrow_check::laws as check;
 pub use arrow_column::laws as column;
 pub use arrow_group::laws as group;
+pub use arrow_integers::laws as integers;
 pub use arrow_kernels::laws as kernels;
 pub use arrow_memory::bitmap::laws as bitmap;
 pub use arrow_primitive::laws as primitive;

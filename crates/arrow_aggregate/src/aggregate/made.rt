@@ -3,7 +3,7 @@ ghost use Rattle.std.specs.Prelude.{◌≡◌, ◌≤◌, IfOk, length};
 ghost use Rattle.arrow_types.specs.Failures.{OnlyOutOfMemory};
 ghost use Rattle.arrow_types.specs.Types.{IsRightType, logical_type};
 ghost use Rattle.arrow_column.specs.Column.{slots_of, with_type};
-ghost use Rattle.arrow_aggregate.specs.Groups.{IsMadeOf, as_seen, total_size};
+ghost use Rattle.arrow_aggregate.specs.Groups.{MakesSlots, as_seen, total_size};
 
 use arrow_boolean::BooleanArray;
 use arrow_byte_array::ByteArray;
@@ -25,7 +25,7 @@ pub(crate) fn numbers_like<T: NativeType>(
     array: &PrimitiveArray<T>,
     slots: &[Option<T>],
 ) -> Result<PrimitiveArray<T>, Error>
-    ensures ok { IfOk result (IsMadeOf array.now.data_type slots.now) }
+    ensures ok { IfOk result (MakesSlots array.now.data_type slots.now) }
     ensures err { OnlyOutOfMemory result }
 {
     let data_type = array.data_type().clone()?;
@@ -50,7 +50,7 @@ pub(crate) fn booleans_like(
     array: &BooleanArray,
     slots: &[Option<bool>],
 ) -> Result<BooleanArray, Error>
-    ensures ok { IfOk result (IsMadeOf array.now.data_type slots.now) }
+    ensures ok { IfOk result (MakesSlots array.now.data_type slots.now) }
     ensures err { OnlyOutOfMemory result }
 {
     let data_type = array.data_type().clone()?;
@@ -69,7 +69,7 @@ fn with_items_type<K: ByteKind, O: Offset>(
     ByteArray::new(data_type, offsets, values, validity)
 }
 
-/// Returns the array of slots, under the data type of another array, which has as many bytes.
+/// Returns the array of slots, under the data type of another array, whose slots together have at least as many bytes.
 ///
 /// # Errors
 /// `OutOfMemory` if an allocation fails.
@@ -79,7 +79,7 @@ pub(crate) fn items_like<K: ByteKind, O: Offset, X: ByteItem<K>>(
     slots: &[Option<X>],
 ) -> Result<ByteArray<K, O>, Error>
     requires { total_size length (as_seen X.bytes slots.now) ≤ total_size length (slots_of array.now) }
-    ensures ok { IfOk result (IsMadeOf array.now.data_type (as_seen X.bytes slots.now)) }
+    ensures ok { IfOk result (MakesSlots array.now.data_type (as_seen X.bytes slots.now)) }
     ensures err { OnlyOutOfMemory result }
 {
     // Called for its contract: no item ends past the greatest offset.

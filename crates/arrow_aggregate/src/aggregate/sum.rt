@@ -1,31 +1,16 @@
 //! Sums of arrays of integers.
-ghost use Rattle.std.specs.Prelude.{◌≡◌, ◌&&◌, ◌<◌, ◌≤◌, ◌^◌, IfOk, IfSome, OnErr, Some, false};
+ghost use Rattle.std.specs.Prelude.{◌≡◌, ◌&&◌, ◌<◌, ◌≤◌, ◌^◌, IfErr, IfOk, IfSome, Some};
 ghost use Rattle.std.specs.Prelude.{if◌then◌else◌, length, map, nat_le, option_map, pos, slice_get, unsigned_abs};
 ghost use Rattle.arrow_column.specs.Column.{slots_of};
 ghost use Rattle.arrow_aggregate.specs.Aggregates.{sum_all, sum_of, valid_values};
-ghost use Rattle.arrow_aggregate.specs.Sums.{IsTotal, high_half, low_half, number_or_zero, of_halves, sum_split};
+ghost use Rattle.arrow_aggregate.specs.Sums.{IsTotal, TotalOverflows, high_half, low_half, number_or_zero};
+ghost use Rattle.arrow_aggregate.specs.Sums.{of_halves, sum_split};
 
 use crate::aggregate::fold::{Folder, fold_slots};
 use arrow_integers::NativeArithmetics;
 use arrow_primitive::PrimitiveArray;
+use arrow_types::error::Error;
 use arrow_types::primitive_type::PrimitiveType;
-use std::fmt;
-
-/// The error of a sum that does not fit in its type.
-#[derive(Clone, Copy, Debug, PartialEq, Eq)]
-pub struct SumOverflow;
-
-impl fmt::Display for SumOverflow {
-    ghost use Rattle.std.specs.Prelude.{Some, codes};
-
-    ghost output = { λ _. Some (codes "the sum does not fit in its type") };
-
-    fn fmt<W: fmt::Write>(&self, f: &mut fmt::Formatter<W>) -> fmt::Result {
-        write!(f, "the sum does not fit in its type")
-    }
-}
-
-impl std::error::Error for SumOverflow {}
 
 /// Returns whether both are true.
 #[inline(always)]
@@ -60,8 +45,8 @@ fn wide_or_zero(number: i128) -> i128
     }
 }
 
-/// Returns whether the numbers of a type are at most 2 ^ 32 from zero. Only speed depends on the answer,
-/// so a contract has nothing to say.
+/// Returns whether the numbers of a type are at most 2 ^ 32 from zero. It has no contract, since only speed depends on
+/// the result.
 #[inline(always)]
 fn is_narrow(primitive: PrimitiveType) -> bool {
     match primitive {
@@ -71,7 +56,7 @@ fn is_narrow(primitive: PrimitiveType) -> bool {
     }
 }
 
-/// Sums numbers that are at most 2 ^ 32 from zero, and says whether all were.
+/// Sums numbers that are at most 2 ^ 32 from zero, and returns whether all were.
 struct NarrowSum;
 
 impl<T: NativeArithmetics> Folder<T> for NarrowSum {
@@ -110,8 +95,8 @@ fn join_halves(halves: (i64, i64)) -> i128
     i128::from(halves.0) * (1 << 32) + i128::from(halves.1)
 }
 
-/// Sums the halves of numbers that are at most 2 ^ 64 from zero, and says whether all were. The halves of several numbers
-/// are added at once, since no sum of 64 bits carries into another.
+/// Sums the halves of numbers that are at most 2 ^ 64 from zero, and returns whether all were. The halves of several
+/// numbers are added at once, since no sum of 64 bits carries into another.
 struct HalvesSum;
 
 impl<T: NativeArithmetics> Folder<T> for HalvesSum {
@@ -131,7 +116,7 @@ impl<T: NativeArithmetics> Folder<T> for HalvesSum {
     }
 }
 
-/// Sums numbers that are at most 2 ^ 64 from zero, and says whether all were.
+/// Sums numbers that are at most 2 ^ 64 from zero, and returns whether all were.
 struct WideSum;
 
 impl<T: NativeArithmetics> Folder<T> for WideSum {
@@ -258,21 +243,19 @@ fn total<T: NativeArithmetics>(array: &PrimitiveArray<T>) -> Option<i128>
 /// and not those on the way to it.
 ///
 /// # Errors
-/// `SumOverflow` if the sum does not fit in the type of the values.
-pub fn sum_primitive<T: NativeArithmetics>(
-    array: &PrimitiveArray<T>,
-) -> Result<Option<T>, SumOverflow>
+/// `Overflow` if the sum does not fit in the type of the values.
+pub fn sum_primitive<T: NativeArithmetics>(array: &PrimitiveArray<T>) -> Result<Option<T>, Error>
     ensures ok { IfOk result (λ sum. option_map T.number sum ≡ sum_of (map T.number (valid_values array.now))) }
-    ensures err { OnErr result (T.fits (sum_all (map T.number (valid_values array.now))) ≡ false) }
+    ensures err { IfErr result (TotalOverflows T.fits (sum_all (map T.number (valid_values array.now)))) }
 {
     if array.null_count() == array.len() {
         return Ok(None);
     }
     let Some(sum) = total(array) else {
-        return Err(SumOverflow);
+        return Err(Error::Overflow);
     };
     match T::from_i128(sum) {
         Some(sum) => Ok(Some(sum)),
-        None => Err(SumOverflow),
+        None => Err(Error::Overflow),
     }
 }

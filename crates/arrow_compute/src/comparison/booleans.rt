@@ -1,8 +1,9 @@
-//! Arrays of booleans as arrays whose values have an order.
+//! Arrays of booleans as arrays whose values are equal or not, and have an order.
 ghost use Rattle.std.specs.Prelude.{◌≡◌, ◌==◌, ◌<◌, ℕ};
 ghost use Rattle.std.specs.Int.{bit_at};
 
-use super::operators::Comparison;
+use super::equal::{EqualArray, EqualScalar};
+use super::operators::{Comparison, Equality};
 use super::ordered::{OrderedArray, Scalar};
 use crate::words::{MarkWords, collect_marks, word_of};
 use arrow_boolean::BooleanArray;
@@ -47,7 +48,7 @@ struct BooleanScalar<'a, C> {
     comparison: PhantomData<C>,
 }
 
-/// Returns the word of 64 times the same bit.
+/// Returns the word whose 64 bits are all `bit`.
 #[inline(always)]
 fn repeat_bit(bit: bool) -> u64
     ensures { (k : ℕ) → k < 64 → (bit_at result k == 1) ≡ bit }
@@ -72,10 +73,35 @@ impl<'a, C: Comparison> MarkWords for BooleanScalar<'a, C> {
     }
 }
 
+impl EqualArray for BooleanArray {
+    ghost use Rattle.std.specs.Ordering.{bool_cmp, is_eq};
+
+    ghost equal = { λ x y. is_eq (bool_cmp x y) };
+
+    fn equal_stored<C: Equality>(alloc: Global, lhs: &Self, rhs: &Self) -> Result<Bitmap, Error> {
+        <BooleanArray as OrderedArray>::compare_stored::<C>(alloc, lhs, rhs)
+    }
+}
+
+impl EqualScalar<BooleanArray> for bool {
+    ghost value = { λ scalar. scalar };
+
+    fn equal_stored<C: Equality>(
+        alloc: Global,
+        lhs: &BooleanArray,
+        rhs: bool,
+    ) -> Result<Bitmap, Error> {
+        <bool as Scalar<BooleanArray>>::compare_stored::<C>(alloc, lhs, rhs)
+    }
+}
+
 impl OrderedArray for BooleanArray {
+    ghost use Rattle.std.specs.Prelude.{refl};
     ghost use Rattle.std.specs.Ordering.{bool_cmp};
 
     ghost order = { bool_cmp };
+
+    ghost equal_by_order = { λ x y. refl };
 
     fn compare_stored<C: Comparison>(
         alloc: Global,
@@ -92,8 +118,6 @@ impl OrderedArray for BooleanArray {
 }
 
 impl Scalar<BooleanArray> for bool {
-    ghost value = { λ scalar. scalar };
-
     fn compare_stored<C: Comparison>(
         alloc: Global,
         lhs: &BooleanArray,

@@ -1,5 +1,6 @@
-//! Arrays of bytes and of text as arrays whose values have an order.
-use super::operators::Comparison;
+//! Arrays of bytes and of text as arrays whose values are equal or not, and have an order.
+use super::equal::{EqualArray, EqualScalar};
+use super::operators::{Comparison, Equality};
 use super::ordered::{OrderedArray, Scalar};
 use crate::items::item_at;
 use crate::words::{Marks, Packed, collect_marks};
@@ -66,11 +67,37 @@ impl<'a, C: Comparison, K: ByteKind, O: Offset> Marks for ItemScalar<'a, C, K, O
     }
 }
 
+impl<K: ByteKind, O: Offset> EqualArray for ByteArray<K, O> {
+    ghost use Rattle.std.specs.Ordering.{is_eq, nat_cmp};
+    ghost use Rattle.std.specs.Cmp.Lexicographic.{slice_cmp};
+
+    ghost equal = { λ x y. is_eq (slice_cmp nat_cmp x y) };
+
+    fn equal_stored<C: Equality>(alloc: Global, lhs: &Self, rhs: &Self) -> Result<Bitmap, Error> {
+        <ByteArray<K, O> as OrderedArray>::compare_stored::<C>(alloc, lhs, rhs)
+    }
+}
+
+impl<K: ByteKind, O: Offset, I: ByteItem<K>> EqualScalar<ByteArray<K, O>> for I {
+    ghost value = { I.bytes };
+
+    fn equal_stored<C: Equality>(
+        alloc: Global,
+        lhs: &ByteArray<K, O>,
+        rhs: I,
+    ) -> Result<Bitmap, Error> {
+        <I as Scalar<ByteArray<K, O>>>::compare_stored::<C>(alloc, lhs, rhs)
+    }
+}
+
 impl<K: ByteKind, O: Offset> OrderedArray for ByteArray<K, O> {
+    ghost use Rattle.std.specs.Prelude.{refl};
     ghost use Rattle.std.specs.Ordering.{nat_cmp};
     ghost use Rattle.std.specs.Cmp.Lexicographic.{slice_cmp};
 
     ghost order = { slice_cmp nat_cmp };
+
+    ghost equal_by_order = { λ x y. refl };
 
     fn compare_stored<C: Comparison>(
         alloc: Global,
@@ -87,8 +114,6 @@ impl<K: ByteKind, O: Offset> OrderedArray for ByteArray<K, O> {
 }
 
 impl<K: ByteKind, O: Offset, I: ByteItem<K>> Scalar<ByteArray<K, O>> for I {
-    ghost value = { I.bytes };
-
     fn compare_stored<C: Comparison>(
         alloc: Global,
         lhs: &ByteArray<K, O>,

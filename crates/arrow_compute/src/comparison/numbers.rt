@@ -1,5 +1,11 @@
-//! Arrays of numbers as arrays whose values have an order.
-use super::operators::Comparison;
+//! Arrays of native values as arrays whose values are equal or not, and have an order if their type has one.
+ghost use Rattle.std.specs.Prelude.{◌≡◌, IfOk, length};
+ghost use Rattle.arrow_types.specs.Failures.{OnlyOutOfMemory};
+ghost use Rattle.arrow_column.specs.Column.{stored_values};
+ghost use Rattle.arrow_compute.specs.Comparison.{compare_scalar, compare_stored};
+
+use super::equal::{EqualArray, EqualScalar};
+use super::operators::{Comparison, Equality};
 use super::ordered::{OrderedArray, Scalar};
 use crate::words::{Marks, Packed, collect_marks};
 use arrow_memory::bitmap::Bitmap;
@@ -9,7 +15,47 @@ use arrow_types::native_type::NativeType;
 use std::alloc::Global;
 use std::marker::PhantomData;
 
-/// Whether a comparison holds of the numbers at each index of two slices.
+/// A comparison of two native values.
+trait Test<T> {
+    ghost use Rattle.std.specs.Prelude.{Bool};
+
+    /// Whether it holds of two values.
+    ghost holds: { T → T → Bool };
+
+    /// Returns whether it holds of two values.
+    fn test(lhs: &T, rhs: &T) -> bool
+        ensures { result ≡ holds lhs.now rhs.now };
+}
+
+/// A comparison of values of a type with an order.
+struct ByOrder<C> {
+    comparison: PhantomData<C>,
+}
+
+impl<T: Ord, C: Comparison> Test<T> for ByOrder<C> {
+    ghost holds = { λ x y. C.test (T.cmp x y) };
+
+    #[inline(always)]
+    fn test(lhs: &T, rhs: &T) -> bool {
+        C::test(lhs, rhs)
+    }
+}
+
+/// A comparison of values of any type.
+struct ByEquality<C> {
+    comparison: PhantomData<C>,
+}
+
+impl<T: PartialEq, C: Equality> Test<T> for ByEquality<C> {
+    ghost holds = { λ x y. C.holds (T.eq x y) };
+
+    #[inline(always)]
+    fn test(lhs: &T, rhs: &T) -> bool {
+        C::test_equal(lhs, rhs)
+    }
+}
+
+/// Whether a comparison holds of the values at each index of two slices.
 #[derive(Drop)]
 struct NumberPairs<'a, C, T> {
     lhs: &'a [T],
@@ -17,10 +63,10 @@ struct NumberPairs<'a, C, T> {
     comparison: PhantomData<C>,
 }
 
-impl<'a, C: Comparison, T: NativeType + Ord> Marks for NumberPairs<'a, C, T> {
+impl<'a, T: NativeType, C: Test<T>> Marks for NumberPairs<'a, C, T> {
     ghost use Rattle.arrow_compute.specs.Comparison.{compare_values};
 
-    ghost marks = { λ pairs. compare_values C.test T.cmp pairs.lhs.now pairs.rhs.now };
+    ghost marks = { λ pairs. compare_values (λ truth. truth) C.holds pairs.lhs.now pairs.rhs.now };
 
     #[inline(always)]
     fn len(&self) -> usize {
@@ -33,7 +79,7 @@ impl<'a, C: Comparison, T: NativeType + Ord> Marks for NumberPairs<'a, C, T> {
     }
 }
 
-/// Whether a comparison holds of the number at each index of a slice and a given one.
+/// Whether a comparison holds of the value at each index of a slice and a given one.
 #[derive(Drop)]
 struct NumberScalar<'a, C, T> {
     lhs: &'a [T],
@@ -41,10 +87,10 @@ struct NumberScalar<'a, C, T> {
     comparison: PhantomData<C>,
 }
 
-impl<'a, C: Comparison, T: NativeType + Ord> Marks for NumberScalar<'a, C, T> {
+impl<'a, T: NativeType, C: Test<T>> Marks for NumberScalar<'a, C, T> {
     ghost use Rattle.arrow_compute.specs.Comparison.{compare_scalar};
 
-    ghost marks = { λ pairs. compare_scalar C.test T.cmp pairs.lhs.now pairs.rhs };
+    ghost marks = { λ pairs. compare_scalar (λ truth. truth) C.holds pairs.lhs.now pairs.rhs };
 
     #[inline(always)]
     fn len(&self) -> usize {
@@ -57,36 +103,81 @@ impl<'a, C: Comparison, T: NativeType + Ord> Marks for NumberScalar<'a, C, T> {
     }
 }
 
+/// Returns whether a comparison holds of the stored values at each index of two arrays.
+fn compare_numbers<T: NativeType, C: Test<T>>(
+    alloc: Global,
+    lhs: &PrimitiveArray<T>,
+    rhs: &PrimitiveArray<T>,
+) -> Result<Bitmap, Error>
+    ensures ok { IfOk result (λ truths. truths ≡ compare_stored (λ truth. truth) C.holds lhs.now rhs.now) }
+    ensures err { OnlyOutOfMemory result }
+{
+    let source = NumberPairs {
+        lhs: lhs.values().as_slice(),
+        rhs: rhs.values().as_slice(),
+        comparison: PhantomData::<C>,
+    };
+    collect_marks(alloc, &Packed { source })?.freeze()
+}
+
+/// Returns whether a comparison holds of each stored value of an array and a value.
+fn compare_number<T: NativeType, C: Test<T>>(
+    alloc: Global,
+    lhs: &PrimitiveArray<T>,
+    rhs: T,
+) -> Result<Bitmap, Error>
+    ensures ok { IfOk result (λ truths. truths
+        ≡ compare_scalar (λ truth. truth) C.holds (stored_values lhs.now) rhs) }
+    ensures err { OnlyOutOfMemory result }
+{
+    let source = NumberScalar {
+        lhs: lhs.values().as_slice(),
+        rhs,
+        comparison: PhantomData::<C>,
+    };
+    collect_marks(alloc, &Packed { source })?.freeze()
+}
+
+impl<T: NativeType> EqualArray for PrimitiveArray<T> {
+    ghost equal = { T.eq };
+
+    fn equal_stored<C: Equality>(alloc: Global, lhs: &Self, rhs: &Self) -> Result<Bitmap, Error> {
+        compare_numbers::<T, ByEquality<C>>(alloc, lhs, rhs)
+    }
+}
+
+impl<T: NativeType> EqualScalar<PrimitiveArray<T>> for T {
+    ghost value = { λ scalar. scalar };
+
+    fn equal_stored<C: Equality>(
+        alloc: Global,
+        lhs: &PrimitiveArray<T>,
+        rhs: T,
+    ) -> Result<Bitmap, Error> {
+        compare_number::<T, ByEquality<C>>(alloc, lhs, rhs)
+    }
+}
+
 impl<T: NativeType + Ord> OrderedArray for PrimitiveArray<T> {
     ghost order = { T.cmp };
+
+    ghost equal_by_order = { T.matches_eq };
 
     fn compare_stored<C: Comparison>(
         alloc: Global,
         lhs: &Self,
         rhs: &Self,
     ) -> Result<Bitmap, Error> {
-        let source = NumberPairs {
-            lhs: lhs.values().as_slice(),
-            rhs: rhs.values().as_slice(),
-            comparison: PhantomData::<C>,
-        };
-        collect_marks(alloc, &Packed { source })?.freeze()
+        compare_numbers::<T, ByOrder<C>>(alloc, lhs, rhs)
     }
 }
 
 impl<T: NativeType + Ord> Scalar<PrimitiveArray<T>> for T {
-    ghost value = { λ scalar. scalar };
-
     fn compare_stored<C: Comparison>(
         alloc: Global,
         lhs: &PrimitiveArray<T>,
         rhs: T,
     ) -> Result<Bitmap, Error> {
-        let source = NumberScalar {
-            lhs: lhs.values().as_slice(),
-            rhs,
-            comparison: PhantomData::<C>,
-        };
-        collect_marks(alloc, &Packed { source })?.freeze()
+        compare_number::<T, ByOrder<C>>(alloc, lhs, rhs)
     }
 }

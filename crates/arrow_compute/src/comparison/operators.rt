@@ -22,6 +22,23 @@ pub trait Comparison {
             → (bit_at result k == 1) ≡ test (bool_cmp (bit_at lhs k == 1) (bit_at rhs k == 1)) };
 }
 
+/// A comparison that depends only on whether two values are equal: `==` or `!=`.
+pub trait Equality: Comparison {
+    ghost use Rattle.std.specs.Prelude.{Bool};
+    ghost use Rattle.std.specs.Ordering.{is_eq};
+    ghost use Rattle.std.specs.declared.cmp.Ordering.{Ordering};
+
+    /// Whether it holds of two values, given whether they are equal.
+    ghost holds: { Bool → Bool };
+
+    /// Returns whether it holds of two values. Their type needs no order.
+    fn test_equal<T: PartialEq>(lhs: &T, rhs: &T) -> bool
+        ensures { result ≡ holds (T.eq lhs.now rhs.now) };
+
+    /// States that the comparison by an order agrees with the one by equality.
+    ghost by_order: { (order : Ordering) → Self.test order ≡ holds (is_eq order) };
+}
+
 /// `==`.
 pub struct Equal;
 
@@ -69,6 +86,33 @@ impl Comparison for Unequal {
     #[inline(always)]
     fn test_words(lhs: u64, rhs: u64) -> u64 {
         lhs ^ rhs
+    }
+}
+
+impl Equality for Equal {
+    ghost use Rattle.std.specs.Prelude.{refl};
+
+    ghost holds = { λ equal. equal };
+
+    ghost by_order = { λ order. refl };
+
+    #[inline(always)]
+    fn test_equal<T: PartialEq>(lhs: &T, rhs: &T) -> bool {
+        *lhs == *rhs
+    }
+}
+
+impl Equality for Unequal {
+    ghost use Rattle.std.specs.Prelude.{not};
+    ghost use Rattle.arrow_compute.specs.Comparison.{unequal_by_order};
+
+    ghost holds = { not };
+
+    ghost by_order = { unequal_by_order };
+
+    #[inline(always)]
+    fn test_equal<T: PartialEq>(lhs: &T, rhs: &T) -> bool {
+        *lhs != *rhs
     }
 }
 

@@ -26,6 +26,7 @@ loop-i-preserved g c =
           rw (w.keys-is, w.null-is, w.first-is, w.hints-is, c.push_reserved.ensures.items, w.number-is) (record {
             groups = groups;
             hints = so_far.hints;
+            places = so_far.places;
             count = groups.groups.count;
             room = c.push_reserved.ensures.capacity ∙ c.loop-i.invariant.room;
           })
@@ -39,6 +40,7 @@ loop-i-preserved g c =
             groups = groups;
             hints = hints_more eq seen same key keys _ null _ c.loop-i.hints.items _ so_far.groups.within so_far.hints
                 made.keys made.number made.hints;
+            places = made.places;
             count = groups.groups.count;
             room = c.push_reserved.ensures.capacity ∙ c.loop-i.invariant.room;
           })
@@ -51,6 +53,7 @@ loop-i-preserved g c =
             groups = groups;
             hints = hints_null eq seen same slots i keys null first numbers c.loop-i.hints.items _ so_far.groups so_far.hints
                 made.number;
+            places = so_far.places;
             count = groups.groups.count;
             room = c.push_reserved.ensures.capacity ∙ c.loop-i.invariant.room;
           })

@@ -7,15 +7,15 @@ use Rattle.arrow_kernels.proofs.filter.filter_boolean.Goals as goal
 pub new-requires-clause-mask : goal.new-requires-clause-mask
 new-requires-clause-mask c =
     fits-filtered c.args.array.now c.args.filter.now _ _
-    (c.in_ok-values.ensures.ok ∙ ap₂ where_set c.in_ok-asked.ensures.ok c.values.ensures)
+    (c.in_ok-values.ensures.ok ∙ ap₂ where_set c.in_ok-selected.ensures.ok c.values.ensures)
     (c.in_ok-mask.ensures.ok ∙ ap₂ (λ marks o. mask_with_nulls (option_map (where_set marks) o))
-    c.in_ok-asked.ensures.ok c.validity.ensures.mask)
+    c.in_ok-selected.ensures.ok c.validity.ensures.mask)
 
 pub returns-clause-ok : goal.returns-clause-ok
 returns-clause-ok c =
     c.new.ensures
     ∙ makes-filtered tt c.args.array.now c.args.filter.now _ _ _ c.validity.ensures.is_column
     (c.in_ok-data_type.ensures.cases ∙ c.data_type.ensures.value)
-    (c.in_ok-values.ensures.ok ∙ ap₂ where_set c.in_ok-asked.ensures.ok c.values.ensures)
+    (c.in_ok-values.ensures.ok ∙ ap₂ where_set c.in_ok-selected.ensures.ok c.values.ensures)
     (c.in_ok-mask.ensures.ok ∙ ap₂ (λ marks o. mask_with_nulls (option_map (where_set marks) o))
-    c.in_ok-asked.ensures.ok c.validity.ensures.mask)
+    c.in_ok-selected.ensures.ok c.validity.ensures.mask)

@@ -12,9 +12,9 @@ pub new-requires-clause-mask : goal.new-requires-clause-mask
 new-requires-clause-mask g c =
     fits-filtered c.args.array.now c.args.filter.now _ _
     (c.in_ok-offsets.ensures.items ∙ ap (λ marks. where_set marks (stored_values c.args.array.now))
-    c.in_ok-asked.ensures.ok)
+    c.in_ok-selected.ensures.ok)
     (c.in_ok-mask.ensures.ok ∙ ap₂ (λ marks o. mask_with_nulls (option_map (where_set marks) o))
-    c.in_ok-asked.ensures.ok c.validity.ensures.mask)
+    c.in_ok-selected.ensures.ok c.validity.ensures.mask)
 
 pub returns-clause-ok : goal.returns-clause-ok
 returns-clause-ok g c =
@@ -24,6 +24,6 @@ returns-clause-ok g c =
     ∙ makes-filtered nothing_around c.args.array.now c.args.filter.now _ _ _ c.validity.ensures.is_column
     (c.in_ok-data_type.ensures.cases ∙ c.data_type.ensures.value)
     (c.in_ok-offsets.ensures.items ∙ ap (λ marks. where_set marks (stored_values c.args.array.now))
-    c.in_ok-asked.ensures.ok)
+    c.in_ok-selected.ensures.ok)
     (c.in_ok-mask.ensures.ok ∙ ap₂ (λ marks o. mask_with_nulls (option_map (where_set marks) o))
-    c.in_ok-asked.ensures.ok c.validity.ensures.mask)
+    c.in_ok-selected.ensures.ok c.validity.ensures.mask)

@@ -16,6 +16,6 @@ pub returns-clause-count : goal.returns-clause-count
 returns-clause-count g c = λ nothing number column keys none. length-keys number column.rows _ refl keys none
 
 pub returns-clause-slot : goal.returns-clause-slot
-returns-clause-slot g c = λ nothing number column keys i key none there.
+returns-clause-slot g c = λ nothing number column keys none i key there.
     ap (λ slots. slice_get slots i) (sym (keys-map slot number keys column.rows))
     ∙ key-slot number (slots_of column) _ (sym (length-map column.rows slot)) keys i key none there

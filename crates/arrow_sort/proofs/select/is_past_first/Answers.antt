@@ -1,6 +1,6 @@
 use Rattle.std.proofs.Common.{◌∙◌, ap}
 use Rattle.std.specs.Ordering.{is_ge}
-use Rattle.arrow_sort.specs.Entries.{entry_order_by}
+use Rattle.arrow_sort.specs.IndexedValues.{pair_order_by}
 use Rattle.arrow_sort.proofs.SelectLemmas.{ge-not-lt}
 use Rattle.arrow_sort.proofs.select.is_past_first.Goals as goal
 
@@ -10,6 +10,6 @@ returns-then-limit-kept g c = λ past. record {
   last = c.index-kept-limit.result;
   at = c.index-kept-limit.is;
   past =
-      ge-not-lt (entry_order_by c.args.descending g.V.Ord.cmp c.args.entry.now c.index-kept-limit.result) c.is_ge.result
-      (c.is_ge.ensures ∙ ap is_ge c.compare_entries.ensures) past;
+      ge-not-lt (pair_order_by c.args.descending g.V.Ord.cmp c.args.pair.now c.index-kept-limit.result) c.is_ge.result
+      (c.is_ge.ensures ∙ ap is_ge c.compare_pairs.ensures) past;
 }

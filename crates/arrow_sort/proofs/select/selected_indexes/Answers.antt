@@ -1,5 +1,5 @@
 use Rattle.std.proofs.Common.{◌∙◌, ap₂, arith, map}
-use Rattle.arrow_sort.specs.Entries.{first_nulls}
+use Rattle.arrow_sort.specs.IndexedValues.{first_nulls}
 use Rattle.arrow_sort.proofs.SelectLemmas.{selected}
 use Rattle.arrow_sort.proofs.select.selected_indexes.Goals as goal
 
@@ -10,5 +10,5 @@ returns g c =
     g.A.LendSlots.order c.nulls-nulls.ensures c.args.limit c.max.result (omega arith) first
     c.in_ok-indexes.indexes.items c.truncate_to.result.items c.in_ok-first.ensures
     (c.in_ok-indexes.ensures
-    ∙ ap₂ (λ ns vs. first_nulls c.args.options.nulls_first ns (map (λ entry. entry.1) vs)) c.as_slice-nulls.ensures.value
+    ∙ ap₂ (λ ns vs. first_nulls c.args.options.nulls_first ns (map (λ pair. pair.1) vs)) c.as_slice-nulls.ensures.value
     c.as_slice-values.ensures.value) c.truncate_to.ensures

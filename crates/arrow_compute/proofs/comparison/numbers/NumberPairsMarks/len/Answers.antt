@@ -6,5 +6,5 @@ pub returns : goal.returns
 returns g c = omega (
   arith,
   c.min.ensures,
-  length-pairs g.C.Comparison.test g.T.Ord.cmp c.args.self.now.lhs.now c.args.self.now.rhs.now,
+  length-pairs (λ truth. truth) g.C.Test.holds c.args.self.now.lhs.now c.args.self.now.rhs.now,
 )

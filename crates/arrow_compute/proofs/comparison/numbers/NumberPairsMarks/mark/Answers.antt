@@ -8,7 +8,7 @@ offset_bounds-self-i g c =
     let low : c.args.i < length c.args.self.now.lhs.now = omega (
       arith,
       c.requires,
-      length-pairs g.C.Comparison.test g.T.Ord.cmp c.args.self.now.lhs.now c.args.self.now.rhs.now,
+      length-pairs (λ truth. truth) g.C.Test.holds c.args.self.now.lhs.now c.args.self.now.rhs.now,
     ) in
     search rules
 
@@ -16,7 +16,7 @@ pub bounds-self-i : goal.bounds-self-i
 bounds-self-i g c = omega (
   arith,
   c.requires,
-  length-pairs g.C.Comparison.test g.T.Ord.cmp c.args.self.now.lhs.now c.args.self.now.rhs.now,
+  length-pairs (λ truth. truth) g.C.Test.holds c.args.self.now.lhs.now c.args.self.now.rhs.now,
 )
 
 pub offset_bounds-self-i-2 : goal.offset_bounds-self-i-2
@@ -24,7 +24,7 @@ offset_bounds-self-i-2 g c =
     let low : c.args.i < length c.args.self.now.rhs.now = omega (
       arith,
       c.requires,
-      length-pairs g.C.Comparison.test g.T.Ord.cmp c.args.self.now.lhs.now c.args.self.now.rhs.now,
+      length-pairs (λ truth. truth) g.C.Test.holds c.args.self.now.lhs.now c.args.self.now.rhs.now,
     ) in
     search rules
 
@@ -32,17 +32,17 @@ pub bounds-self-i-2 : goal.bounds-self-i-2
 bounds-self-i-2 g c = omega (
   arith,
   c.requires,
-  length-pairs g.C.Comparison.test g.T.Ord.cmp c.args.self.now.lhs.now c.args.self.now.rhs.now,
+  length-pairs (λ truth. truth) g.C.Test.holds c.args.self.now.lhs.now c.args.self.now.rhs.now,
 )
 
 pub returns : goal.returns
 returns g c =
     let xs = c.args.self.now.lhs.now in
     let ys = c.args.self.now.rhs.now in
-    let low = length-pairs g.C.Comparison.test g.T.Ord.cmp xs ys in
+    let low = length-pairs (λ truth. truth) g.C.Test.holds xs ys in
     let x = get_or xs c.args.i c.index-self-i.result in
     let y = get_or ys c.args.i c.index-self-i-2.result in
-    pair_at g.C.Comparison.test g.T.Ord.cmp xs ys c.args.i x y
+    pair_at (λ truth. truth) g.C.Test.holds xs ys c.args.i x y
     (slice_get-get_or xs c.args.i c.index-self-i.result (omega (arith, c.requires, low)))
     (slice_get-get_or ys c.args.i c.index-self-i-2.result (omega (arith, c.requires, low)))
     ∙ ap Some (sym c.test.ensures)

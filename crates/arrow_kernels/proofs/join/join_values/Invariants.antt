@@ -1,6 +1,0 @@
-use Rattle.std.proofs.Common.{◌≡◌, take, flat_map}
-use Rattle.arrow_column.specs.Column.{stored_values}
-use Rattle.arrow_kernels.proofs.join.join_values.Given as goal
-
-abbrev pub invariant-loop-array : goal.invariant-loop-array
-invariant-loop-array g l = l.joined.items ≡ flat_map stored_values (take l.array-index l.arrays)

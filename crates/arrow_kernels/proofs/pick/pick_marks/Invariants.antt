@@ -1,6 +1,0 @@
-use Rattle.std.proofs.Common.{◌≡◌, ◌*◌, take}
-use Rattle.arrow_bytes.specs.Selection.{at_keys}
-use Rattle.arrow_kernels.proofs.pick.pick_marks.Given as goal
-
-abbrev pub invariant-loop-at : goal.invariant-loop-at
-invariant-loop-at g l = l.picked ≡ at_keys g.K.IndexKey.number (take (64 * l.at) l.keys) l.marks

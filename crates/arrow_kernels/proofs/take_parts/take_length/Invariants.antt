@@ -1,0 +1,10 @@
+use Rattle.std.proofs.Common.{◌≡◌, ◌≤◌, length, take}
+use Rattle.std.specs.List.{concat}
+use Rattle.arrow_check.specs.Pieces.{items_of}
+use Rattle.arrow_bytes.specs.Selection.{at_keys}
+use Rattle.arrow_kernels.proofs.take_parts.take_length.Given as goal
+
+abbrev pub invariant-loop-key : goal.invariant-loop-key
+invariant-loop-key g l =
+    (l.total ≡ length (concat (at_keys g.K.IndexKey.number (take l.key-index l.keys) (items_of l.offsets l.bytes))))
+    × (l.total ≤ l.most)

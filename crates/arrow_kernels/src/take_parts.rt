@@ -1,0 +1,215 @@
+//! The stored values, marks and items at keys.
+ghost use Rattle.std.specs.Prelude.{◌≡◌, ◌+◌, ◌<◌, ◌≤◌, false, true, length, option_map, All, Some, IfOk, IfErr};
+ghost use Rattle.std.specs.Prelude.{IfSome, IsSomeAnd, OnOk};
+ghost use Rattle.std.specs.List.{concat};
+ghost use Rattle.std.specs.Option.{option_copied};
+ghost use Rattle.arrow_types.specs.Failures.{OnlyOutOfMemory};
+ghost use Rattle.arrow_types.specs.IndexKey.{index_of};
+ghost use Rattle.arrow_column.specs.Masks.{mask_with_nulls};
+ghost use Rattle.arrow_column.specs.Column.{stored_values};
+ghost use Rattle.arrow_memory.specs.Marks.{bits_of};
+ghost use Rattle.arrow_memory.specs.Offsets.{last_of};
+ghost use Rattle.arrow_check.specs.Pieces.{items_of, offsets_of};
+ghost use Rattle.arrow_bytes.specs.Kinds.{CutItems};
+ghost use Rattle.arrow_bytes.specs.Pieces.{around_of, nothing_around};
+ghost use Rattle.arrow_bytes.specs.Selection.{at_keys, taking_overflows, taken_length};
+ghost use Rattle.arrow_check.specs.Indexes.{AllInBounds};
+
+use crate::mask::needed_mask;
+use crate::pieces::item_at;
+use arrow_byte_array::ByteArray;
+use arrow_bytes::ByteKind;
+use arrow_memory::bitmap::{Bitmap, MutableBitmap};
+use arrow_memory::buffer::Buffer;
+use arrow_memory::offset::{Offsets, OffsetsBuffer};
+use arrow_types::error::Error;
+use arrow_types::index_key::IndexKey;
+use arrow_types::native_type::NativeType;
+use arrow_types::offset::Offset;
+use std::alloc::Global;
+
+/// Returns a key that is in bounds as an index.
+#[inline(always)]
+fn place_of<K: IndexKey>(key: &K, len: usize) -> usize
+    requires { IsSomeAnd (index_of (K.number key.now)) (λ index. index < len) }
+    ensures place { index_of (K.number key.now) ≡ Some result }
+    ensures within { result < len }
+{
+    match key.to_index() {
+        Some(index) => index,
+        None => unreachable!(),
+    }
+}
+
+/// Returns the values at the keys. Room is reserved once.
+pub(crate) fn take_values<T: NativeType, K: IndexKey>(
+    alloc: Global,
+    values: &[T],
+    keys: &[K],
+) -> Result<Vec<T>, Error>
+    requires { AllInBounds K.number (length values.now) keys.now }
+    ensures ok { IfOk result (λ picked. picked.items ≡ at_keys K.number keys.now values.now) }
+    ensures err { OnlyOutOfMemory result }
+{
+    let mut picked = Vec::with_capacity(alloc, keys.len())?;
+    for key in keys {
+        picked.push_reserved(values[place_of(key, values.len())]);
+    }
+    Ok(picked)
+}
+
+/// Returns the marks at at most 64 keys as the bits of a word.
+#[inline(always)]
+fn taken_word<K: IndexKey>(marks: &Bitmap, keys: &[K]) -> u64
+    requires few { length keys.now ≤ 64 }
+    requires keys { AllInBounds K.number (length marks.now) keys.now }
+    ensures { bits_of result (length keys.now) ≡ at_keys K.number keys.now marks.now }
+{
+    let mut word = 0;
+    let mut count = 0_usize;
+    for key in keys {
+        let mark = marks.get_bit(place_of(key, marks.len()));
+        word += u64::from(mark) << count;
+        count += 1;
+    }
+    word
+}
+
+/// Returns the marks at the keys, 64 at a time. Room is reserved once, with a word more than the marks need, since they
+/// are written as whole words.
+pub(crate) fn take_marks<K: IndexKey>(
+    alloc: Global,
+    marks: &Bitmap,
+    keys: &[K],
+) -> Result<Bitmap, Error>
+    requires { AllInBounds K.number (length marks.now) keys.now }
+    ensures ok { IfOk result (λ picked. picked ≡ at_keys K.number keys.now marks.now) }
+    ensures err { OnlyOutOfMemory result }
+{
+    let mut picked = MutableBitmap::with_capacity(alloc, keys.len().saturating_add(64))?;
+    let words = keys.len() / 64;
+    for at in 0..words {
+        let some = &keys[64 * at..64 * at + 64];
+        picked.extend_from_word(taken_word(marks, some), 64)?;
+    }
+    let last = &keys[64 * words..];
+    picked.extend_from_word(taken_word(marks, last), last.len())?;
+    picked.freeze()
+}
+
+/// Returns the mask of the rows at the keys, which is held exactly if one of them is null. Allocates nothing if no row
+/// of the array is null.
+pub(crate) fn take_validity<K: IndexKey>(
+    alloc: Global,
+    validity: Option<&Bitmap>,
+    keys: &[K],
+) -> Result<Option<Bitmap>, Error>
+    requires { IfSome (option_copied validity) (λ marks. AllInBounds K.number (length marks) keys.now) }
+    ensures ok { IfOk result (λ mask.
+        mask ≡ mask_with_nulls (option_map (at_keys K.number keys.now) (option_copied validity.entry))) }
+    ensures err { OnlyOutOfMemory result }
+{
+    match validity {
+        None => Ok(None),
+        Some(marks) => {
+            if marks.unset_bits() == 0 {
+                return Ok(None);
+            }
+            Ok(needed_mask(take_marks(alloc, marks, keys)?))
+        }
+    }
+}
+
+/// Returns the number of bytes of the items at the keys.
+fn take_length<O: Offset, K: IndexKey>(
+    offsets: &OffsetsBuffer<O>,
+    bytes: &[u8],
+    keys: &[K],
+) -> Result<usize, Error>
+    requires keys { All (λ key. IsSomeAnd (index_of (K.number key)) (λ index. index + 1 < length offsets.now))
+        keys.now }
+    requires within { last_of offsets.now ≤ length bytes.now }
+    ensures ok { IfOk result (λ total. (total ≤ O.most) × (total
+        ≡ taken_length K.number keys.now offsets.now bytes.now)) }
+    ensures err { IfErr result (λ e. (e ≡ Error.Overflow)
+        × (O.most < taken_length K.number keys.now offsets.now bytes.now)) }
+{
+    let most = O::max().to_usize();
+    let mut total = 0;
+    for key in keys {
+        let item = item_at(offsets, bytes, place_of(key, offsets.len_proxy()));
+        if item.len() > most - total {
+            return Err(Error::Overflow);
+        }
+        total += item.len();
+    }
+    Ok(total)
+}
+
+/// Returns the number of bytes of the items at keys, all of which are in bounds.
+///
+/// # Errors
+/// `Overflow` if the number is above the greatest offset.
+pub(crate) fn items_length<K: ByteKind, O: Offset, I: IndexKey>(
+    array: &ByteArray<K, O>,
+    keys: &[I],
+) -> Result<usize, Error>
+    requires { AllInBounds I.number (length array.now.rows) keys.now }
+    ensures ok { OnOk result (taking_overflows O.most I.number array.now keys.now ≡ false) }
+    ensures err { IfErr result (λ e. (e ≡ Error.Overflow)
+        × (taking_overflows O.most I.number array.now keys.now ≡ true)) }
+{
+    take_length(array.offsets(), array.values().as_slice(), keys)
+}
+
+/// Returns the items at the keys as offsets and bytes of their own. Together they end at most at
+/// the greatest offset; room for their bytes is reserved once.
+fn take_item_bytes<O: Offset, K: IndexKey>(
+    alloc: Global,
+    offsets: &OffsetsBuffer<O>,
+    bytes: &[u8],
+    keys: &[K],
+    room: usize,
+) -> Result<(Offsets<O>, Vec<u8>), Error>
+    requires keys { All (λ key. IsSomeAnd (index_of (K.number key)) (λ index. index + 1 < length offsets.now))
+        keys.now }
+    requires within { last_of offsets.now ≤ length bytes.now }
+    ensures offsets { IfOk result (λ picked.
+        picked.0 ≡ offsets_of 0 (at_keys K.number keys.now (items_of offsets.now bytes.now))) }
+    ensures bytes { IfOk result (λ picked.
+        picked.1.items ≡ concat (at_keys K.number keys.now (items_of offsets.now bytes.now))) }
+    ensures err { OnlyOutOfMemory result }
+{
+    let mut picked = Offsets::with_capacity(alloc, keys.len())?;
+    let mut picked_bytes = Vec::with_capacity(alloc, room)?;
+    for key in keys {
+        let item = item_at(offsets, bytes, place_of(key, offsets.len_proxy()));
+        // The items end at most at the greatest offset, so only an allocation can fail.
+        match picked.try_push_item(&mut picked_bytes, item) {
+            Ok(()) => {}
+            Err(_) => return Err(Error::OutOfMemory),
+        }
+    }
+    Ok((picked, picked_bytes))
+}
+
+/// Returns the items of an array at keys, all of which are in bounds, as offsets and bytes of their own. Together they
+/// end at most at the greatest offset; room for their bytes is reserved once.
+pub(crate) fn take_pieces<K: ByteKind, O: Offset, I: IndexKey>(
+    alloc: Global,
+    array: &ByteArray<K, O>,
+    keys: &[I],
+    room: usize,
+) -> Result<(OffsetsBuffer<O>, Buffer<u8>), Error>
+    requires { AllInBounds I.number (length array.now.rows) keys.now }
+    ensures cut { IfOk result (λ picked. CutItems K.is_text picked.0 picked.1) }
+    ensures around { IfOk result (λ picked. around_of picked.0 picked.1 ≡ nothing_around) }
+    ensures items { IfOk result (λ picked.
+        items_of picked.0 picked.1 ≡ at_keys I.number keys.now (stored_values array.now)) }
+    ensures err { OnlyOutOfMemory result }
+{
+    let bytes = array.values().as_slice();
+    let (offsets, bytes) = take_item_bytes(alloc, array.offsets(), bytes, keys, room)?;
+    let offsets = offsets.freeze()?;
+    Ok((offsets, Buffer::from_vec(bytes)?))
+}

@@ -1,0 +1,17 @@
+use Rattle.std.proofs.Common.{rules}
+use Rattle.std.specs.Ordering.{is_lt}
+use Rattle.std.proofs.lemmas.List.Sorted.{answers_always}
+use Rattle.std.proofs.lemmas.Result.{on_ok_weaker}
+use Rattle.arrow_sort.proofs.OrderLemmas.{stable-pairs, values-order}
+use Rattle.arrow_sort.proofs.indexed_values.sort_ascending.Goals as goal
+
+pub returns-clause-sorted : goal.returns-clause-sorted
+returns-clause-sorted g c =
+    let cmp = g.V.Ord.cmp in
+    let order = values-order cmp g.met.V.Ord.total in
+    let old = c.args.values.now.items in
+    let new = c.sort_by.new.self.items in
+    on_ok_weaker c.sort_by.result (λ up. stable-pairs cmp g.met.V.Ord.total old new c.requires
+    (up (λ x y. is_lt (cmp x.0 y.0)) order (answers_always _ _ _ (λ f a r f' k. search rules)))
+    (c.sort_by.ensures.stable (λ x y. is_lt (cmp x.0 y.0)) order (answers_always _ _ _ (λ f a r f' k. search rules))))
+    c.sort_by.ensures.sorted
