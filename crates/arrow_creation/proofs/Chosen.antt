@@ -142,13 +142,13 @@ found-none : (found : Option ℤ) (over : Bool) (X R : Type 0) (S : ℤ → Type
 found-none None over X R S none is made = rw is made
 found-none (Some key) over X R S none is made = absurd none
 
-refused-so : {T : Type 0} (e : Error) (found : Option ℤ) (over : Bool) (row : model.Transition T)
+refused-so : {T : Type 0} (e : Error) (found : Option ℤ) (over : Bool) (transition : model.Transition T)
     → MatchOption found ⊤ (λ key. refusal e ≡ key_refusal key) → (found ≡ None → e ≡ refused_growth over)
-    → MatchOption found (unless_over None over (memory None row) (refused (refusal e)) None)
+    → MatchOption found (unless_over None over (memory None transition) (refused (refusal e)) None)
     (λ key. answers {T = T} None (refused (key_refusal key)) (refused (refusal e)) None)
-refused-so e None true row out_of_bounds err = rw (err refl) (refl, refl)
-refused-so e None false row out_of_bounds err = rw (err refl) refl
-refused-so e (Some key) over row out_of_bounds err = (ap refused out_of_bounds, refl)
+refused-so e None true transition out_of_bounds err = rw (err refl) (refl, refl)
+refused-so e None false transition out_of_bounds err = rw (err refl) refl
+refused-so e (Some key) over transition out_of_bounds err = (ap refused out_of_bounds, refl)
 
 module _ {A S T : Type 0} (around : A → Around) (stored : S → Stored T) (nothing : A)
     (is : around nothing ≡ nothing_around) (sort : ValueKind) (column : ColumnWith A S) (most : ℕ) (keys : List ℤ)

@@ -207,21 +207,21 @@ module _ {T : Type 0} (c : Types T) (sort : ValueKind) where
 -- a builder that slots were appended to, and what became of it: an array of them, or the builder; or none, if not all of
 -- them could be appended
 pub finish-built : {T O R : Type 0} (c : Types T) (v w : Value T) (slots : List (Option (Stored T)))
-    (row : Transition T) (array : Bool) (filled : Result R Error) (result : Result (Entry T O) Error)
+    (transition : Transition T) (array : Bool) (filled : Result R Error) (result : Result (Entry T O) Error)
     → OnOk filled (Extends c v slots done (Some w))
     → IfErr filled (λ e. (over : Bool) × (e ≡ refused_growth over) × Extends c v slots (refused (refusal e)) (Some w))
     → IfOk result (λ made. value_of made ≡ (if array then frozen_value w else w))
     → IfErr filled (λ e. result ≡ Err e) → OnOk filled (OnlyOutOfMemory result)
-    → (Extends c v slots done (Some w) → row done (Some (if array then frozen_value w else w)))
+    → (Extends c v slots done (Some w) → transition done (Some (if array then frozen_value w else w)))
     → ((over : Bool) → Extends c v slots (refused (refusal (refused_growth over))) (Some w)
-    → row (refused (refusal (refused_growth over))) None)
-    → row (refused out_of_memory) None → BuiltBy value_of result row
-finish-built c v w slots row array (Ok r) (Ok made) all until ok stopped err done-so refused-so wanting =
-    subst (λ (v : Value _). row done (Some v)) (sym ok) (done-so all)
-finish-built c v w slots row array (Ok r) (Err e) all until ok stopped err done-so refused-so wanting =
-    subst (λ (e : Error). row (refused (refusal e)) None) (sym err) wanting
-finish-built c v w slots row array (Err e) result all until ok stopped err done-so refused-so wanting =
-    subst (λ (r : Result (Entry _ _) Error). BuiltBy value_of r row) (sym stopped)
-    (subst (λ (e : Error). row (refused (refusal e)) None) (sym until.1)
+    → transition (refused (refusal (refused_growth over))) None)
+    → transition (refused out_of_memory) None → BuiltBy value_of result transition
+finish-built c v w slots transition array (Ok r) (Ok made) all until ok stopped err done-so refused-so wanting =
+    subst (λ (v : Value _). transition done (Some v)) (sym ok) (done-so all)
+finish-built c v w slots transition array (Ok r) (Err e) all until ok stopped err done-so refused-so wanting =
+    subst (λ (e : Error). transition (refused (refusal e)) None) (sym err) wanting
+finish-built c v w slots transition array (Err e) result all until ok stopped err done-so refused-so wanting =
+    subst (λ (r : Result (Entry _ _) Error). BuiltBy value_of r transition) (sym stopped)
+    (subst (λ (e : Error). transition (refused (refusal e)) None) (sym until.1)
     (refused-so until.0
     (subst (λ (e : Error). Extends c v slots (refused (refusal e)) (Some w)) until.1 until.2)))

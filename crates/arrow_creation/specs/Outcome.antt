@@ -1,6 +1,6 @@
 -- What the code of a command that fills an entry answers by its result, and what it leaves in the entry.
-use Rattle.std.specs.Prelude.{◌≡◌, ⊤, ℕ, ℤ, Bool, List, [], ◌∷◌, map, Option, Some, None, option_map, Result, Ok, Err}
-use Rattle.std.specs.Prelude.{IfSome, IfOk, MatchOption}
+use Rattle.std.specs.Prelude.{◌≡◌, ⊤, ℕ, ℤ, Bool, not, ◌&&◌, ◌||◌, List, [], ◌∷◌, map, Option, Some, None, option_map}
+use Rattle.std.specs.Prelude.{is_none, Result, Ok, Err, IfSome, IfOk, MatchOption}
 use Rattle.arrow_types.specs.Types.{Refusal, refusal, out_of_spec, logical_type}
 use Rattle.arrow_types.specs.declared.data_type.DataType.{DataType}
 use Rattle.arrow_types.specs.declared.error.Error.{Error}
@@ -18,10 +18,10 @@ use Rattle.arrow_model.specs.declared.command.Parts.{Parts}
 use Rattle.arrow_model.specs.declared.kind.Kind.{Kind}
 use Rattle.arrow_model.specs.Answer.{Answer, done, not_met, refused, answer_of}
 use Rattle.arrow_model.specs.Kind.{Group, frozen, with_nulls, values_alone, ValueKind, native, boolean, var_binary, Shape}
-use Rattle.arrow_model.specs.Kind.{shape, shaped}
+use Rattle.arrow_model.specs.Kind.{shape, shaped, is_native, is_boolean, is_var_binary, is_values_alone}
 use Rattle.arrow_model.specs.Parts.{BitsFit, PartsTransition, PartsCost, wrong_type_of}
 use Rattle.arrow_model.specs.Request.{Packed, RawValues, Source, packed, packed_bits, cut_pieces, make, source_of}
-use Rattle.arrow_model.specs.Request.{parts_request}
+use Rattle.arrow_model.specs.Request.{given_by, parts_request}
 use Rattle.arrow_model.specs.Request as ask
 use Rattle.arrow_model.specs.Run.{CostsAtMost}
 use Rattle.arrow_model.specs.Step.{AtEntry, IntoEmpty, Makes}
@@ -40,9 +40,9 @@ made_entry (Ok (Some made)) = Some (value_of made)
 made_entry (Ok None) = None
 made_entry (Err e) = None
 
--- the row holds of what was made
+-- the transition holds of what was made
 abbrev pub MadeBy : {T O : Type 0} → Result (Option (Entry T O)) Error → Transition T → Type 0
-MadeBy result row = row (made_answer result) (made_entry result)
+MadeBy result transition = transition (made_answer result) (made_entry result)
 
 -- the same of a call whose condition is known to hold, and of an array or a builder of one kind, which is
 -- seen as a value
@@ -56,7 +56,7 @@ module _ {T A : Type 0} where
   built_value value (Err e) = None
 
   abbrev pub BuiltBy : (A → Value T) → Result A Error → Transition T → Type 0
-  BuiltBy value result row = row (built_answer result) (built_value value result)
+  BuiltBy value result transition = transition (built_answer result) (built_value value result)
 
 -- an entry is made that is this value
 abbrev pub IfMade : {T O : Type 0} → Result (Entry T O) Error → Value T → Type 0
@@ -65,7 +65,20 @@ IfMade result v = IfOk result (λ made. value_of made ≡ v)
 -- what is made of the entries is put into the one of this number, which has to be empty
 abbrev pub PutsAt : {T O : Type 0} → ℕ → (State T → Transition T) → List (Option (Entry T O)) → Answer T
     → List (Option (Entry T O)) → Type 0
-PutsAt e row old answer new = AtEntry (state_of old) e (IntoEmpty (row (state_of old))) answer (state_of new)
+PutsAt e transition old answer new =
+    AtEntry (state_of old) e (IntoEmpty (transition (state_of old))) answer (state_of new)
+
+-- raw parts fit a kind: the raw values are of its value kind, and a builder of values alone has no mask
+abbrev pub pieces_fit : Shape → Option Bits → Bool
+pieces_fit s mask = is_var_binary s && (not (is_values_alone s) || is_none mask)
+
+abbrev pub raw_fits : {T : Type 0} → Shape → Option Bits → RawValues T → Bool
+raw_fits s mask (ask.values xs) = is_native s
+raw_fits s mask (packed p) = is_boolean s
+raw_fits s mask (cut_pieces numbers bytes) = pieces_fit s mask
+
+abbrev pub parts_fit : {T O : Type 0} → (O → ℤ) → Parts T O → Bool
+parts_fit number parts = raw_fits (shape parts.kind) parts.mask (given_by number parts.raw)
 
 -- what comes of a source for a kind; of raw parts, which name theirs; of these put into an entry, which has to be empty,
 -- or into the one of this number; and of parts of a kind that is given

@@ -1,6 +1,7 @@
 //! An array or a builder from raw parts.
-ghost use Rattle.std.specs.Prelude.{[], ◌∷◌};
-ghost use Rattle.arrow_creation.specs.Outcome.{MadeBy, MakesParts, PartsStep, PutsParts, made_answer};
+ghost use Rattle.std.specs.Prelude.{[], ◌∷◌, IsTrue};
+ghost use Rattle.arrow_creation.specs.Outcome.{BuiltBy, MakesParts, PartsStep, PutsParts, built_answer, parts_fit};
+ghost use Rattle.arrow_entry.specs.Entry.{value_of};
 ghost use Rattle.arrow_model.specs.Answer.{outcome};
 ghost use Rattle.arrow_model.specs.Request.{parts_request};
 ghost use Rattle.arrow_model.specs.Run.{CostsAtMost};
@@ -23,17 +24,17 @@ use bytes::bytes_from_parts;
 use lent::{fits_kind, parts_copied};
 use native::natives_from_parts;
 
-/// Creates what raw parts make; `None` if the command's condition fails. What the test of text costs is added to the
-/// counts.
+/// Creates what raw parts make, which fit their kind. What the test of text costs is added to the counts.
 ///
 /// # Errors
 /// `OutOfSpec` for the first test that the parts fail, or `OutOfMemory` if an allocation fails.
 fn entry_from_parts<T: NativeType, O: Offset>(
     given: Parts<T, O>,
     cost: &mut TextCost,
-) -> Result<Option<Entry<T, O>>, Error>
-    ensures row { MadeBy result (MakesParts T.NativeType O.Offset given) }
-    ensures exact { StepCosts (parts_request O.number 0 given) (made_answer result) cost.old cost.new }
+) -> Result<Entry<T, O>, Error>
+    requires { IsTrue (parts_fit O.number given) }
+    ensures transition { BuiltBy value_of result (MakesParts T.NativeType O.Offset given) }
+    ensures exact { StepCosts (parts_request O.number 0 given) (built_answer result) cost.old cost.new }
     ensures most { CostsAtMost (parts_request O.number 0 given ∷ []) cost.old cost.new }
 {
     let Parts {
@@ -60,21 +61,19 @@ fn put_parts<T: NativeType, O: Offset>(
     given: Parts<T, O>,
     cost: &mut TextCost,
 ) -> Result<Reply<T>, Error>
-    ensures row { PutsParts T.NativeType O.Offset given entry.old (outcome result) entry.new }
+    ensures transition { PutsParts T.NativeType O.Offset given entry.old (outcome result) entry.new }
     ensures exact { StepCosts (parts_request O.number 0 given) (outcome result) cost.old cost.new }
     ensures most { CostsAtMost (parts_request O.number 0 given ∷ []) cost.old cost.new }
 {
     if entry.is_some() {
         return Ok(Reply::NotMet);
     }
+    if !fits_kind(&given) {
+        return Ok(Reply::NotMet);
+    }
     let made = entry_from_parts(given, cost)?;
-    let reply = if made.is_some() {
-        Reply::Done
-    } else {
-        Reply::NotMet
-    };
-    replace(entry, made);
-    Ok(reply)
+    replace(entry, Some(made));
+    Ok(Reply::Done)
 }
 
 /// Puts what raw parts make into the entry at an index; the command's condition fails if that is not empty or

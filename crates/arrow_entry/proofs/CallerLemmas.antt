@@ -20,5 +20,5 @@ pub use Rattle.arrow_entry.proofs.Seen.{seen_pushes, seen_grows, seen_cuts, seen
 pub use Rattle.arrow_entry.proofs.Seen.{held-seen, length-seen, mask-seen, frozen-seen}
 -- Lists of the numbers of offsets.
 pub use Rattle.arrow_entry.proofs.SlotLemmas.{number_lists, number-sign}
--- A row of one entry is a step of the list of entries: where one is changed or stays, and what the others hold then.
-pub use Rattle.arrow_entry.proofs.Steps.{at-row, stays-row, got, others-stay, set-same, set-twice, none-yet}
+-- A transition of one entry is a step of the list of entries: where one is changed or stays, and what the others hold then.
+pub use Rattle.arrow_entry.proofs.Steps.{at-transition, stays-transition, got, others-stay, set-same, set-twice, none-yet}

@@ -1,4 +1,4 @@
--- A row of one entry is a step of the whole table.
+-- A transition of one entry is a step of the whole table.
 use Rattle.std.proofs.Common.{◌≡◌, ◌<◌, ◌∙◌, ℕ, zero, suc, Bool, true, false, ◌==◌, if◌then◌else◌, option_and_then}
 use Rattle.std.proofs.Common.{List, [], ◌∷◌, length, get_or, sym, map, replicate, slice_get, slice_set, Option, Some}
 use Rattle.std.proofs.Common.{None, option_map, refl, ap, arith}
@@ -25,15 +25,15 @@ set-same [] e x is = refl
 set-same (z ∷ xs) zero x is = ap (λ y. y ∷ xs) (some-same x z (sym is))
 set-same (z ∷ xs) (suc e) x is = ap (λ rest. z ∷ rest) (set-same xs e x is)
 
-module _ {T E : Type 0} (f : E → Option (Value T)) (row : Option (Value T) → Transition T) where
-  pub at-row : (xs ys : List E) (e : ℕ) (x y : E) (reply : Answer T) → slice_get xs e ≡ Some x → ys ≡ slice_set xs e y
-      → row (f x) reply (f y) → AtEntry (map f xs) e row reply (map f ys)
-  at-row xs ys e x y reply is set h =
+module _ {T E : Type 0} (f : E → Option (Value T)) (transition : Option (Value T) → Transition T) where
+  pub at-transition : (xs ys : List E) (e : ℕ) (x y : E) (reply : Answer T) → slice_get xs e ≡ Some x → ys ≡ slice_set xs e y
+      → transition (f x) reply (f y) → AtEntry (map f xs) e transition reply (map f ys)
+  at-transition xs ys e x y reply is set h =
       rw (slice_get-map f xs e ∙ ap (option_map f) is) (f y, h, ap (map f) set ∙ map-slice_set f xs e y)
 
-  pub stays-row : (xs : List E) (e : ℕ) (x : E) (reply : Answer T) → slice_get xs e ≡ Some x → row (f x) reply (f x)
-      → AtEntry (map f xs) e row reply (map f xs)
-  stays-row xs e x reply is h = at-row xs xs e x x reply is (sym (set-same xs e x is)) h
+  pub stays-transition : (xs : List E) (e : ℕ) (x : E) (reply : Answer T) → slice_get xs e ≡ Some x → transition (f x) reply (f x)
+      → AtEntry (map f xs) e transition reply (map f xs)
+  stays-transition xs e x reply is h = at-transition xs xs e x x reply is (sym (set-same xs e x is)) h
 
 -- what was set there again
 pub set-twice : {E : Type 0} (xs : List E) (e : ℕ) (x y : E) → slice_set (slice_set xs e x) e y ≡ slice_set xs e y

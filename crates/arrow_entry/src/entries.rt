@@ -1,12 +1,30 @@
 //! Lists of entries, each of which may be empty.
-ghost use Rattle.std.specs.Prelude.{◌≡◌, option_copied};
+ghost use Rattle.std.specs.Prelude.{◌≡◌, IfOk, None, option_copied, replicate};
 ghost use Rattle.arrow_entry.specs.Entry.{state_of, value_in};
 ghost use Rattle.arrow_model.specs.Step.{entry_at};
 
 use crate::Entry;
 use arrow_types::native_type::NativeType;
 use arrow_types::offset::Offset;
+use std::alloc::{AllocError, Global};
 use std::mem;
+
+/// Creates a list of `n` empty entries.
+///
+/// # Errors
+/// `AllocError` if the allocation fails.
+pub fn empty_entries<T: NativeType, O: Offset>(
+    alloc: Global,
+    n: usize,
+) -> Result<Vec<Option<Entry<T, O>>>, AllocError>
+    ensures { IfOk result (λ entries. entries.items ≡ replicate n None) }
+{
+    let mut entries = Vec::with_capacity(alloc, n)?;
+    for _ in 0..n {
+        entries.push(None)?;
+    }
+    Ok(entries)
+}
 
 /// Returns the array or builder in an entry of a table; `None` if the entry is empty or out of bounds.
 #[inline(always)]
@@ -30,7 +48,13 @@ pub fn replace<T: NativeType, O: Offset>(entry: &mut Option<Entry<T, O>>, with: 
     drop(mem::replace(entry, with));
 }
 
-/// Drops an array or a builder. The crates above call this, so that what each of the ten kinds drops is proved once.
+/// Drops a list of entries. The crates above call this and [`discard`], so that what each of the ten kinds drops is proved
+/// once.
+pub fn discard_all<T: NativeType, O: Offset>(entries: Vec<Option<Entry<T, O>>>) {
+    drop(entries);
+}
+
+/// Drops an array or a builder.
 pub fn discard<T: NativeType, O: Offset>(entry: Entry<T, O>) {
     drop(entry);
 }

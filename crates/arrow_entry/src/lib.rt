@@ -13,7 +13,7 @@ mod slot;
 mod turns;
 
 pub use arrow_model::{Item, Kind, Turn};
-pub use entries::{discard, entry_at, replace};
+pub use entries::{discard, discard_all, empty_entries, entry_at, replace};
 pub use entry::Entry;
 pub use extend::{push_items, push_slots};
 pub use fit::{items_fit, slots_fit};

@@ -1,11 +1,11 @@
 //! The state of a session, on which commands are run, and the second pass over the lines of an input.
-ghost use Rattle.std.specs.Prelude.{IfOk, OnOk};
+ghost use Rattle.std.specs.Prelude.{[], ◌≡◌, IfOk, OnOk, string_bytes};
 ghost use Rattle.arrow_model.specs.Answer.{done, answer_of};
 ghost use Rattle.arrow_model.specs.Both.{narrow_to, widen};
 ghost use Rattle.arrow_model.specs.Item.{stored_slot};
 ghost use Rattle.arrow_model.specs.Request.{all_slots, as_request, at, parts_request, push};
 ghost use Rattle.arrow_table.specs.Width.{on_width};
-ghost use Rattle.arrow_interpreter.specs.Replies.{AppendsAnswer, RunsLine, RunsRequest};
+ghost use Rattle.arrow_interpreter.specs.Replies.{AppendsAnswer, RunsLine, RunsRequest, at_first};
 
 use crate::line::{CommandLine, DirectLine, ParseOffset};
 use crate::listing::push_listed;
@@ -13,8 +13,11 @@ use crate::pass::{Pass, TwoNumbers};
 use arrow_syntax::print::push_replies;
 use arrow_syntax::readers::{Last, Words};
 use arrow_table::{Command, Item, Parts, Reply, Tables, Width};
-use std::alloc::AllocError;
+use std::alloc::{AllocError, Global};
 use std::slice::from_ref;
+
+/// The number of entries of each table.
+const ENTRIES: usize = 16;
 
 /// The tables of a session, and the text of its replies so far. Each call runs one command on the table of a width of
 /// offsets and appends the text of its reply. If an allocation fails, the text may hold a beginning of it.
@@ -27,6 +30,28 @@ pub struct Interpreter {
 }
 
 impl Interpreter {
+    /// Creates tables of empty entries, with no text.
+    pub fn new(alloc: Global) -> Result<Self, AllocError>
+        ensures tables { IfOk result (λ interpreter. interpreter.tables ≡ at_first) }
+        ensures text { IfOk result (λ interpreter. string_bytes interpreter.text ≡ []) }
+    {
+        match Tables::new(alloc, ENTRIES) {
+            Ok(tables) => Ok(Interpreter {
+                tables,
+                text: String::new(alloc),
+            }),
+            Err(_) => Err(AllocError),
+        }
+    }
+
+    /// Drops the tables and returns the text.
+    pub fn into_text(self) -> String
+        ensures { string_bytes result ≡ string_bytes self.text }
+    {
+        self.tables.discard();
+        self.text
+    }
+
     /// Runs a command.
     #[inline(always)]
     pub fn run<O: Width>(&mut self, command: Command<i64, O>) -> Result<(), AllocError>

@@ -1,4 +1,4 @@
--- Every row leaves a value where it leaves anything: so each step of a table keeps its entries values.
+-- Every transition leaves a value where it leaves anything: so each step of a table keeps its entries values.
 use Rattle.std.proofs.Common.{◌≡◌, ◌∙◌, ◌-◌, ◌==◌, ℕ, ℤ, Bool, true, false, not, ◌&&◌, ◌||◌, nat_eq, nat_lt, List, []}
 use Rattle.std.proofs.Common.{◌∷◌, ◌++◌, length, map, take, replicate, is_some, is_none, slice_get, slice_set, Option}
 use Rattle.std.proofs.Common.{Some, None, option_map, option_and_then, unsigned_abs, if◌then◌else◌, refl, sym, subst}
@@ -28,8 +28,7 @@ use Rattle.arrow_model.specs.Request.{Ask, RawValues, Packed, Request, Source, m
 use Rattle.arrow_model.specs.Request.{filter_to, take_to, check_indexes}
 use Rattle.arrow_model.specs.Request as ask
 use Rattle.arrow_model.specs.Transition.{gives, leaves, or_else_keep, memory, answers, unmet, require_some, where_true}
-use Rattle.arrow_model.specs.Transition.{provided, of_kind, by_test}
-use Rattle.arrow_model.specs.Transition as rows
+use Rattle.arrow_model.specs.Transition.{Transition, provided, of_kind, by_test}
 use Rattle.arrow_model.specs.Run.{IsRun, Runs}
 use Rattle.arrow_model.specs.Step.{AtEntry, Changes, Clones, Compares, ComparesWith, Does, Extends, Filled, Filtered}
 use Rattle.arrow_model.specs.Step.{Filters, AppendsRows, ExtendsFrom, Makes, IntoEmpty, Taken, TakesKeys, copying, effect, entry_at}
@@ -57,58 +56,62 @@ by-option None f g = f
 by-option (Some x) f g = g x refl
 
 module _ {T : Type 0} (c : Types T) where
-  -- a row that leaves a value, or nothing
-  abbrev pub Fine : rows.Transition T → Type 0
-  Fine row = (reply : Answer T) (new : Option (Value T)) → row reply new → IfSome new (IsValue c)
+  -- a transition that leaves a value, or nothing
+  abbrev pub Fine : Transition T → Type 0
+  Fine transition = (reply : Answer T) (new : Option (Value T)) → transition reply new → IfSome new (IsValue c)
 
   fine-gives : (said : Answer T) (kept : Option (Value T)) → IfSome kept (IsValue c) → Fine (gives said kept)
   fine-gives said kept is reply new h = subst (λ (n : Option (Value T)). IfSome n (IsValue c)) (sym h.1) is
 
-  fine-may : (chosen : Answer T → Bool) (kept : Option (Value T)) (row : rows.Transition T) → IfSome kept (IsValue c)
-      → Fine row → Fine (or_else_keep chosen kept row)
-  fine-may chosen kept row is fine reply new = by-bool (chosen reply)
+  fine-may : (chosen : Answer T → Bool) (kept : Option (Value T)) (transition : Transition T) → IfSome kept (IsValue c)
+      → Fine transition → Fine (or_else_keep chosen kept transition)
+  fine-may chosen kept transition is fine reply new = by-bool (chosen reply)
       (λ _ h. subst (λ (n : Option (Value T)). IfSome n (IsValue c)) (sym h) is) (λ _ h. fine reply new h)
 
-  fine-memory : (old : Option (Value T)) (row : rows.Transition T) → IfSome old (IsValue c) → Fine row → Fine (memory old row)
+  fine-memory : (old : Option (Value T)) (transition : Transition T) → IfSome old (IsValue c) → Fine transition
+      → Fine (memory old transition)
   fine-memory = fine-may is_memory
 
-  fine-test : (test : Bool) (row other : rows.Transition T) → (test ≡ true → Fine row) → (test ≡ false → Fine other)
-      → Fine (by_test test row other)
-  fine-test test row other holds fails reply new = by-bool test (λ is h. holds is reply new h)
+  fine-test : (test : Bool) (transition other : Transition T) → (test ≡ true → Fine transition)
+      → (test ≡ false → Fine other) → Fine (by_test test transition other)
+  fine-test test transition other holds fails reply new = by-bool test (λ is h. holds is reply new h)
       (λ is h. fails is reply new h)
 
-  fine-given : (old : Option (Value T)) {A : Type 0} (found : Option A) (row : A → rows.Transition T)
-      → IfSome old (IsValue c) → ((x : A) → found ≡ Some x → Fine (row x)) → Fine (require_some old found row)
-  fine-given old found row is fine reply new = by-option found (λ h. fine-gives _ old is reply new h)
+  fine-given : (old : Option (Value T)) {A : Type 0} (found : Option A) (transition : A → Transition T)
+      → IfSome old (IsValue c) → ((x : A) → found ≡ Some x → Fine (transition x))
+      → Fine (require_some old found transition)
+  fine-given old found transition is fine reply new = by-option found (λ h. fine-gives _ old is reply new h)
       (λ x got h. fine x got reply new h)
 
-  fine-where : (old : Option (Value T)) (test : Bool) (row : rows.Transition T) → IfSome old (IsValue c)
-      → (test ≡ true → Fine row) → Fine (where_true old test row)
-  fine-where old test row is fine reply new = by-bool test (λ so h. fine so reply new h)
+  fine-where : (old : Option (Value T)) (test : Bool) (transition : Transition T) → IfSome old (IsValue c)
+      → (test ≡ true → Fine transition) → Fine (where_true old test transition)
+  fine-where old test transition is fine reply new = by-bool test (λ so h. fine so reply new h)
       (λ _ h. fine-gives _ old is reply new h)
 
-  fine-over : (old : Option (Value T)) (over : Bool) (row : rows.Transition T) → IfSome old (IsValue c) → Fine row
-      → Fine (unless_over old over row)
-  fine-over old over row is fine reply new = by-bool over (λ _ h. fine-gives _ old is reply new h)
+  fine-over : (old : Option (Value T)) (over : Bool) (transition : Transition T) → IfSome old (IsValue c)
+      → Fine transition → Fine (unless_over old over transition)
+  fine-over old over transition is fine reply new = by-bool over (λ _ h. fine-gives _ old is reply new h)
       (λ _ h. fine reply new h)
 
-  fine-provided : (old : Option (Value T)) (P : Type 0) (row : rows.Transition T) → IfSome old (IsValue c) → (P → Fine row)
-      → Fine (provided old P row)
-  fine-provided old P row is fine reply new (inl h) = fine h.0 reply new h.1
-  fine-provided old P row is fine reply new (inr h) = fine-gives _ old is reply new h.1
+  fine-provided : (old : Option (Value T)) (P : Type 0) (transition : Transition T) → IfSome old (IsValue c)
+      → (P → Fine transition) → Fine (provided old P transition)
+  fine-provided old P transition is fine reply new (inl h) = fine h.0 reply new h.1
+  fine-provided old P transition is fine reply new (inr h) = fine-gives _ old is reply new h.1
 
-  fine-kind : (old : Option (Value T)) (kinds : Shape → Bool) (row : Value T → rows.Transition T) → IfSome old (IsValue c)
-      → ((v : Value T) → IsValue c v → kinds v.shape ≡ true → Fine (row v)) → Fine (of_kind old kinds row)
-  fine-kind None kinds row is fine = fine-given None None row is (λ w got. absurd (none w got))
+  fine-kind : (old : Option (Value T)) (kinds : Shape → Bool) (transition : Value T → Transition T)
+      → IfSome old (IsValue c) → ((v : Value T) → IsValue c v → kinds v.shape ≡ true → Fine (transition v))
+      → Fine (of_kind old kinds transition)
+  fine-kind None kinds transition is fine = fine-given None None transition is (λ w got. absurd (none w got))
     where
       none : (w : Value T) → (let it : Option (Value T) = None in it) ≡ Some w → ⊥
       none w e = cc
-  fine-kind (Some v) kinds row is fine = fine-given (Some v) (if kinds v.shape then Some v else None) row is
+  fine-kind (Some v) kinds transition is fine =
+      fine-given (Some v) (if kinds v.shape then Some v else None) transition is
       (λ w got. holds (kinds v.shape) refl w got)
     where
       holds : (test : Bool) → kinds v.shape ≡ test → (w : Value T) → (if test then Some v else None) ≡ Some w
-          → Fine (row w)
-      holds true so w got = subst (λ (u : Value T). Fine (row u)) (some-same v w got) (fine v is so)
+          → Fine (transition w)
+      holds true so w got = subst (λ (u : Value T). Fine (transition u)) (some-same v w got) (fine v is so)
         where
           some-same : (a b : Value T) → Some a ≡ Some b → a ≡ b
           some-same a b e = cc
@@ -170,20 +173,20 @@ module _ {T : Type 0} (c : Types T) where
       right frozen passed = passed.1.0
       right with_nulls passed = passed.1.0
       right values_alone passed = passed.1.0
-  fine-parts group native t mask (ask.cut_pieces numbers held) kind = fine-unmet
-  fine-parts group boolean t mask (ask.cut_pieces numbers held) kind = fine-unmet
-  fine-parts group (var_binary true) t mask (ask.cut_pieces numbers held) kind =
+  fine-parts group native t mask (ask.cut_pieces numbers bytes) kind = fine-unmet
+  fine-parts group boolean t mask (ask.cut_pieces numbers bytes) kind = fine-unmet
+  fine-parts group (var_binary true) t mask (ask.cut_pieces numbers bytes) kind =
       fine-where None (not (is_values_alone (shaped group (var_binary true))) || is_none mask) _ tt
       (λ bare. fine-memory None _ tt
       (fine-accepted (offsets_test numbers
-      (bits_test mask (pieces_tests c group true t (map unsigned_abs numbers) held (option_map marks_in mask)))) _
-      (λ passed. pieces-is c group true t mask (map unsigned_abs numbers) held passed.1.1 bare)))
-  fine-parts group (var_binary false) t mask (ask.cut_pieces numbers held) kind =
+      (bits_test mask (pieces_tests c group true t (map unsigned_abs numbers) bytes (option_map marks_in mask)))) _
+      (λ passed. pieces-is c group true t mask (map unsigned_abs numbers) bytes passed.1.1 bare)))
+  fine-parts group (var_binary false) t mask (ask.cut_pieces numbers bytes) kind =
       fine-where None (not (is_values_alone (shaped group (var_binary false))) || is_none mask) _ tt
       (λ bare. fine-memory None _ tt
       (fine-accepted (offsets_test numbers
-      (bits_test mask (pieces_tests c group false t (map unsigned_abs numbers) held (option_map marks_in mask))))
-      _ (λ passed. pieces-is c group false t mask (map unsigned_abs numbers) held passed.1.1 bare)))
+      (bits_test mask (pieces_tests c group false t (map unsigned_abs numbers) bytes (option_map marks_in mask))))
+      _ (λ passed. pieces-is c group false t mask (map unsigned_abs numbers) bytes passed.1.1 bare)))
 
   fine-makes : (s : Shape) (source : Source T) → IsKind s → IsTextSource source → Fine (Makes c s source)
   fine-makes s ask.nothing kind text = fine-memory None _ tt (fine-gives done (Some (empty_value c s)) (empty-is c s))
@@ -256,17 +259,17 @@ module _ {T : Type 0} (c : Types T) where
     fine-tells : (said : Answer T) → Fine (answers old said)
     fine-tells said = fine-gives said old is
 
-    fine-copied : (v : Value T) (row : rows.Transition T) → Fine row → Fine (copying c old v row)
-    fine-copied v row fine reply new = by-bool (is_var_binary v.shape)
-        (λ _ h. fine-memory old row is fine reply new h) (λ _ h. fine reply new h)
+    fine-copied : (v : Value T) (transition : Transition T) → Fine transition → Fine (copying c old v transition)
+    fine-copied v transition fine reply new = by-bool (is_var_binary v.shape)
+        (λ _ h. fine-memory old transition is fine reply new h) (λ _ h. fine reply new h)
 
-    fine-asks : (row : rows.Transition T) → Fine row → Fine (memory old row)
-    fine-asks row fine = fine-memory old row is fine
+    fine-asks : (transition : Transition T) → Fine transition → Fine (memory old transition)
+    fine-asks transition fine = fine-memory old transition is fine
 
     fine-becomes : (w : Value T) → IsValue c w → Fine (memory old (leaves w))
     fine-becomes w kept = fine-asks (leaves w) (fine-leaves w kept)
 
-    ruleset fine-rows = (
+    ruleset fine-transitions = (
       fine-tells,
       fine-asks,
       fine-given,
@@ -382,7 +385,7 @@ module _ {T : Type 0} (c : Types T) where
         (λ right. fine-becomes _
         (record { right_type = right; around = of.around; rows = of.rows; unmasked = of.unmasked }))
     -- what is answered alone, or leaves a value that these lemmas are about
-    fine-transition _ v of for text = search (fine-rows, fine-values)
+    fine-transition _ v of for text = search (fine-transitions, fine-values)
 
     fine-does : (asks : Ask T) → IsTextAsk asks → Fine (Does c old asks)
     fine-does asks text = fine-kind old (effect c old asks).kinds (effect c old asks).transition is
@@ -401,7 +404,7 @@ module _ {T : Type 0} (c : Types T) where
         (λ v of for. fine-given old other (Compares old v) is (λ w got.
         fine-where old (same_kind v.shape w.shape) _ is (λ same reply new h. fine-tells _ reply new h.2)))
 
-  -- rows of an array
+  -- transitions of an array
   module _ (v : Value T) (is : IsValue c v) where
     fine-filtered : (filter : Column Bool) → is_frozen v.shape ≡ true → Fine (Filtered filter v)
     fine-filtered filter array =
@@ -434,11 +437,13 @@ module _ {T : Type 0} (c : Types T) where
       either true = tt
       either false = entry-is state f all
 
-  fine-entry : (state : State T) (e : ℕ) (row : Option (Value T) → rows.Transition T) (reply : Answer T) (new : State T)
+  fine-entry : (state : State T) (e : ℕ) (transition : Option (Value T) → Transition T) (reply : Answer T)
+      (new : State T)
       → AreValues c state
-      → ((old : Option (Value T)) → IfSome old (IsValue c) → Fine (row old)) → AtEntry state e row reply new
+      → ((old : Option (Value T)) → IfSome old (IsValue c) → Fine (transition old))
+      → AtEntry state e transition reply new
       → AreValues c new
-  fine-entry state e row reply new all fine =
+  fine-entry state e transition reply new all fine =
       by-option (slice_get state e)
       (λ h. subst (AreValues c) (sym h.1) all)
       (λ old got h. subst (AreValues c) (sym h.2)
@@ -465,14 +470,15 @@ module _ {T : Type 0} (c : Types T) where
           none : (let it : Option (Value T) = None in it) ≡ Some v → ⊥
           none e = cc
 
-  fine-array : (from : Option (Value T)) (row : Value T → rows.Transition T) → IfSome from (IsValue c)
-      → ((v : Value T) → IsValue c v → is_frozen v.shape ≡ true → Fine (row v))
-      → Fine (require_some None (array_in from) row)
-  fine-array from row is fine = fine-given None (array_in from) row tt
+  fine-array : (from : Option (Value T)) (transition : Value T → Transition T) → IfSome from (IsValue c)
+      → ((v : Value T) → IsValue c v → is_frozen v.shape ≡ true → Fine (transition v))
+      → Fine (require_some None (array_in from) transition)
+  fine-array from transition is fine = fine-given None (array_in from) transition tt
       (λ v got. let found = array-of from v got in fine v (some-is from v found.0 is) found.1)
 
-  fine-puts : (row : rows.Transition T) (old : Option (Value T)) → IfSome old (IsValue c) → Fine row → Fine (IntoEmpty row old)
-  fine-puts row old is fine = fine-where old (is_none old) row is (λ _. fine)
+  fine-puts : (transition : Transition T) (old : Option (Value T)) → IfSome old (IsValue c) → Fine transition
+      → Fine (IntoEmpty transition old)
+  fine-puts transition old is fine = fine-where old (is_none old) transition is (λ _. fine)
 
   pub fine-changes : (state : State T) (asks : Request T) (reply : Answer T) (new : State T) → IsRequest asks
       → AreValues c state → Changes c state asks reply new → AreValues c new
@@ -510,7 +516,7 @@ module _ {T : Type 0} (c : Types T) where
 
   pub fine-run : (old : TableState T) (requests : List (Request T)) (replies : List (Answer T)) (new : TableState T)
       → All IsRequest requests → AreValues c old.entries → IsRun c old requests replies new → AreValues c new.entries
-  fine-run old [] [] new named all run = subst (λ (held : TableState T). AreValues c held.entries) (sym run) all
+  fine-run old [] [] new named all run = subst (λ (state : TableState T). AreValues c state.entries) (sym run) all
   fine-run old [] (reply ∷ replies) new named all run = absurd run
   fine-run old (asks ∷ requests) [] new named all run = absurd run
   fine-run old (asks ∷ requests) (reply ∷ replies) new named all run =
@@ -557,16 +563,16 @@ module _ {T : Type 0} where
     fine-both old (narrow asks) reply new named small large h = (
       fine-changes (narrow_types zero primitive) old.narrow.entries asks reply new.narrow.entries named small
           h.0.0,
-      subst (λ (held : TableState T). AreValues (wide_types zero primitive) held.entries) (sym h.1) large,
+      subst (λ (state : TableState T). AreValues (wide_types zero primitive) state.entries) (sym h.1) large,
     )
     fine-both old (wide asks) reply new named small large h = (
-      subst (λ (held : TableState T). AreValues (narrow_types zero primitive) held.entries) (sym h.1) small,
+      subst (λ (state : TableState T). AreValues (narrow_types zero primitive) state.entries) (sym h.1) small,
       fine-changes
           (wide_types zero primitive) old.wide.entries asks reply new.wide.entries named large h.0.0,
     )
     fine-both old (widen e f) reply new named small large h =
         let c = narrow_types zero primitive in let d = wide_types zero primitive in (
-          subst (λ (held : TableState T). AreValues c held.entries) (sym h.2) small,
+          subst (λ (state : TableState T). AreValues c state.entries) (sym h.2) small,
           fine-entry d old.wide.entries f (IntoEmpty (Widens d (entry_at old.narrow.entries e))) reply
               new.wide.entries large
               (λ kept is. fine-puts d (Widens d (entry_at old.narrow.entries e)) kept is
@@ -578,7 +584,7 @@ module _ {T : Type 0} where
               new.narrow.entries small
               (λ kept is. fine-puts d (Narrows d (entry_at old.wide.entries e)) kept is
               (fine-narrows c d (entry_at old.wide.entries e) (entry-is c old.wide.entries e large))) h.0,
-          subst (λ (held : TableState T). AreValues c held.entries) (sym h.2) large,
+          subst (λ (state : TableState T). AreValues c state.entries) (sym h.2) large,
         )
 
     pub fine-both-run : (old : Both T) (requests : List (BothRequest T)) (replies : List (Answer T)) (new : Both T)

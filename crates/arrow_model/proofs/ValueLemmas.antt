@@ -517,32 +517,32 @@ module _ {T : Type 0} (c : Types T) where
   plain-none group true plain = true≢false plain
   plain-none group false plain = true≢false plain
 
-  cut-is-value : (group : Group) (text : Bool) (t : LogicalType) (mask : Option Packed) (offsets held : List ℕ)
-      → IsRightType (layout c (var_binary text)) t → AreItems text (items_of offsets held)
-      → (is_builder (shaped group (var_binary text)) ≡ true → last_of offsets ≡ length held)
+  cut-is-value : (group : Group) (text : Bool) (t : LogicalType) (mask : Option Packed) (offsets bytes : List ℕ)
+      → IsRightType (layout c (var_binary text)) t → AreItems text (items_of offsets bytes)
+      → (is_builder (shaped group (var_binary text)) ≡ true → last_of offsets ≡ length bytes)
       → (not (is_values_alone (shaped group (var_binary text))) || is_none mask) ≡ true
-      → IsValue c (made c (shaped group (var_binary text)) t mask (around_of offsets held)
-      (map (bytes_item text) (items_of offsets held)))
-  cut-is-value group text t mask offsets held right items end bare = record {
+      → IsValue c (made c (shaped group (var_binary text)) t mask (around_of offsets bytes)
+      (map (bytes_item text) (items_of offsets bytes)))
+  cut-is-value group text t mask offsets bytes right items end bare = record {
     right_type = right;
     around = record {
       plain = λ plain. absurd (plain-none group text plain);
       no_tail = λ builder. drop-all
-          (last_of offsets) held (end builder);
+          (last_of offsets) bytes (end builder);
     };
-    rows = masked (var_binary text) (map (bytes_item text) (items_of offsets held)) (option_map marks_in mask)
-        (items-stored text (items_of offsets held) items);
+    rows = masked (var_binary text) (map (bytes_item text) (items_of offsets bytes)) (option_map marks_in mask)
+        (items-stored text (items_of offsets bytes) items);
     unmasked = no-mask (is_values_alone (shaped group (var_binary text))) mask bare;
   }
 
-  pub pieces-is : (group : Group) (text : Bool) (t : LogicalType) (mask : Option Packed) (offsets held : List ℕ)
-      → Passes (pieces_tests c group text t offsets held (option_map marks_in mask))
+  pub pieces-is : (group : Group) (text : Bool) (t : LogicalType) (mask : Option Packed) (offsets bytes : List ℕ)
+      → Passes (pieces_tests c group text t offsets bytes (option_map marks_in mask))
       → (not (is_values_alone (shaped group (var_binary text))) || is_none mask) ≡ true
-      → IsValue c (made c (shaped group (var_binary text)) t mask (around_of offsets held)
-      (map (bytes_item text) (items_of offsets held)))
-  pieces-is frozen text t mask offsets held passed bare = cut-is-value frozen text t mask offsets held passed.1.1.1.0
+      → IsValue c (made c (shaped group (var_binary text)) t mask (around_of offsets bytes)
+      (map (bytes_item text) (items_of offsets bytes)))
+  pieces-is frozen text t mask offsets bytes passed bare = cut-is-value frozen text t mask offsets bytes passed.1.1.1.0
       passed.1.0 (λ builder. absurd (true≢false (sym builder))) bare
-  pieces-is with_nulls text t mask offsets held passed bare = cut-is-value with_nulls text t mask offsets held
+  pieces-is with_nulls text t mask offsets bytes passed bare = cut-is-value with_nulls text t mask offsets bytes
       passed.1.1.0 passed.1.0 (λ builder. passed.0) bare
-  pieces-is values_alone text t mask offsets held passed bare = cut-is-value values_alone text t mask offsets held
+  pieces-is values_alone text t mask offsets bytes passed bare = cut-is-value values_alone text t mask offsets bytes
       passed.1.1.0 passed.1.0 (λ builder. passed.0) bare

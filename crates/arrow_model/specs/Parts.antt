@@ -64,8 +64,8 @@ module _ {T : Type 0} (c : Types T) where
       (wrong_type_of (var_binary text) true)
   pieces_tests with_nulls text = byte_array.builder_tests text (layout c (var_binary text))
       (wrong_type_of (var_binary text) false)
-  pieces_tests values_alone text = λ t offsets held mask. byte_array.values_builder_tests text
-      (layout c (var_binary text)) (wrong_type_of (var_binary text) false) t offsets held
+  pieces_tests values_alone text = λ t offsets bytes mask. byte_array.values_builder_tests text
+      (layout c (var_binary text)) (wrong_type_of (var_binary text) false) t offsets bytes
 
   module _ (s : Shape) (t : LogicalType) (mask : Option Packed) where
     -- the value that they make
@@ -83,21 +83,21 @@ module _ {T : Type 0} (c : Types T) where
         (memory None (accepted
         (bits_test (Some p) (bits_test mask (boolean_tests s.group t (marks_in p) (option_map marks_in mask))))
         (made nothing_around (map bit (marks_in p)))))
-    PartsTransition (cut_pieces numbers held) =
+    PartsTransition (cut_pieces numbers bytes) =
         let offsets = map unsigned_abs numbers in
         where_true None (is_var_binary s && (not (is_values_alone s) || is_none mask))
         (memory None (accepted
         (offsets_test numbers
-        (bits_test mask (pieces_tests s.group (is_text s) t offsets held (option_map marks_in mask))))
-        (made (around_of offsets held) (map (bytes_item (is_text s)) (items_of offsets held)))))
+        (bits_test mask (pieces_tests s.group (is_text s) t offsets bytes (option_map marks_in mask))))
+        (made (around_of offsets bytes) (map (bytes_item (is_text s)) (items_of offsets bytes)))))
 
 -- what the test of text costs for parts of offsets and bytes: nothing if the command's condition fails, if memory is
 -- refused, if the offsets are not legal, or if the mask has too few bits
 abbrev pub PartsCost : {T : Type 0} → Shape → Option Packed → List ℤ → List ℕ → Answer T → Cost → Cost → Type 0
-PartsCost s mask numbers held reply old new =
+PartsCost s mask numbers bytes reply old new =
     let IsTested : Type 0 = (is_not_met reply ≡ false) × (is_memory reply ≡ false) × (first_fault numbers ≡ None)
     × IfSome mask BitsFit in
     let offsets = map unsigned_abs numbers in
-    (IsTested → MatchBool (is_frozen s) (Costs (is_text s) offsets held old new)
-    (BuilderCosts (is_text s) offsets held old new))
+    (IsTested → MatchBool (is_frozen s) (Costs (is_text s) offsets bytes old new)
+    (BuilderCosts (is_text s) offsets bytes old new))
     × ((IsTested → ⊥) → new ≡ old)

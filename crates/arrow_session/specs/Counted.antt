@@ -7,7 +7,7 @@ use Rattle.arrow_session.specs.declared.counted.Counted.{Counted}
 abbrev pub fault_count : {R : Type 0} → Counted R → ℕ
 fault_count counted = counted.faults
 
--- whether a read found the end of the input
+-- whether a read found the end of the input, since the last session on it began
 abbrev pub found_end : {R : Type 0} → Counted R → Bool
 found_end counted = counted.has_ended
 

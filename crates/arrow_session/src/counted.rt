@@ -9,7 +9,8 @@ use std::io;
 use std::io::{Read, Write};
 
 /// A reader or a writer that counts its faults: reads, writes and flushes that failed, and writes
-/// of a non-empty slice that took nothing. A reader also remembers whether it found the end of its input.
+/// of a non-empty slice that took nothing. A reader also remembers whether it found the end of its input since the last
+/// session on it began.
 #[derive(Drop)]
 pub struct Counted<R> {
     inner: R,
@@ -38,11 +39,21 @@ impl<R> Counted<R> {
         self.faults
     }
 
-    /// Returns whether a read found the end of the input.
+    /// Returns whether a read found the end of the input since the last session on this reader began, or at all if there
+    /// was none.
     pub fn has_ended(&self) -> bool
         ensures { result ≡ found_end self.now }
     {
         self.has_ended
+    }
+
+    /// Forgets that a read found the end of the input.
+    pub(crate) fn forget_end(&mut self)
+        ensures count { fault_count self.new ≡ fault_count self.old }
+        ensures inside { inside self.new ≡ inside self.old }
+        ensures end { found_end self.new ≡ false }
+    {
+        self.has_ended = false;
     }
 
     /// Counts a fault if there was one.

@@ -1,7 +1,7 @@
 //! Reads of a whole input and writes of a whole text, over devices that may fail.
 ghost use Rattle.std.specs.Prelude.{◌≡◌, ◌<◌, ◌≤◌, IfOk, IsErrOf, IsFalse, OnErr, OnOk, length, take, vec_len};
 ghost use Rattle.std.specs.Io.KnownBytes.{Appends, Keeps};
-ghost use Rattle.arrow_session.specs.Counted.{Faulted, KeepsEnd, UnlessFaulted, fault_count, inside};
+ghost use Rattle.arrow_session.specs.Counted.{Faulted, KeepsEnd, UnlessFaulted, fault_count, found_end, inside};
 ghost use Rattle.arrow_session.specs.Device.{Takes, IsWhole, PutsFront};
 
 use crate::counted::Counted;
@@ -68,7 +68,7 @@ fn room(alloc: Global, len: usize) -> Result<Vec<u8>, AllocError>
     vec![in alloc; 0; len]
 }
 
-/// Reads an input to its end.
+/// Reads an input to its end. What earlier reads found of an end is forgotten.
 ///
 /// # Errors
 /// Returns `Fault::Device` if a read fails, and `Fault::Memory` if an allocation fails before the end is found.
@@ -76,8 +76,9 @@ pub(crate) fn read_all<R: Read>(alloc: Global, input: &mut Counted<R>) -> Result
     ensures whole { IfOk result (λ bytes.
         IsWhole (R.remaining (inside input.old)) (R.remaining (inside input.new)) bytes.items) }
     ensures device { IsErrOf result Fault.Device → Faulted input.old input.new }
-    ensures memory { IsErrOf result Fault.Memory → KeepsEnd input.old input.new }
+    ensures memory { IsErrOf result Fault.Memory → IsFalse (found_end input.new) }
 {
+    input.forget_end();
     let mut piece = room(alloc, PIECE)?;
     let mut bytes = Vec::new(alloc);
     for _ in 0..u64::MAX {

@@ -1,6 +1,7 @@
 //! A session: the input is read, every line is tested, the commands are run, and then the replies are written.
-ghost use Rattle.std.specs.Prelude.{◌≡◌, IfErr, IfOk, IfSome, MatchOption, ◌⊎◌, string_bytes};
-ghost use Rattle.arrow_session.specs.Counted.{Faulted, KeepsEnd, inside};
+ghost use Rattle.std.specs.Prelude.{[], ◌≡◌, IfErr, IfOk, IfSome, IsFalse, MatchOption, OnOk, ◌⊎◌, string_bytes};
+ghost use Rattle.arrow_interpreter.specs.Replies.{at_first};
+ghost use Rattle.arrow_session.specs.Counted.{Faulted, found_end, inside};
 ghost use Rattle.arrow_syntax.specs.Lines.{bad_line, commands_of};
 ghost use Rattle.arrow_session.specs.Session.{AreCommands, EndsKnown, IsAnswer, IsStop};
 
@@ -10,12 +11,8 @@ use crate::outcome::Outcome;
 use arrow_interpreter::interpreter::Interpreter;
 use arrow_interpreter::run::{is_line, run_line};
 use arrow_syntax::lines::{all_printable, split_line};
-use arrow_table::Tables;
 use std::alloc::{AllocError, Global};
 use std::io::{Read, Write};
-
-/// The number of entries of each table of a session.
-const ENTRIES: usize = 16;
 
 /// Returns the number of the first line that is not a command, counted from 1, or `None` if every line is one or is
 /// passed over. Nothing is run or allocated.
@@ -36,21 +33,32 @@ fn first_bad_line(input: &[u8]) -> Option<usize>
     None
 }
 
-/// Runs an input of commands on tables of empty entries, and returns the text of the replies.
-fn run_lines(alloc: Global, input: &[u8]) -> Result<String, AllocError>
-    requires { AreCommands input.now }
-    ensures { IfOk result (λ text. IsAnswer input.now (string_bytes text)) }
+/// Runs the lines of an input of commands, in order.
+fn run_lines(interpreter: &mut Interpreter, input: &[u8]) -> Result<(), AllocError>
+    requires commands { AreCommands input.now }
+    requires tables { interpreter.old.tables ≡ at_first }
+    requires text { string_bytes interpreter.old.text ≡ [] }
+    ensures { OnOk result (IsAnswer input.now (string_bytes interpreter.new.text)) }
 {
-    let tables = Tables::new(alloc, ENTRIES).map_err(|_| AllocError)?;
-    let text = String::new(alloc);
-    let mut interpreter = Interpreter { tables, text };
     let mut rest = Some(input);
     while let Some(lines) = rest {
         let (line, after) = split_line(lines);
-        run_line(&mut interpreter, line)?;
+        run_line(interpreter, line)?;
         rest = after;
     }
-    Ok(interpreter.text)
+    Ok(())
+}
+
+/// Runs an input of commands on tables of empty entries, and returns the text of the replies.
+fn text_of(alloc: Global, input: &[u8]) -> Result<String, AllocError>
+    requires { AreCommands input.now }
+    ensures { IfOk result (λ text. IsAnswer input.now (string_bytes text)) }
+{
+    let mut interpreter = Interpreter::new(alloc)?;
+    let run = run_lines(&mut interpreter, input);
+    let text = interpreter.into_text();
+    run?;
+    Ok(text)
 }
 
 /// Returns the text of the replies of an input. Every line is tested before the first is run.
@@ -65,7 +73,7 @@ pub fn replies_of(alloc: Global, input: &[u8]) -> Result<String, Outcome>
     if let Some(number) = first_bad_line(input) {
         return Err(Outcome::BadLine(number));
     }
-    match run_lines(alloc, input) {
+    match text_of(alloc, input) {
         Ok(text) => Ok(text),
         Err(_) => Err(Outcome::Memory),
     }
@@ -81,9 +89,9 @@ pub fn session<R: Read, W: Write>(
     // Where the bytes of the reader and the writer are known.
     ensures known { EndsKnown R.remaining W.contents input.old input.new output.old output.new result }
     ensures device { result ≡ Outcome.Device → Faulted input.old input.new ⊎ Faulted output.old output.new }
-    // Only a refusal before the end of the input was found hides a line that is not a command.
+    // Only a refusal before this session found the end of the input hides a line that is not a command.
     ensures memory { result ≡ Outcome.Memory →
-        KeepsEnd input.old input.new ⊎ IfSome (R.remaining (inside input.old)) AreCommands }
+        IsFalse (found_end input.new) ⊎ IfSome (R.remaining (inside input.old)) AreCommands }
 {
     let bytes = match read_all(alloc, input) {
         Ok(bytes) => bytes,

@@ -249,16 +249,16 @@ with_length p = filter (λ line. p (length line.0))
 
 -- the request of the line of this name, made by the number and the words behind it
 unfoldable pub numbered_request : List Line → List ℕ → ℕ → Reader (Request ℤ)
-numbered_request rows name number words = option_and_then (λ reader. reader number words) (lookup rows name)
+numbered_request known name number words = option_and_then (λ reader. reader number words) (lookup known name)
 
 -- the request of the line of this name, made by the words behind it
 unfoldable pub named_request : List Line → List ℕ → Reader (Request ℤ)
-named_request rows name = next parse_usize (numbered_request rows name)
+named_request known name = next parse_usize (numbered_request known name)
 
 -- the request of the line that these words are
 unfoldable pub request_of : List Line → Reader (Request ℤ)
-request_of rows [] = None
-request_of rows (name ∷ words) = named_request rows name words
+request_of known [] = None
+request_of known (name ∷ words) = named_request known name words
 
 -- the lines that copy a value from one table into the other
 abbrev pub widen_line : Reader (BothRequest ℤ)

@@ -11,7 +11,7 @@ Reader A = List (List ℕ) → Option A
 -- the value listed for a word
 abbrev pub lookup : {A : Type 0} → List (List ℕ × A) → List ℕ → Option A
 lookup [] word = None
-lookup (row ∷ rows) word = if bytes_eq word row.0 then Some row.1 else lookup rows word
+lookup (pair ∷ pairs) word = if bytes_eq word pair.0 then Some pair.1 else lookup pairs word
 
 -- the value of the first word, and the words behind it
 abbrev pub first : {A : Type 0} → (List ℕ → Option A) → Reader (A × List (List ℕ))

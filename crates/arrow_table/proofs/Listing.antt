@@ -12,22 +12,22 @@ use Rattle.arrow_table.specs.Listed.{listed}
 
 module _ {T O : Type 0} (c : Types T) where
   -- nothing changes where slots are listed
-  lists : (held : Option (Entry T O))
-      → Does c (option_map value_of held) all_slots (listed held) (option_map value_of held)
+  lists : (lent : Option (Entry T O))
+      → Does c (option_map value_of lent) all_slots (listed lent) (option_map value_of lent)
   lists None = (refl, refl)
   lists (Some kept) = (refl, refl)
 
-  past : (held : Option (Entry T O)) → None ≡ option_map value_of held → listed held ≡ not_met
+  past : (lent : Option (Entry T O)) → None ≡ option_map value_of lent → listed lent ≡ not_met
   past None is = refl
   past (Some kept) is = grind arith
 
-  at-found : (found : Option (Option (Value T))) (state : State T) (e : ℕ) (held : Option (Entry T O))
-      → slice_get state e ≡ found → option_and_then (λ entry. entry) found ≡ option_map value_of held
-      → MatchOption found ((listed held ≡ not_met) × (state ≡ state)) (λ old. (kept : Option (Value T))
-      × Does c old all_slots (listed held) kept × (state ≡ slice_set state e kept))
-  at-found None state e held there is = (past held is, refl)
-  at-found (Some old) state e held there is = (old, rw is (lists held), sym (set-same state e old there))
+  at-found : (found : Option (Option (Value T))) (state : State T) (e : ℕ) (lent : Option (Entry T O))
+      → slice_get state e ≡ found → option_and_then (λ entry. entry) found ≡ option_map value_of lent
+      → MatchOption found ((listed lent ≡ not_met) × (state ≡ state)) (λ old. (kept : Option (Value T))
+      × Does c old all_slots (listed lent) kept × (state ≡ slice_set state e kept))
+  at-found None state e lent there is = (past lent is, refl)
+  at-found (Some old) state e lent there is = (old, rw is (lists lent), sym (set-same state e old there))
 
-  pub tells : (state : State T) (e : ℕ) (held : Option (Entry T O)) → entry_at state e ≡ option_map value_of held
-      → AtEntry state e (λ old. Does c old all_slots) (listed held) state
-  tells state e held is = at-found (slice_get state e) state e held refl is
+  pub tells : (state : State T) (e : ℕ) (lent : Option (Entry T O)) → entry_at state e ≡ option_map value_of lent
+      → AtEntry state e (λ old. Does c old all_slots) (listed lent) state
+  tells state e lent is = at-found (slice_get state e) state e lent refl is

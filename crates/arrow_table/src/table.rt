@@ -20,7 +20,7 @@ use arrow_check::cost::TextCost;
 use arrow_commands::command::update_at;
 use arrow_commands::grow::Push;
 use arrow_creation::parts::parts_at;
-use arrow_entry::entry_at;
+use arrow_entry::{discard_all, empty_entries, entry_at};
 use arrow_types::error::Error;
 use arrow_types::native_type::NativeType;
 use arrow_types::offset::Offset;
@@ -60,14 +60,16 @@ impl<T: NativeType, O: Offset> Table<T, O> {
         ensures ok { IfOk result (λ table. table ≡ empty_table n) }
         ensures err { OnlyOutOfMemory result }
     {
-        let mut entries = Vec::with_capacity(alloc, n)?;
-        for _ in 0..n {
-            entries.push(None)?;
-        }
+        let entries = empty_entries(alloc, n)?;
         Ok(Table {
             entries,
             cost: TextCost::new(),
         })
+    }
+
+    /// Drops the table. What its entries drop is then not proved again in the crate of the caller.
+    pub fn discard(self) {
+        discard_all(self.entries);
     }
 
     /// The number of entries.

@@ -52,8 +52,19 @@ impl<T: NativeType> Tables<T> {
         ensures err { OnlyOutOfMemory result }
     {
         let narrow = Table::new(alloc, n)?;
-        let wide = Table::new(alloc, n)?;
-        Ok(Tables { narrow, wide })
+        match Table::new(alloc, n) {
+            Ok(wide) => Ok(Tables { narrow, wide }),
+            Err(refused) => {
+                narrow.discard();
+                Err(refused)
+            }
+        }
+    }
+
+    /// Drops both tables. What their entries drop is then not proved again in the crate of the caller.
+    pub fn discard(self) {
+        self.narrow.discard();
+        self.wide.discard();
     }
 
     /// Returns the table over offsets of 32 bits.
@@ -96,8 +107,8 @@ impl<T: NativeType> Tables<T> {
         ensures { IsBothStep T.zero T.PRIMITIVE self.old (widen e f) (answer_of result) self.new }
     {
         let alloc = *self.wide.entries.allocator();
-        let row = OtherWidth(&self.narrow.entries, e);
-        reply_of(put_at(alloc, &mut self.wide.entries, f, row))
+        let command = OtherWidth(&self.narrow.entries, e);
+        reply_of(put_at(alloc, &mut self.wide.entries, f, command))
     }
 
     /// Copies the array of bytes or text in the wide entry `e` into the empty narrow entry `f`, over offsets of 32
@@ -106,8 +117,8 @@ impl<T: NativeType> Tables<T> {
         ensures { IsBothStep T.zero T.PRIMITIVE self.old (narrow_to e f) (answer_of result) self.new }
     {
         let alloc = *self.narrow.entries.allocator();
-        let row = OtherWidth(&self.wide.entries, e);
-        reply_of(put_at(alloc, &mut self.narrow.entries, f, row))
+        let command = OtherWidth(&self.wide.entries, e);
+        reply_of(put_at(alloc, &mut self.narrow.entries, f, command))
     }
 }
 

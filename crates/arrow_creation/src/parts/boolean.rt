@@ -1,6 +1,8 @@
 //! Boolean arrays and builders from raw parts.
-ghost use Rattle.arrow_creation.specs.Outcome.{BooleanFromParts, FromParts, MadeBy};
-ghost use Rattle.arrow_model.specs.Kind.{frozen, shape, with_nulls};
+ghost use Rattle.std.specs.Prelude.{IsTrue};
+ghost use Rattle.arrow_creation.specs.Outcome.{BooleanFromParts, BuiltBy, FromParts};
+ghost use Rattle.arrow_entry.specs.Entry.{value_of};
+ghost use Rattle.arrow_model.specs.Kind.{frozen, is_boolean, shape, with_nulls};
 ghost use Rattle.arrow_model.specs.Request.{packed, packed_bits};
 
 use crate::parts::raw::{
@@ -46,7 +48,7 @@ fn builder_from_parts<T: NativeType, O: Offset>(
     MutableBooleanArray::try_new(data_type, values, mask)
 }
 
-/// Creates what booleans and the rest of raw parts make; `None` if the kind is of another value kind.
+/// Creates what booleans and the rest of raw parts make. The kind is one of booleans.
 ///
 /// # Errors
 /// `OutOfSpec` for the first test that the parts fail, or `OutOfMemory` if an allocation fails.
@@ -55,18 +57,20 @@ pub fn bits_from_parts<T: NativeType, O: Offset>(
     data_type: DataType,
     values: Bits,
     mask: Option<Bits>,
-) -> Result<Option<Entry<T, O>>, Error>
-    ensures { MadeBy result (FromParts T.NativeType O.Offset data_type mask (shape kind) (packed (packed_bits values))) }
+) -> Result<Entry<T, O>, Error>
+    requires { IsTrue (is_boolean (shape kind)) }
+    ensures { BuiltBy value_of result
+        (FromParts T.NativeType O.Offset data_type mask (shape kind) (packed (packed_bits values))) }
 {
     match kind {
         Kind::Boolean => {
             let array = array_from_parts::<T, O>(data_type, values, mask)?;
-            Ok(Some(Entry::Boolean(array)))
+            Ok(Entry::Boolean(array))
         }
         Kind::MutableBoolean => {
             let builder = builder_from_parts::<T, O>(data_type, values, mask)?;
-            Ok(Some(Entry::MutableBoolean(builder)))
+            Ok(Entry::MutableBoolean(builder))
         }
-        _ => Ok(None),
+        _ => unreachable!(),
     }
 }

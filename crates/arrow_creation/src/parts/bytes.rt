@@ -1,7 +1,8 @@
 //! Arrays and builders of bytes and text from raw parts.
-ghost use Rattle.std.specs.Prelude.{None, false, true};
-ghost use Rattle.arrow_creation.specs.Outcome.{BytesCost, BytesCostAtMost, BytesFromParts, FromPieces, IsKindOf};
-ghost use Rattle.arrow_creation.specs.Outcome.{MadeBy, PiecesCost, PiecesCostAtMost, made_answer};
+ghost use Rattle.std.specs.Prelude.{IsTrue, None, false, true};
+ghost use Rattle.arrow_creation.specs.Outcome.{BuiltBy, BytesCost, BytesCostAtMost, BytesFromParts, FromPieces};
+ghost use Rattle.arrow_creation.specs.Outcome.{IsKindOf, PiecesCost, PiecesCostAtMost, built_answer, pieces_fit};
+ghost use Rattle.arrow_entry.specs.Entry.{value_of};
 ghost use Rattle.arrow_model.specs.Kind.{frozen, shape, values_alone, var_binary, with_nulls};
 ghost use Rattle.arrow_model.specs.Value.{types_of};
 
@@ -29,7 +30,7 @@ fn array_from_parts<T: NativeType, K: ByteKind, O: Offset>(
 ) -> Result<ByteArray<K, O>, Error>
     requires { IsKindOf (types_of T.NativeType O.Offset) (var_binary K.is_text) true
         (K.layout O.IS_LARGE) K.wrong_type }
-    ensures row { BytesFromParts T.NativeType O.Offset data_type mask frozen K.is_text offsets.items bytes.items result }
+    ensures transition { BytesFromParts T.NativeType O.Offset data_type mask frozen K.is_text offsets.items bytes.items result }
     ensures exact { BytesCost T.NativeType O.Offset frozen K.is_text mask offsets.items bytes.items result
         cost.old cost.new }
     ensures most { BytesCostAtMost T.NativeType O.Offset frozen K.is_text data_type mask
@@ -52,7 +53,7 @@ fn builder_from_parts<T: NativeType, K: ByteKind, O: Offset>(
 ) -> Result<MutableByteArray<K, O>, Error>
     requires { IsKindOf (types_of T.NativeType O.Offset) (var_binary K.is_text) false
         (K.layout O.IS_LARGE) K.wrong_builder_type }
-    ensures row { BytesFromParts T.NativeType O.Offset data_type mask with_nulls K.is_text offsets.items bytes.items result }
+    ensures transition { BytesFromParts T.NativeType O.Offset data_type mask with_nulls K.is_text offsets.items bytes.items result }
     ensures exact { BytesCost T.NativeType O.Offset with_nulls K.is_text mask offsets.items bytes.items result
         cost.old cost.new }
     ensures most { BytesCostAtMost T.NativeType O.Offset with_nulls K.is_text data_type mask
@@ -74,7 +75,7 @@ fn values_from_parts<T: NativeType, K: ByteKind, O: Offset>(
 ) -> Result<MutableByteValuesArray<K, O>, Error>
     requires { IsKindOf (types_of T.NativeType O.Offset) (var_binary K.is_text) false
         (K.layout O.IS_LARGE) K.wrong_builder_type }
-    ensures row { BytesFromParts T.NativeType O.Offset data_type None values_alone K.is_text offsets.items bytes.items result }
+    ensures transition { BytesFromParts T.NativeType O.Offset data_type None values_alone K.is_text offsets.items bytes.items result }
     ensures exact { BytesCost T.NativeType O.Offset values_alone K.is_text None offsets.items bytes.items result
         cost.old cost.new }
     ensures most { BytesCostAtMost T.NativeType O.Offset values_alone K.is_text data_type None
@@ -84,8 +85,8 @@ fn values_from_parts<T: NativeType, K: ByteKind, O: Offset>(
     MutableByteValuesArray::try_new_counted(data_type, offsets, bytes, cost)
 }
 
-/// Creates what offsets, bytes and the rest of raw parts make; `None` if the kind is of another value kind, or if there is a
-/// mask for a builder without nulls. What the test of text costs is added to the counts.
+/// Creates what offsets, bytes and the rest of raw parts make. The kind is one of bytes or text, and of a builder without
+/// nulls there is no mask. What the test of text costs is added to the counts.
 ///
 /// # Errors
 /// `OutOfSpec` for the first test that the parts fail, or `OutOfMemory` if an allocation fails.
@@ -96,47 +97,48 @@ pub fn bytes_from_parts<T: NativeType, O: Offset>(
     bytes: Vec<u8>,
     mask: Option<Bits>,
     cost: &mut TextCost,
-) -> Result<Option<Entry<T, O>>, Error>
-    ensures row { MadeBy result
+) -> Result<Entry<T, O>, Error>
+    requires { IsTrue (pieces_fit (shape kind) mask) }
+    ensures transition { BuiltBy value_of result
         (FromPieces T.NativeType O.Offset data_type mask (shape kind) offsets.items bytes.items) }
     ensures exact { PiecesCost T.NativeType O.Offset (shape kind) mask
-        offsets.items bytes.items (made_answer result) cost.old cost.new }
+        offsets.items bytes.items (built_answer result) cost.old cost.new }
     ensures most { PiecesCostAtMost T.NativeType O.Offset (shape kind) data_type mask
         offsets.items bytes.items cost.old cost.new }
 {
     match kind {
         Kind::Binary => {
             let array = array_from_parts::<T, Binary, O>(data_type, offsets, bytes, mask, cost)?;
-            Ok(Some(Entry::Binary(array)))
+            Ok(Entry::Binary(array))
         }
         Kind::Utf8 => {
             let array = array_from_parts::<T, Utf8, O>(data_type, offsets, bytes, mask, cost)?;
-            Ok(Some(Entry::Utf8(array)))
+            Ok(Entry::Utf8(array))
         }
         Kind::MutableBinary => {
             let builder = builder_from_parts::<T, Binary, O>(
                 data_type, offsets, bytes, mask, cost,
             )?;
-            Ok(Some(Entry::MutableBinary(builder)))
+            Ok(Entry::MutableBinary(builder))
         }
         Kind::MutableUtf8 => {
             let builder = builder_from_parts::<T, Utf8, O>(data_type, offsets, bytes, mask, cost)?;
-            Ok(Some(Entry::MutableUtf8(builder)))
+            Ok(Entry::MutableUtf8(builder))
         }
         Kind::BinaryValues => match mask {
-            Some(_) => Ok(None),
+            Some(_) => unreachable!(),
             None => {
                 let builder = values_from_parts::<T, Binary, O>(data_type, offsets, bytes, cost)?;
-                Ok(Some(Entry::BinaryValues(builder)))
+                Ok(Entry::BinaryValues(builder))
             }
         },
         Kind::Utf8Values => match mask {
-            Some(_) => Ok(None),
+            Some(_) => unreachable!(),
             None => {
                 let builder = values_from_parts::<T, Utf8, O>(data_type, offsets, bytes, cost)?;
-                Ok(Some(Entry::Utf8Values(builder)))
+                Ok(Entry::Utf8Values(builder))
             }
         },
-        _ => Ok(None),
+        _ => unreachable!(),
     }
 }

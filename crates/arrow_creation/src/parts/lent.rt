@@ -1,7 +1,7 @@
 //! Borrowed raw parts: whether they fit their kind, and their copies.
 ghost use Rattle.std.specs.Prelude.{◌≡◌, IfOk, None, false, option_map, true};
 ghost use Rattle.arrow_types.specs.Types.{out_of_memory};
-ghost use Rattle.arrow_creation.specs.Outcome.{MakesParts};
+ghost use Rattle.arrow_creation.specs.Outcome.{MakesParts, parts_fit};
 ghost use Rattle.arrow_model.specs.Answer.{not_met, refused};
 ghost use Rattle.arrow_model.specs.Request.{given_by, packed_bits, source_of};
 
@@ -104,6 +104,7 @@ pub fn parts_copied<T: NativeType, O: Offset>(
 /// Returns whether raw parts fit their kind: the raw values are of its value kind, and a builder without nulls has no
 /// mask. If they don't, the command's condition fails; otherwise an allocation may fail.
 pub fn fits_kind<T: NativeType, O: Offset>(given: &Parts<T, O>) -> bool
+    ensures fits { result ≡ parts_fit O.number given.now }
     ensures not { result ≡ false → MakesParts T.NativeType O.Offset given.now not_met None }
     ensures met { result ≡ true → MakesParts T.NativeType O.Offset given.now (refused out_of_memory) None }
 {

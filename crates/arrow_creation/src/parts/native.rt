@@ -1,6 +1,8 @@
 //! Arrays and builders of native values from raw parts.
-ghost use Rattle.arrow_creation.specs.Outcome.{FromParts, MadeBy, NativeFromParts};
-ghost use Rattle.arrow_model.specs.Kind.{frozen, shape, with_nulls};
+ghost use Rattle.std.specs.Prelude.{IsTrue};
+ghost use Rattle.arrow_creation.specs.Outcome.{BuiltBy, FromParts, NativeFromParts};
+ghost use Rattle.arrow_entry.specs.Entry.{value_of};
+ghost use Rattle.arrow_model.specs.Kind.{frozen, is_native, shape, with_nulls};
 ghost use Rattle.arrow_model.specs.Request as ask;
 
 use crate::parts::raw::{mask_from_parts, mutable_mask_from_parts};
@@ -44,7 +46,7 @@ fn builder_from_parts<T: NativeType, O: Offset>(
     MutablePrimitiveArray::try_new(data_type, values, mask)
 }
 
-/// Creates what native values and the rest of raw parts make; `None` if the kind is of another value kind.
+/// Creates what native values and the rest of raw parts make. The kind is one of native values.
 ///
 /// # Errors
 /// `OutOfSpec` for the first test that the parts fail, or `OutOfMemory` if an allocation fails.
@@ -53,18 +55,20 @@ pub fn natives_from_parts<T: NativeType, O: Offset>(
     data_type: DataType,
     values: Vec<T>,
     mask: Option<Bits>,
-) -> Result<Option<Entry<T, O>>, Error>
-    ensures { MadeBy result (FromParts T.NativeType O.Offset data_type mask (shape kind) (ask.values values.items)) }
+) -> Result<Entry<T, O>, Error>
+    requires { IsTrue (is_native (shape kind)) }
+    ensures { BuiltBy value_of result
+        (FromParts T.NativeType O.Offset data_type mask (shape kind) (ask.values values.items)) }
 {
     match kind {
         Kind::Primitive => {
             let array = array_from_parts::<T, O>(data_type, values, mask)?;
-            Ok(Some(Entry::Primitive(array)))
+            Ok(Entry::Primitive(array))
         }
         Kind::MutablePrimitive => {
             let builder = builder_from_parts::<T, O>(data_type, values, mask)?;
-            Ok(Some(Entry::MutablePrimitive(builder)))
+            Ok(Entry::MutablePrimitive(builder))
         }
-        _ => Ok(None),
+        _ => unreachable!(),
     }
 }

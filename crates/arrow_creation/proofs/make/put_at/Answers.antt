@@ -30,15 +30,15 @@ pub returns : goal.returns
 returns g c =
     let entries = c.args.entries.now.items in
     let within : c.args.e < length entries = omega arith in
-    let row = g.R.MakesEntry.makes c.args.command (state_of entries) in
+    let transition = g.R.MakesEntry.makes c.args.command (state_of entries) in
     let made = c.in_ok-made.made in
     let answer = answer_of c.if-is_some-2.reply in
-    let puts : row answer (option_map value_of made) = elim c.if-is_some-2.branch [
-      | then-is_some-2 w ↦ rw w.reply-is (made-done row made (search rules) c.in_ok-made.ensures)
-      | else-is_some-2 w ↦ rw w.reply-is (made-unmet row made (search rules) c.in_ok-made.ensures)
+    let puts : transition answer (option_map value_of made) = elim c.if-is_some-2.branch [
+      | then-is_some-2 w ↦ rw w.reply-is (made-done transition made (search rules) c.in_ok-made.ensures)
+      | else-is_some-2 w ↦ rw w.reply-is (made-unmet transition made (search rules) c.in_ok-made.ensures)
     ] in
     rw c.replace.ensures (
-    empty-filled row entries c.args.e c.index.result.now
+    empty-filled transition entries c.args.e c.index.result.now
     (got entries c.args.e c.index.result.now c.index.result.now within c.index.ensures)
     made answer (search rules) puts
     )

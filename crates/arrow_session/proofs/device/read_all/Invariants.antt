@@ -1,4 +1,4 @@
-use Rattle.std.proofs.Common.{◌≡◌, ◌-◌, ◌^◌, ◌<◌, ◌≤◌, vec_len}
+use Rattle.std.proofs.Common.{◌≡◌, ◌-◌, ◌^◌, ◌<◌, ◌≤◌, false, vec_len}
 use Rattle.std.specs.Io.KnownBytes.{Consumes}
 use Rattle.arrow_session.specs.Counted.{inside, fault_count, found_end}
 use Rattle.arrow_session.proofs.device.read_all.Given as goal
@@ -10,5 +10,5 @@ invariant-loop g l = record {
   rising : fault_count l.fn.input ≤ fault_count l.input;
   turns : fault_count l.fn.input < 2 ^ 64 - 1 → fault_count l.input ≡ fault_count l.fn.input
       → l.counter ≤ vec_len l.bytes;
-  unended : found_end l.input ≡ found_end l.fn.input;
+  unended : found_end l.input ≡ false;
 }

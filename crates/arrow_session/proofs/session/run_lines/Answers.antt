@@ -1,13 +1,12 @@
-use Rattle.std.proofs.Common.{◌≡◌, ◌∙◌, ap, subst, arith, string_bytes}
-use Rattle.arrow_interpreter.specs.Replies.{at_first}
+use Rattle.std.proofs.Common.{◌∙◌, ap, subst, string_bytes}
 use Rattle.arrow_session.proofs.Parsing.{lines_after, lines_cut}
 use Rattle.arrow_session.proofs.Runs.{IsRunTo, run_none, run_next, run_good, run_to_end}
 use Rattle.arrow_session.proofs.session.run_lines.Goals as goal
 
 pub loop-rest-init : goal.loop-rest-init
 loop-rest-init c =
-    let empty : c.in_ok-tables.tables ≡ at_first = grind (arith, c.new.ensures.ok, c.in_ok-tables.ensures.cases) in
-    run_none c.args.input.now c.in_ok-tables.tables (string_bytes c.new-text.result) empty c.new-text.ensures.bytes
+    run_none c.args.input.now c.args.interpreter.now.tables (string_bytes c.args.interpreter.now.text)
+    c.requires.tables c.requires.text
 
 pub run_line-requires : goal.run_line-requires
 run_line-requires c =
@@ -17,7 +16,7 @@ run_line-requires c =
     let table = c.loop-rest.interpreter.tables in
     let text = string_bytes c.loop-rest.interpreter.text in
     let here = ap lines_after c.in-Some.is ∙ lines_cut c.in-Some.lines.now line after c.split_line.ensures.pieces in
-    run_next input line (lines_after after) table text c.requires
+    run_next input line (lines_after after) table text c.requires.commands
     (subst (λ rest. IsRunTo input rest table text) here c.loop-rest.invariant)
 
 pub loop-rest-preserved : goal.loop-rest-preserved
@@ -31,7 +30,7 @@ loop-rest-preserved c =
     let run = subst (λ rest. IsRunTo input rest table text) here c.loop-rest.invariant in
     run_good input line (lines_after after) table text c.run_line.new.interpreter.tables
     (string_bytes c.run_line.new.interpreter.text)
-    (run_next input line (lines_after after) table text c.requires run) c.in_ok-run_line.ensures run
+    (run_next input line (lines_after after) table text c.requires.commands run) c.in_ok-run_line.ensures run
 
 pub returns : goal.returns
 returns c =

@@ -8,8 +8,8 @@ use Rattle.arrow_model.specs.Value.{types}
 use Rattle.arrow_creation.proofs.Passes.{array-cost, of-kind, pieces-made}
 use Rattle.arrow_creation.proofs.parts.bytes.array_from_parts.Goals as goal
 
-pub returns-clause-row : goal.returns-clause-row
-returns-clause-row g c =
+pub returns-clause-transition : goal.returns-clause-transition
+returns-clause-transition g c =
     let all = (types g.T.NativeType.zero g.T.NativeType.PRIMITIVE g.O.Offset.most g.O.Offset.IS_LARGE) in
     let text = g.K.ByteKind.is_text in
     let t = logical_type c.args.data_type in
