@@ -153,7 +153,7 @@ impl Operation for SaturatingAddShorts {
     }
 }
 
-// the same, where a sum that overflows is the nearest number
+// Adds two arrays; a sum that overflows is the nearest number.
 #[unsafe(no_mangle)]
 pub extern "C" fn rattle_flat_arith_saturating_add_i32(
     alloc: Global,

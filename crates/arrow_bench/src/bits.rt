@@ -152,7 +152,7 @@ fn set_by_get(bitmap: &MutableBitmap, start: u64) -> u64 {
     sum
 }
 
-// the same of the builder, by get(i)
+// Sums the marks of the builder by get(i).
 #[unsafe(no_mangle)]
 pub extern "C" fn rattle_flat_bits_get(
     alloc: Global,

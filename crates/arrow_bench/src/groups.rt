@@ -7,10 +7,13 @@ use crate::operation::{Operation, Probe, run};
 use crate::whole::array_of_parts;
 use arrow_aggregate::aggregate::group_sum;
 use arrow_group::laws::grouped_slots;
-use arrow_group::{Groups, group_primitive, group_utf8, hash_primitive};
+use arrow_group::{Groups, group_primitive, group_utf8, group_utf8_with, hash_primitive};
 use arrow_primitive::PrimitiveArray;
 use arrow_utf8::Utf8Array;
 use std::alloc::Global;
+use std::hash::RandomState;
+use std::io;
+use std::random::RandomSource;
 
 struct Group;
 
@@ -59,6 +62,53 @@ pub extern "C" fn rattle_flat_group_utf8(
     rounds: usize,
 ) -> u64 {
     run::<GroupTexts>(alloc, texts_array(alloc, data, offsets, valid), rounds)
+}
+
+/// A number that the driver chooses at random, in place of the random bytes of a program's runtime.
+#[derive(Drop)]
+struct Seed(u64);
+
+impl RandomSource for Seed {
+    fn fill_bytes(&self, buf: &mut [u8]) -> io::Result<()> {
+        let mut bytes = self.0;
+        for byte in buf {
+            *byte = (bytes & 0xff) as u8;
+            bytes = bytes.rotate_right(8);
+        }
+        Ok(())
+    }
+}
+
+struct GroupTextsByKeys;
+
+impl Operation for GroupTextsByKeys {
+    type Source = (Utf8Array<i32>, RandomState);
+
+    type Made = Groups;
+
+    #[inline(always)]
+    fn make(alloc: Global, (array, keys): &(Utf8Array<i32>, RandomState)) -> Option<Groups> {
+        group_utf8_with(alloc, *keys, array).ok()
+    }
+}
+
+// the groups of equal texts, by a hash function with keys that are made of the seed
+#[unsafe(no_mangle)]
+pub extern "C" fn rattle_flat_group_utf8_with(
+    alloc: Global,
+    data: &[u8],
+    offsets: &[i32],
+    seed: u64,
+    rounds: usize,
+) -> u64 {
+    let source = match (
+        texts_array(alloc, data, offsets, &[]),
+        RandomState::new(&Seed(seed)),
+    ) {
+        (Some(array), Ok(keys)) => Some((array, keys)),
+        _ => None,
+    };
+    run::<GroupTextsByKeys>(alloc, source, rounds)
 }
 
 fn sum_each(

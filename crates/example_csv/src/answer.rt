@@ -12,15 +12,18 @@ use crate::write_aligned::write_aligned;
 use crate::write_csv::write_csv;
 use example_record_batch::batch::RecordBatch;
 use std::alloc::Global;
+use std::hash::RandomState;
 use std::io::{Read, Write};
 
 /// Reads a table, selects rows and columns, and writes these, or a summary of them. Nothing is written before
-/// all is read and selected.
+/// all is read and selected. Groups are found by hashes with the keys of `keys`, which nobody who writes the table should
+/// know.
 ///
 /// # Errors
 /// Those of [`read_table`], [`select`], [`summary`], [`write_csv`] and [`write_aligned`].
 pub fn answer<R: Read + Drop, W: Write + Drop>(
     alloc: Global,
+    keys: RandomState,
     options: &Options,
     input: R,
     output: W,
@@ -30,13 +33,14 @@ pub fn answer<R: Read + Drop, W: Write + Drop>(
     ensures err { IfErr result (λ e. IfSome (R.remaining input) (λ text.
         CannotAsk options.now text e ⊎ CannotPrint options.now e)) }
 {
-    let asked = asked_table(alloc, options, input)?;
+    let asked = asked_table(alloc, keys, options, input)?;
     print(alloc, options, &asked, output)
 }
 
 /// Returns the rows and columns of a CSV text that the options select, or a summary of them.
 fn asked_table<R: Read + Drop>(
     alloc: Global,
+    keys: RandomState,
     options: &Options,
     input: R,
 ) -> Result<RecordBatch, Error>
@@ -44,7 +48,7 @@ fn asked_table<R: Read + Drop>(
     ensures err { IfErr result (λ e. IfSome (R.remaining input) (λ text. CannotAsk options.now text e)) }
 {
     let table = read_table(alloc, input)?;
-    let kept = select(alloc, table, options)?;
+    let kept = select(alloc, keys, table, options)?;
     if options.summary {
         return summary(alloc, &kept);
     }

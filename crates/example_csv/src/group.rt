@@ -12,6 +12,7 @@ use example_record_batch::any::AnyArray;
 use example_record_batch::any::group::Aggregate;
 use example_record_batch::batch::{Field, RecordBatch};
 use std::alloc::{AllocError, Global};
+use std::hash::RandomState;
 
 /// An aggregate of a column.
 #[derive(Debug, Drop)]
@@ -117,12 +118,17 @@ fn grouped_columns(
 }
 
 /// Returns a row for each group.
-fn grouped(alloc: Global, table: &RecordBatch, by: &GroupBy) -> Result<RecordBatch, Error>
+fn grouped(
+    alloc: Global,
+    hashers: RandomState,
+    table: &RecordBatch,
+    by: &GroupBy,
+) -> Result<RecordBatch, Error>
     ensures ok { IfOk result (IsGroupedBy (Some by.now) table.now) }
     ensures err { IfErr result (CannotGroup (Some by.now) table.now) }
 {
     let array = named_array(alloc, table, by.column.as_str())?;
-    let groups = array.group(alloc)?;
+    let groups = array.group(alloc, hashers)?;
     let name = by.column.clone()?;
     let array = array.group_keys(alloc, groups.first.as_slice())?;
     let (indices, count) = (groups.indices.as_slice(), groups.first.len());
@@ -133,13 +139,15 @@ fn grouped(alloc: Global, table: &RecordBatch, by: &GroupBy) -> Result<RecordBat
 }
 
 /// Returns a row for each group of equal slots of a column, in the order of their first rows, with the aggregates of
-/// the group, or the rows as they are if they are not grouped. Nulls are one group.
+/// the group, or the rows as they are if they are not grouped. Nulls are one group. The slots are hashed by `hashers`,
+/// whose keys are random, so a table that is written to have many slots of one hash takes no longer than another.
 ///
 /// # Errors
 /// `UnknownColumn` if a named column does not exist, `NotNumbers` if the column of a sum has no numbers, `Overflow` if
 /// the sum of a group does not fit in an `i64`, `OutOfMemory` if an allocation fails.
 pub fn group_rows(
     alloc: Global,
+    hashers: RandomState,
     table: RecordBatch,
     by: &Option<GroupBy>,
 ) -> Result<RecordBatch, Error>
@@ -147,7 +155,7 @@ pub fn group_rows(
     ensures err { IfErr result (CannotGroup by.now table) }
 {
     match by {
-        Some(by) => grouped(alloc, &table, by),
+        Some(by) => grouped(alloc, hashers, &table, by),
         None => Ok(table),
     }
 }

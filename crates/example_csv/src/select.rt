@@ -14,6 +14,7 @@ use dethrugn::array::BooleanArray;
 use example_record_batch::any::AnyArray;
 use example_record_batch::batch::{Field, RecordBatch};
 use std::alloc::Global;
+use std::hash::RandomState;
 
 /// Returns the column of booleans of a name.
 fn truth_column<'a>(
@@ -108,12 +109,17 @@ fn first_rows(mut table: RecordBatch, head: Option<usize>) -> RecordBatch
 /// `UnknownColumn` with the first name that no column has, in the order of these steps, `NotTruth` if the filter does
 /// not hold booleans, the errors of [`group_rows`], `OutOfMemory` if an allocation fails.
 #[tactic(auto, unfolding(crate::specs::Steps::CannotSelect))]
-pub fn select(alloc: Global, table: RecordBatch, options: &Options) -> Result<RecordBatch, Error>
+pub fn select(
+    alloc: Global,
+    keys: RandomState,
+    table: RecordBatch,
+    options: &Options,
+) -> Result<RecordBatch, Error>
     ensures ok { IfOk result (IsSelected options.now table) }
     ensures err { IfErr result (CannotSelect options.now table) }
 {
     let rows = filter_rows(alloc, table, &options.filter)?;
-    let groups = group_rows(alloc, rows, &options.group)?;
+    let groups = group_rows(alloc, keys, rows, &options.group)?;
     let sorted = sort_rows(alloc, groups, &options.sort)?;
     let columns = select_columns(alloc, sorted, &options.columns)?;
     Ok(first_rows(columns, options.head))

@@ -1,8 +1,14 @@
-//! The countries, as a dictionary.
+//! The countries, as a dictionary, and how many laureates each has.
 use crate::cells::texts;
 use anyhow::anyhow;
-use dethrugn::array::{MutablePrimitiveArray, MutableUtf8Array, Utf8Array};
+use dethrugn::array::{MutablePrimitiveArray, Utf8Array};
+use dethrugn::buffer::Buffer;
+use dethrugn::compute::aggregate::group_count;
+use dethrugn::compute::group::{Groups, group_utf8};
+use dethrugn::compute::take::take_utf8;
 use dethrugn::error::Error;
+use dethrugn::laws::BytesAround;
+use dethrugn::laws::group::grouped_slots;
 use example_nested::dictionary::DictionaryArray;
 use example_record_batch::batch::RecordBatch;
 use std::alloc::Global;
@@ -10,49 +16,18 @@ use std::alloc::Global;
 /// Texts, each of which is stored once.
 type Dictionary = DictionaryArray<u8, Utf8Array<i32>>;
 
-/// Returns the index of a text among the values, to which it is appended if it is new.
-fn index_of(values: &mut MutableUtf8Array<i32>, text: &str) -> Result<usize, Error> {
-    let end = values.len();
-    for i in 0..end {
-        if values.get(i) == Some(text) {
-            return Ok(i);
-        }
-    }
-    values.push(Some(text))?;
-    Ok(end)
-}
-
-/// Returns the key of a text.
-fn key_of(values: &mut MutableUtf8Array<i32>, text: &str) -> Result<u8, Error> {
-    match u8::try_from(index_of(values, text)?) {
-        Ok(key) => Ok(key),
-        Err(_) => Err(Error::Overflow),
-    }
-}
-
-/// Returns the dictionary of an array of texts.
-fn encode(alloc: Global, texts: &Utf8Array<i32>) -> Result<Dictionary, Error> {
+/// Returns the dictionary of an array of texts, whose values are the first slots of the groups of equal
+/// ones. If there are nulls, one of the values is null.
+fn encode(alloc: Global, texts: &Utf8Array<i32>, groups: &Groups) -> Result<Dictionary, Error> {
+    let values = take_utf8(alloc, texts, groups.first.as_slice())?;
     let mut keys = MutablePrimitiveArray::new(alloc);
-    let mut values = MutableUtf8Array::new(alloc)?;
-    for i in 0..texts.len() {
-        let key = match texts.get(i) {
-            Some(text) => Some(key_of(&mut values, text)?),
-            None => None,
-        };
-        keys.push(key)?;
-    }
-    DictionaryArray::try_new(keys.freeze()?, values.freeze()?)
-}
-
-/// Returns the number of slots that have the value at `index`.
-fn count(dictionary: &Dictionary, index: usize) -> usize {
-    let mut count = 0usize;
-    for i in 0..dictionary.len() {
-        if dictionary.key(i) == Some(index) {
-            count = count.saturating_add(1);
+    for number in &groups.indices {
+        match u8::try_from(*number) {
+            Ok(key) => keys.push(Some(key))?,
+            Err(_) => return Err(Error::Overflow),
         }
     }
-    count
+    DictionaryArray::try_new(keys.freeze()?, values)
 }
 
 /// Prints the countries of at least five laureates.
@@ -60,13 +35,20 @@ pub fn show(rt: &impl Print, alloc: Global, table: &RecordBatch) -> anyhow::Resu
     let Some(countries) = texts(table, "country") else {
         return Err(anyhow!("a column is missing"));
     };
-    let dictionary = encode(alloc, countries)?;
+    let groups = group_utf8(alloc, countries)?;
+    // Each number is that of a group, which `group_count` requires.
+    grouped_slots::<BytesAround, Buffer<u8>>();
+    let (indices, count) = (groups.indices.as_slice(), groups.first.len());
+    let counts = group_count(alloc, countries, indices, count)?;
+    let dictionary = encode(alloc, countries, &groups)?;
     let values = dictionary.values();
-    println!(rt; "{} countries, of at least five laureates:", values.len())?;
-    for k in 0..values.len() {
-        let laureates = count(&dictionary, k);
-        if laureates >= 5 {
-            println!(rt; "  {}: {laureates}", values.value(k))?;
+    let named = values.len() - values.null_count();
+    println!(rt; "{named} countries, of at least five laureates:")?;
+    for (country, laureates) in values.iter().zip(counts.iter()) {
+        if let (Some(country), Some(laureates)) = (country, laureates)
+            && *laureates >= 5
+        {
+            println!(rt; "  {country}: {laureates}")?;
         }
     }
     Ok(())

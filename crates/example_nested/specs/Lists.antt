@@ -1,12 +1,11 @@
 -- Lists of slots: what offsets cut out of an inner array.
 use Rattle.std.specs.Prelude.{◌≡◌, ℕ, ◌+◌, ◌<◌, ◌≤◌, Bool, List, length, map, Option, Some, option_and_then, slice_get}
-use Rattle.std.specs.Prelude.{slice_index, slice_range}
 use Rattle.std.specs.Option.{option_flatten}
 use Rattle.dethrugn.specs.Validation.{Passes, Tests, accept, test}
 use Rattle.dethrugn.specs.Bounds.{past_values}
 use Rattle.dethrugn.specs.Column.{unfit_mask}
 use Rattle.dethrugn.specs.Offsets.{last_of}
-use Rattle.dethrugn.specs.Pieces.{items_of}
+use Rattle.dethrugn.specs.Pieces.{item_from, items_of}
 use Rattle.dethrugn.specs.Rows.{FitsMask, Row, rows_of}
 
 -- an array of lists: a row for each, which stores the slots of the list
@@ -32,5 +31,4 @@ slot_in_list lists i k =
 -- list i of parts that pass the tests has the slots from offset i up to the next
 abbrev pub ListLiesBetween : {S : Type 0} → List ℕ → List (Option S) → Option (List Bool) → ℕ → Type 0
 ListLiesBetween offsets slots mask i = Passes (list_tests offsets slots mask) → i + 1 < length offsets
-    → slice_get (map (λ row. row.0) (lists_of offsets slots mask)) i
-    ≡ Some (slice_range slots (slice_index offsets i) (slice_index offsets (i + 1)))
+    → slice_get (map (λ row. row.0) (lists_of offsets slots mask)) i ≡ Some (item_from offsets slots i)

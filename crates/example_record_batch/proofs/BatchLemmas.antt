@@ -17,8 +17,12 @@ use Rattle.example_record_batch.specs.declared.any.AnyArray.{AnyArray}
 use Rattle.example_record_batch.specs.declared.any.AnyArray.TheVariants.{Int64, Boolean, Binary, Utf8}
 use Rattle.example_record_batch.specs.declared.batch.Field.{Field}
 use Rattle.example_record_batch.specs.AnyArrays.{FitsAnyCut, any_cut, any_filtered, slot_count}
-use Rattle.example_record_batch.specs.Batches.{HaveRows, IsBatch, Named, asked_count, batch_of, column_of, field_cut}
+use Rattle.example_record_batch.specs.Batches.{HaveRows, IsBatch, Named, asked_count, batch_of, column_of}
 use Rattle.example_record_batch.specs.Batches.{named, named_cut, named_filtered}
+
+-- a column whose array is cut, under its name
+abbrev pub field_cut : ℕ → ℕ → Field → Field
+field_cut a n field = record field { array = any_cut field.array a n }
 
 pub slot_count-cut : (array : AnyArray) (a n : ℕ) → FitsAnyCut array a n → slot_count (any_cut array a n) ≡ n
 slot_count-cut (Int64 column) a n f = length-cut column.rows a n f.0 f.1

@@ -43,9 +43,6 @@ abbrev pub batch_rows : Batch → List (List (Option Cell))
 batch_rows batch = map (row_at batch) (range_with_len 0 batch.rows)
 
 -- the n slots of a column that begin at index a
-abbrev pub field_cut : ℕ → ℕ → Field → Field
-field_cut a n field = record field { array = any_cut field.array a n }
-
 abbrev pub named_cut : ℕ → ℕ → Named → Named
 named_cut a n column = record column { array = any_cut column.array a n }
 

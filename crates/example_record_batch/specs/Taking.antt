@@ -32,7 +32,8 @@ abbrev pub slots_order : {X : Type 0} → (X → X → Ordering) → Bool → Bo
 slots_order cmp descending nulls_first =
     index_order (slot_order (record default_options { descending = descending; nulls_first = nulls_first }) cmp)
 
--- the same of an array of any kind: numbers by their own order, false before true, bytes and text by their bytes
+-- the order of two indexes by an array of any kind: numbers by their own order, false before true, bytes and text by
+-- their bytes
 abbrev pub any_order : AnyArray → Bool → Bool → ℕ → ℕ → Ordering
 any_order (Int64 column) descending nulls_first = slots_order int_cmp descending nulls_first (slots_of column)
 any_order (Boolean column) descending nulls_first = slots_order bool_cmp descending nulls_first (slots_of column)

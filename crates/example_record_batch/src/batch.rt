@@ -4,9 +4,10 @@ ghost use Rattle.std.specs.Str.{bytes_eq};
 ghost use Rattle.std.specs.Option.{option_copied};
 ghost use Rattle.dethrugn.specs.Failures.{OnlyOutOfMemory};
 ghost use Rattle.dethrugn.specs.Types.{refusal};
-ghost use Rattle.example_record_batch.specs.AnyArrays.{FitsAnyCut, slot_count};
+ghost use Rattle.example_record_batch.specs.AnyArrays.{FitsAnyCut, any_cut, slot_count};
 ghost use Rattle.example_record_batch.specs.Batches.{HaveRows, IsBatch, batch_cut, batch_filtered, batch_of};
-ghost use Rattle.example_record_batch.specs.Batches.{column_of, field_cut, named, named_filtered, unequal_columns};
+ghost use Rattle.example_record_batch.specs.declared.batch.Field.{Field};
+ghost use Rattle.example_record_batch.specs.Batches.{column_of, named, named_filtered, unequal_columns};
 ghost use Rattle.dethrugn.specs.Sort.{PickOnce};
 ghost use Rattle.example_record_batch.specs.Schemas.{schema_of};
 ghost use Rattle.example_record_batch.specs.Taking.{batch_taken, named_taken};
@@ -49,7 +50,8 @@ impl Model for RecordBatch {
 /// Keeps only the `len` slots that begin at `offset` of each column.
 fn slice_all(fields: &mut Vec<Field>, offset: usize, len: usize)
     requires { All (λ field. FitsAnyCut field.array offset len) fields.old.items }
-    ensures { fields.new.items ≡ map (field_cut offset len) fields.old.items }
+    ensures { fields.new.items ≡ map {A = Field}
+        (λ f. record f { array = any_cut f.array offset len }) fields.old.items }
 {
     for field in fields.iter_mut() {
         field.array.slice(offset, len);

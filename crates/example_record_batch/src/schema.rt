@@ -1,4 +1,5 @@
 //! The names and the data types of a batch's columns.
+ghost use Rattle.std.specs.Prelude.{Some};
 ghost use Rattle.example_record_batch.specs.Schemas.{schema_text};
 
 use crate::batch::Field;
@@ -22,7 +23,7 @@ impl<'a> Model for Schema<'a> {
 }
 
 impl<'a> fmt::Display for Schema<'a> {
-    ghost output = { schema_text };
+    ghost output = { λ columns. Some (schema_text columns) };
 
     /// Writes a line for each column, as in `name: Int64`.
     fn fmt<W: fmt::Write>(&self, f: &mut fmt::Formatter<W>) -> fmt::Result {

@@ -60,7 +60,7 @@ const BYTES: (&[Option<&[u8]>], &[&[u8]]) = (
     &[b"\xC3\xA9", b"", b"there"],
 );
 
-/// The same of text.
+/// The slots and items of text that `SLOTS` and `ITEMS` store.
 const TEXTS: (&[Option<&str>], &[&str]) = (&[Some("é"), None, Some("there")], &["é", "", "there"]);
 
 /// Slots of one, no and two bytes, the second of which is null, with bytes around them that are not text.

@@ -6,3 +6,4 @@ mod index_keys;
 mod made;
 mod native_types;
 mod offsets;
+mod quoted;

@@ -1,6 +1,7 @@
 //! Arrays of slots, or of stored values and marks, and comparisons of answers with them. Marks are texts of `1` and `0`,
 //! and `none` without a mask. A failure names the test, the type, and the index and the case of the row.
 ghost use Rattle.std.specs.Iterator.{IsFinite};
+ghost use Rattle.std.specs.Prelude.{None};
 
 use arrow_binary::BinaryArray;
 use arrow_boolean::BooleanArray;
@@ -113,6 +114,7 @@ pub(crate) fn check_slots<T: Debug + Drop, I: Iterator<Item = Option<T>>>(
 )
     requires can { I.can_next slots }
     requires ends { IsFinite (I.remaining slots) }
+    requires again { (s t : I) → I.next_gives s None t → I.can_next t }
 {
     assert_text::slots(slots, expected).expect(rt, row);
 }

@@ -1,13 +1,15 @@
-//! Groups of equal slots, which were worked out by hand, and which slots have equal hashes.
+//! Groups of equal slots, which were worked out by hand, by several hash functions, and which slots have equal hashes.
 use crate::arrays::{booleans, check_mask, check_value, items, numbers, row};
 use arrow_binary::BinaryArray;
 use arrow_group::{
-    Groups, group_binary, group_boolean, group_primitive, group_utf8, hash_binary, hash_boolean,
-    hash_primitive, hash_utf8,
+    Groups, group_binary, group_binary_with, group_boolean, group_boolean_with, group_primitive,
+    group_primitive_with, group_utf8, group_utf8_with, hash_binary, hash_boolean, hash_primitive,
+    hash_utf8,
 };
 use arrow_primitive::PrimitiveArray;
 use arrow_types::error::Error;
-use arrow_utf8::Utf8Array;
+use arrow_utf8::{MutableUtf8Array, Utf8Array};
+use std::hash::{BuildHasher, BuildHasherDefault, FoldHasher, Hasher, RandomState};
 use std::process::Abort;
 use tests_support::Text;
 
@@ -133,6 +135,107 @@ fn groups_of_equal_slots(rt: HostRuntime) {
         &[0, 1, 2],
         &[0, 1, 2],
     );
+}
+
+/// Hashes every key to the same number, which costs time and must not change an answer.
+#[derive(Clone, Copy)]
+struct OneHash;
+
+impl Hasher for OneHash {
+    ghost write = { λ hasher _. hasher };
+
+    ghost finish = { λ _. 7 };
+
+    fn finish(&self) -> u64 {
+        7
+    }
+
+    fn write(&mut self, _bytes: &[u8]) {}
+}
+
+impl BuildHasher for OneHash {
+    type Hasher = OneHash;
+
+    ghost build_hasher = { λ hashers. hashers };
+
+    fn build_hasher(&self) -> OneHash {
+        *self
+    }
+}
+
+/// Compares the groups of each table of slots, hashed by `hashers`.
+fn check_tables<S: BuildHasher + Copy>(rt: &(impl Abort + AllocGlobal), name: &str, hashers: S) {
+    let alloc = rt.alloc();
+    for (index, (case, slots, first, indices)) in NUMBERS.iter().enumerate() {
+        let row = row(name, "Int64", index, *case);
+        let array = numbers(rt, *slots);
+        let groups = group_primitive_with(alloc, hashers, &array);
+        drop(array);
+        check_groups(rt, row.as_str(), groups, *first, *indices);
+    }
+    for (index, (case, slots, first, indices)) in BOOLEANS.iter().enumerate() {
+        let row = row(name, "Boolean", index, *case);
+        let array = booleans(rt, *slots);
+        let groups = group_boolean_with(alloc, hashers, &array);
+        drop(array);
+        check_groups(rt, row.as_str(), groups, *first, *indices);
+    }
+    for (index, (case, slots, first, indices)) in TEXTS.iter().enumerate() {
+        let row = row(name, "Utf8", index, *case);
+        let array: Utf8Array<i32> = items(rt, *slots);
+        let groups = group_utf8_with(alloc, hashers, &array);
+        drop(array);
+        check_groups(rt, row.as_str(), groups, *first, *indices);
+    }
+    let row = row(name, "LargeBinary", 0, "bytes that are no text");
+    let array: BinaryArray<i64> = items(rt, BYTES);
+    let groups = group_binary_with(alloc, hashers, &array);
+    drop(array);
+    check_groups(rt, row.as_str(), groups, &[0, 1, 2, 4], &[0, 1, 2, 0, 3, 1]);
+}
+
+#[test]
+fn groups_do_not_depend_on_the_hash_function(rt: HostRuntime) {
+    let random = RandomState::new(&rt).expect(&rt, "random keys");
+    check_tables(&rt, "random keys", random);
+    check_tables(&rt, "fixed keys", BuildHasherDefault::<FoldHasher>::new());
+    check_tables(&rt, "one hash for all", OneHash);
+}
+
+/// How many texts of one hash there are, each of which comes twice.
+const ALIKE: u32 = 200;
+
+/// Checks the groups of texts of one hash.
+fn check_alike(rt: &impl Abort, row: &str, answer: Result<Groups, Error>) {
+    let groups = answer.expect(rt, row);
+    let sizes = (groups.first.len(), groups.indices.len());
+    let last = (groups.first.last().copied(), groups.indices.last().copied());
+    drop(groups);
+    check_value(rt, row, sizes, (200, 400));
+    check_value(rt, row, last, (Some(199), Some(199)));
+}
+
+#[test]
+fn texts_of_one_hash_are_groups_of_their_own(rt: HostRuntime) {
+    let alloc = rt.alloc();
+    let mut texts = MutableUtf8Array::<i32>::new(alloc).expect(&rt, "memory");
+    for i in 0..2 * ALIKE {
+        let digits = i % ALIKE;
+        let text = Text::of(format_args!("user-agent: ahowDx%&UkzE{digits:08}"));
+        texts.push(Some(text.as_str())).expect(&rt, "memory");
+    }
+    let texts = texts.freeze().expect(&rt, "memory");
+    let fixed = BuildHasherDefault::<FoldHasher>::new();
+    let first = fixed.hash_one("user-agent: ahowDx%&UkzE00000000");
+    let last = fixed.hash_one("user-agent: ahowDx%&UkzE00000199");
+    check_value(&rt, "hashes of two texts by the fixed keys", last, first);
+    let random = RandomState::new(&rt).expect(&rt, "random keys");
+    check_alike(&rt, "Utf8, by fixed keys", group_utf8(alloc, &texts));
+    let groups = group_utf8_with(alloc, random, &texts);
+    check_alike(&rt, "Utf8, by random keys", groups);
+    let groups = group_utf8_with(alloc, OneHash, &texts);
+    check_alike(&rt, "Utf8, one hash for all", groups);
+    drop(texts);
 }
 
 /// A number of keys through which 2,000 slots go again and again, of which one in a given number is null; the first null
@@ -282,6 +385,8 @@ fn groups_of_rows_of_three_columns(rt: HostRuntime) {
     drop((names, ages));
     assert!(rt; pairs.indices.len() == marks.indices.len(), "six rows");
     let rows = pairs.refine(alloc, &marks);
+    let random = RandomState::new(&rt).expect(&rt, "random keys");
+    let by_random_keys = pairs.refine_with(alloc, random, &marks);
     drop(marks);
     check_groups(
         &rt,
@@ -294,6 +399,13 @@ fn groups_of_rows_of_three_columns(rt: HostRuntime) {
         &rt,
         "three columns",
         rows,
+        &[0, 1, 2, 4, 5],
+        &[0, 1, 2, 0, 3, 4],
+    );
+    check_groups(
+        &rt,
+        "three columns by random keys",
+        by_random_keys,
         &[0, 1, 2, 4, 5],
         &[0, 1, 2, 0, 3, 4],
     );

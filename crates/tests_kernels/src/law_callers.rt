@@ -1,6 +1,7 @@
 //! Callers of laws: the contract of each function follows from a law and from the contracts of the calls that it makes.
-ghost use Rattle.std.specs.Prelude.{◌≡◌, ◌+◌, ◌++◌, ◌∷◌, ◌<◌, ◌≤◌, [], ℕ, IfOk, List, None, OnOk, Some, count_by, true};
-ghost use Rattle.std.specs.Prelude.{flat_map, length, map, slice_get, slice_range, sum_by};
+ghost use Rattle.std.specs.Prelude.{◌≡◌, ◌+◌, ◌+ℤ◌, ◌^◌, ◌++◌, ◌∷◌, ◌<◌, ◌≤◌, [], ℕ, IfOk, List, None, OnOk, Some};
+ghost use Rattle.std.specs.Prelude.{count_by, flat_map, length, map, slice_get, slice_range, sum_by, true};
+ghost use Rattle.arrow_integers.specs.NativeArithmetics.{DiffersByMultiple};
 ghost use Rattle.arrow_memory.specs.Rows.{FitsMask};
 ghost use Rattle.arrow_column.specs.Column.{mask_of, slots_of, stored_values};
 ghost use Rattle.arrow_check.specs.Pieces.{items_of};
@@ -15,6 +16,8 @@ use arrow_column::laws::{
     appended_slots, cut_slots, joined_slots, plain_cut_slots, rows_of_parts, slots_by_rows,
     slots_of_parts,
 };
+use arrow_integers::NativeArithmetics;
+use arrow_integers::laws::{nearest_numbers, wrapped_numbers};
 use arrow_kernels::laws::{
     concatenated_slots, filtered_slots, marked_items, retyped_slots, taken_slots,
 };
@@ -185,4 +188,21 @@ fn list_range(offsets: &OffsetsBuffer<i32>, index: usize) -> (usize, usize)
 {
     items_by_offsets::<usize>();
     offsets.start_end(index)
+}
+
+/// Adds two numbers whose sum fits: it is the nearest number to itself.
+fn add_fitting<T: NativeArithmetics>(lhs: T, rhs: T) -> T
+    requires { T.fits (T.number lhs +ℤ T.number rhs) ≡ true }
+    ensures { T.number result ≡ T.number lhs +ℤ T.number rhs }
+{
+    nearest_numbers::<T>();
+    lhs.saturating_add(rhs)
+}
+
+/// Adds two numbers: the result differs from their sum by a multiple of 2 to the number of bits.
+fn add_wrapping<T: NativeArithmetics>(lhs: T, rhs: T) -> T
+    ensures { DiffersByMultiple (2 ^ T.bits) (T.number lhs +ℤ T.number rhs) (T.number result) }
+{
+    wrapped_numbers::<T>();
+    lhs.wrapping_add(rhs)
 }

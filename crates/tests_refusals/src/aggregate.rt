@@ -6,8 +6,8 @@ use crate::bytes::array_text;
 use crate::primitive::array_text as number_text;
 use crate::refusal::{end, results};
 use arrow_aggregate::aggregate::{
-    group_count, group_max_binary, group_max_boolean, group_max_primitive, group_min_primitive,
-    group_min_string, group_sum,
+    group_count, group_max_binary, group_max_boolean, group_max_primitive, group_max_string,
+    group_min_binary, group_min_boolean, group_min_primitive, group_min_string, group_sum,
 };
 use arrow_binary::BinaryArray;
 use arrow_boolean::BooleanArray;
@@ -60,6 +60,7 @@ fn groups_of_booleans_answer_again(rt: HostRuntime) -> Result<(), Fail> {
     assert!(&rt; GROUPS.len() == array.len() && all_below(GROUPS, 2));
     let is_refused = results! { &rt;
         boolean_text: group_max_boolean(alloc, &array, GROUPS, 2) => "false true";
+        boolean_text: group_min_boolean(alloc, &array, GROUPS, 2) => "false false";
     };
     drop(array);
     end(is_refused)
@@ -77,6 +78,7 @@ fn groups_of_bytes_answer_again(rt: HostRuntime) -> Result<(), Fail> {
     assert!(&rt; GROUPS.len() == array.len() && all_below(GROUPS, 2));
     let is_refused = results! { &rt;
         array_text: group_max_binary(alloc, &array, GROUPS, 2) => "(<>) <cde>";
+        array_text: group_min_binary(alloc, &array, GROUPS, 2) => "(<>) <ab>";
     };
     drop(array);
     end(is_refused)
@@ -89,6 +91,7 @@ fn groups_of_text_answer_again(rt: HostRuntime) -> Result<(), Fail> {
     assert!(&rt; GROUPS.len() == array.len() && all_below(GROUPS, 2));
     let is_refused = results! { &rt;
         array_text: group_min_string(alloc, &array, GROUPS, 2) => "(<>) <ab>";
+        array_text: group_max_string(alloc, &array, GROUPS, 2) => "(<>) <cde>";
     };
     drop(array);
     end(is_refused)

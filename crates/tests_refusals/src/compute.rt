@@ -2,21 +2,20 @@
 use crate::boolean::array_text as boolean_text;
 use crate::primitive::array_text as number_text;
 use crate::refusal::{end, results};
+use crate::sort::index_text;
 use arrow_arithmetics::basic::{add, checked_mul_scalar, negate, saturating_sub};
 use arrow_boolean::BooleanArray;
-use arrow_compute::boolean::{self, is_null};
+use arrow_compute::boolean::{self, is_not_null, is_null};
 use arrow_compute::boolean_kleene;
-use arrow_compute::comparison::{eq_scalar, lt};
+use arrow_compute::comparison::{
+    eq, eq_and_validity, eq_scalar, gt, gt_eq, gt_eq_scalar, gt_scalar, lt, lt_eq, lt_eq_scalar,
+    lt_scalar, neq, neq_and_validity, neq_scalar,
+};
 use arrow_primitive::PrimitiveArray;
 use arrow_sort::SortOptions;
 use arrow_sort::sort::{sort, sort_to_indices};
+use arrow_utf8::Utf8Array;
 use std::test::Fail;
-use tests_support::Text;
-
-/// Writes indexes.
-fn index_text(array: &PrimitiveArray<u64>) -> Text {
-    Text::of(format_args!("{:?}", array.values().as_slice()))
-}
 
 /// The greatest first.
 const DESCENDING: SortOptions = SortOptions {
@@ -29,7 +28,7 @@ fn kernels_that_compute_with_numbers_answer_again(rt: HostRuntime) -> Result<(),
     let alloc = rt.alloc();
     let lhs = PrimitiveArray::<i64>::from_slice(alloc, &[7, 8, 9]).expect(&rt, "refused");
     let rhs = PrimitiveArray::<i64>::from_slice(alloc, &[8, 8, 8]).expect(&rt, "refused");
-    assert!(&rt; lhs.len() == rhs.len());
+    assert!(&rt; lhs.len() == rhs.len(), "operands of one length");
     let is_refused = results! { &rt;
         boolean_text: lt(alloc, &lhs, &rhs) => "true false false";
         boolean_text: eq_scalar(alloc, &lhs, 8i64) => "false true false";
@@ -50,16 +49,61 @@ fn kernels_that_compute_with_booleans_answer_again(rt: HostRuntime) -> Result<()
     let alloc = rt.alloc();
     let lhs = BooleanArray::from_slice(alloc, &[true, true, false]).expect(&rt, "refused");
     let rhs = BooleanArray::from_slice(alloc, &[true, false, false]).expect(&rt, "refused");
-    assert!(&rt; lhs.len() == rhs.len());
+    assert!(&rt; lhs.len() == rhs.len(), "operands of one length");
     let is_refused = results! { &rt;
         boolean_text: boolean::and(alloc, &lhs, &rhs) => "true false false";
         boolean_text: boolean::or(alloc, &lhs, &rhs) => "true true false";
         boolean_text: boolean::not(alloc, &lhs) => "false false true";
         boolean_text: is_null(alloc, &lhs) => "false false false";
+        boolean_text: is_not_null(alloc, &lhs) => "true true true";
         boolean_text: boolean_kleene::and(alloc, &lhs, &rhs) => "true false false";
         boolean_text: boolean_kleene::or(alloc, &lhs, &rhs) => "true true false";
     };
     drop(rhs);
     drop(lhs);
+    end(is_refused)
+}
+
+#[test]
+fn comparisons_of_numbers_answer_again(rt: HostRuntime) -> Result<(), Fail> {
+    let alloc = rt.alloc();
+    let lhs = PrimitiveArray::<i64>::from_slice(alloc, &[7, 8, 9]).expect(&rt, "refused");
+    let rhs = PrimitiveArray::<i64>::from_slice(alloc, &[8, 8, 8]).expect(&rt, "refused");
+    assert!(&rt; lhs.len() == rhs.len(), "operands of one length");
+    let is_refused = results! { &rt;
+        boolean_text: eq(alloc, &lhs, &rhs) => "false true false";
+        boolean_text: neq(alloc, &lhs, &rhs) => "true false true";
+        boolean_text: lt_eq(alloc, &lhs, &rhs) => "true true false";
+        boolean_text: gt(alloc, &lhs, &rhs) => "false false true";
+        boolean_text: gt_eq(alloc, &lhs, &rhs) => "false true true";
+        boolean_text: eq_and_validity(alloc, &lhs, &rhs) => "false true false";
+        boolean_text: neq_and_validity(alloc, &lhs, &rhs) => "true false true";
+        boolean_text: neq_scalar(alloc, &lhs, 8i64) => "true false true";
+        boolean_text: lt_scalar(alloc, &lhs, 8i64) => "true false false";
+        boolean_text: lt_eq_scalar(alloc, &lhs, 8i64) => "true true false";
+        boolean_text: gt_scalar(alloc, &lhs, 8i64) => "false false true";
+        boolean_text: gt_eq_scalar(alloc, &lhs, 8i64) => "false true true";
+    };
+    drop(rhs);
+    drop(lhs);
+    end(is_refused)
+}
+
+#[test]
+fn comparisons_of_booleans_and_text_answer_again(rt: HostRuntime) -> Result<(), Fail> {
+    let alloc = rt.alloc();
+    let booleans = BooleanArray::from_slice(alloc, &[true, true, false]).expect(&rt, "refused");
+    let texts = Utf8Array::<i32>::from_slice(alloc, &["a", "b", "c"]).expect(&rt, "refused");
+    let others = Utf8Array::<i32>::from_slice(alloc, &["b", "b", "b"]).expect(&rt, "refused");
+    assert!(&rt; texts.len() == others.len(), "operands of one length");
+    let is_refused = results! { &rt;
+        boolean_text: lt(alloc, &booleans, &booleans) => "false false false";
+        boolean_text: eq_scalar(alloc, &booleans, true) => "true true false";
+        boolean_text: lt(alloc, &texts, &others) => "true false false";
+        boolean_text: eq_scalar(alloc, &texts, "b") => "false true false";
+    };
+    drop(others);
+    drop(texts);
+    drop(booleans);
     end(is_refused)
 }

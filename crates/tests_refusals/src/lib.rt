@@ -7,6 +7,8 @@
 #[cfg(test)]
 mod aggregate;
 #[cfg(test)]
+mod arithmetics;
+#[cfg(test)]
 mod boolean;
 #[cfg(test)]
 mod bytes;
@@ -14,6 +16,8 @@ mod bytes;
 mod cast;
 #[cfg(test)]
 mod compute;
+#[cfg(test)]
+mod groups;
 #[cfg(test)]
 mod kernels;
 #[cfg(test)]
@@ -34,5 +38,7 @@ mod select;
 mod session;
 #[cfg(test)]
 mod slot_text;
+#[cfg(test)]
+mod sort;
 #[cfg(test)]
 mod types;

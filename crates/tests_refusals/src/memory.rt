@@ -100,6 +100,7 @@ fn marks_grow_or_are_left(rt: HostRuntime) -> Result<(), Fail> {
         changes! { &rt, marks: MutableBitmap::from_slice(alloc, &[true]), growing_text, "1, 0 clear";
         marks.extend_from_bitmap(&growing) => HUNDRED_AND_ONE;
         extend_from_fifth(marks, &frozen) => "10000000000, 10 clear";
+        marks.extend_from_word(0b101, 3) => "1101, 1 clear";
         marks.reserve(1000) => "1, 0 clear";
         marks.shrink_to_fit() => "1, 0 clear";
     };

@@ -60,7 +60,7 @@ fn check_replies<O: Offset>(
     let mut replies = Vec::new(rt.alloc());
     let done = run(&mut table, commands, &mut replies);
     let rest = run(&mut table, &commands[done..], &mut replies);
-    drop(table);
+    table.discard();
     let mut written = Text::new();
     for (index, reply) in replies.iter().enumerate() {
         let gap = if index == 0 { "" } else { " " };

@@ -23,7 +23,7 @@ macro_rules! steps {
         let made = arrow_table::Table::<$native, $offset>::new($rt.alloc(), $entries);
         let mut table = made.expect($rt, "memory");
         steps!($rt, &mut table; $($steps)*);
-        drop(table);
+        table.discard();
     };
     ($rt:expr, $table:expr; $($command:ident($($argument:expr),*) => $reply:expr;)*) => {
         let mut row = 0;

@@ -5,19 +5,13 @@ use super::*;
 /// Compares the items and the parts of arrays of two items around a null.
 fn check_nulls<O: Offset>(rt: &(impl Abort + AllocGlobal)) {
     let array = ByteArray::<Binary, O>::from(rt.alloc(), BYTE_SLOTS).expect(rt, "memory");
-    let (name, items) = (
-        case_of::<Binary, O>("stored items"),
-        array.values_iter().map(Some),
-    );
+    let name = case_of::<Binary, O>("stored items");
     let expected = "[[104, 105] [] [116, 104, 101, 114, 101]]";
-    assert_text::slots(items, expected).expect(rt, name.as_str());
+    assert_text::items(array.values_iter(), expected).expect(rt, name.as_str());
     check_array(rt, "bytes", Ok(array), SLOTS);
     let array = ByteArray::<Utf8, O>::from(rt.alloc(), TEXT_SLOTS).expect(rt, "memory");
-    let (name, items) = (
-        case_of::<Utf8, O>("stored items"),
-        array.values_iter().map(Some),
-    );
-    assert_text::slots(items, r#"["hi" "" "there"]"#).expect(rt, name.as_str());
+    let name = case_of::<Utf8, O>("stored items");
+    assert_text::items(array.values_iter(), r#"["hi" "" "there"]"#).expect(rt, name.as_str());
     check_array(rt, "texts", Ok(array), SLOTS);
 }
 

@@ -18,7 +18,7 @@ fn check_cut<O: Offset>(rt: &(impl Abort + AllocGlobal)) {
     for (index, (case, offsets, bytes, expected)) in CUTS.iter().enumerate() {
         let array = own_array::<Utf8, O>(rt, (*offsets, *bytes, "none"));
         let name = row_of(*case, offset_name::<O>(), index);
-        assert_text::slots(array.values_iter().map(Some), *expected).expect(rt, name.as_str());
+        assert_text::items(array.values_iter(), *expected).expect(rt, name.as_str());
         drop(array);
     }
 }

@@ -13,9 +13,12 @@ use dethrugn::compute::aggregate::{
     group_max_binary, group_max_boolean, group_max_primitive, group_max_string, group_min_binary,
     group_min_boolean, group_min_primitive, group_min_string, group_sum,
 };
-use dethrugn::compute::group::{Groups, group_binary, group_boolean, group_primitive, group_utf8};
+use dethrugn::compute::group::{
+    Groups, group_binary_with, group_boolean_with, group_primitive_with, group_utf8_with,
+};
 use dethrugn::error::Error;
 use std::alloc::Global;
+use std::hash::BuildHasher;
 
 /// What is computed of the valid slots of a group.
 #[derive(Clone, Copy, Debug)]
@@ -41,21 +44,22 @@ impl Aggregate {
 }
 
 impl AnyArray {
-    /// Returns the groups of equal slots, in the order of their first slots. The null slots are one group.
+    /// Returns the groups of equal slots, in the order of their first slots. The null slots are one group. The slots are
+    /// hashed by `hashers`, which should have random keys, as a `RandomState` does, if others choose the slots.
     ///
     /// # Errors
     /// `OutOfMemory` if an allocation fails.
-    pub fn group(&self, alloc: Global) -> Result<Groups, Error>
+    pub fn group<S: BuildHasher + Copy>(&self, alloc: Global, hashers: S) -> Result<Groups, Error>
         ensures ok { IfOk result (λ groups. AnyGrouping self.now groups.first.items groups.indices.items) }
         ensures rows { IfOk result (λ groups.
             NumbersRows (slot_count self.now) groups.first.items groups.indices.items) }
         ensures err { OnlyOutOfMemory result }
     {
         match self {
-            AnyArray::Int64(array) => group_primitive(alloc, array),
-            AnyArray::Boolean(array) => group_boolean(alloc, array),
-            AnyArray::Binary(array) => group_binary(alloc, array),
-            AnyArray::Utf8(array) => group_utf8(alloc, array),
+            AnyArray::Int64(array) => group_primitive_with(alloc, hashers, array),
+            AnyArray::Boolean(array) => group_boolean_with(alloc, hashers, array),
+            AnyArray::Binary(array) => group_binary_with(alloc, hashers, array),
+            AnyArray::Utf8(array) => group_utf8_with(alloc, hashers, array),
         }
     }
 

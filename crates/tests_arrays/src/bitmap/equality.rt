@@ -2,7 +2,7 @@
 use crate::bitmap::{cut, frozen, pushed};
 use arrow_bitmap::Bitmap;
 use std::process::Abort;
-use tests_support::{Text, assert_text, row, row_of};
+use tests_support::{assert_text, row, row_of};
 
 /// Appends a text 24 times.
 fn repeated(rt: &(impl Abort + AllocGlobal), text: &str) -> String {
@@ -42,7 +42,7 @@ fn check(rt: &(impl Abort + AllocGlobal), case: &str, first: &str, second: &str,
 fn bitmaps_are_equal_if_they_have_the_same_marks(rt: HostRuntime) {
     for (index, (case, first, second, expected)) in PAIRS.iter().enumerate() {
         check(&rt, row(*case, index).as_str(), *first, *second, *expected);
-        // The same pair behind 72 marks, of which words are compared.
+        // The pair behind 72 marks: whole words are compared.
         let mut long = repeated(&rt, "011");
         long.push_str(*first).expect(&rt, "memory");
         let mut other = repeated(&rt, "011");
@@ -95,15 +95,15 @@ fn text_begins_with_the_first_mark(rt: HostRuntime) {
     for (index, (case, offset, len, expected)) in TEXTS.iter().enumerate() {
         let mut bitmap = frozen(&rt, "0110110011");
         cut(&rt, &mut bitmap, *offset, *len);
-        let debug = Text::of(format_args!("{bitmap:?}"));
-        let display = Text::of(format_args!("{bitmap}"));
+        let debug = assert_text::debug(&bitmap, *expected);
+        let display = assert_text::display(&bitmap, *expected);
         drop(bitmap);
-        assert_text::text(debug, *expected).expect(&rt, row(*case, index).as_str());
-        assert_text::text(display, *expected).expect(&rt, row(*case, index).as_str());
+        debug.expect(&rt, row(*case, index).as_str());
+        display.expect(&rt, row(*case, index).as_str());
     }
     let marks = pushed(&rt, "10000000011");
-    let text = Text::of(format_args!("{marks} {marks:?}"));
-    let expected = "[0b00000001, 0b_____110] [0b00000001, 0b_____110]";
-    assert_text::text(text, expected).expect(&rt, "of a growing bitmap");
+    let expected = "[0b00000001, 0b_____110]";
+    assert_text::debug(&marks, expected).expect(&rt, "of a growing bitmap");
+    assert_text::display(&marks, expected).expect(&rt, "of a growing bitmap");
     drop(marks);
 }

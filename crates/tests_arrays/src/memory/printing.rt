@@ -52,8 +52,8 @@ fn offsets_are_equal_if_they_have_the_same_numbers(rt: HostRuntime) {
 #[test]
 fn slices_and_offsets_are_printed_from_their_first_number(rt: HostRuntime) {
     let mut buffer = buffer_of::<i64>(rt.alloc(), &[7, -8, 9]).expect(&rt, "memory");
-    let text = Text::of(format_args!("{buffer:?} {buffer}"));
-    assert_text::text(text, "[7, -8, 9] [7, -8, 9]").expect(&rt, "all");
+    assert_text::debug(&buffer, "[7, -8, 9]").expect(&rt, "all");
+    assert_text::display(&buffer, "[7, -8, 9]").expect(&rt, "all");
     assert!(rt; buffer.len() == 3);
     buffer.slice(1, 1);
     let text = Text::of(format_args!("{buffer:?}"));
@@ -63,11 +63,11 @@ fn slices_and_offsets_are_printed_from_their_first_number(rt: HostRuntime) {
     assert_text::text(text, "[-8]").expect(&rt, "a slice");
     assert_text::value(value, -8).expect(&rt, "by index");
     let growing = offsets_of::<i32>(rt.alloc(), &[0, 3, 12]).expect(&rt, "offsets");
-    let text = Text::of(format_args!("{growing:?} {growing}"));
-    assert_text::text(text, "Offsets([0, 3, 12]) Offsets([0, 3, 12])").expect(&rt, "growing");
+    assert_text::debug(&growing, "Offsets([0, 3, 12])").expect(&rt, "growing");
+    assert_text::display(&growing, "Offsets([0, 3, 12])").expect(&rt, "growing");
     drop(growing);
     let frozen = frozen_offsets::<i64>(rt.alloc(), &[5]).expect(&rt, "offsets");
-    let text = Text::of(format_args!("{frozen:?} {frozen}"));
-    assert_text::text(text, "OffsetsBuffer([5]) OffsetsBuffer([5])").expect(&rt, "frozen");
+    assert_text::debug(&frozen, "OffsetsBuffer([5])").expect(&rt, "frozen");
+    assert_text::display(&frozen, "OffsetsBuffer([5])").expect(&rt, "frozen");
     drop(frozen);
 }

@@ -13,6 +13,8 @@ fn check(rt: &(impl Abort + AllocGlobal), made: &DataType, text: &str, physical:
     let printed = made.to_string(rt.alloc()).expect(rt, "memory");
     assert_text::value(printed.as_str(), text).expect(rt, text);
     drop(printed);
+    assert_text::debug(made, text).expect(rt, text);
+    assert_text::display(made, text).expect(rt, text);
     let layout = Text::of(format_args!("{:?}", made.to_physical_type()));
     assert_text::text(layout, physical).expect(rt, text);
     let copy = made.clone().expect(rt, "memory");
@@ -65,15 +67,34 @@ const ZONES: &[(Option<&str>, &str)] = &[
     (Some("UTC"), "Timestamp(Microsecond, Some(\"UTC\"))"),
     (Some("\"\\"), "Timestamp(Microsecond, Some(\"\\\"\\\\\"))"),
     (Some("Zürich"), "Timestamp(Microsecond, Some(\"Zürich\"))"),
+    (
+        Some("a\n\u{1f}'\u{301}"),
+        "Timestamp(Microsecond, Some(\"a\\n\\u{1f}'\u{301}\"))",
+    ),
 ];
 
 #[test]
-fn timestamps_print_their_zones_and_extensions_what_they_extend(rt: HostRuntime) {
+fn timestamps_print_their_zones(rt: HostRuntime) {
     for (zone, text) in ZONES {
         let time = timestamp(&rt, Microsecond, *zone);
         check(&rt, &time, *text, "Primitive(Int64)");
         drop(time);
     }
+}
+
+#[test]
+fn is_extension_is_true_of_extensions_alone(rt: HostRuntime) {
+    let text = DataType::Utf8;
+    assert_text::value(text.is_extension(), false).expect(&rt, "text");
+    drop(text);
+    let names = extension(&rt, "names", DataType::Utf8, None);
+    let is_extension = names.is_extension();
+    drop(names);
+    assert_text::value(is_extension, true).expect(&rt, "an extension of text");
+}
+
+#[test]
+fn extensions_print_what_they_extend(rt: HostRuntime) {
     let names = extension(&rt, "names", DataType::Utf8, None);
     check(&rt, &names, "Extension(\"names\", Utf8, None)", "Utf8");
     drop(names);

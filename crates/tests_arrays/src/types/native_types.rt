@@ -1,4 +1,4 @@
-//! Names, defaults and equality of the native types.
+//! Names, defaults, equality and texts of the native types, and values of bytes.
 ghost use Rattle.std.specs.Prelude.{◌≡◌};
 
 use arrow_types::le_bytes::FromLeBytes;
@@ -6,7 +6,7 @@ use arrow_types::native_type::{NativeType, days_ms, i256, months_days_ns};
 use arrow_types::primitive_type::PrimitiveType;
 use std::fmt::Debug;
 use std::process::Abort;
-use tests_support::{Text, assert_text};
+use tests_support::{Text, assert_text, row};
 
 /// Returns how a type names itself, by its bound.
 fn name_of<T: NativeType>() -> PrimitiveType
@@ -50,6 +50,44 @@ fn nulls_store_zero_in_each_part(rt: HostRuntime) {
     check(&rt, name, null, months_days_ns(1, 0, 0));
     check(&rt, name, null, months_days_ns(0, 1, 0));
     check(&rt, name, null, months_days_ns(0, 0, 4294967296));
+}
+
+/// Numbers of 256 bits, and their text.
+#[rattlefmt::skip]
+const WIDE: &[(i256, &str)] = &[
+    (i256(0, 0), "0"),
+    (i256(0, 9), "9"),
+    (i256(0, 10), "10"),
+    (i256(-1, u128::MAX), "-1"),
+    (i256(-1, 340282366920938463463374607431768211356), "-100"),
+    (i256(0, u128::MAX), "340282366920938463463374607431768211455"),
+    (i256(1, 0), "340282366920938463463374607431768211456"),
+    (i256(-1, 0), "-340282366920938463463374607431768211456"),
+    (i256(i128::MAX, u128::MAX),
+        "57896044618658097711785492504343953926634992332820282019728792003956564819967"),
+    (i256(i128::MIN, 0),
+        "-57896044618658097711785492504343953926634992332820282019728792003956564819968"),
+];
+
+#[test]
+fn numbers_of_256_bits_are_printed_in_decimal(rt: HostRuntime) {
+    for (index, (number, expected)) in WIDE.iter().enumerate() {
+        let name = row("i256", index);
+        assert_text::debug(number, *expected).expect(&rt, name.as_str());
+        assert_text::display(number, *expected).expect(&rt, name.as_str());
+    }
+}
+
+#[test]
+fn intervals_are_printed_by_their_parts(rt: HostRuntime) {
+    let days = days_ms(1, -2);
+    assert_text::debug(&days, "days_ms(1, -2)").expect(&rt, "days_ms");
+    assert_text::display(&days, "1d -2ms").expect(&rt, "days_ms");
+    let months = months_days_ns(-1, 2, i64::MIN);
+    let expected = "months_days_ns(-1, 2, -9223372036854775808)";
+    assert_text::debug(&months, expected).expect(&rt, "months_days_ns");
+    let expected = "-1m 2d -9223372036854775808ns";
+    assert_text::display(&months, expected).expect(&rt, "months_days_ns");
 }
 
 /// Compares the value of bytes, by the bound, and how many bytes it has, with these.

@@ -1,23 +1,23 @@
 //! Sums, least and greatest values of numbers.
 use crate::arrays::{check_value, row, stored_numbers};
-use arrow_aggregate::aggregate::{
-    SumOverflow, count_valid, max_primitive, min_primitive, sum_primitive,
-};
+use arrow_aggregate::aggregate::{count_valid, max_primitive, min_primitive, sum_primitive};
 use arrow_integers::NativeArithmetics;
 use arrow_memory::bitmap::MutableBitmap;
 use arrow_memory::buffer::Buffer;
 use arrow_primitive::PrimitiveArray;
 use arrow_types::data_type::DataType;
+use arrow_types::error::Error;
 use std::fmt::Debug;
 use std::process::Abort;
 use tests_support::Text;
 
-/// A name, values, marks, the sum, the least and the greatest value, and how many slots are valid.
+/// A name, values, marks, whether the sum fits and the sum, the least and the greatest value, and how many slots are
+/// valid.
 type Row<T> = (
     &'static str,
     &'static [T],
     &'static str,
-    Result<Option<T>, SumOverflow>,
+    (bool, Option<T>),
     Option<T>,
     Option<T>,
     usize,
@@ -29,44 +29,44 @@ const MAX: i64 = i64::MAX;
 
 #[rattlefmt::skip]
 const LONG: &[Row<i64>] = &[
-    ("no slot", &[], "none", Ok(None), None, None, 0),
-    ("null slots only", &[1, 2], "00", Ok(None), None, None, 0),
-    ("no null", &[3, -1, 2], "none", Ok(Some(4)), Some(-1), Some(3), 3),
-    ("a needless mask", &[3, -1, 2], "111", Ok(Some(4)), Some(-1), Some(3), 3),
-    ("extremes under nulls", &[-9, 3, 9, 5], "0101", Ok(Some(8)), Some(3), Some(5), 2),
-    ("zero is above the values", &[-3, 0, -5], "101", Ok(Some(-8)), Some(-5), Some(-3), 2),
-    ("only the whole has to fit", &[MAX, 1, -1], "none", Ok(Some(MAX)), Some(-1), Some(MAX), 3),
-    ("one too great", &[MAX, 1], "none", Err(SumOverflow), Some(1), Some(MAX), 2),
-    ("one too small", &[MIN, -1], "none", Err(SumOverflow), Some(MIN), Some(-1), 2),
-    ("least and greatest", &[MIN, MAX], "none", Ok(Some(-1)), Some(MIN), Some(MAX), 2),
-    ("above 32 bits", &[4294967296, -1, -4294967297, 5], "1101", Ok(Some(4294967300)), Some(-1), Some(4294967296), 3),
-    ("below 32 bits", &[-4294967297, -4294967295, 1], "none", Ok(Some(-8589934591)), Some(-4294967297), Some(1), 3),
+    ("no slot", &[], "none", (true, None), None, None, 0),
+    ("null slots only", &[1, 2], "00", (true, None), None, None, 0),
+    ("no null", &[3, -1, 2], "none", (true, Some(4)), Some(-1), Some(3), 3),
+    ("a needless mask", &[3, -1, 2], "111", (true, Some(4)), Some(-1), Some(3), 3),
+    ("extremes under nulls", &[-9, 3, 9, 5], "0101", (true, Some(8)), Some(3), Some(5), 2),
+    ("zero is above the values", &[-3, 0, -5], "101", (true, Some(-8)), Some(-5), Some(-3), 2),
+    ("only the whole has to fit", &[MAX, 1, -1], "none", (true, Some(MAX)), Some(-1), Some(MAX), 3),
+    ("one too great", &[MAX, 1], "none", (false, None), Some(1), Some(MAX), 2),
+    ("one too small", &[MIN, -1], "none", (false, None), Some(MIN), Some(-1), 2),
+    ("least and greatest", &[MIN, MAX], "none", (true, Some(-1)), Some(MIN), Some(MAX), 2),
+    ("above 32 bits", &[4294967296, -1, -4294967297, 5], "1101", (true, Some(4294967300)), Some(-1), Some(4294967296), 3),
+    ("below 32 bits", &[-4294967297, -4294967295, 1], "none", (true, Some(-8589934591)), Some(-4294967297), Some(1), 3),
 ];
 
 const HUGE: i128 = i128::MAX;
 
 #[rattlefmt::skip]
 const WIDE: &[Row<i128>] = &[
-    ("a sum on the way is too great", &[HUGE, HUGE, -HUGE], "none", Ok(Some(HUGE)), Some(-HUGE), Some(HUGE), 3),
-    ("a sum on the way is too small", &[-HUGE, -HUGE, 0, HUGE], "1101", Ok(Some(-HUGE)), Some(-HUGE), Some(HUGE), 3),
-    ("the greatest number", &[HUGE - 1, 1], "none", Ok(Some(HUGE)), Some(1), Some(HUGE - 1), 2),
-    ("one more", &[HUGE, 1], "none", Err(SumOverflow), Some(1), Some(HUGE), 2),
-    ("the least number", &[-HUGE, -1], "none", Ok(Some(i128::MIN)), Some(-HUGE), Some(-1), 2),
-    ("one less", &[-HUGE, -2], "none", Err(SumOverflow), Some(-HUGE), Some(-2), 2),
-    ("far too great", &[HUGE, HUGE, HUGE, HUGE], "none", Err(SumOverflow), Some(HUGE), Some(HUGE), 4),
+    ("a sum on the way is too great", &[HUGE, HUGE, -HUGE], "none", (true, Some(HUGE)), Some(-HUGE), Some(HUGE), 3),
+    ("a sum on the way is too small", &[-HUGE, -HUGE, 0, HUGE], "1101", (true, Some(-HUGE)), Some(-HUGE), Some(HUGE), 3),
+    ("the greatest number", &[HUGE - 1, 1], "none", (true, Some(HUGE)), Some(1), Some(HUGE - 1), 2),
+    ("one more", &[HUGE, 1], "none", (false, None), Some(1), Some(HUGE), 2),
+    ("the least number", &[-HUGE, -1], "none", (true, Some(i128::MIN)), Some(-HUGE), Some(-1), 2),
+    ("one less", &[-HUGE, -2], "none", (false, None), Some(-HUGE), Some(-2), 2),
+    ("far too great", &[HUGE, HUGE, HUGE, HUGE], "none", (false, None), Some(HUGE), Some(HUGE), 4),
 ];
 
 #[rattlefmt::skip]
 const BYTES: &[Row<u8>] = &[
-    ("the greatest number", &[200, 55], "none", Ok(Some(255)), Some(55), Some(200), 2),
-    ("one more", &[200, 56], "none", Err(SumOverflow), Some(56), Some(200), 2),
-    ("a null", &[200, 56, 1], "101", Ok(Some(201)), Some(1), Some(200), 2),
+    ("the greatest number", &[200, 55], "none", (true, Some(255)), Some(55), Some(200), 2),
+    ("one more", &[200, 56], "none", (false, None), Some(56), Some(200), 2),
+    ("a null", &[200, 56, 1], "101", (true, Some(201)), Some(1), Some(200), 2),
 ];
 
 #[rattlefmt::skip]
 const NATURALS: &[Row<u64>] = &[
-    ("the greatest number", &[u64::MAX, 0], "none", Ok(Some(u64::MAX)), Some(0), Some(u64::MAX), 2),
-    ("one more", &[u64::MAX, 1], "none", Err(SumOverflow), Some(1), Some(u64::MAX), 2),
+    ("the greatest number", &[u64::MAX, 0], "none", (true, Some(u64::MAX)), Some(0), Some(u64::MAX), 2),
+    ("one more", &[u64::MAX, 1], "none", (false, None), Some(1), Some(u64::MAX), 2),
 ];
 
 /// Compares the aggregates of the numbers of each row.
@@ -75,11 +75,20 @@ fn check_rows<T: NativeArithmetics + Debug>(
     test: &str,
     rows: &[Row<T>],
 ) {
-    for (index, (case, values, mask, sum, least, greatest, valid)) in rows.iter().enumerate() {
-        let row = Text::of(format_args!("{test}: {:?}, row {index}, {case}", T::PRIMITIVE));
+    for (index, (case, values, mask, (fits, sum), least, greatest, valid)) in rows
+        .iter()
+        .enumerate()
+    {
+        let kind = Text::of(format_args!("{:?}", T::PRIMITIVE));
+        let row = row(test, kind.as_str(), index, *case);
         let row = row.as_str();
         let numbers = stored_numbers(rt, T::PRIMITIVE.default_data_type(), *values, *mask);
-        check_value(rt, row, sum_primitive(&numbers), *sum);
+        let sum = if *fits {
+            Ok(*sum)
+        } else {
+            Err(Error::Overflow)
+        };
+        check_value(rt, row, sum_primitive(&numbers), sum);
         check_value(rt, row, min_primitive(&numbers), *least);
         check_value(rt, row, max_primitive(&numbers), *greatest);
         check_value(rt, row, count_valid(&numbers), *valid);
@@ -106,10 +115,6 @@ fn numbers_are_summed_and_compared(rt: HostRuntime) {
     check_rows(&rt, "sums of 128 bits", WIDE);
     check_rows(&rt, "sums of unsigned numbers", BYTES);
     check_rows(&rt, "sums of unsigned numbers", NATURALS);
-    let printed = SumOverflow.to_string(alloc).expect(&rt, "memory");
-    let text = "the sum does not fit in its type";
-    check_value(&rt, "an overflow prints its text", printed.as_str(), text);
-    drop(printed);
     for (index, (case, period, from, sum, least, greatest)) in PERIODS.iter().enumerate() {
         let row = row("aggregates of long arrays", "Int32", index, *case);
         let row = row.as_str();

@@ -1,6 +1,6 @@
 //! Conversions between types.
 use crate::arrays::{
-    check_mask, check_numbers, check_value, stored_booleans, stored_items, stored_numbers,
+    check_mask, check_numbers, check_value, row, stored_booleans, stored_items, stored_numbers,
 };
 use arrow_arithmetics::cast::{
     CastOptions, binary_to_utf8, boolean_to_primitive, primitive_as_primitive,
@@ -78,12 +78,42 @@ fn bytes_become_text_if_they_are_utf8(rt: HostRuntime) {
     check_mask(&rt, "the same mask", made.validity(), "10");
     drop(made);
     let array = stored_items::<Binary, i32>(&rt, (&[0, 2, 4], b"hi\xff\xff", "10"));
-    let refused = binary_to_utf8(&array, DataType::Utf8).err();
+    for (index, (case, data_type)) in [
+        ("a null that stores no text", DataType::Utf8),
+        ("no text, and the wrong type", DataType::LargeUtf8),
+    ]
+    .into_iter()
+    .enumerate()
+    {
+        let row = row("binary_to_utf8", "Binary", index, case);
+        check_value(
+            &rt,
+            row.as_str(),
+            binary_to_utf8(&array, data_type).err(),
+            Some(Error::OutOfSpec("every text between two offsets must be UTF-8")),
+        );
+    }
     drop(array);
-    check_value(
-        &rt,
-        "a null that stores no text",
-        refused,
-        Some(Error::OutOfSpec("every text between two offsets must be UTF-8")),
-    );
+}
+
+#[test]
+fn bytes_become_no_text_of_another_type(rt: HostRuntime) {
+    let array = stored_items::<Binary, i32>(&rt, (&[0, 2, 4], b"hi\xc3\xa9", "10"));
+    for (index, (case, data_type)) in [
+        ("the type of large offsets", DataType::LargeUtf8),
+        ("the type of bytes", DataType::Binary),
+    ]
+    .into_iter()
+    .enumerate()
+    {
+        let row = row("binary_to_utf8", "Binary", index, case);
+        let text = "Utf8Array can only be initialized with DataType::Utf8 or DataType::LargeUtf8";
+        check_value(
+            &rt,
+            row.as_str(),
+            binary_to_utf8(&array, data_type).err(),
+            Some(Error::OutOfSpec(text)),
+        );
+    }
+    drop(array);
 }

@@ -1,8 +1,8 @@
 //! Arithmetic of two arrays.
-use crate::arrays::{check_numbers, check_value, stored_numbers};
+use crate::arrays::{check_numbers, check_value, row, stored_numbers};
 use arrow_arithmetics::basic::{
-    add, checked_add, checked_div, checked_mul, checked_rem, checked_sub, div, has_zero, mul, rem,
-    saturating_add, saturating_mul, saturating_sub, sub,
+    add, checked_add, checked_div, checked_mul, checked_rem, checked_sub, div, has_zero,
+    has_zero_divisor, mul, rem, saturating_add, saturating_mul, saturating_sub, sub,
 };
 use arrow_primitive::PrimitiveArray;
 use arrow_types::data_type::DataType;
@@ -42,7 +42,8 @@ fn slots_of_two_arrays_are_combined(rt: HostRuntime) {
     compare_answer!(saturating_add, "[127 0 9 -5 -128 _]", "111110");
     compare_answer!(saturating_sub, "[0 -128 5 -9 -127 _]", "111110");
     compare_answer!(saturating_mul, "[127 -128 14 -14 127 _]", "111110");
-    assert!(rt; !has_zero(&rhs), "a zero under a null");
+    check_value(&rt, "a zero under a null", has_zero(&rhs), false);
+    assert!(rt; !has_zero_divisor(&lhs, &rhs), "a zero under a null");
     check_numbers(
         &rt,
         "slots of two arrays saturate and divide: div",
@@ -53,6 +54,62 @@ fn slots_of_two_arrays_are_combined(rt: HostRuntime) {
     compare_answer!(rem, "[0 0 1 -1 0 _]", "111110");
     drop(lhs);
     drop(rhs);
+}
+
+#[test]
+fn quotients_by_zero_beside_a_null_are_null(rt: HostRuntime) {
+    let alloc = rt.alloc();
+    // The zeros of the second stand beside a null, under a null, and under a null beside a null.
+    let lhs = bytes(&rt, &[9, 9, 9, 9], "0101");
+    let rhs = bytes(&rt, &[0, 0, 0, -4], "1001");
+    assert!(rt; lhs.len() == rhs.len(), "operands of one length");
+    check_value(&rt, "a valid zero", has_zero(&rhs), true);
+    assert!(rt;
+        !has_zero_divisor(&lhs, &rhs),
+        "no zero divides a valid slot"
+    );
+    check_numbers(
+        &rt,
+        "a zero beside a null: div",
+        div(alloc, &lhs, &rhs),
+        Ok(("[_ _ _ -2]", "0001")),
+        &DataType::Int8,
+    );
+    check_numbers(
+        &rt,
+        "a zero beside a null: rem",
+        rem(alloc, &lhs, &rhs),
+        Ok(("[_ _ _ 1]", "0001")),
+        &DataType::Int8,
+    );
+    drop(rhs);
+    drop(lhs);
+}
+
+#[test]
+fn only_a_zero_that_divides_a_valid_slot_is_a_zero_divisor(rt: HostRuntime) {
+    let lhs = bytes(&rt, &[9, 9, 9, 9], "0101");
+    for (index, (case, values, mask, expected)) in [
+        ("a zero in a valid slot", &[1, 0, 1, 1], "none", true),
+        ("the last divides by zero", &[0, 1, 0, 0], "1111", true),
+        ("zeros beside nulls", &[0, 1, 0, 1], "none", false),
+        ("a zero under a null", &[1, 0, 1, 1], "1011", false),
+    ]
+    .iter()
+    .enumerate()
+    {
+        let row = row("has_zero_divisor", "Int8", index, *case);
+        let divisors = bytes(&rt, *values, *mask);
+        assert!(rt; lhs.len() == divisors.len(), "operands of one length");
+        check_value(
+            &rt,
+            row.as_str(),
+            has_zero_divisor(&lhs, &divisors),
+            *expected,
+        );
+        drop(divisors);
+    }
+    drop(lhs);
 }
 
 #[test]

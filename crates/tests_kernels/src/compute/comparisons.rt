@@ -1,11 +1,13 @@
 //! Comparisons of arrays of each kind, and of an array with a value.
 use crate::arrays::{check_booleans, items, numbers, stored_booleans};
 use arrow_binary::BinaryArray;
+use arrow_compute::comparison::equal::{EqualArray, EqualScalar};
 use arrow_compute::comparison::ordered::{OrderedArray, Scalar};
 use arrow_compute::comparison::{
     eq, eq_and_validity, eq_scalar, gt, gt_eq, gt_eq_scalar, gt_scalar, lt, lt_eq, lt_eq_scalar,
     lt_scalar, neq, neq_and_validity, neq_scalar,
 };
+use arrow_types::native_type::{NativeType, days_ms, i256, months_days_ns};
 use arrow_utf8::Utf8Array;
 use std::process::Abort;
 use tests_support::Text;
@@ -13,26 +15,23 @@ use tests_support::Text;
 /// The expected slots of `eq`, `neq`, `lt`, `lt_eq`, `gt` and `gt_eq`, and their mask.
 type Six = ([&'static str; 6], &'static str);
 
-/// The same, and the expected slots of `eq_and_validity` and `neq_and_validity`.
+/// What is expected of these six, and the slots of `eq_and_validity` and `neq_and_validity`.
 type Eight = (Six, [&'static str; 2]);
 
-/// Compares two arrays in each way, and so that nulls are equal to each other (`eq_and_validity`, `neq_and_validity`).
-fn check_pairs<A: OrderedArray>(
+/// The expected slots of `eq` and `neq` and their mask, and those of `eq_and_validity` and `neq_and_validity`.
+type Four = (([&'static str; 2], &'static str), [&'static str; 2]);
+
+/// Compares two arrays for equality, and so that nulls are equal to each other (`eq_and_validity`, `neq_and_validity`).
+fn check_equality<A: EqualArray>(
     rt: &(impl Abort + AllocGlobal),
-    case: &str,
+    row: &str,
     (lhs, rhs): (&A, &A),
-    (([equal, unequal, less, at_most, greater, at_least], mask), [same, differing]): &Eight,
+    (([equal, unequal], mask), [same, differing]): &Four,
 ) {
     let alloc = rt.alloc();
-    let row = Text::of(format_args!("{case}, {}", lhs.data_type()));
-    let row = row.as_str();
     assert!(rt; lhs.len() == rhs.len(), "operands of one length");
     check_booleans(rt, row, "eq", eq(alloc, lhs, rhs), (*equal, *mask));
     check_booleans(rt, row, "neq", neq(alloc, lhs, rhs), (*unequal, *mask));
-    check_booleans(rt, row, "lt", lt(alloc, lhs, rhs), (*less, *mask));
-    check_booleans(rt, row, "lt_eq", lt_eq(alloc, lhs, rhs), (*at_most, *mask));
-    check_booleans(rt, row, "gt", gt(alloc, lhs, rhs), (*greater, *mask));
-    check_booleans(rt, row, "gt_eq", gt_eq(alloc, lhs, rhs), (*at_least, *mask));
     check_booleans(
         rt,
         row,
@@ -49,6 +48,37 @@ fn check_pairs<A: OrderedArray>(
     );
 }
 
+/// Compares two arrays in each way.
+fn check_pairs<A: OrderedArray>(
+    rt: &(impl Abort + AllocGlobal),
+    case: &str,
+    (lhs, rhs): (&A, &A),
+    (([equal, unequal, less, at_most, greater, at_least], mask), ends): &Eight,
+) {
+    let alloc = rt.alloc();
+    let row = Text::of(format_args!("{case}, {}", lhs.data_type()));
+    let row = row.as_str();
+    check_equality(rt, row, (lhs, rhs), &(([*equal, *unequal], *mask), *ends));
+    assert!(rt; lhs.len() == rhs.len(), "operands of one length");
+    check_booleans(rt, row, "lt", lt(alloc, lhs, rhs), (*less, *mask));
+    check_booleans(rt, row, "lt_eq", lt_eq(alloc, lhs, rhs), (*at_most, *mask));
+    check_booleans(rt, row, "gt", gt(alloc, lhs, rhs), (*greater, *mask));
+    check_booleans(rt, row, "gt_eq", gt_eq(alloc, lhs, rhs), (*at_least, *mask));
+}
+
+/// Compares an array with a value for equality.
+fn check_equality_scalar<A: EqualArray, S: EqualScalar<A>>(
+    rt: &(impl Abort + AllocGlobal),
+    row: &str,
+    lhs: &A,
+    rhs: S,
+    ([equal, unequal], mask): ([&str; 2], &str),
+) {
+    let alloc = rt.alloc();
+    check_booleans(rt, row, "eq", eq_scalar(alloc, lhs, rhs), (equal, mask));
+    check_booleans(rt, row, "neq", neq_scalar(alloc, lhs, rhs), (unequal, mask));
+}
+
 /// Compares an array with a value in each way.
 fn check_scalar<A: OrderedArray, S: Scalar<A>>(
     rt: &(impl Abort + AllocGlobal),
@@ -60,14 +90,7 @@ fn check_scalar<A: OrderedArray, S: Scalar<A>>(
     let alloc = rt.alloc();
     let row = Text::of(format_args!("{case}, {}", lhs.data_type()));
     let row = row.as_str();
-    check_booleans(rt, row, "eq", eq_scalar(alloc, lhs, rhs), (*equal, *mask));
-    check_booleans(
-        rt,
-        row,
-        "neq",
-        neq_scalar(alloc, lhs, rhs),
-        (*unequal, *mask),
-    );
+    check_equality_scalar(rt, row, lhs, rhs, ([*equal, *unequal], *mask));
     check_booleans(rt, row, "lt", lt_scalar(alloc, lhs, rhs), (*less, *mask));
     check_booleans(
         rt,
@@ -185,4 +208,71 @@ fn arrays_are_compared(rt: HostRuntime) {
     drop(rhs);
     check_scalar(&rt, "a letter", &lhs, "a", &BY_LETTER);
     drop(lhs);
+}
+
+/// Compares values of a type without an order: two that are equal, each of the others beside one that differs from the
+/// first in one part, and nulls on either side and on both.
+fn check_parts<T: NativeType>(
+    rt: &(impl Abort + AllocGlobal),
+    (first, others): (T, &[T]),
+    expected: &Four,
+    scalar: ([&str; 2], &str),
+) {
+    let alloc = rt.alloc();
+    let row = Text::of(format_args!("values of several parts: {:?}", T::PRIMITIVE));
+    let row = row.as_str();
+    let mut slots = Vec::new(alloc);
+    let mut beside = Vec::new(alloc);
+    for other in others {
+        slots.push(Some(first)).expect(rt, "memory");
+        beside.push(Some(*other)).expect(rt, "memory");
+    }
+    slots.push(Some(first)).expect(rt, "memory");
+    beside.push(None).expect(rt, "memory");
+    slots.push(None).expect(rt, "memory");
+    beside.push(Some(first)).expect(rt, "memory");
+    slots.push(None).expect(rt, "memory");
+    beside.push(None).expect(rt, "memory");
+    let lhs = numbers(rt, slots.as_slice());
+    let rhs = numbers(rt, beside.as_slice());
+    drop(slots);
+    drop(beside);
+    check_equality(rt, row, (&lhs, &rhs), expected);
+    drop(lhs);
+    check_equality_scalar(rt, row, &rhs, first, scalar);
+    drop(rhs);
+}
+
+#[test]
+fn values_of_several_parts_are_compared_for_equality(rt: HostRuntime) {
+    let three: &Four = &((["tff___", "ftt___"], "111000"), ["tfffft", "fttttf"]);
+    check_parts(
+        &rt,
+        (i256(-1, 2), &[i256(-1, 2), i256(1, 2), i256(-1, 3)]),
+        three,
+        (["tff_t_", "ftt_f_"], "111010"),
+    );
+    check_parts(
+        &rt,
+        (
+            days_ms(7, -8),
+            &[days_ms(7, -8), days_ms(8, -8), days_ms(7, 8)],
+        ),
+        three,
+        (["tff_t_", "ftt_f_"], "111010"),
+    );
+    check_parts(
+        &rt,
+        (
+            months_days_ns(1, 2, 3),
+            &[
+                months_days_ns(1, 2, 3),
+                months_days_ns(2, 2, 3),
+                months_days_ns(1, 1, 3),
+                months_days_ns(1, 2, -3),
+            ],
+        ),
+        &((["tfff___", "fttt___"], "1111000"), ["tffffft", "ftttttf"]),
+        (["tfff_t_", "fttt_f_"], "1111010"),
+    );
 }

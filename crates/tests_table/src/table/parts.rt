@@ -187,7 +187,7 @@ fn check<T: NativeType + Debug, O: Offset + From<i32>>(
         let mut replies = Vec::new(rt.alloc());
         let done = run(&mut table, commands.as_slice(), &mut replies);
         drop(commands);
-        drop(table);
+        table.discard();
         let came = run_text(done, &replies);
         drop(replies);
         let (first, second) = match expected.starts_with("[") {

@@ -20,7 +20,7 @@ fn slots_and_bytes_are_reserved_each_by_its_number(rt: HostRuntime) {
                 Some(Entry::Utf8Values(made)) => (made.capacity(), made.values().capacity()),
                 _ => (0, 0),
             };
-            drop(table);
+            table.discard();
             let is_room = came >= slots && (slots == 1000 || came < 1000);
             assert!(rt;
                 is_room,

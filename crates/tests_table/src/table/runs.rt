@@ -34,7 +34,7 @@ fn entries_have_kinds(rt: HostRuntime) {
     for e in [10, 11, usize::MAX] {
         check_kind(&rt, "an empty entry, or none", &table, e, None);
     }
-    drop(table);
+    table.discard();
 }
 
 #[test]
@@ -45,7 +45,7 @@ fn a_table_without_entries_only_checks_indexes(rt: HostRuntime) {
         ExtendFromSelf(0, 0) => "not met"; Equal(0, 0) => "not met"; CheckIndexes(list!(&rt; 0), 1) => "ok";
     );
     assert_text::value(table.len(), 0).expect(&rt, "len");
-    drop(table);
+    table.discard();
 }
 
 #[test]
@@ -65,7 +65,7 @@ fn a_run_appends_a_reply_for_each_command(rt: HostRuntime) {
     let rest = commands.get(2..).expect(&rt, "two commands");
     let done = run(&mut table, rest, &mut replies);
     drop(commands);
-    drop(table);
+    table.discard();
     let came = run_text(done, &replies);
     drop(replies);
     assert_text::text(came, "2: ok, ok, ok, [7 _], ok, [7 _ _]").expect(&rt, "two more");

@@ -41,7 +41,7 @@ fn check_few<O: Offset + From<i32>>(rt: &(impl Abort + AllocGlobal)) {
         let case = case_text::<i64, O>(*case, entry);
         assert_text::value(cost(&table), *wanted).expect(rt, case.as_str());
     }
-    drop(table);
+    table.discard();
 }
 
 /// Compares the costs of a hundred texts of two bytes, which are tested together, each time that they are given, and of
@@ -83,7 +83,7 @@ fn check_hundred<O: Offset + From<i32>>(rt: &(impl Abort + AllocGlobal)) {
     );
     let case = case_text::<i64, O>("no new text", 2);
     assert_text::value(cost(&table), [2, 2, 198]).expect(rt, case.as_str());
-    drop(table);
+    table.discard();
 }
 
 #[test]

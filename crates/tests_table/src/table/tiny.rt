@@ -53,7 +53,7 @@ fn pushes_past_the_maximal_offset_are_refused(rt: HostRuntime) {
             Push(e, Some(text(&rt, "a", 1))) => "refused: overflow"; Len(e) => "3";
         );
     }
-    drop(table);
+    table.discard();
 }
 
 #[test]

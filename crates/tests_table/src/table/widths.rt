@@ -52,7 +52,7 @@ fn texts_go_from_one_width_to_the_other(rt: HostRuntime) {
     let is_text = narrow.kind(1) == Some(Kind::Utf8) && wide.kind(0) == Some(Kind::Utf8);
     let left = (is_text, narrow.kind(0).is_none(), narrow.len());
     assert_text::value(left, (true, true, 4)).expect(&rt, "kinds, the empty entry, len");
-    drop(tables);
+    tables.discard();
 }
 
 #[test]
@@ -69,7 +69,7 @@ fn commands_are_run_one_by_one_on_either_side(rt: HostRuntime) {
         tables.on_wide(rt.alloc(), &Command::Len(0)) => "0";
         tables.on_narrow(rt.alloc(), &Command::TypeOf(1)) => "Binary";
     );
-    drop(tables);
+    tables.discard();
 }
 
 #[test]
@@ -87,7 +87,7 @@ fn slots_go_in_with_no_command(rt: HostRuntime) {
         tables.on_wide(rt.alloc(), &Command::Slots(0)) => "[7 _]";
     );
     drop(value);
-    drop(tables);
+    tables.discard();
 }
 
 #[test]
@@ -101,5 +101,5 @@ fn parts_go_in_with_no_command(rt: HostRuntime) {
         tables.on_narrow(rt.alloc(), &Command::Len(0)) => "2";
         tables.on_wide(rt.alloc(), &Command::Len(0)) => "2";
     );
-    drop(tables);
+    tables.discard();
 }

@@ -1,5 +1,5 @@
 use Rattle.std.proofs.Common.{◌≡◌, ◌++◌, map, take, drop}
-use Rattle.example_record_batch.specs.Batches.{field_cut}
+use Rattle.example_record_batch.proofs.BatchLemmas.{field_cut}
 use Rattle.example_record_batch.proofs.batch.slice_all.Given as goal
 
 abbrev pub invariant-loop-field : goal.invariant-loop-field
