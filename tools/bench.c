@@ -14,7 +14,7 @@
 /* The functions, with what each is given: an item here is ITEM bytes of `data`. */
 #include "comparison/driver/rattle_flat.h"
 
-enum { ITEM = 12, DIGITS = 6, FEW = 100, TIMES = 9, SIZES = 3 };
+enum { ITEM = 12, DIGITS = 6, KEY = 32, FEW = 100, TIMES = 9, SIZES = 3 };
 
 static const size_t sizes[SIZES] = {1 << 10, 1 << 16, 1 << 22};
 
@@ -28,12 +28,13 @@ struct marks {
    and their ends; and n marks each: valid slots, of which one in ten is clear, booleans at random, which are a filter
    too, and filters that keep most slots, 99 of 100, or runs of them. Kernels that compute are given besides: numbers of
    six digits, also as text with its ends; numbers of which one in ten takes more than 32 bits; two lists of few
-   different numbers, and a word for each of the first; and items of which half are those of ASCII. */
+   different numbers, and a word for each of the first; items of which half are those of ASCII; and different texts of 32
+   characters with their ends: some that the hash function with its fixed keys maps to one number, and others. */
 struct input {
     size_t n;
     int64_t *values, *others, *keys, *small, *wide, *few, *other_few;
-    uint8_t *ascii, *mixed, *half_equal, *words, *digits;
-    int32_t *ends, *digit_ends;
+    uint8_t *ascii, *mixed, *half_equal, *words, *digits, *alike, *unlike;
+    int32_t *ends, *digit_ends, *key_ends;
     struct marks valid, bits, most, runs;
 };
 
@@ -99,6 +100,19 @@ static void add_operands(struct input *in) {
     in->digit_ends[n] = (int32_t)(n * DIGITS);
 }
 
+/* Texts that end in eight digits, which tell them apart. The first sixteen characters of those that are alike drive the
+   state of the hash function to a constant, and the next eight to zero, where it stays. */
+static void add_keys(struct input *in) {
+    const size_t n = in->n;
+    in->alike = room(n * KEY + 1), in->unlike = room(n * KEY + 1), in->key_ends = room((n + 1) * 4);
+    for (size_t i = 0; i < n; i++) {
+        snprintf((char *)in->alike + i * KEY, KEY + 1, "user-agent: ahowDx%%&UkzE%08zu", i);
+        snprintf((char *)in->unlike + i * KEY, KEY + 1, "%016" PRIx64 "user-age%08zu", (i + 1) * 0x9E3779B97F4A7C15u, i);
+        in->key_ends[i] = (int32_t)(i * KEY);
+    }
+    in->key_ends[n] = (int32_t)(n * KEY);
+}
+
 static struct input make_input(size_t n) {
     struct input in = {.n = n, .ascii = room(n * ITEM), .mixed = room(n * ITEM), .ends = room((n + 1) * 4),
                        .valid = make_marks(n, 1, 10), .bits = make_marks(n, 1, 2), .most = make_marks(n, 1, 100),
@@ -116,6 +130,7 @@ static struct input make_input(size_t n) {
     }
     in.ends[n] = (int32_t)(n * ITEM);
     add_operands(&in);
+    add_keys(&in);
     return in;
 }
 
@@ -123,6 +138,7 @@ static void drop_input(struct input in) {
     free(in.values), free(in.keys), free(in.ascii), free(in.mixed), free(in.ends);
     free(in.others), free(in.small), free(in.wide), free(in.few), free(in.other_few);
     free(in.half_equal), free(in.words), free(in.digits), free(in.digit_ends);
+    free(in.alike), free(in.unlike), free(in.key_ends);
     free(in.valid.of), free(in.bits.of), free(in.most.of), free(in.runs.of);
 }
 
@@ -151,8 +167,13 @@ struct traffic {
 #define HALF_EQUAL in->half_equal, n * ITEM
 #define WORDS in->words, n * ITEM
 #define DIGIT_TEXTS in->digits, n * DIGITS, in->digit_ends, n + 1
+#define ALIKE in->alike, n * KEY, in->key_ends, n + 1
+#define UNLIKE in->unlike, n * KEY, in->key_ends, n + 1
 
 static uint8_t *ones;
+
+/* what the keys of a hash function are made of, another in each run */
+static uint64_t seed;
 
 /* bytes of so many marks, and of so many texts with their offsets */
 #define MARKS(rows) (((rows) + 7) / 8)
@@ -281,6 +302,8 @@ static uint8_t *ones;
     LINE(group_many, 8 * n, 16 * n, group_prim(VALUES, ALL_VALID, rounds))                                             \
     LINE(group_many_null10, 8 * n + MASK, 16 * n, group_prim(VALUES, NULLS, rounds))                                   \
     LINE(group_utf8_few, TEXT, 8 * n + 8 * FEW, group_utf8(WORDS, ENDS, ALL_VALID, rounds))                            \
+    LINE(group_utf8_unlike, KEY * n + 4 * (n + 1), 16 * n, group_utf8_with(UNLIKE, seed, rounds))                      \
+    LINE(group_utf8_alike, KEY * n + 4 * (n + 1), 16 * n, group_utf8_with(ALIKE, seed, rounds))                        \
     LINE(group_sum_few, 16 * n, 8 * FEW, group_sum(SMALL, FEW_VALUES, ALL_VALID, rounds))                              \
     LINE(group_sum_few_null10, 16 * n + MASK, 8 * FEW, group_sum(SMALL, FEW_VALUES, NULLS, rounds))                    \
     LINE(hash_prim, 8 * n, 8 * n, hash_prim(VALUES, ALL_VALID, rounds))                                                \
@@ -554,6 +577,7 @@ int main(int count, char **words) {
     keep_memory();
     ask(all, count - 1, words + 1);
     ones = memset(room(sizes[SIZES - 1]), 1, sizes[SIZES - 1]);
+    seed = (uint64_t)(seconds() * 1e9) * 0x9E3779B97F4A7C15u;
     for (int size = 0; size < SIZES; size++) {
         struct input in = make_input(sizes[size]);
         for (int at = 0; at < LINES_COUNT; at++) {
