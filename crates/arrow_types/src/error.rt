@@ -10,7 +10,7 @@ use std::fmt;
 pub enum Error {
     /// The arguments break a rule of the Arrow columnar format; the text says which.
     OutOfSpec(&'static str),
-    /// An offset would pass the greatest number of its type.
+    /// An offset would pass the greatest number of its type, or a sum does not fit in its type.
     Overflow,
     /// An allocation failed.
     OutOfMemory,
