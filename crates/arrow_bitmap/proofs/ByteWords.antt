@@ -1,16 +1,14 @@
 -- Lemmas about marks that are read and written as words.
 use Rattle.std.proofs.Common.{◌≡◌, ℕ, zero, suc, ◌+◌, ◌-◌, ◌*◌, ◌/◌, ◌%◌, ◌^◌, ◌<◌, ◌≤◌, ◌==◌, w64, bit_or, List}
-use Rattle.std.proofs.Common.{◌++◌, length, get_or, refl, sym, subst, ap, ap₂, ◌∙◌, arith, zero-add}
-use Rattle.std.specs.Int.{bit_at, byte_at, bytes_low_first, div_ceil, from_le_bytes, to_le_bytes}
-use Rattle.std.proofs.lemmas.List.{same_lists}
-use Rattle.std.proofs.lemmas.List.FromFn.{length-map-range_with_len, get_or-map-range_with_len}
+use Rattle.std.proofs.Common.{◌++◌, length, false, get_or, refl, sym, subst, ap, ap₂, ◌∙◌, arith, zero-add}
+use Rattle.std.specs.Int.{bit_at, byte_at, bytes_low_first, from_le_bytes, to_le_bytes}
+use Rattle.std.proofs.lemmas.List.FromFn.{get_or-map-range_with_len}
 use Rattle.std.proofs.lemmas.Nat.{from_le_bytes-to_le_bytes_8, mod_below, shr-shr, shr_le}
 use Rattle.std.proofs.lemmas.Nat.Bits.{bit_at_above, bit_at_or}
-use Rattle.arrow_bitmap.specs.Marks.{bits_of, mark_at, marks}
-use Rattle.arrow_bitmap.specs.MarkWrites.{CopiesMarks}
+use Rattle.arrow_bitmap.specs.Marks.{bits_of, mark_at}
 use Rattle.arrow_bitmap.proofs.CopyLemmas.{mark_at-behind, max-zero, shifted_above, shifted_below, zero-max}
-use Rattle.arrow_bitmap.proofs.MarkLemmas.{eight_at, eight-same, get_or-marks, length-marks, mark_at-append}
-use Rattle.arrow_bitmap.proofs.MarkLemmas.{mark_of_same, number, number-bit}
+use Rattle.arrow_bitmap.proofs.MarkLemmas.{eight_at, eight-same}
+use Rattle.arrow_bitmap.proofs.MarkLemmas.{number, number-bit}
 
 -- ---- eight bytes that are read as a word
 
@@ -72,45 +70,22 @@ bytes-small first (suc count) n zero = byte-small first n
 bytes-small first (suc count) n (suc i) = bytes-small (suc first) count n i
 
 -- its bytes have its bits as marks
-written-mark : (word : ℕ) → word < 2 ^ 64 → (k : ℕ) → k < 64 → mark_at (to_le_bytes w64 word) k ≡ (bit_at word k == 1)
+pub written-mark : (word : ℕ) → word < 2 ^ 64 → (k : ℕ) → k < 64 → mark_at (to_le_bytes w64 word) k ≡ (bit_at word k == 1)
 written-mark word fits k low =
     sym (word-marks (to_le_bytes w64 word) (λ i _. bytes-small 0 8 word i) k low)
     ∙ ap (λ w. bit_at w k == 1) (from_le_bytes-to_le_bytes_8 word fits)
 
--- the first of them are those of the word
-pub written-marks : (word : ℕ) (bytes : List ℕ) (n : ℕ) → word < 2 ^ 64 → bytes ≡ to_le_bytes w64 word → n ≤ 64
-    → marks bytes 0 n ≡ bits_of word n
-written-marks word bytes n fits is le = same_lists _ _ (length-marks bytes 0 n
-    ∙ sym (length-map-range_with_len (λ k. bit_at word k == 1) 0 n)) (λ i d within.
-    let low : i < n = subst (λ m. i < m) (length-marks bytes 0 n) within in
-    get_or-marks bytes 0 n i d low
-    ∙ ap₂ mark_at is (zero-add i)
-    ∙ written-mark word fits i (omega arith)
-    ∙ sym (get_or-map-range_with_len (λ k. bit_at word k == 1) 0 n i i d low (zero-add i)))
+-- a word's bits from one on, written behind others
+pub word-behind : (old new : List ℕ) (word head j : ℕ) → word < 2 ^ 64 → new ≡ old ++ to_le_bytes w64 (word / 2 ^ head)
+    → j < 64 → mark_at new (8 * length old + j) ≡ (bit_at word (head + j) == 1)
+word-behind old new word head j fits appended low =
+    let moved : word / 2 ^ head < 2 ^ 64 = omega (arith, fits, shr_le word head) in
+    let place : 8 * length old + j - 8 * length old ≡ j = omega arith in
+    ap (λ xs. mark_at xs (8 * length old + j)) appended
+    ∙ mark_at-behind old (to_le_bytes w64 (word / 2 ^ head)) (length old) (8 * length old + j) refl (omega arith)
+    ∙ ap (mark_at (to_le_bytes w64 (word / 2 ^ head))) place
+    ∙ written-mark (word / 2 ^ head) moved j low
+    ∙ ap (λ x. x % 2 == 1) (shr-shr word head j)
 
--- a word's bits from one on, appended as bytes
-pub copies_word : (old new source : List ℕ) (word head m : ℕ) → word < 2 ^ 64 → m ≡ 8 * length old
-    → source ≡ to_le_bytes w64 word → new ≡ old ++ to_le_bytes w64 (word / 2 ^ head)
-    → CopiesMarks old new source m head (64 - head)
-copies_word old new source word head m fits long is appended = record {
-  kept = λ i low. ap (λ xs. mark_at xs i) appended ∙ mark_at-append old (to_le_bytes w64 (word / 2 ^ head)) i
-      (omega arith);
-  copied = λ i low.
-      let moved : word / 2 ^ head < 2 ^ 64 = omega (arith, fits, shr_le word head) in
-      let place : m + i - 8 * length old ≡ i = omega arith in
-      ap (λ xs. mark_at xs (m + i)) appended
-      ∙ mark_at-behind old (to_le_bytes w64 (word / 2 ^ head)) (length old) (m + i) refl (omega arith)
-      ∙ ap (mark_at (to_le_bytes w64 (word / 2 ^ head))) place
-      ∙ written-mark (word / 2 ^ head) moved i (omega arith)
-      ∙ ap (λ x. x % 2 == 1) (shr-shr word head i)
-      ∙ sym (written-mark word fits (head + i) (omega arith))
-      ∙ ap (λ xs. mark_at xs (head + i)) (sym is);
-}
-
--- bytes behind the last copied mark are cut off
-pub copies_short : (old new short source : List ℕ) (n p c d : ℕ) → d ≤ c → ((k : ℕ) → k < div_ceil (n + d) 8
-    → get_or short k 0 ≡ get_or new k 0) → CopiesMarks old new source n p c → CopiesMarks old short source n p d
-copies_short old new short source n p c d le same copies = record {
-  kept = λ i low. mark_of_same short new i (same (i / 8) (omega arith)) ∙ copies.kept i low;
-  copied = λ i low. mark_of_same short new (n + i) (same ((n + i) / 8) (omega arith)) ∙ copies.copied i (omega arith);
-}
+pub get_or-bits : (word n k : ℕ) → k < n → get_or (bits_of word n) k false ≡ (bit_at word k == 1)
+get_or-bits word n k low = get_or-map-range_with_len (λ i. bit_at word i == 1) 0 n k k false low (zero-add k)

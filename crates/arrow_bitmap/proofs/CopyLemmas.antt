@@ -1,7 +1,7 @@
 -- Lemmas about marks that are copied between packed bytes.
 use Rattle.std.proofs.Common.{◌≡◌, ◌≢◌, ℕ, zero, suc, ◌+◌, ◌-◌, ◌*◌, ◌/◌, ◌%◌, ◌^◌, ◌<◌, ◌≤◌, Bool, false}
 use Rattle.std.proofs.Common.{if◌then◌else◌, subst, List, [], ◌∷◌, ◌++◌, length, get_or, set, take, drop}
-use Rattle.std.proofs.Common.{get_or-take, get_or-drop, length-take, length-drop, ap, ap₂, refl, sym, ◌∙◌, inl, inr}
+use Rattle.std.proofs.Common.{get_or-take, get_or-drop, length-take, length-drop, ap, ap₂, sym, ◌∙◌, inl, inr}
 use Rattle.std.proofs.Common.{◌==◌, bit_and, bit_or, count_by, max, not, w8, arith, add-zero, zero-add}
 use Rattle.std.specs.Int.{bit_at, div_ceil}
 use Rattle.std.specs.Int.Count.{ones}
@@ -11,9 +11,8 @@ use Rattle.std.proofs.lemmas.Nat.{mod_below, one_shl, pow_pos, shr-shr, shr_spli
 use Rattle.std.proofs.lemmas.Nat.Bits.{bit_at_above, bit_at_or, bit_at-zero, bit_at_cat_low, bit_at_cat_high}
 use Rattle.std.proofs.lemmas.Nat.Bits.{bit_at-lt, bit_at_not}
 use Rattle.arrow_bitmap.specs.Marks.{mark_at, marks}
-use Rattle.arrow_bitmap.specs.MarkWrites.{CopiesMarks}
 use Rattle.arrow_bitmap.proofs.MarkLemmas.{mark_at-set_same, mark_at-append, mark_at-set_other, mark-bit_of}
-use Rattle.arrow_bitmap.proofs.MarkLemmas.{mark_of_same, length-marks, get_or-marks, marks-add, same_marks}
+use Rattle.arrow_bitmap.proofs.MarkLemmas.{mark_of_same, length-marks, get_or-marks, same_marks}
 use Rattle.arrow_bitmap.proofs.MarkLemmas.{clear_of, clear_of-bit, ones-clear, top_clear, top_clear-kept}
 
 -- ---- bits of a byte that is shifted
@@ -109,40 +108,17 @@ mark_at-two bytes low high index shift place e f is within k inner = ap (λ x. x
     ∙ ap₂ (λ x y. bit_at (get_or bytes x 0) y) (let here : index + (shift + k) / 8 ≡ (place + k) / 8 =
     omega arith in here) (let here : (shift + k) % 8 ≡ (place + k) % 8 = omega arith in here))
 
--- ---- marks that are copied byte by byte
+-- ---- the rest of a byte
 
--- one more byte is written
-pub copies_step : (old xs source : List ℕ) (a p j w : ℕ) → a + j < length xs
-    → CopiesMarks old xs source (8 * a) p (8 * j)
-    → ((k : ℕ) → k < 8 → (bit_at w k == 1) ≡ mark_at source (p + 8 * j + k))
-    → CopiesMarks old (set xs (a + j) w) source (8 * a) p (8 * (j + 1))
-copies_step old xs source a p j w within before bits = record {
-  kept = λ i low. mark_at-set_other xs (a + j) w within i (omega arith) ∙ before.kept i low;
-  copied = λ i low. elim (cases_lt i (8 * j)) [
-    | inl here ↦ mark_at-set_other xs (a + j) w within (8 * a + i) (omega arith) ∙ before.copied i here
-    | inr past ↦
-        let place : p + 8 * j + (8 * a + i) % 8 ≡ p + i = omega arith in
-        mark_at-set_same xs (a + j) w within (8 * a + i) (omega arith) ∙ bits ((8 * a + i) % 8) (omega arith)
-        ∙ ap (mark_at source) place
-  ];
-}
-
-pub copies_none : (old source : List ℕ) (n p m : ℕ) → m ≡ 0 → CopiesMarks old old source n p m
-copies_none old source n p m e = record {
-  kept = λ i low. refl;
-  copied = λ i low. absurd (omega arith);
-}
-
--- the rest of a byte is written
-module _ (bytes source : List ℕ) (n p w : ℕ) (within : n < 8 * length bytes) (inner : n % 8 ≢ 0)
-    (kept : (k : ℕ) → k < n % 8 → bit_at w k ≡ bit_at (get_or bytes (n / 8) 0) k) (put : (k : ℕ) → n % 8 + k < 8
-    → (bit_at w (n % 8 + k) == 1) ≡ mark_at source (p + k)) where
+module _ (bytes : List ℕ) (n w above : ℕ) (within : n < 8 * length bytes) (inner : n % 8 ≢ 0)
+    (kept : (k : ℕ) → k < n % 8 → bit_at w k ≡ bit_at (get_or bytes (n / 8) 0) k)
+    (put : (k : ℕ) → n % 8 + k < 8 → bit_at w (n % 8 + k) ≡ bit_at above k) where
   room : n / 8 < length bytes
   room = omega arith
 
-  below : (i : ℕ) → i < n → mark_at (set bytes (n / 8) w) i ≡ mark_at bytes i
+  pub joined-below : (i : ℕ) → i < n → mark_at (set bytes (n / 8) w) i ≡ mark_at bytes i
   unfolding mark_at
-  below i low = elim (cases_eq (i / 8) (n / 8)) [
+  joined-below i low = elim (cases_eq (i / 8) (n / 8)) [
     | inl e ↦
         let early : i % 8 < n % 8 = omega arith in
         mark_at-set_same bytes (n / 8) w room i e ∙ ap (λ x. x == 1) (kept (i % 8) early
@@ -150,106 +126,21 @@ module _ (bytes source : List ℕ) (n p w : ℕ) (within : n < 8 * length bytes)
     | inr apart ↦ mark_at-set_other bytes (n / 8) w room i apart
   ]
 
-  pub copies_joined : CopiesMarks bytes (set bytes (n / 8) w) source n p (8 * div_ceil n 8 - n)
-  copies_joined = record {
-    kept = below;
-    copied = λ i low.
-        let bit : (n + i) % 8 ≡ n % 8 + i = omega arith in
-        mark_at-set_same bytes (n / 8) w room (n + i) (omega arith) ∙ ap (λ k. bit_at w k == 1) bit
-        ∙ put i (omega arith);
-  }
-
--- whole bytes that stand in other bytes too
-pub copies_bytes : (old new source : List ℕ) (n place more m : ℕ) → m ≡ 8 * n
-    → ((k : ℕ) → k < n → get_or new k 0 ≡ get_or old k 0)
-    → ((k : ℕ) → k < more → get_or new (n + k) 0 ≡ get_or source (place / 8 + k) 0) → place % 8 ≡ 0
-    → CopiesMarks old new source m place (8 * more)
-unfolding mark_at
-copies_bytes old new source n place more m e same there whole = record {
-  kept = λ i low. ap (λ b. bit_at b (i % 8) == 1) (same (i / 8) (omega arith));
-  copied = λ i low.
-      let here : (m + i) / 8 ≡ n + i / 8 = omega arith in
-      let goes : place / 8 + i / 8 ≡ (place + i) / 8 = omega arith in
-      let bit : (m + i) % 8 ≡ (place + i) % 8 = omega arith in
-      ap (λ x. x == 1) (ap₂ (λ k j. bit_at (get_or new k 0) j) here bit
-      ∙ ap (λ b. bit_at b ((place + i) % 8)) (there (i / 8) (omega arith) ∙ ap (λ k. get_or source k 0) goes));
-}
-
--- marks are copied behind those that other bytes have too
-pub copies_on : (old xs ys zs source : List ℕ) (n m p c d : ℕ) → n ≡ m → c ≡ d
-    → ((i : ℕ) → i < n → mark_at xs i ≡ mark_at old i) → ys ≡ zs → CopiesMarks xs ys source n p c
-    → CopiesMarks old zs source m p d
-copies_on old xs ys zs source n m p c d e f same g copies = record {
-  kept = λ i low. ap (λ b. mark_at b i) (sym g) ∙ copies.kept i (omega arith) ∙ same i (omega arith);
-  copied = λ i low. ap (λ b. mark_at b (m + i)) (sym g) ∙ ap (λ k. mark_at ys (k + i)) (sym e)
-      ∙ copies.copied i (omega arith);
-}
-
--- fewer marks
-pub copies_fewer : (old new source : List ℕ) (n p c d : ℕ) → d ≤ c → CopiesMarks old new source n p c
-    → CopiesMarks old new source n p d
-copies_fewer old new source n p c d le copies = record {
-  kept = copies.kept;
-  copied = λ i low. copies.copied i (omega arith);
-}
-
--- one range is copied over the end of another and behind it
-pub copies_over : (old xs ys source : List ℕ) (n p c m q d : ℕ) → n ≤ m → m ≤ n + c → p + (m - n) ≡ q
-    → CopiesMarks old xs source n p c → CopiesMarks xs ys source m q d → CopiesMarks old ys source n p (m - n + d)
-copies_over old xs ys source n p c m q d le behind f first second = record {
-  kept = λ i low. second.kept i (omega arith) ∙ first.kept i low;
-  copied = λ i low. elim (cases_lt (n + i) m) [
-    | inl here ↦ second.kept (n + i) here ∙ first.copied i (omega arith)
-    | inr past ↦
-        let there : n + i ≡ m + (n + i - m) = omega arith in
-        let from : q + (n + i - m) ≡ p + i = omega arith in
-        ap (mark_at ys) there ∙ second.copied (n + i - m) (omega arith) ∙ ap (mark_at source) from
-  ];
-}
-
--- one range is copied behind another
-pub copies_two : (old xs ys source : List ℕ) (n p c m q d : ℕ) → n + c ≡ m → p + c ≡ q
-    → CopiesMarks old xs source n p c → CopiesMarks xs ys source m q d → CopiesMarks old ys source n p (c + d)
-copies_two old xs ys source n p c m q d e f first second =
-    let all : m - n + d ≡ c + d = omega arith in
-    subst (CopiesMarks old ys source n p) all (copies_over old xs ys source n p c m q d (omega arith) (omega arith)
-    (omega arith) first second)
-
-pub marks-kept : (old new source : List ℕ) (n p c : ℕ) → CopiesMarks old new source n p c
-    → marks new 0 n ≡ marks old 0 n
-marks-kept old new source n p c copies = same_marks new old 0 0 n (λ i low. let e = zero-add i in
-    copies.kept (0 + i) (omega arith))
-
-pub marks-copied : (old new source : List ℕ) (n p c : ℕ) → CopiesMarks old new source n p c
-    → marks new 0 (n + c) ≡ marks old 0 n ++ marks source p c
-marks-copied old new source n p c copies = marks-add new 0 n c
-    ∙ ap₂ ◌++◌ (marks-kept old new source n p c copies) (same_marks new source (0 + n) p c (λ i low.
-    ap (λ k. mark_at new (k + i)) (zero-add n) ∙ copies.copied i low))
+  pub joined-above : (k : ℕ) → n + k < 8 * div_ceil n 8 → mark_at (set bytes (n / 8) w) (n + k) ≡ (bit_at above k == 1)
+  joined-above k low =
+      let bit : (n + k) % 8 ≡ n % 8 + k = omega arith in
+      mark_at-set_same bytes (n / 8) w room (n + k) (omega arith) ∙ ap (λ j. bit_at w j == 1) bit
+      ∙ ap (λ x. x == 1) (put k (omega arith))
 
 -- the marks that stay while the bytes behind their last byte are cut off
-pub copies_cut : (old cut new source : List ℕ) (n p c : ℕ)
-    → ((k : ℕ) → k < div_ceil n 8 → get_or cut k 0 ≡ get_or old k 0) → CopiesMarks cut new source n p c
-    → CopiesMarks old new source n p c
-copies_cut old cut new source n p c same copies =
-    copies_on old cut new new source n n p c c refl refl (λ i low.
-    mark_of_same cut old i (same (i / 8) (omega arith))) refl copies
-
--- what stands in a piece of bytes
-pub get_or-piece : (bytes : List ℕ) (a n m k : ℕ) → k < m → get_or (take (a + m - a) (drop a bytes)) (n + k - n) 0
-    ≡ get_or bytes (a + k) 0
-get_or-piece bytes a n m k low =
-    let here : n + k - n ≡ k = omega arith in
-    let all : a + m - a ≡ m = omega arith in
-    ap₂ (λ c i. get_or (take c (drop a bytes)) i 0) all here ∙ get_or-take m (drop a bytes) k 0 low
-    ∙ get_or-drop a bytes k 0
+pub cut-marks : (old cut : List ℕ) (n : ℕ) → ((k : ℕ) → k < div_ceil n 8 → get_or cut k 0 ≡ get_or old k 0)
+    → (i : ℕ) → i < n → mark_at cut i ≡ mark_at old i
+cut-marks old cut n same i low = mark_of_same cut old i (same (i / 8) (omega arith))
 
 -- ---- clear marks of which there are fewer than eight
 
 one_below : (n : ℕ) → n < 8 → 1 * 2 ^ n % 256 ≡ 2 ^ n
 one_below n few = one_shl n 8 few
-
-pub some_below : (n : ℕ) → n < 8 → 1 * 2 ^ n % 256 ≢ 0
-some_below n few none = omega (arith, one_below n few, pow_pos n, none)
 
 -- those of a byte are the set bits of its opposite, below a bit
 pub clear-few : (bytes : List ℕ) (start n b : ℕ) → n < 8 → b < 256
@@ -318,3 +209,20 @@ marks-packed values bytes packed = same_lists _ _ (length-marks bytes 0 (length 
     let low : i < length values = subst (λ m. i < m) (length-marks bytes 0 (length values)) within in
     get_or-marks bytes 0 (length values) i d low ∙ ap (mark_at bytes) (zero-add i) ∙ packed i low
     ∙ get_or_default values i false d low)
+
+-- ---- whole bytes of others
+
+pub mark_at-piece : (bytes : List ℕ) (a n i : ℕ) → i < 8 * n → mark_at (take n (drop a bytes)) i ≡ mark_at bytes (8 * a + i)
+unfolding mark_at
+mark_at-piece bytes a n i low =
+    ap (λ b. bit_at b (i % 8) == 1) (get_or-take n (drop a bytes) (i / 8) 0 (omega (arith, low))
+    ∙ get_or-drop a bytes (i / 8) 0)
+    ∙ ap₂ (λ x y. bit_at (get_or bytes x 0) y == 1) (let here : a + i / 8 ≡ (8 * a + i) / 8 = omega arith in
+    here) (let bit : i % 8 ≡ (8 * a + i) % 8 = omega arith in bit)
+
+-- the marks of bytes that are cut out of others, from bit p of the first on
+pub marks-piece : (bytes : List ℕ) (start a n p count : ℕ) → 8 * a + p ≡ start → p + count ≤ 8 * n
+    → marks (take n (drop a bytes)) p count ≡ marks bytes start count
+marks-piece bytes start a n p count at room = same_marks (take n (drop a bytes)) bytes p start count (λ i low.
+    let same : 8 * a + (p + i) ≡ start + i = omega (arith, at) in
+    mark_at-piece bytes a n (p + i) (omega (arith, low, room)) ∙ ap (mark_at bytes) same)

@@ -1,15 +1,32 @@
 -- Lemmas about marks that agree, a word at a time.
-use Rattle.std.proofs.Common.{◌≡◌, ℕ, zero, suc, ◌+◌, ◌-◌, ◌*◌, ◌/◌, ◌%◌, ◌^◌, ◌<◌, ◌≤◌, ◌↔◌, ◌==◌, Bool, true, List}
-use Rattle.std.proofs.Common.{ap₂, drop, get_or, length, take, slice_get, Some, Option, unwrap_or, refl, sym, ap, subst, ◌∙◌, inl, inr, bit_and, nat_eq}
-use Rattle.std.proofs.Common.{arith, true≢false}
+use Rattle.std.proofs.Common.{◌≡◌, ℕ, zero, suc, ◌+◌, ◌-◌, ◌*◌, ◌/◌, ◌^◌, ◌<◌, ◌≤◌, ◌↔◌, ◌==◌, Bool, true, List}
+use Rattle.std.proofs.Common.{[], ◌∷◌, get_or, get_or-take, length, take, slice_get, Some, Option, unwrap_or, refl, sym}
+use Rattle.std.proofs.Common.{ap, ap₂, subst, ◌∙◌, ◌⊎◌, inl, inr, bit_and, min, nat_eq, arith, true≢false}
 use Rattle.std.specs.Int.{bit_at}
 use Rattle.std.proofs.lemmas.Bool.{cases_lt, eqb-true, eq-eqb}
-use Rattle.std.proofs.lemmas.Nat.Bits.{bit_at-lt, bit_at_above, bit_at_ones, same_from_bits}
-use Rattle.std.proofs.lemmas.List.{get_or-drop, get_or-take}
+use Rattle.std.proofs.lemmas.Nat.Bits.{bit_at_and, bit_at-lt, bit_at_above, bit_at_ones, same_from_bits}
 use Rattle.arrow_bitmap.specs.Marks.{mark_at, marks}
 use Rattle.arrow_bitmap.specs.Masks.{IsValidAt}
-use Rattle.arrow_bitmap.proofs.AgreeLemmas.{agree-all, bit-cases, kept-bit, lost-bit}
-use Rattle.arrow_bitmap.proofs.MarkLemmas.{length-marks, slice_get-marks}
+use Rattle.arrow_bitmap.proofs.MarkLemmas.{length-marks, mark_of_same, slice_get-marks}
+
+min-one : (x y : ℕ) → x < 2 → y ≡ 1 → min x y ≡ x
+min-one x y low e = omega (arith, low, e)
+
+min-zero : (x y : ℕ) → y ≡ 0 → min x y ≡ 0
+min-zero x y e = omega (arith, e)
+
+-- a bit that the other word lets through
+kept-bit : (a k i : ℕ) → bit_at k i ≡ 1 → bit_at (bit_and a k) i ≡ bit_at a i
+kept-bit a k i e = bit_at_and a k i ∙ min-one (bit_at a i) (bit_at k i) (bit_at-lt a i) e
+
+-- and one that it clears
+lost-bit : (a k i : ℕ) → bit_at k i ≡ 0 → bit_at (bit_and a k) i ≡ 0
+lost-bit a k i e = bit_at_and a k i ∙ min-zero (bit_at a i) (bit_at k i) e
+
+bit-cases : (x : ℕ) → x < 2 → (x ≡ 0) ⊎ (x ≡ 1)
+bit-cases zero low = inl refl
+bit-cases (suc zero) low = inr refl
+bit-cases (suc (suc x)) low = absurd (omega arith)
 
 -- two words that have the same bits where a third has set bits
 pub same-word : (a b k : ℕ) → k < 2 ^ 64 → (nat_eq (bit_and a k) (bit_and b k) ≡ true) ↔ ((i : ℕ) → i < 64
@@ -80,40 +97,42 @@ module _ {X : Type 0} (first second : List X) (mask : Option (List Bool)) where
         subst Same here (more (i - place) (omega (arith, low, late, le)))
   ]
 
--- marks that begin with a byte, of which whole bytes and the last 64 are the same
-module _ (left right : List ℕ) (p q len : ℕ) (first-byte : p % 8 ≡ 0) (other-byte : q % 8 ≡ 0)
-    (bytes : take (len / 8) (drop (p / 8) left) ≡ take (len / 8) (drop (q / 8) right)) where
-  byte-of : (xs : List ℕ) (a n k : ℕ) → k < n → get_or xs (a + k) 0 ≡ get_or (take n (drop a xs)) k 0
-  byte-of xs a n k low = sym (get_or-take n (drop a xs) k 0 low ∙ get_or-drop a xs k 0)
+-- lists that agree at each place are the same
+pub agree-all : {X : Type 0} (xs ys : List X) → length xs ≡ length ys
+    → ((k : ℕ) → k < length xs → slice_get xs k ≡ slice_get ys k) → xs ≡ ys
+agree-all [] [] long same = refl
+agree-all [] (y ∷ ys) long same = absurd (omega (arith, long))
+agree-all (x ∷ xs) [] long same = absurd (omega (arith, long))
+agree-all (x ∷ xs) (y ∷ ys) long same =
+    let first : Some x ≡ Some y = same 0 (omega arith) in
+    let others : length xs ≡ length ys = omega (arith, long) in
+    ap₂ (λ z zs. z ∷ zs) (ap (λ o. unwrap_or o x) first) (agree-all xs ys others (λ k h.
+    same (suc k) (omega (arith, h))))
 
-  mark-same : (k : ℕ) → k < 8 * (len / 8) → mark_at left (p + k) ≡ mark_at right (q + k)
-  unfolding mark_at
+-- bytes, of which the whole ones and the last 64 marks are the same
+module _ (left right : List ℕ) (len : ℕ) (bytes : take (len / 8) left ≡ take (len / 8) right) where
+  mark-same : (k : ℕ) → k < 8 * (len / 8) → mark_at left k ≡ mark_at right k
   mark-same k low =
       let within : k / 8 < len / 8 = omega (arith, low) in
-      let byte : (p + k) / 8 ≡ p / 8 + k / 8 = omega (arith, first-byte) in
-      let other : (q + k) / 8 ≡ q / 8 + k / 8 = omega (arith, other-byte) in
-      let bit : (p + k) % 8 ≡ (q + k) % 8 = omega (arith, first-byte, other-byte) in
-      ap₂ (λ b i. bit_at b i == 1)
-      (ap (λ i. get_or left i 0) byte ∙ byte-of left (p / 8) (len / 8) (k / 8) within
-      ∙ ap (λ xs. get_or xs (k / 8) 0) bytes ∙ sym (byte-of right (q / 8) (len / 8) (k / 8) within)
-      ∙ ap (λ i. get_or right i 0) (sym other))
-      bit
+      mark_of_same left right k (sym (get_or-take (len / 8) left (k / 8) 0 within)
+      ∙ ap (λ xs. get_or xs (k / 8) 0) bytes ∙ get_or-take (len / 8) right (k / 8) 0 within)
 
-  pub bytes-same : (first second : List Bool) → marks left p len ≡ first → marks right q len ≡ second → 64 ≤ len
+  pub bytes-same : (first second : List Bool) → marks left 0 len ≡ first → marks right 0 len ≡ second → 64 ≤ len
       → ((k : ℕ) → k < 64 → slice_get first (len - 64 + k) ≡ slice_get second (len - 64 + k)) → first ≡ second
   bytes-same first second is is-other long last =
       agree-all first second
-      (ap length (sym is) ∙ length-marks left p len ∙ sym (length-marks right q len) ∙ ap length is-other) each
+      (ap length (sym is) ∙ length-marks left 0 len ∙ sym (length-marks right 0 len) ∙ ap length is-other) each
     where
       each : (k : ℕ) → k < length first → slice_get first k ≡ slice_get second k
       each k low = elim (cases_lt k (len - 64)) [
         | inl early ↦
             let here : k < len = omega (arith, early) in
-            let whole : k < 8 * (len / 8) = omega (arith, early, long) in
-            ap (λ xs. slice_get xs k) (sym is) ∙ slice_get-marks left p len k here ∙ ap Some (mark-same k whole)
-            ∙ sym (ap (λ xs. slice_get xs k) (sym is-other) ∙ slice_get-marks right q len k here)
+            let whole : 0 + k < 8 * (len / 8) = omega (arith, early, long) in
+            ap (λ xs. slice_get xs k) (sym is) ∙ slice_get-marks left 0 len k here
+            ∙ ap Some (mark-same (0 + k) whole)
+            ∙ sym (ap (λ xs. slice_get xs k) (sym is-other) ∙ slice_get-marks right 0 len k here)
         | inr late ↦
-            let counted : k < len = omega (arith, low, ap length is, length-marks left p len) in
+            let counted : k < len = omega (arith, low, ap length is, length-marks left 0 len) in
             let here : len - 64 + (k - (len - 64)) ≡ k = omega (arith, late) in
             subst (λ i. slice_get first i ≡ slice_get second i) here
             (last (k - (len - 64)) (omega (arith, counted, late, long)))

@@ -1,4 +1,4 @@
-mod AgreeLemmas
+mod AppendLemmas
 mod BlockLemmas
 mod CopyLemmas
 mod CountLemmas

@@ -8,8 +8,8 @@ ghost use Rattle.arrow_bitmap.specs.Marks.{mark_at, marks, bits_past_bytes};
 ghost use Rattle.arrow_types.specs.Types.{refusal};
 ghost use Rattle.arrow_bitmap.specs.MarkWrites.{FillsMarks};
 
-use crate::copy::byte_at;
 use crate::counts::count_clear_turns;
+use crate::marks::byte_at;
 use arrow_types::error::Error;
 use std::alloc::AllocError;
 

@@ -2,7 +2,6 @@
 ghost use Rattle.std.specs.Prelude.{◌≡◌, ℕ, ◌+◌, ◌*◌, ◌<◌, ◌≤◌, length, count_by, not};
 ghost use Rattle.arrow_bitmap.specs.Blocks.{block_set};
 ghost use Rattle.arrow_bitmap.specs.Marks.{block_mark, mark_at, marks};
-ghost use Rattle.arrow_bitmap.specs.MarkWrites.{CopiesMarks};
 
 use std::simd::prelude::*;
 
@@ -28,42 +27,6 @@ pub(crate) fn block_at(bytes: &[u8], first: usize, shift: usize) -> u64x8
     low >> u64x8::splat(shift as u64) | high << u64x8::splat((8 - shift) as u64)
 }
 
-/// How blocks of marks are read.
-pub(crate) trait BlockReader {
-    /// The last bit of a byte from which on it reads.
-    ghost last_bit: { ℕ };
-
-    /// Returns the 512 marks from bit `shift` of byte `first` on.
-    fn read(bytes: &[u8], first: usize, shift: usize) -> u64x8
-        requires within { 8 * (first + 64) + last_bit ≤ 8 * length bytes.now }
-        requires shift { shift ≤ last_bit }
-        ensures { (k : ℕ) → k < 512 → block_mark result k ≡ mark_at bytes.now (8 * first + shift + k) };
-}
-
-/// Reads from the first bit of a byte on, with no shift.
-pub(crate) struct WholeBytes;
-
-impl BlockReader for WholeBytes {
-    ghost last_bit = { 0 };
-
-    #[inline(always)]
-    fn read(bytes: &[u8], first: usize, _shift: usize) -> u64x8 {
-        whole_block(bytes, first)
-    }
-}
-
-/// Reads from any bit of a byte on.
-pub(crate) struct AnyBits;
-
-impl BlockReader for AnyBits {
-    ghost last_bit = { 7 };
-
-    #[inline(always)]
-    fn read(bytes: &[u8], first: usize, shift: usize) -> u64x8 {
-        block_at(bytes, first, shift)
-    }
-}
-
 /// Writes 512 marks over the 64 bytes from byte `at` on.
 #[inline(always)]
 pub(crate) fn write_block(target: &mut [u8], at: usize, block: u64x8)
@@ -73,16 +36,4 @@ pub(crate) fn write_block(target: &mut [u8], at: usize, block: u64x8)
     ensures len { length target.new ≡ length target.old }
 {
     block.to_le_bytes().copy_to_slice(&mut target[at..]);
-}
-
-/// Copies 512 marks from bit `shift` of byte `first` on to the 64 bytes from byte `at` on.
-#[inline(always)]
-pub(crate) fn copy_block(target: &mut [u8], at: usize, source: &[u8], first: usize, shift: usize)
-    requires room { at + 64 ≤ length target.old }
-    requires within { first + 64 < length source.now }
-    requires shift { shift < 8 }
-    ensures marks { CopiesMarks target.old target.new source.now (8 * at) (8 * first + shift) 512 }
-    ensures len { length target.new ≡ length target.old }
-{
-    write_block(target, at, block_at(source, first, shift));
 }

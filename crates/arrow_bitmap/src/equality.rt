@@ -1,9 +1,10 @@
-//! Equality of bitmaps, and comparison of frozen marks under a mask, 64 marks at a time.
-ghost use Rattle.std.specs.Prelude.{◌≡◌, ℕ, ◌+◌, ◌<◌, ◌≤◌, ◌↔◌, IsTrue, IfSome, length, slice_get};
+//! Equality of lists of marks, also under a mask, 64 marks at a time.
+ghost use Rattle.std.specs.Prelude.{◌≡◌, ℕ, ◌+◌, ◌<◌, ◌≤◌, ◌↔◌, IsTrue, IfSome, length};
 ghost use Rattle.std.specs.Int.{bit_at};
 ghost use Rattle.arrow_bitmap.specs.Masks.{AgreeWhere, FitsMask, IsValidAt};
 ghost use Rattle.arrow_bitmap.specs.MarkEquality.{AgreeWhereIn, same_marks};
 
+use crate::marks::Marks;
 use crate::{Bitmap, MutableBitmap};
 
 /// Returns whether two words have the same bits wherever `kept` has a set bit.
@@ -16,7 +17,7 @@ fn same_word(first: u64, second: u64, kept: u64) -> bool
 
 /// Returns 64 marks of a mask, from `place` on, as the bits of a word. Without a mask all are set.
 #[inline(always)]
-fn mask_word(mask: &Option<Bitmap>, place: usize) -> u64
+fn mask_word(mask: &Option<Marks<'_>>, place: usize) -> u64
     requires { IfSome mask.now (λ marks. place + 64 ≤ length marks) }
     ensures { (k : ℕ) → k < 64 → (bit_at result k ≡ 1) ↔ IsValidAt mask.now (place + k) }
 {
@@ -26,9 +27,14 @@ fn mask_word(mask: &Option<Bitmap>, place: usize) -> u64
     }
 }
 
-/// Returns whether two bitmaps have the same mark wherever a mask has a set mark, among the 64
-/// marks from `place` on.
-fn agree_in_word(first: &Bitmap, second: &Bitmap, mask: &Option<Bitmap>, place: usize) -> bool
+/// Returns whether two lists of marks have the same mark wherever a mask has a set mark, among the 64 marks from `place`
+/// on.
+fn agree_in_word(
+    first: &Marks<'_>,
+    second: &Marks<'_>,
+    mask: &Option<Marks<'_>>,
+    place: usize,
+) -> bool
     requires first { place + 64 ≤ length first.now }
     requires second { place + 64 ≤ length second.now }
     requires mask { IfSome mask.now (λ marks. place + 64 ≤ length marks) }
@@ -43,26 +49,25 @@ fn agree_in_word(first: &Bitmap, second: &Bitmap, mask: &Option<Bitmap>, place: 
 
 /// Returns whether a mask has a set mark at `i`; without a mask every slot is valid.
 #[inline(always)]
-fn is_valid_at(mask: &Option<Bitmap>, i: usize) -> bool
+fn is_valid_at(mask: &Option<Marks<'_>>, i: usize) -> bool
     requires { IfSome mask.now (λ marks. i < length marks) }
     ensures { IsTrue result ↔ IsValidAt mask.now i }
 {
     match mask {
         None => true,
-        Some(marks) => marks.get_bit(i),
+        Some(marks) => marks.get(i),
     }
 }
 
-/// Returns whether two bitmaps of equal length agree wherever a mask has a set mark, one mark at a
-/// time.
-fn agree_one_by_one(first: &Bitmap, second: &Bitmap, mask: &Option<Bitmap>) -> bool
+/// Returns whether two lists of marks of equal length agree wherever a mask has a set mark, one mark at a time.
+fn agree_one_by_one(first: &Marks<'_>, second: &Marks<'_>, mask: &Option<Marks<'_>>) -> bool
     requires same { length first.now ≡ length second.now }
     requires fits { FitsMask first.now mask.now }
     ensures { IsTrue result ↔ AgreeWhere mask.now first.now second.now }
 {
     for i in 0..first.len() {
         if is_valid_at(mask, i) {
-            if first.get_bit(i) != second.get_bit(i) {
+            if first.get(i) != second.get(i) {
                 return false;
             }
         }
@@ -70,26 +75,24 @@ fn agree_one_by_one(first: &Bitmap, second: &Bitmap, mask: &Option<Bitmap>) -> b
     true
 }
 
-impl Bitmap {
-    /// Returns whether two bitmaps of equal length have the same mark wherever `mask` has a set
-    /// mark, or everywhere without a mask. Compares 64 marks at a time.
-    pub fn agrees_where(&self, other: &Self, mask: &Option<Bitmap>) -> bool
-        requires same { length self.now ≡ length other.now }
-        requires fits { FitsMask self.now mask.now }
-        ensures { IsTrue result ↔ AgreeWhere mask.now self.now other.now }
-    {
-        let count = self.len();
-        if count < 64 {
-            return agree_one_by_one(self, other, mask);
-        }
-        for word in 0..count / 64 {
-            if !agree_in_word(self, other, mask, 64 * word) {
-                return false;
-            }
-        }
-        // The last 64 marks, some of which may be compared a second time.
-        agree_in_word(self, other, mask, count - 64)
+/// Returns whether two lists of marks of equal length agree wherever a mask has a set mark, or everywhere without a
+/// mask, 64 marks at a time.
+fn agree_where(first: &Marks<'_>, second: &Marks<'_>, mask: &Option<Marks<'_>>) -> bool
+    requires same { length first.now ≡ length second.now }
+    requires fits { FitsMask first.now mask.now }
+    ensures { IsTrue result ↔ AgreeWhere mask.now first.now second.now }
+{
+    let count = first.len();
+    if count < 64 {
+        return agree_one_by_one(first, second, mask);
     }
+    for word in 0..count / 64 {
+        if !agree_in_word(first, second, mask, 64 * word) {
+            return false;
+        }
+    }
+    // The last 64 marks, some of which may be compared a second time.
+    agree_in_word(first, second, mask, count - 64)
 }
 
 /// Returns whether two slices have the same bytes.
@@ -99,26 +102,71 @@ fn same_slices(first: &[u8], second: &[u8]) -> bool
     first == second
 }
 
-/// Returns whether two bitmaps of equal length, both of which begin with a byte, have the same whole bytes and the same
-/// last 64 marks. Bytes are compared at once.
-fn have_same_bytes(first: &Bitmap, second: &Bitmap) -> bool
+/// Returns whether two lists of marks of equal length both begin with a byte, and have the same whole bytes and the
+/// same last 64 marks. Bytes are compared at once.
+fn have_same_bytes(first: &Marks<'_>, second: &Marks<'_>) -> bool
     requires { length first.now ≡ length second.now }
     ensures { IsTrue result → first.now ≡ second.now }
 {
     let count = first.len();
-    let (left, place) = first.packed_bytes();
-    let (right, other) = second.packed_bytes();
-    if count < 64 || place % 8 != 0 || other % 8 != 0 {
+    if count < 64 {
         return false;
     }
-    let (start, other_start, whole) = (place / 8, other / 8, count / 8);
-    if !same_slices(
-        &left[start..start + whole],
-        &right[other_start..other_start + whole],
-    ) {
+    let (Some(left), Some(right)) = (first.bytes(), second.bytes()) else {
+        return false;
+    };
+    let whole = count / 8;
+    same_slices(&left[..whole], &right[..whole]) && agree_in_word(first, second, &None, count - 64)
+}
+
+/// Returns whether two lists have the same marks.
+fn are_same(first: &Marks<'_>, second: &Marks<'_>) -> bool
+    ensures { IsTrue result ↔ first.now ≡ second.now }
+{
+    if first.len() != second.len() {
         return false;
     }
-    agree_in_word(first, second, &None, count - 64)
+    // Most lists that are compared are the same.
+    have_same_bytes(first, second) || agree_where(first, second, &None)
+}
+
+impl Bitmap {
+    /// Returns whether two bitmaps of equal length have the same mark wherever `mask` has a set mark, or everywhere
+    /// without a mask. Compares 64 marks at a time.
+    pub fn agrees_where(&self, other: &Self, mask: &Option<Bitmap>) -> bool
+        requires same { length self.now ≡ length other.now }
+        requires fits { FitsMask self.now mask.now }
+        ensures { IsTrue result ↔ AgreeWhere mask.now self.now other.now }
+    {
+        let mask = match mask {
+            None => None,
+            Some(marks) => Some(marks.marks()),
+        };
+        agree_where(&self.marks(), &other.marks(), &mask)
+    }
+}
+
+impl MutableBitmap {
+    /// Returns whether both lists have the same marks. Compares 64 marks at a time.
+    pub fn has_marks_of(&self, other: &Self) -> bool
+        ensures { IsTrue result ↔ self.now ≡ other.now }
+    {
+        are_same(&self.marks(), &other.marks())
+    }
+
+    /// Returns whether two lists of equal length have the same mark wherever `mask` has a set mark, or everywhere
+    /// without a mask. Compares 64 marks at a time.
+    pub fn agrees_where(&self, other: &Self, mask: &Option<MutableBitmap>) -> bool
+        requires same { length self.now ≡ length other.now }
+        requires fits { IfSome mask.now (λ marks. length marks ≡ length self.now) }
+        ensures { IsTrue result ↔ AgreeWhere mask.now self.now other.now }
+    {
+        let mask = match mask {
+            None => None,
+            Some(marks) => Some(marks.marks()),
+        };
+        agree_where(&self.marks(), &other.marks(), &mask)
+    }
 }
 
 impl PartialEq for Bitmap {
@@ -134,14 +182,7 @@ impl PartialEq for Bitmap {
         ensures value { result ≡ same_marks self.now other.now }
         ensures decides { IsTrue result ↔ self.now ≡ other.now }
     {
-        if self.len() != other.len() {
-            return false;
-        }
-        // Most bitmaps that are compared are the same.
-        if have_same_bytes(self, other) {
-            return true;
-        }
-        self.agrees_where(other, &None)
+        are_same(&self.marks(), &other.marks())
     }
 }
 

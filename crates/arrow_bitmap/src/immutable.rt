@@ -1,5 +1,5 @@
 //! Bitmaps that cannot be changed, and whose clones and slices share memory.
-ghost use Rattle.std.specs.Prelude.{◌≡◌, ℕ, ◌+◌, ◌-◌, ◌*◌, ◌^◌, ◌≤◌, ◌<◌, ◌==◌, [], length, take, drop, count_by};
+ghost use Rattle.std.specs.Prelude.{◌≡◌, ℕ, ◌+◌, ◌*◌, ◌^◌, ◌≤◌, ◌<◌, ◌==◌, [], length, take, drop, count_by};
 ghost use Rattle.std.specs.Prelude.{not, replicate, false, slice_get, Some, vec_len, IfOk, IfErr, OnOk, List, Bool};
 ghost use Rattle.std.specs.Prelude.{length as list_length};
 ghost use Rattle.std.specs.Int.{bit_at};
@@ -8,9 +8,9 @@ ghost use Rattle.arrow_types.specs.Failures.{OnlyOutOfMemory, OutOfMemoryKeeps};
 ghost use Rattle.arrow_bitmap.specs.Marks.{marks, packed_refusal};
 ghost use Rattle.arrow_types.specs.Types.{refusal};
 
-use crate::bits::{count_clear, count_clear_first, fits_bytes, masked_mark_of};
+use crate::bits::{count_clear_first, fits_bytes, masked_mark_of};
 use crate::copy::own_bytes;
-use crate::words::word_at;
+use crate::marks::Marks;
 use crate::{BitmapIter, MutableBitmap};
 use arrow_types::error::Error;
 use either::{Either, Left, Right};
@@ -248,17 +248,15 @@ impl Bitmap {
         requires { place + 64 ≤ length self.now }
         ensures { (k : ℕ) → k < 64 → slice_get self.now (place + k) ≡ Some (bit_at result k == 1) }
     {
-        word_at(self.bytes.as_slice(), self.offset + place)
+        self.marks().word(place)
     }
 
-    /// Returns the packed bytes and the place of the first mark.
+    /// Returns the marks, which are borrowed.
     #[inline(always)]
-    pub(crate) fn packed_bytes(&self) -> (&[u8], usize)
-        ensures within { result.1 + length self.now ≤ 8 * length result.0.now }
-        ensures fits { result.1 + length self.now < 2 ^ 64 }
-        ensures value { marks result.0.now result.1 (length self.now) ≡ self.now }
+    pub(crate) fn marks(&self) -> Marks<'_>
+        ensures { result ≡ self.now }
     {
-        (self.bytes.as_slice(), self.offset)
+        Marks::new(self.bytes.as_slice(), self.offset, self.length)
     }
 
     /// Returns the number of clear marks, in constant time.
@@ -275,16 +273,8 @@ impl Bitmap {
         requires { offset + len ≤ length self.old }
         ensures { self.new ≡ take len (drop offset self.old) }
     {
-        let start = self.offset + offset;
-        self.unset = clear_in_piece(
-            self.bytes.as_slice(),
-            self.offset,
-            self.offset + self.length,
-            start,
-            start + len,
-            self.unset,
-        );
-        self.offset = start;
+        self.unset = self.marks().clear_in_range(offset, len, self.unset);
+        self.offset += offset;
         self.length = len;
     }
 
@@ -308,26 +298,4 @@ impl Bitmap {
         let first = self.offset + offset;
         BitmapIter::new(self.bytes.as_slice(), first, first + len)
     }
-}
-
-/// Counts the clear marks of a part of a range whose number of clear marks is known.
-fn clear_in_piece(
-    bytes: &[u8],
-    first: usize,
-    past: usize,
-    start: usize,
-    end: usize,
-    unset: usize,
-) -> usize
-    requires start { first ≤ start }
-    requires order { start ≤ end }
-    requires end { end ≤ past }
-    requires within { past ≤ 8 * length bytes.now }
-    requires whole { unset ≡ count_by not (marks bytes.now first (past - first)) }
-    ensures { result ≡ count_by not (marks bytes.now start (end - start)) }
-{
-    if end - start < (past - first) / 2 {
-        return count_clear(bytes, start, end);
-    }
-    unset - count_clear(bytes, first, start) - count_clear(bytes, end, past)
 }

@@ -2,7 +2,6 @@
 //! contracts see as lists of booleans.
 #![tactic(auto)]
 
-mod agree;
 mod bits;
 mod blocks;
 mod copy;
@@ -13,6 +12,7 @@ mod immutable;
 mod iterator;
 pub mod laws;
 mod mark_iter;
+mod marks;
 mod mutable;
 mod ops;
 mod pack;

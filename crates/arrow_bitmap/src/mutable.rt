@@ -1,18 +1,16 @@
 //! Bitmaps that can be changed and grow.
-ghost use Rattle.std.specs.Prelude.{◌≡◌, ℕ, ◌<◌, ◌+◌, ◌↔◌, ◌==◌, IsTrue, [], ◌∷◌, ◌++◌, count_by, length, not};
-ghost use Rattle.std.specs.Prelude.{replicate, slice_get, slice_set, take, Some, IfSome, OnOk, IfOk, IfErr};
+ghost use Rattle.std.specs.Prelude.{◌≡◌, ◌<◌, ◌+◌, ◌==◌, [], ◌∷◌, ◌++◌, count_by, length, not};
+ghost use Rattle.std.specs.Prelude.{replicate, slice_get, slice_set, take, Some, OnOk, IfOk, IfErr};
 ghost use Rattle.std.specs.Prelude.{MatchOption, drop, ◌*◌, ◌≤◌, vec_len, IsOk};
-ghost use Rattle.std.specs.Int.{bit_at};
 ghost use Rattle.arrow_types.specs.Failures.{OnlyOutOfMemory, OutOfMemoryKeeps};
 ghost use Rattle.arrow_bitmap.specs.Marks.{bits_of, marks, bits_past_bytes};
-ghost use Rattle.arrow_bitmap.specs.Masks.{AgreeWhere};
 ghost use Rattle.arrow_types.specs.Types.{refusal};
 
-use crate::agree::agree_where;
 use crate::bits::{
     count_clear_first, extend_marks, fits_bytes, mark_of, masked_mark_of, push_mark, write_mark,
 };
-use crate::copy::extend_from_bytes;
+use crate::copy::extend_from_marks;
+use crate::marks::Marks;
 use crate::pack::pack;
 use crate::words::extend_from_word;
 use crate::{Bitmap, BitmapIter};
@@ -203,35 +201,12 @@ impl MutableBitmap {
         Ok(())
     }
 
-    /// Returns the eight marks from mark `8 * i` on as the bits of a byte. Bits past the last mark
-    /// may be anything.
+    /// Returns the marks, which are borrowed.
     #[inline(always)]
-    pub(crate) fn byte(&self, i: usize) -> u8
-        requires { 8 * i < length self.now }
-        ensures { (k : ℕ) → k < 8 → 8 * i + k < length self.now
-            → slice_get self.now (8 * i + k) ≡ Some (bit_at result k == 1) }
+    pub(crate) fn marks(&self) -> Marks<'_>
+        ensures { result ≡ self.now }
     {
-        self.bytes[i]
-    }
-
-    /// Returns whether both lists have the same marks. Compares one byte at a time.
-    pub fn has_marks_of(&self, other: &Self) -> bool
-        ensures { IsTrue result ↔ self.now ≡ other.now }
-    {
-        if self.length != other.length {
-            return false;
-        }
-        agree_where(self, other, &None)
-    }
-
-    /// Returns whether two lists of equal length have the same mark wherever `mask` has a set mark,
-    /// or everywhere without a mask. Compares one byte at a time.
-    pub fn agrees_where(&self, other: &Self, mask: &Option<MutableBitmap>) -> bool
-        requires same { length self.now ≡ length other.now }
-        requires fits { IfSome mask.now (λ marks. length marks ≡ length self.now) }
-        ensures { IsTrue result ↔ AgreeWhere mask.now self.now other.now }
-    {
-        agree_where(self, other, mask)
+        Marks::new(&self.bytes, 0, self.length)
     }
 
     /// Removes and returns the last mark; `None` if there is none.
@@ -289,7 +264,7 @@ impl MutableBitmap {
         let Some(end) = self.length.checked_add(other.length) else {
             return Err(Error::OutOfMemory);
         };
-        extend_from_bytes(&mut self.bytes, self.length, &other.bytes, 0, other.length)?;
+        extend_from_marks(&mut self.bytes, self.length, &other.marks())?;
         self.length = end;
         Ok(())
     }
@@ -312,8 +287,11 @@ impl MutableBitmap {
         let Some(end) = self.length.checked_add(len) else {
             return Err(Error::OutOfMemory);
         };
-        let (bytes, start) = other.packed_bytes();
-        extend_from_bytes(&mut self.bytes, self.length, bytes, start + offset, len)?;
+        extend_from_marks(
+            &mut self.bytes,
+            self.length,
+            &other.marks().range(offset, len),
+        )?;
         self.length = end;
         Ok(())
     }

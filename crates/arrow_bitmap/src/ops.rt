@@ -1,23 +1,26 @@
-//! Operations on the marks of bitmaps, whole bytes of marks at a time.
-ghost use Rattle.std.specs.Prelude.{◌≡◌, ℕ, ◌+◌, ◌*◌, ◌^◌, ◌<◌, ◌≤◌, ◌==◌, ◌&&◌, ◌||◌, Bool, length, map, not, IfOk, count_by};
-ghost use Rattle.std.specs.Prelude.{◌/◌, ◌%◌, vec_len, OnOk};
+//! Operations on the marks of bitmaps, eight at a time. Bytes of combined marks are pushed into reserved room of a vector
+//! that is a local value: the compiler then keeps its length in a register, and combines many bytes at once, none of which
+//! is written twice. Whatever holds the vector takes it out for that.
+ghost use Rattle.std.specs.Prelude.{◌≡◌, ℕ, ◌+◌, ◌*◌, ◌<◌, ◌≤◌, ◌==◌, ◌&&◌, ◌||◌, Bool, length, map, not, IfOk};
+ghost use Rattle.std.specs.Prelude.{vec_len, [], ◌-◌, ◌^◌, OnOk, OnErr};
 ghost use Rattle.std.specs.List.{zip};
 ghost use Rattle.std.specs.Int.{bit_at, div_ceil};
+ghost use Rattle.std.specs.Vec.{vec_capacity};
 ghost use Rattle.arrow_types.specs.Failures.{OnlyOutOfMemory};
 ghost use Rattle.arrow_bitmap.specs.Marks.{block_mark, marks};
-ghost use Rattle.arrow_bitmap.specs.MarkWrites.{CombinesMarks};
+ghost use Rattle.arrow_bitmap.specs.MarkWrites.{AppendsAll, AppendsCombined, WritesCombined, clear_count};
 
 use crate::Bitmap;
 use crate::bits::count_clear;
-use crate::blocks::{AnyBits, BlockReader, WholeBytes, whole_block, write_block};
-use crate::copy::{between, byte_at};
-use crate::counts::{SetMarks, set_in_block};
+use crate::blocks::write_block;
+use crate::marks::Marks;
 use arrow_types::error::Error;
 use std::alloc::{AllocError, Global};
+use std::mem;
 use std::simd::prelude::*;
 
 /// An operation on two marks.
-trait MarkOp {
+pub(crate) trait MarkOp {
     /// The operation.
     ghost op: { Bool → Bool → Bool };
 
@@ -81,451 +84,200 @@ impl MarkOp for Negation {
     }
 }
 
-/// Writes the combined marks of two lists of packed bytes, from byte `left` of the first and byte `right` of the
-/// second on. As no byte is shifted, the compiler combines many at once.
-fn write_aligned<O: MarkOp>(
-    target: &mut [u8],
-    first: &[u8],
-    left: usize,
-    second: &[u8],
-    right: usize,
-)
-    requires first { left + length target.old ≤ length first.now }
-    requires second { right + length target.old ≤ length second.now }
-    ensures marks { CombinesMarks O.op target.new first.now (8 * left) second.now (8 * right)
-        (8 * length target.old) }
-    ensures len { length target.new ≡ length target.old }
-{
-    for index in 0..target.len() {
-        target[index] = O::on_bytes(first[left + index], second[right + index]);
+/// The first mark, whatever the second is: a copy.
+pub(crate) struct First;
+
+impl MarkOp for First {
+    ghost op = { λ first second. first };
+
+    #[inline(always)]
+    fn on_bytes(first: u8, _second: u8) -> u8 {
+        first
+    }
+
+    #[inline(always)]
+    fn on_blocks(left: u64x8, _right: u64x8) -> u64x8 {
+        left
     }
 }
 
-/// Writes the combined marks of two lists of packed bytes, from a place on in each, to the first `count` bytes, one byte
-/// at a time.
-fn combine_bytes<O: MarkOp>(
-    target: &mut [u8],
-    first: &[u8],
-    place: usize,
-    second: &[u8],
-    other: usize,
-    count: usize,
-)
-    requires room { count ≤ length target.old }
-    requires first { place / 8 + count < length first.now }
-    requires second { other / 8 + count < length second.now }
-    ensures marks { CombinesMarks O.op target.new first.now place second.now other (8 * count) }
-    ensures len { length target.new ≡ length target.old }
-{
-    let (left, right) = (place / 8, other / 8);
-    for index in 0..count {
-        target[index] = O::on_bytes(
-            between(first[left + index], first[left + index + 1], place % 8),
-            between(second[right + index], second[right + index + 1], other % 8),
-        );
-    }
-}
-
-/// Writes 512 more combined marks of two lists of packed bytes, to the 64 bytes from byte `at` on.
-#[inline(always)]
-fn combine_block<O: MarkOp, R: BlockReader>(
-    target: &mut [u8],
-    at: usize,
-    first: &[u8],
-    place: usize,
-    second: &[u8],
-    other: usize,
-)
-    requires room { at + 64 ≤ length target.old }
-    requires first { 8 * (place / 8 + at + 64) + R.last_bit ≤ 8 * length first.now }
-    requires second { 8 * (other / 8 + at + 64) + R.last_bit ≤ 8 * length second.now }
-    requires place { place % 8 ≤ R.last_bit }
-    requires other { other % 8 ≤ R.last_bit }
-    requires before { CombinesMarks O.op target.old first.now place second.now other (8 * at) }
-    ensures marks { CombinesMarks O.op target.new first.now place second.now other (8 * (at + 64)) }
-    ensures len { length target.new ≡ length target.old }
-{
-    let left = R::read(first, place / 8 + at, place % 8);
-    let right = R::read(second, other / 8 + at, other % 8);
-    write_block(target, at, O::on_blocks(left, right));
-}
-
-/// Writes 2,048 more combined marks of two lists of packed bytes, to the 256 bytes from byte `at` on.
-#[inline(always)]
-fn combine_four<O: MarkOp, R: BlockReader>(
-    target: &mut [u8],
-    at: usize,
-    first: &[u8],
-    place: usize,
-    second: &[u8],
-    other: usize,
-)
-    requires room { at + 256 ≤ length target.old }
-    requires first { 8 * (place / 8 + at + 256) + R.last_bit ≤ 8 * length first.now }
-    requires second { 8 * (other / 8 + at + 256) + R.last_bit ≤ 8 * length second.now }
-    requires place { place % 8 ≤ R.last_bit }
-    requires other { other % 8 ≤ R.last_bit }
-    requires before { CombinesMarks O.op target.old first.now place second.now other (8 * at) }
-    ensures marks { CombinesMarks O.op target.new first.now place second.now other (8 * (at + 256)) }
-    ensures len { length target.new ≡ length target.old }
-{
-    combine_block::<O, R>(target, at, first, place, second, other);
-    combine_block::<O, R>(target, at + 64, first, place, second, other);
-    combine_block::<O, R>(target, at + 128, first, place, second, other);
-    combine_block::<O, R>(target, at + 192, first, place, second, other);
-}
-
-/// Writes the combined marks of two lists of packed bytes to 256 bytes `turns` times, and returns how many are clear:
-/// they are counted while they are at hand.
+/// Writes the first combined marks over bytes, of which there are at least 64, from byte `from` on, 64 bytes at a time.
+/// The last 64 may overlap those before them, so that no rest is left.
+// A call, so that short ranges save no registers for it.
 #[inline(never)]
-fn combine_turns<O: MarkOp, R: BlockReader>(
-    target: &mut [u8],
-    first: &[u8],
-    place: usize,
-    second: &[u8],
-    other: usize,
-    turns: usize,
-) -> usize
-    requires room { 256 * turns ≤ length target.old }
-    requires fits { 2048 * turns < 2 ^ 64 }
-    requires first { 8 * (place / 8 + 256 * turns) + R.last_bit ≤ 8 * length first.now }
-    requires second { 8 * (other / 8 + 256 * turns) + R.last_bit ≤ 8 * length second.now }
-    requires place { place % 8 ≤ R.last_bit }
-    requires other { other % 8 ≤ R.last_bit }
-    ensures marks { CombinesMarks O.op target.new first.now place second.now other (2048 * turns) }
-    ensures clear { result ≡ count_by not (marks target.new 0 (2048 * turns)) }
+fn write_blocks<O: MarkOp>(target: &mut [u8], from: usize, first: &Marks<'_>, second: &Marks<'_>)
+    requires some { from + 64 ≤ length target.old }
+    requires fits { 8 * (length target.old - from) < 2 ^ 64 }
+    requires first { 8 * (length target.old - from) < length first.now }
+    requires second { 8 * (length target.old - from) < length second.now }
+    ensures marks { WritesCombined O.op first.now second.now from (8 * (length target.old - from))
+        target.old target.new }
     ensures len { length target.new ≡ length target.old }
 {
-    let mut set = SetMarks::new();
-    for turn in 0..turns {
-        combine_four::<O, R>(target, 256 * turn, first, place, second, other);
-        set.add_four(target, 256 * turn);
-    }
-    2048 * turns - set.count()
-}
-
-/// Writes the combined marks to at least 64 bytes as [`combine_bytes`], 64 bytes at a time. The last 64 may overlap those
-/// before them.
-fn combine_blocks<O: MarkOp>(
-    target: &mut [u8],
-    first: &[u8],
-    place: usize,
-    second: &[u8],
-    other: usize,
-    count: usize,
-)
-    requires some { 64 ≤ count }
-    requires room { count ≤ length target.old }
-    requires first { place / 8 + count < length first.now }
-    requires second { other / 8 + count < length second.now }
-    ensures marks { CombinesMarks O.op target.new first.now place second.now other (8 * count) }
-    ensures len { length target.new ≡ length target.old }
-{
+    let (first, second) = (first.copied(), second.copied());
+    let count = target.len() - from;
     for block in 0..count / 64 {
-        combine_block::<O, AnyBits>(target, 64 * block, first, place, second, other);
+        let marks = O::on_blocks(first.block(512 * block), second.block(512 * block));
+        write_block(target, from + 64 * block, marks);
     }
-    combine_block::<O, AnyBits>(target, count - 64, first, place, second, other);
+    let rest = count - 64;
+    let marks = O::on_blocks(first.block(8 * rest), second.block(8 * rest));
+    write_block(target, from + rest, marks);
 }
 
-/// Writes the combined marks of two lists of packed bytes, from a place on in each, to the first `count` bytes.
-fn combine_marks<O: MarkOp>(
-    target: &mut [u8],
-    first: &[u8],
-    place: usize,
-    second: &[u8],
-    other: usize,
-    count: usize,
-)
-    requires room { count ≤ length target.old }
-    requires first { place / 8 + count < length first.now }
-    requires second { other / 8 + count < length second.now }
-    ensures marks { CombinesMarks O.op target.new first.now place second.now other (8 * count) }
-    ensures len { length target.new ≡ length target.old }
+/// Appends the first `8 * n` combined marks, which fill at least 64 bytes.
+fn push_blocks<O: MarkOp>(
+    bytes: Vec<u8>,
+    first: &Marks<'_>,
+    second: &Marks<'_>,
+    n: usize,
+) -> Vec<u8>
+    requires some { 64 ≤ n }
+    requires fits { 8 * n < 2 ^ 64 }
+    requires first { 8 * n < length first.now }
+    requires second { 8 * n < length second.now }
+    requires room { vec_len bytes + n ≤ vec_capacity bytes }
+    ensures marks { AppendsCombined O.op first.now second.now 0 (8 * n) bytes.items result.items }
+    ensures len { vec_len result ≡ vec_len bytes + n }
+    ensures capacity { vec_capacity bytes ≤ vec_capacity result }
 {
-    if count < 64 {
-        combine_bytes::<O>(target, first, place, second, other, count);
-    } else {
-        combine_blocks::<O>(target, first, place, second, other, count);
+    let start = bytes.len();
+    let mut grown = bytes;
+    match grown.resize(start + n, 0) {
+        Ok(()) => write_blocks::<O>(&mut grown, start, first, second),
+        // There is room for them.
+        Err(_) => unreachable!(),
     }
+    grown
 }
 
-/// Writes the combined marks of two lists of packed bytes, from a place on in each.
-fn write_combined<O: MarkOp>(
-    target: &mut [u8],
-    first: &[u8],
-    place: usize,
-    second: &[u8],
-    other: usize,
-)
-    requires first { place + 8 * length target.old < 8 * length first.now + 8 }
-    requires second { other + 8 * length target.old < 8 * length second.now + 8 }
-    requires place_fits { place + 8 * length target.old < 2 ^ 64 + 8 }
-    requires other_fits { other + 8 * length target.old < 2 ^ 64 + 8 }
-    ensures marks { CombinesMarks O.op target.new first.now place second.now other (8 * length target.old) }
-    ensures len { length target.new ≡ length target.old }
-{
-    if target.is_empty() {
-        return;
-    }
-    if place % 8 == 0 && other % 8 == 0 {
-        return write_aligned::<O>(target, first, place / 8, second, other / 8);
-    }
-    let last = target.len() - 1;
-    combine_marks::<O>(target, first, place, second, other, last);
-    target[last] = O::on_bytes(
-        byte_at(first, place + 8 * last),
-        byte_at(second, other + 8 * last),
-    );
-}
-
-/// Writes combined marks as [`combine_turns`], which may be none.
+/// Appends the first `8 * n` combined marks: 64 bytes at a time if they fill as many, else one.
 #[inline(always)]
-fn combine_front<O: MarkOp, R: BlockReader>(
-    target: &mut [u8],
-    first: &[u8],
-    place: usize,
-    second: &[u8],
-    other: usize,
-    turns: usize,
-) -> usize
-    requires room { 256 * turns ≤ length target.old }
-    requires fits { 2048 * turns < 2 ^ 64 }
-    requires first { 8 * (place / 8 + 256 * turns) + R.last_bit ≤ 8 * length first.now }
-    requires second { 8 * (other / 8 + 256 * turns) + R.last_bit ≤ 8 * length second.now }
-    requires place { place % 8 ≤ R.last_bit }
-    requires other { other % 8 ≤ R.last_bit }
-    ensures marks { CombinesMarks O.op target.new first.now place second.now other (2048 * turns) }
-    ensures clear { result ≡ count_by not (marks target.new 0 (2048 * turns)) }
-    ensures len { length target.new ≡ length target.old }
+fn push_bytes<O: MarkOp>(bytes: Vec<u8>, first: &Marks<'_>, second: &Marks<'_>, n: usize) -> Vec<u8>
+    requires fits { 8 * n < 2 ^ 64 }
+    requires first { 8 * n < length first.now }
+    requires second { 8 * n < length second.now }
+    requires room { vec_len bytes + n ≤ vec_capacity bytes }
+    ensures marks { AppendsCombined O.op first.now second.now 0 (8 * n) bytes.items result.items }
+    ensures len { vec_len result ≡ vec_len bytes + n }
+    ensures capacity { vec_capacity bytes ≤ vec_capacity result }
 {
-    if turns == 0 {
-        return 0;
+    if n >= 64 {
+        return push_blocks::<O>(bytes, first, second, n);
     }
-    combine_turns::<O, R>(target, first, place, second, other, turns)
+    let mut grown = bytes;
+    for i in 0..n {
+        grown.push_reserved(O::on_bytes(first.byte(8 * i), second.byte(8 * i)));
+    }
+    grown
 }
 
-/// Writes 512 more combined marks as [`combine_block`], and returns how many of them are clear.
+/// Appends the combined marks of two lists of as many, which may begin within a byte, behind whole bytes. The bits
+/// behind the last may be anything.
 #[inline(always)]
-fn combine_one<O: MarkOp, R: BlockReader>(
-    target: &mut [u8],
-    at: usize,
-    first: &[u8],
-    place: usize,
-    second: &[u8],
-    other: usize,
-) -> usize
-    requires room { at + 64 ≤ length target.old }
-    requires first { 8 * (place / 8 + at + 64) + R.last_bit ≤ 8 * length first.now }
-    requires second { 8 * (other / 8 + at + 64) + R.last_bit ≤ 8 * length second.now }
-    requires place { place % 8 ≤ R.last_bit }
-    requires other { other % 8 ≤ R.last_bit }
-    requires before { CombinesMarks O.op target.old first.now place second.now other (8 * at) }
-    ensures marks { CombinesMarks O.op target.new first.now place second.now other (8 * (at + 64)) }
-    ensures clear { result ≡ count_by not (marks target.new (8 * at) 512) }
-    ensures len { length target.new ≡ length target.old }
+fn push_shifted<O: MarkOp>(bytes: Vec<u8>, first: &Marks<'_>, second: &Marks<'_>) -> Vec<u8>
+    requires some { 0 < length first.now }
+    requires same { length first.now ≡ length second.now }
+    requires room { vec_len bytes + div_ceil (length first.now) 8 ≤ vec_capacity bytes }
+    ensures marks { AppendsAll O.op first.now second.now bytes.items result.items }
+    ensures len { vec_len result ≡ vec_len bytes + div_ceil (length first.now) 8 }
+    ensures capacity { vec_capacity bytes ≤ vec_capacity result }
 {
-    combine_block::<O, R>(target, at, first, place, second, other);
-    512 - set_in_block(whole_block(target, at))
+    let last = (first.len() - 1) / 8;
+    let mut grown = push_bytes::<O>(bytes, first, second, last);
+    grown.push_reserved(O::on_bytes(first.byte(8 * last), second.byte(8 * last)));
+    grown
 }
 
-/// Writes 512 combined marks of two lists of packed bytes `blocks` times, and returns how many are clear.
+/// Appends the combined marks of two lists of as many behind whole bytes. The bits behind the last may be anything.
 #[inline(always)]
-fn combine_counted<O: MarkOp, R: BlockReader>(
-    target: &mut [u8],
-    first: &[u8],
-    place: usize,
-    second: &[u8],
-    other: usize,
-    blocks: usize,
-) -> usize
-    requires room { 64 * blocks ≤ length target.old }
-    requires fits { 512 * blocks < 2 ^ 64 }
-    requires first { 8 * (place / 8 + 64 * blocks) + R.last_bit ≤ 8 * length first.now }
-    requires second { 8 * (other / 8 + 64 * blocks) + R.last_bit ≤ 8 * length second.now }
-    requires place { place % 8 ≤ R.last_bit }
-    requires other { other % 8 ≤ R.last_bit }
-    ensures marks { CombinesMarks O.op target.new first.now place second.now other (512 * blocks) }
-    ensures clear { result ≡ count_by not (marks target.new 0 (512 * blocks)) }
-    ensures len { length target.new ≡ length target.old }
+fn push_combined<O: MarkOp>(bytes: Vec<u8>, first: &Marks<'_>, second: &Marks<'_>) -> Vec<u8>
+    requires same { length first.now ≡ length second.now }
+    requires room { vec_len bytes + div_ceil (length first.now) 8 ≤ vec_capacity bytes }
+    ensures marks { AppendsAll O.op first.now second.now bytes.items result.items }
+    ensures len { vec_len result ≡ vec_len bytes + div_ceil (length first.now) 8 }
+    ensures capacity { vec_capacity bytes ≤ vec_capacity result }
 {
-    let turns = blocks / 4;
-    let mut clear = combine_front::<O, R>(target, first, place, second, other, turns);
-    for block in 4 * turns..blocks {
-        clear += combine_one::<O, R>(target, 64 * block, first, place, second, other);
+    if first.len() == 0 {
+        return bytes;
     }
-    clear
-}
-
-/// Writes the first combined marks of two lists of packed bytes in whole blocks of 512, as many as the last of `count`
-/// marks leaves room for. Returns the number of blocks, and of the clear marks in them.
-#[inline(always)]
-fn write_blocks<O: MarkOp>(
-    target: &mut [u8],
-    first: &[u8],
-    place: usize,
-    second: &[u8],
-    other: usize,
-    count: usize,
-) -> (usize, usize)
-    requires some { 0 < count }
-    requires room { count ≤ 8 * length target.old }
-    requires first { place + count ≤ 8 * length first.now }
-    requires second { other + count ≤ 8 * length second.now }
-    ensures within { 512 * result.0 ≤ count }
-    ensures marks { CombinesMarks O.op target.new first.now place second.now other (512 * result.0) }
-    ensures clear { result.1 ≡ count_by not (marks target.new 0 (512 * result.0)) }
-    ensures len { length target.new ≡ length target.old }
-{
-    if place % 8 == 0 && other % 8 == 0 {
-        let blocks = count / 512;
-        let clear = combine_counted::<O, WholeBytes>(target, first, place, second, other, blocks);
-        return (blocks, clear);
+    let (Some(left), Some(right)) = (first.bytes(), second.bytes()) else {
+        return push_shifted::<O>(bytes, first, second);
+    };
+    let mut grown = bytes;
+    for i in 0..left.len() {
+        grown.push_reserved(O::on_bytes(left[i], right[i]));
     }
-    // Marks that are shifted are read with a byte more.
-    let blocks = (count - 1) / 512;
-    let clear = combine_counted::<O, AnyBits>(target, first, place, second, other, blocks);
-    (blocks, clear)
+    grown
 }
 
-/// Writes the combined marks of two lists of packed bytes as [`write_combined`], and returns how many of the first
-/// `count` are clear.
-fn write_counted<O: MarkOp>(
-    target: &mut [u8],
-    first: &[u8],
-    place: usize,
-    second: &[u8],
-    other: usize,
-    count: usize,
-) -> usize
-    requires some { 0 < count }
-    requires room { length target.old ≡ div_ceil count 8 }
-    requires first { place + count ≤ 8 * length first.now }
-    requires second { other + count ≤ 8 * length second.now }
-    requires place_fits { place + count < 2 ^ 64 }
-    requires other_fits { other + count < 2 ^ 64 }
-    ensures marks { CombinesMarks O.op target.new first.now place second.now other count }
-    ensures clear { result ≡ count_by not (marks target.new 0 count) }
-    ensures len { length target.new ≡ length target.old }
-{
-    let (blocks, clear) = write_blocks::<O>(target, first, place, second, other, count);
-    let done = 512 * blocks;
-    if done == count {
-        return clear;
-    }
-    write_combined::<O>(
-        &mut target[64 * blocks..],
-        first,
-        place + done,
-        second,
-        other + done,
-    );
-    clear + count_clear(target, done, count)
-}
-
-/// Returns the combined marks of two bitmaps of equal length, as packed bytes.
-fn combined_bytes<O: MarkOp>(
-    alloc: Global,
-    first: &Bitmap,
-    second: &Bitmap,
-) -> Result<Vec<u8>, AllocError>
-    requires { length first.now ≡ length second.now }
-    ensures room { IfOk result (λ bytes. length first.now ≤ 8 * vec_len bytes) }
-    ensures ok { IfOk result (λ bytes. marks bytes.items 0 (length first.now)
-        ≡ map (λ p. O.op p.0 p.1) (zip first.now second.now)) }
-{
-    let mut bytes = Vec::new(alloc);
-    bytes.resize(first.len().div_ceil(8), 0)?;
-    let (left, place) = first.packed_bytes();
-    let (right, other) = second.packed_bytes();
-    write_combined::<O>(&mut bytes, left, place, right, other);
-    Ok(bytes)
-}
-
-/// Appends combined marks of two lists of packed bytes behind those of whole bytes, and returns how many of them are
-/// clear.
-fn append_counted<O: MarkOp>(
+/// Appends combined marks as [`push_combined`] to bytes that another value holds.
+pub(crate) fn append_combined<'a, O: MarkOp>(
     bytes: &mut Vec<u8>,
-    first: &[u8],
-    place: usize,
-    second: &[u8],
-    other: usize,
-    count: usize,
-) -> Result<usize, AllocError>
-    requires some { 0 < count }
-    requires first { place + 8 * vec_len bytes.old + count ≤ 8 * length first.now }
-    requires second { other + 8 * vec_len bytes.old + count ≤ 8 * length second.now }
-    requires place_fits { place + 8 * vec_len bytes.old + count < 2 ^ 64 }
-    requires other_fits { other + 8 * vec_len bytes.old + count < 2 ^ 64 }
-    requires before { CombinesMarks O.op bytes.old.items first.now place second.now other (8 * vec_len bytes.old) }
-    ensures marks { OnOk result (CombinesMarks O.op bytes.new.items first.now place second.now other
-        (8 * vec_len bytes.old + count)) }
-    ensures clear { IfOk result (λ n. n ≡ count_by not (marks bytes.new.items (8 * vec_len bytes.old) count)) }
-    ensures len { OnOk result (vec_len bytes.new ≡ vec_len bytes.old + div_ceil count 8) }
+    first: &Marks<'a>,
+    second: &Marks<'a>,
+) -> Result<(), AllocError>
+    requires { length first.now ≡ length second.now }
+    ensures ok { OnOk result (AppendsAll O.op first.now second.now bytes.old.items bytes.new.items) }
+    ensures len { OnOk result (vec_len bytes.new ≡ vec_len bytes.old + div_ceil (length first.now) 8) }
+    ensures err { OnErr result (bytes.new.items ≡ bytes.old.items) }
 {
-    let from = bytes.len();
-    bytes.resize(from + count.div_ceil(8), 0)?;
-    let behind = 8 * from;
-    let clear = write_counted::<O>(
-        &mut bytes[from..],
-        first,
-        place + behind,
-        second,
-        other + behind,
-        count,
-    );
-    Ok(clear)
+    bytes.reserve(first.len().div_ceil(8))?;
+    let empty = Vec::new(*bytes.allocator());
+    let held = mem::replace(bytes, empty);
+    *bytes = push_combined::<O>(held, first, second);
+    Ok(())
 }
 
-/// How many marks are combined before more bytes are written: those of 8 KiB, which stay in the first cache from when
-/// they are set to zero until they are counted.
+/// Appends combined marks as [`push_combined`], and returns how many of them are clear.
+#[inline(always)]
+fn push_counted<O: MarkOp>(
+    bytes: Vec<u8>,
+    first: &Marks<'_>,
+    second: &Marks<'_>,
+) -> (Vec<u8>, usize)
+    requires same { length first.now ≡ length second.now }
+    requires fits { 8 * vec_len bytes + length first.now < 2 ^ 64 }
+    requires room { vec_len bytes + div_ceil (length first.now) 8 ≤ vec_capacity bytes }
+    ensures marks { AppendsAll O.op first.now second.now bytes.items result.0.items }
+    ensures len { vec_len result.0 ≡ vec_len bytes + div_ceil (length first.now) 8 }
+    ensures capacity { vec_capacity bytes ≤ vec_capacity result.0 }
+    ensures clear { result.1 ≡ clear_count result.0.items (8 * vec_len bytes) (length first.now) }
+{
+    let start = 8 * bytes.len();
+    let grown = push_combined::<O>(bytes, first, second);
+    let clear = count_clear(&grown, start, start + first.len());
+    (grown, clear)
+}
+
+/// How many marks are combined before they are counted: those of 8 KiB, which stay in the first cache meanwhile.
 const PART: usize = 65_536;
 
-/// Fills an empty vector with combined marks of two lists of packed bytes, and returns how many of them are clear.
-fn fill_combined<O: MarkOp>(
-    bytes: &mut Vec<u8>,
-    first: &[u8],
-    place: usize,
-    second: &[u8],
-    other: usize,
-    count: usize,
-) -> Result<usize, AllocError>
-    requires empty { vec_len bytes.old ≡ 0 }
-    requires first { place + count ≤ 8 * length first.now }
-    requires second { other + count ≤ 8 * length second.now }
-    requires place_fits { place + count < 2 ^ 64 }
-    requires other_fits { other + count < 2 ^ 64 }
-    ensures marks { OnOk result (CombinesMarks O.op bytes.new.items first.now place second.now other count) }
-    ensures clear { IfOk result (λ n. n ≡ count_by not (marks bytes.new.items 0 count)) }
-    ensures room { OnOk result (count ≤ 8 * vec_len bytes.new) }
-{
-    let mut clear = 0;
-    for part in 0..count / PART {
-        clear += append_counted::<O>(bytes, first, place, second, other, PART)?;
-    }
-    if count % PART == 0 {
-        return Ok(clear);
-    }
-    let rest = append_counted::<O>(bytes, first, place, second, other, count % PART)?;
-    Ok(clear + rest)
-}
-
-/// Returns the combined marks of two bitmaps of equal length, as packed bytes, and how many of them are clear.
-fn combined_counted<O: MarkOp>(
+/// Returns the combined marks of two lists of as many, as packed bytes, and how many of them are clear.
+fn combine_lists<O: MarkOp>(
     alloc: Global,
-    first: &Bitmap,
-    second: &Bitmap,
+    first: &Marks<'_>,
+    second: &Marks<'_>,
 ) -> Result<(Vec<u8>, usize), AllocError>
     requires { length first.now ≡ length second.now }
     ensures room { IfOk result (λ made. length first.now ≤ 8 * vec_len made.0) }
-    ensures ok { IfOk result (λ made. marks made.0.items 0 (length first.now)
-        ≡ map (λ p. O.op p.0 p.1) (zip first.now second.now)) }
-    ensures clear { IfOk result (λ made. made.1 ≡ count_by not (marks made.0.items 0 (length first.now))) }
+    ensures ok { IfOk result (λ made. AppendsAll O.op first.now second.now [] made.0.items) }
+    ensures clear { IfOk result (λ made. made.1 ≡ clear_count made.0.items 0 (length first.now)) }
 {
-    let mut bytes = Vec::with_capacity(alloc, first.len().div_ceil(8))?;
-    let (left, place) = first.packed_bytes();
-    let (right, other) = second.packed_bytes();
-    let clear = fill_combined::<O>(&mut bytes, left, place, right, other, first.len())?;
-    Ok((bytes, clear))
+    let count = first.len();
+    let mut bytes = Vec::with_capacity(alloc, count.div_ceil(8))?;
+    let mut clear = 0;
+    for part in 0..count / PART {
+        let start = PART * part;
+        let (one, other) = (first.range(start, PART), second.range(start, PART));
+        let (grown, more) = push_counted::<O>(bytes, &one, &other);
+        bytes = grown;
+        clear += more;
+    }
+    let (start, rest) = (count - count % PART, count % PART);
+    let (one, other) = (first.range(start, rest), second.range(start, rest));
+    let (grown, more) = push_counted::<O>(bytes, &one, &other);
+    Ok((grown, clear + more))
 }
 
 /// Returns the combined marks of two bitmaps of equal length.
@@ -534,7 +286,7 @@ fn combine<O: MarkOp>(alloc: Global, first: &Bitmap, second: &Bitmap) -> Result<
     ensures ok { IfOk result (λ bitmap. bitmap ≡ map (λ pair. O.op pair.0 pair.1) (zip first.now second.now)) }
     ensures err { OnlyOutOfMemory result }
 {
-    let (bytes, clear) = combined_counted::<O>(alloc, first, second)?;
+    let (bytes, clear) = combine_lists::<O>(alloc, &first.marks(), &second.marks())?;
     Bitmap::from_counted(bytes, first.len(), clear)
 }
 
@@ -570,6 +322,8 @@ pub fn not(alloc: Global, bitmap: &Bitmap) -> Result<Bitmap, Error>
     ensures ok { IfOk result (λ marks. marks ≡ map not bitmap.now) }
     ensures err { OnlyOutOfMemory result }
 {
-    let bytes = combined_bytes::<Negation>(alloc, bitmap, bitmap)?;
+    let marks = bitmap.marks();
+    let mut bytes = Vec::with_capacity(alloc, marks.len().div_ceil(8))?;
+    append_combined::<Negation>(&mut bytes, &marks, &marks)?;
     Bitmap::from_counted(bytes, bitmap.len(), bitmap.len() - bitmap.unset_bits())
 }

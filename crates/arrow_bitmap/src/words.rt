@@ -69,10 +69,8 @@ pub(crate) fn extend_from_word(
     ensures kept { marks bytes.new.items 0 len ≡ marks bytes.old.items 0 len }
     ensures room_left { len ≤ 8 * vec_len bytes.new }
 {
-    bytes.truncate(len.div_ceil(8));
-    let source = word.to_le_bytes();
     // Bits behind the last mark have no meaning, so they may be written before memory is allocated.
-    join_byte(bytes, len, &source, 0);
+    join_byte(bytes, len, (word % 256) as u8);
     let head = (8 - len % 8) % 8;
     let rest = (word >> head).to_le_bytes();
     bytes.extend_from_slice(&rest)?;
