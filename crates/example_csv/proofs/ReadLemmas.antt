@@ -37,7 +37,7 @@ use Rattle.example_csv.specs.declared.error.Error.{Error}
 use Rattle.example_csv.specs.declared.error.Error.TheVariants as error
 use Rattle.example_csv.specs.declared.kind.Kind.TheVariants as kind
 use Rattle.example_csv.specs.declared.read.NamedBuilder.{NamedBuilder}
-use Rattle.example_csv.specs.Builders.{GrowsBy, built_kind, column_kind, declared_of, text_length}
+use Rattle.example_csv.specs.Builders.{GrowsBy, built_kind, column_kind, text_length}
 use Rattle.example_csv.specs.Fields.{header_of, field_cell}
 use Rattle.example_csv.specs.Reading.{AreBuiltOf, BeginsWith, CannotPushRow, IsBuiltOf, IsColumnOf, IsCsvError}
 use Rattle.example_csv.specs.Reading.{IsRefused, IsTableOf, column_fields}
@@ -393,3 +393,4 @@ module _ (text : List ℕ) (headers : List (List ℕ)) (rows : List (List (List 
   row-refused (error.UnknownColumn name) (i, column, at, why) = absurd why
   row-refused (error.NotTruth name) (i, column, at, why) = absurd why
   row-refused (error.NotNumbers name) (i, column, at, why) = absurd why
+  row-refused (error.SumOverflow overflow) (i, column, at, why) = absurd why

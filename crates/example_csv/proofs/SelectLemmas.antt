@@ -1,15 +1,14 @@
 -- Lemmas about selections.
-use Rattle.std.proofs.Common.{◌≡◌, ◌∙◌, ◌∷◌, ◌++◌, ◌+◌, ◌<◌, [], ℕ, List, Option, Some, None, ap, arith, drop}
-use Rattle.std.proofs.Common.{get_or, length, map, refl, suc, sym, take, zero}
-use Rattle.std.specs.Prelude.{Err, Ok, Result, String, find, is_none, string_bytes}
+use Rattle.std.proofs.Common.{◌≡◌, ◌∙◌, ◌∷◌, ◌++◌, ◌+◌, ◌<◌, [], ℕ, List, Some, None, ap, drop}
+use Rattle.std.proofs.Common.{get_or, length, map, refl, sym, take}
+use Rattle.std.specs.Prelude.{Result, String, is_none, string_bytes}
 use Rattle.std.specs.declared.alloc.Global.{Global}
-use Rattle.std.specs.Option.{option_or}
 use Rattle.std.specs.List.{filter_map}
 use Rattle.std.proofs.lemmas.List.{drop_more, map-append, take-append-drop, take_more}
 use Rattle.std.proofs.lemmas.List.Elements.{filter_map-append}
 use Rattle.std.proofs.lemmas.List.Folds.{find-append}
 use Rattle.example_record_batch.specs.declared.any.AnyArray.{AnyArray}
-use Rattle.example_record_batch.specs.Batches.{Batch, Named, column_of}
+use Rattle.example_record_batch.specs.Batches.{Batch, column_of}
 use Rattle.example_csv.specs.declared.error.Error.{Error}
 use Rattle.example_csv.specs.declared.error.Error.TheVariants as error
 use Rattle.example_csv.specs.Selecting.{Explains, Reason, and_then, column_named, unknown_name}
@@ -20,6 +19,7 @@ pub explains_then : {A B : Type 0} (f : A → Result B Reason) (r : Result A Rea
 explains_then f r (error.UnknownColumn name) h = rw h refl
 explains_then f r (error.NotTruth name) h = rw h refl
 explains_then f r (error.NotNumbers name) h = rw h refl
+explains_then f r (error.SumOverflow overflow) h = h
 explains_then f r (error.Arrow e) h = h
 explains_then f r error.OutOfMemory h = h
 explains_then f r (error.Csv e) h = h

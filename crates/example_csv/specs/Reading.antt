@@ -1,8 +1,7 @@
 -- Tables of CSV.
-use Rattle.std.specs.Prelude.{◌≡◌, ◌≢◌, ℕ, ◌+◌, ◌^◌, ◌<◌, ◌≤◌, ⊤, false, List, [], ◌∷◌, ◌++◌, Option, Some, None, length, map}
+use Rattle.std.specs.Prelude.{◌≡◌, ◌≢◌, ℕ, ◌+◌, ◌^◌, ◌<◌, ◌≤◌, ⊤, false, List, [], ◌∷◌, ◌++◌, Some, None, length, map}
 use Rattle.std.specs.Prelude.{slice_get, slice_index_or, string_bytes}
 use Rattle.std.specs.List.{concat}
-use Rattle.csv.specs.Machine.{next_record}
 use Rattle.csv.specs.Reading.{AreRecords, Reached, Ready, default_config, error_kind, expected_len, is_flexible}
 use Rattle.csv.specs.Reading.{reader_config, reader_state, reader_trim, strip_bom}
 use Rattle.csv.specs.Records.{AllText}
@@ -91,6 +90,7 @@ IsRefused text (error.Io e) = ⊥
 IsRefused text (error.UnknownColumn name) = ⊥
 IsRefused text (error.NotTruth name) = ⊥
 IsRefused text (error.NotNumbers name) = ⊥
+IsRefused text (error.SumOverflow overflow) = ⊥
 
 -- a growing column has the name and the type of a header field, and the cells that the fields below it read as
 pub record IsBuiltOf (header : List ℕ) (fields : List (List ℕ)) (column : NamedBuilder) : Type 0 where

@@ -6,6 +6,32 @@ use csv::{ErrorKind, Position};
 use std::alloc::{AllocError, AllocFailed};
 use std::{fmt, io};
 
+/// A sum that does not fit in an `i64`.
+#[derive(Debug, Drop)]
+pub struct SumOverflow {
+    /// The column that is summed.
+    pub column: String,
+    /// The column whose equal slots make a group.
+    pub by: String,
+    /// The text of these slots, `None` for the group of the nulls.
+    pub key: Option<String>,
+}
+
+/// Names the column and the group.
+impl fmt::Display for SumOverflow {
+    fn fmt<W: fmt::Write>(&self, f: &mut fmt::Formatter<W>) -> fmt::Result {
+        let (column, by) = (&self.column, &self.by);
+        match &self.key {
+            Some(key) => write!(f, "the sum of column '{column}' of group '{key}'")?,
+            None => write!(
+                f,
+                "the sum of column '{column}' of the group without '{by}'"
+            )?,
+        }
+        write!(f, " does not fit in 64 bits")
+    }
+}
+
 /// An error of reading, selecting or printing a table.
 #[derive(Debug, Drop)]
 pub enum Error {
@@ -34,6 +60,8 @@ pub enum Error {
     NotTruth(String),
     /// The column of this name does not hold numbers.
     NotNumbers(String),
+    /// The sum of a group does not fit in an `i64`.
+    SumOverflow(SumOverflow),
 }
 
 impl Error {
@@ -94,6 +122,7 @@ impl fmt::Display for Error {
             Error::UnknownColumn(name) => write!(f, "no column '{name}'"),
             Error::NotTruth(name) => write!(f, "column '{name}' does not hold booleans"),
             Error::NotNumbers(name) => write!(f, "column '{name}' does not hold numbers"),
+            Error::SumOverflow(sum) => write!(f, "{sum}"),
         }
     }
 }

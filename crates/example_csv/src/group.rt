@@ -1,13 +1,19 @@
 //! Rows by group, and aggregates of each group.
-ghost use Rattle.std.specs.Prelude.{◌≡◌, ◌<◌, All, IfErr, IfOk, Ok, Some, length, map, string_bytes};
+ghost use Rattle.std.specs.Prelude.{◌≡◌, ◌<◌, All, IfErr, IfOk, IsSome, Ok, Some, length, map, option_map};
+ghost use Rattle.std.specs.Prelude.{string_bytes};
 ghost use Rattle.example_record_batch.specs.AnyArrays.{slot_count};
 ghost use Rattle.example_record_batch.specs.Batches.{HaveRows, named};
+ghost use Rattle.example_record_batch.specs.Grouping.{overflowing_group};
+ghost use Rattle.example_csv.specs.Builders.{IsOutOfMemory};
 ghost use Rattle.example_csv.specs.Grouping.{CannotAggregate, CannotAggregateAll, CannotGroup, HasAggregates};
-ghost use Rattle.example_csv.specs.Grouping.{IsAggregated, IsGroupedBy, aggregate_name, aggregate_word, aggregated_array};
+ghost use Rattle.example_csv.specs.Grouping.{IsAggregated, IsGroupedBy, NamesOverflow, aggregate_name, aggregate_word};
+ghost use Rattle.example_csv.specs.Grouping.{aggregated_array, key_text};
 ghost use Rattle.example_csv.specs.Selecting.{Explains};
 
-use crate::error::Error;
+use crate::error::{Error, SumOverflow};
 use crate::sort::named_array;
+use crate::text::cell_text;
+use dethrugn::error::Error as ArrowError;
 use example_record_batch::any::AnyArray;
 use example_record_batch::any::group::Aggregate;
 use example_record_batch::batch::{Field, RecordBatch};
@@ -72,48 +78,94 @@ fn aggregated_array<'a>(
     }
 }
 
-/// Returns the column of an aggregate, with a slot for each group.
+/// Returns the text of the key of a group, `None` for a null.
+fn key_text(alloc: Global, keys: &AnyArray, group: usize) -> Result<Option<String>, AllocError>
+    requires { group < slot_count keys.now }
+    ensures { IfOk result (λ text. option_map string_bytes text ≡ key_text keys.now group) }
+{
+    if keys.is_null(group) {
+        return Ok(None);
+    }
+    let mut scratch = String::new(alloc);
+    let text = cell_text(keys, group, &mut scratch)?;
+    Ok(Some(String::from_str(alloc, text)?))
+}
+
+/// Returns the names of a column and of the first group whose sum does not fit in an `i64`. There must be such a group.
+fn sum_overflow(
+    alloc: Global,
+    array: &AnyArray,
+    indices: &[usize],
+    keys: &Field,
+    column: &str,
+) -> Result<SumOverflow, Error>
+    requires rows { length indices.now ≡ slot_count array.now }
+    requires within { All (λ g. g < slot_count keys.now.array) indices.now }
+    requires some { IsSome (overflowing_group array.now indices.now (slot_count keys.now.array)) }
+    ensures ok { IfOk result (NamesOverflow array.now indices.now (named keys.now) column.now) }
+    ensures err { IfErr result (λ e. IsOutOfMemory e) }
+{
+    match array.overflowing_group(alloc, indices, keys.array.len())? {
+        Some(group) => {
+            let key = key_text(alloc, &keys.array, group)?;
+            let column = String::from_str(alloc, column)?;
+            let by = keys.name.clone()?;
+            Ok(SumOverflow { column, by, key })
+        }
+        None => unreachable!(),
+    }
+}
+
+/// Returns the column of an aggregate, with a slot for each key.
 fn aggregate_column(
     alloc: Global,
     table: &RecordBatch,
     indices: &[usize],
-    groups: usize,
+    keys: &Field,
     aggregation: &Aggregation,
 ) -> Result<Field, Error>
     requires rows { length indices.now ≡ table.now.rows }
-    requires within { All (λ g. g < groups) indices.now }
-    ensures ok { IfOk result (λ field. IsAggregated table.now indices.now groups aggregation.now (named field)) }
-    ensures count { IfOk result (λ field. slot_count field.array ≡ groups) }
-    ensures err { IfErr result (CannotAggregate table.now indices.now groups aggregation.now) }
+    requires within { All (λ g. g < slot_count keys.now.array) indices.now }
+    ensures ok { IfOk result (λ field.
+        IsAggregated table.now indices.now (slot_count keys.now.array) aggregation.now (named field)) }
+    ensures count { IfOk result (λ field. slot_count field.array ≡ slot_count keys.now.array) }
+    ensures err { IfErr result (CannotAggregate table.now indices.now (named keys.now) aggregation.now) }
 {
     let array = aggregated_array(alloc, table, aggregation)?;
-    let array = array.group_aggregate(alloc, aggregation.aggregate, indices, groups)?;
+    let groups = keys.array.len();
+    let made = match array.group_aggregate(alloc, aggregation.aggregate, indices, groups) {
+        Ok(made) => made,
+        Err(ArrowError::Overflow) => {
+            let column = aggregation.column.as_str();
+            let overflow = sum_overflow(alloc, array, indices, keys, column)?;
+            return Err(Error::SumOverflow(overflow));
+        }
+        Err(error) => return Err(Error::Arrow(error)),
+    };
     let name = aggregate_name(alloc, aggregation)?;
-    Ok(Field { name, array })
+    Ok(Field { name, array: made })
 }
 
 /// Returns the column of the keys, and then that of each aggregate.
 fn grouped_columns(
     alloc: Global,
     table: &RecordBatch,
-    keys: Field,
     indices: &[usize],
-    groups: usize,
+    keys: Field,
     asked: &[Aggregation],
 ) -> Result<Vec<Field>, Error>
     requires rows { length indices.now ≡ table.now.rows }
-    requires within { All (λ g. g < groups) indices.now }
-    requires keys { slot_count keys.array ≡ groups }
+    requires within { All (λ g. g < slot_count keys.array) indices.now }
     ensures ok { IfOk result (λ fields.
-        HasAggregates table.now indices.now groups (named keys) asked.now (map named fields.items)) }
-    ensures rows { IfOk result (λ fields. HaveRows fields.items groups) }
-    ensures err { IfErr result (CannotAggregateAll table.now indices.now groups asked.now) }
+        HasAggregates table.now indices.now (named keys) asked.now (map named fields.items)) }
+    ensures rows { IfOk result (λ fields. HaveRows fields.items (slot_count keys.array)) }
+    ensures err { IfErr result (CannotAggregateAll table.now indices.now (named keys) asked.now) }
 {
     let mut columns = Vec::new(alloc);
-    columns.push(keys)?;
     for aggregation in asked {
-        columns.push(aggregate_column(alloc, table, indices, groups, aggregation)?)?;
+        columns.push(aggregate_column(alloc, table, indices, &keys, aggregation)?)?;
     }
+    columns.insert(0, keys)?;
     Ok(columns)
 }
 
@@ -131,10 +183,9 @@ fn grouped(
     let groups = array.group(alloc, hashers)?;
     let name = by.column.clone()?;
     let array = array.group_keys(alloc, groups.first.as_slice())?;
-    let (indices, count) = (groups.indices.as_slice(), groups.first.len());
-    let asked = by.aggregations.as_slice();
-    let keys = Field { name, array };
-    let columns = grouped_columns(alloc, table, keys, indices, count, asked)?;
+    let count = array.len();
+    let (indices, asked) = (groups.indices.as_slice(), by.aggregations.as_slice());
+    let columns = grouped_columns(alloc, table, indices, Field { name, array }, asked)?;
     Ok(RecordBatch::try_new(columns, count)?)
 }
 
@@ -143,8 +194,8 @@ fn grouped(
 /// whose keys are random, so a table that is written to have many slots of one hash takes no longer than another.
 ///
 /// # Errors
-/// `UnknownColumn` if a named column does not exist, `NotNumbers` if the column of a sum has no numbers, `Overflow` if
-/// the sum of a group does not fit in an `i64`, `OutOfMemory` if an allocation fails.
+/// `UnknownColumn` if a named column does not exist, `NotNumbers` if the column of a sum has no numbers, `SumOverflow`
+/// if the sum of a group does not fit in an `i64`, `OutOfMemory` if an allocation fails.
 pub fn group_rows(
     alloc: Global,
     hashers: RandomState,

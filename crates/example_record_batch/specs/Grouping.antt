@@ -1,10 +1,12 @@
 -- Groups of equal slots of an array of any kind, and aggregates of the slots of each group.
-use Rattle.std.specs.Prelude.{◌≡◌, ◌<◌, ℕ, All, Bool, true, false, List, length}
+use Rattle.std.specs.Prelude.{◌≡◌, ◌<◌, ℕ, ℤ, All, Bool, true, false, not, List, find, length, slice_get}
+use Rattle.std.specs.Prelude.{Option, Some, None}
+use Rattle.std.specs.List.{range_with_len}
 use Rattle.std.specs.Ordering.{bool_cmp, int_cmp}
 use Rattle.std.specs.Int.{w64}
 use Rattle.std.specs.declared.cmp.Ordering.{Ordering}
-use Rattle.dethrugn.specs.Aggregates.{text_cmp}
-use Rattle.dethrugn.specs.Column.{ColumnWith, slots_of}
+use Rattle.dethrugn.specs.Aggregates.{sum_all, text_cmp}
+use Rattle.dethrugn.specs.Column.{Column, ColumnWith, slots_of}
 use Rattle.dethrugn.specs.Error.{Error}
 use Rattle.dethrugn.specs.Error.TheVariants as error
 use Rattle.dethrugn.specs.Grouping.{IsGrouping}
@@ -55,6 +57,21 @@ IsAggregate Max (Boolean column) numbers groups (Boolean made) = GreatestOfGroup
 IsAggregate Max (Binary column) numbers groups (Binary made) = GreatestOfGroups text_cmp column numbers groups made
 IsAggregate Max (Utf8 column) numbers groups (Utf8 made) = GreatestOfGroups text_cmp column numbers groups made
 IsAggregate _ _ numbers groups _ = ⊥
+
+-- the sum of each group, however great
+abbrev pub HasSums : Column ℤ → List ℕ → ℕ → List ℤ → Type 0
+HasSums column numbers groups sums = (g : ℕ) → g < groups
+    → slice_get sums g ≡ Some (sum_all (group_values column numbers g))
+
+-- the first group whose sum does not fit in 64 bits
+abbrev pub first_overflow : Column ℤ → List ℕ → ℕ → Option ℕ
+first_overflow column numbers groups =
+    find (λ g. not (fits_signed w64 (sum_all (group_values column numbers g)))) (range_with_len 0 groups)
+
+-- the same of an array of any kind, of which only one of numbers has sums
+abbrev pub overflowing_group : AnyArray → List ℕ → ℕ → Option ℕ
+overflowing_group (Int64 column) numbers groups = first_overflow column numbers groups
+overflowing_group _ numbers groups = None
 
 -- why groups have no aggregate: the sum of one does not fit in 64 bits, or an allocation failed
 abbrev pub AggregateFails : Aggregate → AnyArray → List ℕ → ℕ → Error → Type 0

@@ -163,3 +163,4 @@ impl AnyArray {
 
 mod concat;
 pub mod group;
+mod overflow;

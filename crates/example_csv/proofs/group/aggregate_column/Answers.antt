@@ -1,0 +1,15 @@
+use Rattle.std.proofs.Common.{subst}
+use Rattle.std.specs.Prelude.{IsSome}
+use Rattle.example_record_batch.specs.Grouping.{AggregateFails, overflowing_group}
+use Rattle.example_record_batch.proofs.CallerLemmas.{overflow-found}
+use Rattle.example_csv.proofs.group.aggregate_column.Goals as goal
+
+pub sum_overflow-requires-clause-some : goal.sum_overflow-requires-clause-some
+sum_overflow-requires-clause-some c =
+    let aggregate = c.args.aggregation.now.aggregate in
+    let array = c.in_ok-array.array.now in
+    let numbers = c.args.indices.now in
+    subst (λ n. IsSome (overflowing_group array numbers n)) c.len-groups.ensures
+    (overflow-found aggregate array numbers c.len-groups.result
+    (subst (AggregateFails aggregate array numbers c.len-groups.result) c.in-Err-Overflow.field-0-is
+    c.in-Err-Overflow.ensures.err)).1
