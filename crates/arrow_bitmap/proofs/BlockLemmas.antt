@@ -12,10 +12,10 @@ use Rattle.std.proofs.lemmas.Simd.{below_from_Fits, chunk-fits, Each1-chunk, Eac
 use Rattle.std.proofs.lemmas.Simd.{get_or-chunk, get_or-put_chunk_at, get_or-put_chunk_below, get_or-replicate}
 use Rattle.std.proofs.lemmas.Simd.{get_or-zip2, length-zip2}
 use lib.Lanes.{chunk, digits_l, Each1, number_l, put_chunk, zip2}
+use Rattle.arrow_types.proofs.CallerLemmas.{and-bit, max-zero, or-bit, other-bit, zero-max}
 use Rattle.arrow_bitmap.specs.Marks.{block_mark, mark_at}
-use Rattle.arrow_bitmap.proofs.CopyLemmas.{low_bit, max-zero, shifted_above, shifted_below, zero-max}
+use Rattle.arrow_bitmap.proofs.CopyLemmas.{low_bit, shifted_above, shifted_below}
 use Rattle.arrow_bitmap.proofs.MarkLemmas.{mark_of_same, pow-256}
-use Rattle.arrow_bitmap.proofs.OpLemmas.{and-bit, or-bit, other-bit}
 
 -- ---- bytes that are read as words
 

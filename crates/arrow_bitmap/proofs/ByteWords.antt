@@ -5,8 +5,9 @@ use Rattle.std.specs.Int.{bit_at, byte_at, bytes_low_first, from_le_bytes, to_le
 use Rattle.std.proofs.lemmas.List.FromFn.{get_or-map-range_with_len}
 use Rattle.std.proofs.lemmas.Nat.{from_le_bytes-to_le_bytes_8, mod_below, shr-shr, shr_le}
 use Rattle.std.proofs.lemmas.Nat.Bits.{bit_at_above, bit_at_or}
+use Rattle.arrow_types.proofs.CallerLemmas.{max-zero, zero-max}
 use Rattle.arrow_bitmap.specs.Marks.{bits_of, mark_at}
-use Rattle.arrow_bitmap.proofs.CopyLemmas.{mark_at-behind, max-zero, shifted_above, shifted_below, zero-max}
+use Rattle.arrow_bitmap.proofs.CopyLemmas.{mark_at-behind, shifted_above, shifted_below}
 use Rattle.arrow_bitmap.proofs.MarkLemmas.{eight_at, eight-same}
 use Rattle.arrow_bitmap.proofs.MarkLemmas.{number, number-bit}
 

@@ -2,7 +2,7 @@
 use Rattle.std.proofs.Common.{◌≡◌, ◌≢◌, ℕ, zero, suc, ◌+◌, ◌-◌, ◌*◌, ◌/◌, ◌%◌, ◌^◌, ◌<◌, ◌≤◌, Bool, false}
 use Rattle.std.proofs.Common.{if◌then◌else◌, subst, List, [], ◌∷◌, ◌++◌, length, get_or, set, take, drop}
 use Rattle.std.proofs.Common.{get_or-take, get_or-drop, length-take, length-drop, ap, ap₂, sym, ◌∙◌, inl, inr}
-use Rattle.std.proofs.Common.{◌==◌, bit_and, bit_or, count_by, max, not, w8, arith, add-zero, zero-add}
+use Rattle.std.proofs.Common.{◌==◌, bit_and, bit_or, count_by, not, w8, arith, add-zero, zero-add}
 use Rattle.std.specs.Int.{bit_at, div_ceil}
 use Rattle.std.specs.Int.Count.{ones}
 use Rattle.std.proofs.lemmas.List.{same_lists, get_or-append_right, get_or_default}
@@ -10,6 +10,7 @@ use Rattle.std.proofs.lemmas.Bool.{cases_eq, cases_lt}
 use Rattle.std.proofs.lemmas.Nat.{mod_below, one_shl, pow_pos, shr-shr, shr_split}
 use Rattle.std.proofs.lemmas.Nat.Bits.{bit_at_above, bit_at_or, bit_at-zero, bit_at_cat_low, bit_at_cat_high}
 use Rattle.std.proofs.lemmas.Nat.Bits.{bit_at-lt, bit_at_not}
+use Rattle.arrow_types.proofs.CallerLemmas.{max-zero, zero-max}
 use Rattle.arrow_bitmap.specs.Marks.{mark_at, marks}
 use Rattle.arrow_bitmap.proofs.MarkLemmas.{mark_at-set_same, mark_at-append, mark_at-set_other, mark-bit_of}
 use Rattle.arrow_bitmap.proofs.MarkLemmas.{mark_of_same, length-marks, get_or-marks, same_marks}
@@ -32,12 +33,6 @@ shifted_above w n f i low =
     let back : f + i - f ≡ i = omega arith in
     low_bit w (n * 2 ^ f) (f + i) low ∙ ap (λ m. bit_at m (f + i)) (sym (add-zero (n * 2 ^ f)))
     ∙ bit_at_cat_high n f 0 (f + i) (pow_pos f) (omega arith) ∙ ap (bit_at n) back
-
-pub max-zero : (x y : ℕ) → y ≡ 0 → max x y ≡ x
-max-zero x y e = omega (arith, e)
-
-pub zero-max : (x y : ℕ) → x ≡ 0 → max x y ≡ y
-zero-max x y e = omega (arith, e)
 
 -- a byte's low bits and another's above them
 module _ (b from above : ℕ) (within : from < 8) where

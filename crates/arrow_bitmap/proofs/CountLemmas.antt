@@ -9,10 +9,11 @@ use Rattle.std.proofs.lemmas.List.Sums.{sum_by_more, sum_by-cons}
 use Rattle.std.proofs.lemmas.Nat.{and_le_l, mod_below, or_lt, xor_lt}
 use Rattle.std.proofs.lemmas.Nat.Bits.{bit_at_and, bit_at_lowest, bit_at_not, bit_at_or, bit_at_xor, bit_at-lt, bit_at-suc}
 use lib.Lanes.{chunk, digits_l, Each1, number_l, zip2}
+use Rattle.arrow_types.proofs.CallerLemmas.{ones-zero}
 use Rattle.arrow_bitmap.specs.Blocks.{block_set}
 use Rattle.arrow_bitmap.specs.Marks.{block_mark, mark_at, marks}
 use Rattle.arrow_bitmap.proofs.BlockLemmas.{block-bit, loaded-mark}
-use Rattle.arrow_bitmap.proofs.MarkLemmas.{clear_add, clear_of, clear_of-bit, clear-empty, ones-clear, ones-zero, ones-zeros}
+use Rattle.arrow_bitmap.proofs.MarkLemmas.{clear_add, clear_of, clear_of-bit, clear-empty, ones-clear, ones-zeros}
 
 -- ---- digits that are added
 

@@ -5,15 +5,13 @@ use Rattle.std.proofs.Common.{ap, ap₂, subst, ◌∙◌, ◌⊎◌, inl, inr, 
 use Rattle.std.specs.Int.{bit_at}
 use Rattle.std.proofs.lemmas.Bool.{cases_lt, eqb-true, eq-eqb}
 use Rattle.std.proofs.lemmas.Nat.Bits.{bit_at_and, bit_at-lt, bit_at_above, bit_at_ones, same_from_bits}
+use Rattle.arrow_types.proofs.CallerLemmas.{min-zero}
 use Rattle.arrow_bitmap.specs.Marks.{mark_at, marks}
 use Rattle.arrow_bitmap.specs.Masks.{IsValidAt}
 use Rattle.arrow_bitmap.proofs.MarkLemmas.{length-marks, mark_of_same, slice_get-marks}
 
 min-one : (x y : ℕ) → x < 2 → y ≡ 1 → min x y ≡ x
 min-one x y low e = omega (arith, low, e)
-
-min-zero : (x y : ℕ) → y ≡ 0 → min x y ≡ 0
-min-zero x y e = omega (arith, e)
 
 -- a bit that the other word lets through
 kept-bit : (a k i : ℕ) → bit_at k i ≡ 1 → bit_at (bit_and a k) i ≡ bit_at a i

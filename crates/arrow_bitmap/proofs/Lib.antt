@@ -3,6 +3,5 @@ mod BlockLemmas
 mod CopyLemmas
 mod CountLemmas
 mod EqualityLemmas
-mod OpLemmas
 pub mod MarkLemmas
 pub mod ByteWords

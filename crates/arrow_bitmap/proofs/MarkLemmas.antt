@@ -6,7 +6,7 @@ use Rattle.std.proofs.Common.{if◌then◌else◌, ◌==◌, bit_and, bit_or, ma
 use Rattle.std.proofs.Common.{add-zero, length-append, length-take, length-drop, length-set, get_or-take}
 use Rattle.std.proofs.Common.{get_or-drop, get_or-set_same, get_or-set_other}
 use Rattle.std.specs.Int.{bit_at, bit_not, byte_worth, count_zeros, div_ceil, from_le_bytes, sum_through}
-use Rattle.std.specs.Int.Count.{ones, ones_in, ones_step}
+use Rattle.std.specs.Int.Count.{ones, ones_step}
 use Rattle.std.specs.List.{range_with_len}
 use Rattle.std.specs.Simd.{first_chunks}
 use Rattle.std.proofs.Math.Seq.{take-length}
@@ -22,6 +22,7 @@ use Rattle.std.proofs.lemmas.List.{get_or-replicate, nil_from_length}
 use Rattle.std.proofs.lemmas.Option.{slice_get-get_or}
 use Rattle.std.proofs.lemmas.List.FromFn.{length-map-range_with_len, get_or-map-range_with_len, map-range_with_len_more}
 use Rattle.std.proofs.lemmas.List.Sums.{sum_by-cons, sum_by-append, sum_by_push, count_by-le-length}
+use Rattle.arrow_types.proofs.CallerLemmas.{max-zero, ones-zero}
 use Rattle.arrow_bitmap.specs.Marks.{mark_at, marks}
 use Rattle.arrow_bitmap.specs.MarkWrites.{FillsMarks}
 
@@ -85,9 +86,6 @@ module _ (bytes : List ℕ) (i w : ℕ) (v : Bool) (within : i < 8 * length byte
 
 -- ---- a byte in which one bit is put
 
-or_low : (x y : ℕ) → y ≡ 0 → max x y ≡ x
-or_low x y e = omega (arith, e)
-
 or_zero : (y : ℕ) → max 0 y ≡ y
 or_zero y = omega arith
 
@@ -118,7 +116,7 @@ module _ (k : ℕ) (within : k < 8) (b m p : ℕ) (v : Bool) (alone : m ≡ 2 ^ 
   put_other j inner apart = bit_at_or (bit_and b (255 - m)) p j
       ∙ ap₂ max (cleared_is j ∙ bit_at_clear_other w8 b k within j inner apart) (ap (λ x. bit_at x j) put_is
       ∙ put_bit-other v j apart)
-      ∙ or_low _ _ refl
+      ∙ max-zero _ _ refl
 
 -- ---- a byte whose bits from one on are written
 
@@ -150,7 +148,7 @@ module _ (b from : ℕ) (within : from < 8) where
 
   pub top_set-kept : (k : ℕ) → k < from → bit_at (bit_or b (255 * 2 ^ from % 256)) k ≡ bit_at b k
   unfolding top
-  top_set-kept k below = bit_at_or b top k ∙ or_low _ _ (low_bit k below)
+  top_set-kept k below = bit_at_or b top k ∙ max-zero _ _ (low_bit k below)
 
   pub top_set : (k : ℕ) → from ≤ k → k < 8 → bit_at (bit_or b (255 * 2 ^ from % 256)) k ≡ 1
   unfolding top
@@ -359,10 +357,6 @@ clear_step bytes a i v le e = ap (λ n. count_by not (marks bytes a n)) next ∙
 pub clear-le : (bytes : List ℕ) (p n : ℕ) → count_by not (marks bytes p n) ≤ n
 clear-le bytes p n = subst (λ k. count_by not (marks bytes p n) ≤ k) (length-marks bytes p n)
     (count_by-le-length not (marks bytes p n))
-
-pub ones-zero : ones 0 ≡ 0
-unfolding ones ones_in
-ones-zero = refl
 
 -- where a number's bits are the opposites of marks, it has as many set bits as there are clear marks
 pub ones-clear : (f : ℕ → Bool) (w p m : ℕ) → m < 2 ^ w → ((i : ℕ) → i < w → bit_at m i ≡ clear_of (f (p + i)))

@@ -1,6 +1,6 @@
-//! Consecutive marks of packed bytes, which contracts see as the list of these: what bitmaps read, compare, copy and
-//! combine. Only this file knows that they may begin within a byte. The public contracts that it serves are those of
-//! [`crate::Bitmap`] and [`crate::MutableBitmap`].
+//! Consecutive marks of packed bytes, which may begin within a byte and which contracts see as a list: what bitmaps read,
+//! compare, copy and combine. The public contracts that this serves are those of [`crate::Bitmap`] and
+//! [`crate::MutableBitmap`], in which no byte is named.
 ghost use Rattle.std.specs.Prelude.{◌≡◌, ℕ, ◌+◌, ◌*◌, ◌^◌, ◌<◌, ◌≤◌, ◌==◌, IfSome, Some, drop, length};
 ghost use Rattle.std.specs.Prelude.{count_by, not, slice_get, slice_index, take, [], ◌∷◌};
 ghost use Rattle.std.specs.Int.{bit_at, div_ceil};

@@ -13,6 +13,7 @@ ghost use Rattle.arrow_bitmap.specs.MarkWrites.{AppendsAll, AppendsCombined, Wri
 use crate::Bitmap;
 use crate::bits::count_clear;
 use crate::blocks::write_block;
+use crate::counts::SetMarks;
 use crate::marks::Marks;
 use arrow_types::error::Error;
 use std::alloc::{AllocError, Global};
@@ -250,8 +251,8 @@ fn push_counted<O: MarkOp>(
     (grown, clear)
 }
 
-/// How many marks are combined before they are counted: those of 8 KiB, which stay in the first cache meanwhile.
-const PART: usize = 65_536;
+/// How many marks are combined before they are counted: those of four blocks, as [`SetMarks`] adds them.
+const TURN: usize = 2048;
 
 /// Returns the combined marks of two lists of as many, as packed bytes, and how many of them are clear.
 fn combine_lists<O: MarkOp>(
@@ -266,18 +267,17 @@ fn combine_lists<O: MarkOp>(
 {
     let count = first.len();
     let mut bytes = Vec::with_capacity(alloc, count.div_ceil(8))?;
-    let mut clear = 0;
-    for part in 0..count / PART {
-        let start = PART * part;
-        let (one, other) = (first.range(start, PART), second.range(start, PART));
-        let (grown, more) = push_counted::<O>(bytes, &one, &other);
-        bytes = grown;
-        clear += more;
+    let mut set = SetMarks::new();
+    for turn in 0..count / TURN {
+        let start = TURN * turn;
+        let (one, other) = (first.range(start, TURN), second.range(start, TURN));
+        bytes = push_combined::<O>(bytes, &one, &other);
+        set.add_four(&bytes, 256 * turn);
     }
-    let (start, rest) = (count - count % PART, count % PART);
+    let (start, rest) = (count - count % TURN, count % TURN);
     let (one, other) = (first.range(start, rest), second.range(start, rest));
     let (grown, more) = push_counted::<O>(bytes, &one, &other);
-    Ok((grown, clear + more))
+    Ok((grown, start - set.count() + more))
 }
 
 /// Returns the combined marks of two bitmaps of equal length.

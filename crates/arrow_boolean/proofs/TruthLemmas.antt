@@ -1,105 +1,26 @@
 -- Lemmas about how many values are true.
-use Rattle.std.proofs.Common.{◌≡◌, ℕ, zero, suc, ◌+◌, ◌-◌, ◌/◌, ◌%◌, ◌^◌, ◌<◌, ◌≤◌, ◌==◌, ◌&&◌, min, bit_and, Bool}
-use Rattle.std.proofs.Common.{true, false, not, cond, if◌then◌else◌, List, [], ◌∷◌, ◌++◌, length, map, take, drop}
+use Rattle.std.proofs.Common.{◌≡◌, ℕ, zero, suc, ◌+◌, ◌-◌, ◌/◌, ◌%◌, ◌^◌, ◌<◌, ◌≤◌, ◌==◌, ◌&&◌, bit_and, Bool}
+use Rattle.std.proofs.Common.{true, false, not, cond, if◌then◌else◌, List, [], ◌∷◌, length, map, take, drop}
 use Rattle.std.proofs.Common.{slice_get, Option, Some, None, refl, sym, ap, ap₂, ◌∙◌, arith, count_by, length-append, length-drop}
-use Rattle.std.proofs.Common.{subst, zero-add, add-zero, append_assoc}
+use Rattle.std.proofs.Common.{subst, zero-add, add-zero}
 use Rattle.std.specs.Int.{bit_at}
-use Rattle.std.specs.Int.Count.{ones, ones_in, ones_step}
-use Rattle.std.specs.List.{range_with_len, zip}
+use Rattle.std.specs.Int.Count.{ones, ones_step}
+use Rattle.std.specs.List.{range_with_len}
 use Rattle.std.specs.Prelude.{unwrap_or}
 use Rattle.std.proofs.Math.Nat.{pow-suc}
 use Rattle.std.proofs.Math.Pow.{shr_lt}
-use Rattle.std.proofs.lemmas.List.{append-nil, get_or-drop, length-map, same_lists, take_more, take-append-drop}
-use Rattle.std.proofs.lemmas.List.FromFn.{get_or-map-range_with_len, length-map-range_with_len, map-range_with_len_more}
+use Rattle.std.proofs.lemmas.List.{get_or-drop, same_lists, take-append-drop}
+use Rattle.std.proofs.lemmas.List.FromFn.{get_or-map-range_with_len, length-map-range_with_len}
 use Rattle.std.proofs.lemmas.List.Sums.{count_by-le-length, sum_by-append, sum_by-cons}
 use Rattle.std.proofs.lemmas.Nat.{and_le_l, shr-shr}
-use Rattle.std.proofs.lemmas.Nat.Bits.{bit_at_and, bit_at_lowest, bit_at-lt, bit_at-suc}
-use Rattle.std.proofs.lemmas.Option.{get_or_from_slice_get, slice_get_within}
-use Rattle.std.proofs.lemmas.Slice.Zip.{length-zip}
+use Rattle.std.proofs.lemmas.Nat.Bits.{bit_at_lowest, bit_at-lt, bit_at-suc}
+use Rattle.std.proofs.lemmas.Option.{cond_some, get_or_from_slice_get}
+use Rattle.arrow_types.proofs.CallerLemmas.{ones-zero, take-next}
 use Rattle.arrow_memory.specs.Marks.{bits_of}
 use Rattle.arrow_memory.specs.Rows.{Row, slot}
 use Rattle.arrow_column.specs.Column.{Column, IsColumn, marks_of, mask_of, slots_of, stored_values}
 use Rattle.arrow_column.specs.Combined.{set_in_both}
-use Rattle.arrow_column.proofs.CallerLemmas.{slots_valid, valid_by_held}
-
--- one more of a list
-pub taken-more : {X : Type 0} (xs : List X) (i : ℕ) (x : X) → slice_get xs i ≡ Some x
-    → take (i + 1) xs ≡ take i xs ++ x ∷ []
-taken-more xs i x found =
-    take_more xs i x (slice_get_within xs i x found)
-    ∙ ap (λ y. take i xs ++ y ∷ []) (get_or_from_slice_get xs i x x found)
-
--- the bits of words as the next marks of lists
-take-bits : (rows : List Bool) (n c word : ℕ)
-    → ((k : ℕ) → k < c → slice_get rows (n + k) ≡ Some (bit_at word k == 1))
-    → take (n + c) rows ≡ take n rows ++ bits_of word c
-take-bits rows n zero word read = ap (λ k. take k rows) (let e : n + zero ≡ n = omega arith in e)
-    ∙ sym (append-nil (take n rows))
-take-bits rows n (suc c) word read =
-    ap (λ k. take k rows) (let e : n + suc c ≡ n + c + 1 = omega arith in e)
-    ∙ taken-more rows (n + c) (bit_at word c == 1) (read c (omega arith))
-    ∙ ap (λ xs. xs ++ (bit_at word c == 1) ∷ []) (take-bits rows n c word (λ k low. read k (omega arith)))
-    ∙ append_assoc (take n rows) (bits_of word c) ((bit_at word c == 1) ∷ [])
-    ∙ ap (λ xs. take n rows ++ xs) (sym (map-range_with_len_more (λ k. bit_at word k == 1) 0 c c (zero-add c)))
-    ∙ ap (λ m. take n rows ++ bits_of word m) (let e : c + 1 ≡ suc c = omega arith in e)
-
--- ---- marks that are set in both of two lists
-
-pub both-at : (values marks : List Bool) (i : ℕ) (v m : Bool) → slice_get values i ≡ Some v
-    → slice_get marks i ≡ Some m → slice_get (set_in_both values marks) i ≡ Some (m && v)
-both-at [] marks i v m e f = cc
-both-at (x ∷ values) [] i v m e f = cc
-both-at (x ∷ values) (y ∷ marks) zero v m e f =
-    let value : x ≡ v = cc in
-    let mark : y ≡ m = cc in
-    ap₂ (λ a b. Some (b && a)) value mark
-both-at (x ∷ values) (y ∷ marks) (suc i) v m e f = both-at values marks i v m e f
-
--- where the mark is clear
-pub both-clear : (values marks : List Bool) (i : ℕ) (m : Bool) → slice_get marks i ≡ Some m → m ≡ false
-    → i < length values → slice_get (set_in_both values marks) i ≡ Some false
-both-clear [] marks i m e f low = absurd (omega arith)
-both-clear (x ∷ values) [] i m e f low = cc
-both-clear (x ∷ values) (y ∷ marks) zero m e f low =
-    let mark : y ≡ false = cc in
-    ap (λ b. Some (b && x)) mark
-both-clear (x ∷ values) (y ∷ marks) (suc i) m e f low = both-clear values marks i m e f (omega (arith, low))
-
-pub length-both : (values marks : List Bool) → length marks ≡ length values
-    → length (set_in_both values marks) ≡ length values
-length-both values marks same = omega (
-  arith,
-  length-map (zip values marks) (λ (row : Row Bool). row.1 && row.0),
-  length-zip values marks,
-  same,
-)
-
-both-bit : (a b : ℕ) → a < 2 → b < 2 → ((b == 1) && (a == 1)) ≡ (min a b == 1)
-both-bit zero zero p q = refl
-both-bit zero (suc zero) p q = refl
-both-bit (suc zero) zero p q = refl
-both-bit (suc zero) (suc zero) p q = refl
-both-bit zero (suc (suc b)) p q = absurd (omega arith)
-both-bit (suc zero) (suc (suc b)) p q = absurd (omega arith)
-both-bit (suc (suc a)) b p q = absurd (omega arith)
-
--- one of 64 of them, found in words
-pub both-found : (values marks : List Bool) (n v m : ℕ)
-    → ((k : ℕ) → k < 64 → slice_get values (n + k) ≡ Some (bit_at v k == 1))
-    → ((k : ℕ) → k < 64 → slice_get marks (n + k) ≡ Some (bit_at m k == 1))
-    → (k : ℕ) → k < 64 → slice_get (set_in_both values marks) (n + k) ≡ Some (bit_at (bit_and v m) k == 1)
-both-found values marks n v m read held k low =
-    both-at values marks (n + k) (bit_at v k == 1) (bit_at m k == 1) (read k low) (held k low)
-    ∙ ap Some (both-bit (bit_at v k) (bit_at m k) (bit_at-lt v k) (bit_at-lt m k)
-    ∙ ap (λ x. x == 1) (sym (bit_at_and v m k)))
-
--- all of them
-pub both-word : (values marks : List Bool) (n v m : ℕ)
-    → ((k : ℕ) → k < 64 → slice_get values (n + k) ≡ Some (bit_at v k == 1))
-    → ((k : ℕ) → k < 64 → slice_get marks (n + k) ≡ Some (bit_at m k == 1))
-    → take (n + 64) (set_in_both values marks) ≡ take n (set_in_both values marks) ++ bits_of (bit_and v m) 64
-both-word values marks n v m read held =
-    take-bits (set_in_both values marks) n 64 (bit_and v m) (both-found values marks n v m read held)
+use Rattle.arrow_column.proofs.CallerLemmas.{both-found, both-word, length-both, slots_valid, valid_by_held}
 
 -- marks are clear or set
 pub clear-and-set : (marks : List Bool) → count_by not marks + count_by (λ mark. mark) marks ≡ length marks
@@ -118,10 +39,6 @@ clear-and-set (false ∷ marks) = omega (
 )
 
 -- ---- the set bits of a word
-
-ones-zero : ones 0 ≡ 0
-unfolding ones ones_in
-ones-zero = refl
 
 bit-worth : (bit : ℕ) → bit < 2 → cond (bit == 1) 1 0 ≡ bit
 bit-worth zero small = refl
@@ -173,7 +90,7 @@ count-both-word values marks n v m small read held =
 pub count-more : (marks : List Bool) (i : ℕ) (mark : Bool) → slice_get marks i ≡ Some mark
     → count_by (λ mark. mark) (take (i + 1) marks) ≡ count_by (λ mark. mark) (take i marks) + cond mark 1 0
 count-more marks i mark found =
-    ap (count_by (λ mark. mark)) (taken-more marks i mark found)
+    ap (count_by (λ mark. mark)) (take-next marks i mark found)
     ∙ sum_by-append (λ mark. cond mark 1 0) (take i marks) (mark ∷ [])
     ∙ ap (λ k. count_by (λ mark. mark) (take i marks) + k) (one mark)
   where
@@ -267,11 +184,6 @@ true-values (value ∷ values) =
     ∙ ap (λ n. cond value 1 0 + n) (true-values values)
     ∙ sym (sum_by-cons (λ mark. cond mark 1 0) value values)
 
-held-marks : (held : Bool) (rows : List (Row Bool)) (marks : List Bool)
-    → (if held then Some (map (λ row. row.1) rows) else None) ≡ Some marks → map (λ row. row.1) rows ≡ marks
-held-marks true rows marks mask = cc
-held-marks false rows marks mask = cc
-
 -- where no slot is null
 true-valid : (rows : List (Row Bool)) → count_by not (map (λ row. row.1) rows) ≡ 0
     → count_by (λ mark. mark) (map (λ row. row.0) rows) ≡ count_by is_true (map slot rows)
@@ -302,5 +214,6 @@ bare-true c is_column bare = sym (
 pub masked-true : (c : Column Bool) (marks : List Bool) → mask_of c ≡ Some marks
     → count_by (λ mark. mark) (set_in_both (stored_values c) marks) ≡ count_by is_true (slots_of c)
 masked-true c marks mask =
-    ap (λ ms. count_by (λ mark. mark) (set_in_both (stored_values c) ms)) (sym (held-marks c.held c.rows marks mask))
+    ap (λ ms. count_by (λ mark. mark) (set_in_both (stored_values c) ms))
+    (sym (cond_some c.held (map (λ (row : Row Bool). row.1) c.rows) marks mask).1)
     ∙ sym (true-rows c.rows)

@@ -4,7 +4,7 @@ ghost use Rattle.arrow_column.specs.Validation.{AcceptsParts, RefusesParts};
 ghost use Rattle.arrow_boolean.specs.Fits.{boolean_array_tests, boolean_builder_tests};
 
 use crate::{BooleanArray, MutableBooleanArray};
-use arrow_column::{GrowingColumn, is_growing_mask_of, is_mask_of};
+use arrow_column::{GrowingColumn, is_mask_of};
 use arrow_memory::bitmap::{Bitmap, MutableBitmap};
 use arrow_types::data_type::DataType;
 use arrow_types::error::Error;
@@ -59,7 +59,8 @@ impl MutableBooleanArray {
         ensures ok { AcceptsParts boolean_builder_tests (logical_type data_type) values validity result }
         ensures err { RefusesParts boolean_builder_tests (logical_type data_type) values validity result }
     {
-        if !is_growing_mask_of(&validity, values.len()) {
+        let slots = values.len();
+        if !is_mask_of(&validity, slots) {
             return Err(Error::OutOfSpec(UNFIT_MASK));
         }
         if !data_type.is_right_for(PhysicalType::Boolean) {

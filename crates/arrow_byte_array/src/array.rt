@@ -5,11 +5,12 @@ ghost use Rattle.std.specs.Option.{option_copied};
 ghost use Rattle.arrow_types.specs.Failures.{OnlyOutOfMemory};
 ghost use Rattle.arrow_types.specs.Types.{logical_type, IsRightType};
 ghost use Rattle.arrow_memory.specs.Rows.{FitsMask};
-ghost use Rattle.arrow_column.specs.Column.{FitsCut, IsColumn, cut_with, mask_of, marks_of, stored_values};
+ghost use Rattle.arrow_column.specs.Column.{FitsCut, IsColumn, column_with, cut_with, mask_of, marks_of};
+ghost use Rattle.arrow_column.specs.Column.{stored_values};
 ghost use Rattle.arrow_check.specs.Pieces.{items_of};
 ghost use Rattle.arrow_bytes.specs.Pieces.{around_cut};
 ghost use Rattle.arrow_bytes.specs.Column.{byte_column, bytes_held, empty_bytes, offsets_held};
-ghost use Rattle.arrow_bytes.specs.Kinds.{AreItems, CutItems};
+ghost use Rattle.arrow_bytes.specs.Kinds.{AreItems, CutItems, IsItem};
 
 use arrow_bytes::{ByteKind, ByteValues};
 use arrow_column::FrozenColumn;
@@ -73,6 +74,22 @@ impl<K: ByteKind, O: Offset> ByteArray<K, O> {
         }
     }
 
+    /// Creates an array of stored items and a mask with a mark for each of them. The data type must have the array's
+    /// physical type.
+    pub fn from_byte_values(
+        data_type: DataType,
+        values: ByteValues<K, O>,
+        validity: Option<Bitmap>,
+    ) -> Self
+        requires mask { FitsMask values.items validity }
+        requires right { IsRightType (K.layout O.IS_LARGE) (logical_type data_type) }
+        ensures { result ≡ column_with (logical_type data_type) values.around values.items validity }
+    {
+        ByteArray {
+            column: FrozenColumn::new(data_type, values, validity),
+        }
+    }
+
     /// Creates an array of no slots and no bytes, without a mask. The data type must have the
     /// array's physical type.
     ///
@@ -115,6 +132,26 @@ impl<K: ByteKind, O: Offset> ByteArray<K, O> {
         let (data_type, values, validity) = self.column.into_inner();
         let (offsets, values) = values.into_inner();
         (data_type, offsets, values, validity)
+    }
+
+    /// Returns the stored items, those of null slots included, with the bytes around them.
+    #[inline(always)]
+    pub fn byte_values(&self) -> &ByteValues<K, O>
+        ensures around { result.now.around ≡ self.now.around }
+        ensures items { result.now.items ≡ stored_values self.now }
+        ensures count { length result.now.items ≡ length self.now.rows }
+    {
+        self.column.values()
+    }
+
+    /// Returns the bytes of the item that is stored at `i`, also if the slot is null.
+    #[inline(always)]
+    pub fn item(&self, i: usize) -> &[u8]
+        requires { i < length self.now.rows }
+        ensures value { slice_get (stored_values self.now) i ≡ Some result.now }
+        ensures item { IsItem K.is_text result.now }
+    {
+        self.column.values().value(i)
     }
 
     /// Returns the number of slots.

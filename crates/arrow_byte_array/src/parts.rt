@@ -12,7 +12,7 @@ use crate::{ByteArray, MutableByteArray, MutableByteValuesArray};
 use arrow_bytes::{ByteKind, ByteValues, MutableByteValues};
 use arrow_check::bounds::{check_bounds, check_last};
 use arrow_check::cost::TextCost;
-use arrow_column::{FrozenColumn, GrowingColumn, is_growing_mask_of, is_mask_of};
+use arrow_column::{FrozenColumn, GrowingColumn, is_mask_of};
 use arrow_memory::bitmap::{Bitmap, MutableBitmap};
 use arrow_memory::buffer::Buffer;
 use arrow_memory::offset::{Offsets, OffsetsBuffer};
@@ -169,7 +169,7 @@ impl<K: ByteKind, O: Offset> MutableByteArray<K, O> {
         ensures exact { BuilderCosts K.is_text offsets values.items cost.old cost.new }
     {
         let values = builder_values::<K, O>(&data_type, offsets, values, cost)?;
-        if !is_growing_mask_of(&validity, values.len()) {
+        if !is_mask_of(&validity, values.len()) {
             return Err(Error::OutOfSpec(UNFIT_BUILDER_MASK));
         }
         Ok(MutableByteArray {

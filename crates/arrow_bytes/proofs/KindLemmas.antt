@@ -38,7 +38,7 @@ join-of : (text : Bool) (items others : List (List ℕ)) → AreItems text items
 join-of true items others all more = All-append IsWellFormed items others all more
 join-of false items others all more = tt
 
-push-of : (text : Bool) (items : List (List ℕ)) (item : List ℕ) → AreItems text items → IsItem text item
+pub push-of : (text : Bool) (items : List (List ℕ)) (item : List ℕ) → AreItems text items → IsItem text item
     → AreItems text (items ++ item ∷ [])
 push-of true items item all one = All-push IsWellFormed items item all one
 push-of false items item all one = tt

@@ -1,15 +1,23 @@
 -- Slots and items of bytes that are appended one after the other: `shown` are the bytes of an item, and `most` is the
 -- greatest offset.
-use Rattle.std.specs.Prelude.{⊤, ℕ, List, [], Option, Some, Result, option_map}
+use Rattle.std.specs.Prelude.{⊤, ℕ, List, [], map, Option, Some, Result, option_map}
 use Rattle.arrow_types.specs.Types.{LogicalType}
 use Rattle.arrow_types.specs.declared.error.Error.{Error}
 use Rattle.arrow_memory.specs.Offsets.{MatchGrowth}
-use Rattle.arrow_column.specs.Appends.{AppendsSlots, ExtendsByItems, ExtendsBySlots, FreezesBySlots, FreezesItems}
-use Rattle.arrow_column.specs.Appends.{FreezesSlots, GivesTooManyItems, GivesTooManySlots, ItemsOverflow, SlotsOverflow}
-use Rattle.arrow_column.specs.Appends.{StopsInItems, StopsInSlots}
+use Rattle.arrow_column.specs.Appends.{AppendsSlots, ExtendsByItems, ExtendsBySlots, FreezesBySlots, FreezesSlots}
+use Rattle.arrow_column.specs.Appends.{GivesTooManyItems, GivesTooManySlots, SlotsOverflow, StopsInItems, StopsInSlots}
 use Rattle.arrow_column.specs.Column.{append_slot, joined, slot_overflows, stored_values}
 use Rattle.arrow_column.specs.Growth.{GrowthKeeps, Grows}
 use Rattle.arrow_bytes.specs.Column.{ByteColumn, empty_bytes, item_overflows, joins_overflow}
+use Rattle.arrow_bytes.specs.Pieces.{Pieces, append_items, items_overflow}
+
+-- a call appends items, whose bytes end at most at the greatest offset
+abbrev pub AppendsItems : {R : Type 0} → Result R Error → ℕ → Pieces → List (List ℕ) → Pieces → Type 0
+AppendsItems result most old more new = Grows result (items_overflow most old more) new (append_items old more)
+
+-- a call that fails to append items leaves them as they were
+abbrev pub AppendKeepsItems : {R : Type 0} → Result R Error → ℕ → Pieces → List (List ℕ) → Pieces → Type 0
+AppendKeepsItems result most old more new = GrowthKeeps result (items_overflow most old more) old new
 
 -- a call appends the rows of another column, unless their bytes would end past the greatest offset
 abbrev pub JoinsBytes : {R : Type 0} → Result R Error → ℕ → ByteColumn → ByteColumn → ByteColumn → Type 0
@@ -50,7 +58,7 @@ module _ {X : Type 0} (shown : X → List ℕ) (most : ℕ) where
 
   -- an array of this type is made of these items, without a mask
   abbrev pub FrozenOfItems : LogicalType → List X → ByteColumn → Type 0
-  FrozenOfItems t = FreezesItems (item_overflows shown most) shown [] (empty_bytes t)
+  FrozenOfItems t items = FrozenOfSlots t (map Some items)
 
   -- why nothing is made of these slots: the bytes of one end above the greatest offset, or else an allocation failed
   abbrev pub SlotsRefused : LogicalType → List (Option X) → Error → Type 0
@@ -58,7 +66,7 @@ module _ {X : Type 0} (shown : X → List ℕ) (most : ℕ) where
 
   -- why nothing is made of these items: one ends above the greatest offset, or else an allocation failed
   abbrev pub ItemsRefused : LogicalType → List X → Error → Type 0
-  ItemsRefused t items e = MatchGrowth e (ItemsOverflow (item_overflows shown most) shown [] items (empty_bytes t)) ⊤
+  ItemsRefused t items e = SlotsRefused t (map Some items) e
 
   -- slots and items that an iterator gives
   module _ {I : Type 0} where

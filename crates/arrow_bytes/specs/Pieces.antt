@@ -17,6 +17,14 @@ pub record Pieces : Type 0 where
 abbrev pub nothing_around : Around
 nothing_around = record { lead = []; tail = [] }
 
+-- these items, and nothing around them
+abbrev pub bare_items : List (List ℕ) → Pieces
+bare_items items = record { around = nothing_around; items = items }
+
+-- more items behind these; what lies around them stays
+abbrev pub append_items : Pieces → List (List ℕ) → Pieces
+append_items pieces more = record pieces { items = pieces.items ++ more }
+
 -- what lies around the items that offsets cut out of bytes
 abbrev pub around_of : List ℕ → List ℕ → Around
 around_of offsets bytes = record { lead = lead_of offsets bytes; tail = tail_of offsets bytes }
@@ -40,3 +48,7 @@ lead_only around = record around { tail = [] }
 -- whether `added` bytes more after these items would end above the greatest offset
 abbrev pub overflows_by : ℕ → Around → List (List ℕ) → ℕ → Bool
 overflows_by most around items added = nat_lt most (length around.lead + length (concat items) + added)
+
+-- whether these items more would end above the greatest offset
+abbrev pub items_overflow : ℕ → Pieces → List (List ℕ) → Bool
+items_overflow most pieces more = overflows_by most pieces.around pieces.items (length (concat more))

@@ -1,20 +1,23 @@
 //! Growing lists of byte strings.
-ghost use Rattle.std.specs.Prelude.{◌≡◌, ◌<◌, ◌≤◌, [], length, slice_get, Some, IfOk};
+ghost use Rattle.std.specs.Prelude.{◌≡◌, ◌<◌, ◌≤◌, ◌+◌, false, [], ◌∷◌, length, slice_get, Some, IfOk};
+ghost use Rattle.std.specs.Prelude.{OnErr, OnOk};
 ghost use Rattle.arrow_types.specs.Failures.{OnlyOutOfMemory};
+ghost use Rattle.arrow_memory.specs.Changes.{cut_of};
 ghost use Rattle.arrow_memory.specs.Offsets.{last_of, IsOffsets};
 ghost use Rattle.arrow_check.specs.Pieces.{bytes_of, items_of, offsets_of};
+ghost use Rattle.arrow_bytes.specs.Appends.{AppendsItems, AppendKeepsItems};
 ghost use Rattle.arrow_bytes.specs.Kinds.{AreItems, IsItem};
-ghost use Rattle.arrow_bytes.specs.Pieces.{nothing_around, pieces_of};
+ghost use Rattle.arrow_bytes.specs.Pieces.{append_items, bare_items, items_overflow, pieces_of};
 
 use crate::around::BytesAround;
-use crate::{ByteItem, ByteKind, ByteValues};
+use crate::{ByteItem, ByteKind, ByteValues, ItemSlice};
 use arrow_check::accessor::Bytes;
-use arrow_column::{GrowFrom, MutableValues, PushValue, ReserveItems};
+use arrow_column::{GrowFrom, MutableValues, PushValue, ReserveItems, StoredValues};
 use arrow_memory::buffer::Buffer;
 use arrow_memory::offset::Offsets;
 use arrow_types::error::Error;
 use arrow_types::offset::Offset;
-use std::alloc::Global;
+use std::alloc::{AllocError, Global};
 use std::marker::{Model, PhantomData};
 
 /// The byte strings that a builder stores. Bytes may lie before the first of them; none lie after
@@ -38,7 +41,7 @@ impl<K: ByteKind, O: Offset> Model for MutableByteValues<K, O> {
     ghost invariant = { λ values. LegalEndItems K.is_text values.offsets values.bytes.items };
 }
 
-#[tactic(auto, using(crate::proofs::PieceLemmas::piece_reads, crate::proofs::PieceLemmas::piece_growth, crate::proofs::KindLemmas::kind_growth))]
+#[tactic(auto, using(crate::proofs::PieceLemmas::piece_reads, crate::proofs::PieceLemmas::piece_growth, crate::proofs::KindLemmas::kind_growth, crate::proofs::PieceLemmas::one_item))]
 impl<K: ByteKind, O: Offset> MutableByteValues<K, O> {
     /// Creates the items between offsets of bytes that end at the last offset.
     #[inline(always)]
@@ -61,7 +64,7 @@ impl<K: ByteKind, O: Offset> MutableByteValues<K, O> {
     /// # Errors
     /// `OutOfMemory` if an allocation fails.
     pub fn with_capacities(alloc: Global, capacity: usize, values: usize) -> Result<Self, Error>
-        ensures ok { IfOk result (λ values. values ≡ record { around = nothing_around; items = [] }) }
+        ensures ok { IfOk result (λ values. values ≡ bare_items []) }
         ensures err { OnlyOutOfMemory result }
     {
         let offsets = Offsets::with_capacity(alloc, capacity)?;
@@ -122,6 +125,87 @@ impl<K: ByteKind, O: Offset> MutableByteValues<K, O> {
         &self.bytes.as_slice()[start..end]
     }
 
+    /// Appends the bytes of an item.
+    ///
+    /// # Errors
+    /// - `Overflow` if the item would end above the greatest offset; this is checked before memory
+    ///   is allocated.
+    /// - `OutOfMemory` if an allocation fails.
+    ///
+    /// The items are unchanged on an error.
+    #[inline(always)]
+    pub fn push_item(&mut self, item: &[u8]) -> Result<(), Error>
+        requires { IsItem K.is_text item.now }
+        ensures ok { AppendsItems result O.most self.old (item.now ∷ []) self.new }
+        ensures err { AppendKeepsItems result O.most self.old (item.now ∷ []) self.new }
+    {
+        self.offsets.try_push_item(&mut self.bytes, item)
+    }
+
+    /// Appends `count` items of others, from item `first` on. Their bytes are copied at once.
+    ///
+    /// # Errors
+    /// As [`MutableByteValues::push_item`], of the last of the items.
+    #[inline(always)]
+    pub fn push_items(
+        &mut self,
+        items: &ItemSlice<'_, K, O>,
+        first: usize,
+        count: usize,
+    ) -> Result<(), Error>
+        requires { first + count ≤ length items.now }
+        ensures ok { AppendsItems result O.most self.old (cut_of first count items.now) self.new }
+        ensures err { AppendKeepsItems result O.most self.old (cut_of first count items.now) self.new }
+    {
+        // So many slots are counted, so the sum of `first` and `count` can't overflow.
+        items.offsets.len_proxy();
+        let slots = first..first + count;
+        self.offsets
+            .try_extend_slots(&mut self.bytes, items.offsets, items.bytes, slots)
+    }
+
+    /// Appends the bytes of an item that does not end above the greatest offset.
+    ///
+    /// # Errors
+    /// `AllocError` if an allocation fails; the items are then unchanged.
+    #[inline(always)]
+    pub fn push_fitting_item(&mut self, item: &[u8]) -> Result<(), AllocError>
+        requires item { IsItem K.is_text item.now }
+        requires fits { items_overflow O.most self.old (item.now ∷ []) ≡ false }
+        ensures ok { OnOk result (self.new ≡ append_items self.old (item.now ∷ [])) }
+        ensures err { OnErr result (self.new ≡ self.old) }
+    {
+        match self.push_item(item) {
+            Ok(()) => Ok(()),
+            // The item does not overflow, so an allocation failed.
+            Err(_) => Err(AllocError),
+        }
+    }
+
+    /// Appends `count` items of others, from item `first` on, which do not end above the greatest offset. Their bytes
+    /// are copied at once.
+    ///
+    /// # Errors
+    /// `AllocError` if an allocation fails; the items are then unchanged.
+    #[inline(always)]
+    pub fn push_fitting_items(
+        &mut self,
+        items: &ItemSlice<'_, K, O>,
+        first: usize,
+        count: usize,
+    ) -> Result<(), AllocError>
+        requires within { first + count ≤ length items.now }
+        requires fits { items_overflow O.most self.old (cut_of first count items.now) ≡ false }
+        ensures ok { OnOk result (self.new ≡ append_items self.old (cut_of first count items.now)) }
+        ensures err { OnErr result (self.new ≡ self.old) }
+    {
+        match self.push_items(items, first, count) {
+            Ok(()) => Ok(()),
+            // The items do not overflow, so an allocation failed.
+            Err(_) => Err(AllocError),
+        }
+    }
+
     /// Returns the number of items for whose offsets there is room; their bytes may have less.
     pub fn capacity(&self) -> usize
         ensures { length self.now.items ≤ result }
@@ -149,11 +233,7 @@ impl<K: ByteKind, O: Offset> MutableByteValues<K, O> {
 }
 
 #[tactic(auto, using(crate::proofs::PieceLemmas::piece_reads, crate::proofs::PieceLemmas::piece_growth, crate::proofs::KindLemmas::kind_growth, crate::proofs::PieceLemmas::piece_joins, crate::proofs::KindLemmas::kind_joins))]
-impl<K: ByteKind, O: Offset> MutableValues for MutableByteValues<K, O> {
-    ghost use Rattle.std.specs.Prelude.{[], length};
-    ghost use Rattle.std.specs.List.{concat};
-    ghost use Rattle.arrow_bytes.specs.Pieces.{overflows_by};
-
+impl<K: ByteKind, O: Offset> StoredValues for MutableByteValues<K, O> {
     type Stored = Bytes;
 
     type Around = BytesAround;
@@ -162,12 +242,29 @@ impl<K: ByteKind, O: Offset> MutableValues for MutableByteValues<K, O> {
 
     ghost around = { λ values. values.around };
 
-    ghost default = { [] };
-
     #[inline(always)]
     fn count(&self) -> usize {
         self.offsets.len_proxy()
     }
+
+    fn try_clone(&self) -> Result<Self, Error> {
+        let offsets = self.offsets.clone()?;
+        let bytes = Vec::from_slice(*self.bytes.allocator(), &self.bytes)?;
+        Ok(MutableByteValues {
+            offsets,
+            bytes,
+            kind: PhantomData,
+        })
+    }
+}
+
+#[tactic(auto, using(crate::proofs::PieceLemmas::piece_reads, crate::proofs::PieceLemmas::piece_growth, crate::proofs::KindLemmas::kind_growth, crate::proofs::PieceLemmas::piece_joins, crate::proofs::KindLemmas::kind_joins))]
+impl<K: ByteKind, O: Offset> MutableValues for MutableByteValues<K, O> {
+    ghost use Rattle.std.specs.Prelude.{[], length};
+    ghost use Rattle.std.specs.List.{concat};
+    ghost use Rattle.arrow_bytes.specs.Pieces.{overflows_by};
+
+    ghost default = { [] };
 
     #[inline(always)]
     fn allocated_by(&self) -> Global {
@@ -210,19 +307,8 @@ impl<K: ByteKind, O: Offset> MutableValues for MutableByteValues<K, O> {
         self.bytes.shrink_to_fit();
         Ok(())
     }
-
-    fn copy(&self) -> Result<Self, Error> {
-        let offsets = self.offsets.clone()?;
-        let bytes = Vec::from_slice(*self.bytes.allocator(), &self.bytes)?;
-        Ok(MutableByteValues {
-            offsets,
-            bytes,
-            kind: PhantomData,
-        })
-    }
 }
 
-#[tactic(auto, using(crate::proofs::PieceLemmas::piece_reads, crate::proofs::PieceLemmas::piece_growth, crate::proofs::CutLemmas::piece_cut_joins))]
 impl<K: ByteKind, O: Offset> GrowFrom<ByteValues<K, O>> for MutableByteValues<K, O> {
     fn grow_from(
         &mut self,
@@ -230,13 +316,11 @@ impl<K: ByteKind, O: Offset> GrowFrom<ByteValues<K, O>> for MutableByteValues<K,
         offset: usize,
         len: usize,
     ) -> Result<(), Error> {
-        let bytes = other.bytes.as_slice();
-        self.offsets
-            .try_extend_slots(&mut self.bytes, &other.offsets, bytes, offset, len)
+        self.push_items(&other.as_slice(), offset, len)
     }
 }
 
-#[tactic(auto, using(crate::proofs::PieceLemmas::piece_reads, crate::proofs::PieceLemmas::piece_growth, crate::proofs::KindLemmas::kind_growth))]
+#[tactic(auto, using(crate::proofs::PieceLemmas::one_item))]
 impl<K: ByteKind, X: ByteItem<K>, O: Offset> PushValue<X> for MutableByteValues<K, O> {
     ghost use Rattle.arrow_bytes.specs.Column.{item_overflows};
 
@@ -246,7 +330,7 @@ impl<K: ByteKind, X: ByteItem<K>, O: Offset> PushValue<X> for MutableByteValues<
 
     #[inline(always)]
     fn push_value(&mut self, value: X) -> Result<(), Error> {
-        self.offsets.try_push_item(&mut self.bytes, value.bytes())
+        self.push_item(value.bytes())
     }
 }
 

@@ -6,10 +6,10 @@ ghost use Rattle.arrow_check.specs.Pieces.{bytes_of, offsets_of};
 ghost use Rattle.arrow_bytes.specs.Kinds.{AreItems, CutItems, IsItem};
 ghost use Rattle.arrow_bytes.specs.Pieces.{nothing_around, pieces_of};
 
-use crate::ByteKind;
 use crate::around::BytesAround;
+use crate::{ByteKind, ItemSlice};
 use arrow_check::accessor::Bytes;
-use arrow_column::Values;
+use arrow_column::{StoredValues, Values};
 use arrow_memory::buffer::Buffer;
 use arrow_memory::offset::{Offsets, OffsetsBuffer};
 use arrow_types::error::Error;
@@ -100,6 +100,35 @@ impl<K: ByteKind, O: Offset> ByteValues<K, O> {
         &self.bytes
     }
 
+    /// Borrows the items, so that a loop reads them without following the owners of their memory.
+    #[inline(always)]
+    pub fn as_slice(&self) -> ItemSlice<'_, K, O>
+        ensures { result ≡ self.now.items }
+    {
+        ItemSlice {
+            offsets: &self.offsets,
+            bytes: self.bytes.as_slice(),
+            kind: PhantomData,
+        }
+    }
+
+    /// Returns a clone that shares offsets and bytes.
+    ///
+    /// # Errors
+    /// `OutOfMemory` if an allocation fails.
+    pub fn clone(&self) -> Result<Self, Error>
+        ensures ok { IfOk result (λ copy. copy ≡ self.now) }
+        ensures err { OnlyOutOfMemory result }
+    {
+        let offsets = self.offsets.clone()?;
+        let bytes = self.bytes.clone()?;
+        Ok(ByteValues {
+            offsets,
+            bytes,
+            kind: PhantomData,
+        })
+    }
+
     /// Returns the number of items.
     #[inline(always)]
     pub fn len(&self) -> usize
@@ -121,10 +150,7 @@ impl<K: ByteKind, O: Offset> ByteValues<K, O> {
 }
 
 #[tactic(auto, using(crate::proofs::PieceLemmas::piece_reads, crate::proofs::PieceLemmas::piece_cuts))]
-impl<K: ByteKind, O: Offset> Values for ByteValues<K, O> {
-    ghost use Rattle.arrow_bytes.specs.Pieces.{Around, around_cut};
-    ghost use Rattle.arrow_bytes.specs.Cuts.{around-twice};
-
+impl<K: ByteKind, O: Offset> StoredValues for ByteValues<K, O> {
     type Stored = Bytes;
 
     type Around = BytesAround;
@@ -133,12 +159,22 @@ impl<K: ByteKind, O: Offset> Values for ByteValues<K, O> {
 
     ghost around = { λ values. values.around };
 
-    ghost cut_around = { around_cut };
-
     #[inline(always)]
     fn count(&self) -> usize {
         self.offsets.len_proxy()
     }
+
+    fn try_clone(&self) -> Result<Self, Error> {
+        Ok(self.clone()?)
+    }
+}
+
+#[tactic(auto, using(crate::proofs::PieceLemmas::piece_reads, crate::proofs::PieceLemmas::piece_cuts))]
+impl<K: ByteKind, O: Offset> Values for ByteValues<K, O> {
+    ghost use Rattle.arrow_bytes.specs.Pieces.{Around, around_cut};
+    ghost use Rattle.arrow_bytes.specs.Cuts.{around-twice};
+
+    ghost cut_around = { around_cut };
 
     #[inline(always)]
     fn cut(&mut self, offset: usize, len: usize) {
@@ -146,16 +182,6 @@ impl<K: ByteKind, O: Offset> Values for ByteValues<K, O> {
         let dropped = self.offsets.len_proxy() - len;
         let kept = self.offsets.buffer().len() - dropped;
         self.offsets.slice(offset, kept);
-    }
-
-    fn share(&self) -> Result<Self, Error> {
-        let offsets = self.offsets.clone()?;
-        let bytes = self.bytes.clone()?;
-        Ok(ByteValues {
-            offsets,
-            bytes,
-            kind: PhantomData,
-        })
     }
 
     ghost cut_twice = { around-twice };

@@ -1,5 +1,5 @@
 -- Lemmas about the keys of valid slots, and the first of them that fails a test.
-use Rattle.std.proofs.Common.{◌≡◌, ◌&&◌, ℕ, zero, suc, ◌<◌, ℤ, Bool, true, false, not, List, [], ◌∷◌}
+use Rattle.std.proofs.Common.{◌≡◌, ℕ, zero, suc, ◌<◌, ℤ, Bool, true, false, not, List, [], ◌∷◌}
 use Rattle.std.proofs.Common.{take, find, cond, Option, Some, None, slice_get, nat_lt, length, ◌+◌, refl, sym, ap}
 use Rattle.std.proofs.Common.{ap₂, ◌∙◌, arith}
 use Rattle.std.proofs.Math.Seq.{take-length}
@@ -13,11 +13,6 @@ use Rattle.arrow_check.specs.Indexes.{in_bounds, valid_keys}
 nothing-found : {X : Type 0} (b : Bool) (x : X) (o : Option X) → cond b (Some x) o ≡ None → (b ≡ false) × (o ≡ None)
 nothing-found true x o e = cc
 nothing-found false x o e = (refl, e)
-
--- two that are both true
-pub both-true : (a b : Bool) → (a && b) ≡ true → (a ≡ true) × (b ≡ true)
-both-true true b e = (refl, e)
-both-true false b e = cc
 
 module _ {K : Type 0} where
   -- without a mask every slot is valid

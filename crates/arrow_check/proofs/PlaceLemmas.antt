@@ -10,6 +10,7 @@ use Rattle.std.proofs.lemmas.List.{drop_all, length-drop, take_all}
 use Rattle.std.proofs.lemmas.List.Elements.{All-cons, All-head, All-more, All-nil, All-tail}
 use Rattle.std.proofs.lemmas.List.Sums.{fails_before_first}
 use Rattle.std.proofs.lemmas.Option.{get_or_from_slice_get, slice_get-map, slice_get_read, slice_get_within}
+use Rattle.arrow_types.proofs.CallerLemmas.{get-zip, no-faults, no-second_fault}
 use Rattle.arrow_memory.specs.Offsets.{falls_after, first_fault}
 use Rattle.arrow_check.specs.Pieces.{items_after, items_of}
 use Rattle.arrow_check.specs.Places.{falls, first_fall, IsFirstUnfit, steps_of}
@@ -79,16 +80,6 @@ pub negative-falls : (z : ℤ) (before : ℕ) → z <ℤ pos 0 → int_lt z (pos
 negative-falls (pos n) before low = absurd (omega (arith, ints))
 negative-falls (negsuc n) before low = refl
 
-zip-at : {X Y : Type 0} (xs : List X) (ys : List Y) (i : ℕ) (x : X) (y : Y) → slice_get xs i ≡ Some x
-    → slice_get ys i ≡ Some y → slice_get (zip xs ys) i ≡ Some (x, y)
-zip-at [] ys i x y e f = cc
-zip-at (a ∷ xs) [] i x y e f = cc
-zip-at (a ∷ xs) (b ∷ ys) zero x y e f =
-    let first : a ≡ x = cc in
-    let second : b ≡ y = cc in
-    ap (λ v. Some (v, b)) first ∙ ap (λ v. Some (x, v)) second
-zip-at (a ∷ xs) (b ∷ ys) (suc i) x y e f = zip-at xs ys i x y e f
-
 length-zip-more : {Y : Type 0} (y : Y) (ys : List Y) → length (zip (y ∷ ys) ys) ≡ length ys
 length-zip-more y [] = refl
 length-zip-more y (z ∷ zs) = ap suc (length-zip-more z zs)
@@ -105,7 +96,7 @@ module _ {O : Type 0} (number : O → ℤ) where
       → slice_get (pos 0 ∷ map number xs) i ≡ Some before
       → slice_get (steps_of (map number xs)) i ≡ Some (before, number x)
   step-at xs i x before low read last =
-      zip-at (pos 0 ∷ map number xs) (map number xs) i before (number x) last (number-read xs i x low read)
+      get-zip (pos 0 ∷ map number xs) (map number xs) i before (number x) last (number-read xs i x low read)
 
 pub length-steps : (zs : List ℤ) → length (steps_of zs) ≡ length zs
 length-steps zs = length-zip-more (pos 0) zs
@@ -266,15 +257,6 @@ no-fault-1 : (a b : Bool) (s t : List ℕ) → (if a then Some s else (if b then
 no-fault-1 true b s t e = absurd (cc)
 no-fault-1 false b s t e = refl
 
-no-fault-2 : (a b : Bool) (s t : List ℕ) → (if a then Some s else (if b then Some t else None)) ≡ None → b ≡ false
-no-fault-2 true b s t e = absurd (cc)
-no-fault-2 false true s t e = absurd (cc)
-no-fault-2 false false s t e = refl
-
-no-faults : (a b : Bool) (s t : List ℕ) → a ≡ false → b ≡ false
-    → (if a then Some s else (if b then Some t else None)) ≡ None
-no-faults a b s t first rest = ap₂ (λ x y. if x then Some s else (if y then Some t else None)) first rest
-
 -- no integer falls exactly if they break no rule of offsets
 pub fall-is-fault : (z : ℤ) (zs : List ℤ) → (first_fall (z ∷ zs) ≡ None) ↔ (first_fault (z ∷ zs) ≡ None)
 fall-is-fault z zs = (
@@ -285,6 +267,6 @@ fall-is-fault z zs = (
       (never-after z zs (All-tail IsRise (pos 0, z) (zip (z ∷ zs) zs) all)),
   λ none.
       let first = rises (pos 0) z (no-fault-1 (int_lt z (pos 0)) (falls_after z zs) _ _ none) in
-      let rest = rising z zs (no-fault-2 (int_lt z (pos 0)) (falls_after z zs) _ _ none) in
+      let rest = rising z zs (no-second_fault (int_lt z (pos 0)) (falls_after z zs) _ _ none) in
       (never-falls (z ∷ zs)).1 (All-cons IsRise (pos 0, z) (zip (z ∷ zs) zs) first rest),
 )

@@ -1,14 +1,16 @@
 -- Lemmas about slots that agree.
 use Rattle.std.proofs.Common.{◌≡◌, ℕ, zero, suc, ◌+◌, ◌<◌, ◌↔◌, Bool, true, false}
 use Rattle.std.proofs.Common.{not, cond, if◌then◌else◌, List, [], ◌∷◌, length, map, drop, get_or, slice_get, Some}
-use Rattle.std.proofs.Common.{None, Option, is_some, unwrap_or, replicate, count_by, refl, sym, ap, ap₂, subst, ◌∙◌}
+use Rattle.std.proofs.Common.{None, Option, IfSome, is_some, unwrap_or, replicate, count_by, refl, sym, ap, ap₂, subst, ◌∙◌}
 use Rattle.std.proofs.Common.{arith, zero-add}
 use Rattle.std.proofs.lemmas.Bool.{true≢false}
 use Rattle.std.proofs.lemmas.List.{length-map}
 use Rattle.std.proofs.lemmas.List.Sums.{sum_by-cons}
+use Rattle.std.proofs.lemmas.Slice.Zip.{seconds-zip}
+use Rattle.arrow_types.proofs.CallerLemmas.{set-mark}
 use Rattle.arrow_memory.specs.Rows.{FitsMask, Row, rows_of, slot}
 use Rattle.arrow_memory.specs.Rows.{AgreeWhere, IsValidAt}
-use Rattle.arrow_column.proofs.RowLemmas.{length-rows, marks-all, marks-zip, set-mark, stored-rows}
+use Rattle.arrow_column.proofs.RowLemmas.{length-rows, marks-all, stored-rows}
 
 -- no mark is clear, and all are set
 pub set-by_count : (marks : List Bool) (n : ℕ) → length marks ≡ n
@@ -25,6 +27,14 @@ set-by_count (false ∷ marks) (suc n) long =
     let more : count_by not (false ∷ marks) ≡ 1 + count_by not marks =
     sum_by-cons (λ m. cond (not m) 1 0) false marks in
     (λ e. absurd (omega (arith, e, more)), λ e. absurd (true≢false (sym (ap (λ ms. get_or ms 0 true) e))))
+
+-- the marks without a mask are those of a mask without a clear mark
+pub bare-by_count : (mask : Option (List Bool)) (n : ℕ) → IfSome mask (λ marks. length marks ≡ n)
+    → (count_by not (unwrap_or mask []) ≡ 0) ↔ (replicate n true ≡ unwrap_or mask (replicate n true))
+bare-by_count None n fits = (λ e. refl, λ e. refl)
+bare-by_count (Some marks) n fits =
+    let counted = set-by_count marks n fits in
+    (λ e. sym (counted.0 e), λ e. counted.1 (sym e))
 
 -- ---- slots
 
@@ -85,7 +95,7 @@ values-by_shown (r ∷ rows) (o ∷ others) same (suc i) set =
 pub mask-marks : {S : Type 0} (values : List S) (mask : Option (List Bool)) (n : ℕ) → FitsMask values mask
     → n ≡ length values → map (λ (row : Row S). row.1) (rows_of values mask) ≡ unwrap_or mask (replicate n true)
 mask-marks values None n fits long = marks-all values ∙ ap (λ k. replicate k true) (sym long)
-mask-marks values (Some marks) n fits long = marks-zip values marks fits
+mask-marks values (Some marks) n fits long = seconds-zip values marks fits
 
 -- a set mark is that of a valid slot
 pub set-valid : {S : Type 0} (values : List S) (mask : Option (List Bool)) (i : ℕ) → FitsMask values mask
@@ -97,8 +107,8 @@ set-valid values None i fits low = (
       ∙ set-mark (length values) i low,
 )
 set-valid values (Some marks) i fits low = (
-  λ e. ap (λ ms. slice_get ms i) (sym (marks-zip values marks fits)) ∙ e,
-  λ e. ap (λ ms. slice_get ms i) (marks-zip values marks fits) ∙ e,
+  λ e. ap (λ ms. slice_get ms i) (sym (seconds-zip values marks fits)) ∙ e,
+  λ e. ap (λ ms. slice_get ms i) (seconds-zip values marks fits) ∙ e,
 )
 
 -- two columns of as many slots

@@ -1,42 +1,35 @@
 -- Lemmas about columns.
-use Rattle.std.proofs.Common.{◌≡◌, ℕ, zero, suc, ◌-◌, ◌<◌, Bool, true, false, ◌&&◌, IsTrue, if◌then◌else◌}
-use Rattle.std.proofs.Common.{ap₂, List, [], ◌∷◌, ◌++◌, length, map, take}
+use Rattle.std.proofs.Common.{◌≡◌, ℕ, zero, suc, ◌<◌, Bool, true, false, IsTrue, if◌then◌else◌}
+use Rattle.std.proofs.Common.{ap₂, List, [], ◌∷◌, ◌++◌, length, map}
 use Rattle.std.proofs.Common.{get_or, slice_get, Option, Some, None, option_and_then, refl, sym, ap}
 use Rattle.std.proofs.Common.{◌∙◌, arith, append_assoc}
 use Rattle.std.specs.Prelude.{not, replicate}
 use Rattle.std.specs.List.{list_all, zip}
+use Rattle.std.proofs.lemmas.Bool.{and_parts}
 use Rattle.std.proofs.lemmas.Option.{slice_get-get_or}
-use Rattle.std.proofs.lemmas.List.{length-map, append-nil, length_push, take_at}
+use Rattle.std.proofs.lemmas.List.{length-map, append-nil, map-id}
 use Rattle.arrow_types.specs.Types.{LogicalType}
 use Rattle.arrow_memory.specs.Rows.{FitsMask, IsValidAt, Row, slot, rows_of}
 use Rattle.arrow_column.specs.Column.{ColumnWith, IsColumn, column_with, append_nulls, append_slot}
 use Rattle.arrow_column.specs.Column.{append_slots, append_values, last_slot, without_needless_mask, without_last}
-use Rattle.arrow_column.proofs.RowLemmas.{null-at, slot-at}
+use Rattle.arrow_column.proofs.RowLemmas.{last-push, null-at, rest-push, slot-at}
 
 -- ---- columns
-
-and-left : (a b : Bool) → IsTrue (a && b) → IsTrue a
-and-left true b h = refl
-and-left false b h = h
-
-and-right : (a b : Bool) → IsTrue (a && b) → IsTrue b
-and-right true b h = h
-and-right false b h = cc
 
 -- rows whose marks are set show their values
 pub slots_valid : {S : Type 0} (rows : List (Row S)) → IsTrue (list_all (λ row. row.1) rows)
     → map slot rows ≡ map Some (map (λ row. row.0) rows)
 slots_valid [] h = refl
 slots_valid (row ∷ rows) h =
-    let set : row.1 ≡ true = and-left row.1 _ h in
-    ap₂ ◌∷◌ (ap (λ v. slot (row.0, v)) set) (slots_valid rows (and-right row.1 _ h))
+    let set : row.1 ≡ true = (and_parts row.1 _ h).0 in
+    ap₂ ◌∷◌ (ap (λ v. slot (row.0, v)) set) (slots_valid rows (and_parts row.1 _ h).1)
 
-rows_valid : {S : Type 0} (rows : List (Row S)) → IsTrue (list_all (λ row. row.1) rows)
+pub rows-valid : {S : Type 0} (rows : List (Row S)) → IsTrue (list_all (λ row. row.1) rows)
     → rows_of (map (λ row. row.0) rows) None ≡ rows
-rows_valid [] h = refl
-rows_valid (row ∷ rows) h =
-    let set : row.1 ≡ true = and-left row.1 _ h in
-    ap₂ ◌∷◌ (ap (λ v. (row.0, v)) (sym set)) (rows_valid rows (and-right row.1 _ h))
+rows-valid [] h = refl
+rows-valid (row ∷ rows) h =
+    let set : row.1 ≡ true = (and_parts row.1 _ h).0 in
+    ap₂ ◌∷◌ (ap (λ v. (row.0, v)) (sym set)) (rows-valid rows (and_parts row.1 _ h).1)
 
 rows_marked : {S : Type 0} (rows : List (Row S))
     → rows_of (map (λ row. row.0) rows) (Some (map (λ row. row.1) rows)) ≡ rows
@@ -47,7 +40,7 @@ pub rows_by_held : {S : Type 0} (held : Bool) (rows : List (Row S))
     → (held ≡ false → IsTrue (list_all (λ row. row.1) rows))
     → rows_of (map (λ row. row.0) rows) (if held then Some (map (λ row. row.1) rows) else None) ≡ rows
 rows_by_held true rows h = rows_marked rows
-rows_by_held false rows h = rows_valid rows (h refl)
+rows_by_held false rows h = rows-valid rows (h refl)
 
 pub fits_by_held : {S : Type 0} (held : Bool) (rows : List (Row S))
     → FitsMask (map (λ row. row.0) rows) (if held then Some (map (λ row. row.1) rows) else None)
@@ -61,26 +54,13 @@ pub column_again : {A S : Type 0} (t : LogicalType) (around : A) (held : Bool) (
 column_again t around true rows h = ap (λ xs. record { data_type = t; around = around; rows = xs; held = true })
     (rows_marked rows)
 column_again t around false rows h = ap (λ xs. record { data_type = t; around = around; rows = xs; held = false })
-    (rows_valid rows (h refl))
+    (rows-valid rows (h refl))
 
 pub valid_by_held : (held : Bool) {S : Type 0} (rows : List (Row S))
     → (held ≡ false → IsTrue (list_all (λ row. row.1) rows))
     → (if held then Some (map (λ row. row.1) rows) else None) ≡ None → IsTrue (list_all (λ row. row.1) rows)
 valid_by_held true rows h none = cc
 valid_by_held false rows h none = h refl
-
--- the last row, and the others
-last-push : {X : Type 0} (xs : List X) (x : X) → slice_get (xs ++ x ∷ []) (length (xs ++ x ∷ []) - 1) ≡ Some x
-last-push {X = X} xs x = ap (slice_get (xs ++ x ∷ [])) (let e : length (xs ++ x ∷ []) - 1 ≡ length xs =
-    omega (arith, length_push xs x) in e) ∙ at_end xs
-  where
-    at_end : (ys : List X) → slice_get (ys ++ x ∷ []) (length ys) ≡ Some x
-    at_end [] = refl
-    at_end (y ∷ ys) = at_end ys
-
-rest-push : {X : Type 0} (xs : List X) (x : X) → take (length (xs ++ x ∷ []) - 1) (xs ++ x ∷ []) ≡ xs
-rest-push xs x = take_at xs (x ∷ []) (length (xs ++ x ∷ []) - 1) (let e : length xs ≡ length (xs ++ x ∷ []) - 1 =
-    omega (arith, length_push xs x) in e)
 
 -- ---- slots of columns
 
@@ -158,10 +138,8 @@ appended-items shown default column (x ∷ items) =
 
 pub appended-values : {A S : Type 0} (default : S) (column : ColumnWith A S) (values : List S)
     → append_slots default column (map Some values) ≡ append_values column values
-appended-values default column [] = ap (λ rows. record column { rows = rows }) (sym (append-nil column.rows))
-appended-values default column (x ∷ values) =
-    appended-values default (append_slot default column (Some x)) values
-    ∙ ap (λ rows. record column { rows = rows }) (append_assoc column.rows ((x, true) ∷ []) (rows_of values None))
+appended-values default column values = appended-items (λ x. x) default column values
+    ∙ ap (append_values column) (map-id values)
 
 pub appended-masked : {A S : Type 0} (default : S) (column : ColumnWith A S) (n : ℕ)
     → append_slots default (record column { held = true }) (replicate n None)
@@ -177,10 +155,6 @@ pub appended-nulls : {A S : Type 0} (default : S) (column : ColumnWith A S) (n :
     → append_slots default column (replicate n None) ≡ append_nulls column (replicate n default)
 appended-nulls default column zero some = let none : ⊥ = omega (arith, some) in absurd none
 appended-nulls default column (suc n) some = appended-masked default column (suc n)
-
-pub all-bare : {S : Type 0} (values : List S) → IsTrue (list_all (λ row. row.1) (rows_of values None))
-all-bare [] = refl
-all-bare (x ∷ values) = all-bare values
 
 pub needless-bare : {A S : Type 0} (column : ColumnWith A S) → IsColumn column → column.held ≡ false
     → without_needless_mask column ≡ column

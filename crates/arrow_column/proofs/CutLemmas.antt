@@ -2,11 +2,11 @@
 use Rattle.std.proofs.Common.{◌≡◌, ℕ, Bool, List, ◌++◌, length, take, drop, Option, option_map, refl, sym, ap}
 use Rattle.std.proofs.Common.{ap₂, ◌∙◌, arith}
 use Rattle.arrow_types.specs.Types.{LogicalType}
+use Rattle.arrow_types.proofs.CallerLemmas.{length-cut, map-piece}
 use Rattle.arrow_memory.specs.Rows.{FitsMask, Row}
 use Rattle.arrow_column.specs.Column.{ColumnWith, FitsCut, column_with, cut_with, joined, stored_values}
 use Rattle.arrow_column.specs.Masks.{joined_mask}
 use Rattle.arrow_column.proofs.RowLemmas.{cut-column, joined-column, length-rows, stored-column}
-use Rattle.arrow_column.proofs.SlotLemmas.{length-cut, map-piece}
 
 -- the parts of a column, and of another of which n rows from place a on are cut
 module _ {A B S : Type 0} (around : B → List S → ℕ → ℕ → B) (t u : LogicalType) (o : A) (q : B)

@@ -1,9 +1,9 @@
 -- Lemmas about the marks of some consecutive slots.
 use Rattle.std.proofs.Common.{◌≡◌, ℕ, ◌-◌, Bool, List, map, take, drop, Option, Some, None, option_map, sym}
 use Rattle.std.proofs.Common.{ap, ap₂, subst, ◌∙◌, min, length-take, length-drop}
+use Rattle.arrow_types.proofs.CallerLemmas.{map-piece}
 use Rattle.arrow_memory.specs.Rows.{FitsMask, Row, rows_of, slot}
 use Rattle.arrow_column.proofs.RowLemmas.{cut-rows, stored-rows}
-use Rattle.arrow_column.proofs.SlotLemmas.{map-piece}
 
 -- as many marks as values, of a cut
 piece-fits : {S : Type 0} (values : List S) (mask : Option (List Bool)) (a n : ℕ) → FitsMask values mask

@@ -1,25 +1,22 @@
 -- Lemmas about the rows that stored values and a mask make.
 use Rattle.std.proofs.Common.{length-append, ◌≡◌, ℕ, zero, suc, ◌+◌, ◌-◌, ◌<◌, Bool, true, false, not, ◌&&◌, ◌||◌}
-use Rattle.std.proofs.Common.{length-take, length-drop, cond, IsTrue, if◌then◌else◌, List, [], ◌∷◌, ◌++◌, length}
+use Rattle.std.proofs.Common.{length-take, length-drop, IsTrue, if◌then◌else◌, List, [], ◌∷◌, ◌++◌, length}
 use Rattle.std.proofs.Common.{map, take, drop, min, replicate, count_by, slice_get, slice_set, Option, Some, None}
-use Rattle.std.proofs.Common.{Result, Ok, Err, OnOk, option_map, option_and_then, IfSome, unwrap_or, is_some}
-use Rattle.std.proofs.Common.{IfNone, refl, sym, ap, ap₂, ◌∙◌, zero-add, arith}
+use Rattle.std.proofs.Common.{MatchOption, option_map, option_and_then, IfSome, unwrap_or, is_some, refl, sym, ap, ap₂, ◌∙◌}
+use Rattle.std.proofs.Common.{arith}
 use Rattle.std.specs.List.{zip, list_all}
 use Rattle.std.proofs.lemmas.Bool.{true≢false}
-use Rattle.std.proofs.lemmas.List.{length-map, map-append, length_push, take_at}
-use Rattle.std.proofs.lemmas.Slice.Zip.{length-zip}
-use Rattle.std.proofs.lemmas.List.Sums.{sum_by-cons}
+use Rattle.std.proofs.Math.Bool.{or-false, or-true}
+use Rattle.std.proofs.Math.Nat.{suc_inj}
+use Rattle.std.proofs.lemmas.List.{length-map, length-replicate, map-append, length_push, take_at}
+use Rattle.std.proofs.lemmas.Slice.Zip.{firsts-zip, length-zip, seconds-zip}
 use Rattle.arrow_types.specs.Types.{LogicalType}
+use Rattle.arrow_types.proofs.CallerLemmas.{is_some-option_map, no-clear, set-mark, zip-drop, zip-take}
 use Rattle.arrow_memory.specs.Rows.{Row, FitsMask, slot, rows_of}
-use Rattle.arrow_column.specs.Masks.{joined_mask}
-use Rattle.arrow_column.specs.Column.{ColumnWith, column_with, cut_with, append_nulls, append_slot, append_slots}
-use Rattle.arrow_column.specs.Column.{append_values, with_slot, with_stored, joined, slot_overflows, slots_fit}
-use Rattle.arrow_column.specs.Column.{stored_values, without_last}
-use Rattle.arrow_column.specs.Masks.{mask_with_nulls}
+use Rattle.arrow_column.specs.Column.{ColumnWith, column_with, cut_with, append_nulls, append_values, with_slot}
+use Rattle.arrow_column.specs.Column.{with_stored, joined, stored_values, without_last}
+use Rattle.arrow_column.specs.Masks.{joined_mask, mask_with_nulls}
 use Rattle.arrow_memory.specs.MarkWrites.{TakesLastMark}
-
-down : (m n : ℕ) → suc m ≡ suc n → m ≡ n
-down m n e = omega arith
 
 pub length-rows : {S : Type 0} (values : List S) (mask : Option (List Bool)) → FitsMask values mask
     → length (rows_of values mask) ≡ length values
@@ -32,56 +29,46 @@ stored-all : {S : Type 0} (values : List S) → map (λ (row : Row S). row.0) (m
 stored-all [] = refl
 stored-all (v ∷ values) = ap (λ rest. v ∷ rest) (stored-all values)
 
-stored-zip : {S : Type 0} (values : List S) (marks : List Bool) → length marks ≡ length values
-    → map (λ (row : Row S). row.0) (zip values marks) ≡ values
-stored-zip [] marks e = refl
-stored-zip (v ∷ values) [] e = cc
-stored-zip (v ∷ values) (m ∷ marks) e = ap (λ rest. v ∷ rest) (stored-zip values marks (down _ _ e))
-
 -- the stored values of the rows
 pub stored-rows : {S : Type 0} (values : List S) (mask : Option (List Bool)) → FitsMask values mask
     → map (λ (row : Row S). row.0) (rows_of values mask) ≡ values
 stored-rows values None fits = stored-all values
-stored-rows values (Some marks) fits = stored-zip values marks fits
-
-pub marks-zip : {S : Type 0} (values : List S) (marks : List Bool) → length marks ≡ length values
-    → map (λ (row : Row S). row.1) (zip values marks) ≡ marks
-marks-zip [] [] e = refl
-marks-zip [] (m ∷ marks) e = cc
-marks-zip (v ∷ values) [] e = refl
-marks-zip (v ∷ values) (m ∷ marks) e = ap (λ rest. m ∷ rest) (marks-zip values marks (down _ _ e))
+stored-rows values (Some marks) fits = firsts-zip values marks fits
 
 pub marks-all : {S : Type 0} (values : List S) → map (λ (row : Row S). row.1) (map (λ value. (value, true)) values)
     ≡ replicate (length values) true
 marks-all [] = refl
 marks-all (v ∷ values) = ap (λ rest. true ∷ rest) (marks-all values)
 
-pub valid-all : {S : Type 0} (values : List S)
-    → list_all (λ (row : Row S). row.1) (map (λ value. (value, true)) values) ≡ true
-valid-all [] = refl
-valid-all (v ∷ values) = valid-all values
+pub all-bare : {S : Type 0} (values : List S) → IsTrue (list_all (λ (row : Row S). row.1) (rows_of values None))
+all-bare [] = refl
+all-bare (v ∷ values) = all-bare values
 
 -- the mask of the rows
 pub mask-rows : {S : Type 0} (values : List S) (mask : Option (List Bool)) → FitsMask values mask
     → mask ≡ (if is_some mask then Some (map (λ (row : Row S). row.1) (rows_of values mask)) else None)
 mask-rows values None fits = refl
-mask-rows values (Some marks) fits = ap Some (sym (marks-zip values marks fits))
+mask-rows values (Some marks) fits = ap Some (sym (seconds-zip values marks fits))
 
 -- without a mask every slot is valid
 pub valid-rows : {S : Type 0} (values : List S) (mask : Option (List Bool)) → is_some mask ≡ false
     → IsTrue (list_all (λ (row : Row S). row.1) (rows_of values mask))
-valid-rows values None none = valid-all values
+valid-rows values None none = all-bare values
 valid-rows values (Some marks) none = cc
 
-pub set-mark : (n i : ℕ) → i < n → slice_get (replicate n true) i ≡ Some true
-set-mark zero i within = absurd (omega arith)
-set-mark (suc n) zero within = refl
-set-mark (suc n) (suc i) within = set-mark n i (omega arith)
+-- a mark of the rows is that of the mask, or set without one
+pub mark-at : {S : Type 0} (values : List S) (mask : Option (List Bool)) (i : ℕ) (mark : Bool) → FitsMask values mask
+    → i < length values → MatchOption mask (mark ≡ true) (λ marks. slice_get marks i ≡ Some mark)
+    → slice_get (map (λ (row : Row S). row.1) (rows_of values mask)) i ≡ Some mark
+mark-at values None i mark fits low set = ap (λ ms. slice_get ms i) (marks-all values)
+    ∙ set-mark (length values) i low ∙ ap Some (sym set)
+mark-at values (Some marks) i mark fits low found = ap (λ ms. slice_get ms i) (seconds-zip values marks fits) ∙ found
 
-pub no-clear : (n : ℕ) → 0 ≡ count_by not (replicate n true)
-no-clear zero = refl
-no-clear (suc n) = no-clear n ∙ sym (sum_by-cons (λ m. cond (not m) 1 0) true (replicate n true)
-    ∙ zero-add (count_by not (replicate n true)))
+-- the clear marks of the rows are those of the mask
+pub clear-rows : {S : Type 0} (values : List S) (mask : Option (List Bool)) → FitsMask values mask
+    → count_by not (unwrap_or mask []) ≡ count_by not (map (λ (row : Row S). row.1) (rows_of values mask))
+clear-rows values None fits = no-clear (length values) ∙ ap (count_by not) (sym (marks-all values))
+clear-rows values (Some marks) fits = ap (count_by not) (sym (seconds-zip values marks fits))
 
 -- a piece of the rows
 take-all : {S : Type 0} (n : ℕ) (values : List S) → rows_of (take n values) None ≡ take n (rows_of values None)
@@ -94,35 +81,17 @@ drop-all zero values = refl
 drop-all (suc n) [] = refl
 drop-all (suc n) (v ∷ values) = drop-all n values
 
-take-zip : {S : Type 0} (n : ℕ) (values : List S) (marks : List Bool)
-    → zip (take n values) (take n marks) ≡ take n (zip values marks)
-take-zip zero values marks = refl
-take-zip (suc n) [] marks = refl
-take-zip (suc n) (v ∷ values) [] = refl
-take-zip (suc n) (v ∷ values) (m ∷ marks) = ap (λ rest. (v, m) ∷ rest) (take-zip n values marks)
-
-zip-nil : {S : Type 0} (values : List S) → zip values (let none : List Bool = [] in none) ≡ []
-zip-nil [] = refl
-zip-nil (v ∷ values) = refl
-
-drop-zip : {S : Type 0} (n : ℕ) (values : List S) (marks : List Bool)
-    → zip (drop n values) (drop n marks) ≡ drop n (zip values marks)
-drop-zip zero values marks = refl
-drop-zip (suc n) [] marks = refl
-drop-zip (suc n) (v ∷ values) [] = zip-nil (drop n values)
-drop-zip (suc n) (v ∷ values) (m ∷ marks) = drop-zip n values marks
-
 pub cut-rows : {S : Type 0} (a n : ℕ) (values : List S) (mask : Option (List Bool))
     → rows_of (take n (drop a values)) (option_map (λ marks. take n (drop a marks)) mask)
     ≡ take n (drop a (rows_of values mask))
 cut-rows a n values None = take-all n (drop a values) ∙ ap (take n) (drop-all a values)
-cut-rows a n values (Some marks) = take-zip n (drop a values) (drop a marks) ∙ ap (take n) (drop-zip a values marks)
+cut-rows a n values (Some marks) = zip-take n (drop a values) (drop a marks) ∙ ap (take n) (zip-drop a values marks)
 
 -- the first rows
 pub first-rows : {S : Type 0} (n : ℕ) (values : List S) (mask : Option (List Bool))
     → rows_of (take n values) (option_map (λ marks. take n marks) mask) ≡ take n (rows_of values mask)
 first-rows n values None = take-all n values
-first-rows n values (Some marks) = take-zip n values marks
+first-rows n values (Some marks) = zip-take n values marks
 
 pub first-fits : {S : Type 0} (n : ℕ) (values : List S) (mask : Option (List Bool)) → FitsMask values mask
     → FitsMask (take n values) (option_map (λ marks. take n marks) mask)
@@ -135,32 +104,29 @@ push-all : {S : Type 0} (values : List S) (v : S) → rows_of (values ++ v ∷ [
 push-all [] v = refl
 push-all (w ∷ values) v = ap (λ rest. (w, true) ∷ rest) (push-all values v)
 
-pub push-zip : {S : Type 0} (values : List S) (marks : List Bool) (v : S) (m : Bool) → length marks ≡ length values
-    → zip (values ++ v ∷ []) (marks ++ m ∷ []) ≡ zip values marks ++ (v, m) ∷ []
-push-zip [] [] v m e = refl
-push-zip [] (k ∷ marks) v m e = cc
-push-zip (w ∷ values) [] v m e = cc
-push-zip (w ∷ values) (k ∷ marks) v m e = ap (λ rest. (w, k) ∷ rest) (push-zip values marks v m (down _ _ e))
+zip-append : {S : Type 0} (values more : List S) (marks others : List Bool) → length marks ≡ length values
+    → zip (values ++ more) (marks ++ others) ≡ zip values marks ++ zip more others
+zip-append [] more [] others e = refl
+zip-append [] more (m ∷ marks) others e = cc
+zip-append (v ∷ values) more [] others e = cc
+zip-append (v ∷ values) more (m ∷ marks) others e =
+    ap (λ rest. (v, m) ∷ rest) (zip-append values more marks others (suc_inj e))
 
 pub push_valid-rows : {S : Type 0} (values : List S) (mask : Option (List Bool)) (v : S) → FitsMask values mask
     → rows_of (values ++ v ∷ []) (option_map (λ marks. marks ++ true ∷ []) mask) ≡ rows_of values mask ++ (v, true) ∷ []
 push_valid-rows values None v fits = push-all values v
-push_valid-rows values (Some marks) v fits = push-zip values marks v true fits
+push_valid-rows values (Some marks) v fits = zip-append values (v ∷ []) marks (true ∷ []) fits
 
 zip-replicate : {S : Type 0} (values : List S) → zip values (replicate (length values) true) ≡ rows_of values None
 zip-replicate [] = refl
 zip-replicate (v ∷ values) = ap (λ rest. (v, true) ∷ rest) (zip-replicate values)
 
-long-replicate : (n : ℕ) → length (replicate n true) ≡ n
-long-replicate zero = refl
-long-replicate (suc n) = ap suc (long-replicate n)
-
 pub push_null-rows : {S : Type 0} (values : List S) (mask : Option (List Bool)) (v : S) → FitsMask values mask
     → rows_of (values ++ v ∷ []) (Some (unwrap_or mask (replicate (length values) true) ++ false ∷ []))
     ≡ rows_of values mask ++ (v, false) ∷ []
-push_null-rows values None v fits = push-zip values (replicate (length values) true) v false
-    (long-replicate (length values)) ∙ ap (λ front. front ++ (v, false) ∷ []) (zip-replicate values)
-push_null-rows values (Some marks) v fits = push-zip values marks v false fits
+push_null-rows values None v fits = zip-append values (v ∷ []) (replicate (length values) true) (false ∷ [])
+    (length-replicate (length values) true) ∙ ap (λ front. front ++ (v, false) ∷ []) (zip-replicate values)
+push_null-rows values (Some marks) v fits = zip-append values (v ∷ []) marks (false ∷ []) fits
 
 -- as many marks as values, after one more of each
 pub push_valid-fits : {S : Type 0} (values : List S) (mask : Option (List Bool)) (v : S) → FitsMask values mask
@@ -171,7 +137,7 @@ push_valid-fits values (Some marks) v fits = length_push marks true ∙ ap (λ n
 pub push_null-fits : {S : Type 0} (values : List S) (mask : Option (List Bool)) (v : S) → FitsMask values mask
     → length (unwrap_or mask (replicate (length values) true) ++ false ∷ []) ≡ length (values ++ v ∷ [])
 push_null-fits values None v fits = length_push (replicate (length values) true) false
-    ∙ ap (λ n. n + 1) (long-replicate (length values)) ∙ sym (length_push values v)
+    ∙ ap (λ n. n + 1) (length-replicate (length values) true) ∙ sym (length_push values v)
 push_null-fits values (Some marks) v fits = length_push marks false ∙ ap (λ n. n + 1) fits ∙ sym (length_push values v)
 
 -- a mask that is kept only with a null
@@ -184,7 +150,7 @@ frozen-rows {S = S} values (Some marks) fits = by_all (list_all (λ mark. mark) 
         → list_all (λ mark. mark) marks ≡ true → rows_of values None ≡ zip values marks
     all-set [] marks e all = refl
     all-set (v ∷ values) [] e all = cc
-    all-set (v ∷ values) (true ∷ marks) e all = ap (λ rest. (v, true) ∷ rest) (all-set values marks (down _ _ e) all)
+    all-set (v ∷ values) (true ∷ marks) e all = ap (λ rest. (v, true) ∷ rest) (all-set values marks (suc_inj e) all)
     all-set (v ∷ values) (false ∷ marks) e all = cc
 
     by_all : (b : Bool) → list_all (λ mark. mark) marks ≡ b
@@ -197,30 +163,17 @@ valid-zip : {S : Type 0} (values : List S) (marks : List Bool) → length marks 
 valid-zip [] [] e = refl
 valid-zip [] (m ∷ marks) e = cc
 valid-zip (v ∷ values) [] e = refl
-valid-zip (v ∷ values) (m ∷ marks) e = ap (λ rest. m && rest) (valid-zip values marks (down _ _ e))
+valid-zip (v ∷ values) (m ∷ marks) e = ap (λ rest. m && rest) (valid-zip values marks (suc_inj e))
 
 pub frozen-held : {S : Type 0} (values : List S) (mask : Option (List Bool)) → FitsMask values mask
     → is_some (mask_with_nulls mask) ≡ not (list_all (λ (row : Row S). row.1) (rows_of values mask))
-frozen-held values None fits = ap not (sym (valid-all values))
+frozen-held values None fits = ap not (sym (all-bare values))
 frozen-held values (Some marks) fits = by_all (list_all (λ mark. mark) marks)
     ∙ ap not (sym (valid-zip values marks fits))
   where
     by_all : (b : Bool) → is_some (if b then None else Some marks) ≡ not b
     by_all true = refl
     by_all false = refl
-
--- no clear mark, and all marks set
-pub all-by_count : (marks : List Bool) → (count_by not marks ≡ 0 → list_all (λ mark. mark) marks ≡ true)
-    × ((count_by not marks ≡ 0 → ⊥) → list_all (λ mark. mark) marks ≡ false)
-all-by_count [] = (λ _. refl, λ h. absurd (h refl))
-all-by_count (true ∷ marks) =
-    let same : count_by not (true ∷ marks) ≡ count_by not marks = sum_by-cons (λ m. cond (not m) 1 0) true marks
-    ∙ zero-add (count_by not marks) in
-    (λ e. (all-by_count marks).0 (sym same ∙ e), λ h. (all-by_count marks).1 (λ e. h (same ∙ e)))
-all-by_count (false ∷ marks) =
-    let same : count_by not (false ∷ marks) ≡ 1 + count_by not marks =
-    sum_by-cons (λ m. cond (not m) 1 0) false marks in
-    (λ e. absurd (omega arith), λ h. refl)
 
 -- the last row, and the others
 pub last-push : {X : Type 0} (xs : List X) (x : X) → slice_get (xs ++ x ∷ []) (length (xs ++ x ∷ []) - 1) ≡ Some x
@@ -255,28 +208,7 @@ null-at (row ∷ rows) zero within f =
     ap Some (ap (λ b. if b then Some row.0 else None) mark)
 null-at (row ∷ rows) (suc i) within f = null-at rows i (omega arith) f
 
--- a row that is taken from the end
-pub pop-rows : {S : Type 0} (values : List S) (mask : Option (List Bool)) (v : S) (m : Bool) → FitsMask values mask
-    → IfNone mask (m ≡ true)
-    → rows_of (values ++ v ∷ []) (option_map (λ marks. marks ++ m ∷ []) mask) ≡ rows_of values mask ++ (v, m) ∷ []
-pop-rows values None v m fits valid = push-all values v ∙ ap (λ b. rows_of values None ++ (v, b) ∷ []) (sym valid)
-pop-rows values (Some marks) v m fits valid = push-zip values marks v m fits
-
-pub pop-fits : {S : Type 0} (values : List S) (mask : Option (List Bool)) (v : S) (m : Bool)
-    → FitsMask (values ++ v ∷ []) (option_map (λ marks. marks ++ m ∷ []) mask) → FitsMask values mask
-pop-fits values None v m fits = tt
-pop-fits values (Some marks) v m fits = omega (arith, fits, length_push marks m, length_push values v)
-
-pub pop-none : (mask : Option (List Bool)) (m : Bool)
-    → IfNone (option_map (λ (marks : List Bool). marks ++ m ∷ []) mask) (m ≡ true) → IfNone mask (m ≡ true)
-pop-none None m h = h
-pop-none (Some marks) m h = tt
-
 -- ---- columns of stored values and a mask
-
-pub held-map : (f : List Bool → List Bool) (mask : Option (List Bool)) → is_some (option_map f mask) ≡ is_some mask
-held-map f None = refl
-held-map f (Some marks) = refl
 
 -- columns with the same parts are the same
 pub same-column : {A S : Type 0} (t : LogicalType) (a b : A) (rows others : List (Row S)) (held holds : Bool)
@@ -296,7 +228,7 @@ cut-column around t o p values ws mask ns a n fits e f g =
     (take n (drop a (rows_of values mask))) (is_some ns) (is_some mask)
     (g ∙ ap (λ xs. around o xs a n) (sym (stored-rows values mask fits)))
     (ap₂ rows_of e f ∙ cut-rows a n values mask)
-    (ap is_some f ∙ held-map (λ marks. take n (drop a marks)) mask)
+    (ap is_some f ∙ is_some-option_map (λ marks. take n (drop a marks)) mask)
 
 -- a column without its last row
 pub shorter-column : {A S : Type 0} (t : LogicalType) (o p : A) (values ws : List S) (mask ns : Option (List Bool))
@@ -308,7 +240,7 @@ shorter-column t o p values ws mask ns n fits last e f g =
     same-column t p o (rows_of ws ns) (take (length (rows_of values mask) - 1) (rows_of values mask)) (is_some ns)
     (is_some mask) g
     (ap₂ rows_of e f ∙ first-rows n values mask ∙ ap (λ k. take k (rows_of values mask)) same)
-    (ap is_some f ∙ held-map (λ marks. take n marks) mask)
+    (ap is_some f ∙ is_some-option_map (λ marks. take n marks) mask)
 
 -- the last mark was taken from the mask: the other marks, and that mark
 taken-mask : (mask ns : Option (List Bool)) (m : Bool) (n : ℕ) → IfSome mask (λ marks. length marks ≡ n)
@@ -339,7 +271,7 @@ popped-mark values None ns m fits some takes =
 popped-mark values (Some marks) None m fits some takes = absurd takes
 popped-mark values (Some marks) (Some rest) m fits some takes =
     let long : length (zip values marks) ≡ length marks = length-rows values (Some marks) fits ∙ sym fits in
-    ap₂ (λ ms k. slice_get ms (k - 1)) (marks-zip values marks fits) long
+    ap₂ (λ ms k. slice_get ms (k - 1)) (seconds-zip values marks fits) long
     ∙ ap (λ ms. slice_get ms (length ms - 1)) takes ∙ last-push rest m
 
 -- what a row shows
@@ -377,90 +309,7 @@ pub stored-column : {A S : Type 0} (t : LogicalType) (o : A) (values : List S) (
     → stored_values column ≡ values
 stored-column t o values mask column fits e = ap stored_values (sym e) ∙ stored-rows values mask fits
 
--- ---- slots that are appended one after the other
-
-pub appended-more : {A S X : Type 0} (shown : X → S) (default : S) (column : ColumnWith A S) (xs : List (Option X))
-    (x : Option X)
-    → append_slots default column (map (option_map shown) (xs ++ x ∷ []))
-    ≡ append_slot default (append_slots default column (map (option_map shown) xs)) (option_map shown x)
-appended-more shown default column [] x = refl
-appended-more shown default column (y ∷ xs) x =
-    appended-more shown default (append_slot default column (option_map shown y)) xs x
-
-pub fit-more : {A S X : Type 0} (overflows : A → List S → X → Bool) (shown : X
-    → S) (default : S) (column : ColumnWith A S) (xs : List (Option X)) (x : Option X)
-    → slots_fit overflows shown default column xs ≡ true
-    → slot_overflows overflows (append_slots default column (map (option_map shown) xs)) x ≡ false
-    → slots_fit overflows shown default column (xs ++ x ∷ []) ≡ true
-fit-more overflows shown default column [] x fit last = ap (λ b. not b && true) last
-fit-more overflows shown default column (y ∷ xs) x fit last =
-    let first = both-left (not (slot_overflows overflows column y))
-    (slots_fit overflows shown default (append_slot default column (option_map shown y)) xs) fit in
-    let others = both-right (not (slot_overflows overflows column y))
-    (slots_fit overflows shown default (append_slot default column (option_map shown y)) xs) fit in
-    ap₂ (λ a b. a && b) first (fit-more overflows shown default (append_slot default column (option_map shown y)) xs
-    x others last)
-  where
-    both-left : (a b : Bool) → (a && b) ≡ true → a ≡ true
-    both-left true b e = refl
-    both-left false b e = e
-
-    both-right : (a b : Bool) → (a && b) ≡ true → b ≡ true
-    both-right true b e = e
-    both-right false b e = cc
-
-pub appended-to : {A S X : Type 0} (shown : X → S) (default : S) (column : ColumnWith A S) (xs ys : List (Option X))
-    (x : Option X) → ys ≡ xs ++ x ∷ []
-    → append_slots default column (map (option_map shown) ys)
-    ≡ append_slot default (append_slots default column (map (option_map shown) xs)) (option_map shown x)
-appended-to shown default column xs ys x e = ap (λ zs. append_slots default column (map (option_map shown) zs)) e
-    ∙ appended-more shown default column xs x
-
-pub fit-to : {A S X : Type 0} (overflows : A → List S → X → Bool) (shown : X
-    → S) (default : S) (column : ColumnWith A S) (xs ys : List (Option X)) (x : Option X) → ys ≡ xs ++ x ∷ []
-    → slots_fit overflows shown default column xs ≡ true
-    → slot_overflows overflows (append_slots default column (map (option_map shown) xs)) x ≡ false
-    → slots_fit overflows shown default column ys ≡ true
-fit-to overflows shown default column xs ys x e fit last = ap (slots_fit overflows shown default column) e
-    ∙ fit-more overflows shown default column xs x fit last
-
--- values one after the other, each of which is a valid slot
-valid-shown : {X S : Type 0} (shown : X → S) (xs : List X)
-    → map (λ x. Some (shown x)) xs ≡ map (option_map shown) (map Some xs)
-valid-shown shown [] = refl
-valid-shown shown (x ∷ xs) = ap (λ rest. Some (shown x) ∷ rest) (valid-shown shown xs)
-
-valid-push : {X : Type 0} (xs : List X) (x : X) → map Some (xs ++ x ∷ []) ≡ map Some xs ++ Some x ∷ []
-valid-push [] x = refl
-valid-push (y ∷ xs) x = ap (λ rest. Some y ∷ rest) (valid-push xs x)
-
-pub values-more : {A S X : Type 0} (shown : X → S) (default : S) (column : ColumnWith A S) (xs : List X) (x : X)
-    → append_slots default column (map (λ y. Some (shown y)) (xs ++ x ∷ []))
-    ≡ append_slot default (append_slots default column (map (λ y. Some (shown y)) xs)) (Some (shown x))
-values-more shown default column [] x = refl
-values-more shown default column (y ∷ xs) x =
-    values-more shown default (append_slot default column (Some (shown y))) xs x
-
-pub values-fit : {A S X : Type 0} (overflows : A → List S → X → Bool) (shown : X
-    → S) (default : S) (column : ColumnWith A S) (xs : List X) (x : X)
-    → slots_fit overflows shown default column (map Some xs) ≡ true
-    → slot_overflows overflows (append_slots default column (map (λ y. Some (shown y)) xs)) (Some x) ≡ false
-    → slots_fit overflows shown default column (map Some (xs ++ x ∷ [])) ≡ true
-values-fit overflows shown default column xs x fit last =
-    ap (slots_fit overflows shown default column) (valid-push xs x)
-    ∙ fit-more overflows shown default column (map Some xs) (Some x) fit
-    (ap (λ slots. slot_overflows overflows (append_slots default column slots) (Some x))
-    (sym (valid-shown shown xs)) ∙ last)
-
 -- ---- many rows more
-
-zip-append : {S : Type 0} (values more : List S) (marks others : List Bool) → length marks ≡ length values
-    → zip (values ++ more) (marks ++ others) ≡ zip values marks ++ zip more others
-zip-append [] more [] others e = refl
-zip-append [] more (m ∷ marks) others e = cc
-zip-append (v ∷ values) more [] others e = cc
-zip-append (v ∷ values) more (m ∷ marks) others e =
-    ap (λ rest. (v, m) ∷ rest) (zip-append values more marks others (down _ _ e))
 
 many-all : {S : Type 0} (values more : List S)
     → rows_of (values ++ more) None ≡ rows_of values None ++ rows_of more None
@@ -477,7 +326,7 @@ join-rows values more None None fits = many-all values more
 join-rows values more (Some marks) None fits = zip-append values more marks (replicate (length more) true) fits
     ∙ ap (λ rest. zip values marks ++ rest) (zip-replicate more)
 join-rows values more None (Some others) fits = zip-append values more (replicate (length values) true) others
-    (long-replicate (length values)) ∙ ap (λ front. front ++ zip more others) (zip-replicate values)
+    (length-replicate (length values) true) ∙ ap (λ front. front ++ zip more others) (zip-replicate values)
 join-rows values more (Some marks) (Some others) fits = zip-append values more marks others fits
 
 pub join-held : {S : Type 0} (values more : List S) (mask other : Option (List Bool))
@@ -487,59 +336,29 @@ join-held values more (Some marks) None = refl
 join-held values more None (Some others) = refl
 join-held values more (Some marks) (Some others) = refl
 
-long-clear : (n : ℕ) (b : Bool) → length (replicate n b) ≡ n
-long-clear zero b = refl
-long-clear (suc n) b = ap suc (long-clear n b)
-
-both-long : (marks others : List Bool) (m n : ℕ) → length marks ≡ m → length others ≡ n
-    → length (marks ++ others) ≡ m + n
-both-long marks others m n e f = length-append marks others ∙ ap₂ (λ a b. a + b) e f
-
-pub join-fits : {S : Type 0} (values more : List S) (mask other : Option (List Bool)) → FitsMask values mask
-    → FitsMask more other → FitsMask (values ++ more) (joined_mask mask (length values) other (length more))
-join-fits values more None None fits matches = tt
-join-fits values more (Some marks) None fits matches = both-long marks (replicate (length more) true) _ _ fits
-    (long-replicate (length more)) ∙ sym (length-append values more)
-join-fits values more None (Some others) fits matches =
-    both-long (replicate (length values) true) others _ _ (long-replicate (length values)) matches
-    ∙ sym (length-append values more)
-join-fits values more (Some marks) (Some others) fits matches = both-long marks others _ _ fits matches
-    ∙ sym (length-append values more)
-
 pub grown-column : {A S : Type 0} (t : LogicalType) (o p : A) (values ws more : List S)
-    (mask ns : Option (List Bool)) (n : ℕ) → FitsMask values mask → ws ≡ values ++ more → n ≡ length more
-    → ns ≡ option_map (λ marks. marks ++ replicate n true) mask → p ≡ o
+    (mask ns : Option (List Bool)) (m n : ℕ) → FitsMask values mask → ws ≡ values ++ more → m ≡ length values
+    → n ≡ length more → ns ≡ joined_mask mask m None n → p ≡ o
     → column_with t p ws ns ≡ append_values (column_with t o values mask) more
-grown-column t o p values ws more mask ns n fits e f g h =
+grown-column t o p values ws more mask ns m n fits e d f g h =
+    let same : ns ≡ joined_mask mask (length values) None (length more) = g
+    ∙ ap₂ (λ j k. joined_mask mask j None k) d f in
     same-column t p o (rows_of ws ns) (rows_of values mask ++ rows_of more None) (is_some ns) (is_some mask) h
-    (ap₂ rows_of e (g ∙ ap (λ k. option_map (λ marks. marks ++ replicate k true) mask) f) ∙ whole mask fits)
-    (ap is_some g ∙ held-map (λ marks. marks ++ replicate n true) mask)
-  where
-    whole : (mask : Option (List Bool)) → FitsMask values mask
-        → rows_of (values ++ more) (option_map (λ marks. marks ++ replicate (length more) true) mask)
-        ≡ rows_of values mask ++ rows_of more None
-    whole None fits = many-all values more
-    whole (Some marks) fits = join-rows values more (Some marks) None fits
-
-pub nulled-rows : {S : Type 0} (values more : List S) (mask : Option (List Bool)) → FitsMask values mask
-    → rows_of (values ++ more) (Some (unwrap_or mask (replicate (length values) true)
-    ++ replicate (length more) false)) ≡ rows_of values mask ++ map (λ v. (v, false)) more
-nulled-rows values more None fits = zip-append values more (replicate (length values) true)
-    (replicate (length more) false) (long-replicate (length values))
-    ∙ ap₂ (λ front back. front ++ back) (zip-replicate values) (zip-clear more)
-nulled-rows values more (Some marks) fits = zip-append values more marks (replicate (length more) false) fits
-    ∙ ap (λ back. zip values marks ++ back) (zip-clear more)
+    (ap₂ rows_of e same ∙ join-rows values more mask None fits)
+    (ap is_some same ∙ join-held values more mask None ∙ or-false (is_some mask))
 
 pub nulled-column : {A S : Type 0} (t : LogicalType) (o p : A) (values ws more : List S)
     (mask ns : Option (List Bool)) (m n : ℕ) → FitsMask values mask → ws ≡ values ++ more → m ≡ length values
-    → n ≡ length more
-    → ns ≡ Some (unwrap_or mask (replicate m true) ++ replicate n false) → p ≡ o
+    → n ≡ length more → ns ≡ joined_mask mask m (Some (replicate n false)) n → p ≡ o
     → column_with t p ws ns ≡ append_nulls (column_with t o values mask) more
 nulled-column t o p values ws more mask ns m n fits e d f g h =
+    let clear = Some (replicate (length more) false) in
+    let same : ns ≡ joined_mask mask (length values) clear (length more) = g
+    ∙ ap₂ (λ j k. joined_mask mask j (Some (replicate k false)) k) d f in
     same-column t p o (rows_of ws ns) (rows_of values mask ++ map (λ v. (v, false)) more) (is_some ns) true h
-    (ap₂ rows_of e (g ∙ ap₂ (λ j k. Some (unwrap_or mask (replicate j true) ++ replicate k false)) d f)
-    ∙ nulled-rows values more mask fits)
-    (ap is_some g)
+    (ap₂ rows_of e same ∙ join-rows values more mask clear fits
+    ∙ ap (λ back. rows_of values mask ++ back) (zip-clear more))
+    (ap is_some same ∙ join-held values more mask clear ∙ or-true (is_some mask))
 
 pub joined-column : {A B S : Type 0} (t u : LogicalType) (o p : A) (q : B) (values ws more : List S)
     (mask ns other : Option (List Bool)) (m n : ℕ) → FitsMask values mask → ws ≡ values ++ more → m ≡ length values
@@ -572,7 +391,7 @@ zip-marks : {S : Type 0} (values ws : List S) (mask : Option (List Bool)) → Fi
     → length ws ≡ length values → rows_of ws mask ≡ zip ws (map (λ (row : Row S). row.1) (rows_of values mask))
 zip-marks values ws None fits long = sym (zip-replicate ws) ∙ ap (zip ws) (ap (λ n. replicate n true) long
     ∙ sym (marks-all values))
-zip-marks values ws (Some marks) fits long = ap (zip ws) (sym (marks-zip values marks fits))
+zip-marks values ws (Some marks) fits long = ap (zip ws) (sym (seconds-zip values marks fits))
 
 pub replaced-column : {A S : Type 0} (t : LogicalType) (o p : A) (values ws : List S) (mask : Option (List Bool))
     (column : ColumnWith A S) → FitsMask values mask → column_with t o values mask ≡ column
@@ -583,13 +402,6 @@ replaced-column t o p values ws mask column fits e f long =
     ap₂ (λ a rows. record { data_type = t; around = a; rows = rows; held = is_some mask }) (f
     ∙ ap (λ whole. whole.around) (sym e)) (zip-marks values ws mask fits same)
     ∙ ap (λ whole. with_stored whole ws) e
-
-pub replaced-fits : {A S : Type 0} (t : LogicalType) (o : A) (values ws : List S) (mask : Option (List Bool))
-    (column : ColumnWith A S) → FitsMask values mask → column_with t o values mask ≡ column
-    → length ws ≡ length column.rows → FitsMask ws mask
-replaced-fits t o values ws None column fits e long = tt
-replaced-fits t o values ws (Some marks) column fits e long = fits
-    ∙ sym (long ∙ ap (λ whole. length whole.rows) (sym e) ∙ length-rows values (Some marks) fits)
 
 set-all : {S : Type 0} (values : List S) (i : ℕ) (v : S)
     → rows_of (slice_set values i v) None ≡ slice_set (rows_of values None) i (v, true)
@@ -625,7 +437,7 @@ pub valid-set : {A S : Type 0} (d : S) (t : LogicalType) (o p : A) (values ws : 
 valid-set d t o p values ws mask ns i v e f h =
     same-column t p o (rows_of ws ns) (slice_set (rows_of values mask) i (v, true)) (is_some ns) (is_some mask) h
     (ap₂ rows_of e f ∙ set-valid-rows values mask i v)
-    (ap is_some f ∙ held-map (λ marks. slice_set marks i true) mask)
+    (ap is_some f ∙ is_some-option_map (λ marks. slice_set marks i true) mask)
 
 pub null-set : {A S : Type 0} (d : S) (t : LogicalType) (o p : A) (values ws : List S)
     (mask ns : Option (List Bool)) (n i : ℕ) → n ≡ length values
@@ -643,26 +455,21 @@ pub ruleset row_steps = (
   stored-rows,
   mask-rows,
   valid-rows,
-  marks-zip,
+  seconds-zip,
   marks-all,
   set-mark,
   no-clear,
   cut-rows,
-  held-map,
+  is_some-option_map,
   push_valid-rows,
   push_null-rows,
   push_valid-fits,
   push_null-fits,
   frozen-rows,
   frozen-held,
-  appended-more,
-  fit-more,
+  clear-rows,
+  mark-at,
 )
-
--- what follows from an answer's clause
-pub on-ok : {X E P Q : Type 0} (answer : Result X E) → (P → Q) → OnOk answer P → OnOk answer Q
-on-ok (Ok x) f p = f p
-on-ok (Err e) f p = tt
 
 -- a valid row behind those of a column without a mask
 pub unmasked-push : {A S : Type 0} (t : LogicalType) (around then_around : A) (values more : List S)

@@ -1,13 +1,13 @@
--- Lemmas about what the slots of appended rows and of cuts show.
-use Rattle.std.proofs.Common.{◌≡◌, ℕ, zero, suc, ◌+◌, ◌-◌, ◌<◌, ◌≤◌, Bool, true, false, if◌then◌else◌, List, [], ◌∷◌}
-use Rattle.std.proofs.Common.{◌++◌, length, map, take, drop, replicate, slice_get, Option, Some, None}
-use Rattle.std.proofs.Common.{refl, sym, ap, ◌∙◌, arith, append_assoc, zero-add}
-use Rattle.std.proofs.lemmas.List.{map-append, append-nil, length-map, take-map, drop-map}
+-- Lemmas about what the slots of rows show.
+use Rattle.std.proofs.Common.{◌≡◌, ℕ, zero, suc, ◌<◌, Bool, true, false, if◌then◌else◌, List, [], ◌∷◌}
+use Rattle.std.proofs.Common.{◌++◌, length, map, replicate, slice_get, Option, Some, None}
+use Rattle.std.proofs.Common.{refl, sym, ap, ◌∙◌, arith, append_assoc}
+use Rattle.std.proofs.lemmas.List.{map-append, append-nil, length-map}
 use Rattle.std.proofs.lemmas.Option.{slice_get_within}
-use Rattle.arrow_memory.proofs.CallerLemmas.{length-piece}
+use Rattle.std.proofs.lemmas.Slice.Zip.{seconds-zip}
 use Rattle.arrow_memory.specs.Rows.{FitsMask, Row, rows_of, slot}
 use Rattle.arrow_column.specs.Column.{ColumnWith, append_slot, append_slots, slots_of}
-use Rattle.arrow_column.proofs.RowLemmas.{marks-all, marks-zip, null-at, slot-at, stored-rows}
+use Rattle.arrow_column.proofs.RowLemmas.{marks-all, null-at, slot-at, stored-rows}
 
 -- ---- what is appended
 
@@ -50,7 +50,7 @@ pub held-marks : {S : Type 0} (values : List S) (mask : Option (List Bool)) (mar
 held-marks values None marks fits held = cc
 held-marks values (Some ms) marks fits held =
     let same : ms ≡ marks = cc in
-    marks-zip values ms fits ∙ same
+    seconds-zip values ms fits ∙ same
 
 pub bare-marks : {S : Type 0} (values : List S) (mask : Option (List Bool)) → mask ≡ None
     → map (λ (row : Row S). row.1) (rows_of values mask) ≡ replicate (length values) true
@@ -80,33 +80,3 @@ pub bare-shown : {S : Type 0} (values : List S) (mask : Option (List Bool)) → 
     → map slot (rows_of values mask) ≡ map Some values
 bare-shown values None bare = bare-slots values
 bare-shown values (Some ms) bare = cc
-
--- ---- cuts
-
-pub get-take : {X : Type 0} (xs : List X) (n i : ℕ) → i < n → slice_get (take n xs) i ≡ slice_get xs i
-get-take xs zero i low = absurd (omega (arith, low))
-get-take [] (suc n) i low = refl
-get-take (x ∷ xs) (suc n) zero low = refl
-get-take (x ∷ xs) (suc n) (suc i) low = get-take xs n i (omega (arith, low))
-
-pub get-drop : {X : Type 0} (xs : List X) (a i : ℕ) → slice_get (drop a xs) i ≡ slice_get xs (a + i)
-get-drop xs zero i = ap (slice_get xs) (sym (zero-add i))
-get-drop [] (suc a) i = refl
-get-drop (x ∷ xs) (suc a) i =
-    let next : suc (a + i) ≡ suc a + i = omega arith in
-    get-drop xs a i ∙ ap (λ k. slice_get (x ∷ xs) k) next
-
--- what is made of each of a cut
-pub map-piece : {X Y : Type 0} (f : X → Y) (xs : List X) (a n : ℕ)
-    → map f (take n (drop a xs)) ≡ take n (drop a (map f xs))
-map-piece f xs a n = sym (ap (take n) (drop-map f a xs) ∙ take-map f n (drop a xs))
-
-pub get-piece : {X Y : Type 0} (f : X → Y) (xs : List X) (a n i : ℕ) → i < n
-    → slice_get (map f (take n (drop a xs))) i ≡ slice_get (map f xs) (a + i)
-get-piece f xs a n i low =
-    ap (λ ys. slice_get ys i) (map-piece f xs a n) ∙ get-take (drop a (map f xs)) n i low ∙ get-drop (map f xs) a i
-
--- a cut that fits has as many
-pub length-cut : {X : Type 0} (xs : List X) (a n : ℕ) → a ≤ length xs → n ≤ length xs - a
-    → length (take n (drop a xs)) ≡ n
-length-cut xs a n low wide = length-piece xs a n (omega (arith, low, wide))

@@ -1,13 +1,12 @@
--- Slots and items that are appended one after the other, where any growth may fail: `overflows` says which item
--- is more than can be counted, `shown` what is stored of an item, and `default` what a null stores.
+-- Slots that are appended one after the other, where any growth may fail: `overflows` says which item is more than can
+-- be counted, `shown` what is stored of an item, and `default` what a null stores. Items are appended as valid slots.
 use Rattle.std.specs.Prelude.{◌≡◌, Bool, true, List, ◌∷◌, ◌++◌, map, Option, None, Some, option_map}
 use Rattle.std.specs.Iterator.{Drains, YieldsThen}
 use Rattle.arrow_types.specs.Types.{LogicalType}
 use Rattle.arrow_types.specs.declared.error.Error.{Error}
 use Rattle.arrow_types.specs.declared.error.Error.TheVariants as error
 use Rattle.arrow_column.specs.Column.{Column, ColumnWith, append_slots, array_of_slots, column_of_parts, refused_growth}
-use Rattle.arrow_column.specs.Column.{slot_overflows, slots_fit}
-use Rattle.arrow_column.specs.Column.{stored_values, without_needless_mask}
+use Rattle.arrow_column.specs.Column.{slot_overflows, slots_fit, without_needless_mask}
 
 module _ {A S X : Type 0} (overflows : A → List S → X → Bool) (shown : X → S) (default : S) where
   -- all of these can be counted, and are appended
@@ -15,20 +14,11 @@ module _ {A S X : Type 0} (overflows : A → List S → X → Bool) (shown : X �
   AppendsSlots old slots new = (slots_fit overflows shown default old slots ≡ true)
       × (new ≡ append_slots default old (map (option_map shown) slots))
 
-  abbrev pub AppendsItems : ColumnWith A S → List X → ColumnWith A S → Type 0
-  AppendsItems old items new = (slots_fit overflows shown default old (map Some items) ≡ true)
-      × (new ≡ append_slots default old (map (λ x. Some (shown x)) items))
-
   -- an array of the slots of a column followed by these, which holds a mask exactly if a slot is null
   abbrev pub FreezesSlots : ColumnWith A S → List (Option X) → ColumnWith A S → Type 0
   FreezesSlots old slots array =
       (slots_fit overflows shown default old slots ≡ true)
       × (array ≡ without_needless_mask (append_slots default old (map (option_map shown) slots)))
-
-  abbrev pub FreezesItems : ColumnWith A S → List X → ColumnWith A S → Type 0
-  FreezesItems old items array =
-      (slots_fit overflows shown default old (map Some items) ≡ true)
-      × (array ≡ without_needless_mask (append_slots default old (map (λ x. Some (shown x)) items)))
 
   -- all before the last are appended, and that is refused: it can't be counted, or else an allocation fails
   abbrev pub StopsAtSlot : ColumnWith A S → List (Option X) → Option X → ColumnWith A S → Error → Type 0
@@ -37,41 +27,31 @@ module _ {A S X : Type 0} (overflows : A → List S → X → Bool) (shown : X �
       × (new ≡ append_slots default old (map (option_map shown) begun))
       × (e ≡ refused_growth (slot_overflows overflows new last))
 
-  abbrev pub StopsAtItem : ColumnWith A S → List X → X → ColumnWith A S → Error → Type 0
-  StopsAtItem old begun last new e =
-      (slots_fit overflows shown default old (map Some begun) ≡ true)
-      × (new ≡ append_slots default old (map (λ x. Some (shown x)) begun))
-      × (e ≡ refused_growth (overflows new.around (stored_values new) last))
-
-  -- all slots of a list before one of them are appended, and that one is refused; items likewise
+  -- all slots of a list before one of them are appended, and that one is refused
   abbrev pub StopsAmongSlots : List (Option X) → ColumnWith A S → ColumnWith A S → Error → Type 0
   StopsAmongSlots slots old new e = (begun rest : List (Option X)) × (last : Option X)
       × (slots ≡ begun ++ last ∷ rest) × StopsAtSlot old begun last new e
 
-  abbrev pub StopsAmongItems : List X → ColumnWith A S → ColumnWith A S → Error → Type 0
-  StopsAmongItems items old new e = (begun rest : List X) × (last : X) × (items ≡ begun ++ last ∷ rest)
-      × StopsAtItem old begun last new e
-
-  -- all before the last of these can be counted, and that can't
-  abbrev pub SlotsOverflow : List (Option X) → ColumnWith A S → Type 0
-  SlotsOverflow slots old =
-      (begun rest : List (Option X)) × (last : Option X) × (slots ≡ begun ++ last ∷ rest)
-      × (slots_fit overflows shown default old begun ≡ true)
+  -- all before the last can be counted, and that can't
+  abbrev pub OverflowsAtSlot : ColumnWith A S → List (Option X) → Option X → Type 0
+  OverflowsAtSlot old begun last =
+      (slots_fit overflows shown default old begun ≡ true)
       × (slot_overflows overflows (append_slots default old (map (option_map shown) begun)) last ≡ true)
 
-  abbrev pub ItemsOverflow : List X → ColumnWith A S → Type 0
-  ItemsOverflow items old =
-      (begun rest : List X) × (last : X) × (items ≡ begun ++ last ∷ rest)
-      × (slots_fit overflows shown default old (map Some begun) ≡ true)
-      × (slot_overflows overflows (append_slots default old (map (λ x. Some (shown x)) begun)) (Some last) ≡ true)
+  -- all slots of a list before one of them can be counted, and that one can't
+  abbrev pub SlotsOverflow : List (Option X) → ColumnWith A S → Type 0
+  SlotsOverflow slots old = (begun rest : List (Option X)) × (last : Option X)
+      × (slots ≡ begun ++ last ∷ rest) × OverflowsAtSlot old begun last
 
-  -- what an iterator gives is appended; if a growth is refused, it may have more left
+  -- what an iterator gives is appended: slots, or items, which are valid slots; if a growth is refused, it may have
+  -- more left
   module _ {I : Type 0} where
     abbrev pub ExtendsBySlots : (I → Option (Option X) → I → Type 0) → I → ColumnWith A S → ColumnWith A S → Type 0
     ExtendsBySlots gives iter old new = (slots : List (Option X)) × Drains gives iter slots × AppendsSlots old slots new
 
     abbrev pub ExtendsByItems : (I → Option X → I → Type 0) → I → ColumnWith A S → ColumnWith A S → Type 0
-    ExtendsByItems gives iter old new = (items : List X) × Drains gives iter items × AppendsItems old items new
+    ExtendsByItems gives iter old new = (items : List X) × Drains gives iter items
+        × AppendsSlots old (map Some items) new
 
     abbrev pub FreezesBySlots : (I → Option (Option X) → I → Type 0) → I → ColumnWith A S → ColumnWith A S → Type 0
     FreezesBySlots gives iter old array = (slots : List (Option X)) × Drains gives iter slots
@@ -86,19 +66,17 @@ module _ {A S X : Type 0} (overflows : A → List S → X → Bool) (shown : X �
     abbrev pub StopsInItems : (I → Option X → I → Type 0) → I → ColumnWith A S → ColumnWith A S → Error → Type 0
     StopsInItems gives iter old new e =
         (begun : List X) × (last : X) × (rest : I) × YieldsThen gives iter begun (Some last) rest
-        × StopsAtItem old begun last new e
+        × StopsAtSlot old (map Some begun) (Some last) new e
 
     abbrev pub GivesTooManySlots : (I → Option (Option X) → I → Type 0) → I → ColumnWith A S → Type 0
     GivesTooManySlots gives iter old =
         (begun : List (Option X)) × (last : Option X) × (rest : I) × YieldsThen gives iter begun (Some last) rest
-        × (slots_fit overflows shown default old begun ≡ true)
-        × (slot_overflows overflows (append_slots default old (map (option_map shown) begun)) last ≡ true)
+        × OverflowsAtSlot old begun last
 
     abbrev pub GivesTooManyItems : (I → Option X → I → Type 0) → I → ColumnWith A S → Type 0
     GivesTooManyItems gives iter old =
         (begun : List X) × (last : X) × (rest : I) × YieldsThen gives iter begun (Some last) rest
-        × (slots_fit overflows shown default old (map Some begun) ≡ true)
-        × (slot_overflows overflows (append_slots default old (map (λ x. Some (shown x)) begun)) (Some last) ≡ true)
+        × OverflowsAtSlot old (map Some begun) (Some last)
 
 -- what an iterator gives is appended to a column that never overflows
 module _ {A S I : Type 0} (default : S) where

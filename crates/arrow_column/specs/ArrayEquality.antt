@@ -1,5 +1,5 @@
 -- Whether two columns have the same data type and the same slots, as a test: what `==` of arrays answers.
-use Rattle.std.specs.Prelude.{◌≡◌, List, Option, None, Some, Bool, false, ◌&&◌, count_by, nat_lt, not}
+use Rattle.std.specs.Prelude.{◌≡◌, List, Option, Bool, ◌&&◌}
 use Rattle.std.specs.Bool.{Decides}
 use Rattle.std.proofs.Common.{ap}
 use Rattle.arrow_types.specs.Decisions.{both-Decides}
@@ -7,11 +7,6 @@ use Rattle.arrow_types.specs.Types.{LogicalType}
 use Rattle.arrow_types.specs.TypeEquality.{same_type, same_type-Decides}
 use Rattle.arrow_column.specs.Column.{ColumnWith, slots_of}
 use Rattle.arrow_column.specs.SlotEquality.{same_slots, same_slots-Decides}
-
--- whether a mask has a clear mark
-abbrev pub has_null : Option (List Bool) → Bool
-has_null None = false
-has_null (Some marks) = nat_lt 0 (count_by not marks)
 
 -- a data type and slots
 abbrev pub TypedSlots : Type 0 → Type 0

@@ -1,8 +1,8 @@
 //! Extension of columns by the items of an iterator.
-ghost use Rattle.std.specs.Prelude.{◌≡◌, Option, OnOk, IfErr};
+ghost use Rattle.std.specs.Prelude.{◌≡◌, Option, Some, map, OnOk, IfErr};
 ghost use Rattle.std.specs.Iterator.{IsFinite};
-ghost use Rattle.arrow_column.specs.Appends.{AppendsItems, AppendsSlots, ExtendsByItems, ExtendsBySlots};
-ghost use Rattle.arrow_column.specs.Appends.{StopsAmongItems, StopsAmongSlots, StopsInItems, StopsInSlots};
+ghost use Rattle.arrow_column.specs.Appends.{AppendsSlots, ExtendsByItems, ExtendsBySlots};
+ghost use Rattle.arrow_column.specs.Appends.{StopsAmongSlots, StopsInItems, StopsInSlots};
 
 use crate::GrowingColumn;
 use crate::values::{MutableValues, PushValue};
@@ -75,8 +75,8 @@ impl<V: MutableValues> GrowingColumn<V> {
     where
         V: PushValue<X>,
         ensures data_type { self.new.data_type ≡ self.old.data_type }
-        ensures ok { OnOk result (AppendsItems V.overflows V.shown V.default self.old values.now self.new) }
-        ensures err { IfErr result (λ e. StopsAmongItems V.overflows V.shown V.default values.now self.old self.new e) }
+        ensures ok { OnOk result (AppendsSlots V.overflows V.shown V.default self.old (map Some values.now) self.new) }
+        ensures err { IfErr result (StopsAmongSlots V.overflows V.shown V.default (map Some values.now) self.old self.new) }
     {
         for value in values {
             match self.push_valid(*value) {

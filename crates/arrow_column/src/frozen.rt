@@ -8,7 +8,7 @@ ghost use Rattle.arrow_column.specs.Column.{slots_of, ColumnWith, FitsCut, IsCol
 ghost use Rattle.arrow_column.specs.Column.{marks_of, mask_of, stored_values, with_mask, with_type};
 ghost use Rattle.arrow_column.specs.Slots.{ShowsStored};
 
-use crate::mask::slice_mask;
+use crate::mask::{is_valid_at, null_count, slice_mask};
 use crate::values::Values;
 use arrow_memory::bitmap::{Bitmap, BitmapIter};
 use arrow_types::data_type::DataType;
@@ -151,10 +151,7 @@ impl<V: Values> FrozenColumn<V> {
         requires { i < length self.now.rows }
         ensures { slice_get (marks_of self.now) i ≡ Some result }
     {
-        match &self.validity {
-            None => true,
-            Some(validity) => validity.get_bit(i),
-        }
+        is_valid_at(&self.validity, i)
     }
 
     /// Returns whether the slot at `i` is null.
@@ -173,10 +170,7 @@ impl<V: Values> FrozenColumn<V> {
     pub fn null_count(&self) -> usize
         ensures { result ≡ count_by not (marks_of self.now) }
     {
-        match &self.validity {
-            None => 0,
-            Some(validity) => validity.unset_bits(),
-        }
+        null_count(&self.validity)
     }
 
     /// Keeps only the `len` slots from `offset` on. A held mask stays held.

@@ -2,7 +2,7 @@
 ghost use Rattle.arrow_column.specs.Column.{append_nulls, append_values, cut_with, FitsCut, column_overflows};
 ghost use Rattle.arrow_column.specs.Growth.{Grows, GrowthKeeps, JoinGrows, JoinKeeps};
 
-use crate::mask::{extend_null_marks, extend_valid_marks, join_marks, join_marks_of_range};
+use crate::mask::{NewSlots, join_marks};
 use crate::values::{Grow, GrowFrom, MutableValues, Values};
 use crate::{FrozenColumn, GrowingColumn};
 use arrow_types::error::Error;
@@ -25,8 +25,9 @@ impl<V: MutableValues> GrowingColumn<V> {
         ensures err { GrowthKeeps result (column_overflows V.overgrows self.old values) self.old self.new }
     {
         let before = self.values.count();
+        let alloc = self.values.allocated_by();
         let count = self.values.grow(values)?;
-        match extend_valid_marks(&mut self.validity, count) {
+        match join_marks(alloc, &mut self.validity, before, NewSlots::Valid(count)) {
             Ok(()) => Ok(()),
             Err(refused) => {
                 self.values.keep_first(before);
@@ -49,7 +50,7 @@ impl<V: MutableValues> GrowingColumn<V> {
         let before = self.values.count();
         let alloc = self.values.allocated_by();
         let count = self.values.grow(values)?;
-        match extend_null_marks(alloc, &mut self.validity, before, count) {
+        match join_marks(alloc, &mut self.validity, before, NewSlots::Null(count)) {
             Ok(()) => Ok(()),
             Err(refused) => {
                 self.values.keep_first(before);
@@ -73,13 +74,8 @@ impl<V: MutableValues> GrowingColumn<V> {
         let before = self.values.count();
         let alloc = self.values.allocated_by();
         self.values.append(&other.values)?;
-        match join_marks(
-            alloc,
-            &mut self.validity,
-            before,
-            &other.validity,
-            other.values.count(),
-        ) {
+        let new = NewSlots::OfBuilder(&other.validity, other.values.count());
+        match join_marks(alloc, &mut self.validity, before, new) {
             Ok(()) => Ok(()),
             Err(refused) => {
                 self.values.keep_first(before);
@@ -108,14 +104,8 @@ impl<V: MutableValues> GrowingColumn<V> {
         let before = self.values.count();
         let alloc = self.values.allocated_by();
         self.values.grow_from(&other.values, offset, len)?;
-        match join_marks_of_range(
-            alloc,
-            &mut self.validity,
-            before,
-            &other.validity,
-            offset,
-            len,
-        ) {
+        let new = NewSlots::OfArray(&other.validity, offset, len);
+        match join_marks(alloc, &mut self.validity, before, new) {
             Ok(()) => Ok(()),
             Err(refused) => {
                 self.values.keep_first(before);

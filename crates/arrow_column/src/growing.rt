@@ -12,7 +12,7 @@ ghost use Rattle.arrow_column.specs.Column.{with_mask, with_type, without_last};
 ghost use Rattle.arrow_column.specs.Growth.{Grows, GrowthKeeps};
 ghost use Rattle.arrow_column.specs.Slots.{ShowsStored, LastShowsStored};
 
-use crate::mask::{freeze_mask, pop_mark, push_null_mark, push_valid};
+use crate::mask::{freeze_mask, is_valid_at, null_count, pop_mark, push_null_mark, push_valid};
 use crate::values::{MutableValues, PushValue};
 use arrow_memory::bitmap::{Bitmap, BitmapIter, MutableBitmap};
 use arrow_types::data_type::DataType;
@@ -235,10 +235,7 @@ impl<V: MutableValues> GrowingColumn<V> {
         requires { i < length self.now.rows }
         ensures { slice_get (marks_of self.now) i ≡ Some result }
     {
-        match &self.validity {
-            None => true,
-            Some(validity) => validity.get(i),
-        }
+        is_valid_at(&self.validity, i)
     }
 
     /// Returns whether the slot at `i` is null.
@@ -257,10 +254,7 @@ impl<V: MutableValues> GrowingColumn<V> {
     pub fn null_count(&self) -> usize
         ensures { result ≡ count_by not (marks_of self.now) }
     {
-        match &self.validity {
-            None => 0,
-            Some(validity) => validity.unset_bits(),
-        }
+        null_count(&self.validity)
     }
 
     /// Returns the data type, the stored values, and the mask of an array of the same slots. The

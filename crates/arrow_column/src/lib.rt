@@ -8,7 +8,6 @@ mod equality;
 mod extend;
 mod freeze;
 mod frozen;
-mod frozen_equality;
 mod grow;
 mod growing;
 pub mod laws;
@@ -23,10 +22,11 @@ mod values;
 pub use any_array::Array;
 pub use equality::EqualValues;
 pub use frozen::FrozenColumn;
-pub use frozen_equality::EqualFrozenValues;
 pub use growing::GrowingColumn;
 pub use lend::LendValues;
-pub use mask::{is_growing_mask_of, is_mask_of};
+pub use mask::{Mask, is_mask_of};
 pub use room::ReserveItems;
 pub use text::{WriteMutableValues, WriteValues, write_head};
-pub use values::{Grow, GrowFrom, MutableValues, PushValue, Repeated, SetValue, Values};
+pub use values::{
+    Grow, GrowFrom, MutableValues, PushValue, Repeated, SetValue, StoredValues, Values,
+};

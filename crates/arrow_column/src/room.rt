@@ -2,7 +2,7 @@
 ghost use Rattle.std.specs.Prelude.{◌≡◌, IfOk, IfErr, IsOk};
 ghost use Rattle.arrow_types.specs.Failures.{OnlyOutOfMemory};
 
-use crate::mask::{copy_marks, reserve_marks, share_mask, shrink_marks};
+use crate::mask::{clone_mask, reserve_marks, shrink_marks};
 use crate::values::{MutableValues, Values};
 use crate::{FrozenColumn, GrowingColumn};
 use arrow_types::error::Error;
@@ -70,8 +70,8 @@ impl<V: MutableValues> GrowingColumn<V> {
         ensures ok { IfOk result (λ copy. copy ≡ self.now) }
         ensures err { OnlyOutOfMemory result }
     {
-        let validity = copy_marks(&self.validity)?;
-        let values = self.values.copy()?;
+        let validity = clone_mask(&self.validity)?;
+        let values = self.values.try_clone()?;
         let data_type = self.data_type.clone()?;
         Ok(GrowingColumn::new(data_type, values, validity))
     }
@@ -87,8 +87,8 @@ impl<V: Values> FrozenColumn<V> {
         ensures ok { IfOk result (λ copy. copy ≡ self.now) }
         ensures err { OnlyOutOfMemory result }
     {
-        let validity = share_mask(&self.validity)?;
-        let values = self.values.share()?;
+        let validity = clone_mask(&self.validity)?;
+        let values = self.values.try_clone()?;
         let data_type = self.data_type.clone()?;
         Ok(FrozenColumn::new(data_type, values, validity))
     }

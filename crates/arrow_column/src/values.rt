@@ -11,8 +11,8 @@ use arrow_types::error::Error;
 use arrow_types::native_type::NativeType;
 use std::alloc::Global;
 
-/// The stored values of an array, those of null slots included.
-pub trait Values: Drop {
+/// Stored values, those of null slots included.
+pub trait StoredValues: Drop {
     /// What contracts see of a stored value.
     type Stored;
 
@@ -25,33 +25,37 @@ pub trait Values: Drop {
     /// What lies around them.
     ghost around: { Self → Self.Around };
 
-    /// What lies around a cut of the stored values, from a place on.
-    ghost cut_around: { Self.Around → List Self.Stored → ℕ → ℕ → Self.Around };
-
     /// Returns the number of stored values.
     fn count(&self) -> usize
         ensures { result ≡ length (stored self.now) };
 
-    /// Keeps only the `len` values from `offset` on.
-    fn cut(&mut self, offset: usize, len: usize)
-        requires { offset + len ≤ length (stored self.old) }
-        ensures stored { stored self.new ≡ take len (drop offset (stored self.old)) }
-        ensures around { around self.new ≡ cut_around (around self.old) (stored self.old) offset len };
-
-    /// Returns a clone that shares the values.
+    /// Returns a copy, which shares the values if they are those of an array.
     ///
     /// # Errors
-    /// `OutOfMemory` if the number of owners would overflow.
-    fn share(&self) -> Result<Self, Error>
+    /// `OutOfMemory` if an allocation fails or the number of owners would overflow.
+    fn try_clone(&self) -> Result<Self, Error>
         ensures stored { IfOk result (λ copy. stored copy ≡ stored self.now) }
         ensures around { IfOk result (λ copy. around copy ≡ around self.now) }
         ensures err { OnlyOutOfMemory result };
+}
+
+/// The stored values of an array.
+pub trait Values: StoredValues {
+    /// What lies around a cut of the stored values, from a place on.
+    ghost cut_around: { Self.Around → List Self.Stored → ℕ → ℕ → Self.Around };
+
+    /// Keeps only the `len` values from `offset` on.
+    fn cut(&mut self, offset: usize, len: usize)
+        requires { offset + len ≤ length (Self.stored self.old) }
+        ensures stored { Self.stored self.new ≡ take len (drop offset (Self.stored self.old)) }
+        ensures around { Self.around self.new
+            ≡ cut_around (Self.around self.old) (Self.stored self.old) offset len };
 
     /// A cut of a cut has around it what one cut has.
     ghost cut_twice: { AroundCutTwice cut_around };
 }
 
-impl<T: Drop> Values for Buffer<T> {
+impl<T: Drop> StoredValues for Buffer<T> {
     type Stored = T;
 
     type Around = ();
@@ -60,27 +64,29 @@ impl<T: Drop> Values for Buffer<T> {
 
     ghost around = { λ _. tt };
 
-    ghost cut_around = { λ around _ _ _. around };
-
     #[inline(always)]
     fn count(&self) -> usize {
         self.len()
     }
 
     #[inline(always)]
-    fn cut(&mut self, offset: usize, len: usize) {
-        self.slice(offset, len);
+    fn try_clone(&self) -> Result<Self, Error> {
+        self.clone()
     }
+}
+
+impl<T: Drop> Values for Buffer<T> {
+    ghost cut_around = { λ around _ _ _. around };
 
     #[inline(always)]
-    fn share(&self) -> Result<Self, Error> {
-        self.clone()
+    fn cut(&mut self, offset: usize, len: usize) {
+        self.slice(offset, len);
     }
 
     ghost cut_twice = { λ before values a n b m within. refl };
 }
 
-impl Values for Bitmap {
+impl StoredValues for Bitmap {
     type Stored = bool;
 
     type Around = ();
@@ -89,46 +95,32 @@ impl Values for Bitmap {
 
     ghost around = { λ _. tt };
 
-    ghost cut_around = { λ around _ _ _. around };
-
     #[inline(always)]
     fn count(&self) -> usize {
         self.len()
     }
 
     #[inline(always)]
-    fn cut(&mut self, offset: usize, len: usize) {
-        self.slice(offset, len);
+    fn try_clone(&self) -> Result<Self, Error> {
+        self.clone()
     }
+}
+
+impl Values for Bitmap {
+    ghost cut_around = { λ around _ _ _. around };
 
     #[inline(always)]
-    fn share(&self) -> Result<Self, Error> {
-        self.clone()
+    fn cut(&mut self, offset: usize, len: usize) {
+        self.slice(offset, len);
     }
 
     ghost cut_twice = { λ before values a n b m within. refl };
 }
 
-/// The stored values of a builder, those of null slots included.
-pub trait MutableValues: Drop {
-    /// What contracts see of a stored value.
-    type Stored;
-
-    /// What contracts see of what lies around the stored values.
-    type Around;
-
-    /// The stored values in order.
-    ghost stored: { Self → List Self.Stored };
-
-    /// What lies around them.
-    ghost around: { Self → Self.Around };
-
+/// The stored values of a builder.
+pub trait MutableValues: StoredValues {
     /// The value that a null stores.
     ghost default: { Self.Stored };
-
-    /// Returns the number of stored values.
-    fn count(&self) -> usize
-        ensures { result ≡ length (stored self.now) };
 
     /// Returns the allocator of the values, which contracts do not see.
     fn allocated_by(&self) -> Global;
@@ -138,21 +130,21 @@ pub trait MutableValues: Drop {
     /// # Errors
     /// `OutOfMemory` if an allocation fails; the values are then unchanged.
     fn push_default(&mut self) -> Result<(), Error>
-        ensures ok { OnOk result (stored self.new ≡ stored self.old ++ default ∷ []) }
-        ensures around { around self.new ≡ around self.old }
-        ensures err { OutOfMemoryKeeps result (stored self.old) (stored self.new) };
+        ensures ok { OnOk result (Self.stored self.new ≡ Self.stored self.old ++ default ∷ []) }
+        ensures around { Self.around self.new ≡ Self.around self.old }
+        ensures err { OutOfMemoryKeeps result (Self.stored self.old) (Self.stored self.new) };
 
     /// Keeps only the first `len` values.
     fn keep_first(&mut self, len: usize)
-        requires { len ≤ length (stored self.old) }
-        ensures stored { stored self.new ≡ take len (stored self.old) }
-        ensures around { around self.new ≡ around self.old };
+        requires { len ≤ length (Self.stored self.old) }
+        ensures stored { Self.stored self.new ≡ take len (Self.stored self.old) }
+        ensures around { Self.around self.new ≡ Self.around self.old };
 
     /// Removes the last value.
     fn drop_last(&mut self)
-        requires { 0 < length (stored self.old) }
-        ensures stored { stored self.new ≡ take (length (stored self.old) - 1) (stored self.old) }
-        ensures around { around self.new ≡ around self.old };
+        requires { 0 < length (Self.stored self.old) }
+        ensures stored { Self.stored self.new ≡ take (length (Self.stored self.old) - 1) (Self.stored self.old) }
+        ensures around { Self.around self.new ≡ Self.around self.old };
 
     /// Whether these values followed by others would overflow the values' type.
     ghost join_overflows: { Self.Around → List Self.Stored → List Self.Stored → Bool };
@@ -165,17 +157,17 @@ pub trait MutableValues: Drop {
     ///
     /// The values are unchanged on an error.
     fn append(&mut self, other: &Self) -> Result<(), Error>
-        ensures ok { StoredJoin stored around join_overflows result self.old self.new (stored other.now) }
-        ensures around { around self.new ≡ around self.old }
-        ensures err { StoredKept stored around join_overflows result self.old self.new (stored other.now) };
+        ensures ok { StoredJoin Self.stored Self.around join_overflows result self.old self.new (Self.stored other.now) }
+        ensures around { Self.around self.new ≡ Self.around self.old }
+        ensures err { StoredKept Self.stored Self.around join_overflows result self.old self.new (Self.stored other.now) };
 
     /// Reserves room for at least `additional` more values.
     ///
     /// # Errors
     /// `OutOfMemory` if an allocation fails.
     fn make_room(&mut self, additional: usize) -> Result<(), Error>
-        ensures stored { stored self.new ≡ stored self.old }
-        ensures around { around self.new ≡ around self.old }
+        ensures stored { Self.stored self.new ≡ Self.stored self.old }
+        ensures around { Self.around self.new ≡ Self.around self.old }
         ensures err { OnlyOutOfMemory result };
 
     /// Gives unused room back to the allocator, if it takes it.
@@ -183,18 +175,9 @@ pub trait MutableValues: Drop {
     /// # Errors
     /// Never: if the allocator refuses a smaller allocation, the room stays.
     fn drop_room(&mut self) -> Result<(), Error>
-        ensures stored { stored self.new ≡ stored self.old }
-        ensures around { around self.new ≡ around self.old }
+        ensures stored { Self.stored self.new ≡ Self.stored self.old }
+        ensures around { Self.around self.new ≡ Self.around self.old }
         ensures ok { IsOk result };
-
-    /// Returns a copy.
-    ///
-    /// # Errors
-    /// `OutOfMemory` if an allocation fails.
-    fn copy(&self) -> Result<Self, Error>
-        ensures stored { IfOk result (λ copy. stored copy ≡ stored self.now) }
-        ensures around { IfOk result (λ copy. around copy ≡ around self.now) }
-        ensures err { OnlyOutOfMemory result };
 }
 
 /// Values to which one value can be appended.
@@ -254,7 +237,7 @@ pub trait GrowFrom<F: Values<Stored = Self::Stored>>: MutableValues {
             (cut_of offset len (F.stored other.now)) };
 }
 
-impl<T: NativeType> MutableValues for Vec<T> {
+impl<T: NativeType> StoredValues for Vec<T> {
     type Stored = T;
 
     type Around = ();
@@ -263,12 +246,21 @@ impl<T: NativeType> MutableValues for Vec<T> {
 
     ghost around = { λ _. tt };
 
-    ghost default = { T.zero };
-
     #[inline(always)]
     fn count(&self) -> usize {
         self.len()
     }
+
+    #[inline(always)]
+    fn try_clone(&self) -> Result<Vec<T>, Error> {
+        let mut copy = Vec::new(*self.allocator());
+        copy.extend_from_slice(self)?;
+        Ok(copy)
+    }
+}
+
+impl<T: NativeType> MutableValues for Vec<T> {
+    ghost default = { T.zero };
 
     #[inline(always)]
     fn allocated_by(&self) -> Global {
@@ -311,13 +303,6 @@ impl<T: NativeType> MutableValues for Vec<T> {
         self.shrink_to_fit();
         Ok(())
     }
-
-    #[inline(always)]
-    fn copy(&self) -> Result<Vec<T>, Error> {
-        let mut copy = Vec::new(*self.allocator());
-        copy.extend_from_slice(self)?;
-        Ok(copy)
-    }
 }
 
 impl<T: NativeType> PushValue<T> for Vec<T> {
@@ -331,7 +316,7 @@ impl<T: NativeType> PushValue<T> for Vec<T> {
     }
 }
 
-impl MutableValues for MutableBitmap {
+impl StoredValues for MutableBitmap {
     type Stored = bool;
 
     type Around = ();
@@ -340,12 +325,19 @@ impl MutableValues for MutableBitmap {
 
     ghost around = { λ _. tt };
 
-    ghost default = { false };
-
     #[inline(always)]
     fn count(&self) -> usize {
         self.len()
     }
+
+    #[inline(always)]
+    fn try_clone(&self) -> Result<MutableBitmap, Error> {
+        self.clone()
+    }
+}
+
+impl MutableValues for MutableBitmap {
+    ghost default = { false };
 
     #[inline(always)]
     fn allocated_by(&self) -> Global {
@@ -382,11 +374,6 @@ impl MutableValues for MutableBitmap {
     #[inline(always)]
     fn drop_room(&mut self) -> Result<(), Error> {
         self.shrink_to_fit()
-    }
-
-    #[inline(always)]
-    fn copy(&self) -> Result<MutableBitmap, Error> {
-        self.clone()
     }
 }
 

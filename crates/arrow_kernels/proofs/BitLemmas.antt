@@ -1,39 +1,26 @@
 -- Lemmas about the bits of words as marks.
-use Rattle.std.proofs.Common.{◌≡◌, ℕ, zero, suc, ◌+◌, ◌-◌, ◌*◌, ◌%◌, ◌^◌, ◌<◌, ◌≤◌, ◌==◌, ◌&&◌, min, bit_and, Bool}
+use Rattle.std.proofs.Common.{◌≡◌, ℕ, ◌+◌, ◌-◌, ◌*◌, ◌%◌, ◌^◌, ◌<◌, ◌≤◌, ◌==◌, bit_and, Bool}
 use Rattle.std.proofs.Common.{true, false, not, count_by, List, [], ◌∷◌, ◌++◌, length, take, slice_get, Some, refl}
-use Rattle.std.proofs.Common.{sym, subst, ap, ap₂, ◌∙◌, arith, zero-add, append_assoc, add_comm, mul-le-mul_right}
+use Rattle.std.proofs.Common.{sym, subst, ap, ap₂, ◌∙◌, arith, zero-add, add_comm, mul-le-mul_right}
 use Rattle.std.specs.Int.{bit_at, from_bool}
-use Rattle.std.specs.List.{zip}
 use Rattle.std.proofs.Math.Nat.{pow-le-pow_right}
-use Rattle.std.proofs.lemmas.List.{append-nil, length-map, length-take-le, same_lists, take_more}
-use Rattle.std.proofs.lemmas.List.FromFn.{length-map-range_with_len, get_or-map-range_with_len, map-range_with_len_more}
-use Rattle.std.proofs.lemmas.Nat.{pow-add, shl_whole}
-use Rattle.std.proofs.lemmas.Nat.Bits.{bit_at_and, bit_at_cat_high, bit_at_cat_low, bit_at-lt, bit_at_lowest}
-use Rattle.std.proofs.lemmas.Option.{get_or_from_slice_get, slice_get-get_or, slice_get_within}
-use Rattle.std.proofs.lemmas.Slice.Zip.{length-zip}
+use Rattle.std.proofs.lemmas.List.{length-take-le, same_lists}
+use Rattle.std.proofs.lemmas.List.FromFn.{get_or-map-range_with_len, map-range_with_len_more}
+use Rattle.std.proofs.lemmas.Nat.{and_le_r, pow-add, pow_pos, shl_whole}
+use Rattle.std.proofs.lemmas.Nat.Bits.{bit_at_above, bit_at_and, bit_at_cat_high, bit_at_cat_low, bit_at_lowest}
+use Rattle.std.proofs.lemmas.Nat.Bits.{bit_at-lt, bit_at_ones}
 use Rattle.arrow_memory.specs.Marks.{bits_of}
-use Rattle.arrow_memory.specs.Rows.{Row}
-use Rattle.arrow_column.specs.Combined.{set_in_both}
+use Rattle.arrow_memory.proofs.CallerLemmas.{length-bits, take-bits}
 use Rattle.arrow_bytes.specs.Selection.{where_set}
-use Rattle.arrow_kernels.proofs.ChoiceLemmas.{where-append, where-full}
-
--- one more of a list
-pub taken-more : {X : Type 0} (xs : List X) (i : ℕ) (x : X) → slice_get xs i ≡ Some x
-    → take (i + 1) xs ≡ take i xs ++ x ∷ []
-taken-more xs i x found =
-    take_more xs i x (slice_get_within xs i x found)
-    ∙ ap (λ y. take i xs ++ y ∷ []) (get_or_from_slice_get xs i x x found)
+use Rattle.compute_base.specs.Words.{HoldsMarks}
+use Rattle.compute_base.proofs.CallerLemmas.{bits-at}
+use Rattle.arrow_kernels.specs.Filtering.{where-gap-up}
+use Rattle.arrow_kernels.proofs.ChoiceLemmas.{where-all, where-append, where-full}
 
 -- ---- the bits of a word
 
-pub length-bits : (word n : ℕ) → length (bits_of word n) ≡ n
-length-bits word n = length-map-range_with_len (λ k. bit_at word k == 1) 0 n
-
-pub slice_get-bits : (word n k : ℕ) → k < n → slice_get (bits_of word n) (0 + k) ≡ Some (bit_at word k == 1)
-slice_get-bits word n k low =
-    slice_get-get_or (bits_of word n) (0 + k) false (omega (arith, low, length-bits word n))
-    ∙ ap Some (get_or-map-range_with_len (λ j. bit_at word j == 1) 0 n (0 + k) k false (omega (arith, low))
-    (omega arith))
+pub slice_get-bits : (word n : ℕ) → HoldsMarks word (bits_of word n) 0 n
+slice_get-bits word n k low = ap (slice_get (bits_of word n)) (zero-add k) ∙ bits-at word n k low
 
 same-bits : (a b n : ℕ) → ((i : ℕ) → i < n → bit_at a i ≡ bit_at b i) → bits_of a n ≡ bits_of b n
 same-bits a b n same = same_lists _ _ (length-bits a n ∙ sym (length-bits b n)) (λ i d within.
@@ -41,6 +28,24 @@ same-bits a b n same = same_lists _ _ (length-bits a n ∙ sym (length-bits b n)
     get_or-map-range_with_len (λ k. bit_at a k == 1) 0 n i i d low (zero-add i)
     ∙ ap (λ x. x == 1) (same i low)
     ∙ sym (get_or-map-range_with_len (λ k. bit_at b k == 1) 0 n i i d low (zero-add i)))
+
+-- the lowest bits of a word
+module _ (word n : ℕ) (few : n < 64) where
+  ones : 1 * 2 ^ n % 2 ^ 64 - 1 ≡ 2 ^ n - 1
+  ones = ap (λ m. m - 1) (shl_whole 1 1 n 64 (omega arith) (omega (arith, few))
+      ∙ (let e : 1 * 2 ^ n ≡ 2 ^ n = omega arith in e))
+
+  pub low-small : bit_and word (1 * 2 ^ n % 2 ^ 64 - 1) < 2 ^ n
+  low-small = omega (arith, ones, and_le_r word (1 * 2 ^ n % 2 ^ 64 - 1), pow_pos n)
+
+  pub low-bit : (k : ℕ) → k < n → bit_at (bit_and word (1 * 2 ^ n % 2 ^ 64 - 1)) k ≡ bit_at word k
+  low-bit k low = omega (
+    arith,
+    bit_at_and word (1 * 2 ^ n % 2 ^ 64 - 1) k,
+    ap (λ m. bit_at m k) ones,
+    bit_at_ones n k low,
+    bit_at-lt word k,
+  )
 
 -- the number of a mark has it as its one bit
 pub number-small : (mark : Bool) (bit : ℕ) → bit ≡ from_bool mark → bit < 2
@@ -91,35 +96,33 @@ module _ (kept count bit new : ℕ) (small : kept < 2 ^ count) (single : bit < 2
 
 -- ---- the bits of words as the next marks of lists
 
-pub take-bits : (rows : List Bool) (n c word : ℕ)
-    → ((k : ℕ) → k < c → slice_get rows (n + k) ≡ Some (bit_at word k == 1))
-    → take (n + c) rows ≡ take n rows ++ bits_of word c
-take-bits rows n zero word read = ap (λ k. take k rows) (let e : n + zero ≡ n = omega arith in e)
-    ∙ sym (append-nil (take n rows))
-take-bits rows n (suc c) word read =
-    ap (λ k. take k rows) (let e : n + suc c ≡ n + c + 1 = omega arith in e)
-    ∙ taken-more rows (n + c) (bit_at word c == 1) (read c (omega arith))
-    ∙ ap (λ xs. xs ++ (bit_at word c == 1) ∷ []) (take-bits rows n c word (λ k low. read k (omega arith)))
-    ∙ append_assoc (take n rows) (bits_of word c) ((bit_at word c == 1) ∷ [])
-    ∙ ap (λ xs. take n rows ++ xs) (sym (map-range_with_len_more (λ k. bit_at word k == 1) 0 c c (zero-add c)))
-    ∙ ap (λ m. take n rows ++ bits_of word m) (let e : c + 1 ≡ suc c = omega arith in e)
-
--- what is asked for of the marks of 64 rows, found in words, behind that of the rows before them
-pub where-word : (rows marks kept new : List Bool) (n word bits found count : ℕ) → length rows ≡ length marks
-    → n + 64 ≤ length rows
-    → ((k : ℕ) → k < 64 → slice_get rows (n + k) ≡ Some (bit_at word k == 1))
-    → ((k : ℕ) → k < 64 → slice_get marks (n + k) ≡ Some (bit_at bits k == 1))
-    → bits_of found count ≡ where_set (bits_of word 64) (bits_of bits 64)
-    → kept ≡ where_set (take n rows) (take n marks) → new ≡ kept ++ bits_of found count
-    → new ≡ where_set (take (n + 64) rows) (take (n + 64) marks)
-where-word rows marks kept new n word bits found count same within read held is was appended =
-    appended
-    ∙ ap₂ ◌++◌ was is
-    ∙ sym (ap₂ where_set (take-bits rows n 64 word read) (take-bits marks n 64 bits held)
-    ∙ where-append (take n rows) (bits_of word 64) (take n marks) (bits_of bits 64) long)
+-- the first bits of a word, of which no others are set, select the same as all
+where-few : (word bits n : ℕ) → n ≤ 64 → word < 2 ^ n
+    → where_set (bits_of word 64) (bits_of bits 64) ≡ where_set (bits_of word n) (bits_of bits n)
+where-few word bits n few small =
+    sym (where-all (bits_of word 64) (bits_of bits 64) 64 (sym (length-bits word 64)) (sym (length-bits bits 64)))
+    ∙ where-gap-up (bits_of word 64) (bits_of bits 64) n 64 few (λ k low high. bits-at word 64 k high
+    ∙ ap (λ b. Some (b == 1)) (bit_at_above word n k small low))
+    ∙ ap₂ where_set (front word) (front bits)
   where
-    long : length (take n rows) ≡ length (take n marks)
-    long = length-take-le n rows (omega (arith, within)) ∙ sym (length-take-le n marks (omega (arith, within, same)))
+    front : (w : ℕ) → take n (bits_of w 64) ≡ bits_of w n
+    front w = ap (λ m. take m (bits_of w 64)) (let e : n ≡ 0 + n = omega arith in e)
+        ∙ take-bits (bits_of w 64) 0 n w (λ k low. slice_get-bits w 64 k (omega (arith, low, few)))
+
+-- what is asked for of the marks of n rows, found in words, behind that of the rows before them
+pub where-word : (rows marks kept new : List Bool) (row n word bits found count : ℕ) → length rows ≡ length marks
+    → n ≤ 64 → row + n ≤ length rows → HoldsMarks word rows row n → word < 2 ^ n → HoldsMarks bits marks row n
+    → bits_of found count ≡ where_set (bits_of word 64) (bits_of bits 64)
+    → kept ≡ where_set (take row rows) (take row marks) → new ≡ kept ++ bits_of found count
+    → new ≡ where_set (take (row + n) rows) (take (row + n) marks)
+where-word rows marks kept new row n word bits found count same few within read small held is was appended =
+    appended
+    ∙ ap₂ ◌++◌ was (is ∙ where-few word bits n few small)
+    ∙ sym (ap₂ where_set (take-bits rows row n word read) (take-bits marks row n bits held)
+    ∙ where-append (take row rows) (bits_of word n) (take row marks) (bits_of bits n) long)
+  where
+    long : length (take row rows) ≡ length (take row marks)
+    long = length-take-le row rows (omega (arith, within)) ∙ sym (length-take-le row marks (omega (arith, within, same)))
 
 -- a word that asks for all
 pub where-all-bits : (word bits : ℕ) → word ≡ 18446744073709551615
@@ -131,61 +134,3 @@ where-all-bits word bits full =
   where
     none : count_by not (bits_of 18446744073709551615 64) ≡ 0
     none = refl
-
--- ---- marks that are set in both of two lists
-
-pub both-at : (values marks : List Bool) (i : ℕ) (v m : Bool) → slice_get values i ≡ Some v
-    → slice_get marks i ≡ Some m → slice_get (set_in_both values marks) i ≡ Some (m && v)
-both-at [] marks i v m e f = cc
-both-at (x ∷ values) [] i v m e f = cc
-both-at (x ∷ values) (y ∷ marks) zero v m e f =
-    let value : x ≡ v = cc in
-    let mark : y ≡ m = cc in
-    ap₂ (λ a b. Some (b && a)) value mark
-both-at (x ∷ values) (y ∷ marks) (suc i) v m e f = both-at values marks i v m e f
-
--- where the mark is clear
-pub both-clear : (values marks : List Bool) (i : ℕ) (m : Bool) → slice_get marks i ≡ Some m → m ≡ false
-    → i < length values → slice_get (set_in_both values marks) i ≡ Some false
-both-clear [] marks i m e f low = absurd (omega arith)
-both-clear (x ∷ values) [] i m e f low = cc
-both-clear (x ∷ values) (y ∷ marks) zero m e f low =
-    let mark : y ≡ false = cc in
-    ap (λ b. Some (b && x)) mark
-both-clear (x ∷ values) (y ∷ marks) (suc i) m e f low = both-clear values marks i m e f (omega (arith, low))
-
-pub length-both : (values marks : List Bool) → length marks ≡ length values
-    → length (set_in_both values marks) ≡ length values
-length-both values marks same = omega (
-  arith,
-  length-map (zip values marks) (λ (row : Row Bool). row.1 && row.0),
-  length-zip values marks,
-  same,
-)
-
-both-bit : (a b : ℕ) → a < 2 → b < 2 → ((b == 1) && (a == 1)) ≡ (min a b == 1)
-both-bit zero zero p q = refl
-both-bit zero (suc zero) p q = refl
-both-bit (suc zero) zero p q = refl
-both-bit (suc zero) (suc zero) p q = refl
-both-bit zero (suc (suc b)) p q = absurd (omega arith)
-both-bit (suc zero) (suc (suc b)) p q = absurd (omega arith)
-both-bit (suc (suc a)) b p q = absurd (omega arith)
-
--- one of 64 of them, found in words
-pub both-found : (values marks : List Bool) (n v m : ℕ)
-    → ((k : ℕ) → k < 64 → slice_get values (n + k) ≡ Some (bit_at v k == 1))
-    → ((k : ℕ) → k < 64 → slice_get marks (n + k) ≡ Some (bit_at m k == 1))
-    → (k : ℕ) → k < 64 → slice_get (set_in_both values marks) (n + k) ≡ Some (bit_at (bit_and v m) k == 1)
-both-found values marks n v m read held k low =
-    both-at values marks (n + k) (bit_at v k == 1) (bit_at m k == 1) (read k low) (held k low)
-    ∙ ap Some (both-bit (bit_at v k) (bit_at m k) (bit_at-lt v k) (bit_at-lt m k)
-    ∙ ap (λ x. x == 1) (sym (bit_at_and v m k)))
-
--- all of them
-pub both-word : (values marks : List Bool) (n v m : ℕ)
-    → ((k : ℕ) → k < 64 → slice_get values (n + k) ≡ Some (bit_at v k == 1))
-    → ((k : ℕ) → k < 64 → slice_get marks (n + k) ≡ Some (bit_at m k == 1))
-    → take (n + 64) (set_in_both values marks) ≡ take n (set_in_both values marks) ++ bits_of (bit_and v m) 64
-both-word values marks n v m read held =
-    take-bits (set_in_both values marks) n 64 (bit_and v m) (both-found values marks n v m read held)

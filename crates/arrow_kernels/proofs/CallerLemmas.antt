@@ -5,6 +5,8 @@
 pub use Rattle.arrow_kernels.proofs.ChoiceLemmas.{keys-map, where-map}
 -- The number of rows that a filter selects, and the number of items that marks select.
 pub use Rattle.arrow_kernels.proofs.LawLemmas.{length-asked, length-where}
--- Offsets and bytes of items alone: those of one item more, that the offsets lie within the bytes and cut out items of
--- the kind, and that these are the same items.
-pub use Rattle.arrow_kernels.proofs.ItemLemmas.{bytes-more, cut-alone, items-are, offsets-more}
+-- Items behind others: their number of bytes, that items that end at most at the greatest offset do not overflow, and
+-- what a growth leaves.
+pub use Rattle.arrow_kernels.proofs.ItemLemmas.{bare-fits, bare-grown}
+-- How many bytes stored items have with a row more.
+pub use Rattle.arrow_kernels.proofs.ItemLemmas.{more-bytes}

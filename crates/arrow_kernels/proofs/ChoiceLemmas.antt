@@ -1,7 +1,7 @@
 -- Lemmas about some elements of a list: those with a set mark, and those at keys.
 use Rattle.std.proofs.Common.{◌≡◌, ℕ, zero, suc, ◌+◌, ◌-◌, ◌<◌, ◌≤◌, ℤ, Bool, true, false, ◌&&◌, cond, IsTrue}
 use Rattle.std.proofs.Common.{if◌then◌else◌, List, [], ◌∷◌, ◌++◌, length, map, take, drop, get_or, slice_get}
-use Rattle.std.proofs.Common.{Option, Some, None, option_and_then, option_map, refl, zero-add, sym, subst, ap, ap₂}
+use Rattle.std.proofs.Common.{Option, Some, None, option_and_then, option_map, refl, sym, subst, ap, ap₂}
 use Rattle.std.proofs.Common.{◌∙◌, arith}
 use Rattle.std.specs.Prelude.{not, All, IfErr, IfSome, IsSomeAnd, MatchOption, Result, Ok, Err, count_by, find}
 use Rattle.std.specs.Prelude.{unwrap_or}
@@ -9,19 +9,21 @@ use Rattle.std.specs.List.{cons_option, list_all}
 use Rattle.std.proofs.Math.Seq.{take-add, take-length}
 use Rattle.std.proofs.lemmas.Bool.{false≢true}
 use Rattle.std.proofs.lemmas.List.{take_more, length-map}
-use Rattle.std.proofs.lemmas.List.Elements.{All-weaker, filter_map-append}
+use Rattle.std.proofs.lemmas.List.Elements.{filter_map-append}
 use Rattle.std.proofs.lemmas.List.Sums.{sum_by-cons}
-use Rattle.std.proofs.lemmas.Option.{MatchOption-at_none, slice_get-map}
+use Rattle.std.proofs.lemmas.Option.{MatchOption-at_none, cond_some, slice_get-map}
 use Rattle.arrow_types.specs.Types.{LogicalType}
 use Rattle.arrow_types.specs.IndexKey.{index_of}
+use Rattle.arrow_types.proofs.CallerLemmas.{all-by_count}
 use Rattle.arrow_memory.specs.Rows.{FitsMask, Row, slot}
 use Rattle.arrow_column.specs.Masks.{mask_with_nulls}
-use Rattle.arrow_column.specs.Column.{Column, ColumnWith, IsColumn, column_with, mask_of, stored_values}
+use Rattle.arrow_column.specs.Column.{Column, ColumnWith, IsColumn, column_with, mask_of, marks_of, stored_values}
 use Rattle.arrow_column.proofs.CallerLemmas.{column_again, slots_valid, valid_by_held}
 use Rattle.arrow_check.specs.Indexes.{in_bounds}
 use Rattle.arrow_bytes.specs.Selection.{asked, at_key, at_keys, column_of_rows, filtered, first_out_of_bounds}
-use Rattle.arrow_column.specs.Combined.{set_in_both}
 use Rattle.arrow_bytes.specs.Selection.{taken, where_set}
+use Rattle.compute_base.proofs.CallerLemmas.{in_both}
+use Rattle.arrow_kernels.specs.Filtering.{where-gap}
 
 -- ---- one more
 
@@ -42,42 +44,6 @@ where-set {X} marks xs i x e f = let next : i + 1 ≡ suc i = omega arith in
         ap₂ (λ b z. cons_option (if b then Some z else None) []) set here
     more (true ∷ marks) (y ∷ xs) (suc i) e f = ap (λ rest. y ∷ rest) (more marks xs i e f)
     more (false ∷ marks) (y ∷ xs) (suc i) e f = more marks xs i e f
-
--- one more with a clear mark
-pub where-clear : {X : Type 0} (marks : List Bool) (xs : List X) (i : ℕ) → slice_get marks i ≡ Some false
-    → where_set (take (i + 1) marks) (take (i + 1) xs) ≡ where_set (take i marks) (take i xs)
-where-clear {X} marks xs i e = let next : i + 1 ≡ suc i = omega arith in
-    ap (λ k. where_set (take k marks) (take k xs)) next ∙ more marks xs i e
-  where
-    more : (marks : List Bool) (xs : List X) (i : ℕ) → slice_get marks i ≡ Some false
-        → where_set (take (suc i) marks) (take (suc i) xs) ≡ where_set (take i marks) (take i xs)
-    more [] xs i e = cc
-    more (m ∷ marks) [] zero e = refl
-    more (m ∷ marks) [] (suc i) e = refl
-    more (m ∷ marks) (y ∷ xs) zero e =
-        let clear : m ≡ false = cc in
-        ap (λ b. cons_option (if b then Some y else None) []) clear
-    more (true ∷ marks) (y ∷ xs) (suc i) e = ap (λ rest. y ∷ rest) (more marks xs i e)
-    more (false ∷ marks) (y ∷ xs) (suc i) e = more marks xs i e
-
--- clear marks leave nothing
-pub where-gap : {X : Type 0} (marks : List Bool) (xs : List X) (i d : ℕ)
-    → ((k : ℕ) → i ≤ k → k < i + d → slice_get marks k ≡ Some false)
-    → where_set (take (i + d) marks) (take (i + d) xs) ≡ where_set (take i marks) (take i xs)
-where-gap marks xs i zero clear = let e : i + zero ≡ i = omega arith in ap (λ k. where_set (take k marks) (take k xs)) e
-where-gap marks xs i (suc d) clear =
-    let e : i + suc d ≡ (i + d) + 1 = omega arith in
-    ap (λ k. where_set (take k marks) (take k xs)) e
-    ∙ where-clear marks xs (i + d) (clear (i + d) (omega arith) (omega arith))
-    ∙ where-gap marks xs i d (λ k low high. clear k low (omega arith))
-
--- no item is selected between two places if all marks between them are clear
-pub where-gap-up : {X : Type 0} (marks : List Bool) (xs : List X) (i j : ℕ) → i ≤ j
-    → ((k : ℕ) → i ≤ k → k < j → slice_get marks k ≡ Some false)
-    → where_set (take j marks) (take j xs) ≡ where_set (take i marks) (take i xs)
-where-gap-up marks xs i j up clear =
-    ap (λ k. where_set (take k marks) (take k xs)) (let e : j ≡ i + (j - i) = omega (arith, up) in e)
-    ∙ where-gap marks xs i (j - i) (λ k low high. clear k low (omega arith))
 
 -- the rows up to the next that is asked for
 pub where-next : {X : Type 0} (marks : List Bool) (xs : List X) (i j : ℕ) (x : X) → slice_get marks i ≡ Some true
@@ -216,19 +182,6 @@ keys-valid test number (key ∷ keys) xs h =
     cons-valid test (at_key xs (number key)) (at_keys number keys xs) (place-valid test xs (index_of (number key))
     h) (keys-valid test number keys xs h)
 
--- no clear mark, and all marks set
-pub all-by-count : (marks : List Bool) → (count_by not marks ≡ 0 → list_all (λ mark. mark) marks ≡ true)
-    × ((count_by not marks ≡ 0 → ⊥) → list_all (λ mark. mark) marks ≡ false)
-all-by-count [] = (λ _. refl, λ h. absurd (h refl))
-all-by-count (true ∷ marks) =
-    let same : count_by not (true ∷ marks) ≡ count_by not marks = sum_by-cons (λ m. cond (not m) 1 0) true marks
-    ∙ zero-add (count_by not marks) in
-    (λ e. (all-by-count marks).0 (sym same ∙ e), λ h. (all-by-count marks).1 (λ e. h (same ∙ e)))
-all-by-count (false ∷ marks) =
-    let same : count_by not (false ∷ marks) ≡ 1 + count_by not marks =
-    sum_by-cons (λ m. cond (not m) 1 0) false marks in
-    (λ e. absurd (omega arith), λ h. refl)
-
 pub count-le : (marks : List Bool) → count_by not marks ≤ length marks
 count-le [] = omega arith
 count-le (true ∷ marks) =
@@ -251,7 +204,7 @@ each-set (false ∷ marks) (x ∷ xs) all long = cc
 -- as many values as marks, none of which is clear
 pub where-full : {X : Type 0} (marks : List Bool) (xs : List X) → count_by not marks ≡ 0 → length marks ≡ length xs
     → where_set marks xs ≡ xs
-where-full marks xs none long = each-set marks xs ((all-by-count marks).0 none) long
+where-full marks xs none long = each-set marks xs ((all-by_count marks).0 none) long
 
 -- each mark is clear
 pub where-none : {X : Type 0} (marks : List Bool) (xs : List X) → count_by not marks ≡ length marks
@@ -282,17 +235,12 @@ marks-all : {S : Type 0} (rows : List (Row S))
 marks-all [] = refl
 marks-all (row ∷ rows) = ap (λ b. row.1 && b) (marks-all rows)
 
-held-marks : (held : Bool) (rows : List (Row Bool)) (marks : List Bool)
-    → (if held then Some (map (λ row. row.1) rows) else None) ≡ Some marks → map (λ row. row.1) rows ≡ marks
-held-marks true rows marks mask = cc
-held-marks false rows marks mask = cc
-
 -- a filter without a null asks by its values
 pub valid-asked : (filter : Column Bool) (marks : List Bool) → mask_of filter ≡ Some marks → count_by not marks ≡ 0
     → asked filter ≡ stored_values filter
 valid-asked filter marks mask none =
-    let all = (all-by-count (map (λ row. row.1) filter.rows)).0
-    (ap (count_by not) (held-marks filter.held filter.rows marks mask) ∙ none) in
+    let all = (all-by_count (map (λ row. row.1) filter.rows)).0
+    (ap (count_by not) (cond_some filter.held (marks_of filter) marks mask).1 ∙ none) in
     ap (map (λ shown. unwrap_or shown false)) (slots_valid filter.rows (sym (marks-all filter.rows) ∙ all))
     ∙ shown-values (stored_values filter)
 
@@ -301,22 +249,15 @@ shown-both value true = refl
 shown-both value false = refl
 
 each-asked : (rows : List (Row Bool))
-    → map (λ shown. unwrap_or shown false) (map slot rows) ≡ set_in_both (map (λ row. row.0) rows)
-    (map (λ row. row.1) rows)
+    → map (λ shown. unwrap_or shown false) (map slot rows) ≡ in_both (map (λ row. row.1) rows) (map (λ row. row.0) rows)
 each-asked [] = refl
 each-asked (row ∷ rows) = ap₂ ◌∷◌ (shown-both row.0 row.1) (each-asked rows)
 
 -- a filter with a mask asks where both a value and its mark are set
 pub masked-asked : (filter : Column Bool) (marks : List Bool) → mask_of filter ≡ Some marks
-    → asked filter ≡ set_in_both (stored_values filter) marks
+    → asked filter ≡ in_both marks (stored_values filter)
 masked-asked filter marks mask = each-asked filter.rows
-    ∙ ap (set_in_both (stored_values filter)) (held-marks filter.held filter.rows marks mask)
-
-pub masked-length : (filter : Column Bool) (marks : List Bool) → mask_of filter ≡ Some marks
-    → length marks ≡ length (stored_values filter)
-masked-length filter marks mask =
-    ap length (sym (held-marks filter.held filter.rows marks mask)) ∙ length-map filter.rows (λ row. row.1)
-    ∙ sym (length-map filter.rows (λ row. row.0))
+    ∙ ap (λ ms. in_both ms (stored_values filter)) (cond_some filter.held (marks_of filter) marks mask).1
 
 -- ---- columns of rows
 
@@ -412,14 +353,14 @@ pub where-valid-mask : (asked marks : List Bool) → count_by not marks ≡ 0
     → None ≡ mask_with_nulls (Some (where_set asked marks))
 where-valid-mask asked marks none =
     sym (ap (λ b. if b then None else Some (where_set asked marks)) (where-valid (λ mark.
-    mark) asked marks ((all-by-count marks).0 none)))
+    mark) asked marks ((all-by_count marks).0 none)))
 
 -- nor of what keys take
 pub keys-valid-mask : {K : Type 0} (number : K → ℤ) (keys : List K) (marks : List Bool) → count_by not marks ≡ 0
     → None ≡ mask_with_nulls (Some (at_keys number keys marks))
 keys-valid-mask number keys marks none =
     sym (ap (λ b. if b then None else Some (at_keys number keys marks)) (keys-valid (λ mark. mark) number keys marks
-    ((all-by-count marks).0 none)))
+    ((all-by_count marks).0 none)))
 
 -- ---- what a kernel makes
 
@@ -473,21 +414,8 @@ not-out_of_bounds column number keys n P Q (Err e) same refused = λ none.
     absurd (false≢true (MatchOption-at_none (false ≡ true) P
     (ap (λ k. find (λ key. not (in_bounds k (number key))) keys) same ∙ none) refused))
 
-weaker : (o : Option ℕ) (m n k : ℕ) → m + k ≤ n → IsSomeAnd o (λ index. index < m)
-    → IsSomeAnd o (λ index. index + k < n)
-weaker None m n k le h = h
-weaker (Some i) m n k le h = omega (arith, le, h)
-
--- the places of keys, so many further
-pub keys-below : {K : Type 0} (number : K → ℤ) (keys : List K) (m n k : ℕ) → m + k ≤ n
-    → All (λ key. IsSomeAnd (index_of (number key)) (λ index. index < m)) keys
-    → All (λ key. IsSomeAnd (index_of (number key)) (λ index. index + k < n)) keys
-keys-below number keys m n k le all =
-    All-weaker (λ key. IsSomeAnd (index_of (number key)) (λ index. index < m)) (λ key.
-    IsSomeAnd (index_of (number key)) (λ index. index + k < n)) (λ key h.
-    weaker (index_of (number key)) m n k le h) keys all
-
-marks-below : {A S K : Type 0} (column : ColumnWith A S) (number : K → ℤ) (keys : List K) (held : Bool)
+-- keys of a column's rows are keys of its mask
+pub marks-below : {A S K : Type 0} (column : ColumnWith A S) (number : K → ℤ) (keys : List K) (held : Bool)
     → All (λ key. IsSomeAnd (index_of (number key)) (λ index. index < length column.rows)) keys
     → IfSome (if held then Some (map (λ row. row.1) column.rows) else None) (λ marks.
     All (λ key. IsSomeAnd (index_of (number key)) (λ index. index < length marks)) keys)

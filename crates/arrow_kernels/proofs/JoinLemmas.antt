@@ -1,27 +1,19 @@
 -- Lemmas about lists one after the other, and what arrays that are joined make of them.
-use Rattle.std.proofs.Common.{◌≡◌, ℕ, ◌+◌, ◌-◌, ◌<◌, ◌≤◌, Bool, true, false, ◌&&◌, IsTrue, List, [], ◌∷◌}
+use Rattle.std.proofs.Common.{◌≡◌, ℕ, ◌+◌, ◌<◌, ◌≤◌, Bool, true, false, ◌&&◌, IsTrue, List, [], ◌∷◌}
 use Rattle.std.proofs.Common.{◌++◌, length, map, take, drop, get_or, replicate, Option, Some, None, MatchOption}
 use Rattle.std.proofs.Common.{if◌then◌else◌, refl, sym, subst, ap, ap₂, ◌∙◌, arith, length-append, flat_map}
-use Rattle.std.specs.Prelude.{All, slice_range}
 use Rattle.std.specs.List.{concat, list_all}
-use Rattle.std.proofs.Math.Seq.{take-length}
-use Rattle.std.proofs.lemmas.List.{append-nil, map-append, take_more, take-append-drop}
+use Rattle.std.proofs.lemmas.List.{append-nil, take_more, take-append-drop}
 use Rattle.std.proofs.lemmas.List.Concat.{flat_map-append}
-use Rattle.std.proofs.lemmas.List.Elements.{All-cons, All-head, All-tail}
-use Rattle.std.proofs.lemmas.List.Folds.{concat-append}
+use Rattle.std.proofs.lemmas.List.Folds.{concat-append, list_all-append}
 use Rattle.arrow_types.specs.Types.{LogicalType}
-use Rattle.arrow_memory.specs.Offsets.{first_of, IsOffsets, last_of, moved_behind}
+use Rattle.arrow_types.proofs.CallerLemmas.{map-flat_map}
 use Rattle.arrow_memory.specs.Rows.{FitsMask, Row}
 use Rattle.arrow_column.specs.Masks.{mask_with_nulls}
 use Rattle.arrow_column.specs.Column.{ColumnWith, IsColumn, column_with, mask_of, marks_of, stored_values}
-use Rattle.arrow_check.specs.Pieces.{items_of, offsets_of}
-use Rattle.arrow_check.specs.Utf8.{IsWellFormed}
-use Rattle.arrow_bytes.specs.Column.{ByteColumn, bytes_held, offsets_held}
-use Rattle.arrow_bytes.specs.Kinds.{AreItems}
 use Rattle.arrow_bytes.specs.Selection.{Concatenates, concatenated}
-use Rattle.arrow_bytes.proofs.CallerLemmas.{window-long}
+use Rattle.compute_base.proofs.CallerLemmas.{set-marks}
 use Rattle.arrow_kernels.proofs.ChoiceLemmas.{needed, needed-fits}
-use Rattle.arrow_kernels.proofs.ItemLemmas.{bytes-run, count-held, items-of-held, offsets-run, within-held}
 
 -- ---- lists one after the other
 
@@ -38,12 +30,6 @@ pub joined-grown : {X Y : Type 0} (f : X → List Y) (xs : List X) (i : ℕ) (x 
     → x ≡ get_or xs i x → old ≡ flat_map f (take i xs) → new ≡ old ++ f x → new ≡ flat_map f (take (i + 1) xs)
 joined-grown f xs i x old new low read was pushed = pushed ∙ ap (λ ys. ys ++ f x) was
     ∙ sym (joined-more f xs i x low read)
-
--- what is made of each
-pub map-joined : {X Y Z : Type 0} (g : Y → Z) (f : X → List Y) (xs : List X)
-    → map g (flat_map f xs) ≡ flat_map (λ x. map g (f x)) xs
-map-joined g f [] = refl
-map-joined g f (x ∷ xs) = map-append g (f x) (flat_map f xs) ∙ ap (λ ys. map g (f x) ++ ys) (map-joined g f xs)
 
 -- the first of them have no more bytes than all
 pub joined-length : {X : Type 0} (f : X → List (List ℕ)) (n : ℕ) (xs : List X)
@@ -69,20 +55,10 @@ length-more f xs i x low read =
 
 -- ---- marks
 
-all-append : {X : Type 0} (test : X → Bool) (xs ys : List X) → list_all test (xs ++ ys) ≡ (list_all test xs
-    && list_all test ys)
-all-append test [] ys = refl
-all-append test (x ∷ xs) ys = ap (λ b. test x && b) (all-append test xs ys)
-    ∙ and-and (test x) (list_all test xs) (list_all test ys)
-  where
-    and-and : (a b c : Bool) → (a && (b && c)) ≡ ((a && b) && c)
-    and-and true b c = refl
-    and-and false b c = refl
-
 -- marks behind marks that are all set
 pub all-more : (xs ys new : List Bool) → list_all (λ mark. mark) xs ≡ true → new ≡ xs ++ ys
     → list_all (λ mark. mark) new ≡ list_all (λ mark. mark) ys
-all-more xs ys new all is = ap (list_all (λ mark. mark)) is ∙ all-append (λ mark. mark) xs ys
+all-more xs ys new all is = ap (list_all (λ mark. mark)) is ∙ list_all-append (λ mark. mark) xs ys
     ∙ ap (λ b. b && list_all (λ mark. mark) ys) all
 
 -- one of the first lists has a clear mark, so one of all has
@@ -91,15 +67,8 @@ pub none-all : {X : Type 0} (f : X → List Bool) (n : ℕ) (xs : List X)
 none-all f n xs clear =
     ap (λ ys. list_all (λ mark. mark) (flat_map f ys)) (sym (take-append-drop n xs))
     ∙ ap (list_all (λ mark. mark)) (flat_map-append f (take n xs) (drop n xs))
-    ∙ all-append (λ mark. mark) (flat_map f (take n xs)) (flat_map f (drop n xs))
+    ∙ list_all-append (λ mark. mark) (flat_map f (take n xs)) (flat_map f (drop n xs))
     ∙ ap (λ b. b && list_all (λ mark. mark) (flat_map f (drop n xs))) clear
-
--- without a mask each mark is set
-set-marks : {S : Type 0} (rows : List (Row S)) → IsTrue (list_all (λ row. row.1) rows)
-    → map (λ row. row.1) rows ≡ replicate (length rows) true
-set-marks [] all = refl
-set-marks ((x, true) ∷ rows) all = ap (λ rest. true ∷ rest) (set-marks rows all)
-set-marks ((x, false) ∷ rows) all = cc
 
 -- the marks that a column's mask has, or else as many set marks as there are slots
 pub pushed-marks : {A S : Type 0} (column : ColumnWith A S) (mask : Option (List Bool)) (n : ℕ) (old new : List Bool)
@@ -123,9 +92,9 @@ pub fits-joined : {A S : Type 0} (columns : List (ColumnWith A S)) (values : Lis
     → FitsMask values mask
 fits-joined {A} {S} columns values mask e m =
     let P : List S → Option (List Bool) → Type 0 = λ vs o. FitsMask vs o in
-    subst (λ vs. P vs mask) (sym (e ∙ sym (map-joined (λ row. row.0) (λ column. column.rows) columns)))
+    subst (λ vs. P vs mask) (sym (e ∙ sym (map-flat_map (λ row. row.0) (λ column. column.rows) columns)))
     (subst (P (map (λ row. row.0) (flat_map (λ column. column.rows) columns)))
-    (sym (m ∙ ap (λ marks. mask_with_nulls (Some marks)) (sym (map-joined (λ row. row.1) (λ column.
+    (sym (m ∙ ap (λ marks. mask_with_nulls (Some marks)) (sym (map-flat_map (λ row. row.1) (λ column.
     column.rows) columns)))) (needed-fits true (flat_map (λ column. column.rows) columns)))
 
 pub makes-joined : {A S : Type 0} (nothing : A) (first : ColumnWith A S) (columns : List (ColumnWith A S))
@@ -134,8 +103,8 @@ pub makes-joined : {A S : Type 0} (nothing : A) (first : ColumnWith A S) (column
     → column_with t nothing values mask ≡ concatenated nothing first columns
 makes-joined nothing first columns t values mask same e m =
     ap (λ u. column_with u nothing values mask) same
-    ∙ ap₂ (column_with first.data_type nothing) (e ∙ sym (map-joined (λ row. row.0) (λ column. column.rows) columns))
-    (m ∙ ap (λ marks. mask_with_nulls (Some marks)) (sym (map-joined (λ row. row.1) (λ column.
+    ∙ ap₂ (column_with first.data_type nothing) (e ∙ sym (map-flat_map (λ row. row.0) (λ column. column.rows) columns))
+    (m ∙ ap (λ marks. mask_with_nulls (Some marks)) (sym (map-flat_map (λ row. row.1) (λ column.
     column.rows) columns)))
     ∙ needed first.data_type nothing true (flat_map (λ column. column.rows) columns) (λ f. cc)
 
@@ -157,54 +126,3 @@ module _ {A S : Type 0} (nothing : A) where
   pub made-type : (first : ColumnWith A S) (others : List (ColumnWith A S)) (made : ColumnWith A S)
       → Concatenates nothing (first ∷ others) made → made.data_type ≡ first.data_type
   made-type first others made is = ap (λ (column : ColumnWith A S). column.data_type) is
-
--- ---- items
-
-texts-append : (items more : List (List ℕ)) → All IsWellFormed items → All IsWellFormed more
-    → All IsWellFormed (items ++ more)
-texts-append [] more all others = others
-texts-append (item ∷ items) more all others =
-    All-cons IsWellFormed item (items ++ more) (All-head IsWellFormed item items all)
-    (texts-append items more (All-tail IsWellFormed item items all) others)
-
-pub kinds-append : (text : Bool) (items more whole : List (List ℕ)) → AreItems text items → AreItems text more
-    → whole ≡ items ++ more → AreItems text whole
-kinds-append text items more whole all others is = subst (AreItems text) (sym is) (by_kind text all others)
-  where
-    by_kind : (b : Bool) → AreItems b items → AreItems b more → AreItems b (items ++ more)
-    by_kind true all others = texts-append items more all others
-    by_kind false all others = tt
-
--- the bytes from the first offset to the last are those of the items
-pub window-held : (column : ByteColumn) (os : List ℕ) → os ≡ offsets_held column → IsOffsets os
-    → length (concat (stored_values column)) ≡ last_of os - first_of os
-window-held column os same legal =
-    ap (λ items. length (concat items)) (sym (items-of-held column os (bytes_held column) same refl))
-    ∙ window-long os (bytes_held column) legal (within-held column os (bytes_held column) same refl)
-
--- behind the offsets and bytes of some items, those of an array
-module _ (column : ByteColumn) (items : List (List ℕ)) (os bytes old new held longer : List ℕ) (n : ℕ)
-    (legal : IsOffsets os) (offsets : os ≡ offsets_held column) (all : bytes ≡ bytes_held column)
-    (count : n ≡ length column.rows) (was : old ≡ offsets_of 0 items) (joined : held ≡ concat items)
-    (ends : IsOffsets new) (appended : new ≡ old ++ moved_behind (last_of old) (take (n + 1) (drop 0 os)))
-    (copied : longer ≡ held ++ slice_range bytes (first_of (take (n + 1) (drop 0 os)))
-    (last_of (take (n + 1) (drop 0 os)))) where
-  whole : take (n + 1) (drop 0 os) ≡ os
-  whole = ap (λ k. take k os) (count-held column os n offsets count) ∙ take-length os
-
-  moved : new ≡ old ++ moved_behind (last_of old) os
-  moved = appended ∙ ap (λ piece. old ++ moved_behind (last_of old) piece) whole
-
-  window : longer ≡ held ++ slice_range bytes (first_of os) (last_of os)
-  window = copied ∙ ap (λ piece. held ++ slice_range bytes (first_of piece) (last_of piece)) whole
-
-  same : items ++ items_of os bytes ≡ items ++ stored_values column
-  same = ap (λ more. items ++ more) (items-of-held column os bytes offsets all)
-
-  pub offsets-behind : new ≡ offsets_of 0 (items ++ stored_values column)
-  offsets-behind = offsets-run items os bytes old new held longer legal (within-held column os bytes offsets all) was
-      joined ends moved window ∙ ap (offsets_of 0) same
-
-  pub bytes-behind : longer ≡ concat (items ++ stored_values column)
-  bytes-behind = bytes-run items os bytes old new held longer legal (within-held column os bytes offsets all) was
-      joined ends moved window ∙ ap concat same

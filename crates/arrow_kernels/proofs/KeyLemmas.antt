@@ -1,5 +1,5 @@
 -- Lemmas for the laws: what keys take that are indexes of a list, or each index once.
-use Rattle.std.proofs.Common.{◌≡◌, ℕ, ◌+◌, ◌<◌, ◌^◌, pos, List, [], ◌∷◌, map, length, get_or, Some, refl, ap, ap₂, sym}
+use Rattle.std.proofs.Common.{◌≡◌, ℕ, ◌<◌, ◌^◌, pos, List, [], ◌∷◌, map, length, Some, refl, ap, ap₂, sym}
 use Rattle.std.proofs.Common.{subst, ◌∙◌, arith, slice_get, if◌then◌else◌, None}
 use Rattle.std.specs.Prelude.{option_and_then, slice_index_or}
 use Rattle.std.specs.List.{All, cons_option, range_with_len}

@@ -4,58 +4,26 @@ use Rattle.std.proofs.Common.{Bool, true, false, List, [], ◌∷◌, ◌++◌, 
 use Rattle.std.proofs.Common.{refl, sym, subst, ap, ap₂, ◌∙◌, inl, inr, arith, add_comm, append_assoc}
 use Rattle.std.proofs.Common.{length-drop, take-add}
 use Rattle.std.proofs.Common.{mul-le-mul_right}
-use Rattle.std.specs.Int.{bit_at, bit_not, trailing_ones, trailing_zeros}
+use Rattle.std.specs.Int.{bit_at, bit_not, trailing_ones}
 use Rattle.std.proofs.Math.Nat.{pow-le-pow_right}
 use Rattle.std.proofs.Math.Seq.{take-length}
 use Rattle.std.proofs.lemmas.Bool.{cases_eq, cases_lt}
 use Rattle.std.proofs.lemmas.List.{append-nil, length-take-le, replicate_more}
-use Rattle.std.proofs.lemmas.Nat.{and_le_r, pow-add, shl_whole, shr-shr, shr_below, shr_le}
+use Rattle.std.proofs.lemmas.Nat.{and_le_r, pow-add, shl_whole, shr_below, shr_le}
 use Rattle.std.proofs.lemmas.Nat.Bits.{bit_at_above, bit_at_and, bit_at_cat_high, bit_at_cat_low}
-use Rattle.std.proofs.lemmas.Nat.Bits.{bit_at_ones, bit_at-trailing_ones, bit_at-trailing_zeros, bit_at-zero}
+use Rattle.std.proofs.lemmas.Nat.Bits.{bit_at_ones, bit_at-trailing_ones}
 use Rattle.std.proofs.lemmas.Nat.Bits.{bit_at-lt, bit_at_not, ones_shr}
+use Rattle.arrow_types.proofs.CallerLemmas.{bit-from, moved-bit, take-next}
 use Rattle.arrow_memory.specs.Marks.{bits_of}
+use Rattle.arrow_memory.proofs.CallerLemmas.{length-bits, take-bits}
 use Rattle.arrow_bytes.specs.Selection.{where_set}
-use Rattle.arrow_kernels.proofs.BitLemmas.{length-bits, slice_get-bits, take-bits, taken-more}
-use Rattle.arrow_kernels.proofs.ChoiceLemmas.{where-append, where-gap-up}
+use Rattle.compute_base.specs.Words.{HoldsMarks}
+use Rattle.arrow_kernels.proofs.BitLemmas.{slice_get-bits}
+use Rattle.arrow_kernels.specs.Filtering.{where-gap-up}
+use Rattle.arrow_kernels.proofs.ChoiceLemmas.{where-append}
 use Rattle.arrow_kernels.proofs.WordLemmas.{no-more}
 
--- ---- the bits of a word from a place on
-
--- the word moved down to a place has the bits from there on
-pub moved-bit : (word from k : ℕ) → bit_at (word / 2 ^ from) k ≡ bit_at word (from + k)
-moved-bit word from k = ap (λ n. n % 2) (shr-shr word from k)
-
-from-place : (word from k : ℕ) → from ≤ k → bit_at word k ≡ bit_at (word / 2 ^ from) (k - from)
-from-place word from k low = ap (bit_at word) (let e : k ≡ from + (k - from) = omega arith in e)
-    ∙ sym (moved-bit word from (k - from))
-
-module _ (word from : ℕ) (fits : word < 2 ^ 64) where
-  -- where no bit is left
-  pub none-left : word / 2 ^ from ≡ 0 → (k : ℕ) → from ≤ k → bit_at word k ≡ 0
-  none-left none k low = from-place word from k low ∙ ap (λ n. bit_at n (k - from)) none ∙ bit_at-zero (k - from)
-
-  module _ (some : 0 < word / 2 ^ from) where
-    moved-fits : word / 2 ^ from < 2 ^ 64
-    moved-fits = omega (arith, fits, shr_le word from)
-
-    pub next-is-set : bit_at word (from + trailing_zeros w64 (word / 2 ^ from)) ≡ 1
-    next-is-set = sym (moved-bit word from (trailing_zeros w64 (word / 2 ^ from)))
-        ∙ (bit_at-trailing_zeros w64 (word / 2 ^ from) some moved-fits).1
-
-    pub next-within : from + trailing_zeros w64 (word / 2 ^ from) < 64
-    next-within = elim (cases_lt (from + trailing_zeros w64 (word / 2 ^ from)) 64) [
-      | inl low ↦ low
-      | inr past ↦ absurd (omega (
-        arith,
-        next-is-set,
-        bit_at_above word 64 (from + trailing_zeros w64 (word / 2 ^ from)) fits past,
-      ))
-    ]
-
-    pub next-gap : (k : ℕ) → from ≤ k → k < from + trailing_zeros w64 (word / 2 ^ from) → bit_at word k ≡ 0
-    next-gap k low high =
-        from-place word from k low ∙ (bit_at-trailing_zeros w64 (word / 2 ^ from) some moved-fits).2 (k - from)
-        (omega arith)
+-- ---- runs of set bits
 
 -- all bits of a word are set
 full : (n : ℕ) → n < 2 ^ 64 → 2 ^ 64 ≤ n + 1 → n ≡ 18446744073709551615
@@ -122,7 +90,7 @@ module _ (word first : ℕ) (fits : word < 2 ^ 64) (within : first < 64) (set : 
   ]
 
   pub run-set : (k : ℕ) → first ≤ k → k < first + trailing_ones w64 (word / 2 ^ first) → bit_at word k ≡ 1
-  run-set k low high = from-place word first k low ∙ elim (cases_lt (word / 2 ^ first + 1) (2 ^ 64)) [
+  run-set k low high = bit-from word first k low ∙ elim (cases_lt (word / 2 ^ first + 1) (2 ^ 64)) [
     | inl less ↦ (bit_at-trailing_ones w64 (word / 2 ^ first) less).2 (k - first) (omega arith)
     | inr top ↦
         let e = full (word / 2 ^ first) (omega (arith, fits, shr_le word first)) top in
@@ -138,7 +106,7 @@ rows-run rows n zero set = ap (λ k. take k rows) (let e : n + zero ≡ n = omeg
     ∙ sym (append-nil (take n rows))
 rows-run rows n (suc c) set =
     ap (λ k. take k rows) (let e : n + suc c ≡ n + c + 1 = omega arith in e)
-    ∙ taken-more rows (n + c) true (set c (omega arith))
+    ∙ take-next rows (n + c) true (set c (omega arith))
     ∙ ap (λ xs. xs ++ true ∷ []) (rows-run rows n c (λ k low. set k (omega arith)))
     ∙ append_assoc (take n rows) (replicate c true) (true ∷ [])
     ∙ ap (λ xs. take n rows ++ xs) (replicate_more c true)
@@ -179,9 +147,14 @@ rows-more rows xs first end same order within set =
     long : length (take (end - first) (drop first xs)) ≡ end - first
     long = length-take-le (end - first) (drop first xs) (omega (arith, length-drop first xs, same, within))
 
+-- a word is read of marks, so it is of equal ones
+pub read-of : (marks rows : List Bool) (row n word : ℕ) → marks ≡ rows → HoldsMarks word marks row n
+    → HoldsMarks word rows row n
+read-of marks rows row n word same read k low = ap (λ ms. slice_get ms (row + k)) (sym same) ∙ read k low
+
 -- marks that are read as a word
 module _ (rows : List Bool) (row word : ℕ)
-    (read : (k : ℕ) → k < 64 → slice_get rows (row + k) ≡ Some (bit_at word k == 1)) where
+    (read : HoldsMarks word rows row 64) where
   mark-read : (k b : ℕ) → row ≤ k → k < row + 64 → bit_at word (k - row) ≡ b → slice_get rows k ≡ Some (b == 1)
   mark-read k b low high is =
       ap (slice_get rows) (let e : k ≡ row + (k - row) = omega arith in e) ∙ read (k - row) (omega arith)
@@ -236,7 +209,7 @@ module _ (rows : List Bool) (row word : ℕ)
 -- the rows of a word
 module _ {X : Type 0} (rows : List Bool) (xs : List X) (start word : ℕ) (same : length rows ≡ length xs)
     (inside : start + 64 ≤ length rows)
-    (read : (k : ℕ) → k < 64 → slice_get rows (start + k) ≡ Some (bit_at word k == 1)) where
+    (read : HoldsMarks word rows start 64) where
   mark : (k : ℕ) → start ≤ k → k < start + 64 → (b : ℕ) → bit_at word (k - start) ≡ b → slice_get rows k ≡ Some (b == 1)
   mark k low high b is =
       ap (slice_get rows) (let e : k ≡ start + (k - start) = omega arith in e) ∙ read (k - start) (omega arith)
@@ -298,11 +271,11 @@ module _ (kept count run n new : ℕ) (small : kept < 2 ^ count) (low : run < 2 
   pub run-fits : new < 2 ^ 64
   run-fits = omega (arith, run-small, pow-le-pow_right {n = 2} (omega arith) {i = count + n} {j = 64} room)
 
-  below : (k : ℕ) → k < count → slice_get (bits_of new (count + n)) (0 + k) ≡ Some (bit_at kept k == 1)
+  below : HoldsMarks kept (bits_of new (count + n)) 0 count
   below k inner = slice_get-bits new (count + n) k (omega (arith, inner))
       ∙ ap (λ b. Some (b == 1)) (ap (λ m. bit_at m k) plain ∙ bit_at_cat_low run count kept k inner)
 
-  above : (k : ℕ) → k < n → slice_get (bits_of new (count + n)) (count + k) ≡ Some (bit_at run k == 1)
+  above : HoldsMarks run (bits_of new (count + n)) count n
   above k inner =
       ap (slice_get (bits_of new (count + n))) (let e : count + k ≡ 0 + (count + k) = omega arith in e)
       ∙ slice_get-bits new (count + n) (count + k) (omega (arith, inner))

@@ -1,16 +1,20 @@
 -- Lemmas about the set bits of a word, the lowest first.
 use Rattle.std.proofs.Common.{◌≡◌, ◌≢◌, ℕ, zero, suc, ◌+◌, ◌-◌, ◌/◌, ◌%◌, ◌^◌, ◌<◌, ◌≤◌, ◌==◌, min, bit_and, w64}
 use Rattle.std.proofs.Common.{Bool, true, false, not, cond, count_by, List, [], ◌∷◌, ◌++◌, length, take, slice_get}
-use Rattle.std.proofs.Common.{Some, refl, sym, subst, ap, ap₂, ◌∙◌, inl, inr, arith}
+use Rattle.std.proofs.Common.{Some, refl, sym, ap, ap₂, ◌∙◌, inl, inr, arith}
 use Rattle.std.specs.Int.{bit_at, trailing_zeros}
 use Rattle.std.proofs.lemmas.Bool.{cases_eq, cases_lt}
 use Rattle.std.specs.Int.Count.{trailing_of_zero}
+use Rattle.std.proofs.Math.Nat.{pow-le-pow_right}
 use Rattle.std.proofs.lemmas.List.Sums.{sum_by-cons}
-use Rattle.std.proofs.lemmas.Nat.{and_le_r, trailing_le}
-use Rattle.std.proofs.lemmas.Nat.Bits.{bit_at_and, bit_at_lowest, bit_at-suc, bit_at-trailing_zeros}
+use Rattle.std.proofs.lemmas.Nat.{and_le_r}
+use Rattle.std.proofs.lemmas.Nat.Bits.{bit_at_above, bit_at_and, bit_at_lowest, bit_at-suc, bit_at-trailing_zeros}
 use Rattle.std.proofs.lemmas.Nat.Bits.{bit_at-zero}
+use Rattle.arrow_types.proofs.CallerLemmas.{min-zero}
 use Rattle.arrow_bytes.specs.Selection.{where_set}
-use Rattle.arrow_kernels.proofs.ChoiceLemmas.{count-le, where-gap, where-grown}
+use Rattle.compute_base.specs.Words.{HoldsMarks}
+use Rattle.arrow_kernels.specs.Filtering.{AllClear, where-gap}
+use Rattle.arrow_kernels.proofs.ChoiceLemmas.{count-le, where-grown}
 
 -- ---- the lowest set bit
 
@@ -19,9 +23,6 @@ min-same x = omega arith
 
 min-none : (x y : ℕ) → x ≡ 0 → min x y ≡ x
 min-none x y e = omega (arith, e)
-
-min-cleared : (x y : ℕ) → y ≡ 0 → min x y ≡ 0
-min-cleared x y e = omega (arith, e)
 
 half-odd : (n : ℕ) → n % 2 ≡ 1 → (n - 1) / 2 ≡ n / 2
 half-odd n odd = omega (arith, odd)
@@ -49,7 +50,7 @@ others-stay (suc t) n (suc k) none one apart =
     ∙ sym (bit_at-suc n k)
 
 lowest-goes : (t n : ℕ) → ((i : ℕ) → i < t → bit_at n i ≡ 0) → bit_at n t ≡ 1 → min (bit_at n t) (bit_at (n - 1) t) ≡ 0
-lowest-goes zero n none one = min-cleared (bit_at n 0) (bit_at (n - 1) 0) (bit_at_lowest (n - 1)
+lowest-goes zero n none one = min-zero (bit_at n 0) (bit_at (n - 1) 0) (bit_at_lowest (n - 1)
     ∙ odd-before n (sym (bit_at_lowest n) ∙ one))
 lowest-goes (suc t) n none one =
     let half = half-even n (sym (bit_at_lowest n) ∙ none 0 (omega arith)) in
@@ -65,8 +66,17 @@ below-lowest (suc n) i fits low = (bit_at-trailing_zeros w64 (suc n) (omega arit
 pub no-more : (left : ℕ) → left ≡ 0 → trailing_zeros w64 left ≡ 64
 no-more left e = ap (trailing_zeros w64) e ∙ trailing_of_zero 64
 
-pub lowest-within : (left : ℕ) → left < 2 ^ 64 → 0 < left → trailing_zeros w64 left < 64
-lowest-within left fits some = (bit_at-trailing_zeros w64 left some fits).0
+-- a word of n bits, at most 64, fits in 64
+pub few-fit : (n left : ℕ) → n ≤ 64 → left < 2 ^ n → left < 2 ^ 64
+few-fit n left few fits = omega (arith, fits, pow-le-pow_right {n = 2} (omega arith) {i = n} {j = 64} few)
+
+pub lowest-within : (n left : ℕ) → n ≤ 64 → left < 2 ^ n → 0 < left → trailing_zeros w64 left < n
+lowest-within n left few fits some =
+    let lowest = bit_at-trailing_zeros w64 left some (few-fit n left few fits) in
+    elim (cases_lt (trailing_zeros w64 left) n) [
+      | inl low ↦ low
+      | inr up ↦ absurd (omega (arith, lowest.1, bit_at_above left n (trailing_zeros w64 left) fits up))
+    ]
 
 -- a word that is left of another by clearing its lowest set bit
 pub less-left : (n : ℕ) → 0 < n → bit_and n (n - 1) < n
@@ -74,98 +84,113 @@ less-left n some = omega (arith, and_le_r n (n - 1))
 
 -- ---- the rows of a word, the lowest set bit first
 
--- from its lowest set bit on, the bits of what is left of a word are the marks of 64 rows
-abbrev pub AreLeft : List Bool → ℕ → ℕ → Type 0
-AreLeft rows start left = (k : ℕ) → k < 64 → trailing_zeros w64 left ≤ k
+-- the place of the lowest set bit of a word of n bits, or n if there is none
+abbrev pub lowest : ℕ → ℕ → ℕ
+lowest n left = min (trailing_zeros w64 left) n
+
+-- from its lowest set bit on, the bits of what is left of a word are the marks of n rows
+abbrev pub AreLeft : List Bool → ℕ → ℕ → ℕ → Type 0
+AreLeft rows start n left = (k : ℕ) → k < n → trailing_zeros w64 left ≤ k
     → slice_get rows (start + k) ≡ Some (bit_at left k == 1)
 
-module _ (rows : List Bool) (start left : ℕ) (fits : left < 2 ^ 64) where
+module _ (rows : List Bool) (start n left : ℕ) (few : n ≤ 64) (fits : left < 2 ^ n) where
+  whole : left < 2 ^ 64
+  whole = few-fit n left few fits
+
   -- a clear bit is a clear mark
   clear-mark : (k : ℕ) → start ≤ k → slice_get rows (start + (k - start)) ≡ Some (bit_at left (k - start) == 1)
       → bit_at left (k - start) ≡ 0 → slice_get rows k ≡ Some false
   clear-mark k low mark clear =
       ap (slice_get rows) (let e : k ≡ start + (k - start) = omega arith in e) ∙ mark ∙ ap (λ b. Some (b == 1)) clear
 
-  -- up to the lowest set bit nothing is left
-  pub starts-word : {X : Type 0} (xs : List X)
-      → ((k : ℕ) → k < 64 → slice_get rows (start + k) ≡ Some (bit_at left k == 1))
-      → where_set (take start rows) (take start xs) ≡ where_set (take (start + trailing_zeros w64 left) rows)
-      (take (start + trailing_zeros w64 left) xs)
-  starts-word xs bits = sym (where-gap rows xs start (trailing_zeros w64 left) (λ k low high.
-      let inner : k - start < trailing_zeros w64 left = omega arith in
-      let narrow : k - start < 64 = omega (arith, inner, trailing_le 64 left) in
-      clear-mark k low (bits (k - start) narrow) (below-lowest left (k - start) fits inner)))
+  -- up to the lowest set bit the marks are clear, so nothing is left
+  module _ (bits : HoldsMarks left rows start n) where
+    pub starts-clear : AllClear rows start (start + lowest n left)
+    starts-clear k low high =
+        let inner : k - start < trailing_zeros w64 left = omega arith in
+        let narrow : k - start < n = omega arith in
+        clear-mark k low (bits (k - start) narrow) (below-lowest left (k - start) whole inner)
 
-  module _ (some : 0 < left) (marked : AreLeft rows start left) where
+    pub starts-word : {X : Type 0} (xs : List X)
+        → where_set (take start rows) (take start xs) ≡ where_set (take (start + lowest n left) rows)
+        (take (start + lowest n left) xs)
+    starts-word xs = sym (where-gap rows xs start (lowest n left) starts-clear)
+
+  module _ (some : 0 < left) (marked : AreLeft rows start n left) where
+    inside : trailing_zeros w64 left < n
+    inside = lowest-within n left few fits some
+
     next-fits : bit_and left (left - 1) < 2 ^ 64
-    next-fits = omega (arith, fits, less-left left some)
+    next-fits = omega (arith, whole, less-left left some)
 
     -- the lowest set bit is a set mark
     pub lowest-set : slice_get rows (start + trailing_zeros w64 left) ≡ Some true
     lowest-set =
-        let lowest = bit_at-trailing_zeros w64 left some fits in
-        marked (trailing_zeros w64 left) lowest.0 (omega arith) ∙ ap (λ b. Some (b == 1)) lowest.1
+        let found = bit_at-trailing_zeros w64 left some whole in
+        marked (trailing_zeros w64 left) inside (omega arith) ∙ ap (λ b. Some (b == 1)) found.1
 
     stays : (k : ℕ) → k ≢ trailing_zeros w64 left → bit_at (bit_and left (left - 1)) k ≡ bit_at left k
     stays k apart =
-        let lowest = bit_at-trailing_zeros w64 left some fits in
-        bit_at_and left (left - 1) k ∙ others-stay (trailing_zeros w64 left) left k lowest.2 lowest.1 apart
+        let found = bit_at-trailing_zeros w64 left some whole in
+        bit_at_and left (left - 1) k ∙ others-stay (trailing_zeros w64 left) left k found.2 found.1 apart
 
     goes : bit_at (bit_and left (left - 1)) (trailing_zeros w64 left) ≡ 0
     goes =
-        let lowest = bit_at-trailing_zeros w64 left some fits in
+        let found = bit_at-trailing_zeros w64 left some whole in
         bit_at_and left (left - 1) (trailing_zeros w64 left)
-        ∙ lowest-goes (trailing_zeros w64 left) left lowest.2 lowest.1
+        ∙ lowest-goes (trailing_zeros w64 left) left found.2 found.1
 
     -- up to that bit none of the next word is set
     none-up-to : (k : ℕ) → k ≤ trailing_zeros w64 left → bit_at (bit_and left (left - 1)) k ≡ 0
     none-up-to k up = elim (cases_eq k (trailing_zeros w64 left)) [
       | inl e ↦ ap (bit_at (bit_and left (left - 1))) e ∙ goes
-      | inr apart ↦ stays k apart ∙ below-lowest left k fits (let low : k < trailing_zeros w64 left = omega arith in
+      | inr apart ↦ stays k apart ∙ below-lowest left k whole (let low : k < trailing_zeros w64 left = omega arith in
           low)
     ]
 
     -- the lowest set bit of the next word stands behind it
     pub later : trailing_zeros w64 left < trailing_zeros w64 (bit_and left (left - 1))
     later = elim (cases_eq (bit_and left (left - 1)) 0) [
-      | inl e ↦ subst (λ n. trailing_zeros w64 left < n) (sym (no-more (bit_and left (left - 1)) e))
-          (lowest-within left fits some)
+      | inl e ↦ omega (arith, no-more (bit_and left (left - 1)) e, inside, few)
       | inr ne ↦ elim (cases_lt (trailing_zeros w64 left) (trailing_zeros w64 (bit_and left (left - 1)))) [
         | inl low ↦ low
         | inr up ↦
-            let lowest = bit_at-trailing_zeros w64 (bit_and left (left - 1)) (omega (arith, ne)) next-fits in
-            absurd (omega (arith, lowest.1, none-up-to (trailing_zeros w64 (bit_and left (left - 1))) up))
+            let found = bit_at-trailing_zeros w64 (bit_and left (left - 1)) (omega (arith, ne)) next-fits in
+            absurd (omega (arith, found.1, none-up-to (trailing_zeros w64 (bit_and left (left - 1))) up))
       ]
     ]
 
-    pub left-next : AreLeft rows start (bit_and left (left - 1))
+    pub behind : trailing_zeros w64 left + 1 ≤ lowest n (bit_and left (left - 1))
+    behind = omega (arith, later, inside)
+
+    pub left-next : AreLeft rows start n (bit_and left (left - 1))
     left-next k low up =
-        let behind : trailing_zeros w64 left < k = omega (arith, later, up) in
-        marked k low (omega (arith, behind))
-        ∙ ap (λ b. Some (b == 1)) (sym (stays k (λ e. absurd (omega (arith, e, behind)))))
+        let after : trailing_zeros w64 left < k = omega (arith, later, up) in
+        marked k low (omega (arith, after))
+        ∙ ap (λ b. Some (b == 1)) (sym (stays k (λ e. absurd (omega (arith, e, after)))))
 
     -- the rows between the two are not asked for
     pub gap-next : (k : ℕ) → start + trailing_zeros w64 left + 1 ≤ k
-        → k < start + trailing_zeros w64 (bit_and left (left - 1)) → slice_get rows k ≡ Some false
+        → k < start + lowest n (bit_and left (left - 1)) → slice_get rows k ≡ Some false
     gap-next k low high =
-        let behind : trailing_zeros w64 left < k - start = omega arith in
+        let after : trailing_zeros w64 left < k - start = omega arith in
         let inner : k - start < trailing_zeros w64 (bit_and left (left - 1)) = omega arith in
-        let narrow : k - start < 64 = omega (arith, inner, trailing_le 64 (bit_and left (left - 1))) in
+        let narrow : k - start < n = omega arith in
         let clear : bit_at left (k - start) ≡ 0 =
-        sym (stays (k - start) (λ e. absurd (omega (arith, e, behind))))
+        sym (stays (k - start) (λ e. absurd (omega (arith, e, after))))
         ∙ below-lowest (bit_and left (left - 1)) (k - start) next-fits inner in
-        clear-mark k (omega arith) (marked (k - start) narrow (omega (arith, behind))) clear
+        clear-mark k (omega arith) (marked (k - start) narrow (omega (arith, after))) clear
 
     -- a list of what is asked for that grows by what stands there
     pub word-grown : {X : Type 0} (xs old new : List X) (x : X)
         → slice_get xs (start + trailing_zeros w64 left) ≡ Some x
         → old ≡ where_set (take (start + trailing_zeros w64 left) rows) (take (start + trailing_zeros w64 left) xs)
         → new ≡ old ++ x ∷ []
-        → new ≡ where_set (take (start + trailing_zeros w64 (bit_and left (left - 1))) rows)
-        (take (start + trailing_zeros w64 (bit_and left (left - 1))) xs)
+        → new ≡ where_set (take (start + lowest n (bit_and left (left - 1))) rows)
+        (take (start + lowest n (bit_and left (left - 1))) xs)
     word-grown xs old new x read was pushed =
-        where-grown rows xs (start + trailing_zeros w64 left) (start + trailing_zeros w64 (bit_and left (left - 1)))
-        x old new lowest-set read (omega (arith, later)) gap-next was pushed
+        where-grown rows xs (start + trailing_zeros w64 left) (start + lowest n (bit_and left (left - 1)))
+        x old new lowest-set read (omega (arith, behind)) gap-next was pushed
 
 -- ---- room for what is asked for
 

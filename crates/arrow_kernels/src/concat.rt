@@ -7,7 +7,7 @@ ghost use Rattle.arrow_column.specs.Column.{refused_growth};
 ghost use Rattle.arrow_bytes.specs.Pieces.{nothing_around};
 ghost use Rattle.arrow_bytes.specs.Selection.{Concatenates, concat_overflows};
 
-use crate::concat_parts::{concat_bits, concat_length, concat_pieces, concat_values};
+use crate::concat_parts::{concat_bits, concat_byte_values, concat_length, concat_values};
 use crate::marks::concat_validity;
 use arrow_binary::BinaryArray;
 use arrow_boolean::BooleanArray;
@@ -61,14 +61,15 @@ fn concatenated_items<K: ByteKind, O: Offset>(
     arrays: &[ByteArray<K, O>],
     room: usize,
 ) -> Result<ByteArray<K, O>, Error>
-    requires { 0 < length arrays.now }
+    requires some { 0 < length arrays.now }
+    requires within { concat_overflows O.most arrays.now ≡ false }
     ensures ok { IfOk result (λ made. Concatenates nothing_around arrays.now made) }
     ensures err { OnlyOutOfMemory result }
 {
-    let (offsets, bytes) = concat_pieces(alloc, arrays, room)?;
+    let values = concat_byte_values(alloc, arrays, room)?;
     let mask = concat_validity(alloc, arrays)?;
     let data_type = arrays[0].data_type().clone()?;
-    Ok(ByteArray::new(data_type, offsets, bytes, mask))
+    Ok(ByteArray::from_byte_values(data_type, values, mask))
 }
 
 /// Returns the slots of the arrays, one array after the other, with the data type of the first.

@@ -6,8 +6,9 @@ ghost use Rattle.arrow_types.specs.Failures.{OnlyOutOfMemory};
 ghost use Rattle.arrow_bytes.specs.Pieces.{nothing_around};
 ghost use Rattle.arrow_bytes.specs.Selection.{filtered};
 
+use crate::filter_marks::{filter_marks, filter_validity};
 use crate::filter_mask::FilterMask;
-use crate::filter_parts::{filter_marks, filter_pieces, filter_validity, filter_values};
+use crate::filter_values::{filter_byte_values, filter_values};
 use arrow_binary::BinaryArray;
 use arrow_boolean::BooleanArray;
 use arrow_byte_array::ByteArray;
@@ -76,10 +77,10 @@ pub fn filter_items<K: ByteKind, O: Offset>(
     ensures err { OnlyOutOfMemory result }
 {
     let selected = FilterMask::of(alloc, filter)?;
-    let (offsets, bytes) = filter_pieces(alloc, array, &selected)?;
+    let values = filter_byte_values(alloc, array.byte_values(), &selected)?;
     let mask = filter_validity(alloc, array.validity(), &selected)?;
     let data_type = array.data_type().clone()?;
-    Ok(ByteArray::new(data_type, offsets, bytes, mask))
+    Ok(ByteArray::from_byte_values(data_type, values, mask))
 }
 
 /// Returns the slots of `array` where `filter` is valid and true. Both must have equally many

@@ -5,12 +5,12 @@
 mod concat;
 mod concat_parts;
 mod filter;
+mod filter_marks;
 mod filter_mask;
-mod filter_parts;
+mod filter_rows;
+mod filter_values;
 pub mod laws;
 mod marks;
-pub mod mask;
-mod pieces;
 mod runs;
 mod take;
 mod take_parts;

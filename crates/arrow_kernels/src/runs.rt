@@ -2,25 +2,6 @@
 ghost use Rattle.std.specs.Prelude.{◌≡◌, ℕ, ◌<◌, ◌≤◌};
 ghost use Rattle.std.specs.Int.{bit_at};
 
-/// Returns the place of the first set bit from `from` on, or 64 if there is none.
-#[inline(always)]
-pub(crate) fn next_set(word: u64, from: usize) -> usize
-    requires { from ≤ 64 }
-    ensures low { from ≤ result }
-    ensures high { result ≤ 64 }
-    ensures clear { (k : ℕ) → from ≤ k → k < result → bit_at word k ≡ 0 }
-    ensures set { result < 64 → bit_at word result ≡ 1 }
-{
-    if from == 64 {
-        return 64;
-    }
-    let rest = word >> from;
-    if rest == 0 {
-        return 64;
-    }
-    from + rest.trailing_zeros() as usize
-}
-
 /// Returns the place after the run of set bits that begins at `first`.
 #[inline(always)]
 pub(crate) fn run_end(word: u64, first: usize) -> usize
@@ -36,9 +17,7 @@ pub(crate) fn run_end(word: u64, first: usize) -> usize
 /// Returns whether runs of set bits have `length` bits or more on average, so that appending run by run is faster than
 /// row by row. It has no contract, since only speed depends on the result.
 #[inline(always)]
-pub(crate) fn has_long_runs(word: u64, length: u32) -> bool
-    requires { 0 < length }
-{
+pub(crate) fn has_long_runs(word: u64, length: u32) -> bool {
     let runs = (word & !(word << 1)).count_ones();
-    word.count_ones() / length >= runs
+    word.count_ones() >= runs.saturating_mul(length)
 }

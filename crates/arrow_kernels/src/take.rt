@@ -1,14 +1,14 @@
 //! Takes: the rows at keys, in the order of the keys. A key is the index of a row. Data types and stored values stay;
 //! the new array has no bytes around its slots, and holds a mask exactly if one of them is null. All keys are checked,
 //! and the lengths of all items added, before memory is allocated.
-ghost use Rattle.std.specs.Prelude.{◌≡◌, ⊤, length, None, IfOk, IfErr};
+ghost use Rattle.std.specs.Prelude.{◌≡◌, ⊤, false, length, None, IfOk, IfErr};
 ghost use Rattle.std.specs.Prelude.{MatchOption};
 ghost use Rattle.arrow_types.specs.Failures.{OnlyOutOfMemory};
 ghost use Rattle.arrow_check.specs.Indexes.{AllInBounds, FailsAt};
 ghost use Rattle.arrow_bytes.specs.Pieces.{nothing_around};
-ghost use Rattle.arrow_bytes.specs.Selection.{first_out_of_bounds, taken, TakesItems, TakeRefused};
+ghost use Rattle.arrow_bytes.specs.Selection.{first_out_of_bounds, taken, taking_overflows, TakesItems, TakeRefused};
 
-use crate::take_parts::{items_length, take_marks, take_pieces, take_validity, take_values};
+use crate::take_parts::{items_length, take_items_at, take_marks, take_validity, take_values};
 use arrow_binary::BinaryArray;
 use arrow_boolean::BooleanArray;
 use arrow_byte_array::ByteArray;
@@ -74,14 +74,15 @@ fn taken_items<K: ByteKind, O: Offset, I: IndexKey>(
     keys: &[I],
     room: usize,
 ) -> Result<ByteArray<K, O>, Error>
-    requires { AllInBounds I.number (length array.now.rows) keys.now }
+    requires keys { AllInBounds I.number (length array.now.rows) keys.now }
+    requires within { taking_overflows O.most I.number array.now keys.now ≡ false }
     ensures ok { IfOk result (λ made. made ≡ taken nothing_around I.number array.now keys.now) }
     ensures err { OnlyOutOfMemory result }
 {
-    let (offsets, bytes) = take_pieces(alloc, array, keys, room)?;
+    let values = take_items_at(alloc, array.byte_values().as_slice(), keys, room)?;
     let mask = take_validity(alloc, array.validity(), keys)?;
     let data_type = array.data_type().clone()?;
-    Ok(ByteArray::new(data_type, offsets, bytes, mask))
+    Ok(ByteArray::from_byte_values(data_type, values, mask))
 }
 
 /// Returns the slots of `array` at the keys.
@@ -101,7 +102,7 @@ pub fn take_items<K: ByteKind, O: Offset, I: IndexKey>(
     ensures err { IfErr result (TakeRefused O.most I.number array.now keys.now) }
 {
     check_indexes(keys, array.len())?;
-    let room = items_length(array, keys)?;
+    let room = items_length(array.byte_values().as_slice(), keys)?;
     taken_items(alloc, array, keys, room)
 }
 

@@ -1,31 +1,23 @@
 //! The stored values, marks and items at keys.
-ghost use Rattle.std.specs.Prelude.{◌≡◌, ◌+◌, ◌<◌, ◌≤◌, false, true, length, option_map, All, Some, IfOk, IfErr};
-ghost use Rattle.std.specs.Prelude.{IfSome, IsSomeAnd, OnOk};
+ghost use Rattle.std.specs.Prelude.{◌≡◌, ◌<◌, ◌≤◌, length, option_map, Some, IfOk, IfErr};
+ghost use Rattle.std.specs.Prelude.{IfSome, IsSomeAnd, OnErr, OnOk};
 ghost use Rattle.std.specs.List.{concat};
 ghost use Rattle.std.specs.Option.{option_copied};
 ghost use Rattle.arrow_types.specs.Failures.{OnlyOutOfMemory};
 ghost use Rattle.arrow_types.specs.IndexKey.{index_of};
 ghost use Rattle.arrow_column.specs.Masks.{mask_with_nulls};
-ghost use Rattle.arrow_column.specs.Column.{stored_values};
 ghost use Rattle.arrow_memory.specs.Marks.{bits_of};
-ghost use Rattle.arrow_memory.specs.Offsets.{last_of};
-ghost use Rattle.arrow_check.specs.Pieces.{items_of, offsets_of};
-ghost use Rattle.arrow_bytes.specs.Kinds.{CutItems};
-ghost use Rattle.arrow_bytes.specs.Pieces.{around_of, nothing_around};
-ghost use Rattle.arrow_bytes.specs.Selection.{at_keys, taking_overflows, taken_length};
+ghost use Rattle.arrow_bytes.specs.Pieces.{bare_items};
+ghost use Rattle.arrow_bytes.specs.Selection.{at_keys};
 ghost use Rattle.arrow_check.specs.Indexes.{AllInBounds};
 
-use crate::mask::needed_mask;
-use crate::pieces::item_at;
-use arrow_byte_array::ByteArray;
-use arrow_bytes::ByteKind;
+use arrow_bytes::{ByteKind, ByteValues, ItemSlice, MutableByteValues};
 use arrow_memory::bitmap::{Bitmap, MutableBitmap};
-use arrow_memory::buffer::Buffer;
-use arrow_memory::offset::{Offsets, OffsetsBuffer};
 use arrow_types::error::Error;
 use arrow_types::index_key::IndexKey;
 use arrow_types::native_type::NativeType;
 use arrow_types::offset::Offset;
+use compute_base::masks::needed_mask;
 use std::alloc::Global;
 
 /// Returns a key that is in bounds as an index.
@@ -120,24 +112,23 @@ pub(crate) fn take_validity<K: IndexKey>(
     }
 }
 
-/// Returns the number of bytes of the items at the keys.
-fn take_length<O: Offset, K: IndexKey>(
-    offsets: &OffsetsBuffer<O>,
-    bytes: &[u8],
-    keys: &[K],
+/// Returns the number of bytes of the items at keys, all of which are in bounds.
+///
+/// # Errors
+/// `Overflow` if the number is above the greatest offset.
+pub(crate) fn items_length<K: ByteKind, O: Offset, I: IndexKey>(
+    items: ItemSlice<'_, K, O>,
+    keys: &[I],
 ) -> Result<usize, Error>
-    requires keys { All (λ key. IsSomeAnd (index_of (K.number key)) (λ index. index + 1 < length offsets.now))
-        keys.now }
-    requires within { last_of offsets.now ≤ length bytes.now }
-    ensures ok { IfOk result (λ total. (total ≤ O.most) × (total
-        ≡ taken_length K.number keys.now offsets.now bytes.now)) }
-    ensures err { IfErr result (λ e. (e ≡ Error.Overflow)
-        × (O.most < taken_length K.number keys.now offsets.now bytes.now)) }
+    requires { AllInBounds I.number (length items) keys.now }
+    ensures ok { OnOk result (length (concat (at_keys I.number keys.now items.entry)) ≤ O.most) }
+    ensures err { IfErr result (λ e. e ≡ Error.Overflow) }
+    ensures over { OnErr result (O.most < length (concat (at_keys I.number keys.now items.entry))) }
 {
     let most = O::max().to_usize();
     let mut total = 0;
     for key in keys {
-        let item = item_at(offsets, bytes, place_of(key, offsets.len_proxy()));
+        let item = items.value(place_of(key, items.count()));
         if item.len() > most - total {
             return Err(Error::Overflow);
         }
@@ -146,70 +137,22 @@ fn take_length<O: Offset, K: IndexKey>(
     Ok(total)
 }
 
-/// Returns the number of bytes of the items at keys, all of which are in bounds.
-///
-/// # Errors
-/// `Overflow` if the number is above the greatest offset.
-pub(crate) fn items_length<K: ByteKind, O: Offset, I: IndexKey>(
-    array: &ByteArray<K, O>,
-    keys: &[I],
-) -> Result<usize, Error>
-    requires { AllInBounds I.number (length array.now.rows) keys.now }
-    ensures ok { OnOk result (taking_overflows O.most I.number array.now keys.now ≡ false) }
-    ensures err { IfErr result (λ e. (e ≡ Error.Overflow)
-        × (taking_overflows O.most I.number array.now keys.now ≡ true)) }
-{
-    take_length(array.offsets(), array.values().as_slice(), keys)
-}
-
-/// Returns the items at the keys as offsets and bytes of their own. Together they end at most at
-/// the greatest offset; room for their bytes is reserved once.
-fn take_item_bytes<O: Offset, K: IndexKey>(
-    alloc: Global,
-    offsets: &OffsetsBuffer<O>,
-    bytes: &[u8],
-    keys: &[K],
-    room: usize,
-) -> Result<(Offsets<O>, Vec<u8>), Error>
-    requires keys { All (λ key. IsSomeAnd (index_of (K.number key)) (λ index. index + 1 < length offsets.now))
-        keys.now }
-    requires within { last_of offsets.now ≤ length bytes.now }
-    ensures offsets { IfOk result (λ picked.
-        picked.0 ≡ offsets_of 0 (at_keys K.number keys.now (items_of offsets.now bytes.now))) }
-    ensures bytes { IfOk result (λ picked.
-        picked.1.items ≡ concat (at_keys K.number keys.now (items_of offsets.now bytes.now))) }
-    ensures err { OnlyOutOfMemory result }
-{
-    let mut picked = Offsets::with_capacity(alloc, keys.len())?;
-    let mut picked_bytes = Vec::with_capacity(alloc, room)?;
-    for key in keys {
-        let item = item_at(offsets, bytes, place_of(key, offsets.len_proxy()));
-        // The items end at most at the greatest offset, so only an allocation can fail.
-        match picked.try_push_item(&mut picked_bytes, item) {
-            Ok(()) => {}
-            Err(_) => return Err(Error::OutOfMemory),
-        }
-    }
-    Ok((picked, picked_bytes))
-}
-
-/// Returns the items of an array at keys, all of which are in bounds, as offsets and bytes of their own. Together they
+/// Returns the items at keys, all of which are in bounds, with nothing around them. Together they
 /// end at most at the greatest offset; room for their bytes is reserved once.
-pub(crate) fn take_pieces<K: ByteKind, O: Offset, I: IndexKey>(
+pub(crate) fn take_items_at<K: ByteKind, O: Offset, I: IndexKey>(
     alloc: Global,
-    array: &ByteArray<K, O>,
+    items: ItemSlice<'_, K, O>,
     keys: &[I],
     room: usize,
-) -> Result<(OffsetsBuffer<O>, Buffer<u8>), Error>
-    requires { AllInBounds I.number (length array.now.rows) keys.now }
-    ensures cut { IfOk result (λ picked. CutItems K.is_text picked.0 picked.1) }
-    ensures around { IfOk result (λ picked. around_of picked.0 picked.1 ≡ nothing_around) }
-    ensures items { IfOk result (λ picked.
-        items_of picked.0 picked.1 ≡ at_keys I.number keys.now (stored_values array.now)) }
+) -> Result<ByteValues<K, O>, Error>
+    requires keys { AllInBounds I.number (length items) keys.now }
+    requires within { length (concat (at_keys I.number keys.now items)) ≤ O.most }
+    ensures ok { IfOk result (λ picked. picked ≡ bare_items (at_keys I.number keys.now items.entry)) }
     ensures err { OnlyOutOfMemory result }
 {
-    let bytes = array.values().as_slice();
-    let (offsets, bytes) = take_item_bytes(alloc, array.offsets(), bytes, keys, room)?;
-    let offsets = offsets.freeze()?;
-    Ok((offsets, Buffer::from_vec(bytes)?))
+    let mut picked = MutableByteValues::with_capacities(alloc, keys.len(), room)?;
+    for key in keys {
+        picked.push_fitting_item(items.value(place_of(key, items.count())))?;
+    }
+    picked.freeze()
 }

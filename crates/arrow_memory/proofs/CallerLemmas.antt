@@ -1,4 +1,4 @@
--- What proofs of callers cite about lists of offsets and cuts of lists.
+-- What proofs of callers cite about lists of offsets and the bits of words as marks.
 
 -- Offsets that are read one by one: the list of their numbers is as long as the values, a value that is read at a
 -- place has
@@ -6,5 +6,5 @@
 pub use Rattle.arrow_memory.proofs.OffsetLemmas.{length-numbers, value-at, not-negative}
 -- A cut of legal offsets is legal offsets.
 pub use Rattle.arrow_memory.proofs.OffsetLemmas.{legal-piece}
--- A cut of a list: its length, and a cut of a cut.
-pub use Rattle.arrow_memory.proofs.PieceLemmas.{length-piece, piece-piece}
+-- The bits of a word as marks: how many there are, and as the next marks of a list.
+pub use Rattle.arrow_memory.proofs.MarkLemmas.{length-bits, take-bits}

@@ -1,17 +1,17 @@
 -- Lemmas about offsets.
-use Rattle.std.proofs.Common.{◌≡◌, ℕ, zero, suc, ◌+◌, ◌-◌, ◌<◌, ◌≤◌, ℤ, pos, negsuc, Bool, true, false, List, []}
+use Rattle.std.proofs.Common.{◌≡◌, ℕ, zero, suc, ◌+◌, ◌-◌, ◌<◌, ◌≤◌, ℤ, pos, negsuc, false, List, []}
 use Rattle.std.proofs.Common.{◌∷◌, ◌++◌, length, map, take, drop, replicate, get_or, ◌≤ℤ◌, ◌+ℤ◌, ap₂}
-use Rattle.std.proofs.Common.{append_assoc, length-drop, Option, Some, None, MatchOption, nat_lt, if◌then◌else◌}
+use Rattle.std.proofs.Common.{append_assoc, length-drop, Option, Some, None, MatchOption, nat_lt}
 use Rattle.std.proofs.Common.{refl, sym, ap, ◌∙◌, arith, inl, inr, length-append}
 use Rattle.std.specs.Prelude.{slice_range}
 use Rattle.std.specs.Int.RustNames.{unsigned_abs}
 use Rattle.std.proofs.lemmas.Bool.{true≢false, or_parts, or_from, ltb-false, le-ltb, cases_lt}
 use Rattle.std.proofs.lemmas.List.{get_or-map, length-map, map-append, get_or_append_left, get_or-append_right}
-use Rattle.std.proofs.lemmas.List.{take-append-drop, get_or-take, get_or-drop, get_or-replicate, length-replicate, take-map}
+use Rattle.std.proofs.lemmas.List.{take-append-drop, get_or-take, get_or-drop, get_or-replicate, length-replicate}
 use Rattle.std.proofs.lemmas.List.{take_more, take_all, ext_get_or}
 use Rattle.std.proofs.lemmas.Int.{ints}
 use Rattle.std.specs.List.{drop-map}
-use Rattle.arrow_memory.proofs.PieceLemmas.{length-piece}
+use Rattle.arrow_types.proofs.CallerLemmas.{length-piece, map-piece, no-faults, no-second_fault}
 use Rattle.arrow_memory.specs.Offsets.{file_offsets, first_of, last_of, NeverFalls, IsOffsets, falls_after, first_fault}
 use Rattle.arrow_memory.specs.Offsets.{numbers_of, KeepsOffsets, moved_behind}
 
@@ -51,23 +51,12 @@ pub last_of-after : (x : ℕ) (zs : List ℤ) → last_after x zs ≡ last_of (x
 last_of-after x zs = last-after x zs ∙ ap (λ i. get_or (x ∷ map unsigned_abs zs) i 0) (let e : length zs
     ≡ suc (length (map unsigned_abs zs)) - 1 = omega (arith, length-map zs unsigned_abs) in e)
 
-no-fault-2 : (a b : Bool) (s t : List ℕ) → (if a then Some s else (if b then Some t else None)) ≡ None → b ≡ false
-no-fault-2 true b s t h = absurd (cc)
-no-fault-2 false true s t h = absurd (cc)
-no-fault-2 false false s t h = refl
-
-no-faults : (a b : Bool) (s t : List ℕ) → a ≡ false → b ≡ false
-    → (if a then Some s else (if b then Some t else None)) ≡ None
-no-faults true b s t h k = absurd (true≢false h)
-no-faults false true s t h k = absurd (true≢false k)
-no-faults false false s t h k = refl
-
 -- integers with no fault are numbers, and legal offsets
 pub faultless-whole : (zs : List ℤ) → first_fault zs ≡ None → zs ≡ map pos (map unsigned_abs zs)
 faultless-whole [] h = absurd (cc)
 faultless-whole (negsuc n ∷ zs) h = absurd (cc)
 faultless-whole (pos n ∷ zs) h =
-    ap (λ ys. pos n ∷ ys) (whole-after n zs (no-fault-2 (nat_lt n 0) (falls_after (pos n) zs) _ _ h))
+    ap (λ ys. pos n ∷ ys) (whole-after n zs (no-second_fault (nat_lt n 0) (falls_after (pos n) zs) _ _ h))
 
 pub faultless-legal : (zs : List ℤ) → first_fault zs ≡ None → IsOffsets (map unsigned_abs zs)
 faultless-legal [] h = absurd (cc)
@@ -75,7 +64,7 @@ faultless-legal (negsuc n ∷ zs) h = absurd (cc)
 faultless-legal (pos n ∷ zs) h = record {
   some = omega arith;
   order =
-      order-after n zs (no-fault-2 (nat_lt n 0) (falls_after (pos n) zs) _ _ h);
+      order-after n zs (no-second_fault (nat_lt n 0) (falls_after (pos n) zs) _ _ h);
 }
 
 -- a file that has legal offsets means these
@@ -184,9 +173,6 @@ last-piece ns o n legal some inside =
       legal.order (o + (length (take n (drop o ns)) - 1)) (length ns - 1) (omega arith)
           (omega arith),
     )
-
-map-piece : {X Y : Type 0} (f : X → Y) (xs : List X) (o n : ℕ) → map f (take n (drop o xs)) ≡ take n (drop o (map f xs))
-map-piece f xs o n = sym (take-map f n (drop o xs)) ∙ ap (take n) (sym (drop-map f o xs))
 
 pub numbers-piece : {O : Type 0} (number : O → ℤ) (xs : List O) (o n : ℕ)
     → numbers_of number (take n (drop o xs)) ≡ take n (drop o (numbers_of number xs))

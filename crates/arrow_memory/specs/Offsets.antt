@@ -71,6 +71,10 @@ window_of offsets bytes = slice_range bytes (first_of offsets) (last_of offsets)
 abbrev pub slots_from : ℕ → ℕ → List ℕ → List ℕ
 slots_from first count offsets = take (count + 1) (drop first offsets)
 
+-- the offsets of the slots from one up to another
+abbrev pub slots_to : ℕ → ℕ → List ℕ → List ℕ
+slots_to first end offsets = slots_from first (end - first) offsets
+
 -- where the last slot ends once the slots of other offsets are appended
 abbrev pub joined_end : List ℕ → List ℕ → ℕ
 joined_end offsets other = last_of offsets + extent other

@@ -4,7 +4,7 @@ ghost use Rattle.arrow_column.specs.Validation.{AcceptsParts, RefusesParts};
 ghost use Rattle.arrow_primitive.specs.Fits.{parts_tests};
 
 use crate::{MutablePrimitiveArray, PrimitiveArray};
-use arrow_column::{GrowingColumn, is_growing_mask_of, is_mask_of};
+use arrow_column::{GrowingColumn, is_mask_of};
 use arrow_memory::bitmap::{Bitmap, MutableBitmap};
 use arrow_memory::buffer::Buffer;
 use arrow_types::data_type::DataType;
@@ -72,7 +72,8 @@ impl<T: NativeType> MutablePrimitiveArray<T> {
         ensures ok { AcceptsParts (parts_tests T.PRIMITIVE) (logical_type data_type) values.items validity result }
         ensures err { RefusesParts (parts_tests T.PRIMITIVE) (logical_type data_type) values.items validity result }
     {
-        if !is_growing_mask_of(&validity, values.len()) {
+        let slots = values.len();
+        if !is_mask_of(&validity, slots) {
             return Err(Error::OutOfSpec(UNFIT_MASK));
         }
         if !data_type.is_right_for(PhysicalType::Primitive(T::PRIMITIVE)) {

@@ -2,7 +2,7 @@
 ghost use Rattle.std.specs.Prelude.{◌≡◌, ◌+◌, ◌<◌, ◌≤◌, ◌++◌, length, IsTrue, OnOk, OnErr};
 ghost use Rattle.std.specs.Prelude.{IfErr};
 ghost use Rattle.std.specs.Vec.{vec_len, vec_capacity};
-ghost use Rattle.arrow_memory.specs.Offsets.{last_of, IsOffsets, KeepsOffsets, window_of, slots_from, joined_end};
+ghost use Rattle.arrow_memory.specs.Offsets.{last_of, IsOffsets, KeepsOffsets, window_of, slots_to, joined_end};
 ghost use Rattle.arrow_memory.specs.Offsets.{AppendsEnd, AppendsOffsets, EndRefused};
 ghost use Rattle.arrow_memory.specs.Offsets.{numbers_of};
 
@@ -11,6 +11,7 @@ use crate::offset::{Offsets, OffsetsBuffer};
 use arrow_types::error::Error;
 use arrow_types::offset::Offset;
 use std::alloc::AllocError;
+use std::ops::Range;
 
 /// Returns whether an item has eight to sixteen bytes, and there is room for its end and for sixteen bytes. Nothing has
 /// to grow then.
@@ -170,8 +171,8 @@ impl<O: Offset> Offsets<O> {
         self.try_extend_cut(values, other.as_slice(), others)
     }
 
-    /// Appends `count` items of others, from item `first` on, to the values, and the ends of their
-    /// slots to the offsets. The bytes are copied at once, and the slots keep their lengths.
+    /// Appends the items in a run of slots of others to the values, and the ends of their slots to the offsets. The
+    /// bytes are copied at once, and the slots keep their lengths.
     ///
     /// # Errors
     /// As [`Offsets::try_extend_items`].
@@ -180,20 +181,20 @@ impl<O: Offset> Offsets<O> {
         values: &mut Vec<u8>,
         other: &OffsetsBuffer<O>,
         others: &[u8],
-        first: usize,
-        count: usize,
+        run: Range<usize>,
     ) -> Result<(), Error>
-        requires slots { first + count < length other.now }
+        requires order { run.start ≤ run.end }
+        requires within { run.end < length other.now }
         requires held { last_of other.now ≤ length others.now }
         ensures legal { IsOffsets self.new }
         ensures other { IsOffsets other.now }
-        ensures ok { OnOk result (AppendsOffsets O.most self.old (slots_from first count other.now) self.new) }
+        ensures ok { OnOk result (AppendsOffsets O.most self.old (slots_to run.start run.end other.now) self.new) }
         ensures bytes { OnOk result (values.new.items ≡ values.old.items
-            ++ window_of (slots_from first count other.now) others.now) }
-        ensures err { IfErr result (λ e. EndRefused e O.most (joined_end self.old (slots_from first count other.now))) }
+            ++ window_of (slots_to run.start run.end other.now) others.now) }
+        ensures err { IfErr result (λ e. EndRefused e O.most (joined_end self.old (slots_to run.start run.end other.now))) }
         ensures kept { OnErr result ((self.new ≡ self.old) × (values.new.items ≡ values.old.items)) }
     {
         let offsets = other.buffer().as_slice();
-        self.try_extend_cut(values, &offsets[first..first + count + 1], others)
+        self.try_extend_cut(values, &offsets[run.start..run.end + 1], others)
     }
 }

@@ -1,7 +1,7 @@
 use Rattle.std.proofs.Common.{◌≡◌, ◌+◌, ◌*◌, ◌/◌, ap, arith, count_by, take}
 use Rattle.std.proofs.lemmas.List.Sums.{count_by-le-length}
 use Rattle.arrow_column.specs.Combined.{set_in_both}
-use Rattle.arrow_boolean.proofs.TruthLemmas.{length-both}
+use Rattle.arrow_column.proofs.CallerLemmas.{length-both}
 use Rattle.arrow_boolean.proofs.TruthLemmas.{count-both-word, count-first, count-parts}
 use Rattle.arrow_boolean.proofs.true_count.count_both.Goals as goal
 

@@ -1,7 +1,7 @@
 use Rattle.std.proofs.Common.{◌≡◌, ℕ, ap, arith, cond, count_by, length, take, ◌∙◌}
 use Rattle.std.proofs.Math.Seq.{take-length}
 use Rattle.arrow_column.specs.Combined.{set_in_both}
-use Rattle.arrow_boolean.proofs.TruthLemmas.{length-both}
+use Rattle.arrow_column.proofs.CallerLemmas.{length-both}
 use Rattle.arrow_boolean.proofs.TruthLemmas.{count-more}
 use Rattle.arrow_boolean.proofs.true_count.count_few.Goals as goal
 use Rattle.arrow_boolean.proofs.true_count.count_few.Goals.{then-is_set_in_both, else-is_set_in_both}

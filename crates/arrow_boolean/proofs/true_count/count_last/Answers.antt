@@ -1,7 +1,7 @@
 use Rattle.std.proofs.Common.{◌≡◌, ◌-◌, ap, arith, count_by, drop, length, sym, ◌∙◌}
 use Rattle.std.proofs.Math.Seq.{drop-length}
 use Rattle.arrow_column.specs.Combined.{set_in_both}
-use Rattle.arrow_boolean.proofs.TruthLemmas.{length-both}
+use Rattle.arrow_column.proofs.CallerLemmas.{length-both}
 use Rattle.arrow_boolean.proofs.TruthLemmas.{count-last}
 use Rattle.arrow_boolean.proofs.true_count.count_last.Goals as goal
 

@@ -1,5 +1,5 @@
 use Rattle.std.proofs.Common.{Some, ◌&&◌, ap, ◌∙◌}
-use Rattle.arrow_boolean.proofs.TruthLemmas.{both-at, both-clear}
+use Rattle.arrow_column.proofs.CallerLemmas.{both-at, both-clear}
 use Rattle.arrow_boolean.proofs.true_count.is_set_in_both.Goals as goal
 
 pub returns-then-get_bit : goal.returns-then-get_bit

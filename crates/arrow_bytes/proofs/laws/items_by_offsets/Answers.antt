@@ -1,4 +1,5 @@
-use Rattle.arrow_bytes.proofs.PieceLemmas.{item-at, items-by-pairs, items-cut, length-items}
+use Rattle.arrow_check.proofs.CallerLemmas.{item-at, length-items}
+use Rattle.arrow_bytes.proofs.PieceLemmas.{items-by-pairs, items-cut}
 use Rattle.arrow_bytes.proofs.laws.items_by_offsets.Goals as goal
 
 pub returns-clause-count : goal.returns-clause-count

@@ -1,4 +1,5 @@
-use Rattle.arrow_column.proofs.ColumnLemmas.{all-bare, needless-bare}
+use Rattle.arrow_column.proofs.ColumnLemmas.{needless-bare}
+use Rattle.arrow_column.proofs.RowLemmas.{all-bare}
 use Rattle.arrow_column.proofs.laws.bare_column.Goals as goal
 
 pub returns-clause-needless : goal.returns-clause-needless

@@ -1,7 +1,7 @@
 use Rattle.std.proofs.Common.{◌≡◌, map, take, drop, ap, ap₂, ◌∙◌, sym}
 use Rattle.std.proofs.lemmas.List.{take-map, drop-map}
+use Rattle.arrow_types.proofs.CallerLemmas.{piece-piece}
 use Rattle.arrow_column.specs.Column.{stored_values}
-use Rattle.arrow_memory.proofs.CallerLemmas.{piece-piece}
 use Rattle.arrow_column.proofs.laws.cut_of_cut.Goals as goal
 
 pub returns : goal.returns

@@ -1,5 +1,5 @@
+use Rattle.arrow_types.proofs.CallerLemmas.{get-piece, length-cut, map-piece}
 use Rattle.arrow_memory.specs.Rows.{slot}
-use Rattle.arrow_column.proofs.SlotLemmas.{get-piece, length-cut, map-piece}
 use Rattle.arrow_column.proofs.laws.plain_cut_slots.Goals as goal
 
 pub returns-clause-count : goal.returns-clause-count

@@ -1,6 +1,6 @@
 use Rattle.std.proofs.Common.{Some, None, if◌then◌else◌, ap, sym, ◌∙◌}
+use Rattle.arrow_types.proofs.CallerLemmas.{all-by_count}
 use Rattle.arrow_column.specs.Masks.{mask_with_nulls}
-use Rattle.arrow_column.proofs.RowLemmas.{all-by_count}
 use Rattle.arrow_column.proofs.mask.freeze_mask.Goals as goal
 
 pub returns-then-unset-eq0-clause-ok : goal.returns-then-unset-eq0-clause-ok

@@ -1,4 +1,5 @@
-use Rattle.std.proofs.Common.{◌≡◌, ◌+◌, refl, arith}
+use Rattle.std.proofs.Common.{◌≡◌, ◌+◌, ap, refl, arith, length, ◌∙◌}
+use Rattle.std.specs.List.{concat}
 use Rattle.arrow_column.specs.Column.{stored_values}
 use Rattle.arrow_kernels.proofs.JoinLemmas.{joined-length, length-more}
 use Rattle.arrow_kernels.proofs.concat_parts.concat_length.Goals as goal
@@ -8,6 +9,9 @@ returns-then-added-most-clause-err g c =
     let arrays = c.args.arrays.now in
     let i = c.loop-array.array-index in
     let more = length-more stored_values arrays i c.array-item.result c.loop-array-test.true c.array-item.is in
+    let added : c.byte_count-added.result ≡ length (concat (stored_values c.array-item.result)) =
+    c.byte_count-added.ensures.count ∙ ap (λ items. length (concat items)) (c.as_slice.ensures
+    ∙ c.byte_values.ensures.items) in
     let same : c.to_usize-most.result ≡ g.O.Offset.most = cc in (
       refl,
       omega (
@@ -15,7 +19,7 @@ returns-then-added-most-clause-err g c =
         more,
         same,
         joined-length stored_values (i + 1) arrays,
-        c.count_bytes-added.ensures,
+        added,
         c.if-added-most.true,
         c.loop-array.invariant.0,
         c.loop-array.invariant.1,
@@ -25,7 +29,10 @@ returns-then-added-most-clause-err g c =
 pub loop-array-preserved : goal.loop-array-preserved
 loop-array-preserved g c =
     let more = length-more stored_values c.args.arrays.now c.loop-array.array-index c.array-item.result
-    c.loop-array-test.true c.array-item.is in (
-      omega (arith, more, c.count_bytes-added.ensures, c.loop-array.invariant.0),
+    c.loop-array-test.true c.array-item.is in
+    let added : c.byte_count-added.result ≡ length (concat (stored_values c.array-item.result)) =
+    c.byte_count-added.ensures.count ∙ ap (λ items. length (concat items)) (c.as_slice.ensures
+    ∙ c.byte_values.ensures.items) in (
+      omega (arith, more, added, c.loop-array.invariant.0),
       omega (arith, c.if-added-most.false, c.loop-array.invariant.1),
     )

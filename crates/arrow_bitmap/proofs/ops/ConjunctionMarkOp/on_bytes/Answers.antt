@@ -1,4 +1,4 @@
-use Rattle.arrow_bitmap.proofs.OpLemmas.{and-bit}
+use Rattle.arrow_types.proofs.CallerLemmas.{and-bit}
 use Rattle.arrow_bitmap.proofs.ops.ConjunctionMarkOp.on_bytes.Goals as goal
 
 pub returns : goal.returns

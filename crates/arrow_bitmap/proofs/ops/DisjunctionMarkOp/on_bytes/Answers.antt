@@ -1,4 +1,4 @@
-use Rattle.arrow_bitmap.proofs.OpLemmas.{or-bit}
+use Rattle.arrow_types.proofs.CallerLemmas.{or-bit}
 use Rattle.arrow_bitmap.proofs.ops.DisjunctionMarkOp.on_bytes.Goals as goal
 
 pub returns : goal.returns

@@ -1,7 +1,7 @@
 use Rattle.std.proofs.Common.{◌==◌, ◌∙◌, ap, w8}
 use Rattle.std.specs.Int.{bit_at}
 use Rattle.std.proofs.lemmas.Nat.Bits.{bit_at-lt, bit_at_not}
-use Rattle.arrow_bitmap.proofs.OpLemmas.{other-bit}
+use Rattle.arrow_types.proofs.CallerLemmas.{other-bit}
 use Rattle.arrow_bitmap.proofs.ops.NegationMarkOp.on_bytes.Goals as goal
 
 pub returns : goal.returns

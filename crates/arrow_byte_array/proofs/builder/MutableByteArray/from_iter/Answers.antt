@@ -7,4 +7,4 @@ returns-in-Err-extend-clause-err g c =
     let refused = c.in-Err-extend.ensures.err in
     let start = c.builder.view_is ∙ c.in-Ok.ensures.ok in
     match-growth _ _ _ (c.from_error-in-Err-extend.ensures ∙ refused.4.2) (λ over.
-    (refused.0, refused.1, refused.2, refused.3, rw (← start) refused.4.0, rw (← start, ← refused.4.1) over))
+    (refused.0, refused.1, refused.2, refused.3, (rw (← start) refused.4.0, rw (← start, ← refused.4.1) over)))

@@ -10,6 +10,5 @@ returns-in-Err-extend-clause-err g c =
       refused.1,
       refused.2,
       refused.3,
-      rw (← start) refused.4.0,
-      rw (← start, ← refused.4.1) over,
+      (rw (← start) refused.4.0, rw (← start, ← refused.4.1) over),
     ))

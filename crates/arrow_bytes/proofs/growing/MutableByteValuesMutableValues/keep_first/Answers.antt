@@ -1,6 +1,7 @@
 use Rattle.std.proofs.Common.{rules, ◌≡◌, ◌<◌, ◌≤◌, length, arith, ap}
 use Rattle.arrow_memory.specs.Offsets.{last_of}
-use Rattle.arrow_bytes.proofs.PieceLemmas.{ends-short, length-items}
+use Rattle.arrow_check.proofs.CallerLemmas.{length-items}
+use Rattle.arrow_bytes.proofs.PieceLemmas.{ends-short}
 use Rattle.arrow_bytes.proofs.KindLemmas.{kinds-short}
 use Rattle.arrow_bytes.proofs.growing.MutableByteValuesMutableValues.keep_first.Goals as goal
 

@@ -1,7 +1,8 @@
 use Rattle.std.proofs.Common.{rules, ◌≡◌, ◌+◌, ◌-◌, ◌<◌, length, take, drop, ap, arith, ◌∙◌}
 use Rattle.arrow_check.specs.Pieces.{items_of}
+use Rattle.arrow_check.proofs.CallerLemmas.{length-items}
 use Rattle.arrow_bytes.specs.Pieces.{around_of}
-use Rattle.arrow_bytes.proofs.PieceLemmas.{around-cut, items-cut, length-items, piece_cuts, piece_reads}
+use Rattle.arrow_bytes.proofs.PieceLemmas.{around-cut, items-cut, piece_cuts, piece_reads}
 use Rattle.arrow_bytes.proofs.KindLemmas.{kinds-cut}
 use Rattle.arrow_bytes.proofs.values.ByteValuesValues.cut.Goals as goal
 

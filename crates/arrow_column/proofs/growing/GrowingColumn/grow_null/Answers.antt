@@ -7,13 +7,13 @@ use Rattle.arrow_column.proofs.growing.GrowingColumn.grow_null.Goals as goal
 pub returns-in-Ok-clause-ok : goal.returns-in-Ok-clause-ok
 returns-in-Ok-clause-ok g c =
     let column = c.self.inside in
-    let V = g.V.MutableValues in
+    let V = g.V.StoredValues in
     let t = logical_type column.data_type in
     let grown = c.in_ok-count.ensures.ok in (
       same-test (λ a xs. g.V.Grow.overgrows a xs c.args.values) t (V.around column.values) (V.stored column.values)
           column.validity c.args.self.now false c.self.invariant c.self.view_is grown.0,
       nulled-column t (V.around column.values) (V.around c.grow.new.self) (V.stored column.values)
-          (V.stored c.grow.new.self) (g.V.Grow.given c.args.values) column.validity c.extend_null_marks.new.validity
+          (V.stored c.grow.new.self) (g.V.Grow.given c.args.values) column.validity c.join_marks.new.validity
           c.count-before.result c.in_ok-count.count
           c.self.invariant grown.2 c.count-before.ensures grown.1 c.in-Ok.ensures.ok c.in_ok-count.ensures.around
           ∙ ap (λ whole. append_nulls whole (g.V.Grow.given c.args.values)) c.self.view_is,
@@ -22,7 +22,7 @@ returns-in-Ok-clause-ok g c =
 pub returns-in-Err-clause-err : goal.returns-in-Err-clause-err
 returns-in-Err-clause-err g c =
     let column = c.self.inside in
-    let V = g.V.MutableValues in
+    let V = g.V.StoredValues in
     let t = logical_type column.data_type in
     let grown = c.in_ok-count.ensures.ok in
     let room = same-test (λ a xs. g.V.Grow.overgrows a xs c.args.values) t (V.around column.values)
@@ -32,6 +32,6 @@ returns-in-Err-clause-err g c =
     c.keep_first.ensures.stored in (
       c.in-Err.ensures.err.0 ∙ sym (ap refused_growth room),
       undone-column t (V.around column.values) (V.around c.keep_first.new.self) (V.stored column.values)
-          (V.stored c.keep_first.new.self) column.validity c.extend_null_marks.new.validity c.args.self.now
+          (V.stored c.keep_first.new.self) column.validity c.join_marks.new.validity c.args.self.now
           back c.in-Err.ensures.err.1 (c.keep_first.ensures.around ∙ c.in_ok-count.ensures.around) c.self.view_is,
     )

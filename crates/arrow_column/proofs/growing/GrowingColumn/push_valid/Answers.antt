@@ -7,7 +7,7 @@ use Rattle.arrow_column.proofs.growing.GrowingColumn.push_valid.Goals as goal
 pub returns-in-Err-clause-err : goal.returns-in-Err-clause-err
 returns-in-Err-clause-err g c =
     let column = c.self.inside in
-    let V = g.V.MutableValues in
+    let V = g.V.StoredValues in
     let t = logical_type column.data_type in
     let stored = stored-column t (V.around column.values) (V.stored column.values) column.validity c.args.self.now
     c.self.invariant c.self.view_is in

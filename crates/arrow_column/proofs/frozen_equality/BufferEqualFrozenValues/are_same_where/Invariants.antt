@@ -1,7 +1,0 @@
-use Rattle.std.proofs.Common.{◌≡◌, ℕ, ◌<◌, slice_get}
-use Rattle.arrow_memory.specs.Rows.{IsValidAt}
-use Rattle.arrow_column.proofs.frozen_equality.BufferEqualFrozenValues.are_same_where.Given as goal
-
--- the values so far agree
-abbrev pub invariant-loop-i : goal.invariant-loop-i
-invariant-loop-i g l = (k : ℕ) → k < l.i → IsValidAt l.mask k → slice_get l.self k ≡ slice_get l.other k

@@ -1,8 +1,0 @@
-use Rattle.std.proofs.Common.{◌≡◌, ℕ, ◌<◌, slice_get}
-use Rattle.arrow_column.proofs.frozen_equality.EqualFrozenValues.are_same.Given as goal
-
--- the values so far are the same
-abbrev pub invariant-loop-i : goal.invariant-loop-i
-invariant-loop-i g l =
-    let stored = g.Self.Values.stored in
-    (k : ℕ) → k < l.i → slice_get (stored l.fn.self) k ≡ slice_get (stored l.fn.other) k

@@ -1,0 +1,6 @@
+pub mod BitLemmas
+pub mod CallerLemmas
+pub mod ListLemmas
+pub mod MaskLemmas
+pub mod SlotLemmas
+pub mod WordLemmas
