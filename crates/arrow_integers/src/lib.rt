@@ -3,5 +3,6 @@
 
 pub mod laws;
 mod native_arithmetics;
+mod native_integer;
 
 pub use native_arithmetics::NativeArithmetics;

@@ -1,7 +1,0 @@
-pub mod DecimalLemmas
-pub mod DigitLemmas
-pub mod ItemLemmas
-pub mod NumberLemmas
-pub mod SlotLemmas
-pub mod StoredLemmas
-pub mod TextLemmas

@@ -1,6 +1,0 @@
-use Rattle.std.specs.Int.{w128}
-use Rattle.std.proofs.lemmas.Int.{wrapping_mul_is}
-use Rattle.arrow_integers.proofs.native_arithmetics.signed.I128NativeArithmetics.wrapping_mul.Goals as goal
-
-pub returns : goal.returns
-returns c = wrapping_mul_is w128 _ _ c.ranges.self c.ranges.rhs

@@ -1,7 +1,0 @@
-use Rattle.std.proofs.Common.{refl}
-use Rattle.std.specs.Int.{w16}
-use Rattle.arrow_integers.proofs.NativeArithmeticsLemmas.{unsigned_wrapping}
-use Rattle.arrow_integers.proofs.native_arithmetics.unsigned.U16NativeArithmetics.wrapping_add.Goals as goal
-
-pub returns : goal.returns
-returns c = unsigned_wrapping w16 _ _ refl

@@ -1,6 +1,0 @@
-use Rattle.std.specs.Int.{w32}
-use Rattle.arrow_integers.proofs.NativeArithmeticsLemmas.{unsigned_checked}
-use Rattle.arrow_integers.proofs.native_arithmetics.unsigned.U32NativeArithmetics.checked_mul.Goals as goal
-
-pub returns : goal.returns
-returns c = unsigned_checked w32 _ _ c.checked_mul.ensures

@@ -1,6 +1,0 @@
-use Rattle.std.specs.Int.{w32}
-use Rattle.arrow_integers.proofs.NativeArithmeticsLemmas.{unsigned_from}
-use Rattle.arrow_integers.proofs.native_arithmetics.unsigned.U32NativeArithmetics.from_i128.Goals as goal
-
-pub returns : goal.returns
-returns c = unsigned_from w32 _ c.try_from.result _ c.ranges.value c.try_from.ensures c.ok.ensures.value

@@ -1,6 +1,0 @@
-use Rattle.std.specs.Int.{w32}
-use Rattle.arrow_integers.specs.NativeNumbers.{unsigned_decides}
-use Rattle.arrow_integers.proofs.native_arithmetics.unsigned.U32NativeArithmetics.to_i128.Goals as goal
-
-pub returns-clause-fits : goal.returns-clause-fits
-returns-clause-fits c = (unsigned_decides w32 c.args.self).1 c.ranges.self.fits

@@ -1,6 +1,0 @@
-use Rattle.std.specs.Int.{w64}
-use Rattle.arrow_integers.proofs.NativeArithmeticsLemmas.{unsigned_saturated_sub}
-use Rattle.arrow_integers.proofs.native_arithmetics.unsigned.U64NativeArithmetics.saturating_sub.Goals as goal
-
-pub returns : goal.returns
-returns c = unsigned_saturated_sub w64 c.args.self c.args.rhs _ c.ranges.self.fits c.saturating_sub.ensures

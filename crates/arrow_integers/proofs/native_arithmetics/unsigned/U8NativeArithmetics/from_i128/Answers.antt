@@ -1,6 +1,0 @@
-use Rattle.std.specs.Int.{w8}
-use Rattle.arrow_integers.proofs.NativeArithmeticsLemmas.{unsigned_from}
-use Rattle.arrow_integers.proofs.native_arithmetics.unsigned.U8NativeArithmetics.from_i128.Goals as goal
-
-pub returns : goal.returns
-returns c = unsigned_from w8 _ c.try_from.result _ c.ranges.value c.try_from.ensures c.ok.ensures.value

@@ -1,0 +1,6 @@
+use Rattle.std.specs.Int.{w16}
+use Rattle.arrow_integers.specs.NativeNumbers.{unsigned_decides}
+use Rattle.arrow_integers.proofs.native_integer.U16NativeInteger.as_i128.Goals as goal
+
+pub returns-clause-fits : goal.returns-clause-fits
+returns-clause-fits c = (unsigned_decides w16 c.args.self).1 c.ranges.self.fits

@@ -1,0 +1,4 @@
+pub mod CombineLemmas
+pub mod DivisionLemmas
+pub mod TextLemmas
+pub mod WrapLemmas
