@@ -1,7 +1,0 @@
-pub mod AggregateLemmas
-pub mod FoldLemmas
-pub mod SumLemmas
-pub mod GroupLemmas
-pub mod GroupSumLemmas
-pub mod OrderedLemmas
-pub mod BestLemmas

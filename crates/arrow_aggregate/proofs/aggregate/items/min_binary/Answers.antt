@@ -1,9 +1,0 @@
-use Rattle.std.specs.Cmp.Lexicographic.{nat_list_cmp_total, slice_cmp}
-use Rattle.std.specs.Ordering.{nat_cmp}
-use Rattle.arrow_aggregate.proofs.BestLemmas.{least_seen}
-use Rattle.arrow_aggregate.proofs.aggregate.items.min_binary.Goals as goal
-
-pub returns : goal.returns
-returns g c =
-    least_seen (λ item. item.now) (slice_cmp nat_cmp) nat_list_cmp_total c.args.array.now c.best_value.result
-    c.best_value.ensures

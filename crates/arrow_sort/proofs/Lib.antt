@@ -1,5 +1,0 @@
-pub mod OrderLemmas
-pub mod SelectLemmas
-pub mod TakeLemmas
-pub mod TotalLemmas
-mod BytesLemmas

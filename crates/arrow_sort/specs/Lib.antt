@@ -1,4 +1,0 @@
-pub mod Bytes
-pub mod Sort
-pub mod IndexedValues
-pub mod Columns

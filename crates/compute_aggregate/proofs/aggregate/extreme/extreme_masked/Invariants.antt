@@ -1,0 +1,11 @@
+use Rattle.std.proofs.Common.{◌≡◌, ◌*◌, option_map}
+use Rattle.compute_aggregate.specs.Aggregates.{extreme_before}
+use Rattle.compute_aggregate.proofs.aggregate.extreme.extreme_masked.Given as goal
+
+abbrev pub invariant-loop-i : goal.invariant-loop-i
+invariant-loop-i g l = option_map g.A.BorrowSlots.seen l.best
+    ≡ extreme_before l.extreme g.A.OrderSlots.order (g.A.Array.column l.array) (64 * l.i)
+
+abbrev pub invariant-loop-k : goal.invariant-loop-k
+invariant-loop-k g l = option_map g.A.BorrowSlots.seen l.best
+    ≡ extreme_before l.extreme g.A.OrderSlots.order (g.A.Array.column l.array) l.k

@@ -1,0 +1,4 @@
+pub mod GroupEquality
+pub mod Grouping
+pub mod Hashes
+pub mod Pairs

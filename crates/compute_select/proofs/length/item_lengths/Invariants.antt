@@ -1,0 +1,7 @@
+use Rattle.std.proofs.Common.{◌≡◌, length, map, pos, take}
+use Rattle.arrow_column.specs.Column.{stored_values}
+use Rattle.compute_select.proofs.length.item_lengths.Given as goal
+
+abbrev pub invariant-loop-i : goal.invariant-loop-i
+invariant-loop-i g l =
+    map g.O.Offset.number l.lengths.items ≡ map (λ item. pos (length item)) (take l.i (stored_values l.array))

@@ -1,0 +1,6 @@
+use Rattle.std.proofs.Common.{refl}
+use Rattle.std.specs.Cmp.Lexicographic.{nat_list_cmp_total}
+use Rattle.compute_sort.proofs.sortable.ByteArrayUtf8SortableArray.sorted_indexes.Goals as goal
+
+pub limited_indexes-requires : goal.limited_indexes-requires
+limited_indexes-requires g c κs = ((refl, tt), nat_list_cmp_total)

@@ -1,0 +1,3 @@
+pub mod Sort
+pub mod IndexedValues
+pub mod Columns
