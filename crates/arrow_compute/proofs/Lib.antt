@@ -1,9 +1,0 @@
-pub mod BitLemmas
-pub mod CallerLemmas
-pub mod CountLemmas
-pub mod ItemLemmas
-pub mod KleeneLemmas
-pub mod NullLemmas
-pub mod PairLemmas
-pub mod SlotLemmas
-pub mod WordLemmas

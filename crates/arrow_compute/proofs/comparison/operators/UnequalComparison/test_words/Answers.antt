@@ -1,6 +1,0 @@
-use Rattle.arrow_compute.proofs.BitLemmas.{xor_bit}
-use Rattle.arrow_compute.proofs.comparison.operators.UnequalComparison.test_words.Goals as goal
-
-pub returns : goal.returns
-returns c = λ k low.
-    xor_bit c.args.lhs c.args.rhs k

@@ -1,5 +1,0 @@
-use Rattle.arrow_compute.proofs.WordLemmas.{HoldsFirst}
-use Rattle.arrow_compute.proofs.words.few_of.Given as goal
-
-abbrev pub invariant-loop-i : goal.invariant-loop-i
-invariant-loop-i l = HoldsFirst l.word l.bitmap l.place l.i

@@ -1,5 +1,0 @@
-pub mod Comparison
-pub mod Kleene
-pub mod Logic
-pub mod Slots
-pub mod Words

@@ -1,5 +1,0 @@
-//! Comparisons of arrays of booleans.
-pub use crate::comparison::{
-    eq, eq_and_validity, eq_scalar, gt, gt_eq, gt_eq_scalar, gt_scalar, lt, lt_eq, lt_eq_scalar,
-    lt_scalar, neq, neq_and_validity, neq_scalar,
-};

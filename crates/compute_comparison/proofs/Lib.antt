@@ -1,0 +1,7 @@
+pub mod BitLemmas
+pub mod CallerLemmas
+pub mod CountLemmas
+pub mod KleeneLemmas
+pub mod NullLemmas
+pub mod PairLemmas
+pub mod ScalarLemmas

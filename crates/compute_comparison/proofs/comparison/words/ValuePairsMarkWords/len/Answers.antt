@@ -1,0 +1,17 @@
+use Rattle.std.proofs.Common.{arith}
+use Rattle.std.proofs.lemmas.List.{length-map}
+use Rattle.arrow_column.specs.Column.{stored_values}
+use Rattle.compute_comparison.proofs.PairLemmas.{length-pairs}
+use Rattle.compute_comparison.proofs.comparison.words.ValuePairsMarkWords.len.Goals as goal
+
+pub returns : goal.returns
+returns g c = omega (
+  arith,
+  c.min.ensures,
+  c.len.ensures,
+  c.len-2.ensures,
+  length-map (g.A.Array.column c.args.self.now.lhs.now).rows (λ row. row.0),
+  length-map (g.A.Array.column c.args.self.now.rhs.now).rows (λ row. row.0),
+  length-pairs g.C.Equality.holds g.A.EqualArray.equal (stored_values (g.A.Array.column c.args.self.now.lhs.now))
+      (stored_values (g.A.Array.column c.args.self.now.rhs.now)),
+)

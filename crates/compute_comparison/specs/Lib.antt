@@ -1,0 +1,4 @@
+pub mod Comparison
+pub mod Kleene
+pub mod Logic
+pub mod Slots
