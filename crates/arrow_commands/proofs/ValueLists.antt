@@ -1,19 +1,17 @@
 -- Seeing stored values through what is done to lists of them, and lists that are changed in place.
-use Rattle.std.proofs.Common.{◌≡◌, ◌∙◌, ℕ, zero, suc, ◌+◌, ◌-◌, ◌/◌, ◌<◌, ◌≤◌, Bool, true, false, ◌&&◌, nat_eq, List, [], ◌∷◌, ◌++◌}
+use Rattle.std.proofs.Common.{◌≡◌, ◌∙◌, ℕ, ◌+◌, ◌-◌, ◌/◌, ◌<◌, ◌≤◌, Bool, true, false, ◌&&◌, nat_eq, List, [], ◌∷◌}
+use Rattle.std.proofs.Common.{◌++◌}
 use Rattle.std.proofs.Common.{length, map, set, reverse, replicate, get_or, slice_get, Some, refl, sym, ap, subst}
 use Rattle.std.proofs.Common.{inl, inr, arith, get_or-set_same, get_or-set_other, length-set}
 use Rattle.std.proofs.lemmas.Bool.{cases_lt, eqb-true}
 use Rattle.std.proofs.lemmas.List.{ext_get_or, get_or-reverse, length-map, length-reverse, map-append, reverse-append}
 use Rattle.std.proofs.lemmas.Option.{get_or_from_slice_get}
+use Rattle.arrow_types.proofs.CallerLemmas.{map-replicate, map-slice_set}
 use Rattle.arrow_column.specs.Column.{ColumnWith, stored_values, with_stored}
 use Rattle.arrow_bytes.specs.Pieces.{Around}
 use Rattle.arrow_entry.specs.Entry.{erase_type}
 use Rattle.arrow_model.specs.Item.{Stored}
-use Rattle.arrow_entry.proofs.CallerLemmas.{map-slice_set, stored-seen, with-stored-seen}
-
-pub map-replicate : {A B : Type 0} (h : A → B) (n : ℕ) (x : A) → map h (replicate n x) ≡ replicate n (h x)
-map-replicate h zero x = refl
-map-replicate h (suc n) x = ap (λ rest. h x ∷ rest) (map-replicate h n x)
+use Rattle.arrow_entry.proofs.CallerLemmas.{stored-seen, with-stored-seen}
 
 pub ruleset seen_lists = (map-slice_set, map-replicate)
 

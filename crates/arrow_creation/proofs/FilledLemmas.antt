@@ -1,14 +1,16 @@
 -- A new value that slots are appended to: it is what they make, and then an array of them if one is made; or none, if
 -- not all of them could be appended.
-use Rattle.std.proofs.Common.{◌≡◌, ℕ, suc, Bool, true, false, not, ◌&&◌, nat_eq, List, [], ◌∷◌, length, map, take}
+use Rattle.std.proofs.Common.{◌≡◌, ℕ, suc, Bool, true, false, not, nat_eq, List, [], ◌∷◌, length, map, take}
 use Rattle.std.proofs.Common.{Option, Some, None, if◌then◌else◌, refl, sym, ap, ap₂, subst, ◌∙◌, arith}
 use Rattle.std.proofs.lemmas.Bool.{eqb-true}
 use Rattle.std.proofs.lemmas.List.{take_all}
 use Rattle.std.proofs.lemmas.List.Folds.{list_all-append}
+use Rattle.std.proofs.lemmas.Option.{same_Some}
 use Rattle.std.specs.Prelude.{IfErr, IfOk, OnOk, MatchBool, Result, Ok, Err}
 use Rattle.arrow_types.specs.Failures.{OnlyOutOfMemory}
 use Rattle.arrow_types.specs.Types.{out_of_memory, overflow, refusal}
 use Rattle.arrow_types.specs.declared.error.Error.{Error}
+use Rattle.arrow_types.proofs.CallerLemmas.{and-true}
 use Rattle.arrow_column.specs.Column.{ColumnWith, append_slot, append_slots, all_valid, refused_growth}
 use Rattle.arrow_column.specs.Column.{without_needless_mask}
 use Rattle.arrow_bytes.specs.Pieces.{Around}
@@ -34,9 +36,6 @@ module _ {T : Type 0} where
   not-done : (let it : Answer T = refused overflow in it) ≡ done → ⊥
   not-done e = cc
 
-some-same : {E : Type 0} (a b : E) → Some a ≡ Some b → a ≡ b
-some-same a b e = cc
-
 module _ {T : Type 0} (c : Types T) (v : Value T) (slots : List (Option (Stored T))) (last : Value T → Value T) where
   -- all of them were appended
   whole : (w : Value T) (fits : Bool) → all_fit c v slots ≡ fits
@@ -46,7 +45,7 @@ module _ {T : Type 0} (c : Types T) (v : Value T) (slots : List (Option (Stored 
       rw fit (
         refl,
         ap (λ (kept : Value T). Some (last kept))
-            (some-same w (grown c v slots) (grows ∙ ap (λ xs. Some (grown c v xs))
+            (same_Some w (grown c v slots) (grows ∙ ap (λ xs. Some (grown c v xs))
             (take_all (fitting c v slots) slots (omega (arith, eqb-true (fitting c v slots) (length slots) fit))))),
       )
   whole w false fit is grows = absurd (not-done (sym is))
@@ -106,16 +105,12 @@ module _ {T : Type 0} (c : Types T) (sort : ValueKind) where
   held-items d column [] = refl
   held-items d column (x ∷ items) = held-items d (append_slot d column (Some x)) items
 
-  and-yes : (b : Bool) → (b && true) ≡ b
-  and-yes true = refl
-  and-yes false = refl
-
   valid-items : (d : Stored T) (column : ColumnWith Around (Stored T)) (items : List (Stored T))
       → all_valid (append_slots d column (map Some items)) ≡ all_valid column
   valid-items d column [] = refl
   valid-items d column (x ∷ items) =
       valid-items d (append_slot d column (Some x)) items
-      ∙ list_all-append (λ row. row.1) column.rows ((x, true) ∷ []) ∙ and-yes (all_valid column)
+      ∙ list_all-append (λ row. row.1) column.rows ((x, true) ∷ []) ∙ and-true (all_valid column)
 
   around-items : (d : Stored T) (column : ColumnWith Around (Stored T)) (items : List (Stored T))
       → (append_slots d column (map Some items)).around ≡ column.around

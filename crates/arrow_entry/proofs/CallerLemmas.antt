@@ -11,7 +11,7 @@ pub use Rattle.arrow_entry.proofs.SlotLemmas.{slot_reads, slot_marks}
 pub use Rattle.arrow_entry.proofs.Rules.{slot_lists}
 -- Changing a column: parts, appended slots, values and nulls, one slot, the mask, the stored values, the type.
 pub use Rattle.arrow_entry.proofs.Rules.{seen_changes}
-pub use Rattle.arrow_entry.proofs.Seen.{parts-seen, stored-seen, with-stored-seen, map-slice_set}
+pub use Rattle.arrow_entry.proofs.Seen.{parts-seen, stored-seen, with-stored-seen}
 -- Comparing the slots of two columns, freezing and thawing.
 pub use Rattle.arrow_entry.proofs.Rules.{seen_slots, seen_freezes, seen_thaws}
 pub use Rattle.arrow_entry.proofs.Seen.{same-bits}

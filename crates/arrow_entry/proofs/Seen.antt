@@ -1,11 +1,12 @@
 -- Seeing a column over what slots store, whatever their sort, commutes with whatever is done to columns.
 use Rattle.std.proofs.Common.{◌≡◌, ◌↔◌, ℕ, zero, suc, ◌+◌, ◌-◌, ◌≤◌, Bool, true, false, not, ◌&&◌, ◌||◌, List, []}
-use Rattle.std.proofs.Common.{◌∷◌, ◌++◌, length, map, take, drop, replicate, slice_get, slice_set, Option, Some, None}
+use Rattle.std.proofs.Common.{◌∷◌, ◌++◌, length, map, take, drop, slice_get, Option, Some, None}
 use Rattle.std.proofs.Common.{option_map, option_and_then, is_some, if◌then◌else◌, refl, sym, ap, ap₂, ◌∙◌, arith}
 use Rattle.std.specs.List.{zip, list_all, concat}
 use Rattle.std.proofs.lemmas.List.{drop-map, length-map, map-append, take-map}
 use Rattle.std.proofs.lemmas.Option.{slice_get-map, slice_get_past}
 use Rattle.arrow_types.specs.Types.{LogicalType}
+use Rattle.arrow_types.proofs.CallerLemmas.{map-slice_set}
 use Rattle.arrow_memory.specs.Rows.{Row, slot, rows_of}
 use Rattle.arrow_column.specs.Column.{ColumnWith, Column, cut, column_with, stored_values, marks_of, slots_of}
 use Rattle.arrow_column.specs.Column.{all_valid, cut_with, append_slot, append_slots, append_values, append_nulls}
@@ -15,16 +16,6 @@ use Rattle.arrow_bytes.specs.Pieces.{Around, nothing_around, around_cut}
 use Rattle.arrow_model.specs.Item.{Stored, value, bit, bytes_item, stored_bytes}
 use Rattle.arrow_bytes.specs.Column.{ByteColumn}
 use Rattle.arrow_entry.specs.Entry.{erase_type}
-
-map-replicate : {A B : Type 0} (h : A → B) (n : ℕ) (x : A) → map h (replicate n x) ≡ replicate n (h x)
-map-replicate h zero x = refl
-map-replicate h (suc n) x = ap (λ rest. h x ∷ rest) (map-replicate h n x)
-
-pub map-slice_set : {A B : Type 0} (h : A → B) (xs : List A) (i : ℕ) (x : A)
-    → map h (slice_set xs i x) ≡ slice_set (map h xs) i (h x)
-map-slice_set h [] i x = refl
-map-slice_set h (y ∷ xs) zero x = refl
-map-slice_set h (y ∷ xs) (suc i) x = ap (λ rest. h y ∷ rest) (map-slice_set h xs i x)
 
 module _ {A S T : Type 0} (around : A → Around) (stored : S → Stored T) where
   -- a row, and rows

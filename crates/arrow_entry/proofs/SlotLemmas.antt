@@ -5,6 +5,7 @@ use Rattle.std.proofs.Common.{IsTrue, if◌then◌else◌, refl, sym, ap, ◌∙
 use Rattle.std.specs.List.{list_all}
 use Rattle.std.proofs.lemmas.List.{length-map, map-append}
 use Rattle.std.proofs.lemmas.Option.{slice_get_read, slice_get-map}
+use Rattle.arrow_types.proofs.CallerLemmas.{take-next}
 use Rattle.arrow_memory.specs.Rows.{Row, slot}
 use Rattle.arrow_column.specs.Column.{ColumnWith, IsColumn, all_valid, mask_of, marks_of, slots_of, stored_values}
 use Rattle.arrow_memory.specs.Offsets.{KeepsOffsets, numbers_of}
@@ -80,16 +81,10 @@ module _ {A S T : Type 0} (around : A → Around) (stored : S → Stored T) wher
   mask-length c marks is = ap length (is-mask c.held (marks_of c) marks is) ∙ length-map c.rows _
       ∙ sym (length-seen around stored c)
 
--- a list that has grown up to a place, by the item there
-more-at : {Y : Type 0} (ys : List Y) (i : ℕ) (y : Y) → slice_get ys i ≡ Some y → take i ys ++ y ∷ [] ≡ take (i + 1) ys
-more-at [] i y is = grind arith
-more-at (z ∷ ys) zero y is = grind arith
-more-at (z ∷ ys) (suc i) y is = rw (let e : suc i + 1 ≡ suc (i + 1) = omega arith in e)
-    (ap (λ zs. z ∷ zs) (more-at ys i y is))
-
 pub grown-by : {X Y : Type 0} (f : X → Y) (xs : List X) (ys : List Y) (i : ℕ) (x : X) → map f xs ≡ take i ys
     → slice_get ys i ≡ Some (f x) → map f (xs ++ x ∷ []) ≡ take (i + 1) ys
-grown-by f xs ys i x before is = map-append f xs (x ∷ []) ∙ ap (λ zs. zs ++ f x ∷ []) before ∙ more-at ys i (f x) is
+grown-by f xs ys i x before is = map-append f xs (x ∷ []) ∙ ap (λ zs. zs ++ f x ∷ []) before
+    ∙ sym (take-next ys i (f x) is)
 
 pub whole : {X : Type 0} (xs : List X) (i : ℕ) → length xs ≤ i → take i xs ≡ xs
 whole [] zero past = refl
@@ -97,19 +92,16 @@ whole [] (suc i) past = refl
 whole (x ∷ xs) zero past = absurd (omega arith)
 whole (x ∷ xs) (suc i) past = ap (λ ys. x ∷ ys) (whole xs i (omega arith))
 
-pub length-slots : {A S : Type 0} (c : ColumnWith A S) → length (slots_of c) ≡ length c.rows
-length-slots c = length-map c.rows _
-
 -- the same of the numbers of offsets
 pub number-step : {O : Type 0} (number : O → ℤ) (xs : List O) (ns : List ℕ) (x : O) (i n : ℕ) → i < length xs
     → x ≡ slice_index_or xs i x → number x ≡ pos n → ns ≡ take i (numbers_of number xs)
     → ns ++ n ∷ [] ≡ take (i + 1) (numbers_of number xs)
 number-step number xs ns x i n within reads is before =
-    ap (λ ms. ms ++ n ∷ []) before ∙ more-at (numbers_of number xs) i n (
+    ap (λ ms. ms ++ n ∷ []) before ∙ sym (take-next (numbers_of number xs) i n (
     slice_get-map unsigned_abs (map number xs) i
     ∙ ap (option_map unsigned_abs) (slice_get-map number xs i
     ∙ ap (option_map number) (slice_get_read xs (length xs) i x refl within reads))
-    ∙ ap (λ z. Some (unsigned_abs z)) is)
+    ∙ ap (λ z. Some (unsigned_abs z)) is))
 
 pub number-sign : {O : Type 0} (number : O → ℤ) (most : ℕ) (xs : List O) (x : O) (i : ℕ) → KeepsOffsets number most xs
     → i < length xs → x ≡ slice_index_or xs i x → pos 0 ≤ℤ number x

@@ -3,26 +3,23 @@ use Rattle.std.proofs.Common.{◌≡◌, ◌<◌, ◌∙◌, ℕ, zero, suc, Boo
 use Rattle.std.proofs.Common.{List, [], ◌∷◌, length, get_or, sym, map, replicate, slice_get, slice_set, Option, Some}
 use Rattle.std.proofs.Common.{None, option_map, refl, ap, arith}
 use Rattle.std.proofs.lemmas.Bool.{eqb-true, eqb-false}
-use Rattle.std.proofs.lemmas.Option.{slice_get-map}
+use Rattle.std.proofs.lemmas.Option.{same_Some, slice_get-map}
+use Rattle.arrow_types.proofs.CallerLemmas.{map-slice_set}
 use Rattle.arrow_model.specs.Answer.{Answer}
 use Rattle.arrow_entry.specs.Entry.{value_of}
 use Rattle.arrow_model.specs.Value.{Value}
 use Rattle.arrow_model.specs.Transition.{Transition}
 use Rattle.arrow_model.specs.Step.{AtEntry, entry_at, other_at}
-use Rattle.arrow_entry.proofs.Seen.{map-slice_set}
 
 pub got : {E : Type 0} (xs : List E) (e : ℕ) (x d : E) → e < length xs → x ≡ get_or xs e d → slice_get xs e ≡ Some x
 got [] e x d within is = absurd (omega arith)
 got (y ∷ xs) zero x d within is = ap Some (sym is)
 got (y ∷ xs) (suc e) x d within is = got xs e x d (omega arith) is
 
-some-same : {E : Type 0} (a b : E) → Some a ≡ Some b → a ≡ b
-some-same a b e = cc
-
 -- what was there already
 pub set-same : {E : Type 0} (xs : List E) (e : ℕ) (x : E) → slice_get xs e ≡ Some x → slice_set xs e x ≡ xs
 set-same [] e x is = refl
-set-same (z ∷ xs) zero x is = ap (λ y. y ∷ xs) (some-same x z (sym is))
+set-same (z ∷ xs) zero x is = ap (λ y. y ∷ xs) (same_Some x z (sym is))
 set-same (z ∷ xs) (suc e) x is = ap (λ rest. z ∷ rest) (set-same xs e x is)
 
 module _ {T E : Type 0} (f : E → Option (Value T)) (transition : Option (Value T) → Transition T) where

@@ -4,8 +4,10 @@ use Rattle.std.proofs.Common.{slice_get, Option, option_map, Some, None, MatchOp
 use Rattle.std.proofs.Common.{append_assoc, arith}
 use Rattle.std.specs.Iterator.{Yields, SkipsThenYields}
 use Rattle.std.specs.Slice.Iter.{iter_rest, iter_steps}
-use Rattle.std.proofs.lemmas.List.{drop-map, length-map, map-append, length-append, take-map}
-use Rattle.std.proofs.lemmas.Option.{slice_get-map}
+use Rattle.std.proofs.lemmas.List.{drop-map, length-map, map-append, length-append, take-map, drop_at, nil_from_length}
+use Rattle.std.proofs.lemmas.Option.{slice_get-map, slice_get_past}
+use Rattle.std.proofs.lemmas.List.{drop_all}
+use Rattle.arrow_types.proofs.CallerLemmas.{get-last}
 use Rattle.arrow_memory.specs.Items.{SkipsThenFirstBy}
 use Rattle.arrow_model.specs.declared.item.Turn.{Turn}
 use Rattle.arrow_model.specs.declared.item.Turn.TheVariants as turn
@@ -20,16 +22,10 @@ module _ {A : Type 0} where
   yielded [] s t is = ap iter_rest is
   yielded (x ∷ xs) s t is = is.1 ∙ ap (λ ys. x.now ∷ ys) (yielded xs is.0 t is.2)
 
-  drop-front : (n : ℕ) (xs ys : List A) → length xs ≡ n → drop n (xs ++ ys) ≡ ys
-  drop-front zero [] ys is = refl
-  drop-front zero (x ∷ xs) ys is = absurd (omega (arith, is))
-  drop-front (suc n) [] ys is = absurd (omega (arith, is))
-  drop-front (suc n) (x ∷ xs) ys is = drop-front n xs ys (omega (arith, is))
-
   nth-some : (s u : _) (n : ℕ) (x : Bor A) → SkipsThenYields (iter_steps {A = A}) s n (Some x) u
       → drop n (iter_rest s) ≡ x.now ∷ iter_rest u
   nth-some s u n x h = ap (drop n) (yielded h.0 s h.1.0 h.1.1)
-      ∙ drop-front n (map (λ x. x.now) h.0) (iter_rest h.1.0) (length-map h.0 (λ x. x.now) ∙ h.2) ∙ h.1.2
+      ∙ drop_at (map (λ x. x.now) h.0) (iter_rest h.1.0) n (length-map h.0 (λ x. x.now) ∙ h.2) ∙ h.1.2
 
   nth-none : (s u : _) (n : ℕ) → SkipsThenYields (iter_steps {A = A}) s n None u → length (iter_rest s) ≤ n
   nth-none s u n h = omega (
@@ -42,22 +38,13 @@ module _ {A : Type 0} where
     length-map h.0 (λ x. x.now),
   )
 
-  empty : (xs : List A) → length xs ≡ 0 → xs ≡ []
-  empty [] is = refl
-  empty (x ∷ xs) is = absurd (omega (arith, is))
-
   nth-past : (s u : _) (n : ℕ) → SkipsThenYields (iter_steps {A = A}) s n None u → iter_rest u ≡ []
-  nth-past s u n h = ap iter_rest h.1.2.1 ∙ empty (iter_rest h.1.0) h.1.2.0
+  nth-past s u n h = ap iter_rest h.1.2.1 ∙ nil_from_length (iter_rest h.1.0) h.1.2.0
 
   pub nth-is : (s u : _) (n : ℕ) (r : Option (Bor A)) → SkipsThenYields (iter_steps {A = A}) s n r u
       → SkipsThenFirstBy (λ x. x.now) iter_rest n s r u
   nth-is s u n (Some x) h = nth-some s u n x h
   nth-is s u n None h = (nth-none s u n h, nth-past s u n h)
-
--- the item at one end, and what is left
-last-item : {X : Type 0} (ys : List X) (x : X) → slice_get (ys ++ x ∷ []) (length ys) ≡ Some x
-last-item [] x = refl
-last-item (y ∷ ys) x = last-item ys x
 
 last-rest : {X : Type 0} (ys : List X) (x : X) → take (length ys) (ys ++ x ∷ []) ≡ ys
 last-rest [] x = refl
@@ -73,17 +60,6 @@ skip-rest zero xs ys x is = ap (drop 1) is
 skip-rest (suc n) [] ys x is = grind arith
 skip-rest (suc n) (z ∷ xs) ys x is = rw (let e : suc n + 1 ≡ suc (n + 1) = omega arith in e) (skip-rest n xs ys x is)
 
-past-item : {X : Type 0} (n : ℕ) (xs : List X) → length xs ≤ n → slice_get xs n ≡ None
-past-item n [] short = refl
-past-item zero (z ∷ xs) short = absurd (omega (arith, short))
-past-item (suc n) (z ∷ xs) short = past-item n xs (omega (arith, short))
-
-past-rest : {X : Type 0} (n : ℕ) (xs : List X) → length xs ≤ n → drop n xs ≡ []
-past-rest zero [] short = refl
-past-rest (suc n) [] short = refl
-past-rest zero (z ∷ xs) short = absurd (omega (arith, short))
-past-rest (suc n) (z ∷ xs) short = past-rest n xs (omega (arith, short))
-
 -- one turn, by what it gave
 module _ {A S : Type 0} (seen : A → S) where
   pub front-turn : (item : Option A) (xs ys : List S)
@@ -98,7 +74,7 @@ module _ {A S : Type 0} (seen : A → S) where
   back-turn None xs ys is more = ap (turns_of (turn.Back ∷ more)) is.0 ∙ ap (λ b. None ∷ turns_of more b) (sym is.1)
   back-turn (Some x) xs ys is more =
       ap (turns_of (turn.Back ∷ more)) is ∙ ap₂ (λ a b. a ∷ turns_of more b)
-      (ap (slice_get (ys ++ seen x ∷ [])) at ∙ last-item ys (seen x))
+      (ap (slice_get (ys ++ seen x ∷ [])) at ∙ get-last ys (seen x))
       (ap (λ n. take n (ys ++ seen x ∷ [])) at ∙ last-rest ys (seen x))
     where
       at : length (ys ++ seen x ∷ []) - 1 ≡ length ys
@@ -108,7 +84,7 @@ module _ {A S : Type 0} (seen : A → S) where
       → MatchOption item ((length xs ≤ n) × (ys ≡ [])) (λ x. drop n xs ≡ seen x ∷ ys) → (more : List Turn)
       → turns_of (turn.Skip n ∷ more) xs ≡ option_map seen item ∷ turns_of more ys
   skip-turn n None xs ys is more = ap₂ (λ a b. a
-      ∷ turns_of more b) (past-item n xs is.0) (past-rest (n + 1) xs (omega (arith, is.0)) ∙ sym is.1)
+      ∷ turns_of more b) (slice_get_past xs n is.0) (drop_all (n + 1) xs (omega (arith, is.0)) ∙ sym is.1)
   skip-turn n (Some x) xs ys is more = ap₂ (λ a b. a
       ∷ turns_of more b) (skip-item n xs ys (seen x) is) (skip-rest n xs ys (seen x) is)
 

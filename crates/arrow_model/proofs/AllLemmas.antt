@@ -1,34 +1,18 @@
 -- What holds of each element of a list holds of each of what is made of it.
-use Rattle.std.proofs.Common.{◌≡◌, ℕ, ℤ, zero, suc, Bool, true, false, ◌&&◌, List, [], ◌∷◌, reverse, slice_get}
-use Rattle.std.proofs.Common.{slice_set, Option, Some, None, option_and_then, refl, sym, subst, arith}
+use Rattle.std.proofs.Common.{◌≡◌, ℕ, ℤ, zero, suc, Bool, true, false, List, [], ◌∷◌, reverse, slice_get}
+use Rattle.std.proofs.Common.{slice_set, Option, Some, None, option_and_then, refl, sym, subst}
 use Rattle.std.proofs.lemmas.List.{reverse-append}
 use Rattle.std.proofs.lemmas.List.Elements.{All-nil, All-cons, All-head, All-tail, All-append}
 use Rattle.std.specs.Prelude.{All, IfSome}
 use Rattle.std.specs.List.{cons_option}
 use Rattle.arrow_types.specs.IndexKey.{index_of}
+use Rattle.arrow_types.proofs.CallerLemmas.{all-at}
 use Rattle.arrow_bytes.specs.Selection.{at_key, at_keys, where_set}
 
--- tests that hold both
-pub and-first : (a b : Bool) → (a && b) ≡ true → a ≡ true
-and-first true b both = refl
-and-first false b both = both
-
-pub and-second : (a b : Bool) → (a && b) ≡ true → b ≡ true
-and-second true b both = both
-and-second false b both = grind arith
-
-some-same : {E : Type 0} (a b : E) → Some a ≡ Some b → a ≡ b
-some-same a b e = cc
-
 module _ {X : Type 0} (P : X → Type 0) where
-  pub get-all : (xs : List X) (i : ℕ) (y : X) → slice_get xs i ≡ Some y → All P xs → P y
-  get-all [] i y is all = grind arith
-  get-all (x ∷ xs) zero y is all = subst P (some-same x y is) (All-head P x xs all)
-  get-all (x ∷ xs) (suc i) y is all = get-all xs i y is (All-tail P x xs all)
-
   if-got : (xs : List X) (i : ℕ) (found : Option X) → slice_get xs i ≡ found → All P xs → IfSome found P
   if-got xs i None is all = tt
-  if-got xs i (Some y) is all = get-all xs i y is all
+  if-got xs i (Some y) is all = all-at P xs i y all is
 
   pub set-all : (xs : List X) (i : ℕ) (y : X) → P y → All P xs → All P (slice_set xs i y)
   set-all [] i y p all = all

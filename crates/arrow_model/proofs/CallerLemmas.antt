@@ -6,5 +6,3 @@ pub use Rattle.arrow_model.proofs.Costs.{costs-still, costs-anywhere, most-anywh
 -- this is so; and the value in one entry.
 pub use Rattle.arrow_model.proofs.StepLemmas.{fine-changes, fine-both, entry-is}
 pub use Rattle.arrow_model.proofs.RequestLemmas.{request-is}
--- Tests that hold both.
-pub use Rattle.arrow_model.proofs.AllLemmas.{and-second}

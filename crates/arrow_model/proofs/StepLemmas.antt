@@ -6,6 +6,7 @@ use Rattle.std.proofs.Common.{true≢false, inl, inr}
 use Rattle.std.proofs.lemmas.List.Elements.{All-append, All-head, All-map, All-replicate, All-tail, All-take}
 use Rattle.std.specs.Prelude.{All, IfSome, MatchBool, MatchOption}
 use Rattle.std.specs.List.{list_all}
+use Rattle.std.proofs.lemmas.Bool.{and_parts}
 use Rattle.arrow_types.specs.Types.{IsRightType, LogicalType}
 use Rattle.arrow_types.specs.declared.physical_type.PhysicalType.TheVariants as physical
 use Rattle.arrow_column.specs.Validation.{Tests, Passes}
@@ -14,6 +15,7 @@ use Rattle.arrow_bytes.specs.Selection as kernels
 use Rattle.arrow_model.specs.Answer.{Answer, done, is_memory, not_met, refused}
 use Rattle.arrow_model.specs.Change.{frozen_value, empty_value, slots_start, null_in, grown, fitting}
 use Rattle.arrow_types.specs.declared.primitive_type.PrimitiveType.{PrimitiveType}
+use Rattle.arrow_types.proofs.CallerLemmas.{all-at}
 use Rattle.arrow_model.specs.Both.{Both, BothRequest, narrow, wide, widen, narrow_to, IsBothStep, Narrows, Widens}
 use Rattle.arrow_model.specs.Both.{items_in, narrow_types, with_offset_width, wide_types}
 use Rattle.arrow_model.specs.Chosen.{array_in, filter_in}
@@ -38,7 +40,7 @@ use Rattle.arrow_model.specs.Item.{IsTextSlot}
 use Rattle.arrow_model.specs.Kind.{IsKind}
 use Rattle.arrow_model.specs.Request.{IsRequest, IsTextAsk, IsTextSource}
 use Rattle.arrow_model.specs.Values.{AreValues, IsRow, IsStored, IsValue}
-use Rattle.arrow_model.proofs.AllLemmas.{and-first, and-second, get-all, keys-all, set-all, where-all}
+use Rattle.arrow_model.proofs.AllLemmas.{keys-all, set-all, where-all}
 use Rattle.arrow_model.proofs.ValueLemmas.{IsSlot, alone-is, appended-is, changed-stored, cut-is, default-right}
 use Rattle.arrow_model.proofs.ValueLemmas.{default-stored, empty-is, fits-slots, fits-stored, frozen-is, frozen-nulls}
 use Rattle.arrow_model.proofs.ValueLemmas.{grown-is, held-rows, items-slots, joined-is, masked, masked-nulls}
@@ -206,9 +208,9 @@ module _ {T : Type 0} (c : Types T) where
   fine-makes s (ask.slots xs) kind text =
       fine-where None (not (is_values_alone s) && list_all (slot_fits s.value_kind) xs) _ tt (λ both.
       let nulls = not-true (is_values_alone s)
-      (and-first (not (is_values_alone s)) (list_all (slot_fits s.value_kind) xs) both) in
+      (and_parts (not (is_values_alone s)) (list_all (slot_fits s.value_kind) xs) both).0 in
       let all = fits-slots s xs nulls
-      (and-second (not (is_values_alone s)) (list_all (slot_fits s.value_kind) xs) both) text in
+      (and_parts (not (is_values_alone s)) (list_all (slot_fits s.value_kind) xs) both).1 text in
       fine-filled (slots_start c s) xs (λ v. if is_frozen s then frozen_value v else v)
       (last (is_frozen s) (grown c (slots_start c s) xs)
       (grown-is c (slots_start c s) (start-is c s nulls) xs all)))
@@ -303,7 +305,7 @@ module _ {T : Type 0} (c : Types T) where
         && list_all (fits v.shape.value_kind) xs) _ is (λ both.
         fine-becomes _ (with-stored-is c v of xs
         (fits-stored v.shape.value_kind xs
-        (and-second (nat_eq (length xs) (length v.column.rows)) (list_all (fits v.shape.value_kind) xs) both)
+        (and_parts (nat_eq (length xs) (length v.column.rows)) (list_all (fits v.shape.value_kind) xs) both).1
         text)))
     fine-transition (ask.apply_values change) v of for text =
         fine-where old (change_fits v.shape.value_kind change) _ is (λ fit.
@@ -317,7 +319,7 @@ module _ {T : Type 0} (c : Types T) where
         (held-rows v.shape.value_kind v.column.held true v.column.rows (λ bare. absurd (true≢false bare)) of.rows))
         (λ alone. absurd (true≢false (sym alone
         ∙ nullable-nulls v.shape.group v.shape.value_kind
-        (and-first (is_nullable v.shape) (not (is_var_binary v.shape)) for))))))
+        (and_parts (is_nullable v.shape) (not (is_var_binary v.shape)) for).0)))))
     fine-transition (ask.set i (Some x)) v of for text =
         fine-where old (nat_lt i (length v.column.rows)
         && fits v.shape.value_kind x) _ is
@@ -325,7 +327,7 @@ module _ {T : Type 0} (c : Types T) where
         (set-all (IsRow v.shape.value_kind v.column.held) v.column.rows i (x, true)
         (record {
           stored = record {
-            of_value_kind = and-second (nat_lt i (length v.column.rows)) (fits v.shape.value_kind x) both;
+            of_value_kind = (and_parts (nat_lt i (length v.column.rows)) (fits v.shape.value_kind x) both).1;
             text
                 = text;
           };
@@ -337,13 +339,13 @@ module _ {T : Type 0} (c : Types T) where
         fine-may _ old _ is (fine-leaves _ (with-stored-is c v of (slice_set (stored_values v.column) i x)
         (set-all (IsStored v.shape.value_kind) (stored_values v.column) i x
         (record {
-          of_value_kind = and-second (nat_lt i (length v.column.rows)) (fits v.shape.value_kind x) both;
+          of_value_kind = (and_parts (nat_lt i (length v.column.rows)) (fits v.shape.value_kind x) both).1;
           text = text;
         }) (stored-all c v of)))))
     fine-transition (ask.push x) v of for text =
         fine-where old (slot_fits v.shape.value_kind x && (is_nullable v.shape || not (is_none x))) _ is (λ both.
-        let fit = and-first (slot_fits v.shape.value_kind x) (is_nullable v.shape || not (is_none x)) both in
-        let may = and-second (slot_fits v.shape.value_kind x) (is_nullable v.shape || not (is_none x)) both in
+        let fit = (and_parts (slot_fits v.shape.value_kind x) (is_nullable v.shape || not (is_none x)) both).0 in
+        let may = (and_parts (slot_fits v.shape.value_kind x) (is_nullable v.shape || not (is_none x)) both).1 in
         fine-over old _ _ is (fine-becomes _
         (appended-is c v of x (slot-of v.shape x fit text (nulls-where v.shape x may)))))
     fine-transition ask.push_null v of for text =
@@ -370,7 +372,7 @@ module _ {T : Type 0} (c : Types T) where
         (All-replicate (IsStored v.shape.value_kind) n (null_in c v) (default-stored c v.shape.value_kind))))
         (λ alone. absurd (true≢false (sym alone
         ∙ nullable-nulls v.shape.group v.shape.value_kind
-        (and-second (is_native v.shape) (is_nullable v.shape) for))))))
+        (and_parts (is_native v.shape) (is_nullable v.shape) for).1)))))
     fine-transition (ask.extend_constant n (Some x)) v of for text =
         fine-where old (fits v.shape.value_kind x) _ is
         (λ fit. fine-becomes _
@@ -428,7 +430,7 @@ module _ {T : Type 0} (c : Types T) where
       found : (entry : Option (Option (Value T))) → slice_get state e ≡ entry
           → IfSome (option_and_then (λ (x : Option (Value T)). x) entry) (IsValue c)
       found None got = tt
-      found (Some entry) got = get-all (λ (entry : Option (Value T)). IfSome entry (IsValue c)) state e entry got all
+      found (Some entry) got = all-at (λ (entry : Option (Value T)). IfSome entry (IsValue c)) state e entry all got
 
   other-is : (state : State T) (e f : ℕ) → AreValues c state → IfSome (other_at state e f) (IsValue c)
   other-is state e f all = either (e == f)
@@ -448,7 +450,7 @@ module _ {T : Type 0} (c : Types T) where
       (λ h. subst (AreValues c) (sym h.1) all)
       (λ old got h. subst (AreValues c) (sym h.2)
       (set-all (λ (entry : Option (Value T)). IfSome entry (IsValue c)) state e h.0
-      (fine old (get-all (λ (entry : Option (Value T)). IfSome entry (IsValue c)) state e old got all) reply h.0 h.1)
+      (fine old (all-at (λ (entry : Option (Value T)). IfSome entry (IsValue c)) state e old all got) reply h.0 h.1)
       all))
 
   array-of : (from : Option (Value T)) (v : Value T) → array_in from ≡ Some v

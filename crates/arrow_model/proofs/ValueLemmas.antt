@@ -6,6 +6,7 @@ use Rattle.std.proofs.lemmas.List.Elements.{All-nil, All-cons, All-head, All-tai
 use Rattle.std.proofs.lemmas.List.Elements.{All-map, All-replicate, All-weaker}
 use Rattle.std.specs.Prelude.{All}
 use Rattle.std.specs.List.{concat, list_all, zip}
+use Rattle.std.proofs.lemmas.Bool.{and_parts}
 use Rattle.arrow_types.specs.Types.{LogicalType, IsRightType, default_logical_type, physical_type}
 use Rattle.arrow_types.specs.declared.primitive_type.PrimitiveType.{PrimitiveType}
 use Rattle.arrow_types.specs.declared.primitive_type.PrimitiveType.TheVariants as primitive
@@ -30,7 +31,7 @@ use Rattle.arrow_model.specs.Parts.{made, marks_in, pieces_tests}
 use Rattle.arrow_model.specs.Request.{Packed}
 use Rattle.arrow_model.specs.Item.{IsText, IsTextChange, IsTextSlot}
 use Rattle.arrow_model.specs.Values.{IsStored, IsRow, IsAround, IsValue}
-use Rattle.arrow_model.proofs.AllLemmas.{and-first, and-second, reverse-all}
+use Rattle.arrow_model.proofs.AllLemmas.{reverse-all}
 
 -- ---- kinds
 
@@ -139,11 +140,11 @@ module _ {T : Type 0} (sort : ValueKind) where
   fits-stored (x ∷ xs) fit text =
       All-cons (IsStored sort) x xs
       (record {
-        of_value_kind = and-first (fits sort x) (list_all (fits sort) xs) fit;
+        of_value_kind = (and_parts (fits sort x) (list_all (fits sort) xs) fit).0;
         text = All-head IsText x xs
             text;
       })
-      (fits-stored xs (and-second (fits sort x) (list_all (fits sort) xs) fit) (All-tail IsText x xs text))
+      (fits-stored xs (and_parts (fits sort x) (list_all (fits sort) xs) fit).1 (All-tail IsText x xs text))
 
   -- items without bytes
   bare-bytes : is_var_binary (shaped frozen sort) ≡ false → (x : Stored T) → IsStored sort x → stored_bytes x ≡ []
@@ -226,9 +227,9 @@ module _ {T : Type 0} (sort : ValueKind) where
           (record {
             stored = All-head (λ (row : Row (Stored T)). IsStored sort row.0) row rows all;
             marked = λ bare.
-                and-first row.1 (list_all (λ (row : Row (Stored T)). row.1) rows) (valid bare);
+                (and_parts row.1 (list_all (λ (row : Row (Stored T)). row.1) rows) (valid bare)).0;
           })
-          (each held rows (λ bare. and-second row.1 (list_all (λ (row : Row (Stored T)). row.1) rows) (valid bare))
+          (each held rows (λ bare. (and_parts row.1 (list_all (λ (row : Row (Stored T)). row.1) rows) (valid bare)).1)
           (All-tail (λ (row : Row (Stored T)). IsStored sort row.0) row rows all))
 
   pub rows-stored : (held : Bool) (rows : List (Row (Stored T))) → All (IsRow sort held) rows
@@ -272,11 +273,11 @@ module _ {T : Type 0} where
   fits-slots s (Some x ∷ xs) nulls fit text =
       All-cons (IsSlot s) (Some x) xs
       (record {
-        of_value_kind = and-first (fits s.value_kind x) (list_all (slot_fits s.value_kind) xs) fit;
+        of_value_kind = (and_parts (fits s.value_kind x) (list_all (slot_fits s.value_kind) xs) fit).0;
         text
             = All-head IsTextSlot (Some x) xs text;
       })
-      (fits-slots s xs nulls (and-second (fits s.value_kind x) (list_all (slot_fits s.value_kind) xs) fit)
+      (fits-slots s xs nulls (and_parts (fits s.value_kind x) (list_all (slot_fits s.value_kind) xs) fit).1
       (All-tail IsTextSlot (Some x) xs text))
 
   pub items-slots : (s : Shape) (xs : List (Stored T)) → All (IsStored s.value_kind) xs → All (IsSlot s) (map Some xs)
@@ -462,11 +463,11 @@ module _ {T : Type 0} (c : Types T) where
       (record v.column { rows = v.column.rows ++ w.column.rows; held = v.column.held || w.column.held }))
   joined-is v w is other same =
       let group = same-group v.shape.group w.shape.group
-      (and-first (same_group v.shape.group w.shape.group) (same_value_kind v.shape.value_kind w.shape.value_kind)
-      same) in
+      (and_parts (same_group v.shape.group w.shape.group) (same_value_kind v.shape.value_kind w.shape.value_kind)
+      same).0 in
       let sort = same-sort v.shape.value_kind w.shape.value_kind
-      (and-second (same_group v.shape.group w.shape.group) (same_value_kind v.shape.value_kind w.shape.value_kind)
-      same) in
+      (and_parts (same_group v.shape.group w.shape.group) (same_value_kind v.shape.value_kind w.shape.value_kind)
+      same).1 in
       rows-is v is (v.column.held || w.column.held) (v.column.rows ++ w.column.rows)
       (All-append (IsRow v.shape.value_kind (v.column.held || w.column.held)) v.column.rows w.column.rows
       (held-rows v.shape.value_kind v.column.held (v.column.held || w.column.held) v.column.rows

@@ -1,6 +1,7 @@
 -- Lemmas on lists that are read element by element.
 use Rattle.std.proofs.Common.{◌≡◌, ℕ, List, [], ◌++◌, refl, Option, Some, None, is_some}
 use Rattle.std.specs.Prelude.{option_map}
+use Rattle.arrow_types.proofs.CallerLemmas.{is_some-option_map}
 use Rattle.arrow_syntax.specs.Readers.{Reader, map_read}
 
 -- the elements read before, and then the others
@@ -14,10 +15,6 @@ behind_nothing (Some ys) = refl
 -- ---- converted values
 
 module _ {A B : Type 0} where
-  some_map : (make : A → B) (read : Option A) → is_some (option_map make read) ≡ is_some read
-  some_map make None = refl
-  some_map make (Some x) = refl
-
   pub reads_some : (reader : Reader A) (make : A → B) (words : List (List ℕ))
       → is_some (map_read reader make words) ≡ is_some (reader words)
-  reads_some reader make words = some_map make (reader words)
+  reads_some reader make words = is_some-option_map make (reader words)

@@ -1,22 +1,18 @@
 -- Lemmas on the numbers that words write.
-use Rattle.std.proofs.Common.{◌≡◌, ℕ, ◌+◌, ◌*◌, ◌^◌, ◌<◌, ◌≤◌, Bool, true, false, cond, nat_lt, List, [], ◌∷◌}
+use Rattle.std.proofs.Common.{◌≡◌, ℕ, ◌+◌, ◌*◌, ◌^◌, ◌<◌, Bool, true, false, cond, nat_lt, List, [], ◌∷◌}
 use Rattle.std.proofs.Common.{length, refl, sym, ap, arith, Option, Some, None}
 use Rattle.std.specs.Prelude.{◌&&◌, option_and_then}
 use Rattle.std.specs.List.{list_all}
 use Rattle.std.specs.Char.{digit_value}
 use Rattle.std.specs.Str.Parse.{digits_value_after}
 use Rattle.std.proofs.lemmas.Bool.{ltb-true, ltb-false, lt-ltb, le-ltb, and_right}
+use Rattle.arrow_types.proofs.CallerLemmas.{value-ge}
 use Rattle.arrow_syntax.specs.Words.{parse_usize, with_digit, is_digit}
 
 -- the number of more digits behind those of a number
 abbrev pub number_after : ℕ → List ℕ → Option ℕ
 number_after n [] = Some n
 number_after n (b ∷ bs) = option_and_then (λ m. number_after m bs) (with_digit n b)
-
--- more digits make no number less
-digits_value_ge : (n : ℕ) (bs : List ℕ) → n ≤ digits_value_after 10 n bs
-digits_value_ge n [] = omega arith
-digits_value_ge n (b ∷ bs) = omega (arith, digits_value_ge (n * 10 + digit_value b) bs)
 
 -- the number of bytes that are all digits, if it fits
 abbrev whole : ℕ → List ℕ → Option ℕ
@@ -32,7 +28,7 @@ number_after-cons n b bs true true d f rest = rw (d, f) (rest (ltb-true _ _ f))
 number_after-cons n b bs true false d f rest =
     let above = ltb-false _ _ f in
     let past = le-ltb (digits_value_after 10 (n * 10 + digit_value b) bs) (2 ^ 64)
-    (omega (arith, digits_value_ge (n * 10 + digit_value b) bs)) in
+    (omega (arith, value-ge (n * 10 + digit_value b) bs)) in
     rw (d, f, past, and_right (list_all is_digit bs) false refl) refl
 
 pub number_after_is : (n : ℕ) (bs : List ℕ) → n < 2 ^ 64 → number_after n bs ≡ whole n bs

@@ -1,7 +1,7 @@
 -- Lemmas on packed bits.
 use Rattle.std.proofs.Common.{◌≡◌, ◌∙◌, ap, sym, ℕ, zero, suc, ◌+◌, ◌-◌, ◌*◌, ◌<◌, ◌≤◌, Bool, true, false, List}
-use Rattle.std.proofs.Common.{[], ◌∷◌, ◌++◌, length, map, take, drop, min, arith, length-drop}
-use Rattle.std.proofs.lemmas.List.{take_all, take_min}
+use Rattle.std.proofs.Common.{[], ◌∷◌, ◌++◌, length, map, take, drop, min, arith}
+use Rattle.std.proofs.lemmas.List.{take_min, take_rest}
 use Rattle.std.proofs.lemmas.List.FromFn.{map-range_with_len_more}
 use Rattle.std.specs.List.{range_with_len}
 use Rattle.arrow_syntax.specs.Fields.{byte_of}
@@ -24,15 +24,11 @@ byte_below (suc k) (false ∷ bits) h = omega (arith, byte_below k bits (omega a
 pub byte_below_128 : (bits : List Bool) → length bits ≤ 7 → byte_of bits < 128
 byte_below_128 bits h = byte_below 7 bits h
 
--- up to eight elements behind an index
-rest_is : (bits : List Bool) (place : ℕ) → take (length bits - place) (drop place bits) ≡ drop place bits
-rest_is bits place = take_all (length bits - place) (drop place bits) (omega (arith, length-drop place bits))
-
 pub eight_of : (bits rest piece : List Bool) (place n : ℕ) → rest ≡ take (length bits - place) (drop place bits)
     → n ≡ min (length rest) 8 → piece ≡ take n rest → piece ≡ take 8 (drop place bits)
 eight_of bits rest piece place n e f g =
     let m : n ≡ min 8 (length rest) = omega (arith, f) in
-    g ∙ ap (λ k. take k rest) m ∙ take_min 8 rest ∙ ap (take 8) (e ∙ rest_is bits place)
+    g ∙ ap (λ k. take k rest) m ∙ take_min 8 rest ∙ ap (take 8) (e ∙ take_rest bits place)
 
 -- one byte more
 pub byte_more : (bits : List Bool) (index : ℕ) (bytes : List ℕ) (byte : ℕ)

@@ -2,7 +2,7 @@
 use Rattle.std.proofs.Common.{◌≡◌, ℕ, ◌<◌, Bool, true, false, List, length, refl, arith, Option, Some, None, get_or}
 use Rattle.std.specs.Prelude.{position}
 use Rattle.std.specs.List.{position_or_len}
-use Rattle.std.proofs.lemmas.Bool.{lt-ltb, le-ltb}
+use Rattle.std.proofs.lemmas.Bool.{lt-ltb, le-ltb, false_from_ne_true}
 use Rattle.std.proofs.lemmas.List.Sums.{position_or_len_is}
 use Rattle.memchr.specs.Find.{IsFirstByte}
 
@@ -22,12 +22,8 @@ module _ (p : ℕ → Bool) (xs : List ℕ) where
       ≡ length xs = position_or_len_is p xs (length xs) 0 (omega arith) before (λ h. absurd (omega arith)) in
       rw (is, le-ltb (length xs) (length xs) (omega arith)) refl
 
-  not_true : (b : Bool) → (b ≡ true → ⊥) → b ≡ false
-  not_true true h = absurd (h refl)
-  not_true false h = refl
-
   -- the same of the result of a search
   pub first_is_position : (found : Option ℕ) → IsFirstByte p xs found → found ≡ position p xs
-  first_is_position None h = found_nowhere (λ k below. not_true (p (get_or xs k 0)) (h k (omega arith) below))
+  first_is_position None h = found_nowhere (λ k below. false_from_ne_true (p (get_or xs k 0)) (h k (omega arith) below))
   first_is_position (Some n) h = found_at n h.0.high
-      (λ k below. not_true (p (get_or xs k 0)) (h.0.before k (omega arith) below)) h.1
+      (λ k below. false_from_ne_true (p (get_or xs k 0)) (h.0.before k (omega arith) below)) h.1

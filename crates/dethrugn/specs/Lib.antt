@@ -69,22 +69,22 @@ pub use Rattle.arrow_bytes.specs.Appends as ByteAppends
 pub use Rattle.arrow_bytes.specs.Selection
 pub use Rattle.arrow_bytes.specs.KeyedItems
 -- arrays that kernels make of others slot by slot: comparisons, logic, arithmetic
-pub use Rattle.arrow_compute.specs.Slots as MadeSlots
-pub use Rattle.arrow_compute.specs.Comparison
-pub use Rattle.arrow_compute.specs.Logic
-pub use Rattle.arrow_compute.specs.Kleene
+pub use Rattle.compute_comparison.specs.Slots as MadeSlots
+pub use Rattle.compute_comparison.specs.Comparison
+pub use Rattle.compute_comparison.specs.Logic
+pub use Rattle.compute_comparison.specs.Kleene
 pub use Rattle.arrow_integers.specs.NativeArithmetics
-pub use Rattle.arrow_arithmetics.specs.Arithmetic
-pub use Rattle.arrow_arithmetics.specs.Cast
-pub use Rattle.arrow_cast.specs.Decimals
-pub use Rattle.arrow_select.specs.Selects
-pub use Rattle.arrow_select.specs.Lengths
+pub use Rattle.compute_arithmetics.specs.Arithmetic
+pub use Rattle.compute_arithmetics.specs.Cast
+pub use Rattle.compute_cast.specs.Decimals
+pub use Rattle.compute_select.specs.Selects
+pub use Rattle.compute_select.specs.Lengths
 -- sums, least and greatest values; groups of equal slots; orders of slots, and what sorts them
-pub use Rattle.arrow_aggregate.specs.Aggregates
-pub use Rattle.arrow_aggregate.specs.Groups
-pub use Rattle.arrow_aggregate.specs.GroupSums
-pub use Rattle.arrow_group.specs.Grouping
-pub use Rattle.arrow_group.specs.Hashes
-pub use Rattle.arrow_sort.specs.declared.options.SortOptions
-pub use Rattle.arrow_sort.specs.Sort
-pub use Rattle.arrow_sort.specs.Columns as SortColumns
+pub use Rattle.compute_aggregate.specs.Aggregates
+pub use Rattle.compute_aggregate.specs.Groups
+pub use Rattle.compute_aggregate.specs.GroupSums
+pub use Rattle.compute_group.specs.Grouping
+pub use Rattle.compute_group.specs.Hashes
+pub use Rattle.compute_sort.specs.declared.options.SortOptions
+pub use Rattle.compute_sort.specs.Sort
+pub use Rattle.compute_sort.specs.Columns as SortColumns

@@ -1,26 +1,26 @@
 //! Kernels, under arrow2's module names.
-pub use arrow_aggregate::aggregate;
-pub use arrow_compute::{boolean, boolean_kleene, comparison};
-pub use arrow_select::{if_then_else, length, nullif};
+pub use compute_aggregate::aggregate;
+pub use compute_comparison::{boolean, boolean_kleene, comparison};
+pub use compute_select::{if_then_else, length, nullif};
 
 /// Arithmetic of arrays of integers.
 pub mod arithmetics {
-    pub use arrow_arithmetics::basic;
     pub use arrow_integers::NativeArithmetics;
+    pub use compute_arithmetics::basic;
 }
 
 /// Values of another type, and offsets of the other width.
 pub mod cast {
-    pub use arrow_arithmetics::cast::{
+    pub use arrow_kernels::{
+        narrow_binary, narrow_items, narrow_utf8, widen_binary, widen_items, widen_utf8,
+    };
+    pub use compute_arithmetics::cast::{
         CastOptions, binary_to_utf8, boolean_to_primitive, primitive_as_primitive,
         primitive_to_boolean, primitive_to_primitive,
     };
-    pub use arrow_arithmetics::wrap_number::WrapNumber;
-    pub use arrow_cast::{
+    pub use compute_arithmetics::wrap_number::WrapNumber;
+    pub use compute_cast::{
         binary_to_primitive, primitive_to_binary, primitive_to_utf8, utf8_to_primitive,
-    };
-    pub use arrow_kernels::{
-        narrow_binary, narrow_items, narrow_utf8, widen_binary, widen_items, widen_utf8,
     };
 }
 
@@ -29,7 +29,7 @@ pub mod concatenate {
     pub use arrow_kernels::{
         concat_binary, concat_boolean, concat_items, concat_primitive, concat_utf8,
     };
-    pub use arrow_select::concatenate::{
+    pub use compute_select::concatenate::{
         concatenate_boolean, concatenate_items, concatenate_primitive,
     };
 }
@@ -43,7 +43,7 @@ pub mod filter {
 
 /// Groups of equal slots. The calls whose names end in `with` hash by the caller's keys, the others by public ones.
 pub mod group {
-    pub use arrow_group::{
+    pub use compute_group::{
         Groups, group_binary, group_binary_with, group_boolean, group_boolean_with,
         group_primitive, group_primitive_with, group_utf8, group_utf8_with,
     };
@@ -51,14 +51,14 @@ pub mod group {
 
 /// Hashes of slots, which depend on the slot alone.
 pub mod hash {
-    pub use arrow_group::{hash_binary, hash_boolean, hash_primitive, hash_utf8};
+    pub use compute_group::{hash_binary, hash_boolean, hash_primitive, hash_utf8};
 }
 
 /// Sorts of one array and over several columns.
 pub mod sort {
-    pub use arrow_sort::lexsort::{SortColumn, SortValues, lexsort_to_indices};
-    pub use arrow_sort::sort::{sort, sort_to_indices};
-    pub use arrow_sort::{SortOptions, SortableArray};
+    pub use compute_sort::lexsort::{SortColumn, SortValues, lexsort_to_indices};
+    pub use compute_sort::sort::{sort, sort_to_indices};
+    pub use compute_sort::{SortOptions, SortableArray};
 }
 
 /// Takes by a slice of keys. The modules `primitive` and so on have takes by an array of keys, some of which may be null.
@@ -67,26 +67,26 @@ pub mod take {
 
     /// Slots of numbers at the keys of an array.
     pub mod primitive {
-        pub use arrow_select::take::take_primitive as take;
+        pub use compute_select::take::take_primitive as take;
     }
 
     /// Slots of booleans at the keys of an array.
     pub mod boolean {
-        pub use arrow_select::take::take_boolean as take;
+        pub use compute_select::take::take_boolean as take;
     }
 
     /// Slots of bytes at the keys of an array.
     pub mod binary {
-        pub use arrow_select::take::take_binary as take;
+        pub use compute_select::take::take_binary as take;
     }
 
     /// Slots of bytes or of text at the keys of an array.
     pub mod items {
-        pub use arrow_select::take::take_items as take;
+        pub use compute_select::take::take_items as take;
     }
 
     /// Slots of text at the keys of an array.
     pub mod utf8 {
-        pub use arrow_select::take::take_utf8 as take;
+        pub use compute_select::take::take_utf8 as take;
     }
 }

@@ -2,13 +2,12 @@
 use Rattle.std.proofs.Common.{◌≡◌, ℕ, ℤ, ◌+◌, ◌≤◌, ◌==◌, Bool, true, false, List, [], ◌∷◌, ◌++◌, Option, Some, None}
 use Rattle.std.proofs.Common.{refl, sym, ap, ◌∙◌, arith, length, map}
 use Rattle.std.specs.Prelude.{is_some, option_map}
-use Rattle.std.specs.List.{concat, list_all}
-use Rattle.std.proofs.lemmas.List.{append-nil, length-append, map-append}
-use Rattle.std.proofs.lemmas.List.Folds.{concat-append}
+use Rattle.std.specs.List.{list_all}
+use Rattle.std.proofs.lemmas.List.{map-append}
 use Rattle.dethrugn.specs.Column.{Column, append_slot, slots_of, stored_values}
 use Rattle.dethrugn.specs.ByteColumn.{ByteColumn}
-use Rattle.dethrugn.specs.Rows.{Row}
 use Rattle.dethrugn.proofs.CallerLemmas.Column.{one-slot}
+use Rattle.dethrugn.proofs.CallerLemmas.Kernels.{more-bytes}
 use Rattle.example_record_batch.specs.AnyArrays.{Cell, number, text, truth}
 use Rattle.example_csv.specs.declared.kind.Kind.TheVariants as kind
 use Rattle.example_csv.specs.declared.builder.Builder.TheVariants as builder
@@ -43,22 +42,11 @@ grows-boolean old new field slot read e = record {
   bytes = omega arith;
 }
 
--- one stored text more is its bytes more
-count-more : (rows : List (Row (List ℕ))) (field : List ℕ) (mark : Bool)
-    → length (concat (map (λ (row : Row (List ℕ)). row.0) (rows ++ (field, mark) ∷ [])))
-    ≡ length (concat (map (λ (row : Row (List ℕ)). row.0) rows)) + length field
-count-more rows field mark =
-    let stored = map (λ (row : Row (List ℕ)). row.0) rows in
-    ap (λ texts. length (concat texts)) (map-append (λ (row : Row (List ℕ)). row.0) rows ((field, mark) ∷ []))
-    ∙ ap length (concat-append stored (field ∷ []))
-    ∙ length-append (concat stored) (field ++ [])
-    ∙ ap (λ text. length (concat stored) + length text) (append-nil field)
-
 -- a null stores no byte, and any other text its own
 bytes-more : (old : ByteColumn) (field : List ℕ)
     → byte_count (append_slot [] old (field_text field)) ≤ byte_count old + length field
-bytes-more old [] = let more = count-more old.rows [] false in omega (arith, more)
-bytes-more old (b ∷ rest) = let more = count-more old.rows (b ∷ rest) true in omega (arith, more)
+bytes-more old [] = let more = more-bytes old.rows [] false in omega (arith, more)
+bytes-more old (b ∷ rest) = let more = more-bytes old.rows (b ∷ rest) true in omega (arith, more)
 
 text-cells : (old new : ByteColumn) (field : List ℕ) → new ≡ append_slot [] old (field_text field)
     → map Some (map text (slots_of new)) ≡ map Some (map text (slots_of old)) ++ field_cell kind.Utf8 field ∷ []

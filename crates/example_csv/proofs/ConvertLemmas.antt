@@ -1,6 +1,6 @@
 -- Lemmas about columns of text whose type is found.
-use Rattle.std.proofs.Common.{◌≡◌, ℕ, ℤ, zero, suc, ◌+◌, ◌≤◌, ◌<◌, ◌&&◌, Bool, true, false, List, [], ◌∷◌, ◌++◌}
-use Rattle.std.proofs.Common.{Option, Some, None, refl, sym, ap, ◌∙◌, arith, add-one, inl, zero-add, inr, length, map, take}
+use Rattle.std.proofs.Common.{◌≡◌, ℕ, ℤ, ◌+◌, ◌≤◌, ◌<◌, ◌&&◌, Bool, true, false, List, [], ◌∷◌, ◌++◌}
+use Rattle.std.proofs.Common.{Option, Some, None, refl, sym, ap, ◌∙◌, arith, inl, zero-add, inr, length, map, take}
 use Rattle.std.proofs.Common.{get_or, slice_get}
 use Rattle.std.specs.Prelude.{cond, count_by, is_none, is_some, not, option_map}
 use Rattle.std.specs.List.{list_all}
@@ -12,6 +12,7 @@ use Rattle.std.proofs.lemmas.Option.{get_or_from_slice_get, slice_get_within}
 use Rattle.dethrugn.specs.Column.{Column, slots_of, without_needless_mask}
 use Rattle.dethrugn.specs.ByteColumn.{ByteColumn}
 use Rattle.dethrugn.specs.Rows.{Row, slot}
+use Rattle.dethrugn.proofs.CallerLemmas.Types.{is_some-option_map, take-next}
 use Rattle.example_record_batch.specs.AnyArrays.{Cell, number, text, truth}
 use Rattle.example_record_batch.specs.declared.any.AnyArray.{AnyArray}
 use Rattle.example_record_batch.specs.declared.any.AnyArray.TheVariants as array
@@ -19,11 +20,6 @@ use Rattle.example_csv.specs.declared.kind.Kind.{Kind}
 use Rattle.example_csv.specs.declared.kind.Kind.TheVariants as kind
 use Rattle.example_csv.specs.Builders.{IsArrayOf}
 use Rattle.example_csv.specs.Fields.{all_read, found_kind, parsed_number, field_cell, slot_as, field_text, truth_of}
-
-take-more : {X : Type 0} (xs : List X) (i : ℕ) (x : X) → slice_get xs i ≡ Some x → take (i + 1) xs ≡ take i xs ++ x ∷ []
-take-more [] i x e = cc
-take-more (y ∷ ys) zero x e = let same : y ≡ x = cc in ap (λ z. z ∷ []) same
-take-more (y ∷ ys) (suc i) x e = simp add-one (ap (λ rest. y ∷ rest) (sym (simp add-one) ∙ take-more ys i x e))
 
 -- one text more that means something is one slot more
 pub slots-more : {X : Type 0} (meaning : Option (List ℕ) → Option (Option X)) (old new : List (Option X))
@@ -36,7 +32,7 @@ slots-more meaning old new texts i word shown grown before at means =
     ∙ ap (λ slots. slots ++ Some shown ∷ []) before
     ∙ ap (λ s. map meaning (take i texts) ++ s ∷ []) means
     ∙ sym (map-append meaning (take i texts) (word ∷ []))
-    ∙ ap (map meaning) (sym (take-more texts i word at))
+    ∙ ap (map meaning) (sym (take-next texts i word at))
 
 -- one text that means nothing: not all mean something
 pub not-all : {X : Type 0} (meaning : Option (List ℕ) → Option (Option X)) (texts : List (Option (List ℕ))) (i : ℕ)
@@ -119,17 +115,13 @@ all-some read (y ∷ ys) (field ∷ fields) e =
     let rest : map Some ys ≡ map read fields = cc in
     ap (λ o. is_some o && list_all (λ field. is_some (read field)) fields) (sym first) ∙ all-some read ys fields rest
 
-is_some-map : {X Y : Type 0} (f : X → Y) (o : Option X) → is_some (option_map f o) ≡ is_some o
-is_some-map f None = refl
-is_some-map f (Some x) = refl
-
 read-as : {X : Type 0} (meaning : List ℕ → Option X) (cell : Option X → Cell) (fields : List (List ℕ))
     → list_all (λ field. is_some (option_map cell (slot_as meaning (field_text field)))) fields
     ≡ list_all (λ s. is_some (slot_as meaning s)) (map field_text fields)
 read-as meaning cell [] = refl
 read-as meaning cell (field ∷ fields) =
     ap (λ b. b && list_all (λ f. is_some (option_map cell (slot_as meaning (field_text f)))) fields)
-    (is_some-map cell (slot_as meaning (field_text field)))
+    (is_some-option_map cell (slot_as meaning (field_text field)))
     ∙ ap (λ b. is_some (slot_as meaning (field_text field)) && b) (read-as meaning cell fields)
 
 module _ (rows : List (Row (List ℕ))) (fields : List (List ℕ)) (e : map slot rows ≡ map field_text fields) where

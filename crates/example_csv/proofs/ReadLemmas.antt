@@ -8,7 +8,7 @@ use Rattle.std.proofs.Math.ListN.{drop_of_length-le, get_or-eq_default}
 use Rattle.std.proofs.Math.Seq.{get_or-append_seam, take-length}
 use Rattle.std.proofs.lemmas.Bool.{cases_order}
 use Rattle.std.proofs.lemmas.List.{append-nil, drop_more, get_or-map, get_or_append_left, length-append, length-map}
-use Rattle.std.proofs.lemmas.List.{get_or-set_other, map-append}
+use Rattle.std.proofs.lemmas.List.{get_or-set_other, get_or_default, map-append}
 use Rattle.std.proofs.lemmas.Grind.{get_or-set_at}
 use Rattle.std.proofs.lemmas.Option.{get_or_from_slice_get, slice_get_within}
 use Rattle.std.proofs.lemmas.List.Folds.{concat-append}
@@ -24,14 +24,12 @@ use Rattle.csv.specs.declared.parser.State.TheVariants as st
 use Rattle.csv.specs.declared.reader.Reader.{Reader}
 use Rattle.csv.proofs.ReadFacts.{reached-more}
 use Rattle.csv.proofs.RecordFacts.{field-get, field-there}
-use Rattle.example_record_batch.specs.AnyArrays.{Cell, bytes, cells_of, number, slot_count, text, truth}
-use Rattle.example_record_batch.specs.declared.any.AnyArray.{AnyArray}
+use Rattle.example_record_batch.specs.AnyArrays.{Cell, bytes, cells_of, slot_count, text}
 use Rattle.example_record_batch.specs.declared.any.AnyArray.TheVariants as array
-use Rattle.dethrugn.specs.Column.{slots_of}
-use Rattle.dethrugn.specs.Rows.{slot}
 use Rattle.example_record_batch.specs.Batches.{HaveRows, batch_of, named}
 use Rattle.example_record_batch.specs.declared.batch.Field.{Field}
 use Rattle.dethrugn.specs.Error.TheVariants as arrow
+use Rattle.example_record_batch.proofs.CallerLemmas.{cell-count}
 use Rattle.example_csv.specs.declared.builder.Builder.{Builder}
 use Rattle.example_csv.specs.declared.error.Error.{Error}
 use Rattle.example_csv.specs.declared.error.Error.TheVariants as error
@@ -194,16 +192,10 @@ frozen-more columns rest left fields grown column field at next e one each =
       ]
     ]
 
-length-cells : (array : AnyArray) → length (cells_of array) ≡ slot_count array
-length-cells (array.Int64 column) = length-map (slots_of column) number ∙ length-map column.rows slot
-length-cells (array.Boolean column) = length-map (slots_of column) truth ∙ length-map column.rows slot
-length-cells (array.Binary column) = length-map (slots_of column) bytes ∙ length-map column.rows slot
-length-cells (array.Utf8 column) = length-map (slots_of column) text ∙ length-map column.rows slot
-
 count-of : (header : List ℕ) (rows : List (List (List ℕ))) (i : ℕ) (field : Field)
     → IsColumnOf header (column_fields rows i) (named field) → slot_count field.array ≡ length rows
 count-of header rows i field column =
-    sym (length-cells field.array)
+    sym (cell-count field.array)
     ∙ sym (length-map (cells_of field.array) (λ (cell : Cell). Some cell))
     ∙ ap length column.array.cells
     ∙ length-map (column_fields rows i) (field_cell (column_kind (header_of header).1 (column_fields rows i)))
@@ -237,11 +229,6 @@ module _ (headers : List (List ℕ)) (rows : List (List (List ℕ))) (columns : 
 
 -- ---- what is appended to columns
 
-get-same : {X : Type 0} (xs : List X) (i : ℕ) (d e : X) → i < length xs → get_or xs i d ≡ get_or xs i e
-get-same [] i d e h = absurd (omega arith)
-get-same (x ∷ xs) zero d e h = refl
-get-same (x ∷ xs) (suc i) d e h = get-same xs i d e (omega arith)
-
 -- the field that a row has at a place, or else an empty one
 pub field-or : (fields : List (List ℕ)) (i : ℕ) (found : Option (Bor (List ℕ))) (field d : Bor (List ℕ))
     → option_map (λ f. f.now) found ≡ field_at fields i → field ≡ unwrap_or found d → d.now ≡ []
@@ -267,7 +254,7 @@ module _ (old items : List NamedBuilder) (row : List (List ℕ)) (i : ℕ) (new 
     | inl same ↦
         let now = get_or-set_at items i k (record { name = (get_or items i e).name; builder = new }) d same within in
         let here : get_or items i e ≡ get_or old k d =
-        get-same items i e d within ∙ ap (λ n. get_or items n d) (sym same) ∙ left k d (omega arith) in
+        get_or_default items i e d within ∙ ap (λ n. get_or items n d) (sym same) ∙ left k d (omega arith) in
         rw (now, ← here, same) (refl, grows)
     | inr apart ↦ elim apart [
       | inl before ↦

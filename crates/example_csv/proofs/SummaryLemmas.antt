@@ -6,12 +6,10 @@ use Rattle.std.proofs.lemmas.List.{length-map, map-append, map-id, take_more}
 use Rattle.std.proofs.lemmas.Simd.{map-map}
 use Rattle.std.proofs.lemmas.Slice.Zip.{all_zipped_more}
 use Rattle.example_record_batch.specs.declared.any.AnyArray.{AnyArray}
-use Rattle.example_record_batch.specs.declared.any.AnyArray.TheVariants.{Binary, Boolean, Int64, Utf8}
 use Rattle.example_record_batch.specs.declared.batch.Field.{Field}
-use Rattle.dethrugn.specs.Column.{slots_of}
-use Rattle.dethrugn.specs.Rows.{slot}
-use Rattle.example_record_batch.specs.AnyArrays.{Cell, bytes, cells_of, number, slot_count, text, truth}
+use Rattle.example_record_batch.specs.AnyArrays.{Cell, cells_of, slot_count}
 use Rattle.example_record_batch.specs.Batches.{Batch, HaveRows, Named, batch_of, named}
+use Rattle.example_record_batch.proofs.CallerLemmas.{cell-count}
 use Rattle.example_csv.proofs.TableLemmas.{each_column}
 
 -- the cells of slots that a loop over all fields of a table makes
@@ -36,18 +34,11 @@ texts-more R fields i field texts one within e h fact =
     rw (take_more fields i field within, ← e, map-append named (take i fields) (field ∷ []))
     (all_zipped_more R (map named (take i fields)) texts (named field) one h fact)
 
--- an array has as many slots as cells
-count-cells : (array : AnyArray) → length (cells_of array) ≡ slot_count array
-count-cells (Int64 column) = length-map (slots_of column) number ∙ length-map column.rows slot
-count-cells (Boolean column) = length-map (slots_of column) truth ∙ length-map column.rows slot
-count-cells (Binary column) = length-map (slots_of column) bytes ∙ length-map column.rows slot
-count-cells (Utf8 column) = length-map (slots_of column) text ∙ length-map column.rows slot
-
 -- an array of a cell for each item has as many slots as there are items
 pub count_of : {X : Type 0} (array : AnyArray) (cell : X → Cell) (items : List X) (n : ℕ) → cells_of array ≡ map
     cell items
     → length items ≡ n → slot_count array ≡ n
-count_of array cell items n e h = sym (count-cells array) ∙ ap length e ∙ length-map items cell ∙ h
+count_of array cell items n e h = sym (cell-count array) ∙ ap length e ∙ length-map items cell ∙ h
 
 -- a table has as many columns as fields
 pub length-columns : (fields : List Field) (batch : Batch) → batch_of fields batch.rows ≡ batch

@@ -4,10 +4,11 @@ use Rattle.std.proofs.Common.{take, zero-add}
 use Rattle.std.specs.Prelude.{codes, fold, max}
 use Rattle.std.specs.List.{flat_map, range_with_len}
 use Rattle.std.proofs.lemmas.Grind.{flat_map-append}
-use Rattle.std.proofs.lemmas.List.{append-nil, flat_map_more, get_or-map, map-append, map-id, take_all, take_more}
+use Rattle.std.proofs.lemmas.List.{append-nil, flat_map_more, get_or-map, map-append, take_all, take_more}
 use Rattle.std.proofs.lemmas.List.FromFn.{map-range_with_len_more}
 use Rattle.std.proofs.lemmas.List.Sums.{fold-append}
 use Rattle.std.proofs.lemmas.Simd.{map-map}
+use Rattle.dethrugn.proofs.CallerLemmas.Types.{range-more}
 use Rattle.example_record_batch.specs.declared.batch.Field.{Field}
 use Rattle.example_record_batch.specs.AnyArrays.{cell_at}
 use Rattle.example_record_batch.specs.Batches.{Batch, Named, batch_of, named}
@@ -22,12 +23,6 @@ each_column g fields batch n e all =
     ap (map (λ field. g (named field))) (take_all n fields all)
     ∙ sym (map-map g named fields)
     ∙ ap (λ (b : Batch). map g b.columns) e
-
-range-more : (n : ℕ) → range_with_len 0 (n + 1) ≡ range_with_len 0 n ++ n ∷ []
-range-more n =
-    sym (map-id (range_with_len 0 (n + 1)))
-    ∙ map-range_with_len_more (λ i. i) 0 n n (zero-add n)
-    ∙ ap (λ is. is ++ n ∷ []) (map-id (range_with_len 0 n))
 
 -- the text of one row more
 pub rows-more : (first : List ℕ) (row : ℕ → List ℕ) (n : ℕ)

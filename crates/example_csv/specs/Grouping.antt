@@ -42,6 +42,10 @@ abbrev pub IsAggregated : Batch → List ℕ → ℕ → Aggregation → Named �
 IsAggregated batch numbers groups asked made = (array : AnyArray) × (aggregated_array batch asked ≡ Ok array)
     × (made.name ≡ aggregate_name asked) × IsAggregate asked.aggregate array numbers groups made.array
 
+-- the same of groups with a key each, which are the slots of this column
+abbrev pub AggregatesKeys : Batch → List ℕ → Named → Aggregation → Named → Type 0
+AggregatesKeys batch numbers keys asked made = IsAggregated batch numbers (slot_count keys.array) asked made
+
 -- columns are those of the keys, with a slot for each group, and of each aggregate, in order
 abbrev pub HasAggregates : Batch → List ℕ → Named → List Aggregation → List Named → Type 0
 HasAggregates batch numbers keys asked columns = (made : List Named)

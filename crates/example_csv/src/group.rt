@@ -1,18 +1,19 @@
 //! Rows by group, and aggregates of each group.
-ghost use Rattle.std.specs.Prelude.{◌≡◌, ◌<◌, All, IfErr, IfOk, IsSome, Ok, Some, length, map, option_map};
+ghost use Rattle.std.specs.Prelude.{◌≡◌, ◌<◌, IfErr, IfOk, IsSome, Ok, Some, length, map, option_map};
 ghost use Rattle.std.specs.Prelude.{string_bytes};
 ghost use Rattle.example_record_batch.specs.AnyArrays.{slot_count};
 ghost use Rattle.example_record_batch.specs.Batches.{HaveRows, named};
 ghost use Rattle.example_record_batch.specs.Grouping.{overflowing_group};
 ghost use Rattle.example_csv.specs.Builders.{IsOutOfMemory};
 ghost use Rattle.example_csv.specs.Grouping.{CannotAggregate, CannotAggregateAll, CannotGroup, HasAggregates};
-ghost use Rattle.example_csv.specs.Grouping.{IsAggregated, IsGroupedBy, NamesOverflow, aggregate_name, aggregate_word};
+ghost use Rattle.example_csv.specs.Grouping.{AggregatesKeys, IsGroupedBy, NamesOverflow, aggregate_name, aggregate_word};
 ghost use Rattle.example_csv.specs.Grouping.{aggregated_array, key_text};
 ghost use Rattle.example_csv.specs.Selecting.{Explains};
 
 use crate::error::{Error, SumOverflow};
 use crate::sort::named_array;
 use crate::text::cell_text;
+use dethrugn::compute::group::Groups;
 use dethrugn::error::Error as ArrowError;
 use example_record_batch::any::AnyArray;
 use example_record_batch::any::group::Aggregate;
@@ -95,17 +96,19 @@ fn key_text(alloc: Global, keys: &AnyArray, group: usize) -> Result<Option<Strin
 fn sum_overflow(
     alloc: Global,
     array: &AnyArray,
-    indices: &[usize],
+    groups: &Groups,
     keys: &Field,
     column: &str,
 ) -> Result<SumOverflow, Error>
-    requires rows { length indices.now ≡ slot_count array.now }
-    requires within { All (λ g. g < slot_count keys.now.array) indices.now }
-    requires some { IsSome (overflowing_group array.now indices.now (slot_count keys.now.array)) }
-    ensures ok { IfOk result (NamesOverflow array.now indices.now (named keys.now) column.now) }
+    requires rows { length groups.now.indices ≡ slot_count array.now }
+    requires keys { length groups.now.first ≡ slot_count keys.now.array }
+    requires some { IsSome
+        (overflowing_group array.now groups.now.indices (slot_count keys.now.array)) }
+    ensures ok { IfOk result
+        (NamesOverflow array.now groups.now.indices (named keys.now) column.now) }
     ensures err { IfErr result (λ e. IsOutOfMemory e) }
 {
-    match array.overflowing_group(alloc, indices, keys.array.len())? {
+    match array.overflowing_group(alloc, groups)? {
         Some(group) => {
             let key = key_text(alloc, &keys.array, group)?;
             let column = String::from_str(alloc, column)?;
@@ -120,24 +123,24 @@ fn sum_overflow(
 fn aggregate_column(
     alloc: Global,
     table: &RecordBatch,
-    indices: &[usize],
+    groups: &Groups,
     keys: &Field,
     aggregation: &Aggregation,
 ) -> Result<Field, Error>
-    requires rows { length indices.now ≡ table.now.rows }
-    requires within { All (λ g. g < slot_count keys.now.array) indices.now }
+    requires rows { length groups.now.indices ≡ table.now.rows }
+    requires keys { length groups.now.first ≡ slot_count keys.now.array }
     ensures ok { IfOk result (λ field.
-        IsAggregated table.now indices.now (slot_count keys.now.array) aggregation.now (named field)) }
+        AggregatesKeys table.now groups.now.indices (named keys.now) aggregation.now (named field)) }
     ensures count { IfOk result (λ field. slot_count field.array ≡ slot_count keys.now.array) }
-    ensures err { IfErr result (CannotAggregate table.now indices.now (named keys.now) aggregation.now) }
+    ensures err { IfErr result
+        (CannotAggregate table.now groups.now.indices (named keys.now) aggregation.now) }
 {
     let array = aggregated_array(alloc, table, aggregation)?;
-    let groups = keys.array.len();
-    let made = match array.group_aggregate(alloc, aggregation.aggregate, indices, groups) {
+    let made = match array.group_aggregate(alloc, aggregation.aggregate, groups) {
         Ok(made) => made,
         Err(ArrowError::Overflow) => {
             let column = aggregation.column.as_str();
-            let overflow = sum_overflow(alloc, array, indices, keys, column)?;
+            let overflow = sum_overflow(alloc, array, groups, keys, column)?;
             return Err(Error::SumOverflow(overflow));
         }
         Err(error) => return Err(Error::Arrow(error)),
@@ -150,20 +153,21 @@ fn aggregate_column(
 fn grouped_columns(
     alloc: Global,
     table: &RecordBatch,
-    indices: &[usize],
+    groups: &Groups,
     keys: Field,
     asked: &[Aggregation],
 ) -> Result<Vec<Field>, Error>
-    requires rows { length indices.now ≡ table.now.rows }
-    requires within { All (λ g. g < slot_count keys.array) indices.now }
-    ensures ok { IfOk result (λ fields.
-        HasAggregates table.now indices.now (named keys) asked.now (map named fields.items)) }
+    requires rows { length groups.now.indices ≡ table.now.rows }
+    requires keys { length groups.now.first ≡ slot_count keys.array }
+    ensures ok { IfOk result (λ fields. HasAggregates table.now
+        groups.now.indices (named keys) asked.now (map named fields.items)) }
     ensures rows { IfOk result (λ fields. HaveRows fields.items (slot_count keys.array)) }
-    ensures err { IfErr result (CannotAggregateAll table.now indices.now (named keys) asked.now) }
+    ensures err { IfErr result
+        (CannotAggregateAll table.now groups.now.indices (named keys) asked.now) }
 {
     let mut columns = Vec::new(alloc);
     for aggregation in asked {
-        columns.push(aggregate_column(alloc, table, indices, &keys, aggregation)?)?;
+        columns.push(aggregate_column(alloc, table, groups, &keys, aggregation)?)?;
     }
     columns.insert(0, keys)?;
     Ok(columns)
@@ -182,10 +186,10 @@ fn grouped(
     let array = named_array(alloc, table, by.column.as_str())?;
     let groups = array.group(alloc, hashers)?;
     let name = by.column.clone()?;
-    let array = array.group_keys(alloc, groups.first.as_slice())?;
+    let array = array.group_keys(alloc, groups.first())?;
     let count = array.len();
-    let (indices, asked) = (groups.indices.as_slice(), by.aggregations.as_slice());
-    let columns = grouped_columns(alloc, table, indices, Field { name, array }, asked)?;
+    let asked = by.aggregations.as_slice();
+    let columns = grouped_columns(alloc, table, &groups, Field { name, array }, asked)?;
     Ok(RecordBatch::try_new(columns, count)?)
 }
 

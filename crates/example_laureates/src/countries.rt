@@ -19,9 +19,9 @@ type Dictionary = DictionaryArray<u8, Utf8Array<i32>>;
 /// Returns the dictionary of an array of texts, whose values are the first slots of the groups of equal
 /// ones. If there are nulls, one of the values is null.
 fn encode(alloc: Global, texts: &Utf8Array<i32>, groups: &Groups) -> Result<Dictionary, Error> {
-    let values = take_utf8(alloc, texts, groups.first.as_slice())?;
+    let values = take_utf8(alloc, texts, groups.first())?;
     let mut keys = MutablePrimitiveArray::new(alloc);
-    for number in &groups.indices {
+    for number in groups.indices() {
         match u8::try_from(*number) {
             Ok(key) => keys.push(Some(key))?,
             Err(_) => return Err(Error::Overflow),
@@ -36,10 +36,9 @@ pub fn show(rt: &impl Print, alloc: Global, table: &RecordBatch) -> anyhow::Resu
         return Err(anyhow!("a column is missing"));
     };
     let groups = group_utf8(alloc, countries)?;
-    // Each number is that of a group, which `group_count` requires.
+    // The groups are of as many slots as there are countries, which `group_count` requires.
     grouped_slots::<BytesAround, Buffer<u8>>();
-    let (indices, count) = (groups.indices.as_slice(), groups.first.len());
-    let counts = group_count(alloc, countries, indices, count)?;
+    let counts = group_count(alloc, countries, &groups)?;
     let dictionary = encode(alloc, countries, &groups)?;
     let values = dictionary.values();
     let named = values.len() - values.null_count();

@@ -1,31 +1,13 @@
 -- Lemmas about cuts of list arrays.
-use Rattle.std.proofs.Common.{◌≡◌, ℕ, zero, suc, ◌+◌, ◌<◌, ◌≤◌, Bool, true, List, [], ◌∷◌, length, take, drop, refl}
+use Rattle.std.proofs.Common.{◌≡◌, ℕ, ◌+◌, ◌<◌, ◌≤◌, Bool, true, List, length, take, drop}
 use Rattle.std.proofs.Common.{option_map, Option, Some, None, ap, sym, ◌∙◌, arith}
-use Rattle.std.specs.List.{zip}
 use Rattle.dethrugn.specs.Validation.{Passes}
 use Rattle.dethrugn.specs.Offsets.{IsOffsets}
 use Rattle.dethrugn.specs.Pieces.{items_of}
 use Rattle.dethrugn.specs.Rows.{FitsMask, rows_of}
 use Rattle.dethrugn.proofs.CallerLemmas.Bytes.{items-cut, last-window, length-items}
-use Rattle.dethrugn.proofs.CallerLemmas.Column.{map-piece}
-use Rattle.dethrugn.proofs.CallerLemmas.Memory.{length-piece}
+use Rattle.dethrugn.proofs.CallerLemmas.Types.{length-piece, map-piece, zip-drop, zip-take}
 use Rattle.example_nested.specs.Lists.{list_tests, lists_of}
-
-zip-nil : {X Y : Type 0} (xs : List X) → zip {K = X} {X = Y} xs [] ≡ []
-zip-nil [] = refl
-zip-nil (x ∷ xs) = refl
-
-zip-take : {X Y : Type 0} (n : ℕ) (xs : List X) (ys : List Y) → zip (take n xs) (take n ys) ≡ take n (zip xs ys)
-zip-take zero xs ys = refl
-zip-take (suc n) [] ys = refl
-zip-take (suc n) (x ∷ xs) [] = refl
-zip-take (suc n) (x ∷ xs) (y ∷ ys) = ap (λ rest. (x, y) ∷ rest) (zip-take n xs ys)
-
-zip-drop : {X Y : Type 0} (n : ℕ) (xs : List X) (ys : List Y) → zip (drop n xs) (drop n ys) ≡ drop n (zip xs ys)
-zip-drop zero xs ys = refl
-zip-drop (suc n) [] ys = refl
-zip-drop (suc n) (x ∷ xs) [] = zip-nil (drop n xs)
-zip-drop (suc n) (x ∷ xs) (y ∷ ys) = zip-drop n xs ys
 
 abbrev pub cut_mask : ℕ → ℕ → Option (List Bool) → Option (List Bool)
 cut_mask a n mask = option_map (λ marks. take n (drop a marks)) mask

@@ -1,17 +1,14 @@
 -- Lemmas about lists that offsets cut out of slots.
-use Rattle.std.proofs.Common.{◌≡◌, ℕ, ◌+◌, ◌∙◌, Bool, true, not, cond, count_by, mul-zero, replicate, sym, List, length}
+use Rattle.std.proofs.Common.{◌≡◌, ℕ, ◌+◌, Bool, List, length}
 use Rattle.std.proofs.Common.{Option, arith}
-use Rattle.std.proofs.lemmas.List.Folds.{sum_by-replicate}
 use Rattle.dethrugn.specs.Validation.{Passes}
 use Rattle.dethrugn.specs.Offsets.{IsOffsets}
 use Rattle.dethrugn.specs.Pieces.{items_of}
 use Rattle.dethrugn.proofs.CallerLemmas.Bytes.{item-at, length-items}
-use Rattle.dethrugn.proofs.CallerLemmas.Column.{bare-marks, held-marks, length-rows, null-at, set-mark}
+use Rattle.dethrugn.proofs.CallerLemmas.Column.{bare-marks, held-marks, length-rows, null-at}
 use Rattle.dethrugn.proofs.CallerLemmas.Column.{stored-rows}
+use Rattle.dethrugn.proofs.CallerLemmas.Types.{no-clear, set-mark}
 use Rattle.example_nested.specs.Lists.{list_tests, lists_of}
-
-pub none-null : (n : ℕ) → 0 ≡ count_by not (replicate n true)
-none-null n = sym (sum_by-replicate (λ mark. cond (not mark) 1 0) n true ∙ mul-zero n)
 
 -- there is a list fewer than offsets
 pub length-lists : {S : Type 0} (offsets : List ℕ) (slots : List (Option S)) (mask : Option (List Bool))
@@ -32,5 +29,5 @@ pub ruleset list_steps = (
   bare-marks,
   set-mark,
   null-at,
-  none-null,
+  no-clear,
 )

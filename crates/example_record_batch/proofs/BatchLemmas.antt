@@ -11,8 +11,8 @@ use Rattle.std.proofs.lemmas.List.Edits.{map_over_more}
 use Rattle.std.proofs.lemmas.Option.{none-some, same_Some}
 use Rattle.dethrugn.specs.Column.{Column}
 use Rattle.dethrugn.specs.Selection.{asked}
-use Rattle.dethrugn.proofs.CallerLemmas.Column.{length-cut}
 use Rattle.dethrugn.proofs.CallerLemmas.Kernels.{length-asked, length-where}
+use Rattle.dethrugn.proofs.CallerLemmas.Types.{length-cut}
 use Rattle.example_record_batch.specs.declared.any.AnyArray.{AnyArray}
 use Rattle.example_record_batch.specs.declared.any.AnyArray.TheVariants.{Int64, Boolean, Binary, Utf8}
 use Rattle.example_record_batch.specs.declared.batch.Field.{Field}

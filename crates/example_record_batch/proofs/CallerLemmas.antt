@@ -13,6 +13,8 @@ use Rattle.example_record_batch.specs.declared.any.group.Aggregate.{Aggregate}
 use Rattle.example_record_batch.specs.declared.any.group.Aggregate.TheVariants.{Sum, Min, Max}
 use Rattle.example_record_batch.specs.Grouping.{AggregateFails, overflowing_group}
 use Rattle.example_record_batch.proofs.OverflowLemmas.{some-found}
+-- An array has as many cells as slots.
+pub use Rattle.example_record_batch.proofs.LawLemmas.{cell-count}
 
 no_memory : error.Overflow ≡ error.OutOfMemory → ⊥
 no_memory e = cc e

@@ -21,6 +21,7 @@ use Rattle.dethrugn.specs.Error.{Error}
 use Rattle.dethrugn.specs.Column.{ColumnWith, refused_growth, stored_values}
 use Rattle.dethrugn.specs.ByteColumn.{ByteColumn}
 use Rattle.dethrugn.specs.Selection.{Concatenates, concat_overflows}
+use Rattle.dethrugn.proofs.CallerLemmas.Types.{all-at}
 use Rattle.example_record_batch.specs.declared.any.AnyArray.{AnyArray}
 use Rattle.example_record_batch.specs.declared.any.AnyArray.TheVariants.{Int64, Boolean, Binary, Utf8}
 use Rattle.example_record_batch.specs.declared.batch.Field.{Field}
@@ -30,7 +31,7 @@ use Rattle.example_record_batch.specs.Schemas.{NamedType, fields_schema, named_t
 use Rattle.example_record_batch.specs.Concatenation.{AreConcats, ArraysFail, ColumnsFail, ConcatFails, HaveKind}
 use Rattle.example_record_batch.specs.Concatenation.{IsConcat, IsConcatArray, array_at, arrays_at, concat_tests}
 use Rattle.example_record_batch.specs.Concatenation.{fields_kinds, item_bytes, kinds_of, named_kind}
-use Rattle.example_record_batch.proofs.IndexLemmas.{all-at, get-left, get-map-some, get-right}
+use Rattle.example_record_batch.proofs.IndexLemmas.{get-left, get-map-some, get-right}
 use Rattle.example_record_batch.proofs.LawLemmas.{cell-count, cells-concat}
 
 -- the data type of a concatenation

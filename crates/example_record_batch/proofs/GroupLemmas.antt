@@ -11,12 +11,14 @@ use Rattle.std.proofs.lemmas.Option.{slice_get-get_or, slice_get_within}
 use Rattle.dethrugn.specs.Column.{ColumnWith, slots_of}
 use Rattle.dethrugn.specs.Grouping.{IsGrouping}
 use Rattle.dethrugn.specs.Sort.{PickOnce}
+use Rattle.dethrugn.proofs.CallerLemmas.Sort.{picks-below}
+use Rattle.dethrugn.proofs.CallerLemmas.Column.{length-slots}
 use Rattle.example_record_batch.specs.declared.any.AnyArray.{AnyArray}
 use Rattle.example_record_batch.specs.declared.any.AnyArray.TheVariants.{Int64, Boolean, Binary, Utf8}
 use Rattle.example_record_batch.specs.AnyArrays.{slot_count}
 use Rattle.example_record_batch.specs.Grouping.{AnyGrouping, NumbersRows}
 use Rattle.example_record_batch.specs.Taking.{any_taken}
-use Rattle.example_record_batch.proofs.TakeLemmas.{picks-below, slot_count-taken, slots-count}
+use Rattle.example_record_batch.proofs.TakeLemmas.{slot_count-taken}
 
 -- ascending indexes are the first of all indexes, in some order
 record Ascends (a n : ℕ) (xs : List ℕ) : Type 0 where
@@ -94,9 +96,9 @@ numbers-within slots first numbers groups = All-from_get_or (λ g. g < length fi
 grouping-rows : {A S : Type 0} (column : ColumnWith A S) (first numbers : List ℕ) → IsGrouping (slots_of column) first numbers
     → NumbersRows (length column.rows) first numbers
 grouping-rows column first numbers groups = record {
-  count = groups.count ∙ slots-count column;
+  count = groups.count ∙ length-slots column;
   within = numbers-within (slots_of column) first numbers groups;
-  once = subst (λ n. PickOnce n first) (slots-count column) (first-once (slots_of column) first numbers groups);
+  once = subst (λ n. PickOnce n first) (length-slots column) (first-once (slots_of column) first numbers groups);
 }
 
 pub any-grouping-rows : (array : AnyArray) (first numbers : List ℕ) → AnyGrouping array first numbers

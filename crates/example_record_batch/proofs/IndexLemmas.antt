@@ -1,16 +1,17 @@
 -- Lemmas about lists by their indexes.
 use Rattle.std.proofs.Common.{◌≡◌, ℕ, zero, suc, ◌+◌, ◌<◌, ◌≤◌, Bool, true, false, List, [], ◌∷◌, ◌++◌}
-use Rattle.std.proofs.Common.{length, map, take, drop, slice_get, Option, Some, refl, ap, subst, ◌∙◌, sym}
+use Rattle.std.proofs.Common.{length, map, take, drop, slice_get, Option, Some, refl, ap, ◌∙◌, sym}
 use Rattle.std.proofs.Common.{add-zero, arith}
 use Rattle.std.specs.Prelude.{All, flat_map, sum_by}
 use Rattle.std.proofs.lemmas.List.Sums.{sum_by-cons}
 use Rattle.std.proofs.lemmas.List.{map-append}
 use Rattle.std.specs.List.{filter_map, range_with_len}
 use Rattle.std.proofs.lemmas.List.FromFn.{length-range_with_len, take-map-range_with_len}
-use Rattle.std.proofs.lemmas.List.{length-map}
+use Rattle.std.proofs.lemmas.List.{drop_at, length-map}
 use Rattle.std.proofs.lemmas.List.Elements.{All-head, All-tail}
-use Rattle.std.proofs.lemmas.Option.{get_or_from_slice_get, none-some, same_Some, slice_get_within}
+use Rattle.std.proofs.lemmas.Option.{none-some, same_Some, slice_get_within}
 use Rattle.dethrugn.specs.Selection.{where_set}
+use Rattle.dethrugn.proofs.CallerLemmas.Types.{all-at, get-drop, get-some}
 
 -- lists with the same item at every index are the same
 pub same-items : {X : Type 0} (xs ys : List X) → ((i : ℕ) → slice_get xs i ≡ slice_get ys i) → xs ≡ ys
@@ -64,12 +65,6 @@ get-where (true ∷ marks) (x ∷ xs) b (suc i) k e h =
 get-where (false ∷ marks) (x ∷ xs) b i k e h =
     let f = get-where marks xs (b + 1) i k (omega (arith, e)) h in (suc f.0, omega (arith, f.1), f.2)
 
--- a map of lists that are joined
-pub map-flat : {X Y Z : Type 0} (f : Y → Z) (g : X → List Y) (xs : List X)
-    → map f (flat_map g xs) ≡ flat_map (λ x. map f (g x)) xs
-map-flat f g [] = refl
-map-flat f g (x ∷ xs) = map-append f (g x) (flat_map g xs) ∙ ap (λ ys. map f (g x) ++ ys) (map-flat f g xs)
-
 -- an item of joined lists
 pub get-left : {X : Type 0} (xs ys : List X) (i : ℕ) → i < length xs → slice_get (xs ++ ys) i ≡ slice_get xs i
 get-left [] ys i h = absurd (omega arith)
@@ -80,27 +75,11 @@ pub get-right : {X : Type 0} (xs ys : List X) (i : ℕ) → slice_get (xs ++ ys)
 get-right [] ys i = let e : 0 + i ≡ i = omega arith in rw e
 get-right (x ∷ xs) ys i = let e : suc (length xs) + i ≡ suc (length xs + i) = omega arith in rw e (get-right xs ys i)
 
-pub get-some : {X : Type 0} (xs : List X) (k : ℕ) → k < length xs → (x : X) × (slice_get xs k ≡ Some x)
-get-some [] k h = absurd (omega arith)
-get-some (x ∷ xs) zero h = (x, refl)
-get-some (x ∷ xs) (suc k) h = get-some xs k (omega arith)
-
 pub get-map-some : {X Y : Type 0} (f : X → Y) (xs : List X) (k : ℕ) (y : Y) → slice_get (map f xs) k ≡ Some y
     → (x : X) × (slice_get xs k ≡ Some x) × (y ≡ f x)
 get-map-some f [] k y e = absurd (none-some y e)
 get-map-some f (x ∷ xs) zero y e = (x, refl, sym (same_Some (f x) y e))
 get-map-some f (x ∷ xs) (suc k) y e = get-map-some f xs k y e
-
-pub get-drop : {X : Type 0} (n : ℕ) (xs : List X) (i : ℕ) → slice_get (drop n xs) i ≡ slice_get xs (n + i)
-get-drop zero xs i = let e : 0 + i ≡ i = omega arith in rw e
-get-drop (suc n) [] i = refl
-get-drop (suc n) (x ∷ xs) i = let e : suc n + i ≡ suc (n + i) = omega arith in rw e (get-drop n xs i)
-
-pub get-take : {X : Type 0} (n : ℕ) (xs : List X) (i : ℕ) → i < n → slice_get (take n xs) i ≡ slice_get xs i
-get-take zero xs i h = absurd (omega arith)
-get-take (suc n) [] i h = refl
-get-take (suc n) (x ∷ xs) zero h = refl
-get-take (suc n) (x ∷ xs) (suc i) h = get-take n xs i (omega arith)
 
 -- two maps that agree at every index
 pub same-maps : {X Y Z : Type 0} (f : X → Z) (g : Y → Z) (xs : List X) (ys : List Y) → length xs ≡ length ys
@@ -113,15 +92,6 @@ same-maps f g (x ∷ xs) (y ∷ ys) e h =
     let first = h 0 x y refl refl in
     let rest = same-maps f g xs ys (omega (arith, e)) (λ k. h (suc k)) in
     cc
-
-pub all-at : {X : Type 0} (P : X → Type 0) (xs : List X) (k : ℕ) (x : X) → All P xs → slice_get xs k ≡ Some x → P x
-all-at P xs k x h e = subst P (get_or_from_slice_get xs k x x e) (h k x (slice_get_within xs k x e))
-
-pub drop-left : {X : Type 0} (n : ℕ) (xs ys : List X) → length xs ≡ n → drop n (xs ++ ys) ≡ ys
-drop-left zero [] ys e = refl
-drop-left (suc n) [] ys e = absurd (omega (arith, e))
-drop-left zero (x ∷ xs) ys e = absurd (omega (arith, e))
-drop-left (suc n) (x ∷ xs) ys e = drop-left n xs ys (omega (arith, e))
 
 pub range-values : {X : Type 0} (f g : ℕ → X) (b c n : ℕ) → ((i : ℕ) → i < n → f (b + i) ≡ g (c + i))
     → map f (range_with_len b n) ≡ map g (range_with_len c n)
@@ -185,11 +155,11 @@ module _ {B C : Type 0} (columns : B → List (List C)) (size : B → ℕ) where
           let w = get-map-some (drop (size table)) css k ds q in
           let e : cs ≡ w.0 = same_Some cs w.0 (sym p ∙ w.1) in
           let f : 0 + size table + i ≡ size table + (0 + i) = omega arith in
-          rw (f, w.2, e) (sym (get-drop (size table) w.0 (0 + i)))))
+          rw (f, w.2, e) (sym (get-drop w.0 (size table) (0 + i)))))
 
       at-rest : (k : ℕ) (cs : List C) → slice_get rest k ≡ Some cs → cs ≡ joined tables k
       at-rest k cs p =
           let w = get-map-some (drop (size table)) css k cs p in
           let d = get-some (columns table) k (omega (arith, same-width, slice_get_within css k w.0 w.1)) in
           let e = parts k w.0 d.0 w.1 d.1 in
-          w.2 ∙ ap (drop (size table)) e.0 ∙ drop-left (size table) d.0 (joined tables k) e.1
+          w.2 ∙ ap (drop (size table)) e.0 ∙ drop_at d.0 (joined tables k) (size table) e.1

@@ -12,8 +12,8 @@ use Rattle.std.proofs.lemmas.Option.{same_Some, slice_get-map}
 use Rattle.dethrugn.specs.Column.{Column, ColumnWith, slots_of}
 use Rattle.dethrugn.specs.Rows.{slot}
 use Rattle.dethrugn.specs.Selection.{Concatenates, asked, where_set}
-use Rattle.dethrugn.proofs.CallerLemmas.Column.{map-piece}
 use Rattle.dethrugn.proofs.CallerLemmas.Kernels.{length-asked, length-where, where-map}
+use Rattle.dethrugn.proofs.CallerLemmas.Types.{all-at, get-drop, get-take, map-flat_map, map-piece}
 use Rattle.example_record_batch.specs.declared.any.AnyArray.{AnyArray}
 use Rattle.example_record_batch.specs.declared.any.AnyArray.TheVariants.{Int64, Boolean, Binary, Utf8}
 use Rattle.example_record_batch.specs.AnyArrays.{Cell, any_cut, any_filtered, bytes, cell_at, cells_of, number}
@@ -22,9 +22,9 @@ use Rattle.example_record_batch.specs.Batches.{Batch, IsBatch, Named, asked_coun
 use Rattle.example_record_batch.specs.Batches.{named_cut, named_filtered, row_at, batch_rows}
 use Rattle.example_record_batch.specs.Schemas.{named_type, schema_of}
 use Rattle.example_record_batch.specs.Concatenation.{IsConcat, IsConcatArray, arrays_at}
-use Rattle.example_record_batch.proofs.IndexLemmas.{all-at, cut-values, get-drop, get-map-some, get-take, get-where}
+use Rattle.example_record_batch.proofs.IndexLemmas.{cut-values, get-map-some, get-where}
 use Rattle.example_record_batch.proofs.IndexLemmas.{joined}
-use Rattle.example_record_batch.proofs.IndexLemmas.{joined-rows, map-flat, range-values, row, same-maps, same-values}
+use Rattle.example_record_batch.proofs.IndexLemmas.{joined-rows, range-values, row, same-maps, same-values}
 
 -- there is a cell for each slot
 shown-count : {S : Type 0} (c : Option S → Cell) (rows : List (S × Bool)) → length (map c (map slot rows)) ≡ length rows
@@ -69,8 +69,8 @@ shown-concat c array cells nothing [] arrays made e h = absurd h
 shown-concat c array cells nothing (first ∷ others) arrays made e h =
     let columns = first ∷ others in
     ap (λ column. map c (slots_of column)) h
-    ∙ ap (map c) (map-flat slot (λ column. column.rows) columns)
-    ∙ map-flat c slots_of columns
+    ∙ ap (map c) (map-flat_map slot (λ column. column.rows) columns)
+    ∙ map-flat_map c slots_of columns
     ∙ (λ i. flat_map (λ column. sym (cells column) i) columns)
     ∙ sym (flat_map-map cells_of array columns)
     ∙ ap (flat_map cells_of) e
@@ -88,7 +88,7 @@ row-cut batch a n i h = cells batch.columns
   where
     cell : (array : AnyArray) → cell_at (any_cut array a n) i ≡ cell_at array (a + i)
     cell array = ap (λ cells. slice_get cells i) (cells-cut array a n)
-        ∙ get-take n (drop a (cells_of array)) i h ∙ get-drop a (cells_of array) i
+        ∙ get-take (drop a (cells_of array)) n i h ∙ get-drop (cells_of array) a i
 
     cells : (columns : List Named) → map (λ column. cell_at column.array i) (map (named_cut a n) columns)
         ≡ map (λ column. cell_at column.array (a + i)) columns

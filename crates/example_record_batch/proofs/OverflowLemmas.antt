@@ -1,36 +1,22 @@
 -- Lemmas about the sums of groups, to which numbers are added one after the other, and about the first that does not
 -- fit.
 use Rattle.std.proofs.Common.{◌≡◌, ◌≢◌, ◌⊎◌, ◌∙◌, ◌==◌, ◌+◌, ◌-◌, ◌*◌, ◌^◌, ◌<◌, ◌≤◌, ℕ, zero, suc, ℤ, pos, ◌+ℤ◌, if◌then◌else◌, List, [], ◌∷◌, ◌++◌}
-use Rattle.std.proofs.Common.{Option, Some, None, ap, ap₂, append-nil, arith, eq-eqb, get_or, inl, inr, length, map, refl, set, slice_get}
+use Rattle.std.proofs.Common.{Option, Some, None, ap, append-nil, arith, eq-eqb, get_or, inl, inr, length, map, refl}
+use Rattle.std.proofs.Common.{set, slice_get}
 use Rattle.std.proofs.Common.{Bool, true, false, subst, sym, take, unsigned_abs, zero-add}
 use Rattle.std.specs.Prelude.{IsSome, find, fold, not, unwrap_or}
 use Rattle.std.specs.Option.{option_or}
-use Rattle.std.specs.List.{filter_map, range_with_len, zip}
+use Rattle.std.specs.List.{filter_map, range_with_len}
 use Rattle.std.proofs.Math.IntN.{+ℤ_idr}
 use Rattle.std.proofs.lemmas.Bool.{cases_eq, ne_eqb}
 use Rattle.std.proofs.lemmas.Int.{ints}
-use Rattle.std.proofs.lemmas.List.{get_or-set_other, get_or-set_same, length-set, take_more}
-use Rattle.std.proofs.lemmas.List.Elements.{filter_map-append}
+use Rattle.std.proofs.lemmas.List.{get_or-set_other, get_or-set_same, length-set}
 use Rattle.std.proofs.lemmas.List.Folds.{find-append}
 use Rattle.std.proofs.lemmas.List.Sums.{fold_push}
-use Rattle.std.proofs.lemmas.Option.{get_or_from_slice_get, same_Some, slice_get-get_or, slice_get_within}
+use Rattle.std.proofs.lemmas.Option.{slice_get-get_or, slice_get_within}
 use Rattle.dethrugn.specs.Aggregates.{sum_all}
 use Rattle.dethrugn.specs.Groups.{values_at}
-
-pub pair-at : (indices : List ℕ) (slots : List (Option ℤ)) (i k : ℕ) (slot : Option ℤ) → slice_get indices i ≡ Some k
-    → slice_get slots i ≡ Some slot → slice_get (zip indices slots) i ≡ Some (k, slot)
-pair-at [] slots i k slot at own = cc
-pair-at (j ∷ indices) [] i k slot at own = cc
-pair-at (j ∷ indices) (s ∷ slots) zero k slot at own = ap₂ (λ a b. Some (a, b)) (same_Some j k at) (same_Some s slot own)
-pair-at (j ∷ indices) (s ∷ slots) (suc i) k slot at own = pair-at indices slots i k slot at own
-
--- the values of a group among one pair more
-values-more : (pairs : List (ℕ × Option ℤ)) (i k g : ℕ) (slot : Option ℤ) → slice_get pairs i ≡ Some (k, slot)
-    → values_at (take (i + 1) pairs) g ≡ values_at (take i pairs) g ++ values_at ((k, slot) ∷ []) g
-values-more pairs i k g slot at =
-    ap (λ ps. values_at ps g) (take_more pairs i (k, slot) (slice_get_within pairs i (k, slot) at)
-    ∙ ap (λ p. take i pairs ++ p ∷ []) (get_or_from_slice_get pairs i (k, slot) (k, slot) at))
-    ∙ filter_map-append (λ pair. if pair.0 == g then pair.1 else None) (take i pairs) ((k, slot) ∷ [])
+use Rattle.dethrugn.proofs.CallerLemmas.Aggregate.{values-more}
 
 -- the sum of values and of those of a slot, whether it is of the group or not
 sum-with : (values : List ℤ) (is : Bool) (slot : Option ℤ)

@@ -1,17 +1,15 @@
 -- Lemmas about takes by indexes that are each there at most once.
-use Rattle.std.proofs.Common.{◌≡◌, ◌∙◌, ℕ, ◌+◌, ◌<◌, ◌≤◌, ◌^◌, List, [], ◌∷◌, Option, Some, None, true, if◌then◌else◌, ap, arith, get_or, length, map, pos, refl, slice_get, subst, suc, sym}
+use Rattle.std.proofs.Common.{◌≡◌, ◌∙◌, ℕ, ◌+◌, ◌<◌, ◌≤◌, ◌^◌, List, [], ◌∷◌, Some, None, true, if◌then◌else◌, ap}
+use Rattle.std.proofs.Common.{arith, get_or, length, map, pos, refl, slice_get, subst, suc, sym}
 use Rattle.std.specs.Prelude.{All, option_and_then}
-use Rattle.std.specs.List.{cons_option, range_with_len}
+use Rattle.std.specs.List.{cons_option}
 use Rattle.std.proofs.lemmas.Bool.{lt-ltb}
-use Rattle.std.proofs.lemmas.List.{length-map}
-use Rattle.std.proofs.lemmas.List.Elements.{All-from_get_or, All-get_or, All-head, All-map, All-tail, All-take, All-weaker}
-use Rattle.std.proofs.lemmas.List.FromFn.{get_or-range_with_len, length-range_with_len}
-use Rattle.std.proofs.lemmas.List.Sorted.{All-permutation}
+use Rattle.std.proofs.lemmas.List.Elements.{All-get_or, All-head, All-map, All-tail, All-weaker}
 use Rattle.std.proofs.lemmas.Option.{slice_get-get_or}
 use Rattle.dethrugn.specs.Column.{ColumnWith, slots_of}
-use Rattle.dethrugn.specs.Rows.{slot}
 use Rattle.dethrugn.specs.Selection.{at_key, at_keys}
-use Rattle.dethrugn.specs.Sort.{PickOnce, up_to}
+use Rattle.dethrugn.specs.Sort.{PickOnce}
+use Rattle.dethrugn.proofs.CallerLemmas.Column.{length-slots}
 use Rattle.example_record_batch.specs.declared.any.AnyArray.{AnyArray}
 use Rattle.example_record_batch.specs.declared.any.AnyArray.TheVariants.{Int64, Boolean, Binary, Utf8}
 use Rattle.example_record_batch.specs.declared.batch.Field.{Field}
@@ -20,29 +18,10 @@ use Rattle.example_record_batch.specs.Batches.{HaveRows, Named, named}
 use Rattle.example_record_batch.specs.Taking.{any_taken, named_taken}
 use Rattle.example_record_batch.proofs.BatchLemmas.{named-rows, rows-named}
 
--- a column has as many slots as rows
-pub slots-count : {A S : Type 0} (column : ColumnWith A S) → length (slots_of column) ≡ length column.rows
-slots-count column = length-map column.rows slot
-
 -- indexes that pick from as many slots as there are rows
 pub picks-slots : {A S : Type 0} (column : ColumnWith A S) (indexes : List ℕ) → PickOnce (length column.rows) indexes
     → PickOnce (length (slots_of column)) indexes
-picks-slots column indexes picks = subst (λ n. PickOnce n indexes) (sym (slots-count column)) picks
-
-below : (n : ℕ) → All (λ k. k < n) (range_with_len 0 n)
-below n = All-from_get_or (λ k. k < n) (range_with_len 0 n) 0 (λ i within.
-    let at : i < n = omega (arith, length-range_with_len 0 n, within) in
-    omega (arith, at, get_or-range_with_len 0 n i 0 at))
-
-cut-below : (n : ℕ) (limit : Option ℕ) (all : List ℕ) → All (λ k. k < n) all → All (λ k. k < n) (up_to limit all)
-cut-below n None all each = each
-cut-below n (Some limit) all each = All-take (λ k. k < n) limit all each
-
--- all of them are below
-pub picks-below : (n : ℕ) (indexes : List ℕ) → PickOnce n indexes → All (λ k. k < n) indexes
-picks-below n indexes (all, limit, moves, is) =
-    subst (All (λ k. k < n)) (sym is)
-    (cut-below n limit all (All-permutation (λ k. k < n) (range_with_len 0 n) all moves (below n)))
+picks-slots column indexes picks = subst (λ n. PickOnce n indexes) (sym (length-slots column)) picks
 
 at-index : {X : Type 0} (xs : List X) (k : ℕ) (d : X) → length xs < 2 ^ 64 → k < length xs
     → at_key xs (pos k) ≡ Some (get_or xs k d)

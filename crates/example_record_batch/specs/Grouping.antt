@@ -9,7 +9,7 @@ use Rattle.dethrugn.specs.Aggregates.{sum_all, text_cmp}
 use Rattle.dethrugn.specs.Column.{Column, ColumnWith, slots_of}
 use Rattle.dethrugn.specs.Error.{Error}
 use Rattle.dethrugn.specs.Error.TheVariants as error
-use Rattle.dethrugn.specs.Grouping.{IsGrouping}
+use Rattle.dethrugn.specs.Grouping.{GroupLists, IsGrouping}
 use Rattle.dethrugn.specs.Groups.{AggregatesGroups, IsGreatestSlot, IsLeastSlot, group_values}
 use Rattle.dethrugn.specs.NativeArithmetics.{fits_signed}
 use Rattle.dethrugn.specs.Sort.{PickOnce}
@@ -58,6 +58,10 @@ IsAggregate Max (Binary column) numbers groups (Binary made) = GreatestOfGroups 
 IsAggregate Max (Utf8 column) numbers groups (Utf8 made) = GreatestOfGroups text_cmp column numbers groups made
 IsAggregate _ _ numbers groups _ = ⊥
 
+-- the same of groups
+abbrev pub AggregatesAny : Aggregate → AnyArray → GroupLists → AnyArray → Type 0
+AggregatesAny aggregate array groups made = IsAggregate aggregate array groups.indices (length groups.first) made
+
 -- the sum of each group, however great
 abbrev pub HasSums : Column ℤ → List ℕ → ℕ → List ℤ → Type 0
 HasSums column numbers groups sums = (g : ℕ) → g < groups
@@ -78,3 +82,7 @@ abbrev pub AggregateFails : Aggregate → AnyArray → List ℕ → ℕ → Erro
 AggregateFails Sum (Int64 column) numbers groups e =
     GroupsRefused (fits_signed w64) groups (group_values column numbers) e
 AggregateFails _ _ numbers groups e = e ≡ error.OutOfMemory
+
+-- the same of groups
+abbrev pub FailsAny : Aggregate → AnyArray → GroupLists → Error → Type 0
+FailsAny aggregate array groups e = AggregateFails aggregate array groups.indices (length groups.first) e

@@ -1,17 +1,17 @@
 //! Groups of equal slots of an array, and aggregates of the slots of each group.
-ghost use Rattle.std.specs.Prelude.{◌≡◌, ◌<◌, All, IfErr, IfOk, length, true};
+ghost use Rattle.std.specs.Prelude.{◌≡◌, IfErr, IfOk, length, true};
 ghost use Rattle.dethrugn.specs.Failures.{OnlyOutOfMemory};
 ghost use Rattle.dethrugn.specs.Sort.{PickOnce};
 ghost use Rattle.example_record_batch.specs.AnyArrays.{slot_count};
-ghost use Rattle.example_record_batch.specs.Grouping.{AggregateFails, AnyGrouping, IsAggregate, NumbersRows};
+ghost use Rattle.example_record_batch.specs.Grouping.{AggregatesAny, AnyGrouping, FailsAny, NumbersRows};
 ghost use Rattle.example_record_batch.specs.Grouping.{has_aggregate};
 ghost use Rattle.example_record_batch.specs.Taking.{any_taken};
 ghost use Rattle.example_record_batch.specs.declared.any.group.Aggregate.TheVariants.{Max, Min, Sum};
 
 use crate::any::AnyArray;
 use dethrugn::compute::aggregate::{
-    group_max_binary, group_max_boolean, group_max_primitive, group_max_string, group_min_binary,
-    group_min_boolean, group_min_primitive, group_min_string, group_sum,
+    group_max_binary, group_max_boolean, group_max_primitive, group_max_utf8, group_min_binary,
+    group_min_boolean, group_min_primitive, group_min_utf8, group_sum_primitive,
 };
 use dethrugn::compute::group::{
     Groups, group_binary_with, group_boolean_with, group_primitive_with, group_utf8_with,
@@ -50,9 +50,9 @@ impl AnyArray {
     /// # Errors
     /// `OutOfMemory` if an allocation fails.
     pub fn group<S: BuildHasher + Copy>(&self, alloc: Global, hashers: S) -> Result<Groups, Error>
-        ensures ok { IfOk result (λ groups. AnyGrouping self.now groups.first.items groups.indices.items) }
+        ensures ok { IfOk result (λ groups. AnyGrouping self.now groups.first groups.indices) }
         ensures rows { IfOk result (λ groups.
-            NumbersRows (slot_count self.now) groups.first.items groups.indices.items) }
+            NumbersRows (slot_count self.now) groups.first groups.indices) }
         ensures err { OnlyOutOfMemory result }
     {
         match self {
@@ -79,9 +79,8 @@ impl AnyArray {
         self.take(alloc, indexes.as_slice())
     }
 
-    /// Returns the aggregate of the valid slots of each group, null for a group that has none. There are `groups`
-    /// groups, and `indices` has the number of the group of each slot. The array must have the aggregate
-    /// ([`Aggregate::applies_to`]).
+    /// Returns the aggregate of the valid slots of each group, null for a group that has none. The groups must be of as
+    /// many slots as the array has, and the array must have the aggregate ([`Aggregate::applies_to`]).
     ///
     /// # Errors
     /// `Overflow` if the sum of a group does not fit in an `i64`, and `OutOfMemory` if an allocation fails.
@@ -89,85 +88,64 @@ impl AnyArray {
         &self,
         alloc: Global,
         aggregate: Aggregate,
-        indices: &[usize],
-        groups: usize,
+        groups: &Groups,
     ) -> Result<Self, Error>
         requires has { has_aggregate aggregate self.now ≡ true }
-        requires rows { length indices.now ≡ slot_count self.now }
-        requires within { All (λ g. g < groups) indices.now }
-        ensures ok { IfOk result (IsAggregate aggregate self.now indices.now groups) }
-        ensures count { IfOk result (λ made. slot_count made ≡ groups) }
-        ensures err { IfErr result (AggregateFails aggregate self.now indices.now groups) }
+        requires rows { length groups.now.indices ≡ slot_count self.now }
+        ensures ok { IfOk result (AggregatesAny aggregate self.now groups.now) }
+        ensures count { IfOk result (λ made. slot_count made ≡ length groups.now.first) }
+        ensures err { IfErr result (FailsAny aggregate self.now groups.now) }
     {
         match aggregate {
-            Aggregate::Sum => self.group_sum(alloc, indices, groups),
-            Aggregate::Min => self.group_min(alloc, indices, groups),
-            Aggregate::Max => self.group_max(alloc, indices, groups),
+            Aggregate::Sum => self.group_sum(alloc, groups),
+            Aggregate::Min => self.group_min(alloc, groups),
+            Aggregate::Max => self.group_max(alloc, groups),
         }
     }
 
     /// Returns the sum of each group.
-    fn group_sum(&self, alloc: Global, indices: &[usize], groups: usize) -> Result<Self, Error>
+    fn group_sum(&self, alloc: Global, groups: &Groups) -> Result<Self, Error>
         requires has { has_aggregate Sum self.now ≡ true }
-        requires rows { length indices.now ≡ slot_count self.now }
-        requires within { All (λ g. g < groups) indices.now }
-        ensures ok { IfOk result (IsAggregate Sum self.now indices.now groups) }
-        ensures count { IfOk result (λ made. slot_count made ≡ groups) }
-        ensures err { IfErr result (AggregateFails Sum self.now indices.now groups) }
+        requires rows { length groups.now.indices ≡ slot_count self.now }
+        ensures ok { IfOk result (AggregatesAny Sum self.now groups.now) }
+        ensures count { IfOk result (λ made. slot_count made ≡ length groups.now.first) }
+        ensures err { IfErr result (FailsAny Sum self.now groups.now) }
     {
         match self {
-            AnyArray::Int64(array) => Ok(AnyArray::Int64(group_sum(
-                alloc, array, indices, groups,
+            AnyArray::Int64(array) => Ok(AnyArray::Int64(group_sum_primitive(
+                alloc, array, groups,
             )?)),
             _ => unreachable!(),
         }
     }
 
     /// Returns the least value of each group.
-    fn group_min(&self, alloc: Global, indices: &[usize], groups: usize) -> Result<Self, Error>
-        requires rows { length indices.now ≡ slot_count self.now }
-        requires within { All (λ g. g < groups) indices.now }
-        ensures ok { IfOk result (IsAggregate Min self.now indices.now groups) }
-        ensures count { IfOk result (λ made. slot_count made ≡ groups) }
+    fn group_min(&self, alloc: Global, groups: &Groups) -> Result<Self, Error>
+        requires { length groups.now.indices ≡ slot_count self.now }
+        ensures ok { IfOk result (AggregatesAny Min self.now groups.now) }
+        ensures count { IfOk result (λ made. slot_count made ≡ length groups.now.first) }
         ensures err { OnlyOutOfMemory result }
     {
         Ok(match self {
-            AnyArray::Int64(array) => {
-                AnyArray::Int64(group_min_primitive(alloc, array, indices, groups)?)
-            }
-            AnyArray::Boolean(array) => {
-                AnyArray::Boolean(group_min_boolean(alloc, array, indices, groups)?)
-            }
-            AnyArray::Binary(array) => {
-                AnyArray::Binary(group_min_binary(alloc, array, indices, groups)?)
-            }
-            AnyArray::Utf8(array) => {
-                AnyArray::Utf8(group_min_string(alloc, array, indices, groups)?)
-            }
+            AnyArray::Int64(array) => AnyArray::Int64(group_min_primitive(alloc, array, groups)?),
+            AnyArray::Boolean(array) => AnyArray::Boolean(group_min_boolean(alloc, array, groups)?),
+            AnyArray::Binary(array) => AnyArray::Binary(group_min_binary(alloc, array, groups)?),
+            AnyArray::Utf8(array) => AnyArray::Utf8(group_min_utf8(alloc, array, groups)?),
         })
     }
 
     /// Returns the greatest value of each group.
-    fn group_max(&self, alloc: Global, indices: &[usize], groups: usize) -> Result<Self, Error>
-        requires rows { length indices.now ≡ slot_count self.now }
-        requires within { All (λ g. g < groups) indices.now }
-        ensures ok { IfOk result (IsAggregate Max self.now indices.now groups) }
-        ensures count { IfOk result (λ made. slot_count made ≡ groups) }
+    fn group_max(&self, alloc: Global, groups: &Groups) -> Result<Self, Error>
+        requires { length groups.now.indices ≡ slot_count self.now }
+        ensures ok { IfOk result (AggregatesAny Max self.now groups.now) }
+        ensures count { IfOk result (λ made. slot_count made ≡ length groups.now.first) }
         ensures err { OnlyOutOfMemory result }
     {
         Ok(match self {
-            AnyArray::Int64(array) => {
-                AnyArray::Int64(group_max_primitive(alloc, array, indices, groups)?)
-            }
-            AnyArray::Boolean(array) => {
-                AnyArray::Boolean(group_max_boolean(alloc, array, indices, groups)?)
-            }
-            AnyArray::Binary(array) => {
-                AnyArray::Binary(group_max_binary(alloc, array, indices, groups)?)
-            }
-            AnyArray::Utf8(array) => {
-                AnyArray::Utf8(group_max_string(alloc, array, indices, groups)?)
-            }
+            AnyArray::Int64(array) => AnyArray::Int64(group_max_primitive(alloc, array, groups)?),
+            AnyArray::Boolean(array) => AnyArray::Boolean(group_max_boolean(alloc, array, groups)?),
+            AnyArray::Binary(array) => AnyArray::Binary(group_max_binary(alloc, array, groups)?),
+            AnyArray::Utf8(array) => AnyArray::Utf8(group_max_utf8(alloc, array, groups)?),
         })
     }
 }

@@ -10,6 +10,7 @@ ghost use Rattle.example_record_batch.specs.Grouping.{HasSums, first_overflow, o
 use crate::any::AnyArray;
 use dethrugn::array::PrimitiveArray;
 use dethrugn::compute::arithmetics::NativeArithmetics;
+use dethrugn::compute::group::Groups;
 use dethrugn::error::Error;
 use std::alloc::{AllocError, Global};
 
@@ -87,25 +88,21 @@ fn first_overflow(
 
 impl AnyArray {
     /// Returns the first group whose valid slots have a sum that does not fit in an `i64`, and `None` if all sums fit.
-    /// There are `groups` groups, and `indices` has the number of the group of each slot. Only an array of numbers has
-    /// sums. Takes a pass over the slots, so it is called where [`AnyArray::group_aggregate`] has failed.
+    /// The groups must be of as many slots as the array has. Only an array of numbers has sums. Takes a pass over the
+    /// slots, so it is called where [`AnyArray::group_aggregate`] has failed.
     ///
     /// # Errors
     /// `OutOfMemory` if an allocation fails.
-    pub fn overflowing_group(
-        &self,
-        alloc: Global,
-        indices: &[usize],
-        groups: usize,
-    ) -> Result<Option<usize>, Error>
-        requires rows { length indices.now ≡ slot_count self.now }
-        requires within { All (λ g. g < groups) indices.now }
-        ensures ok { IfOk result (λ group. group ≡ overflowing_group self.now indices.now groups) }
-        ensures within { IfOk result (λ group. IfSome group (λ g. g < groups)) }
+    pub fn overflowing_group(&self, alloc: Global, groups: &Groups) -> Result<Option<usize>, Error>
+        requires { length groups.now.indices ≡ slot_count self.now }
+        ensures ok { IfOk result (λ group.
+            group ≡ overflowing_group self.now groups.now.indices (length groups.now.first)) }
+        ensures within { IfOk result (λ group. IfSome group (λ g. g < length groups.now.first)) }
         ensures err { OnlyOutOfMemory result }
     {
+        let (indices, count) = (groups.indices(), groups.len());
         match self {
-            AnyArray::Int64(array) => Ok(first_overflow(alloc, array, indices, groups)?),
+            AnyArray::Int64(array) => Ok(first_overflow(alloc, array, indices, count)?),
             _ => Ok(None),
         }
     }

@@ -1,10 +1,10 @@
 use Rattle.std.proofs.Common.{rules, ◌≡◌, map, ap, [], ◌∷◌, subst, sym, IsTrue}
 use Rattle.std.specs.List.{list_all}
 use Rattle.std.proofs.lemmas.List.{nil_from_length}
+use Rattle.std.proofs.lemmas.Bool.{and_parts}
 use Rattle.arrow_model.specs.Change.{slot_over}
 use Rattle.arrow_model.specs.Value.{Value, types}
 use Rattle.arrow_model.specs.Kind.{Shape}
-use Rattle.arrow_model.proofs.CallerLemmas.{and-second}
 use Rattle.arrow_model.specs.Item.{slot_fits, stored_slot}
 use Rattle.arrow_entry.specs.Entry.{value_of}
 use Rattle.arrow_entry.proofs.Grown.{rest-taken, rest-none, rest-refused}
@@ -18,11 +18,11 @@ loop-slot-preserved g c =
           (sym (let same : (value_of c.push_slot.new.self).shape
           ≡ (value_of c.loop-slot.entry).shape = ap (λ (v : Value g.row.T.Denot). v.shape) c.in-Ok.ensures.ok.1
           in same))
-          (and-second (slot_fits (value_of c.loop-slot.entry).shape.value_kind (stored_slot c.in-Some.slot.now))
+          (and_parts (slot_fits (value_of c.loop-slot.entry).shape.value_kind (stored_slot c.in-Some.slot.now))
           (list_all (slot_fits (value_of c.loop-slot.entry).shape.value_kind)
           (map stored_slot c.in-Some.others.now))
           (subst (λ xs. IsTrue (list_all (slot_fits (value_of c.loop-slot.entry).shape.value_kind)
-          (map stored_slot xs))) split c.loop-slot.invariant.1)),
+          (map stored_slot xs))) split c.loop-slot.invariant.1)).1,
       rest-taken (types g.T.NativeType.zero g.T.NativeType.PRIMITIVE g.O.Offset.most g.O.Offset.IS_LARGE)
           (value_of c.args.entry.now) (map stored_slot c.args.slots.now)
           (value_of c.loop-slot.entry) (value_of c.push_slot.new.self) (map stored_slot c.loop-slot.rest.now)

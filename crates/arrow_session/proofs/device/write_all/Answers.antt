@@ -1,22 +1,18 @@
 use Rattle.std.proofs.Common.{◌≡◌, ◌+◌, ◌-◌, ◌<◌, ◌≤◌, ◌++◌, length, List, ℕ, take, drop, sym, ap, ◌∙◌}
 use Rattle.std.proofs.Common.{append_assoc, take-append-drop, length-drop, arith}
 use Rattle.std.proofs.KnownBytes.{Appends-trans}
-use Rattle.std.proofs.lemmas.List.{take_all}
+use Rattle.std.proofs.lemmas.List.{take_rest}
 use Rattle.arrow_session.specs.Counted.{fault_count}
 use Rattle.arrow_session.proofs.device.write_all.Goals as goal
-
--- what follows the first bytes of a text
-rest_is : (rest : List ℕ) (n : ℕ) → take (length rest - n) (drop n rest) ≡ drop n rest
-rest_is rest n = take_all (length rest - n) (drop n rest) (omega (arith, length-drop n rest))
 
 put_more : (text front rest : List ℕ) (n : ℕ) → text ≡ front ++ rest
     → text ≡ (front ++ take n rest) ++ take (length rest - n) (drop n rest)
 put_more text front rest n e =
     e ∙ ap (λ bytes. front ++ bytes) (sym (take-append-drop n rest)
-    ∙ ap (λ bytes. take n rest ++ bytes) (sym (rest_is rest n))) ∙ sym (append_assoc front (take n rest) _)
+    ∙ ap (λ bytes. take n rest ++ bytes) (sym (take_rest rest n))) ∙ sym (append_assoc front (take n rest) _)
 
 length_rest : (rest : List ℕ) (n : ℕ) → length (take (length rest - n) (drop n rest)) ≡ length rest - n
-length_rest rest n = ap length (rest_is rest n) ∙ length-drop n rest
+length_rest rest n = ap length (take_rest rest n) ∙ length-drop n rest
 
 shorter : (rest : List ℕ) (n counter all : ℕ) → n ≤ length rest → 0 < n → counter + length rest ≤ all
     → counter + 1 + length (take (length rest - n) (drop n rest)) ≤ all

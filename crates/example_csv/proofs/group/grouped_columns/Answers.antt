@@ -17,14 +17,14 @@ returns-in_err-aggregate_column-clause-err c =
     let one = c.aggregation-item.result in
     let at = slice_get_read asked (length asked) i one refl c.loop-aggregation-test.true c.aggregation-item.is in
     weaken-err c.from_residual.result _ _ c.from_residual.ensures.1
-    (λ e is. rw is (not-all-aggregates c.args.table.now c.args.indices.now (named c.args.keys) asked i one
+    (λ e is. rw is (not-all-aggregates c.args.table.now c.args.groups.now.indices (named c.args.keys) asked i one
     _ _ at c.loop-aggregation.invariant.0 c.in_err-aggregate_column.ensures.err))
 
 pub loop-aggregation-preserved : goal.loop-aggregation-preserved
 loop-aggregation-preserved c =
     let field = c.in_ok-aggregate_column.field-0 in
     let items = c.in_ok-push.ensures.items in (
-      aggregates-more c.args.table.now c.args.indices.now (named c.args.keys) c.args.asked.now
+      aggregates-more c.args.table.now c.args.groups.now.indices (named c.args.keys) c.args.asked.now
           c.loop-aggregation.aggregation-index c.aggregation-item.result c.loop-aggregation.columns.items
           c.push.new.self.items field c.loop-aggregation-test.true c.aggregation-item.is
           c.loop-aggregation.invariant.0 c.in_ok-aggregate_column.ensures.ok items,
@@ -36,7 +36,7 @@ loop-aggregation-preserved c =
 pub returns-clause-ok : goal.returns-clause-ok
 returns-clause-ok c = (
   map named c.loop-aggregation.columns.items,
-  subst (λ asked. AllZip (IsAggregated c.args.table.now c.args.indices.now (slot_count c.args.keys.array)) asked
+  subst (λ asked. AllZip (IsAggregated c.args.table.now c.args.groups.now.indices (slot_count c.args.keys.array)) asked
       (map named c.loop-aggregation.columns.items))
       (take_all c.loop-aggregation.aggregation-index c.args.asked.now c.loop-aggregation-test.false)
       c.loop-aggregation.invariant.0,

@@ -7,6 +7,6 @@ use Rattle.example_csv.proofs.group.grouped_columns.Given as goal
 
 abbrev pub invariant-loop-aggregation : goal.invariant-loop-aggregation
 invariant-loop-aggregation l =
-    AllZip (IsAggregated l.table l.indices (slot_count l.keys.array)) (take l.aggregation-index l.asked)
+    AllZip (IsAggregated l.table l.groups.indices (slot_count l.keys.array)) (take l.aggregation-index l.asked)
     (map named l.columns.items)
     × HaveRows l.columns.items (slot_count l.keys.array)

@@ -6,7 +6,8 @@ use Rattle.dethrugn.specs.Column.{slots_of}
 use Rattle.dethrugn.specs.Comparison.{compare_slot}
 use Rattle.dethrugn.specs.Kleene.{kleene_and}
 use Rattle.dethrugn.specs.BooleanFits.{boolean_type}
-use Rattle.dethrugn.proofs.CallerLemmas.Compute.{combined-maps, length-mapped}
+use Rattle.dethrugn.proofs.CallerLemmas.Compute.{length-mapped}
+use Rattle.dethrugn.proofs.CallerLemmas.Types.{combined-maps}
 use Rattle.example_recipes.proofs.within.within.Goals as goal
 
 pub and-requires : goal.and-requires

@@ -10,7 +10,8 @@ use Rattle.dethrugn.specs.Aggregates.{sum_all}
 use Rattle.dethrugn.specs.Column.{slots_of}
 use Rattle.dethrugn.specs.Groups.{values_at}
 use Rattle.dethrugn.specs.Rows.{slot}
-use Rattle.example_record_batch.proofs.OverflowLemmas.{pair-at, sums-more}
+use Rattle.dethrugn.proofs.CallerLemmas.Types.{get-zip}
+use Rattle.example_record_batch.proofs.OverflowLemmas.{sums-more}
 use Rattle.example_record_batch.proofs.any.overflow.add_numbers.Goals as goal
 
 pub loop-i-preserved : goal.loop-i-preserved
@@ -28,7 +29,7 @@ loop-i-preserved c =
     let next_fits : FitsSigned w128 c.add_slot.result = search rules in
     let next = to_z-of_z w128 c.add_slot.result next_fits in
     sums-more pairs c.loop-i.i index (length c.args.sums.now) shown c.loop-i.sums (to_z w128 (of_z w128 c.add_slot.result))
-    c.loop-i.invariant (pair-at c.args.indices.now slots c.loop-i.i index shown at c.get.ensures) low
+    c.loop-i.invariant (get-zip c.args.indices.now slots c.loop-i.i index shown at c.get.ensures) low
     (next ∙ c.add_slot.ensures.sum ∙ ap (λ z. z +ℤ unwrap_or shown (pos 0)) current)
     (omega (arith, c.add_slot.ensures.small, ap unsigned_abs next, ap unsigned_abs current))
 

@@ -1,7 +1,8 @@
 use Rattle.std.proofs.Common.{◌≡◌, ◌<◌, ◌^◌, ap, arith, length, subst, sym}
 use Rattle.dethrugn.specs.Sort.{PickOnce}
+use Rattle.dethrugn.proofs.CallerLemmas.Sort.{picks-below}
 use Rattle.example_record_batch.specs.Batches.{Batch}
-use Rattle.example_record_batch.proofs.TakeLemmas.{picks-below, taken-rows}
+use Rattle.example_record_batch.proofs.TakeLemmas.{taken-rows}
 use Rattle.example_record_batch.proofs.batch.RecordBatch.take.Goals as goal
 
 pub take_all-requires-clause-rows : goal.take_all-requires-clause-rows
