@@ -3,9 +3,9 @@
 use crate::kernels::texts_array;
 use crate::rounds::read_rounds;
 use crate::whole::array_of_parts;
-use arrow_aggregate::aggregate::{max_primitive, min_primitive, min_string, sum_primitive};
 use arrow_primitive::PrimitiveArray;
 use arrow_utf8::Utf8Array;
+use compute_aggregate::aggregate::{max_primitive, min_primitive, min_string, sum_primitive};
 use std::alloc::Global;
 
 #[inline(never)]

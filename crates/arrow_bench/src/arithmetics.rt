@@ -3,12 +3,12 @@ use crate::compute::{Pair, pair};
 use crate::kernels::texts_array;
 use crate::operation::{Operation, run};
 use crate::whole::array_of_parts;
-use arrow_arithmetics::basic::{add, checked_add, mul, saturating_add};
-use arrow_arithmetics::cast::{CastOptions, primitive_as_primitive, primitive_to_primitive};
-use arrow_cast::{primitive_to_utf8, utf8_to_primitive};
 use arrow_primitive::PrimitiveArray;
 use arrow_types::data_type::DataType;
 use arrow_utf8::Utf8Array;
+use compute_arithmetics::basic::{add, checked_add, mul, saturating_add};
+use compute_arithmetics::cast::{CastOptions, primitive_as_primitive, primitive_to_primitive};
+use compute_cast::{primitive_to_utf8, utf8_to_primitive};
 use std::alloc::Global;
 
 /// Two arrays of 32-bit values.

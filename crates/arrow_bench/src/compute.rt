@@ -3,10 +3,10 @@ use crate::kernels::{texts_array, truths_array};
 use crate::operation::{Operation, run};
 use crate::whole::array_of_parts;
 use arrow_boolean::BooleanArray;
-use arrow_compute::comparison::{eq, lt, lt_scalar};
-use arrow_compute::{boolean, boolean_kleene};
 use arrow_primitive::PrimitiveArray;
 use arrow_utf8::Utf8Array;
+use compute_comparison::comparison::{eq, eq_and_validity, eq_scalar_and_validity, lt, lt_scalar};
+use compute_comparison::{boolean, boolean_kleene};
 use std::alloc::Global;
 
 /// Two arrays of values.
@@ -79,6 +79,58 @@ pub extern "C" fn rattle_flat_cmp_eq(
     rounds: usize,
 ) -> u64 {
     run::<Equal>(alloc, pair(alloc, values, others, valid), rounds)
+}
+
+struct EqualSlots;
+
+impl Operation for EqualSlots {
+    type Source = Pair;
+
+    type Made = BooleanArray;
+
+    #[inline(always)]
+    fn make(alloc: Global, (lhs, rhs): &Pair) -> Option<BooleanArray> {
+        if lhs.len() != rhs.len() {
+            return None;
+        }
+        eq_and_validity(alloc, lhs, rhs).ok()
+    }
+}
+
+// lhs = rhs, where two nulls are equal; the second array has no null
+#[unsafe(no_mangle)]
+pub extern "C" fn rattle_flat_cmp_eq_validity(
+    alloc: Global,
+    values: &[i64],
+    others: &[i64],
+    valid: &[u8],
+    rounds: usize,
+) -> u64 {
+    run::<EqualSlots>(alloc, pair(alloc, values, others, valid), rounds)
+}
+
+struct EqualZeroSlots;
+
+impl Operation for EqualZeroSlots {
+    type Source = PrimitiveArray<i64>;
+
+    type Made = BooleanArray;
+
+    #[inline(always)]
+    fn make(alloc: Global, array: &PrimitiveArray<i64>) -> Option<BooleanArray> {
+        eq_scalar_and_validity(alloc, array, 0i64).ok()
+    }
+}
+
+// each slot = 0, which no null is
+#[unsafe(no_mangle)]
+pub extern "C" fn rattle_flat_cmp_eq_scalar_validity(
+    alloc: Global,
+    values: &[i64],
+    valid: &[u8],
+    rounds: usize,
+) -> u64 {
+    run::<EqualZeroSlots>(alloc, array_of_parts(alloc, values, valid), rounds)
 }
 
 struct LessThanZero;
@@ -201,4 +253,28 @@ pub extern "C" fn rattle_flat_kleene_and(
     rounds: usize,
 ) -> u64 {
     run::<KleeneAnd>(alloc, truths_pair(alloc, bits, others, valid), rounds)
+}
+
+struct KleeneAndNull;
+
+impl Operation for KleeneAndNull {
+    type Source = BooleanArray;
+
+    type Made = BooleanArray;
+
+    #[inline(always)]
+    fn make(alloc: Global, array: &BooleanArray) -> Option<BooleanArray> {
+        boolean_kleene::and_scalar(alloc, array, None).ok()
+    }
+}
+
+// and of three-valued logic, with a null
+#[unsafe(no_mangle)]
+pub extern "C" fn rattle_flat_kleene_and_null(
+    alloc: Global,
+    bits: &[u8],
+    valid: &[u8],
+    rounds: usize,
+) -> u64 {
+    run::<KleeneAndNull>(alloc, truths_array(alloc, bits, valid), rounds)
 }

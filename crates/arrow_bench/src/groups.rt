@@ -1,15 +1,15 @@
 //! Groups, sums of groups, and hashes, over arrays that are made once.
-ghost use Rattle.std.specs.Prelude.{◌≡◌, ◌<◌, All, length};
+ghost use Rattle.std.specs.Prelude.{◌≡◌, length};
 
 use crate::compute::pair;
 use crate::kernels::texts_array;
 use crate::operation::{Operation, Probe, run};
 use crate::whole::array_of_parts;
-use arrow_aggregate::aggregate::group_sum;
-use arrow_group::laws::grouped_slots;
-use arrow_group::{Groups, group_primitive, group_utf8, group_utf8_with, hash_primitive};
 use arrow_primitive::PrimitiveArray;
 use arrow_utf8::Utf8Array;
+use compute_aggregate::aggregate::group_sum_primitive;
+use compute_group::laws::grouped_slots;
+use compute_group::{Groups, group_primitive, group_utf8, group_utf8_with, hash_primitive};
 use std::alloc::Global;
 use std::hash::RandomState;
 use std::io;
@@ -111,19 +111,12 @@ pub extern "C" fn rattle_flat_group_utf8_with(
     run::<GroupTextsByKeys>(alloc, source, rounds)
 }
 
-fn sum_each(
-    alloc: Global,
-    values: &PrimitiveArray<i64>,
-    indices: &[usize],
-    groups: usize,
-    rounds: usize,
-) -> u64
-    requires rows { length indices.now ≡ length values.now.rows }
-    requires within { All (λ g. g < groups) indices.now }
+fn sum_each(alloc: Global, values: &PrimitiveArray<i64>, groups: &Groups, rounds: usize) -> u64
+    requires { length groups.now.indices ≡ length values.now.rows }
 {
     let mut sum = 0u64;
     for round in 0..rounds {
-        match group_sum(alloc, values, indices, groups) {
+        match group_sum_primitive(alloc, values, groups) {
             Ok(sums) => sum = sum.wrapping_add(sums.probe(round)),
             Err(_) => return u64::MAX,
         }
@@ -142,10 +135,7 @@ fn sum_by(
     }
     grouped_slots::<(), i64>();
     match group_primitive(alloc, keys) {
-        Ok(groups) => {
-            let count = groups.first.len();
-            sum_each(alloc, values, groups.indices.as_slice(), count, rounds)
-        }
+        Ok(groups) => sum_each(alloc, values, &groups, rounds),
         Err(_) => u64::MAX,
     }
 }

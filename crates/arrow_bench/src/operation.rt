@@ -4,10 +4,10 @@ use crate::bytes::probe_array;
 use crate::primitive;
 use crate::rounds::place;
 use arrow_boolean::BooleanArray;
-use arrow_group::Groups;
 use arrow_primitive::{MutablePrimitiveArray, PrimitiveArray};
 use arrow_types::native_type::NativeType;
 use arrow_utf8::Utf8Array;
+use compute_group::Groups;
 use std::alloc::Global;
 
 /// What a round makes.
@@ -106,9 +106,10 @@ impl Probe for Groups {
     /// Returns the number of slots, that of groups, and the number of the group of a slot.
     #[inline(always)]
     fn probe(&self, round: usize) -> u64 {
-        let rows = self.indices.len();
-        let counts = (rows as u64).wrapping_add(self.first.len() as u64);
-        match self.indices.get(place(round, rows)) {
+        let indices = self.indices();
+        let rows = indices.len();
+        let counts = (rows as u64).wrapping_add(self.len() as u64);
+        match indices.get(place(round, rows)) {
             Some(number) => counts.wrapping_add(*number as u64),
             None => counts,
         }

@@ -5,12 +5,12 @@ use crate::operation::{Operation, run};
 use crate::whole::array_of_parts;
 use arrow_boolean::BooleanArray;
 use arrow_primitive::PrimitiveArray;
-use arrow_select::if_then_else::if_then_else_primitive;
-use arrow_select::nullif::nullif_primitive;
-use arrow_select::take::take_primitive;
-use arrow_sort::SortOptions;
-use arrow_sort::sort::sort_to_indices;
 use arrow_utf8::Utf8Array;
+use compute_select::if_then_else::if_then_else_primitive;
+use compute_select::nullif::nullif_primitive;
+use compute_select::take::take_primitive;
+use compute_sort::SortOptions;
+use compute_sort::sort::sort_to_indices;
 use std::alloc::Global;
 
 struct Take;

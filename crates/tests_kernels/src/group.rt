@@ -1,14 +1,14 @@
 //! Groups of equal slots, which were worked out by hand, by several hash functions, and which slots have equal hashes.
 use crate::arrays::{booleans, check_mask, check_value, items, numbers, row};
 use arrow_binary::BinaryArray;
-use arrow_group::{
+use arrow_primitive::PrimitiveArray;
+use arrow_types::error::Error;
+use arrow_utf8::{MutableUtf8Array, Utf8Array};
+use compute_group::{
     Groups, group_binary, group_binary_with, group_boolean, group_boolean_with, group_primitive,
     group_primitive_with, group_utf8, group_utf8_with, hash_binary, hash_boolean, hash_primitive,
     hash_utf8,
 };
-use arrow_primitive::PrimitiveArray;
-use arrow_types::error::Error;
-use arrow_utf8::{MutableUtf8Array, Utf8Array};
 use std::hash::{BuildHasher, BuildHasherDefault, FoldHasher, Hasher, RandomState};
 use std::process::Abort;
 use tests_support::Text;
@@ -22,8 +22,8 @@ fn check_groups(
     indices: &[usize],
 ) {
     let groups = answer.expect(rt, row);
-    check_value(rt, row, groups.first.as_slice(), first);
-    check_value(rt, row, groups.indices.as_slice(), indices);
+    check_value(rt, row, groups.first(), first);
+    check_value(rt, row, groups.indices(), indices);
     drop(groups);
 }
 
@@ -208,8 +208,11 @@ const ALIKE: u32 = 200;
 /// Checks the groups of texts of one hash.
 fn check_alike(rt: &impl Abort, row: &str, answer: Result<Groups, Error>) {
     let groups = answer.expect(rt, row);
-    let sizes = (groups.first.len(), groups.indices.len());
-    let last = (groups.first.last().copied(), groups.indices.last().copied());
+    let sizes = (groups.len(), groups.indices().len());
+    let last = (
+        groups.first().last().copied(),
+        groups.indices().last().copied(),
+    );
     drop(groups);
     check_value(rt, row, sizes, (200, 400));
     check_value(rt, row, last, (Some(199), Some(199)));
@@ -258,10 +261,13 @@ fn many_groups_and_keys_in_turn(rt: HostRuntime) {
     check_value(
         &rt,
         "many groups: groups and slots",
-        (groups.first.len(), groups.indices.len()),
+        (groups.len(), groups.indices().len()),
         (300, 1000),
     );
-    let came = (groups.first.last().copied(), groups.indices.last().copied());
+    let came = (
+        groups.first().last().copied(),
+        groups.indices().last().copied(),
+    );
     drop(groups);
     check_value(
         &rt,
@@ -284,14 +290,15 @@ fn many_groups_and_keys_in_turn(rt: HostRuntime) {
         drop(slots);
         let groups = group_primitive(alloc, &array).expect(&rt, "memory");
         drop(array);
-        check_value(&rt, row, groups.indices.len(), 2000);
-        assert!(rt; groups.indices.len() == 2000, "slots");
+        let indices = groups.indices();
+        check_value(&rt, row, indices.len(), 2000);
+        assert!(rt; indices.len() == 2000, "slots");
         check_value(
             &rt,
             row,
             (
-                groups.first.last().copied(),
-                (groups.indices[1998], groups.indices[1999]),
+                groups.first().last().copied(),
+                (indices[1998], indices[1999]),
             ),
             (Some(*first), (*last, *null)),
         );
@@ -354,6 +361,48 @@ fn equal_slots_have_equal_hashes(rt: HostRuntime) {
 }
 
 #[test]
+fn groups_are_lists_of_slots(rt: HostRuntime) {
+    let alloc = rt.alloc();
+    let array = numbers(&rt, &[Some(5i64), None, Some(5), Some(7), None]);
+    let groups = group_primitive(alloc, &array).expect(&rt, "memory");
+    drop(array);
+    let texts: Utf8Array<i32> = items(&rt, &[Some("a"), Some("b"), Some("a"), None, Some("b")]);
+    let others = group_utf8(alloc, &texts).expect(&rt, "memory");
+    drop(texts);
+    check_value(
+        &rt,
+        "number of groups",
+        (groups.len(), groups.is_empty()),
+        (3, false),
+    );
+    check_value(&rt, "groups of equal numbers", groups == others, true);
+    drop(others);
+    let copy = groups.clone().expect(&rt, "memory");
+    check_value(&rt, "a copy", copy == groups, true);
+    drop(copy);
+    let expected: [&[usize]; 4] = [&[0, 2], &[1, 4], &[3], &[]];
+    for (group, rows) in expected.iter().enumerate() {
+        let made = groups.rows(alloc, group).expect(&rt, "memory");
+        check_value(&rt, "slots of a group", made.as_slice(), *rows);
+        drop(made);
+    }
+    let text = Text::of(format_args!("{groups:?}"));
+    drop(groups);
+    let expected = "Groups { first: [0, 1, 3], indices: [0, 1, 0, 2, 1] }";
+    check_value(&rt, "text of groups", text.as_str(), expected);
+    let none = numbers::<i64>(&rt, &[]);
+    let groups = group_primitive(alloc, &none).expect(&rt, "memory");
+    drop(none);
+    check_value(
+        &rt,
+        "no group",
+        (groups.len(), groups.is_empty()),
+        (0, true),
+    );
+    drop(groups);
+}
+
+#[test]
 fn groups_of_rows_of_three_columns(rt: HostRuntime) {
     let alloc = rt.alloc();
     let array: Utf8Array<i32> = items(
@@ -377,13 +426,17 @@ fn groups_of_rows_of_three_columns(rt: HostRuntime) {
     check_value(
         &rt,
         "rows of each column",
-        [names.indices.len(), ages.indices.len(), marks.indices.len()],
+        [
+            names.indices().len(),
+            ages.indices().len(),
+            marks.indices().len(),
+        ],
         [6; 3],
     );
-    assert!(rt; names.indices.len() == ages.indices.len(), "six rows");
+    assert!(rt; names.indices().len() == ages.indices().len(), "six rows");
     let pairs = names.refine(alloc, &ages).expect(&rt, "memory");
     drop((names, ages));
-    assert!(rt; pairs.indices.len() == marks.indices.len(), "six rows");
+    assert!(rt; pairs.indices().len() == marks.indices().len(), "six rows");
     let rows = pairs.refine(alloc, &marks);
     let random = RandomState::new(&rt).expect(&rt, "random keys");
     let by_random_keys = pairs.refine_with(alloc, random, &marks);

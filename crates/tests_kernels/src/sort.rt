@@ -3,11 +3,11 @@ use crate::arrays::{
     booleans, check_booleans, check_mask, check_numbers, check_slots, check_value, items, numbers,
     row,
 };
-use arrow_sort::SortOptions;
-use arrow_sort::lexsort::{SortColumn, SortValues, lexsort_to_indices};
-use arrow_sort::sort::{sort, sort_to_indices};
 use arrow_types::data_type::DataType;
 use arrow_utf8::Utf8Array;
+use compute_sort::SortOptions;
+use compute_sort::lexsort::{SortColumn, SortValues, lexsort_to_indices};
+use compute_sort::sort::{sort, sort_to_indices};
 use std::process::Abort;
 use tests_support::Text;
 

@@ -1,34 +1,32 @@
 //! Aggregates of groups of three slots.
-ghost use Rattle.std.specs.Prelude.{◌<◌, All, IsTrue};
-
 use crate::boolean::array_text as boolean_text;
 use crate::bytes::array_text;
 use crate::primitive::array_text as number_text;
 use crate::refusal::{end, results};
-use arrow_aggregate::aggregate::{
-    group_count, group_max_binary, group_max_boolean, group_max_primitive, group_max_string,
-    group_min_binary, group_min_boolean, group_min_primitive, group_min_string, group_sum,
-};
 use arrow_binary::BinaryArray;
 use arrow_boolean::BooleanArray;
 use arrow_primitive::PrimitiveArray;
 use arrow_utf8::Utf8Array;
+use compute_aggregate::aggregate::{
+    group_count, group_max_binary, group_max_boolean, group_max_primitive, group_max_utf8,
+    group_min_binary, group_min_boolean, group_min_primitive, group_min_utf8, group_rows,
+    group_sum_primitive,
+};
+use compute_group::{Groups, group_primitive};
+use std::process::Abort;
 use std::test::Fail;
 use tests_support::Text;
 
-/// The numbers of the slots' groups, of which there are two.
-const GROUPS: &[usize] = &[1, 0, 1];
+/// Keys by which three slots are grouped: the first and the last slot, and the second.
+const KEYS: &[u32] = &[1, 0, 1];
 
-/// Whether each of the numbers is below a bound.
-fn all_below(numbers: &[usize], bound: usize) -> bool
-    ensures { IsTrue result → All (λ n. n < bound) numbers.now }
-{
-    for number in numbers {
-        if *number >= bound {
-            return false;
-        }
-    }
-    true
+/// Returns the groups of equal keys.
+fn groups_of_keys(rt: &(impl Abort + AllocGlobal)) -> Groups {
+    let alloc = rt.alloc();
+    let keys = PrimitiveArray::from_slice(alloc, KEYS).expect(rt, "refused");
+    let groups = group_primitive(alloc, &keys).expect(rt, "refused");
+    drop(keys);
+    groups
 }
 
 /// Writes counts.
@@ -40,14 +38,19 @@ fn count_text(array: &PrimitiveArray<u64>) -> Text {
 fn groups_of_numbers_answer_again(rt: HostRuntime) -> Result<(), Fail> {
     let alloc = rt.alloc();
     let array = PrimitiveArray::from_slice(alloc, [7, 8, 9].as_slice()).expect(&rt, "refused");
-    assert!(&rt; GROUPS.len() == array.len() && all_below(GROUPS, 2));
+    let groups = groups_of_keys(&rt);
+    assert!(&rt;
+        groups.indices().len() == array.len(),
+        "a key for each slot"
+    );
     let is_refused = results! { &rt;
-        count_text: group_count(alloc, &array, GROUPS, 2) => "[1, 2]";
-        number_text: group_sum(alloc, &array, GROUPS, 2) => "8 16";
-        number_text: group_min_primitive(alloc, &array, GROUPS, 2) => "8 7";
-        number_text: group_max_primitive(alloc, &array, GROUPS, 2) => "8 9";
+        count_text: group_rows(alloc, &groups) => "[2, 1]";
+        count_text: group_count(alloc, &array, &groups) => "[2, 1]";
+        number_text: group_sum_primitive(alloc, &array, &groups) => "16 8";
+        number_text: group_min_primitive(alloc, &array, &groups) => "7 8";
+        number_text: group_max_primitive(alloc, &array, &groups) => "9 8";
     };
-    drop(array);
+    drop((groups, array));
     end(is_refused)
 }
 
@@ -57,12 +60,16 @@ fn groups_of_booleans_answer_again(rt: HostRuntime) -> Result<(), Fail> {
     let array = BooleanArray::from_slice(alloc, [true, false, false].as_slice()).expect(
         &rt, "refused",
     );
-    assert!(&rt; GROUPS.len() == array.len() && all_below(GROUPS, 2));
+    let groups = groups_of_keys(&rt);
+    assert!(&rt;
+        groups.indices().len() == array.len(),
+        "a key for each slot"
+    );
     let is_refused = results! { &rt;
-        boolean_text: group_max_boolean(alloc, &array, GROUPS, 2) => "false true";
-        boolean_text: group_min_boolean(alloc, &array, GROUPS, 2) => "false false";
+        boolean_text: group_max_boolean(alloc, &array, &groups) => "true false";
+        boolean_text: group_min_boolean(alloc, &array, &groups) => "false false";
     };
-    drop(array);
+    drop((groups, array));
     end(is_refused)
 }
 
@@ -75,12 +82,16 @@ const TEXTS: &[Option<&str>] = &[Some("ab"), None, Some("cde")];
 fn groups_of_bytes_answer_again(rt: HostRuntime) -> Result<(), Fail> {
     let alloc = rt.alloc();
     let array = BinaryArray::<i32>::from(alloc, BYTES).expect(&rt, "refused");
-    assert!(&rt; GROUPS.len() == array.len() && all_below(GROUPS, 2));
+    let groups = groups_of_keys(&rt);
+    assert!(&rt;
+        groups.indices().len() == array.len(),
+        "a key for each slot"
+    );
     let is_refused = results! { &rt;
-        array_text: group_max_binary(alloc, &array, GROUPS, 2) => "(<>) <cde>";
-        array_text: group_min_binary(alloc, &array, GROUPS, 2) => "(<>) <ab>";
+        array_text: group_max_binary(alloc, &array, &groups) => "<cde> (<>)";
+        array_text: group_min_binary(alloc, &array, &groups) => "<ab> (<>)";
     };
-    drop(array);
+    drop((groups, array));
     end(is_refused)
 }
 
@@ -88,11 +99,15 @@ fn groups_of_bytes_answer_again(rt: HostRuntime) -> Result<(), Fail> {
 fn groups_of_text_answer_again(rt: HostRuntime) -> Result<(), Fail> {
     let alloc = rt.alloc();
     let array = Utf8Array::<i32>::from(alloc, TEXTS).expect(&rt, "refused");
-    assert!(&rt; GROUPS.len() == array.len() && all_below(GROUPS, 2));
+    let groups = groups_of_keys(&rt);
+    assert!(&rt;
+        groups.indices().len() == array.len(),
+        "a key for each slot"
+    );
     let is_refused = results! { &rt;
-        array_text: group_min_string(alloc, &array, GROUPS, 2) => "(<>) <ab>";
-        array_text: group_max_string(alloc, &array, GROUPS, 2) => "(<>) <cde>";
+        array_text: group_min_utf8(alloc, &array, &groups) => "<ab> (<>)";
+        array_text: group_max_utf8(alloc, &array, &groups) => "<cde> (<>)";
     };
-    drop(array);
+    drop((groups, array));
     end(is_refused)
 }

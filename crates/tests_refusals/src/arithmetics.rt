@@ -1,14 +1,15 @@
 //! Arithmetic of three slots.
 use crate::primitive::array_text as number_text;
 use crate::refusal::{end, results};
-use arrow_arithmetics::basic::{
+use arrow_primitive::PrimitiveArray;
+use compute_arithmetics::basic::{
     add_scalar, checked_add, checked_add_scalar, checked_div, checked_div_scalar, checked_mul,
     checked_negate, checked_rem, checked_rem_scalar, checked_sub, checked_sub_scalar, div,
     div_scalar, has_zero_divisor, mul, mul_scalar, rem, rem_scalar, saturating_add,
     saturating_add_scalar, saturating_mul, saturating_mul_scalar, saturating_sub_scalar, sub,
-    sub_scalar, wrapping_negate,
+    sub_scalar, wrapping_add, wrapping_add_scalar, wrapping_mul, wrapping_mul_scalar,
+    wrapping_negate, wrapping_sub, wrapping_sub_scalar,
 };
-use arrow_primitive::PrimitiveArray;
 use std::test::Fail;
 
 /// The slots of the first array, and of the second.
@@ -25,6 +26,9 @@ fn arithmetic_of_two_arrays_answers_again(rt: HostRuntime) -> Result<(), Fail> {
     let is_refused = results! { &rt;
         number_text: sub(alloc, &lhs, &rhs) => "-1 0 1";
         number_text: mul(alloc, &lhs, &rhs) => "56 64 72";
+        number_text: wrapping_add(alloc, &lhs, &rhs) => "15 16 17";
+        number_text: wrapping_sub(alloc, &lhs, &rhs) => "-1 0 1";
+        number_text: wrapping_mul(alloc, &lhs, &rhs) => "56 64 72";
         number_text: checked_add(alloc, &lhs, &rhs) => "15 16 17 under 111";
         number_text: checked_sub(alloc, &lhs, &rhs) => "-1 0 1 under 111";
         number_text: checked_mul(alloc, &lhs, &rhs) => "56 64 72 under 111";
@@ -65,6 +69,9 @@ fn arithmetic_of_an_array_and_a_value_answers_again(rt: HostRuntime) -> Result<(
         number_text: add_scalar(alloc, &array, 2) => "9 10 11";
         number_text: sub_scalar(alloc, &array, 2) => "5 6 7";
         number_text: mul_scalar(alloc, &array, 2) => "14 16 18";
+        number_text: wrapping_add_scalar(alloc, &array, 2) => "9 10 11";
+        number_text: wrapping_sub_scalar(alloc, &array, 2) => "5 6 7";
+        number_text: wrapping_mul_scalar(alloc, &array, 2) => "14 16 18";
         number_text: div_scalar(alloc, &array, 2) => "3 4 4";
         number_text: rem_scalar(alloc, &array, 2) => "1 0 1";
         number_text: checked_add_scalar(alloc, &array, 2) => "9 10 11 under 111";

@@ -3,16 +3,18 @@ use crate::boolean::array_text as boolean_text;
 use crate::bytes::array_text;
 use crate::primitive::array_text as number_text;
 use crate::refusal::{end, results};
-use arrow_arithmetics::cast::{
-    CastOptions, binary_to_utf8, boolean_to_primitive, primitive_as_primitive,
-    primitive_to_boolean, primitive_to_primitive,
-};
 use arrow_binary::BinaryArray;
 use arrow_boolean::BooleanArray;
-use arrow_cast::{binary_to_primitive, primitive_to_binary, primitive_to_utf8, utf8_to_primitive};
 use arrow_primitive::PrimitiveArray;
 use arrow_types::data_type::DataType;
 use arrow_utf8::Utf8Array;
+use compute_arithmetics::cast::{
+    CastOptions, binary_to_utf8, boolean_to_primitive, primitive_as_primitive,
+    primitive_to_boolean, primitive_to_primitive,
+};
+use compute_cast::{
+    binary_to_primitive, primitive_to_binary, primitive_to_utf8, utf8_to_primitive,
+};
 use std::test::Fail;
 
 #[test]

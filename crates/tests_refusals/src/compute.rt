@@ -3,18 +3,18 @@ use crate::boolean::array_text as boolean_text;
 use crate::primitive::array_text as number_text;
 use crate::refusal::{end, results};
 use crate::sort::index_text;
-use arrow_arithmetics::basic::{add, checked_mul_scalar, negate, saturating_sub};
 use arrow_boolean::BooleanArray;
-use arrow_compute::boolean::{self, is_not_null, is_null};
-use arrow_compute::boolean_kleene;
-use arrow_compute::comparison::{
-    eq, eq_and_validity, eq_scalar, gt, gt_eq, gt_eq_scalar, gt_scalar, lt, lt_eq, lt_eq_scalar,
-    lt_scalar, neq, neq_and_validity, neq_scalar,
-};
 use arrow_primitive::PrimitiveArray;
-use arrow_sort::SortOptions;
-use arrow_sort::sort::{sort, sort_to_indices};
 use arrow_utf8::Utf8Array;
+use compute_arithmetics::basic::{add, checked_mul_scalar, negate, saturating_sub};
+use compute_comparison::boolean::{self, is_not_null, is_null};
+use compute_comparison::boolean_kleene;
+use compute_comparison::comparison::{
+    eq, eq_and_validity, eq_scalar, eq_scalar_and_validity, gt, gt_eq, gt_eq_scalar, gt_scalar, lt,
+    lt_eq, lt_eq_scalar, lt_scalar, neq, neq_and_validity, neq_scalar, neq_scalar_and_validity,
+};
+use compute_sort::SortOptions;
+use compute_sort::sort::{sort, sort_to_indices};
 use std::test::Fail;
 
 /// The greatest first.
@@ -58,6 +58,10 @@ fn kernels_that_compute_with_booleans_answer_again(rt: HostRuntime) -> Result<()
         boolean_text: is_not_null(alloc, &lhs) => "true true true";
         boolean_text: boolean_kleene::and(alloc, &lhs, &rhs) => "true false false";
         boolean_text: boolean_kleene::or(alloc, &lhs, &rhs) => "true true false";
+        boolean_text: boolean::and_scalar(alloc, &lhs, Some(false)) => "false false false";
+        boolean_text: boolean::or_scalar(alloc, &lhs, None) => "(false) (false) (false)";
+        boolean_text: boolean_kleene::and_scalar(alloc, &lhs, None) => "(true) (true) false";
+        boolean_text: boolean_kleene::or_scalar(alloc, &lhs, Some(true)) => "true true true";
     };
     drop(rhs);
     drop(lhs);
@@ -78,6 +82,8 @@ fn comparisons_of_numbers_answer_again(rt: HostRuntime) -> Result<(), Fail> {
         boolean_text: gt_eq(alloc, &lhs, &rhs) => "false true true";
         boolean_text: eq_and_validity(alloc, &lhs, &rhs) => "false true false";
         boolean_text: neq_and_validity(alloc, &lhs, &rhs) => "true false true";
+        boolean_text: eq_scalar_and_validity(alloc, &lhs, 8i64) => "false true false";
+        boolean_text: neq_scalar_and_validity(alloc, &lhs, 8i64) => "true false true";
         boolean_text: neq_scalar(alloc, &lhs, 8i64) => "true false true";
         boolean_text: lt_scalar(alloc, &lhs, 8i64) => "true false false";
         boolean_text: lt_eq_scalar(alloc, &lhs, 8i64) => "true true false";

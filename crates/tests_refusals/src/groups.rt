@@ -2,12 +2,12 @@
 use crate::refusal::{end, results};
 use arrow_binary::BinaryArray;
 use arrow_boolean::BooleanArray;
-use arrow_group::{
+use arrow_primitive::{MutablePrimitiveArray, PrimitiveArray};
+use arrow_utf8::Utf8Array;
+use compute_group::{
     Groups, group_binary, group_binary_with, group_boolean, group_boolean_with, group_primitive,
     group_primitive_with, group_utf8_with,
 };
-use arrow_primitive::{MutablePrimitiveArray, PrimitiveArray};
-use arrow_utf8::Utf8Array;
 use std::hash::RandomState;
 use std::test::Fail;
 use tests_support::Text;
@@ -26,14 +26,19 @@ const TEXTS: &[Option<&str>] = &[Some("ab"), None, Some("cde")];
 
 /// Writes the indexes of the first slots of groups, and the number of the group of each slot.
 fn group_text(groups: &Groups) -> Text {
-    Text::of(format_args!("{:?} {:?}", groups.first, groups.indices))
+    Text::of(format_args!("{:?} {:?}", groups.first(), groups.indices()))
+}
+
+/// Writes the indexes of slots.
+fn row_text(rows: &Vec<usize>) -> Text {
+    Text::of(format_args!("{rows:?}"))
 }
 
 /// Writes how many groups and slots there are, and the number of the last slot's group.
 fn count_text(groups: &Groups) -> Text {
-    let (first, indices) = (groups.first.as_slice(), groups.indices.as_slice());
+    let indices = groups.indices();
     let last = indices.last().copied();
-    Text::of(format_args!("{} {} {last:?}", first.len(), indices.len()))
+    Text::of(format_args!("{} {} {last:?}", groups.len(), indices.len()))
 }
 
 #[test]
@@ -69,6 +74,8 @@ fn groups_of_pairs_answer_again(rt: HostRuntime) -> Result<(), Fail> {
     let is_refused = results! { &rt;
         group_text: groups.refine(alloc, &groups) => "[0, 1, 2] [0, 1, 2]";
         group_text: groups.refine_with(alloc, random, &groups) => "[0, 1, 2] [0, 1, 2]";
+        group_text: groups.clone() => "[0, 1, 2] [0, 1, 2]";
+        row_text: groups.rows(alloc, 1) => "[1]";
     };
     drop(groups);
     end(is_refused)

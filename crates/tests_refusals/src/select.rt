@@ -5,18 +5,18 @@ use crate::primitive::array_text as number_text;
 use crate::refusal::{end, results};
 use arrow_binary::BinaryArray;
 use arrow_boolean::BooleanArray;
-use arrow_group::{
+use arrow_primitive::PrimitiveArray;
+use arrow_utf8::Utf8Array;
+use compute_group::{
     Groups, group_primitive, group_utf8, hash_binary, hash_boolean, hash_primitive, hash_utf8,
 };
-use arrow_primitive::PrimitiveArray;
-use arrow_select::concatenate::{concatenate_boolean, concatenate_items, concatenate_primitive};
-use arrow_select::if_then_else::{
+use compute_select::concatenate::{concatenate_boolean, concatenate_items, concatenate_primitive};
+use compute_select::if_then_else::{
     if_then_else_binary, if_then_else_boolean, if_then_else_primitive, if_then_else_utf8,
 };
-use arrow_select::length::length;
-use arrow_select::nullif::{nullif_binary, nullif_boolean, nullif_primitive, nullif_utf8};
-use arrow_select::take::{take_binary, take_boolean, take_primitive, take_utf8};
-use arrow_utf8::Utf8Array;
+use compute_select::length::length;
+use compute_select::nullif::{nullif_binary, nullif_boolean, nullif_primitive, nullif_utf8};
+use compute_select::take::{take_binary, take_boolean, take_primitive, take_utf8};
 use std::test::Fail;
 use tests_support::Text;
 
@@ -28,7 +28,7 @@ const PREDICATE: &[bool] = &[true, false, true];
 
 /// Writes the indexes of the first slots of groups, and the number of the group of each slot.
 fn group_text(groups: &Groups) -> Text {
-    Text::of(format_args!("{:?} {:?}", groups.first, groups.indices))
+    Text::of(format_args!("{:?} {:?}", groups.first(), groups.indices()))
 }
 
 /// Writes lengths.

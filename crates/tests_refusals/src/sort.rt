@@ -5,10 +5,10 @@ use crate::refusal::{end, results};
 use arrow_binary::BinaryArray;
 use arrow_boolean::BooleanArray;
 use arrow_primitive::PrimitiveArray;
-use arrow_sort::SortOptions;
-use arrow_sort::lexsort::{SortColumn, SortValues, lexsort_to_indices};
-use arrow_sort::sort::{sort, sort_to_indices};
 use arrow_utf8::Utf8Array;
+use compute_sort::SortOptions;
+use compute_sort::lexsort::{SortColumn, SortValues, lexsort_to_indices};
+use compute_sort::sort::{sort, sort_to_indices};
 use std::test::Fail;
 use tests_support::Text;
 

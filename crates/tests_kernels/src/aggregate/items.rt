@@ -1,10 +1,10 @@
 //! Least and greatest booleans, texts and bytes.
 use crate::arrays::{check_value, items, row, stored_booleans};
-use arrow_aggregate::aggregate::{
-    count_valid, max_binary, max_boolean, max_string, min_binary, min_boolean, min_string,
-};
 use arrow_binary::BinaryArray;
 use arrow_utf8::Utf8Array;
+use compute_aggregate::aggregate::{
+    count_valid, max_binary, max_boolean, max_string, min_binary, min_boolean, min_string,
+};
 
 /// A name, stored values, marks, the least and the greatest value, and how many slots are valid.
 #[rattlefmt::skip]

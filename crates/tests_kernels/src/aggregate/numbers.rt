@@ -1,12 +1,12 @@
 //! Sums, least and greatest values of numbers.
 use crate::arrays::{check_value, row, stored_numbers};
-use arrow_aggregate::aggregate::{count_valid, max_primitive, min_primitive, sum_primitive};
 use arrow_integers::NativeArithmetics;
 use arrow_memory::bitmap::MutableBitmap;
 use arrow_memory::buffer::Buffer;
 use arrow_primitive::PrimitiveArray;
 use arrow_types::data_type::DataType;
 use arrow_types::error::Error;
+use compute_aggregate::aggregate::{count_valid, max_primitive, min_primitive, sum_primitive};
 use std::fmt::Debug;
 use std::process::Abort;
 use tests_support::Text;

@@ -2,13 +2,13 @@
 use crate::arrays::{
     check_mask, check_numbers, check_value, row, stored_booleans, stored_items, stored_numbers,
 };
-use arrow_arithmetics::cast::{
-    CastOptions, binary_to_utf8, boolean_to_primitive, primitive_as_primitive,
-    primitive_to_boolean, primitive_to_primitive,
-};
 use arrow_bytes::Binary;
 use arrow_types::data_type::DataType;
 use arrow_types::error::Error;
+use compute_arithmetics::cast::{
+    CastOptions, binary_to_utf8, boolean_to_primitive, primitive_as_primitive,
+    primitive_to_boolean, primitive_to_primitive,
+};
 use tests_support::assert_text;
 
 #[test]

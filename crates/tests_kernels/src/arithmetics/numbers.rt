@@ -1,10 +1,10 @@
 //! Arrays of other integers, and arrays that are longer than a word of marks.
 use crate::arrays::{check_numbers, check_value, stored_numbers};
-use arrow_arithmetics::basic::{
-    add_scalar, checked_add, checked_sub_scalar, saturating_sub_scalar,
-};
 use arrow_primitive::PrimitiveArray;
 use arrow_types::data_type::DataType;
+use compute_arithmetics::basic::{
+    add_scalar, checked_add, checked_sub_scalar, saturating_sub_scalar,
+};
 
 #[test]
 fn long_arrays_are_checked_by_words(rt: HostRuntime) {

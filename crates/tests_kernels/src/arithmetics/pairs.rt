@@ -1,11 +1,12 @@
 //! Arithmetic of two arrays.
 use crate::arrays::{check_numbers, check_value, row, stored_numbers};
-use arrow_arithmetics::basic::{
-    add, checked_add, checked_div, checked_mul, checked_rem, checked_sub, div, has_zero,
-    has_zero_divisor, mul, rem, saturating_add, saturating_mul, saturating_sub, sub,
-};
 use arrow_primitive::PrimitiveArray;
 use arrow_types::data_type::DataType;
+use compute_arithmetics::basic::{
+    add, checked_add, checked_div, checked_mul, checked_rem, checked_sub, div, has_zero,
+    has_zero_divisor, mul, rem, saturating_add, saturating_mul, saturating_sub, sub, wrapping_add,
+    wrapping_mul, wrapping_sub,
+};
 use std::process::Abort;
 
 /// Creates an array of small integers.
@@ -34,6 +35,9 @@ fn slots_of_two_arrays_are_combined(rt: HostRuntime) {
     compare_answer!(add, "[-56 0 9 -5 127 _]", "111110");
     compare_answer!(sub, "[0 56 5 -9 -127 _]", "111110");
     compare_answer!(mul, "[16 -16 14 -14 -128 _]", "111110");
+    compare_answer!(wrapping_add, "[-56 0 9 -5 127 _]", "111110");
+    compare_answer!(wrapping_sub, "[0 56 5 -9 -127 _]", "111110");
+    compare_answer!(wrapping_mul, "[16 -16 14 -14 -128 _]", "111110");
     compare_answer!(checked_add, "[_ 0 9 -5 _ _]", "011100");
     compare_answer!(checked_sub, "[0 _ 5 -9 -127 _]", "101110");
     compare_answer!(checked_mul, "[_ _ 14 -14 _ _]", "001100");

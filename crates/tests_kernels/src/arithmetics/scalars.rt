@@ -1,12 +1,12 @@
 //! Arithmetic of an array and a value, and of an array alone.
 use crate::arrays::{check_numbers, stored_numbers};
-use arrow_arithmetics::basic::{
+use arrow_types::data_type::DataType;
+use compute_arithmetics::basic::{
     add_scalar, checked_add_scalar, checked_div_scalar, checked_mul_scalar, checked_negate,
     checked_rem_scalar, checked_sub_scalar, div_scalar, mul_scalar, negate, rem_scalar,
     saturating_add_scalar, saturating_mul_scalar, saturating_sub_scalar, sub_scalar,
-    wrapping_negate,
+    wrapping_add_scalar, wrapping_mul_scalar, wrapping_negate, wrapping_sub_scalar,
 };
-use arrow_types::data_type::DataType;
 
 const MASK: &str = "11011";
 
@@ -33,6 +33,9 @@ fn slots_are_combined_with_a_value(rt: HostRuntime) {
     compare_answer!(add_scalar(100), "[-56 0 _ 93 -28]", MASK);
     compare_answer!(sub_scalar(100), "[0 56 _ -107 28]", MASK);
     compare_answer!(mul_scalar(-2), "[56 -56 _ 14 0]", MASK);
+    compare_answer!(wrapping_add_scalar(100), "[-56 0 _ 93 -28]", MASK);
+    compare_answer!(wrapping_sub_scalar(100), "[0 56 _ -107 28]", MASK);
+    compare_answer!(wrapping_mul_scalar(-2), "[56 -56 _ 14 0]", MASK);
     compare_answer!(div_scalar(-1), "[-100 100 _ 7 -128]", MASK);
     compare_answer!(rem_scalar(3), "[1 -1 _ -1 -2]", MASK);
     compare_answer!(saturating_add_scalar(100), "[127 0 _ 93 -28]", MASK);

@@ -1,9 +1,9 @@
 //! Integers as decimal text.
 use crate::arrays::{Slots, check_mask, check_slots, check_value, numbers};
-use arrow_cast::{primitive_to_binary, primitive_to_utf8};
 use arrow_integers::NativeArithmetics;
 use arrow_types::data_type::DataType;
 use arrow_types::error::Error;
+use compute_cast::{primitive_to_binary, primitive_to_utf8};
 use std::process::Abort;
 use tests_support::{Text, Tiny};
 

@@ -1,10 +1,10 @@
 //! Integers of text.
 use crate::arrays::{Slots, check_mask, check_slots, check_value, items};
 use arrow_binary::BinaryArray;
-use arrow_cast::{binary_to_primitive, utf8_to_primitive};
 use arrow_integers::NativeArithmetics;
 use arrow_types::data_type::DataType;
 use arrow_utf8::Utf8Array;
+use compute_cast::{binary_to_primitive, utf8_to_primitive};
 use std::fmt::Debug;
 use std::process::Abort;
 use tests_support::Text;

@@ -1,24 +1,26 @@
 //! Comparisons of arrays of each kind, and of an array with a value.
 use crate::arrays::{check_booleans, items, numbers, stored_booleans};
 use arrow_binary::BinaryArray;
-use arrow_compute::comparison::equal::{EqualArray, EqualScalar};
-use arrow_compute::comparison::ordered::{OrderedArray, Scalar};
-use arrow_compute::comparison::{
-    eq, eq_and_validity, eq_scalar, gt, gt_eq, gt_eq_scalar, gt_scalar, lt, lt_eq, lt_eq_scalar,
-    lt_scalar, neq, neq_and_validity, neq_scalar,
-};
 use arrow_types::native_type::{NativeType, days_ms, i256, months_days_ns};
 use arrow_utf8::Utf8Array;
+use compute_comparison::comparison::equal::{EqualArray, EqualScalar};
+use compute_comparison::comparison::ordered::{OrderedArray, Scalar};
+use compute_comparison::comparison::{
+    eq, eq_and_validity, eq_scalar, eq_scalar_and_validity, gt, gt_eq, gt_eq_scalar, gt_scalar, lt,
+    lt_eq, lt_eq_scalar, lt_scalar, neq, neq_and_validity, neq_scalar, neq_scalar_and_validity,
+};
 use std::process::Abort;
 use tests_support::Text;
 
 /// The expected slots of `eq`, `neq`, `lt`, `lt_eq`, `gt` and `gt_eq`, and their mask.
 type Six = ([&'static str; 6], &'static str);
 
-/// What is expected of these six, and the slots of `eq_and_validity` and `neq_and_validity`.
+/// What is expected of these six, and the slots of `eq_and_validity` and `neq_and_validity`; or of the calls that take
+/// a value for the second array.
 type Eight = (Six, [&'static str; 2]);
 
-/// The expected slots of `eq` and `neq` and their mask, and those of `eq_and_validity` and `neq_and_validity`.
+/// The expected slots of `eq` and `neq` and their mask, and those of `eq_and_validity` and `neq_and_validity`; or of
+/// the calls that take a value.
 type Four = (([&'static str; 2], &'static str), [&'static str; 2]);
 
 /// Compares two arrays for equality, and so that nulls are equal to each other (`eq_and_validity`, `neq_and_validity`).
@@ -66,17 +68,38 @@ fn check_pairs<A: OrderedArray>(
     check_booleans(rt, row, "gt_eq", gt_eq(alloc, lhs, rhs), (*at_least, *mask));
 }
 
-/// Compares an array with a value for equality.
+/// Compares an array with a value for equality, and so that no null is equal to it (`eq_scalar_and_validity`,
+/// `neq_scalar_and_validity`).
 fn check_equality_scalar<A: EqualArray, S: EqualScalar<A>>(
     rt: &(impl Abort + AllocGlobal),
     row: &str,
     lhs: &A,
     rhs: S,
-    ([equal, unequal], mask): ([&str; 2], &str),
+    (([equal, unequal], mask), [same, differing]): &Four,
 ) {
     let alloc = rt.alloc();
-    check_booleans(rt, row, "eq", eq_scalar(alloc, lhs, rhs), (equal, mask));
-    check_booleans(rt, row, "neq", neq_scalar(alloc, lhs, rhs), (unequal, mask));
+    check_booleans(rt, row, "eq", eq_scalar(alloc, lhs, rhs), (*equal, *mask));
+    check_booleans(
+        rt,
+        row,
+        "neq",
+        neq_scalar(alloc, lhs, rhs),
+        (*unequal, *mask),
+    );
+    check_booleans(
+        rt,
+        row,
+        "eq_scalar_and_validity",
+        eq_scalar_and_validity(alloc, lhs, rhs),
+        (*same, "none"),
+    );
+    check_booleans(
+        rt,
+        row,
+        "neq_scalar_and_validity",
+        neq_scalar_and_validity(alloc, lhs, rhs),
+        (*differing, "none"),
+    );
 }
 
 /// Compares an array with a value in each way.
@@ -85,12 +108,12 @@ fn check_scalar<A: OrderedArray, S: Scalar<A>>(
     case: &str,
     lhs: &A,
     rhs: S,
-    ([equal, unequal, less, at_most, greater, at_least], mask): &Six,
+    (([equal, unequal, less, at_most, greater, at_least], mask), ends): &Eight,
 ) {
     let alloc = rt.alloc();
     let row = Text::of(format_args!("{case}, {}", lhs.data_type()));
     let row = row.as_str();
-    check_equality_scalar(rt, row, lhs, rhs, ([*equal, *unequal], *mask));
+    check_equality_scalar(rt, row, lhs, rhs, &(([*equal, *unequal], *mask), *ends));
     check_booleans(rt, row, "lt", lt_scalar(alloc, lhs, rhs), (*less, *mask));
     check_booleans(
         rt,
@@ -124,10 +147,9 @@ const OTHER_BYTES: &[Option<&[u8]>] = &[Some(b"ab"), Some(b"ab"), Some(b"\xff"),
 const NUMBERS: &Eight =
     &((["ftf___", "tft___", "tff___", "ttf___", "fft___", "ftt___"], "111000"), ["ftffft", "tftttf"]);
 
-const BY_TWO: &Six = &(
-    ["ftf_f_", "tft_t_", "tff_f_", "ttf_f_", "fft_t_", "ftt_t_"],
-    "111010",
-);
+#[rattlefmt::skip]
+const BY_TWO: &Eight =
+    &((["ftf_f_", "tft_t_", "tff_f_", "ttf_f_", "fft_t_", "ftt_t_"], "111010"), ["ftffff", "tftttt"]);
 
 /// What comparisons make of false, false, true and true, and of false, true, false and true; and with a mask of either.
 const BOOLEANS: &Eight = &(
@@ -135,9 +157,15 @@ const BOOLEANS: &Eight = &(
     ["tfft", "fttf"],
 );
 
-const BY_TRUE: &Six = &(["fftt", "ttff", "ttff", "tttt", "ffff", "fftt"], "none");
+const BY_TRUE: &Eight = &(
+    (["fftt", "ttff", "ttff", "tttt", "ffff", "fftt"], "none"),
+    ["fftt", "ttff"],
+);
 
-const BY_FALSE: &Six = &(["ttff", "fftt", "ffff", "ttff", "fftt", "tttt"], "none");
+const BY_FALSE: &Eight = &(
+    (["ttff", "fftt", "ffff", "ttff", "fftt", "tttt"], "none"),
+    ["ttff", "fftt"],
+);
 
 const SECOND_MASKED: &Eight = &(
     (["_ff_", "_tt_", "_tf_", "_tf_", "_ft_", "_ft_"], "0110"),
@@ -158,15 +186,20 @@ const BYTES_BY_BYTES: &Eight = &(
     ["fftft", "ttftf"],
 );
 
-const BY_BYTE: &Six = &(
-    ["fftf_", "ttft_", "ttft_", "tttt_", "ffff_", "fftf_"],
-    "11110",
+const BY_BYTE: &Eight = &(
+    (
+        ["fftf_", "ttft_", "ttft_", "tttt_", "ffff_", "fftf_"],
+        "11110",
+    ),
+    ["fftff", "ttftt"],
 );
 
 /// What comparisons make of "Z", "é", a null and "a", and of "a", "z", a null and "a" or of "a" alone.
-const TEXTS: &Eight = &(BY_LETTER, ["fftt", "ttff"]);
+const TEXTS: &Eight = &(LETTERS, ["fftt", "ttff"]);
 
-const BY_LETTER: Six = (["ff_t", "tt_f", "tf_f", "tf_t", "ft_f", "ft_t"], "1101");
+const BY_LETTER: &Eight = &(LETTERS, ["ffft", "tttf"]);
+
+const LETTERS: Six = (["ff_t", "tt_f", "tf_f", "tf_t", "ft_f", "ft_t"], "1101");
 
 #[test]
 fn arrays_are_compared(rt: HostRuntime) {
@@ -206,7 +239,7 @@ fn arrays_are_compared(rt: HostRuntime) {
     let rhs: Utf8Array<i32> = items(&rt, &[Some("a"), Some("z"), None, Some("a")]);
     check_pairs(&rt, "text is compared by its bytes", (&lhs, &rhs), TEXTS);
     drop(rhs);
-    check_scalar(&rt, "a letter", &lhs, "a", &BY_LETTER);
+    check_scalar(&rt, "a letter", &lhs, "a", BY_LETTER);
     drop(lhs);
 }
 
@@ -216,7 +249,7 @@ fn check_parts<T: NativeType>(
     rt: &(impl Abort + AllocGlobal),
     (first, others): (T, &[T]),
     expected: &Four,
-    scalar: ([&str; 2], &str),
+    scalar: &Four,
 ) {
     let alloc = rt.alloc();
     let row = Text::of(format_args!("values of several parts: {:?}", T::PRIMITIVE));
@@ -246,11 +279,12 @@ fn check_parts<T: NativeType>(
 #[test]
 fn values_of_several_parts_are_compared_for_equality(rt: HostRuntime) {
     let three: &Four = &((["tff___", "ftt___"], "111000"), ["tfffft", "fttttf"]);
+    let by_first: &Four = &((["tff_t_", "ftt_f_"], "111010"), ["tffftf", "ftttft"]);
     check_parts(
         &rt,
         (i256(-1, 2), &[i256(-1, 2), i256(1, 2), i256(-1, 3)]),
         three,
-        (["tff_t_", "ftt_f_"], "111010"),
+        by_first,
     );
     check_parts(
         &rt,
@@ -259,7 +293,7 @@ fn values_of_several_parts_are_compared_for_equality(rt: HostRuntime) {
             &[days_ms(7, -8), days_ms(8, -8), days_ms(7, 8)],
         ),
         three,
-        (["tff_t_", "ftt_f_"], "111010"),
+        by_first,
     );
     check_parts(
         &rt,
@@ -273,6 +307,6 @@ fn values_of_several_parts_are_compared_for_equality(rt: HostRuntime) {
             ],
         ),
         &((["tfff___", "fttt___"], "1111000"), ["tffffft", "ftttttf"]),
-        (["tfff_t_", "fttt_f_"], "1111010"),
+        &((["tfff_t_", "fttt_f_"], "1111010"), ["tfffftf", "fttttft"]),
     );
 }

@@ -1,6 +1,6 @@
 //! Logic of booleans in which a null stays null, and three-valued logic.
 use crate::arrays::{Booleans, check_booleans, check_value, numbers, row, stored_booleans};
-use arrow_compute::{boolean, boolean_kleene};
+use compute_comparison::{boolean, boolean_kleene};
 
 /// A name, two arrays, and their results: of `and` and `or`, of three-valued `and` and `or`, and the
 /// mask of the first two.
@@ -29,6 +29,72 @@ const CASES: &[Case] = &[
     ("the second's mask", ("0101", "none"), ("1111", "0011"), ["__ft", "__tt", "f_ft", "_ttt"], "0011",
         ["1011", "0111"]),
 ];
+
+/// A name, an array, a slot, and what `and_scalar` and `or_scalar` make of them, and these of three-valued logic: slots
+/// and masks.
+type ScalarCase = (
+    &'static str,
+    Booleans,
+    Option<bool>,
+    [&'static str; 4],
+    [&'static str; 4],
+);
+
+/// True, false and a null, which stores true.
+const THREE: Booleans = ("101", "110");
+
+const TWO: Booleans = ("01", "none");
+
+#[rattlefmt::skip]
+const SCALARS: &[ScalarCase] = &[
+    ("no slot, null", ("", "none"), None, ["", "", "", ""], ["", "", "", ""]),
+    ("no slot, true", ("", "none"), Some(true), ["", "", "", ""], ["none", "none", "none", "none"]),
+    ("all three, true", THREE, Some(true), ["tf_", "tt_", "tf_", "ttt"], ["110", "110", "110", "none"]),
+    ("all three, false", THREE, Some(false), ["ff_", "tf_", "fff", "tf_"], ["110", "110", "none", "110"]),
+    ("all three, null", THREE, None, ["___", "___", "_f_", "t__"], ["000", "000", "010", "100"]),
+    ("no mask, true", TWO, Some(true), ["ft", "tt", "ft", "tt"], ["none", "none", "none", "none"]),
+    ("no mask, false", TWO, Some(false), ["ff", "ft", "ff", "ft"], ["none", "none", "none", "none"]),
+    ("no mask, null", TWO, None, ["__", "__", "f_", "_t"], ["00", "00", "10", "01"]),
+];
+
+#[test]
+fn booleans_are_combined_with_one_slot(rt: HostRuntime) {
+    let alloc = rt.alloc();
+    for (index, (case, stored, scalar, slots, masks)) in SCALARS.iter().enumerate() {
+        let row = row("an array and a slot are combined", "Boolean", index, *case);
+        let row = row.as_str();
+        let array = stored_booleans(&rt, *stored);
+        check_booleans(
+            &rt,
+            row,
+            "and",
+            boolean::and_scalar(alloc, &array, *scalar),
+            (slots[0], masks[0]),
+        );
+        check_booleans(
+            &rt,
+            row,
+            "or",
+            boolean::or_scalar(alloc, &array, *scalar),
+            (slots[1], masks[1]),
+        );
+        check_booleans(
+            &rt,
+            row,
+            "three-valued and",
+            boolean_kleene::and_scalar(alloc, &array, *scalar),
+            (slots[2], masks[2]),
+        );
+        check_booleans(
+            &rt,
+            row,
+            "three-valued or",
+            boolean_kleene::or_scalar(alloc, &array, *scalar),
+            (slots[3], masks[3]),
+        );
+        drop(array);
+    }
+}
 
 /// A name, an array, its opposites, `any` and `all`, and these in three-valued logic.
 type One = (

@@ -1,9 +1,11 @@
 //! More than 64 slots, whose marks and values begin within a byte.
 use crate::arrays::{check_booleans, numbers, stored_booleans};
 use arrow_boolean::BooleanArray;
-use arrow_compute::comparison::{eq, eq_and_validity, eq_scalar, lt, lt_scalar};
-use arrow_compute::{boolean, boolean_kleene};
 use arrow_types::error::Error;
+use compute_comparison::comparison::{
+    eq, eq_and_validity, eq_scalar, lt, lt_scalar, neq_scalar_and_validity,
+};
+use compute_comparison::{boolean, boolean_kleene};
 use std::process::Abort;
 use tests_support::Text;
 
@@ -59,6 +61,32 @@ const NUMBERS: &[Option<i16>; 4] = &[Some(5), None, Some(7), Some(-1)];
 
 /// Lengths of one word, of one and a piece, and of two and a piece.
 const LENGTHS: &[usize] = &[64, 67, 131];
+
+#[test]
+fn booleans_and_one_slot_are_read_64_at_a_time(rt: HostRuntime) {
+    let alloc = rt.alloc();
+    for length in LENGTHS {
+        let len = *length;
+        // Slots t f f null.
+        let array = cut_bools(&rt, &["0", "0", "1", "1"], &["1", "1", "0", "1"], (3, len));
+        let test = ("booleans and one slot are read 64 at a time", len);
+        check_booleans(
+            &rt,
+            Text::of(format_args!("{}: {len} slots", test.0)).as_str(),
+            "unlike true",
+            neq_scalar_and_validity(alloc, &array, true),
+            (cycle(&["f", "t", "t", "t"], len).as_str(), "none"),
+        );
+        check_cycle(
+            &rt,
+            test,
+            "known and a null",
+            boolean_kleene::and_scalar(alloc, &array, None),
+            (&["_", "f", "f", "_"], &["0", "1", "1", "0"]),
+        );
+        drop(array);
+    }
+}
 
 #[test]
 fn booleans_and_numbers_are_read_64_at_a_time(rt: HostRuntime) {

@@ -3,12 +3,12 @@ use crate::arrays::{
     booleans, check_booleans, check_bytes, check_numbers, check_texts, items, numbers,
 };
 use arrow_binary::BinaryArray;
-use arrow_select::if_then_else::{
-    if_then_else_binary, if_then_else_boolean, if_then_else_primitive, if_then_else_utf8,
-};
-use arrow_select::nullif::{nullif_binary, nullif_boolean, nullif_primitive, nullif_utf8};
 use arrow_types::data_type::DataType;
 use arrow_utf8::Utf8Array;
+use compute_select::if_then_else::{
+    if_then_else_binary, if_then_else_boolean, if_then_else_primitive, if_then_else_utf8,
+};
+use compute_select::nullif::{nullif_binary, nullif_boolean, nullif_primitive, nullif_utf8};
 
 #[test]
 fn numbers_and_booleans_are_chosen(rt: HostRuntime) {

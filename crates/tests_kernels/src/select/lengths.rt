@@ -1,9 +1,9 @@
 //! Lengths of bytes and text, and concatenations of borrowed arrays.
 use crate::arrays::{booleans, check_booleans, check_numbers, check_texts, items, numbers};
-use arrow_select::concatenate::{concatenate_boolean, concatenate_items, concatenate_primitive};
-use arrow_select::length::length;
 use arrow_types::data_type::DataType;
 use arrow_utf8::Utf8Array;
+use compute_select::concatenate::{concatenate_boolean, concatenate_items, concatenate_primitive};
+use compute_select::length::length;
 
 #[test]
 fn lengths_are_those_of_bytes(rt: HostRuntime) {

@@ -1,7 +1,7 @@
 //! What `nullif` shares with its first array. What is shared is not thawed.
 use crate::arrays::{booleans, check_value, items, numbers};
-use arrow_select::nullif::{nullif_boolean, nullif_primitive, nullif_utf8};
 use arrow_utf8::Utf8Array;
+use compute_select::nullif::{nullif_boolean, nullif_primitive, nullif_utf8};
 use tests_support::assert_text;
 
 #[test]

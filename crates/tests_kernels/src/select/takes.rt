@@ -4,10 +4,10 @@ use crate::arrays::{
     check_value, items, numbers, row, stored_numbers,
 };
 use arrow_binary::BinaryArray;
-use arrow_select::take::{take_binary, take_boolean, take_primitive, take_utf8};
 use arrow_types::data_type::DataType;
 use arrow_types::error::Error;
 use arrow_utf8::Utf8Array;
+use compute_select::take::{take_binary, take_boolean, take_primitive, take_utf8};
 use tests_support::Tiny;
 
 /// A name, the stored values and marks of keys, and the slots and marks that they take of a ten, a

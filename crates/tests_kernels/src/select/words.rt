@@ -2,9 +2,9 @@
 use crate::arrays::{booleans, check_value, numbers};
 use arrow_boolean::BooleanArray;
 use arrow_primitive::PrimitiveArray;
-use arrow_select::if_then_else::{if_then_else_boolean, if_then_else_primitive};
-use arrow_select::nullif::{nullif_boolean, nullif_primitive};
-use arrow_select::take::{take_boolean, take_primitive};
+use compute_select::if_then_else::{if_then_else_boolean, if_then_else_primitive};
+use compute_select::nullif::{nullif_boolean, nullif_primitive};
+use compute_select::take::{take_boolean, take_primitive};
 use std::process::Abort;
 use tests_support::Text;
 

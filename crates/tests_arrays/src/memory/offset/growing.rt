@@ -63,7 +63,7 @@ fn check_slots<O: Offset>(rt: &(impl Abort + AllocGlobal)) {
     assert_text::value((name, copy.len_proxy()), (name, 3)).expect(rt, "a clone of frozen offsets");
     assert!(rt; copy.len_proxy() == 3 && copy.last().to_usize() <= 20);
     let mut values = Vec::new(rt.alloc());
-    let answer = offsets.try_extend_slots(&mut values, &copy, b"a slot of 20 letters", 1, 2);
+    let answer = offsets.try_extend_slots(&mut values, &copy, b"a slot of 20 letters", 1..3);
     drop(copy);
     answer.expect(rt, "room for 60");
     let ends = [offsets.last().to_usize(), offsets.len_proxy(), values.len()];
