@@ -268,11 +268,17 @@ static uint64_t seed;
     LINE(cmp_lt_scalar_null10, 8 * n + MASK, MASK, cmp_lt_scalar(VALUES, NULLS, rounds))                               \
     LINE(cmp_eq, 16 * n, MASK, cmp_eq(FEW_VALUES, OTHER_FEW, ALL_VALID, rounds))                                       \
     LINE(cmp_eq_null10, 16 * n + MASK, MASK, cmp_eq(FEW_VALUES, OTHER_FEW, NULLS, rounds))                             \
+    LINE(cmp_eq_validity, 16 * n, MASK, cmp_eq_validity(FEW_VALUES, OTHER_FEW, ALL_VALID, rounds))                     \
+    LINE(cmp_eq_validity_null10, 16 * n + MASK, MASK, cmp_eq_validity(FEW_VALUES, OTHER_FEW, NULLS, rounds))           \
+    LINE(cmp_eq_scalar_validity, 8 * n, MASK, cmp_eq_scalar_validity(FEW_VALUES, ALL_VALID, rounds))                   \
+    LINE(cmp_eq_scalar_validity_null10, 8 * n + MASK, MASK, cmp_eq_scalar_validity(FEW_VALUES, NULLS, rounds))         \
     LINE(cmp_eq_utf8_12, 2 * ITEM * n + 8 * (n + 1), MASK, cmp_eq_utf8(ITEMS, HALF_EQUAL, ENDS, rounds))               \
     LINE(logic_and, 2 * MASK, MASK, logic_and(BITS, OTHER_BITS, ALL_VALID, rounds))                                    \
     LINE(logic_and_null10, 3 * MASK, MASK, logic_and(BITS, OTHER_BITS, NULLS, rounds))                                 \
     LINE(kleene_and, 2 * MASK, MASK, kleene_and(BITS, OTHER_BITS, ALL_VALID, rounds))                                  \
     LINE(kleene_and_null10, 3 * MASK, 2 * MASK, kleene_and(BITS, OTHER_BITS, NULLS, rounds))                           \
+    LINE(kleene_and_null, MASK, MASK, kleene_and_null(BITS, ALL_VALID, rounds))                                        \
+    LINE(kleene_and_null_null10, 2 * MASK, MASK, kleene_and_null(BITS, NULLS, rounds))                                 \
     LINE(arith_add_i64, 16 * n, 8 * n, arith_add_i64(VALUES, OTHERS, ALL_VALID, rounds))                               \
     LINE(arith_add_i64_null10, 16 * n + MASK, 8 * n, arith_add_i64(VALUES, OTHERS, NULLS, rounds))                     \
     LINE(arith_checked_add_i64, 16 * n, 8 * n + MASK, arith_checked_add_i64(VALUES, OTHERS, ALL_VALID, rounds))        \

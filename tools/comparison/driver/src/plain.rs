@@ -114,6 +114,27 @@ pub fn eq(lhs: &[i64], rhs: &[i64], mask: &Mask) -> (Marks, Mask) {
     (Marks::new(test_pairs(lhs, rhs, |x, y| x == y), lhs.len()), mask.clone())
 }
 
+/// Marks that are clear where a slot is null.
+#[inline(always)]
+fn set_in_valid(words: Vec<u64>, mask: &Mask, len: usize) -> (Marks, Mask) {
+    let words = match mask {
+        Some(mask) => zip_words(&words, &mask.words, |x, valid| x & valid),
+        None => words,
+    };
+    (Marks::new(words, len), None)
+}
+
+/// Whether two slots are equal, of which the second is not null.
+#[inline(never)]
+pub fn eq_validity(lhs: &[i64], rhs: &[i64], mask: &Mask) -> (Marks, Mask) {
+    set_in_valid(test_pairs(lhs, rhs, |x, y| x == y), mask, lhs.len())
+}
+
+#[inline(never)]
+pub fn eq_scalar_validity(lhs: &[i64], rhs: i64, mask: &Mask) -> (Marks, Mask) {
+    set_in_valid(test_each(lhs, |x| x == rhs), mask, lhs.len())
+}
+
 /// Texts: bytes and one more offset than there are texts.
 #[derive(Clone, Copy)]
 pub struct Texts<'a> {
@@ -163,6 +184,19 @@ pub fn kleene_and(lhs: &Marks, rhs: &Marks, mask: &Mask, len: usize) -> (Marks, 
         known[len / 64] &= (1 << (len % 64)) - 1;
     }
     (Marks::new(values, len), Some(Rc::new(Marks::new(known, len))))
+}
+
+/// Which results of `and` of three-valued logic with a null are known: those of slots that are false.
+#[inline(never)]
+pub fn kleene_and_null(lhs: &Marks, mask: &Mask, len: usize) -> Mask {
+    let mut known: Vec<u64> = match mask {
+        Some(mask) => zip_words(&mask.words, &lhs.words, |valid, x| valid & !x),
+        None => lhs.words.iter().map(|x| !x).collect(),
+    };
+    if len % 64 != 0 {
+        known[len / 64] &= (1 << (len % 64)) - 1;
+    }
+    Some(Rc::new(Marks::new(known, len)))
 }
 
 // ---- arithmetic and casts
@@ -583,10 +617,14 @@ pub fn compare<'a>(
     })
 }
 
-pub fn compare_zero<'a>(values: &'a [i64], valid: &[u8]) -> Operation<'a> {
+pub fn compare_zero<'a>(
+    kernel: fn(&[i64], i64, &Mask) -> (Marks, Mask),
+    values: &'a [i64],
+    valid: &[u8],
+) -> Operation<'a> {
     let mask = packed(valid);
     Box::new(move |round| {
-        let (marks, mask) = lt_scalar(black_box(values), 0, &mask);
+        let (marks, mask) = kernel(black_box(values), 0, &mask);
         probe(values.len(), &mask, round, |at| marks.is_set(at) as u64)
     })
 }
@@ -610,6 +648,14 @@ pub fn combine_marks<'a>(
     Box::new(move |round| {
         let (marks, mask) = kernel(black_box(&lhs), &rhs, &mask, rows);
         probe(rows, &mask, round, |at| marks.is_set(at) as u64)
+    })
+}
+
+pub fn combine_marks_with_null<'a>(bits: &[u8], valid: &[u8]) -> Operation<'a> {
+    let (values, mask, rows) = (marks_of(bits), packed(valid), bits.len());
+    Box::new(move |round| {
+        let mask = kleene_and_null(black_box(&values), &mask, rows);
+        probe(rows, &mask, round, |at| values.is_set(at) as u64)
     })
 }
 

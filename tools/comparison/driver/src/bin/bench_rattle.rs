@@ -55,9 +55,12 @@ mod library {
         pub fn rattle_flat_cmp_lt(v: *const i64, nv: usize, w: *const i64, nw: usize, m: *const u8, nm: usize, rounds: usize) -> u64;
         pub fn rattle_flat_cmp_eq(v: *const i64, nv: usize, w: *const i64, nw: usize, m: *const u8, nm: usize, rounds: usize) -> u64;
         pub fn rattle_flat_cmp_lt_scalar(v: *const i64, nv: usize, m: *const u8, nm: usize, rounds: usize) -> u64;
+        pub fn rattle_flat_cmp_eq_validity(v: *const i64, nv: usize, w: *const i64, nw: usize, m: *const u8, nm: usize, rounds: usize) -> u64;
+        pub fn rattle_flat_cmp_eq_scalar_validity(v: *const i64, nv: usize, m: *const u8, nm: usize, rounds: usize) -> u64;
         pub fn rattle_flat_cmp_eq_utf8(d: *const u8, nd: usize, e: *const u8, ne: usize, o: *const i32, no: usize, rounds: usize) -> u64;
         pub fn rattle_flat_logic_and(b: *const u8, nb: usize, c: *const u8, nc: usize, m: *const u8, nm: usize, rounds: usize) -> u64;
         pub fn rattle_flat_kleene_and(b: *const u8, nb: usize, c: *const u8, nc: usize, m: *const u8, nm: usize, rounds: usize) -> u64;
+        pub fn rattle_flat_kleene_and_null(b: *const u8, nb: usize, m: *const u8, nm: usize, rounds: usize) -> u64;
         pub fn rattle_flat_arith_add_i64(v: *const i64, nv: usize, w: *const i64, nw: usize, m: *const u8, nm: usize, rounds: usize) -> u64;
         pub fn rattle_flat_arith_checked_add_i64(v: *const i64, nv: usize, w: *const i64, nw: usize, m: *const u8, nm: usize, rounds: usize) -> u64;
         pub fn rattle_flat_arith_mul_i64(v: *const i64, nv: usize, w: *const i64, nw: usize, m: *const u8, nm: usize, rounds: usize) -> u64;
@@ -158,10 +161,13 @@ mod stub {
         rattle_flat_bits_set(p: *const u8, np: usize) ops::bits_set(list(p, np));
         rattle_flat_cmp_lt(v: *const i64, nv: usize, w: *const i64, nw: usize, m: *const u8, nm: usize) plain::compare(plain::lt, list(v, nv), list(w, nw), list(m, nm));
         rattle_flat_cmp_eq(v: *const i64, nv: usize, w: *const i64, nw: usize, m: *const u8, nm: usize) plain::compare(plain::eq, list(v, nv), list(w, nw), list(m, nm));
-        rattle_flat_cmp_lt_scalar(v: *const i64, nv: usize, m: *const u8, nm: usize) plain::compare_zero(list(v, nv), list(m, nm));
+        rattle_flat_cmp_lt_scalar(v: *const i64, nv: usize, m: *const u8, nm: usize) plain::compare_zero(plain::lt_scalar, list(v, nv), list(m, nm));
+        rattle_flat_cmp_eq_validity(v: *const i64, nv: usize, w: *const i64, nw: usize, m: *const u8, nm: usize) plain::compare(plain::eq_validity, list(v, nv), list(w, nw), list(m, nm));
+        rattle_flat_cmp_eq_scalar_validity(v: *const i64, nv: usize, m: *const u8, nm: usize) plain::compare_zero(plain::eq_scalar_validity, list(v, nv), list(m, nm));
         rattle_flat_cmp_eq_utf8(d: *const u8, nd: usize, e: *const u8, ne: usize, o: *const i32, no: usize) plain::compare_texts(list(d, nd), list(e, ne), list(o, no));
         rattle_flat_logic_and(b: *const u8, nb: usize, c: *const u8, nc: usize, m: *const u8, nm: usize) plain::combine_marks(plain::and, list(b, nb), list(c, nc), list(m, nm));
         rattle_flat_kleene_and(b: *const u8, nb: usize, c: *const u8, nc: usize, m: *const u8, nm: usize) plain::combine_marks(plain::kleene_and, list(b, nb), list(c, nc), list(m, nm));
+        rattle_flat_kleene_and_null(b: *const u8, nb: usize, m: *const u8, nm: usize) plain::combine_marks_with_null(list(b, nb), list(m, nm));
         rattle_flat_arith_add_i64(v: *const i64, nv: usize, w: *const i64, nw: usize, m: *const u8, nm: usize) plain::combine(plain::add, list(v, nv), list(w, nw), list(m, nm));
         rattle_flat_arith_checked_add_i64(v: *const i64, nv: usize, w: *const i64, nw: usize, m: *const u8, nm: usize) plain::combine(plain::checked_add, list(v, nv), list(w, nw), list(m, nm));
         rattle_flat_arith_mul_i64(v: *const i64, nv: usize, w: *const i64, nw: usize, m: *const u8, nm: usize) plain::combine(plain::mul, list(v, nv), list(w, nw), list(m, nm));
@@ -562,17 +568,26 @@ fn main() {
             plain::compare(plain::lt, small, values, m),
             |r| rattle_flat_cmp_lt(small.as_ptr(), small.len(), values.as_ptr(), values.len(), m.as_ptr(), m.len(), r));
         side!(out, have_cmp_lt_scalar, format!("cmp_lt_scalar_{word}"), Unit::Item(C), true,
-            plain::compare_zero(values, m),
+            plain::compare_zero(plain::lt_scalar, values, m),
             |r| rattle_flat_cmp_lt_scalar(values.as_ptr(), values.len(), m.as_ptr(), m.len(), r));
         side!(out, have_cmp_eq, format!("cmp_eq_{word}"), Unit::Item(C), true,
             plain::compare(plain::eq, few, other_few, m),
             |r| rattle_flat_cmp_eq(few.as_ptr(), few.len(), other_few.as_ptr(), other_few.len(), m.as_ptr(), m.len(), r));
+        side!(out, have_cmp_eq_validity, format!("cmp_eq_validity_{word}"), Unit::Item(C), true,
+            plain::compare(plain::eq_validity, few, other_few, m),
+            |r| rattle_flat_cmp_eq_validity(few.as_ptr(), few.len(), other_few.as_ptr(), other_few.len(), m.as_ptr(), m.len(), r));
+        side!(out, have_cmp_eq_scalar_validity, format!("cmp_eq_scalar_validity_{word}"), Unit::Item(C), true,
+            plain::compare_zero(plain::eq_scalar_validity, few, m),
+            |r| rattle_flat_cmp_eq_scalar_validity(few.as_ptr(), few.len(), m.as_ptr(), m.len(), r));
         side!(out, have_logic_and, format!("logic_and_{word}"), Unit::Item(C), true,
             plain::combine_marks(plain::and, bits, other_bits, m),
             |r| rattle_flat_logic_and(bits.as_ptr(), bits.len(), other_bits.as_ptr(), other_bits.len(), m.as_ptr(), m.len(), r));
         side!(out, have_kleene_and, format!("kleene_and_{word}"), Unit::Item(C), true,
             plain::combine_marks(plain::kleene_and, bits, other_bits, m),
             |r| rattle_flat_kleene_and(bits.as_ptr(), bits.len(), other_bits.as_ptr(), other_bits.len(), m.as_ptr(), m.len(), r));
+        side!(out, have_kleene_and_null, format!("kleene_and_null_{word}"), Unit::Item(C), true,
+            plain::combine_marks_with_null(bits, m),
+            |r| rattle_flat_kleene_and_null(bits.as_ptr(), bits.len(), m.as_ptr(), m.len(), r));
         side!(out, have_arith_add_i64, format!("arith_add_i64_{word}"), Unit::Item(C), true,
             plain::combine(plain::add, values, others, m),
             |r| rattle_flat_arith_add_i64(values.as_ptr(), values.len(), others.as_ptr(), others.len(), m.as_ptr(), m.len(), r));
