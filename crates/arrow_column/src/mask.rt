@@ -27,7 +27,7 @@ pub trait Mask: StoredValues<Stored = bool> + PartialEq {
     fn unset_bits(&self) -> usize
         ensures { result ≡ count_by not (Self.stored self.now) };
 
-    /// Where there is no mask, there are no marks.
+    /// `None` has no marks.
     ghost no_mask: { mask None ≡ None };
 
     /// The marks of a mask are those of the bitmap.

@@ -47,7 +47,7 @@ impl Groups {
         self.first.len()
     }
 
-    /// Returns whether there is no group, that is, whether there is no slot.
+    /// Returns `true` if there are no groups, which is so exactly if there are no slots.
     #[inline(always)]
     pub fn is_empty(&self) -> bool
         ensures { result ≡ (length self.now.first == 0) }
