@@ -1,7 +1,6 @@
 //! Results of operations on two arrays, and on an array and one right side for all of its slots: a value, or none.
 ghost use Rattle.std.specs.Prelude.{◌≡◌, IfOk, length, map};
 ghost use Rattle.arrow_types.specs.Failures.{OnlyOutOfMemory};
-ghost use Rattle.compute_base.specs.Slots.{stored_of, valid_of};
 ghost use Rattle.compute_arithmetics.specs.Arithmetic.{CombinesValues, CombinesValuesIf, MapsValues, MapsValuesIf};
 ghost use Rattle.compute_arithmetics.specs.Arithmetic.{of_pairs};
 
@@ -12,7 +11,7 @@ use arrow_primitive::PrimitiveArray;
 use arrow_types::error::Error;
 use compute_base::masks::{clone_mask, mask_of_both};
 use compute_base::slots::{SlotParts, SlotSource, collect_slots};
-use std::alloc::{AllocError, Global};
+use std::alloc::Global;
 use std::marker::PhantomData;
 
 /// Returns the results of the operation on the values at each index.
@@ -127,21 +126,6 @@ impl<'a, T: NativeArithmetics, R: Copy, O: CheckedOperation<T, R>> SlotSource<T>
     }
 }
 
-/// Returns what all slots store, and their marks, as [`collect_slots`] does. The error has no contents: a call whose
-/// signature names `'static` takes no source that borrows.
-fn collect_parts<T: NativeArithmetics, S: SlotSource<T>>(
-    alloc: Global,
-    source: &S,
-) -> Result<SlotParts<T>, AllocError>
-    ensures values { IfOk result (λ made. made.values.items ≡ stored_of T.zero (S.slots source.now)) }
-    ensures marks { IfOk result (λ made. made.marks ≡ valid_of (S.slots source.now)) }
-{
-    match collect_slots(alloc, source) {
-        Ok(parts) => Ok(parts),
-        Err(_) => Err(AllocError),
-    }
-}
-
 /// Returns the results of the checked operation on the slots at each index of two arrays of equal
 /// length.
 pub(crate) fn combine_checked<T: NativeArithmetics, O: CheckedOperation<T, T>>(
@@ -159,7 +143,8 @@ pub(crate) fn combine_checked<T: NativeArithmetics, O: CheckedOperation<T, T>>(
         rhs: second,
         operation: PhantomData::<O>,
     };
-    let SlotParts { values, marks } = collect_parts::<T, _>(alloc, &source)?;
+    let SlotParts { values, marks } = collect_slots::<T, _>(alloc, &source)?;
+    let marks = marks.freeze()?;
     let values = Buffer::from_vec(values)?;
     let both = mask_of_both(alloc, lhs.validity(), rhs.validity())?;
     let validity = mask_of_both(alloc, both.as_ref(), Some(&marks))?;
@@ -180,7 +165,8 @@ pub(crate) fn combine_checked_scalar<T: NativeArithmetics, R: Copy, O: CheckedOp
         rhs,
         operation: PhantomData::<O>,
     };
-    let SlotParts { values, marks } = collect_parts::<T, _>(alloc, &source)?;
+    let SlotParts { values, marks } = collect_slots::<T, _>(alloc, &source)?;
+    let marks = marks.freeze()?;
     let values = Buffer::from_vec(values)?;
     let validity = mask_of_both(alloc, lhs.validity(), Some(&marks))?;
     Ok(PrimitiveArray::new(lhs.data_type().clone()?, values, validity))

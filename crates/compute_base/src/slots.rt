@@ -1,15 +1,13 @@
 //! Slots that are computed at each index: what they store, and their marks, 64 at a time.
 ghost use Rattle.std.specs.Prelude.{◌≡◌, ◌+◌, ◌^◌, ◌<◌, ◌≤◌, IfOk, List, Option, Some, length, slice_get, take};
 ghost use Rattle.std.specs.Vec.{vec_capacity};
-ghost use Rattle.arrow_types.specs.Failures.{OnlyOutOfMemory};
 ghost use Rattle.compute_base.specs.Slots.{stored_of, valid_of};
 ghost use Rattle.compute_base.specs.Words.{HoldsMarks};
 
 use crate::words::push_word;
-use arrow_memory::bitmap::{Bitmap, MutableBitmap};
-use arrow_types::error::Error;
+use arrow_memory::bitmap::MutableBitmap;
 use arrow_types::native_type::NativeType;
-use std::alloc::Global;
+use std::alloc::{AllocError, Global};
 
 /// Slots that can be computed at each index.
 pub trait SlotSource<T> {
@@ -30,7 +28,7 @@ pub trait SlotSource<T> {
 #[derive(Drop)]
 pub struct SlotParts<T: NativeType> {
     pub values: Vec<T>,
-    pub marks: Bitmap,
+    pub marks: MutableBitmap,
 }
 
 /// Appends what `count` slots from `place` on store, at most 64, behind what those before them store, and returns their
@@ -61,13 +59,17 @@ fn push_slots<T: NativeType, S: SlotSource<T>>(
 }
 
 /// Returns what all slots store, and their marks, in one pass over them.
+///
+/// # Errors
+/// If an allocation fails.
+// The marks are not frozen here: freezing fails with an `Error`, which may hold a `'static` text, and a function that
+// returns one can't be given a source that borrows.
 pub fn collect_slots<T: NativeType, S: SlotSource<T>>(
     alloc: Global,
     source: &S,
-) -> Result<SlotParts<T>, Error>
+) -> Result<SlotParts<T>, AllocError>
     ensures values { IfOk result (λ made. made.values.items ≡ stored_of T.zero (S.slots source.now)) }
     ensures marks { IfOk result (λ made. made.marks ≡ valid_of (S.slots source.now)) }
-    ensures err { OnlyOutOfMemory result }
 {
     let len = source.len();
     let words = len / 64;
@@ -80,6 +82,6 @@ pub fn collect_slots<T: NativeType, S: SlotSource<T>>(
     let place = 64 * words;
     let last = push_slots::<T, S>(&mut values, source, place, len - place);
     push_word(&mut bytes, last)?;
-    let marks = MutableBitmap::from_bytes(bytes, len).freeze()?;
+    let marks = MutableBitmap::from_bytes(bytes, len);
     Ok(SlotParts { values, marks })
 }

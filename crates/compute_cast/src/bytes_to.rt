@@ -4,7 +4,6 @@ ghost use Rattle.arrow_types.specs.Failures.{OnlyOutOfMemory};
 ghost use Rattle.arrow_types.specs.Types.{IsRightType, logical_type};
 ghost use Rattle.arrow_types.specs.declared.physical_type.PhysicalType.TheVariants as PhysicalType;
 ghost use Rattle.arrow_column.specs.Column.{slots_of};
-ghost use Rattle.compute_base.specs.Slots.{stored_of, valid_of};
 ghost use Rattle.compute_cast.specs.Decimals.{array_of_texts, value_of_slot};
 
 use crate::number::parse_value;
@@ -21,7 +20,7 @@ use arrow_types::physical_type::PhysicalType;
 use arrow_utf8::Utf8Array;
 use compute_base::masks::needed_mask;
 use compute_base::slots::{SlotParts, SlotSource, collect_slots};
-use std::alloc::{AllocError, Global};
+use std::alloc::Global;
 use std::marker::PhantomData;
 
 /// Parses the slot at `i`: returns its value, or `None` if it is null or not a number of the type.
@@ -65,21 +64,6 @@ impl<'a, K: ByteKind, O: Offset, T: NativeArithmetics> SlotSource<T> for ParsedS
     }
 }
 
-/// Returns what all slots store, and their marks, as [`collect_slots`] does. The error has no contents: a call whose
-/// signature names `'static` takes no source that borrows.
-fn collect_parts<T: NativeArithmetics, S: SlotSource<T>>(
-    alloc: Global,
-    source: &S,
-) -> Result<SlotParts<T>, AllocError>
-    ensures values { IfOk result (λ made. made.values.items ≡ stored_of T.zero (S.slots source.now)) }
-    ensures marks { IfOk result (λ made. made.marks ≡ valid_of (S.slots source.now)) }
-{
-    match collect_slots(alloc, source) {
-        Ok(parts) => Ok(parts),
-        Err(_) => Err(AllocError),
-    }
-}
-
 /// Parses all slots as decimal numbers.
 fn parse_slots<K: ByteKind, O: Offset, T: NativeArithmetics>(
     alloc: Global,
@@ -95,7 +79,8 @@ fn parse_slots<K: ByteKind, O: Offset, T: NativeArithmetics>(
         array,
         parsed: PhantomData::<T>,
     };
-    let SlotParts { values, marks } = collect_parts::<T, _>(alloc, &source)?;
+    let SlotParts { values, marks } = collect_slots::<T, _>(alloc, &source)?;
+    let marks = marks.freeze()?;
     let values = Buffer::from_vec(values)?;
     Ok(PrimitiveArray::new(data_type, values, needed_mask(marks)))
 }

@@ -11,8 +11,8 @@ mask_of_both-requires-2 g c =
     let both = c.as_ref.ensures.value ∙ c.in_ok-both.ensures.ok
     ∙ ap₂ both_masks c.validity.ensures.mask c.validity-2.ensures.mask in
     outcomes-fit g.T.NativeType.zero g.O.CheckedOperation.make c.args.lhs.now c.args.rhs.now c.in_ok-values.field-0.values.items
-    c.in_ok-values.field-0.marks _ (c.in_ok-values.ensures.values ∙ ap (stored_of g.T.NativeType.zero) outcomes)
-    (c.in_ok-values.ensures.marks ∙ ap valid_of outcomes) both c.requires
+    c.in_ok-marks.marks _ (c.in_ok-values.ensures.values ∙ ap (stored_of g.T.NativeType.zero) outcomes)
+    (c.in_ok-marks.ensures.ok ∙ c.in_ok-values.ensures.marks ∙ ap valid_of outcomes) both c.requires
 
 pub new-requires-clause-mask : goal.new-requires-clause-mask
 new-requires-clause-mask g c =
@@ -21,9 +21,9 @@ new-requires-clause-mask g c =
     let both = c.as_ref.ensures.value ∙ c.in_ok-both.ensures.ok
     ∙ ap₂ both_masks c.validity.ensures.mask c.validity-2.ensures.mask in
     checked-fit g.T.NativeType.zero g.O.CheckedOperation.make c.args.lhs.now c.args.rhs.now c.in_ok-values-2.values
-    c.in_ok-values.field-0.marks _
+    c.in_ok-marks.marks _
     (c.in_ok-values-2.ensures.ok ∙ c.in_ok-values.ensures.values ∙ ap (stored_of g.T.NativeType.zero) outcomes)
-    (c.in_ok-values.ensures.marks ∙ ap valid_of outcomes) both c.requires c.in_ok-validity.validity
+    (c.in_ok-marks.ensures.ok ∙ c.in_ok-values.ensures.marks ∙ ap valid_of outcomes) both c.requires c.in_ok-validity.validity
     c.in_ok-validity.ensures.ok
 
 pub returns-clause-ok : goal.returns-clause-ok
@@ -33,8 +33,8 @@ returns-clause-ok g c =
     let both = c.as_ref.ensures.value ∙ c.in_ok-both.ensures.ok
     ∙ ap₂ both_masks c.validity.ensures.mask c.validity-2.ensures.mask in
     makes-checked g.T.NativeType.zero g.O.CheckedOperation.make c.args.lhs.now c.args.rhs.now c.in_ok-values-2.values
-    c.in_ok-values.field-0.marks _
+    c.in_ok-marks.marks _
     (c.in_ok-values-2.ensures.ok ∙ c.in_ok-values.ensures.values ∙ ap (stored_of g.T.NativeType.zero) outcomes)
-    (c.in_ok-values.ensures.marks ∙ ap valid_of outcomes) both c.requires c.in_ok-validity.validity
+    (c.in_ok-marks.ensures.ok ∙ c.in_ok-values.ensures.marks ∙ ap valid_of outcomes) both c.requires c.in_ok-validity.validity
     c.in_ok-validity.ensures.ok c.validity.ensures.is_column c.validity-2.ensures.is_column _
     (c.in_ok-clone.ensures.cases ∙ c.data_type.ensures.value) c.new.result c.new.ensures

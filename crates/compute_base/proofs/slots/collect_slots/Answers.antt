@@ -59,5 +59,5 @@ returns-clause-marks g c =
     c.push_slots-last.ensures.marks in
     let packed = more-packed truths c.loop-i.bytes.items bytes.items (vec_len c.loop-i.bytes) i c.push_slots-last.result
     (len - 64 * i) (vec_len bytes) c.loop-i.invariant.packed pushed.kept pushed.word rest holds pushed.len in
-    c.in_ok-marks.ensures.ok ∙ c.from_bytes.ensures ∙ all-packed truths bytes.items (vec_len bytes) (i + 1) len packed
+    c.from_bytes-marks.ensures ∙ all-packed truths bytes.items (vec_len bytes) (i + 1) len packed
     (omega (arith, c.len-len.ensures, count)) (omega (arith, all))

@@ -12,5 +12,5 @@ returns-clause-ok g c =
     let slots = map (value_of_slot g.T.NativeArithmetics.fits g.T.NativeArithmetics.wrap) (slots_of c.args.array.now) in
     c.new.ensures
     ∙ ap₂ (column_of_parts t) (c.in_ok-values-2.ensures.ok ∙ c.in_ok-values.ensures.values) (c.needed_mask.ensures
-    ∙ ap (λ marks. mask_with_nulls (Some marks)) c.in_ok-values.ensures.marks)
+    ∙ ap (λ marks. mask_with_nulls (Some marks)) (c.in_ok-marks.ensures.ok ∙ c.in_ok-values.ensures.marks))
     ∙ array-of-parts g.T.NativeType.zero (empty_masked t) slots refl
