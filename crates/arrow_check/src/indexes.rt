@@ -46,7 +46,6 @@ fn all_point_at_items<K: IndexKey>(keys: &[K], len: usize) -> bool
 }
 
 /// Returns the first key that is not an index below `len`.
-#[inline(always)]
 fn first_out_of_bounds<K: IndexKey>(keys: &[K], len: usize) -> Option<&K>
     ensures first { option_copied result ≡ first_bad_key K.number len keys.now }
     ensures none { IfNone result (AllInBounds K.number len keys.now) }
@@ -55,7 +54,8 @@ fn first_out_of_bounds<K: IndexKey>(keys: &[K], len: usize) -> Option<&K>
 }
 
 /// Checks that every key is an index below `len`, as those of a dictionary must be (Arrow columnar
-/// format, "Dictionary-encoded Layout"). Keys after the first that is not are not read.
+/// format, "Dictionary-encoded Layout"). All keys are read at first, and once more up to the first fault if any of them is
+/// out of bounds.
 ///
 /// # Errors
 /// `OutOfSpec` for the first key that is out of bounds: it is negative or does not fit in a `usize`, or else it is not
@@ -64,6 +64,9 @@ pub fn check_indexes<K: IndexKey>(keys: &[K], len: usize) -> Result<(), Error>
     ensures first { ChecksKeys K.number len keys.now result }
     ensures ok { OnOk result (AllInBounds K.number len keys.now) }
 {
+    if all_point_at_items(keys, len) {
+        return Ok(());
+    }
     match first_out_of_bounds(keys, len) {
         Some(key) => Err(key_fault(key)),
         None => Ok(()),
@@ -90,8 +93,7 @@ fn check_marked<K: IndexKey>(keys: &[K], marks: &Bitmap, len: usize) -> Result<(
 }
 
 /// Checks that the key of every valid slot is an index below `len`. The keys of null slots may be anything. Without a
-/// validity bitmap every slot is valid, and this is [`check_indexes`]; with one, all keys are read at first, and once more
-/// up to the first fault if any of them is out of bounds.
+/// validity bitmap every slot is valid, and this is [`check_indexes`]. Keys are read as by that.
 ///
 /// # Errors
 /// `OutOfSpec` for the first key of a valid slot that is out of bounds.
