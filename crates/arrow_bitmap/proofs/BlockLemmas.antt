@@ -37,21 +37,21 @@ number_l-bit (x ∷ xs) small i =
           e) (let e : (i - 8) % 8 ≡ i % 8 = omega arith in e)
     ]
 
--- eight words of bytes have the bytes' marks
-pub loaded-mark : (bytes : List ℕ) (first : ℕ) → ((i : ℕ) → Fits w8 (get_or bytes i 0)) → (k : ℕ) → k < 512
-    → block_mark (digits_l (2 ^ 64) 8 (number_l 256 (chunk first 64 bytes))) k ≡ mark_at bytes (8 * first + k)
+-- words of bytes have the bytes' marks
+pub loaded-mark : (bytes : List ℕ) (first n : ℕ) → ((i : ℕ) → Fits w8 (get_or bytes i 0)) → (k : ℕ) → k < 64 * n
+    → block_mark (digits_l (2 ^ 64) n (number_l 256 (chunk first (8 * n) bytes))) k ≡ mark_at bytes (8 * first + k)
 unfolding block_mark mark_at
-loaded-mark bytes first fits k low =
-    let xs = chunk first 64 bytes in
+loaded-mark bytes first n fits k low =
+    let xs = chunk first (8 * n) bytes in
     let word = k / 64 in
     let bit = k % 64 in
-    let small = below_from_Fits w8 xs (chunk-fits w8 first 64 bytes fits) in
+    let small = below_from_Fits w8 xs (chunk-fits w8 first (8 * n) bytes fits) in
     let here : first + (8 * word + bit / 8) ≡ (8 * first + k) / 8 = omega arith in
     let inner : bit % 8 ≡ (8 * first + k) % 8 = omega arith in
-    ap (λ b. b == 1) (ap (λ n. bit_at n bit) (get_or_wider 256 8 (2 ^ 64) 8 xs word refl small (omega arith))
+    ap (λ b. b == 1) (ap (λ m. bit_at m bit) (get_or_wider 256 8 (2 ^ 64) n xs word refl small (omega arith))
     ∙ number_l-bit (chunk (8 * word) 8 xs) (Each1-chunk (λ x. x < 256) (8 * word) 8 xs small) bit
     ∙ ap (λ b. bit_at b (bit % 8)) (get_or-chunk (8 * word) 8 xs (bit / 8) 0 (omega arith)
-    ∙ get_or-chunk first 64 bytes (8 * word + bit / 8) 0 (omega arith))
+    ∙ get_or-chunk first (8 * n) bytes (8 * word + bit / 8) 0 (omega arith))
     ∙ ap₂ (λ i j. bit_at (get_or bytes i 0) j) here inner)
 
 -- ---- words that are shifted

@@ -163,30 +163,39 @@ digits-fit : (q n x : ℕ) → 0 < q → Each1 (λ d. d < q) (digits_l q n x)
 digits-fit q zero x some = tt
 digits-fit q (suc n) x some = (mod_below x q some, digits-fit q n (x / q) some)
 
--- those of a block
+-- those of four words
 pub loaded-set : (bytes : List ℕ) (first : ℕ) → ((i : ℕ) → Fits w8 (get_or bytes i 0))
-    → block_set (digits_l (2 ^ 64) 8 (number_l 256 (chunk first 64 bytes))) + count_by not (marks bytes (8 * first) 512)
-    ≡ 512
+    → block_set (digits_l (2 ^ 64) 4 (number_l 256 (chunk first 32 bytes))) + count_by not (marks bytes (8 * first) 256)
+    ≡ 256
 loaded-set bytes first fits =
-    let n = number_l 256 (chunk first 64 bytes) in
-    words-set bytes (digits_l (2 ^ 64) 8 n) (8 * first) (digits-fit (2 ^ 64) 8 n (omega arith))
-    (loaded-mark bytes first fits)
+    let n = number_l 256 (chunk first 32 bytes) in
+    words-set bytes (digits_l (2 ^ 64) 4 n) (8 * first) (digits-fit (2 ^ 64) 4 n (omega arith))
+    (loaded-mark bytes first 4 fits)
 
--- those of four blocks
-pub clear-four : (bytes : List ℕ) (first : ℕ) → count_by not (marks bytes (8 * first) 2048)
-    ≡ count_by not (marks bytes (8 * first) 512) + count_by not (marks bytes (8 * (first + 64)) 512) + count_by not
-    (marks bytes (8 * (first + 128)) 512) + count_by not (marks bytes (8 * (first + 192)) 512)
+-- those of four times four words
+pub clear-four : (bytes : List ℕ) (first : ℕ) → count_by not (marks bytes (8 * first) 1024)
+    ≡ count_by not (marks bytes (8 * first) 256) + count_by not (marks bytes (8 * (first + 32)) 256) + count_by not
+    (marks bytes (8 * (first + 64)) 256) + count_by not (marks bytes (8 * (first + 96)) 256)
 clear-four bytes first =
     let place : (n : ℕ) → 8 * first + 8 * n ≡ 8 * (first + n) = λ n. omega arith in
     omega (
       arith,
-      clear_add bytes (8 * first) 1536 512,
-      clear_add bytes (8 * first) 1024 512,
-      clear_add bytes (8 * first) 512 512,
-      ap (λ p. count_by not (marks bytes p 512)) (place 64),
-      ap (λ p. count_by not (marks bytes p 512)) (place 128),
-      ap (λ p. count_by not (marks bytes p 512)) (place 192),
+      clear_add bytes (8 * first) 768 256,
+      clear_add bytes (8 * first) 512 256,
+      clear_add bytes (8 * first) 256 256,
+      ap (λ p. count_by not (marks bytes p 256)) (place 32),
+      ap (λ p. count_by not (marks bytes p 256)) (place 64),
+      ap (λ p. count_by not (marks bytes p 256)) (place 96),
     )
+
+-- those of both halves of a turn
+pub clear-halves : (bytes : List ℕ) (first : ℕ) → count_by not (marks bytes (8 * first) 2048)
+    ≡ count_by not (marks bytes (8 * first) 1024) + count_by not (marks bytes (8 * (first + 128)) 1024)
+clear-halves bytes first = omega (
+  arith,
+  clear_add bytes (8 * first) 1024 1024,
+  ap (λ p. count_by not (marks bytes p 1024)) (let e : 8 * first + 1024 ≡ 8 * (first + 128) = omega arith in e),
+)
 
 -- those of one turn more
 pub clear_step-turn : (bytes : List ℕ) (first turn : ℕ) → count_by not (marks bytes (8 * first) (2048 * (turn + 1)))
@@ -201,6 +210,6 @@ clear_step-turn bytes first turn = omega (
 
 -- ---- words that are counted one by one
 
-pub set-more : (words : List ℕ) (i : ℕ) → length words ≡ 8 → i < 8
+pub set-more : (words : List ℕ) (i : ℕ) → length words ≡ 4 → i < 4
     → block_set (take (i + 1) words) ≡ block_set (take i words) + ones (get_or words i 0)
-set-more words i eight low = sum_by_more ones words i 0 (omega (arith, eight))
+set-more words i four low = sum_by_more ones words i 0 (omega (arith, four))

@@ -1,7 +1,6 @@
 //! Marks that are read and written 512 at a time, as the bits of eight words.
-ghost use Rattle.std.specs.Prelude.{◌≡◌, ℕ, ◌+◌, ◌*◌, ◌<◌, ◌≤◌, length, count_by, not};
-ghost use Rattle.arrow_bitmap.specs.Blocks.{block_set};
-ghost use Rattle.arrow_bitmap.specs.Marks.{block_mark, mark_at, marks};
+ghost use Rattle.std.specs.Prelude.{◌≡◌, ℕ, ◌+◌, ◌*◌, ◌<◌, ◌≤◌, length};
+ghost use Rattle.arrow_bitmap.specs.Marks.{block_mark, mark_at};
 
 use std::simd::prelude::*;
 
@@ -9,8 +8,7 @@ use std::simd::prelude::*;
 #[inline(always)]
 pub(crate) fn whole_block(bytes: &[u8], first: usize) -> u64x8
     requires { first + 64 ≤ length bytes.now }
-    ensures marks { (k : ℕ) → k < 512 → block_mark result k ≡ mark_at bytes.now (8 * first + k) }
-    ensures set { block_set result + count_by not (marks bytes.now (8 * first) 512) ≡ 512 }
+    ensures { (k : ℕ) → k < 512 → block_mark result k ≡ mark_at bytes.now (8 * first + k) }
 {
     u64x8::from_le_bytes(u8x64::from_slice(&bytes[first..]))
 }

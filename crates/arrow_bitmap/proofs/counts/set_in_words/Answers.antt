@@ -2,7 +2,7 @@ use Rattle.std.proofs.Common.{◌+◌, get_or, sym, ap, ◌∙◌, arith}
 use Rattle.std.specs.Int.Count.{ones}
 use Rattle.std.proofs.lemmas.Nat.{ones-le}
 use Rattle.arrow_bitmap.proofs.CountLemmas.{set-more}
-use Rattle.arrow_bitmap.proofs.counts.set_in_block.Goals as goal
+use Rattle.arrow_bitmap.proofs.counts.set_in_words.Goals as goal
 
 pub loop-index-preserved : goal.loop-index-preserved
 loop-index-preserved c =

@@ -1,6 +1,6 @@
 use Rattle.std.proofs.Common.{◌≡◌, ◌≤◌, ◌*◌, take}
 use Rattle.arrow_bitmap.specs.Blocks.{block_set}
-use Rattle.arrow_bitmap.proofs.counts.set_in_block.Given as goal
+use Rattle.arrow_bitmap.proofs.counts.set_in_words.Given as goal
 
 abbrev pub invariant-loop-index : goal.invariant-loop-index
 invariant-loop-index l = record {
