@@ -54,8 +54,8 @@ fn first_out_of_bounds<K: IndexKey>(keys: &[K], len: usize) -> Option<&K>
 }
 
 /// Checks that every key is an index below `len`, as those of a dictionary must be (Arrow columnar
-/// format, "Dictionary-encoded Layout"). All keys are read at first, and once more up to the first fault if any of them is
-/// out of bounds.
+/// format, "Dictionary-encoded Layout"). All keys are read at first, and once more up to the first
+/// fault if any of them is out of bounds.
 ///
 /// # Errors
 /// `OutOfSpec` for the first key that is out of bounds: it is negative or does not fit in a `usize`, or else it is not

@@ -23,8 +23,8 @@ new-requires-clause-mask g c =
     checked-fit g.T.NativeType.zero g.O.CheckedOperation.make c.args.lhs.now c.args.rhs.now c.in_ok-values-2.values
     c.in_ok-marks.marks _
     (c.in_ok-values-2.ensures.ok ∙ c.in_ok-values.ensures.values ∙ ap (stored_of g.T.NativeType.zero) outcomes)
-    (c.in_ok-marks.ensures.ok ∙ c.in_ok-values.ensures.marks ∙ ap valid_of outcomes) both c.requires c.in_ok-validity.validity
-    c.in_ok-validity.ensures.ok
+    (c.in_ok-marks.ensures.ok ∙ c.in_ok-values.ensures.marks ∙ ap valid_of outcomes) both c.requires
+    c.in_ok-validity.validity c.in_ok-validity.ensures.ok
 
 pub returns-clause-ok : goal.returns-clause-ok
 returns-clause-ok g c =
@@ -35,6 +35,6 @@ returns-clause-ok g c =
     makes-checked g.T.NativeType.zero g.O.CheckedOperation.make c.args.lhs.now c.args.rhs.now c.in_ok-values-2.values
     c.in_ok-marks.marks _
     (c.in_ok-values-2.ensures.ok ∙ c.in_ok-values.ensures.values ∙ ap (stored_of g.T.NativeType.zero) outcomes)
-    (c.in_ok-marks.ensures.ok ∙ c.in_ok-values.ensures.marks ∙ ap valid_of outcomes) both c.requires c.in_ok-validity.validity
-    c.in_ok-validity.ensures.ok c.validity.ensures.is_column c.validity-2.ensures.is_column _
+    (c.in_ok-marks.ensures.ok ∙ c.in_ok-values.ensures.marks ∙ ap valid_of outcomes) both c.requires
+    c.in_ok-validity.validity c.in_ok-validity.ensures.ok c.validity.ensures.is_column c.validity-2.ensures.is_column _
     (c.in_ok-clone.ensures.cases ∙ c.data_type.ensures.value) c.new.result c.new.ensures

@@ -14,7 +14,8 @@ mask_of_both-requires g c =
     marks-fit (λ x. unwrap_or (make x) zero) (λ x. is_some (make x)) make (λ x. outcome-slot zero (make x)) c.args.lhs.now
     c.in_ok-values.field-0.values.items c.in_ok-marks.marks _
     (c.in_ok-values.ensures.values ∙ ap (stored_of zero) outcomes ∙ map-map (λ o. unwrap_or o zero) make xs)
-    (c.in_ok-marks.ensures.ok ∙ c.in_ok-values.ensures.marks ∙ ap valid_of outcomes ∙ map-map is_some make xs) c.validity.ensures.mask
+    (c.in_ok-marks.ensures.ok ∙ c.in_ok-values.ensures.marks ∙ ap valid_of outcomes ∙ map-map is_some make xs)
+    c.validity.ensures.mask
 
 pub new-requires-clause-mask : goal.new-requires-clause-mask
 new-requires-clause-mask g c =
@@ -26,7 +27,8 @@ new-requires-clause-mask g c =
     c.args.lhs.now c.in_ok-values-2.values c.in_ok-marks.marks _
     (c.in_ok-values-2.ensures.ok ∙ c.in_ok-values.ensures.values ∙ ap (stored_of zero) outcomes
     ∙ map-map (λ o. unwrap_or o zero) make xs)
-    (c.in_ok-marks.ensures.ok ∙ c.in_ok-values.ensures.marks ∙ ap valid_of outcomes ∙ map-map is_some make xs) c.validity.ensures.mask
+    (c.in_ok-marks.ensures.ok ∙ c.in_ok-values.ensures.marks ∙ ap valid_of outcomes ∙ map-map is_some make xs)
+    c.validity.ensures.mask
     c.in_ok-validity.validity c.in_ok-validity.ensures.ok
 
 pub returns-clause-ok : goal.returns-clause-ok
@@ -39,6 +41,7 @@ returns-clause-ok g c =
     c.args.lhs.now c.in_ok-values-2.values c.in_ok-marks.marks _
     (c.in_ok-values-2.ensures.ok ∙ c.in_ok-values.ensures.values ∙ ap (stored_of zero) outcomes
     ∙ map-map (λ o. unwrap_or o zero) make xs)
-    (c.in_ok-marks.ensures.ok ∙ c.in_ok-values.ensures.marks ∙ ap valid_of outcomes ∙ map-map is_some make xs) c.validity.ensures.mask
+    (c.in_ok-marks.ensures.ok ∙ c.in_ok-values.ensures.marks ∙ ap valid_of outcomes ∙ map-map is_some make xs)
+    c.validity.ensures.mask
     c.in_ok-validity.validity c.in_ok-validity.ensures.ok c.validity.ensures.is_column _ _
     (c.in_ok-clone.ensures.cases ∙ c.data_type.ensures.value) c.new.result c.new.ensures

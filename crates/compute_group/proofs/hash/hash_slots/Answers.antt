@@ -11,8 +11,8 @@ loop-i-preserved g c =
     let seen = g.A.HashSlots.key_seen in
     record {
       hashes = hashes_more g.A.Key.Hash.hash_input g.A.HashSlots.input seen c.key_at-key.ensures.feeds
-          (slots_of (g.A.Array.column c.args.array.now)) c.loop-i.i (slot (c.key_at-key.result.0, c.key_at-key.result.1)) c.hash_row.result
-          c.loop-i.hashes.items c.push_reserved.new.self.items c.loop-i.invariant.hashes
+          (slots_of (g.A.Array.column c.args.array.now)) c.loop-i.i
+          (slot (c.key_at-key.result.0, c.key_at-key.result.1)) c.hash_row.result c.loop-i.hashes.items c.push_reserved.new.self.items c.loop-i.invariant.hashes
           (c.key_at-key.ensures.slot ∙ ap Some (seen_slot seen c.key_at-key.result.0 c.key_at-key.result.1))
           c.hash_row.ensures c.push_reserved.ensures.items;
       count = ap (λ xs. length xs) c.push_reserved.ensures.items ∙ length_push c.loop-i.hashes.items c.hash_row.result
