@@ -25,9 +25,23 @@ pub(crate) fn block_at(bytes: &[u8], first: usize, shift: usize) -> u64x8
     low >> u64x8::splat(shift as u64) | high << u64x8::splat((8 - shift) as u64)
 }
 
-/// Writes 512 marks over the 64 bytes from byte `at` on.
+/// Returns the 512 marks from `place` on, in one reading of the bytes if they begin with one.
 #[inline(always)]
-pub(crate) fn write_block(target: &mut [u8], at: usize, block: u64x8)
+pub(crate) fn block_from(bytes: &[u8], place: usize) -> u64x8
+    requires { place + 512 ≤ 8 * length bytes.now }
+    ensures { (k : ℕ) → k < 512 → block_mark result k ≡ mark_at bytes.now (place + k) }
+{
+    let first = place / 8;
+    let shift = place % 8;
+    if shift == 0 {
+        return whole_block(bytes, first);
+    }
+    block_at(bytes, first, shift)
+}
+
+/// Writes 512 marks, the bits of eight words, over the 64 bytes from byte `at` on.
+#[inline(always)]
+pub fn write_block(target: &mut [u8], at: usize, block: u64x8)
     requires { at + 64 ≤ length target.old }
     ensures marks { (k : ℕ) → k < 512 → mark_at target.new (8 * at + k) ≡ block_mark block k }
     ensures kept { (i : ℕ) → i < 8 * at → mark_at target.new i ≡ mark_at target.old i }

@@ -5,10 +5,11 @@ ghost use Rattle.std.specs.Prelude.{length as list_length};
 ghost use Rattle.std.specs.Int.{bit_at};
 ghost use Rattle.either.specs.Either.{MatchEither};
 ghost use Rattle.arrow_types.specs.Failures.{OnlyOutOfMemory, OutOfMemoryKeeps};
-ghost use Rattle.arrow_bitmap.specs.Marks.{marks, packed_refusal};
+ghost use Rattle.arrow_bitmap.specs.Marks.{block_mark, marks, packed_refusal};
 ghost use Rattle.arrow_types.specs.Types.{refusal};
 
 use crate::bits::{count_clear_first, fits_bytes, masked_mark_of};
+use crate::blocks::block_from;
 use crate::copy::own_bytes;
 use crate::marks::Marks;
 use crate::{BitmapIter, MutableBitmap};
@@ -18,6 +19,7 @@ use std::alloc::Global;
 use std::marker::Model;
 use std::mem;
 use std::rc::Rc;
+use std::simd::prelude::*;
 
 /// An immutable list of marks, packed eight to a byte, the least significant bit first (Arrow
 /// columnar format, "Validity bitmaps"). In a validity bitmap a set mark is a valid slot.
@@ -249,6 +251,15 @@ impl Bitmap {
         ensures { (k : ℕ) → k < 64 → slice_get self.now (place + k) ≡ Some (bit_at result k == 1) }
     {
         self.marks().word(place)
+    }
+
+    /// Returns the 512 marks from `place` on as the bits of eight words, the least significant first.
+    #[inline(always)]
+    pub fn block(&self, place: usize) -> u64x8
+        requires { place + 512 ≤ length self.now }
+        ensures { (k : ℕ) → k < 512 → slice_get self.now (place + k) ≡ Some (block_mark result k) }
+    {
+        block_from(self.bytes.as_slice(), self.offset + place)
     }
 
     /// Returns the marks, which are borrowed.

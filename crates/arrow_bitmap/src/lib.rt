@@ -18,6 +18,7 @@ mod ops;
 mod pack;
 mod words;
 
+pub use blocks::write_block;
 pub use immutable::Bitmap;
 pub use iterator::{BitmapIntoIter, BitmapIter};
 pub use mark_iter::MarkIter;

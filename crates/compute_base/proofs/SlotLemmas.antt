@@ -1,15 +1,15 @@
 -- Lemmas about arrays that are made of other arrays, slot by slot: what their parts make.
-use Rattle.std.proofs.Common.{◌≡◌, ◌&&◌, Bool, true, false, List, [], ◌∷◌, length, map, Option, is_some, option_map}
+use Rattle.std.proofs.Common.{◌≡◌, ◌&&◌, Bool, true, false, List, [], ◌∷◌, length, map, min, Option, is_some, option_map}
 use Rattle.std.proofs.Common.{refl, sym, ap, ap₂, ◌∙◌, arith, subst}
 use Rattle.std.specs.List.{zip}
 use Rattle.std.proofs.lemmas.List.{length-map}
 use Rattle.arrow_types.specs.Types.{LogicalType}
 use Rattle.arrow_memory.specs.Rows.{FitsMask, Row, rows_of, slot}
-use Rattle.arrow_column.specs.Column.{Column, ColumnWith, IsColumn, column_of_parts, mask_of, marks_of, stored_values}
+use Rattle.arrow_column.specs.Column.{Column, ColumnWith, IsColumn, column_of_parts, mask_of, marks_of, slots_of, stored_values}
 use Rattle.arrow_column.specs.Combined.{of_pairs}
 use Rattle.arrow_column.specs.Masks.{marks_under}
-use Rattle.compute_base.specs.Slots.{CombinesSlots, MapsSlots, both_masks, combine_valid}
-use Rattle.compute_base.proofs.ListLemmas.{length-of_pairs}
+use Rattle.compute_base.specs.Slots.{CombinesSlots, MapsSlots, both_masks, combine_valid, pairwise}
+use Rattle.compute_base.proofs.ListLemmas.{length-of_pairs, length-pairwise}
 use Rattle.compute_base.proofs.MaskLemmas.{both-under, column-under, fits-under, held-by-either, held-by-one, in_both}
 use Rattle.compute_base.proofs.MaskLemmas.{length-both, length-under, marks, rows-under}
 
@@ -27,10 +27,28 @@ module _ {X Y Z : Type 0} (f : X → Y → Z) where
 
   combined-slots : (xs : List (Row X)) (ys : List (Row Y))
       → map slot (zip (of_pairs f (values xs) (values ys)) (in_both (marks xs) (marks ys)))
-      ≡ map (λ pair. combine_valid f pair.0 pair.1) (zip (map slot xs) (map slot ys))
+      ≡ pairwise (combine_valid f) (map slot xs) (map slot ys)
   combined-slots [] ys = refl
   combined-slots (x ∷ xs) [] = refl
   combined-slots (x ∷ xs) (y ∷ ys) = ap₂ (λ s rest. s ∷ rest) (both-shown x y) (combined-slots xs ys)
+
+-- the number of slots of an array that is made of two, and of one
+pub count-combined : {A B X Y Z : Type 0} (combine : Option X → Option Y → Option Z) (lhs : ColumnWith A X)
+    (rhs : ColumnWith B Y) (made : Column Z) → slots_of made ≡ pairwise combine (slots_of lhs) (slots_of rhs)
+    → length made.rows ≡ min (length lhs.rows) (length rhs.rows)
+count-combined combine lhs rhs made shown = omega (
+  arith,
+  ap length shown,
+  length-map made.rows slot,
+  length-pairwise combine (slots_of lhs) (slots_of rhs),
+  length-map lhs.rows slot,
+  length-map rhs.rows slot,
+)
+
+pub count-mapped : {A X Z : Type 0} (change : Option X → Option Z) (array : ColumnWith A X) (made : Column Z)
+    → slots_of made ≡ map change (slots_of array) → length made.rows ≡ length array.rows
+count-mapped change array made shown =
+    sym (length-map made.rows slot) ∙ ap length shown ∙ length-map (slots_of array) change ∙ length-map array.rows slot
 
 -- two columns of equally many slots, and their masks as marks
 module _ {A B X Y : Type 0} (lhs : ColumnWith A X) (rhs : ColumnWith B Y) (same : length lhs.rows ≡ length rhs.rows) where
@@ -71,15 +89,19 @@ module _ {A B X Y Z : Type 0} (f : X → Y → Z) (lhs : ColumnWith A X) (rhs : 
 
   pub makes-combination : IsColumn lhs → IsColumn rhs → (t u : LogicalType) → u ≡ t → (array : Column Z)
       → array ≡ column_of_parts u made validity → CombinesSlots t (combine_valid f) lhs rhs array
-  makes-combination is_left is_right t u type_is array array_is = record {
-    data_type = ap (λ column. column.data_type) array_is ∙ type_is;
-    slots = ap (λ column. map slot column.rows) array_is ∙ ap (λ mask. map slot (rows_of made mask)) mask_is
-        ∙ ap (map slot) (rows-under made (both_masks (mask_of lhs) (mask_of rhs)) (length lhs.rows) length-made)
-        ∙ ap₂ (λ vs ms. map slot (zip vs ms)) is (masks-under lhs rhs same is_left is_right)
-        ∙ combined-slots f lhs.rows rhs.rows;
-    held = ap (λ column. column.held) array_is ∙ ap is_some mask_is
-        ∙ held-by-either lhs.held rhs.held (marks_of lhs) (marks_of rhs);
-  }
+  makes-combination is_left is_right t u type_is array array_is =
+      let shown : slots_of array ≡ pairwise (combine_valid f) (slots_of lhs) (slots_of rhs) =
+      ap (λ column. map slot column.rows) array_is ∙ ap (λ mask. map slot (rows_of made mask)) mask_is
+      ∙ ap (map slot) (rows-under made (both_masks (mask_of lhs) (mask_of rhs)) (length lhs.rows) length-made)
+      ∙ ap₂ (λ vs ms. map slot (zip vs ms)) is (masks-under lhs rhs same is_left is_right)
+      ∙ combined-slots f lhs.rows rhs.rows in
+      record {
+        data_type = ap (λ column. column.data_type) array_is ∙ type_is;
+        count = count-combined (combine_valid f) lhs rhs array shown;
+        slots = shown;
+        held = ap (λ column. column.held) array_is ∙ ap is_some mask_is
+            ∙ held-by-either lhs.held rhs.held (marks_of lhs) (marks_of rhs);
+      }
 
 -- ---- arrays that are made of one
 
@@ -104,11 +126,15 @@ module _ {A X Z : Type 0} (f : X → Z) (column : ColumnWith A X) (made : List Z
 
   pub makes-mapped : IsColumn column → (t u : LogicalType) → u ≡ t → (array : Column Z)
       → array ≡ column_of_parts u made validity → MapsSlots t (option_map f) column array
-  makes-mapped is_column t u type_is array array_is = record {
-    data_type = ap (λ c. c.data_type) array_is ∙ type_is;
-    slots = ap (λ c. map slot c.rows) array_is ∙ ap (λ mask. map slot (rows_of made mask)) mask_is
-        ∙ ap (map slot) (rows-under made (mask_of column) (length column.rows) length-mapped-values)
-        ∙ ap₂ (λ vs ms. map slot (zip vs ms)) is (column-under column (length column.rows) refl is_column)
-        ∙ mapped-slots f column.rows;
-    held = ap (λ c. c.held) array_is ∙ ap is_some mask_is ∙ held-by-one column.held (marks_of column);
-  }
+  makes-mapped is_column t u type_is array array_is =
+      let shown : slots_of array ≡ map (option_map f) (slots_of column) =
+      ap (λ c. map slot c.rows) array_is ∙ ap (λ mask. map slot (rows_of made mask)) mask_is
+      ∙ ap (map slot) (rows-under made (mask_of column) (length column.rows) length-mapped-values)
+      ∙ ap₂ (λ vs ms. map slot (zip vs ms)) is (column-under column (length column.rows) refl is_column)
+      ∙ mapped-slots f column.rows in
+      record {
+        data_type = ap (λ c. c.data_type) array_is ∙ type_is;
+        count = count-mapped (option_map f) column array shown;
+        slots = shown;
+        held = ap (λ c. c.held) array_is ∙ ap is_some mask_is ∙ held-by-one column.held (marks_of column);
+      }

@@ -1,19 +1,22 @@
 -- Lemmas about marks that are the bits of words.
-use Rattle.std.proofs.Common.{◌≡◌, ◌≢◌, ℕ, ◌+◌, ◌-◌, ◌*◌, ◌/◌, ◌%◌, ◌^◌, ◌<◌, ◌≤◌, ◌==◌, max, min, bit_or, Bool, true, false}
+use Rattle.std.proofs.Common.{◌≡◌, ◌≢◌, ℕ, ◌+◌, ◌-◌, ◌*◌, ◌/◌, ◌%◌, ◌^◌, ◌<◌, ◌≤◌, ◌==◌, max, bit_or, Bool, true, false}
 use Rattle.std.proofs.Common.{List, ◌++◌, Some, slice_get, get_or, length, refl, sym, ap, ap₂, subst, ◌∙◌, ◌⊎◌, inl, inr}
-use Rattle.std.proofs.Common.{arith, zero, suc, if◌then◌else◌, Result, Ok, Err, OnOk, w64}
+use Rattle.std.proofs.Common.{arith, zero, suc, w64}
+use Rattle.std.proofs.Common.{drop, replicate, take}
+use Rattle.std.proofs.Math.Seq.{take-append_seam}
 use Rattle.std.specs.Int.{bit_at, from_bool, to_le_bytes}
-use Rattle.std.specs.Result.{is_ok}
 use Rattle.std.proofs.lemmas.Bool.{cases_eq, cases_lt}
-use Rattle.std.proofs.lemmas.List.{get_or_append_left, get_or-append_right, same_lists}
+use Rattle.std.proofs.lemmas.List.{same_lists}
 use Rattle.std.proofs.lemmas.List.FromFn.{get_or-map-range_with_len, length-map-range_with_len}
 use Rattle.std.proofs.lemmas.Nat.{pow_pos}
 use Rattle.std.proofs.lemmas.Nat.Bits.{bit_at_above, bit_at_or, bit_at_cat_high, bit_at_cat_low, bit_at-pow_other}
 use Rattle.std.proofs.lemmas.Nat.Bits.{bit_at-zero}
 use Rattle.std.proofs.lemmas.Option.{get_or_from_slice_get}
-use Rattle.arrow_types.proofs.CallerLemmas.{max-zero, moved-bit, placed, placed-is, placed-other, placed-same, zero-max}
-use Rattle.arrow_memory.specs.Marks.{mark_at, marks}
-use Rattle.compute_base.specs.Words.{HoldsMarks}
+use Rattle.arrow_types.proofs.CallerLemmas.{all-ones, max-zero, moved-bit, placed, placed-is, placed-other, placed-same, zero-max}
+use Rattle.arrow_memory.specs.Marks.{block_mark, mark_at, marks}
+use Rattle.std.proofs.lemmas.Simd.{get_or-put_chunk_at, get_or-put_chunk_below, get_or-replicate}
+use lib.Lanes.{put_chunk}
+use Rattle.compute_base.specs.Words.{HasMarks, HoldsBlock, HoldsMarks}
 
 -- ---- a word of which one bit more is written
 
@@ -278,72 +281,75 @@ le-byte word (suc (suc (suc (suc (suc (suc zero)))))) b few low = later-byte wor
 le-byte word (suc (suc (suc (suc (suc (suc (suc zero))))))) b few low = later-byte word 56 b low
 le-byte word (suc (suc (suc (suc (suc (suc (suc (suc q)))))))) b few low = absurd (omega arith)
 
--- the marks of bytes to which a word was appended: those before, and its bits
-pub kept-marks : (old new more : List ℕ) → new ≡ old ++ more → (i : ℕ) → i < 8 * length old
-    → mark_at new i ≡ mark_at old i
+-- the marks of bytes over which a word is written: its bits, and those before
+pub written-marks : (bytes : List ℕ) (word at : ℕ) → at + 8 ≤ length bytes → (k : ℕ) → k < 64
+    → mark_at (put_chunk at bytes (to_le_bytes w64 word)) (8 * at + k) ≡ (bit_at word k == 1)
 unfolding mark_at
-kept-marks old new more e i low = ap (λ bytes. bit_at (get_or bytes (i / 8) 0) (i % 8) == 1) e
-    ∙ ap (λ byte. bit_at byte (i % 8) == 1) (get_or_append_left old more 0 (i / 8) (omega arith))
-
-pub word-marks : (old new : List ℕ) (word len : ℕ) → len ≡ length old → new ≡ old ++ to_le_bytes w64 word → (k : ℕ)
-    → k < 64 → mark_at new (8 * len + k) ≡ (bit_at word k == 1)
-unfolding mark_at
-word-marks old new word len same e k low =
-    ap (λ bytes. bit_at (get_or bytes ((8 * len + k) / 8) 0) ((8 * len + k) % 8) == 1) e
-    ∙ ap₂ (λ i b. bit_at (get_or (old ++ to_le_bytes w64 word) i 0) b == 1) place bit
-    ∙ ap (λ byte. bit_at byte (k % 8) == 1) (get_or-append_right old (to_le_bytes w64 word) (length old)
-    (length old + k / 8) 0 refl (omega arith))
-    ∙ ap (λ q. bit_at (get_or (to_le_bytes w64 word) q 0) (k % 8) == 1) behind
+written-marks bytes word at room k low =
+    let place : (8 * at + k) / 8 ≡ at + k / 8 = omega arith in
+    let bit : (8 * at + k) % 8 ≡ k % 8 = omega arith in
+    let whole : 8 * (k / 8) + k % 8 ≡ k = omega arith in
+    ap₂ (λ i b. bit_at (get_or (put_chunk at bytes (to_le_bytes w64 word)) i 0) b == 1) place bit
+    ∙ ap (λ byte. bit_at byte (k % 8) == 1)
+    (get_or-put_chunk_at at bytes (to_le_bytes w64 word) (k / 8) 0 (omega arith) room)
     ∙ ap (λ bit. bit == 1) (le-byte word (k / 8) (k % 8) (omega arith) (omega arith))
-    ∙ ap (λ j. bit_at word j == 1) (let whole : 8 * (k / 8) + k % 8 ≡ k = omega arith in whole)
-  where
-    place : (8 * len + k) / 8 ≡ length old + k / 8
-    place = omega arith
+    ∙ ap (λ j. bit_at word j == 1) whole
 
-    bit : (8 * len + k) % 8 ≡ k % 8
-    bit = omega arith
+pub kept-marks : (bytes : List ℕ) (word at i : ℕ) → i < 8 * at
+    → mark_at (put_chunk at bytes (to_le_bytes w64 word)) i ≡ mark_at bytes i
+unfolding mark_at
+kept-marks bytes word at i low = ap (λ byte. bit_at byte (i % 8) == 1)
+    (get_or-put_chunk_below at bytes (to_le_bytes w64 word) (i / 8) 0 (omega arith))
 
-    behind : length old + k / 8 - length old ≡ k / 8
-    behind = omega arith
-
--- what holds of bytes that were appended, if they were
-pub if-appended : {R E : Type 0} (r : Result R E) (new more old : List ℕ) (P : Type 0)
-    → new ≡ (if is_ok r then more else old) → (new ≡ more → P) → OnOk r P
-if-appended (Ok x) new more old P e holds = holds e
-if-appended (Err x) new more old P e holds = tt
+-- all bytes of a vector over which others are written
+pub all-written : (made old : List ℕ) (len : ℕ) → len ≡ length made → take len (made ++ drop (length made) old) ≡ made
+all-written made old len same = ap (λ k. take k (made ++ drop (length made) old)) same
+    ∙ take-append_seam made (drop (length made) old)
 
 -- ---- all words of a bitmap
 
--- the first 64 * i marks, as far as there are marks, are those of bytes, of which there are len
-pub record PacksFirst (truths : List Bool) (bytes : List ℕ) (len i : ℕ) : Type 0 where
-  pub count : len ≡ 8 * i
-  pub each : (k : ℕ) → k < 64 * i → k < length truths → slice_get truths k ≡ Some (mark_at bytes k)
+pub no-marks : (truths : List Bool) (bytes : List ℕ) → HasMarks truths bytes 0
+no-marks truths bytes k low = absurd (omega arith)
 
-pub none-packed : (truths : List Bool) (bytes : List ℕ) (len : ℕ) → len ≡ 0 → PacksFirst truths bytes len 0
-none-packed truths bytes len e = record { count = omega (arith, e); each = λ k low within. absurd (omega arith) }
+-- the first marks of a word more
+pub more-marks : (truths : List Bool) (old new : List ℕ) (i word count : ℕ) → HasMarks truths old (64 * i)
+    → ((k : ℕ) → k < 8 * (8 * i) → mark_at new k ≡ mark_at old k)
+    → ((k : ℕ) → k < 64 → mark_at new (8 * (8 * i) + k) ≡ (bit_at word k == 1)) → count ≤ 64
+    → HoldsMarks word truths (64 * i) count → HasMarks truths new (64 * i + count)
+more-marks truths old new i word count had kept last few holds k low = elim (cases_lt k (64 * i)) [
+  | inl below ↦ had k below ∙ ap Some (sym (kept k (omega arith)))
+  | inr above ↦
+      let place : k ≡ 64 * i + (k - 64 * i) = omega arith in
+      let at : 8 * (8 * i) + (k - 64 * i) ≡ k = omega arith in
+      ap (slice_get truths) place ∙ holds (k - 64 * i) (omega arith)
+      ∙ ap Some (sym (last (k - 64 * i) (omega arith)) ∙ ap (mark_at new) at)
+]
 
-pub more-packed : (truths : List Bool) (old new : List ℕ) (len i word count longer : ℕ) → PacksFirst truths old len i
-    → ((k : ℕ) → k < 8 * len → mark_at new k ≡ mark_at old k)
-    → ((k : ℕ) → k < 64 → mark_at new (8 * len + k) ≡ (bit_at word k == 1))
-    → count ≡ min (length truths - 64 * i) 64 → HoldsMarks word truths (64 * i) count → longer ≡ len + 8
-    → PacksFirst truths new longer (i + 1)
-more-packed truths old new len i word count longer had kept last few holds e = record {
-  count = omega (arith, had.count);
-  each = λ k low within. elim (cases_lt k (64 * i)) [
-    | inl below ↦ had.each k below within ∙ ap Some (sym (kept k (omega (arith, had.count))))
-    | inr above ↦
-        let place : k ≡ 64 * i + (k - 64 * i) = omega arith in
-        let at : 8 * len + (k - 64 * i) ≡ k = omega (arith, had.count) in
-        ap (slice_get truths) place ∙ holds (k - 64 * i) (omega arith)
-        ∙ ap Some (sym (last (k - 64 * i) (omega arith)) ∙ ap (mark_at new) at)
-  ];
-}
+-- the first marks of a block more
+pub more-block : (truths : List Bool) (old new : List ℕ) (i : ℕ) (words : List ℕ) → HasMarks truths old (512 * i)
+    → ((k : ℕ) → k < 8 * (64 * i) → mark_at new k ≡ mark_at old k)
+    → ((k : ℕ) → k < 512 → mark_at new (8 * (64 * i) + k) ≡ block_mark words k) → HoldsBlock words truths (512 * i)
+    → HasMarks truths new (512 * i + 512)
+more-block truths old new i words had kept last holds k low = elim (cases_lt k (512 * i)) [
+  | inl below ↦ had k below ∙ ap Some (sym (kept k (omega arith)))
+  | inr above ↦
+      let place : k ≡ 512 * i + (k - 512 * i) = omega arith in
+      let at : 8 * (64 * i) + (k - 512 * i) ≡ k = omega arith in
+      ap (slice_get truths) place ∙ holds (k - 512 * i) (omega arith)
+      ∙ ap Some (sym (last (k - 512 * i) (omega arith)) ∙ ap (mark_at new) at)
+]
 
-pub all-packed : (truths : List Bool) (bytes : List ℕ) (len i n : ℕ) → PacksFirst truths bytes len i
-    → n ≡ length truths → n ≤ 64 * i → marks bytes 0 n ≡ truths
+-- the marks of words of ones
+pub all-set_block : (k : ℕ) → k < 512 → block_mark (replicate 8 (2 ^ 64 - 1)) k ≡ true
+unfolding block_mark
+all-set_block k low = ap (λ word. bit_at word (k % 64) == 1) (get_or-replicate 8 (k / 64) (2 ^ 64 - 1) 0 (omega arith))
+    ∙ all-ones (k % 64) (omega arith)
+
+pub all-marks : (truths : List Bool) (bytes : List ℕ) (n : ℕ) → HasMarks truths bytes n → n ≡ length truths
+    → marks bytes 0 n ≡ truths
 unfolding marks
-all-packed truths bytes len i n had same whole = same_lists (marks bytes 0 n) truths
+all-marks truths bytes n had same = same_lists (marks bytes 0 n) truths
     (length-map-range_with_len (mark_at bytes) 0 n ∙ same) (λ k d within.
     let low : k < n = subst (λ m. k < m) (length-map-range_with_len (mark_at bytes) 0 n) within in
     get_or-map-range_with_len (mark_at bytes) 0 n k k d low (omega arith)
-    ∙ sym (get_or_from_slice_get truths k (mark_at bytes k) d (had.each k (omega arith) (omega arith))))
+    ∙ sym (get_or_from_slice_get truths k (mark_at bytes k) d (had k low)))

@@ -3,6 +3,7 @@
 #![tactic(auto)]
 
 pub mod bits;
+pub mod laws;
 pub mod masks;
 pub mod slots;
 pub mod words;

@@ -4,7 +4,7 @@ ghost use Rattle.std.specs.Vec.{vec_capacity};
 ghost use Rattle.compute_base.specs.Slots.{stored_of, valid_of};
 ghost use Rattle.compute_base.specs.Words.{HoldsMarks};
 
-use crate::words::push_word;
+use crate::words::write_word;
 use arrow_memory::bitmap::MutableBitmap;
 use arrow_types::native_type::NativeType;
 use std::alloc::{AllocError, Global};
@@ -74,14 +74,15 @@ pub fn collect_slots<T: NativeType, S: SlotSource<T>>(
     let len = source.len();
     let words = len / 64;
     let mut values = Vec::with_capacity(alloc, len)?;
-    let mut bytes = Vec::with_capacity(alloc, 8 * (words + 1))?;
+    let mut bytes = Vec::new(alloc);
+    bytes.resize(8 * (words + 1), 0)?;
     for i in 0..words {
         let word = push_slots::<T, S>(&mut values, source, 64 * i, 64);
-        push_word(&mut bytes, word)?;
+        write_word(&mut bytes, 8 * i, word);
     }
     let place = 64 * words;
     let last = push_slots::<T, S>(&mut values, source, place, len - place);
-    push_word(&mut bytes, last)?;
+    write_word(&mut bytes, 8 * words, last);
     let marks = MutableBitmap::from_bytes(bytes, len);
     Ok(SlotParts { values, marks })
 }

@@ -1,14 +1,14 @@
 //! Bitmaps that are made 64 marks at a time.
-ghost use Rattle.std.specs.Prelude.{◌≡◌, ◌==◌, ◌+◌, ◌*◌, ◌^◌, ◌<◌, ◌≤◌, ℕ, IfOk, OnOk, List, Bool, Some, length};
-ghost use Rattle.std.specs.Prelude.{slice_get, vec_len};
-ghost use Rattle.std.specs.Int.{bit_at};
+ghost use Rattle.std.specs.Prelude.{◌≡◌, ◌==◌, ◌+◌, ◌*◌, ◌^◌, ◌<◌, ◌≤◌, ℕ, IfOk, List, Bool, Some, length, slice_get};
+ghost use Rattle.std.specs.Int.{bit_at, div_ceil};
 ghost use Rattle.arrow_memory.specs.Marks.{mark_at};
 ghost use Rattle.arrow_column.specs.Column.{marks_of};
-ghost use Rattle.compute_base.specs.Words.{HoldsMarks};
+ghost use Rattle.compute_base.specs.Words.{HasMarks, HoldsBlock, HoldsMarks};
 
 use arrow_column::Array;
-use arrow_memory::bitmap::{Bitmap, MutableBitmap};
+use arrow_memory::bitmap::{Bitmap, MutableBitmap, write_block};
 use std::alloc::{AllocError, Global};
+use std::simd::prelude::*;
 
 /// Marks that can be computed at each index.
 pub trait MarkSource {
@@ -42,6 +42,15 @@ pub trait MarkWords {
         ensures { HoldsMarks result (marks self.now) place count };
 }
 
+/// Marks that can also be computed 512 at a time.
+pub trait MarkBlocks: MarkWords {
+    /// Returns the 512 marks from `place` on as the bits of eight words.
+    fn block(&self, place: usize) -> u64x8
+        requires fits { place + 512 < 2 ^ 64 }
+        requires within { place + 512 ≤ length (Self.marks self.now) }
+        ensures { HoldsBlock result (Self.marks self.now) place };
+}
+
 /// Marks that are computed one by one, as words.
 #[derive(Drop)]
 pub struct PackedMarks<S> {
@@ -68,7 +77,7 @@ impl<S: MarkSource> MarkWords for PackedMarks<S> {
 
 /// Returns the 64 marks from `place` on as the bits of a word. Each of four words collects every fourth mark, beginning
 /// with the last ones, and each is shifted by four bits a turn. So the compiler makes a vector of the four words, with
-/// one comparison and one shift for four marks.
+/// one comparison and one shift for four marks. Beginning with the first ones, it makes slower code of comparisons.
 #[inline(always)]
 fn pack_whole<S: MarkSource>(source: &S, place: usize) -> u64
     requires fits { place + 64 < 2 ^ 64 }
@@ -100,17 +109,61 @@ fn pack_few<S: MarkSource>(source: &S, place: usize, count: usize) -> u64
     word
 }
 
-/// Appends a word as eight bytes.
+/// Writes a word over the eight bytes from byte `at` on.
 #[inline(always)]
-pub(crate) fn push_word(bytes: &mut Vec<u8>, word: u64) -> Result<(), AllocError>
-    requires { vec_len bytes.old + 8 < 2 ^ 64 }
-    ensures kept { OnOk result ((i : ℕ) → i < 8 * vec_len bytes.old
-        → mark_at bytes.new.items i ≡ mark_at bytes.old.items i) }
-    ensures word { OnOk result ((k : ℕ) → k < 64
-        → mark_at bytes.new.items (8 * vec_len bytes.old + k) ≡ (bit_at word k == 1)) }
-    ensures len { OnOk result (vec_len bytes.new ≡ vec_len bytes.old + 8) }
+pub(crate) fn write_word(target: &mut [u8], at: usize, word: u64)
+    requires { at + 8 ≤ length target.old }
+    ensures marks { (k : ℕ) → k < 64 → mark_at target.new (8 * at + k) ≡ (bit_at word k == 1) }
+    ensures kept { (i : ℕ) → i < 8 * at → mark_at target.new i ≡ mark_at target.old i }
+    ensures len { length target.new ≡ length target.old }
 {
-    bytes.extend_from_slice(&word.to_le_bytes())
+    u8x8::from_array(word.to_le_bytes()).copy_to_slice(&mut target[at..]);
+}
+
+/// Writes the marks from word `first` on over bytes, whole words of them.
+#[inline(always)]
+fn write_words_from<S: MarkWords>(target: &mut [u8], source: &S, first: usize)
+    requires len { length target.old ≡ 8 * div_ceil (length (S.marks source.now)) 64 }
+    requires within { 64 * first ≤ length (S.marks source.now) }
+    requires written { HasMarks (S.marks source.now) target.old (64 * first) }
+    ensures marks { HasMarks (S.marks source.now) target.new (length (S.marks source.now)) }
+    ensures len { length target.new ≡ length target.old }
+{
+    let len = source.len();
+    let words = len / 64;
+    for i in first..words {
+        write_word(target, 8 * i, source.word(64 * i, 64));
+    }
+    let place = 64 * words;
+    if place < len {
+        write_word(target, 8 * words, source.word(place, len - place));
+    }
+}
+
+/// Writes all marks over bytes, a word at a time.
+// Not inlined, so that the compiler knows that `target` aliases nothing that is read.
+#[inline(never)]
+fn write_words<S: MarkWords>(target: &mut [u8], source: &S)
+    requires { length target.old ≡ 8 * div_ceil (length (S.marks source.now)) 64 }
+    ensures marks { HasMarks (S.marks source.now) target.new (length (S.marks source.now)) }
+    ensures len { length target.new ≡ length target.old }
+{
+    write_words_from(target, source, 0);
+}
+
+/// Writes all marks over bytes, eight words at a time.
+// Not inlined, as [`write_words`].
+#[inline(never)]
+fn write_blocks<S: MarkBlocks>(target: &mut [u8], source: &S)
+    requires { length target.old ≡ 8 * div_ceil (length (S.marks source.now)) 64 }
+    ensures marks { HasMarks (S.marks source.now) target.new (length (S.marks source.now)) }
+    ensures len { length target.new ≡ length target.old }
+{
+    let blocks = source.len() / 512;
+    for i in 0..blocks {
+        write_block(target, 64 * i, source.block(512 * i));
+    }
+    write_words_from(target, source, 8 * blocks);
 }
 
 /// Returns the bitmap of all marks. The error is `AllocError`, which has no contents, since a result with a larger
@@ -119,16 +172,20 @@ pub fn collect_marks<S: MarkWords>(alloc: Global, source: &S) -> Result<MutableB
     ensures { IfOk result (λ bitmap. bitmap ≡ S.marks source.now) }
 {
     let len = source.len();
-    let mut bytes = Vec::with_capacity(alloc, 8 * len.div_ceil(64))?;
-    let words = len / 64;
-    for i in 0..words {
-        push_word(&mut bytes, source.word(64 * i, 64))?;
-    }
-    let place = 64 * words;
-    if place == len {
-        return Ok(MutableBitmap::from_bytes(bytes, len));
-    }
-    push_word(&mut bytes, source.word(place, len - place))?;
+    let mut bytes = Vec::new(alloc);
+    bytes.resize(8 * len.div_ceil(64), 0)?;
+    write_words(&mut bytes, source);
+    Ok(MutableBitmap::from_bytes(bytes, len))
+}
+
+/// Returns the bitmap of all marks, as [`collect_marks`], 512 at a time.
+pub fn collect_blocks<S: MarkBlocks>(alloc: Global, source: &S) -> Result<MutableBitmap, AllocError>
+    ensures { IfOk result (λ bitmap. bitmap ≡ S.marks source.now) }
+{
+    let len = source.len();
+    let mut bytes = Vec::new(alloc);
+    bytes.resize(8 * len.div_ceil(64), 0)?;
+    write_blocks(&mut bytes, source);
     Ok(MutableBitmap::from_bytes(bytes, len))
 }
 
@@ -158,6 +215,18 @@ pub fn marks_word<A: Array>(array: &A, place: usize, count: usize) -> u64
         Some(mask) => word_of(mask, place, count),
         None => u64::MAX,
     }
+}
+
+/// Returns the marks of 512 slots from `place` on as the bits of eight words. All are set if no mask is held.
+#[inline(always)]
+pub fn marks_block<A: Array>(array: &A, place: usize) -> u64x8
+    requires { place + 512 ≤ length (A.column array.now).rows }
+    ensures { HoldsBlock result (marks_of (A.column array.now)) place }
+{
+    let Some(mask) = array.validity() else {
+        return u64x8::splat(u64::MAX);
+    };
+    mask.block(place)
 }
 
 /// Returns the marks from `place` on, at most 64, of a bitmap that has at least 64 marks, as the bits of a word. If

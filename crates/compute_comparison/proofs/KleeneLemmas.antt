@@ -1,19 +1,24 @@
 -- Lemmas about booleans that are known to be true or false, or not known.
 use Rattle.std.proofs.Common.{◌≡◌, ℕ, ◌-◌, ◌^◌, ◌<◌, ◌==◌, ◌&&◌, ◌||◌, Bool, true, false, not, if◌then◌else◌}
 use Rattle.std.proofs.Common.{List, [], ◌∷◌, length, map, min, Option, Some, None, is_some, bit_and, bit_or}
+use Rattle.std.proofs.Common.{◌+◌, ◌≤◌, ◌/◌, ◌%◌, get_or, inl, inr, replicate, set}
 use Rattle.std.proofs.Common.{refl, sym, ap, ap₂, ◌∙◌, arith, subst, true≢false}
 use Rattle.std.specs.Int.{bit_at}
 use Rattle.std.specs.List.{list_all, zip}
 use Rattle.std.specs.Prelude.{IsTrue}
-use Rattle.std.proofs.lemmas.List.{length-map}
+use Rattle.std.proofs.lemmas.Bool.{cases_lt}
+use Rattle.std.proofs.lemmas.List.{get_or-set_other, get_or-set_same, length-map}
 use Rattle.std.proofs.lemmas.Nat.Bits.{bit_at-zero}
+use Rattle.std.proofs.lemmas.Simd.{get_or-replicate}
 use Rattle.std.proofs.lemmas.Slice.Zip.{length-zip}
 use Rattle.arrow_types.proofs.CallerLemmas.{and-bit, not-bit, or-bit}
 use Rattle.arrow_boolean.specs.Fits.{boolean_type}
+use Rattle.arrow_memory.specs.Marks.{block_mark}
 use Rattle.arrow_memory.specs.Rows.{FitsMask, Row, rows_of, slot}
 use Rattle.arrow_column.specs.Column.{Column, IsColumn, column_of_parts, slots_of, stored_values}
-use Rattle.compute_comparison.specs.Kleene.{kleene_and, kleene_or, known_slots, slot_bit}
-use Rattle.compute_base.specs.Slots.{CombinesSlots}
+use Rattle.compute_comparison.specs.Kleene.{block_slot, kleene_and, kleene_or, known_slots, slot_bit}
+use Rattle.compute_base.specs.Slots.{CombinesSlots, pairwise}
+use Rattle.compute_base.proofs.CallerLemmas.{count-combined}
 
 -- ---- which results are known, by bits
 
@@ -79,6 +84,40 @@ module _ (v m w n k : ℕ) where
 pub null-bit : (k : ℕ) → slot_bit 0 0 k ≡ None
 null-bit k = ap (λ b. slot (b == 1, b == 1)) (bit_at-zero k)
 
+-- which results are known, by the words of eight whose bits values and marks are, up to a word
+abbrev pub KnownLanes : (Option Bool → Option Bool → Option Bool) → List ℕ → List ℕ → List ℕ → List ℕ → List ℕ → ℕ → Type 0
+KnownLanes table values marks others other_marks known n = (w j : ℕ) → w < n → j < 64
+    → (bit_at (get_or known w 0) j == 1) ≡ is_some (table (slot_bit (get_or values w 0) (get_or marks w 0) j)
+    (slot_bit (get_or others w 0) (get_or other_marks w 0) j))
+
+module _ (table : Option Bool → Option Bool → Option Bool) (values marks others other_marks known : List ℕ) where
+  pub known-lane : (i word : ℕ) → i < length known → KnownLanes table values marks others other_marks known i
+      → ((j : ℕ) → j < 64 → (bit_at word j == 1) ≡ is_some (table (slot_bit (get_or values i 0) (get_or marks i 0) j)
+      (slot_bit (get_or others i 0) (get_or other_marks i 0) j)))
+      → KnownLanes table values marks others other_marks (set known i word) (i + 1)
+  known-lane i word inside had is w j before low = elim (cases_lt w i) [
+    | inl below ↦
+        ap (λ x. bit_at x j == 1) (get_or-set_other known i w word 0 (λ e. absurd (omega (arith, e))))
+        ∙ had w j below low
+    | inr above ↦
+        let same : w ≡ i = omega arith in
+        ap (λ x. bit_at x j == 1) (ap (λ n. get_or (set known i word) n 0) same ∙ get_or-set_same known i word 0 inside)
+        ∙ is j low
+        ∙ ap (λ n. is_some (table (slot_bit (get_or values n 0) (get_or marks n 0) j)
+        (slot_bit (get_or others n 0) (get_or other_marks n 0) j))) (sym same)
+  ]
+
+  pub known-lanes : (k n : ℕ) → k < 512 → 8 ≤ n → KnownLanes table values marks others other_marks known n
+      → block_mark known k ≡ is_some (table (block_slot values marks k) (block_slot others other_marks k))
+  unfolding block_mark
+  known-lanes k n low all had = had (k / 64) (k % 64) (omega arith) (omega arith)
+
+-- the bits of words that are zero are nulls
+pub null-block : (k : ℕ) → k < 512 → block_slot (replicate 8 0) (replicate 8 0) k ≡ None
+unfolding block_mark
+null-block k low = ap (λ word. slot (bit_at word (k % 64) == 1, bit_at word (k % 64) == 1))
+    (get_or-replicate 8 (k / 64) 0 0 (omega arith)) ∙ null-bit (k % 64)
+
 -- ---- results
 
 pub length-known : (table : Option Bool → Option Bool → Option Bool) (lhs rhs : Column Bool)
@@ -130,7 +169,7 @@ module _ (op : Bool → Bool → Bool) (table : Option Bool → Option Bool → 
   combined xs ys = map (λ pair. op pair.0 pair.1) (zip (map (λ row. row.0) xs) (map (λ row. row.0) ys))
 
   abbrev shown : List (Row Bool) → List (Row Bool) → List (Option Bool)
-  shown xs ys = map (λ pair. table pair.0 pair.1) (zip (map slot xs) (map slot ys))
+  shown xs ys = pairwise table (map slot xs) (map slot ys)
 
   abbrev known : Bool → List (Row Bool) → List (Row Bool) → Option (List Bool)
   known held xs ys = if held then Some (known_slots table (map slot xs) (map slot ys)) else None
@@ -189,13 +228,17 @@ module _ (op : Bool → Bool → Bool) (table : Option Bool → Option Bool → 
 
     result_combines : IsColumn lhs → IsColumn rhs → (made : Column Bool)
         → made ≡ column_of_parts boolean_type values mask → CombinesSlots boolean_type table lhs rhs made
-    result_combines is_left is_right made made_is = record {
-      data_type = ap (λ column. column.data_type) made_is;
-      slots = ap (λ column. map slot column.rows) made_is ∙ ap₂ (λ vs m. map slot (rows_of vs m)) is mask_by
-          ∙ made_slots lhs.held rhs.held lhs.rows rhs.rows is_left is_right;
-      held = ap (λ column. column.held) made_is ∙ ap is_some mask_by
-          ∙ is_held (lhs.held || rhs.held) lhs.rows rhs.rows;
-    }
+    result_combines is_left is_right made made_is =
+        let is_shown : slots_of made ≡ pairwise table (slots_of lhs) (slots_of rhs) =
+        ap (λ column. map slot column.rows) made_is ∙ ap₂ (λ vs m. map slot (rows_of vs m)) is mask_by
+        ∙ made_slots lhs.held rhs.held lhs.rows rhs.rows is_left is_right in
+        record {
+          data_type = ap (λ column. column.data_type) made_is;
+          count = count-combined table lhs rhs made is_shown;
+          slots = is_shown;
+          held = ap (λ column. column.held) made_is ∙ ap is_some mask_by
+              ∙ is_held (lhs.held || rhs.held) lhs.rows rhs.rows;
+        }
 
 and_valid : (x y : Bool) → Some (x && y) ≡ kleene_and (Some x) (Some y)
 and_valid true y = refl

@@ -8,6 +8,7 @@ use Rattle.arrow_boolean.specs.Fits.{boolean_type}
 use Rattle.arrow_memory.specs.Rows.{FitsMask, Row, slot}
 use Rattle.arrow_column.specs.Column.{Column, column_of_parts, null_column, slots_of, stored_values}
 use Rattle.compute_base.specs.Slots.{MapsSlots, combine_valid}
+use Rattle.compute_base.proofs.CallerLemmas.{count-mapped}
 use Rattle.compute_comparison.specs.Kleene.{KeepsSlotValues, kleene_and, kleene_or, known_with_null}
 use Rattle.compute_comparison.specs.Logic.{and_slots, or_slots}
 use Rattle.compute_comparison.specs.Slots.{CombinesWithSlot, booleans}
@@ -59,6 +60,7 @@ pub by-scalar : (table : Option Bool → Option Bool → Option Bool) (f : Optio
 by-scalar table f array scalar value made is agree null maps =
     let combines : CombinesWithSlot table array (Some value) made = record {
       data_type = maps.data_type;
+      count = maps.count;
       slots = maps.slots ∙ (λ i. map (λ s. agree s i) (slots_of array));
       held = maps.held ∙ sym (and-true array.held) ∙ ap (λ b. array.held && b) (sym null);
     } in
@@ -90,10 +92,13 @@ module _ (table : Option Bool → Option Bool → Option Bool) (value : Bool)
   pub decided : (array : Column Bool) (scalar : Option Bool) (n : ℕ) (made : Column Bool) → scalar ≡ Some value
       → n ≡ length array.rows → made ≡ booleans (replicate n value) → CombinesWithSlot table array scalar made
   decided array scalar n made is count made_is =
+      let shown : slots_of made ≡ map (λ s. table s (Some value)) (slots_of array) =
+      ap (λ column. slots_of column) made_is ∙ slots-booleans (replicate n value)
+      ∙ ap (λ m. map Some (replicate m value)) count ∙ all-decided array.rows in
       let combines : CombinesWithSlot table array (Some value) made = record {
         data_type = ap (λ column. column.data_type) made_is;
-        slots = ap (λ column. slots_of column) made_is ∙ slots-booleans (replicate n value)
-            ∙ ap (λ m. map Some (replicate m value)) count ∙ all-decided array.rows;
+        count = count-mapped (λ s. table s (Some value)) array made shown;
+        slots = shown;
         held = ap (λ column. column.held) made_is ∙ and-false array.held
             ∙ ap (λ s. array.held && is_none s) (agree None);
       } in
@@ -116,10 +121,13 @@ module _ (op : Bool → Bool → Bool) where
       → n ≡ length array.rows → made ≡ null_column boolean_type tt false n
       → CombinesWithSlot (combine_valid op) array scalar made
   makes-null array scalar n made is count made_is =
+      let shown : slots_of made ≡ map (λ s. combine_valid op s None) (slots_of array) =
+      ap (λ column. slots_of column) made_is
+      ∙ ap (λ m. map slot (zip (replicate m false) (replicate m false))) count ∙ all-null array.rows in
       let combines : CombinesWithSlot (combine_valid op) array None made = record {
         data_type = ap (λ column. column.data_type) made_is;
-        slots = ap (λ column. slots_of column) made_is
-            ∙ ap (λ m. map slot (zip (replicate m false) (replicate m false))) count ∙ all-null array.rows;
+        count = count-mapped (λ s. combine_valid op s None) array made shown;
+        slots = shown;
         held = ap (λ column. column.held) made_is;
       } in
       subst (λ s. CombinesWithSlot (combine_valid op) array s made) (sym is) combines
@@ -134,12 +142,15 @@ module _ (table : Option Bool → Option Bool → Option Bool) (beside : KeepsSl
   pub makes-with-null : (array : Column Bool) (values known : List Bool) (made : Column Bool)
       → values ≡ stored_values array → known ≡ known_with_null table (slots_of array)
       → made ≡ column_of_parts boolean_type values (Some known) → CombinesWithSlot table array None made
-  makes-with-null array values known made is known_is made_is = record {
-    data_type = ap (λ column. column.data_type) made_is;
-    slots = ap (λ column. slots_of column) made_is ∙ ap₂ (λ vs ms. map slot (zip vs ms)) is known_is
-        ∙ with-null array.rows;
-    held = ap (λ column. column.held) made_is;
-  }
+  makes-with-null array values known made is known_is made_is =
+      let shown : slots_of made ≡ map (λ s. table s None) (slots_of array) =
+      ap (λ column. slots_of column) made_is ∙ ap₂ (λ vs ms. map slot (zip vs ms)) is known_is ∙ with-null array.rows in
+      record {
+        data_type = ap (λ column. column.data_type) made_is;
+        count = count-mapped (λ s. table s None) array made shown;
+        slots = shown;
+        held = ap (λ column. column.held) made_is;
+      }
 
 module _ (table : Option Bool → Option Bool → Option Bool) (array : Column Bool) where
   pub length-with_null : length (known_with_null table (slots_of array)) ≡ length array.rows

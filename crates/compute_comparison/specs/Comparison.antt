@@ -1,6 +1,7 @@
 -- Comparisons of slots. `cmp` compares two values: it says in which order they are, or whether they are equal. `test`
 -- says for which result a comparison holds, as `is_lt` does for `<`, and `not` for `!=`.
 use Rattle.std.specs.Prelude.{◌≡◌, ◌==◌, ◌&&◌, ◌||◌, ℕ, Bool, List, map, not, Option, Some, option_map, refl}
+use Rattle.std.specs.Cmp.{IsTotalOrder}
 use Rattle.std.specs.Int.{bit_at}
 use Rattle.std.specs.List.{zip}
 use Rattle.std.specs.Ordering.{is_eq, is_ne}
@@ -9,7 +10,8 @@ use Rattle.std.specs.declared.cmp.Ordering.TheVariants.{Less, Equal, Greater}
 use Rattle.std.specs.Option.{option_eq}
 use Rattle.arrow_column.specs.Column.{ColumnWith, slots_of, stored_values}
 use Rattle.arrow_column.specs.Combined.{of_pairs}
-use Rattle.compute_base.specs.Slots.{combine_valid}
+use Rattle.compute_base.specs.Slots.{combine_valid, pairwise}
+use Rattle.compute_comparison.specs.Logic.{not_slot}
 -- which marks the bits of a word are: callers cite it here
 pub use Rattle.compute_base.specs.Words.{HoldsMarks}
 
@@ -37,6 +39,25 @@ module _ {X R : Type 0} (test : R → Bool) (cmp : X → X → R) where
   -- whether it holds of each value that an array stores and another
   abbrev pub compare_stored_to : {A : Type 0} → ColumnWith A X → X → List Bool
   compare_stored_to array value = compare_scalar (stored_values array) value
+
+-- of slots that are compared at each index, `not` of one comparison is the other
+abbrev pub AreOpposites : {X : Type 0} → (Option X → Option X → Option Bool) → (Option X → Option X → Option Bool)
+    → Type 0
+AreOpposites {X} compare opposite = (xs ys : List (Option X))
+    → map not_slot (pairwise compare xs ys) ≡ pairwise opposite xs ys
+
+-- of slots that are each compared with one value, `not` of one comparison is the other
+abbrev pub AreOpposed : {X : Type 0} → (Option X → Option Bool) → (Option X → Option Bool) → Type 0
+AreOpposed {X} compare opposite = (xs : List (Option X)) → map not_slot (map compare xs) ≡ map opposite xs
+
+-- of slots that are compared at each index, one comparison is the other with its operands exchanged
+abbrev pub AreMirrored : {X : Type 0} → (Option X → Option X → Option Bool) → (Option X → Option X → Option Bool)
+    → Type 0
+AreMirrored {X} compare mirrored = (xs ys : List (Option X)) → pairwise compare xs ys ≡ pairwise mirrored ys xs
+
+-- a fact of any total order of values
+abbrev pub ForTotalOrders : (X : Type 0) → ((X → X → Ordering) → Type 0) → Type 0
+ForTotalOrders X P = (cmp : X → X → Ordering) → IsTotalOrder cmp → P cmp
 
 -- whether two values are not equal
 abbrev pub unequal : {X : Type 0} → (X → X → Bool) → X → X → Bool

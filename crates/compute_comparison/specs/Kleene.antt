@@ -1,8 +1,9 @@
 -- Three-valued logic (Kleene's), in which a null is a boolean that is not known.
-use Rattle.std.specs.Prelude.{◌≡◌, ◌==◌, ◌||◌, ℕ, Bool, true, false, List, [], ◌∷◌, map, Option, Some, None, is_some}
+use Rattle.std.specs.Prelude.{◌≡◌, ◌+◌, ◌<◌, ◌==◌, ◌||◌, slice_get, ℕ, Bool, true, false, List, [], ◌∷◌, map, Option, Some, None, is_some}
 use Rattle.std.specs.Prelude.{if◌then◌else◌, refl}
 use Rattle.std.specs.Int.{bit_at}
 use Rattle.std.specs.List.{zip}
+use Rattle.arrow_memory.specs.Marks.{block_mark}
 use Rattle.arrow_memory.specs.Rows.{slot}
 use Rattle.arrow_column.specs.Column.{Column, slots_of}
 
@@ -32,6 +33,20 @@ all_of (x ∷ xs) = kleene_and x (all_of xs)
 -- the slot whose value and whose mark are bit k of two words
 abbrev pub slot_bit : ℕ → ℕ → ℕ → Option Bool
 slot_bit values marks k = slot (bit_at values k == 1, bit_at marks k == 1)
+
+-- the slot whose value and whose mark are bit k of eight words each
+abbrev pub block_slot : List ℕ → List ℕ → ℕ → Option Bool
+block_slot values marks k = slot (block_mark values k, block_mark marks k)
+
+-- the 512 slots from index `place` on are those of eight words of values and eight of marks
+abbrev pub HoldsSlotBlock : List (Option Bool) → ℕ → List ℕ → List ℕ → Type 0
+HoldsSlotBlock slots place values marks =
+    (k : ℕ) → k < 512 → slice_get slots (place + k) ≡ Some (block_slot values marks k)
+
+-- the bits of eight words are whether the result of an operation on each two of 512 slots is known
+abbrev pub KnowsBlock : (Option Bool → Option Bool → Option Bool) → List ℕ → List ℕ → List ℕ → List ℕ → List ℕ → Type 0
+KnowsBlock table values marks others other_marks known = (k : ℕ) → k < 512
+    → block_mark known k ≡ is_some (table (block_slot values marks k) (block_slot others other_marks k))
 
 -- whether the result of an operation on the slots at each index of two lists is known, that is, not null
 abbrev pub known_slots : (Option Bool → Option Bool → Option Bool) → List (Option Bool) → List (Option Bool) → List Bool

@@ -7,6 +7,7 @@ ghost use Rattle.arrow_boolean.specs.Fits.{boolean_type};
 ghost use Rattle.arrow_column.specs.Column.{IsColumn, slots_of};
 ghost use Rattle.compute_comparison.specs.Kleene.{KeepsSlotValues, all_of, any_of, kleene_and, kleene_or, known_slots};
 ghost use Rattle.compute_comparison.specs.Kleene.{known_with_null, mask_of_known, slot_bit};
+ghost use Rattle.compute_comparison.specs.Kleene.{HoldsSlotBlock, KnowsBlock};
 ghost use Rattle.compute_comparison.specs.Slots.{CombinesWithSlot};
 ghost use Rattle.compute_base.specs.Slots.{CombinesSlots};
 
@@ -15,15 +16,25 @@ use arrow_boolean::BooleanArray;
 use arrow_memory::bitmap::{self, Bitmap};
 use arrow_types::data_type::DataType;
 use arrow_types::error::Error;
-use compute_base::words::{MarkWords, collect_marks, marks_word, word_of};
+use compute_base::words::{
+    MarkBlocks, MarkWords, collect_blocks, marks_block, marks_word, word_of,
+};
 use std::alloc::Global;
 use std::marker::PhantomData;
+use std::simd::prelude::*;
 
 /// The values and the marks of 64 slots, as bits.
 #[derive(Clone, Copy)]
 struct SlotWords {
     values: u64,
     marks: u64,
+}
+
+/// The values and the marks of 512 slots, as the bits of eight words each.
+#[derive(Clone, Copy)]
+struct SlotBlocks {
+    values: u64x8,
+    marks: u64x8,
 }
 
 /// An operation of three-valued logic.
@@ -86,6 +97,37 @@ fn slot_words(array: &BooleanArray, place: usize, count: usize) -> SlotWords
     }
 }
 
+/// Returns the values and the marks of 512 slots from `place` on.
+#[inline(always)]
+fn slot_blocks(array: &BooleanArray, place: usize) -> SlotBlocks
+    requires { place + 512 ≤ length array.now.rows }
+    ensures { HoldsSlotBlock (slots_of array.now) place result.values result.marks }
+{
+    SlotBlocks {
+        values: array.values().block(place),
+        marks: marks_block(array, place),
+    }
+}
+
+/// Returns which of 512 results are known. The compiler makes vectors of the eight words.
+#[inline(always)]
+fn known_block<K: KleeneOperation>(left: SlotBlocks, right: SlotBlocks) -> u64x8
+    ensures { KnowsBlock K.table left.values left.marks right.values right.marks result }
+{
+    let (left_values, left_marks) = (left.values.to_array(), left.marks.to_array());
+    let (right_values, right_marks) = (right.values.to_array(), right.marks.to_array());
+    let mut known = [0; 8];
+    for i in 0..8 {
+        known[i] = K::known(
+            left_values[i],
+            left_marks[i],
+            right_values[i],
+            right_marks[i],
+        );
+    }
+    u64x8::from_array(known)
+}
+
 /// Which results of an operation on two arrays are known.
 #[derive(Drop)]
 struct Known<'a, K> {
@@ -113,6 +155,13 @@ impl<'a, K: KleeneOperation> MarkWords for Known<'a, K> {
     }
 }
 
+impl<'a, K: KleeneOperation> MarkBlocks for Known<'a, K> {
+    #[inline(always)]
+    fn block(&self, place: usize) -> u64x8 {
+        known_block::<K>(slot_blocks(self.lhs, place), slot_blocks(self.rhs, place))
+    }
+}
+
 /// Returns which results of an operation on two arrays are known.
 fn known_marks<K: KleeneOperation>(
     alloc: Global,
@@ -128,11 +177,11 @@ fn known_marks<K: KleeneOperation>(
         rhs,
         operation: PhantomData::<K>,
     };
-    collect_marks(alloc, &source)?.freeze()
+    collect_blocks(alloc, &source)?.freeze()
 }
 
 /// Returns the mask of the result of an operation on two arrays, if either holds one.
-// Values are combined apart, by `bitmap::and` and `bitmap::or`: these take 512 at a time, and count in the same pass.
+// Values are combined apart, by `bitmap::and` and `bitmap::or`: these count in the same pass.
 fn known_mask<K: KleeneOperation>(
     alloc: Global,
     lhs: &BooleanArray,
@@ -208,6 +257,17 @@ impl<'a, K: KleeneOperation> MarkWords for KnownWithNull<'a, K> {
     }
 }
 
+impl<'a, K: KleeneOperation> MarkBlocks for KnownWithNull<'a, K> {
+    #[inline(always)]
+    fn block(&self, place: usize) -> u64x8 {
+        let nulls = SlotBlocks {
+            values: u64x8::splat(0),
+            marks: u64x8::splat(0),
+        };
+        known_block::<K>(slot_blocks(self.array, place), nulls)
+    }
+}
+
 /// Returns which results of an operation on an array and a null are known.
 fn known_beside_null<K: KleeneOperation>(
     alloc: Global,
@@ -220,7 +280,7 @@ fn known_beside_null<K: KleeneOperation>(
         array,
         operation: PhantomData::<K>,
     };
-    collect_marks(alloc, &source)?.freeze()
+    collect_blocks(alloc, &source)?.freeze()
 }
 
 /// Returns the results of an operation on an array and a null: the values of the array, where these decide them.

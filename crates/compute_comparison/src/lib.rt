@@ -5,3 +5,4 @@
 pub mod boolean;
 pub mod boolean_kleene;
 pub mod comparison;
+pub mod laws;

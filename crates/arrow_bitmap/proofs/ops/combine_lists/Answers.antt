@@ -1,4 +1,4 @@
-use Rattle.std.proofs.Common.{◌≡◌, ◌+◌, ◌-◌, ◌*◌, ◌%◌, ◌/◌, ◌≤◌, ◌∙◌, [], ap, arith, count_by, length, not, refl, subst}
+use Rattle.std.proofs.Common.{◌≡◌, ◌+◌, ◌-◌, ◌*◌, ◌%◌, ◌≤◌, ◌∙◌, [], ap, arith, count_by, length, not, refl, subst}
 use Rattle.std.proofs.Common.{sym, vec_len}
 use Rattle.arrow_bitmap.specs.Marks.{marks}
 use Rattle.arrow_bitmap.specs.MarkWrites.{AppendsCombined}
