@@ -6,7 +6,9 @@ mod borrow;
 mod bytes;
 mod hash;
 mod order;
+mod values;
 
 pub use borrow::{BorrowSlots, get_slot};
 pub use hash::{HashSlots, ItemBytes};
 pub use order::OrderSlots;
+pub use values::ReadValues;

@@ -2,4 +2,9 @@ pub mod OrderLemmas
 pub mod SelectLemmas
 pub mod TakeLemmas
 pub mod TotalLemmas
+pub mod ChangeLemmas
+pub mod ColumnLemmas
+pub mod LawLemmas
+pub mod PartitionLemmas
+pub mod RowLemmas
 pub mod CallerLemmas

@@ -16,7 +16,7 @@ use Rattle.compute_sort.specs.IndexedValues.{AppendsToFirst, AreFirst, BeginsWit
 use Rattle.compute_sort.specs.Sort.{AreSortedSlots}
 use Rattle.compute_sort.specs.declared.indexed_values.IndexedValues.{IndexedValues}
 use Rattle.compute_sort.specs.declared.options.SortOptions.{SortOptions}
-use Rattle.compute_sort.proofs.OrderLemmas.{next-slot, no-slot, sorted-append, sorts}
+use Rattle.compute_sort.proofs.OrderLemmas.{next-slot, no-slot, sorted-append, sorts-all}
 
 -- ---- counts
 abbrev one_if : {X : Type 0} → (X → Bool) → X → ℕ
@@ -423,7 +423,7 @@ selected {V} seen slots options cmp order agrees limit room within first indexes
     let numbers : map number first.values.items ≡ take room (map number whole) =
     ap (map number) firsts.sorts.is ∙ sym (take-map number room whole) in (
       first_nulls options.nulls_first nulls (map number whole),
-      sorts seen slots options cmp order agrees (length slots) firsts.all whole nulls firsts.split
+      sorts-all seen slots options cmp order agrees (length slots) firsts.all whole nulls firsts.split
           firsts.sorts.permutation firsts.sorts.sorted,
       cut ∙ ap (take limit) joined ∙ ap (λ l. take limit (first_nulls options.nulls_first nulls l)) numbers
           ∙ cut-others options.nulls_first nulls (map number whole) limit room within,

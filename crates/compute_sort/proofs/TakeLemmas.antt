@@ -1,5 +1,5 @@
 -- Takes by indexes that are each there at most once.
-use Rattle.std.proofs.Common.{◌≡◌, ◌∙◌, ℕ, ◌+◌, ◌<◌, ◌≤◌, ◌^◌, true, false, if◌then◌else◌, not, pos, List, [], ◌∷◌, map, length, get_or, Option, Some, None, slice_get, refl, ap, sym, subst, arith, length-append}
+use Rattle.std.proofs.Common.{◌≡◌, ◌∙◌, ℕ, ◌+◌, ◌<◌, ◌≤◌, ◌^◌, true, false, if◌then◌else◌, not, pos, List, [], ◌∷◌, map, length, get_or, Option, Some, None, slice_get, refl, ap, ap₂, sym, subst, arith, length-append}
 use Rattle.std.specs.Prelude.{find, nat_lt, option_and_then}
 use Rattle.std.specs.List.{All, concat, cons_option, range_with_len, sum_by}
 use Rattle.std.specs.Option.{option_map_or}
@@ -13,13 +13,14 @@ use Rattle.std.proofs.lemmas.Option.{slice_get-get_or}
 use Rattle.arrow_types.proofs.CallerLemmas.{range-below}
 use Rattle.arrow_check.specs.Indexes.{in_bounds}
 use Rattle.arrow_column.specs.Column.{ColumnWith, slots_of, stored_values}
-use Rattle.arrow_bytes.specs.Selection.{at_key, at_keys, first_out_of_bounds}
+use Rattle.arrow_bytes.specs.Selection.{at_key, at_keys, first_out_of_bounds, taken}
 use Rattle.arrow_memory.specs.Offsets.{last_of}
 use Rattle.arrow_memory.specs.Rows.{slot}
 use Rattle.arrow_bytes.specs.Column.{ByteColumn, offsets_held}
 use Rattle.arrow_bytes.specs.Selection.{taking_overflows}
 use Rattle.arrow_bytes.proofs.CallerLemmas.{last-offset}
-use Rattle.compute_sort.specs.Sort.{PickOnce, up_to}
+use Rattle.arrow_kernels.proofs.CallerLemmas.{keys-map}
+use Rattle.compute_sort.specs.Sort.{PickOnce, slot_at, up_to}
 
 cut-below : (n : ℕ) (limit : Option ℕ) (all : List ℕ) → All (λ k. k < n) all → All (λ k. k < n) (up_to limit all)
 cut-below n None all each = each
@@ -48,6 +49,26 @@ pub all-fit : {A S : Type 0} (column : ColumnWith A S) (keys : List ℕ) → len
 all-fit column keys small picks =
     no-fault (length column.rows) keys small
     (picks-below (length column.rows) keys (subst (λ n. PickOnce n keys) (length-map column.rows slot) picks))
+
+-- ---- the slots that a take has
+
+indexed : {X : Type 0} (xs : List X) (d : X) → length xs < 2 ^ 64 → (keys : List ℕ) → All (λ k. k < length xs) keys
+    → at_keys (λ key. pos key) keys xs ≡ map (λ k. get_or xs k d) keys
+indexed xs d small [] all = refl
+indexed xs d small (k ∷ keys) all =
+    ap₂ cons_option
+    (ap (λ t. option_and_then (slice_get xs) (if t then Some k else None))
+    (lt-ltb k (2 ^ 64) (omega (arith, small, All-head (λ i. i < length xs) k keys all)))
+    ∙ slice_get-get_or xs k d (All-head (λ i. i < length xs) k keys all))
+    (indexed xs d small keys (All-tail (λ i. i < length xs) k keys all))
+
+pub taken-slots : {A S : Type 0} (around : A) (column : ColumnWith A S) (keys : List ℕ) → length column.rows < 2 ^ 64
+    → PickOnce (length (slots_of column)) keys
+    → slots_of (taken around (λ key. pos key) column keys) ≡ map (slot_at (slots_of column)) keys
+taken-slots around column keys small picks =
+    sym (keys-map slot (λ key. pos key) keys column.rows)
+    ∙ indexed (slots_of column) None (omega (arith, small, length-map column.rows slot)) keys
+    (picks-below (length (slots_of column)) keys picks)
 
 -- ---- the bytes that a take of items has
 module _ (items : List (List ℕ)) (small : length items < 2 ^ 64) where

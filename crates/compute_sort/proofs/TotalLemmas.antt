@@ -1,5 +1,5 @@
 -- The orders of slots and of rows are total.
-use Rattle.std.proofs.Common.{◌≡◌, ◌<◌, arith, get_or, length, Bool, true, false, if◌then◌else◌, List, [], ◌∷◌, Option, Some, None, refl}
+use Rattle.std.proofs.Common.{◌≡◌, ℕ, ◌<◌, ap₂, arith, drop, sym, get_or, length, Bool, true, false, if◌then◌else◌, List, [], ◌∷◌, Option, Some, None, refl}
 use Rattle.std.specs.Prelude.{unwrap_or}
 use Rattle.std.specs.Cmp.{IsTotalOrder, IsStrictWeakOrder, back_total, bool_cmp_total, int_cmp_total, nat_cmp_total, on_total, then_total}
 use Rattle.std.specs.Cmp.Lexicographic.{nat_list_cmp_total, slice_cmp}
@@ -8,12 +8,12 @@ use Rattle.std.specs.declared.cmp.Ordering.{Ordering}
 use Rattle.std.specs.declared.cmp.Ordering.TheVariants.{Less, Equal}
 use Rattle.std.proofs.lemmas.List.Sorted.{ranks_by}
 use Rattle.arrow_column.specs.Column.{ColumnWith, slots_of}
-use Rattle.compute_sort.specs.declared.lexsort.SortColumn.{SortColumn}
-use Rattle.compute_sort.specs.declared.lexsort.SortValues.{SortValues}
-use Rattle.compute_sort.specs.declared.lexsort.SortValues.TheVariants as values
+use Rattle.compute_sort.specs.declared.columns.SortColumn.{SortColumn}
+use Rattle.compute_sort.specs.declared.columns.SortValues.{SortValues}
+use Rattle.compute_sort.specs.declared.columns.SortValues.TheVariants as values
 use Rattle.compute_sort.specs.declared.options.SortOptions.{SortOptions}
-use Rattle.compute_sort.specs.Columns.{order_at, rows_count, rows_order, values_count, values_order}
-use Rattle.compute_sort.specs.Sort.{default_options, nulls_order, slot_at}
+use Rattle.compute_sort.specs.Columns.{columns_order, order_at, rows_by, rows_count, values_count, values_order, then_index}
+use Rattle.compute_sort.specs.Sort.{default_options, index_order, nulls_order, slot_at, slot_order}
 
 module _ {X : Type 0} (cmp : X → X → Ordering) (o : IsTotalOrder cmp) where
   antisymm : (first : Bool) (x y : Option X) → nulls_order first cmp x y ≡ ordering_reverse (nulls_order first cmp y x)
@@ -54,13 +54,21 @@ module _ {X : Type 0} (cmp : X → X → Ordering) (o : IsTotalOrder cmp) where
   turned-total true = back_total o
   turned-total false = o
 
+-- the order of slots by options, and that of indexes by it
+pub slots-total : {X : Type 0} (options : SortOptions) (cmp : X → X → Ordering) → IsTotalOrder cmp
+    → IsTotalOrder (slot_order options cmp)
+slots-total options cmp o =
+    nulls-total (λ x y. if options.descending then cmp y x else cmp x y) (turned-total cmp o options.descending)
+    options.nulls_first
+
+pub indexes-total : {X : Type 0} (order : Option X → Option X → Ordering) (slots : List (Option X))
+    → IsTotalOrder order → IsTotalOrder (index_order order slots)
+indexes-total order slots o = then_total (on_total (slot_at slots) o) nat_cmp_total
+
 module _ {A X : Type 0} (cmp : X → X → Ordering) (o : IsTotalOrder cmp) (column : ColumnWith A X) (options : SortOptions)
   where
     at-total : IsTotalOrder (order_at cmp column options)
-    at-total =
-        on_total (slot_at (slots_of column))
-        (nulls-total (λ x y. if options.descending then cmp y x else cmp x y) (turned-total cmp o options.descending)
-        options.nulls_first)
+    at-total = on_total (slot_at (slots_of column)) (slots-total options cmp o)
 
 values-total : (array : SortValues) (options : SortOptions) → IsTotalOrder (values_order array options)
 values-total (values.Int8 array) options = at-total int_cmp int_cmp_total array.now options
@@ -78,16 +86,34 @@ values-total (values.LargeBinary array) options = at-total (slice_cmp nat_cmp) n
 values-total (values.Utf8 array) options = at-total (slice_cmp nat_cmp) nat_list_cmp_total array.now options
 values-total (values.LargeUtf8 array) options = at-total (slice_cmp nat_cmp) nat_list_cmp_total array.now options
 
-rows-total : (columns : List SortColumn) → IsTotalOrder (rows_order columns)
-rows-total [] = nat_cmp_total
-rows-total (column ∷ columns) =
-    then_total (values-total column.values (unwrap_or column.options default_options)) (rows-total columns)
+pub columns-total : (columns : List SortColumn) → IsTotalOrder (columns_order columns)
+columns-total [] = record { antisymm = λ x y. refl; trans = λ x y z p q. p; congr = λ x y z p. refl }
+columns-total (column ∷ columns) =
+    then_total (values-total column.values (unwrap_or column.options default_options)) (columns-total columns)
 
-pub rows-strict : (columns : List SortColumn) → IsStrictWeakOrder (λ i j. is_lt (rows_order columns i j))
-rows-strict columns = ranks_by (rows-total columns) (λ i. i)
+-- an order of rows with that of their indexes
+pub indexes-strict : (order : ℕ → ℕ → Ordering) → IsTotalOrder order
+    → IsStrictWeakOrder (λ i j. is_lt (then_index order i j))
+indexes-strict order total = ranks_by (then_total total nat_cmp_total) (λ i. i)
+
+-- that of the slots of an array
+pub order-total : {A X : Type 0} (cmp : X → X → Ordering) → IsTotalOrder cmp → (column : ColumnWith A X)
+    (options : SortOptions) → IsTotalOrder (order_at cmp column options)
+order-total cmp o column options = at-total cmp o column options
+
+-- that of rows by an array and other columns
+pub rows-by_total : {A X : Type 0} (cmp : X → X → Ordering) → IsTotalOrder cmp → (column : ColumnWith A X)
+    (options : SortOptions) (rest : List SortColumn) → IsTotalOrder (rows_by (order_at cmp column options) rest)
+rows-by_total cmp o column options rest = then_total (at-total cmp o column options) (columns-total rest)
 
 -- the rows are as many as the first column's slots
 pub first-count : (columns : List SortColumn) (d : SortColumn) → 0 < length columns
     → values_count (get_or columns 0 d).values ≡ rows_count columns
 first-count [] d some = absurd (omega (arith, some))
 first-count (first ∷ rest) d some = refl
+
+-- the order of rows, by that of the first column and by the others
+pub first-and_rest : (columns : List SortColumn) (first : SortColumn) (rest : List SortColumn) → 0 < length columns
+    → first ≡ get_or columns 0 first → rest ≡ drop 1 columns → columns ≡ first ∷ rest
+first-and_rest [] first rest some is others = absurd (omega (arith, some))
+first-and_rest (column ∷ columns) first rest some is others = sym (ap₂ (λ c cs. c ∷ cs) is others)

@@ -1,10 +1,12 @@
 -- What the steps of a sort make. Only private functions cite this.
-use Rattle.std.specs.Prelude.{◌≡◌, ◌-◌, ◌<◌, ◌≤◌, ℕ, Bool, false, not, if◌then◌else◌, Option, Some, None, is_some}
+use Rattle.std.specs.Prelude.{◌≡◌, ◌+◌, ◌-◌, ◌<◌, ◌≤◌, ℕ, Bool, false, not, true, if◌then◌else◌, Option, Some, None, is_some}
 use Rattle.std.specs.Prelude.{List, [], ◌∷◌, ◌++◌, All, length, map, filter, slice_index_or, take}
 use Rattle.std.specs.List.{range_with_len}
+use Rattle.std.specs.Cmp.{IsTotalOrder}
 use Rattle.std.specs.List.Sorted.{IsPermutation, IsSorted}
 use Rattle.std.specs.Ordering.{is_lt, nat_cmp, on, ordering_then}
 use Rattle.std.specs.declared.cmp.Ordering.{Ordering}
+use Rattle.arrow_column.specs.Column.{ColumnWith, slots_of}
 use Rattle.compute_sort.specs.declared.indexed_values.IndexedValues.{IndexedValues}
 use Rattle.compute_sort.specs.Sort.{slot_at}
 
@@ -12,9 +14,20 @@ use Rattle.compute_sort.specs.Sort.{slot_at}
 abbrev pub pair_order : {V : Type 0} → (V → V → Ordering) → V × ℕ → V × ℕ → Ordering
 pair_order cmp x y = ordering_then (cmp x.0 y.0) (nat_cmp x.1 y.1)
 
--- whether the index of a pair is less than that of another
-abbrev pub by_index : {V : Type 0} → V × ℕ → V × ℕ → Bool
-by_index x y = is_lt (nat_cmp x.1 y.1)
+-- pairs are sorted by their values, and stay in any order of their indexes in which they were, where these are equal
+abbrev pub SortsPairs : {V : Type 0} → (V → V → Ordering) → List (V × ℕ) → List (V × ℕ) → Type 0
+SortsPairs cmp old new = (rest : ℕ → ℕ → Ordering) → IsTotalOrder rest → IsSorted (λ x y. rest x.1 y.1) old
+    → IsSorted (λ x y. ordering_then (cmp x.0 y.0) (rest x.1 y.1)) new
+
+-- an order, or its reverse if descending
+abbrev pub flip_if : {V : Type 0} → Bool → (V → V → Ordering) → V → V → Ordering
+flip_if descending cmp x y = if descending then cmp y x else cmp x y
+
+-- indexes are sorted by an order, and stay in any order in which they were, where it calls them equal
+pub record SortsStably (order : ℕ → ℕ → Ordering) (old new : List ℕ) : Type 0 where
+  pub permutation : IsPermutation old new
+  pub sorted : (rest : ℕ → ℕ → Ordering) → IsTotalOrder rest → IsSorted rest old
+      → IsSorted (λ i j. ordering_then (order i j) (rest i j)) new
 
 -- whether the slot at an index is valid, and whether it is null
 abbrev pub is_valid_at : {X : Type 0} → List (Option X) → ℕ → Bool
@@ -23,12 +36,20 @@ is_valid_at slots i = is_some (slot_at slots i)
 abbrev pub is_null_at : {X : Type 0} → List (Option X) → ℕ → Bool
 is_null_at slots i = not (is_valid_at slots i)
 
--- these are the values of the valid slots below n with their indexes, and the indexes of the null slots below n
-pub record SplitsSlots {V X : Type 0} (seen : V → X) (slots : List (Option X)) (n : ℕ) (values : List (V × ℕ))
+-- these are the values of the slots at some indexes that are valid, with their indexes, and the indexes of the others
+pub record SplitsList {V X : Type 0} (seen : V → X) (slots : List (Option X)) (indexes : List ℕ) (values : List (V × ℕ))
     (nulls : List ℕ) : Type 0 where
   pub shown : All (λ element. slot_at slots element.1 ≡ Some (seen element.0)) values
-  pub valid : map (λ element. element.1) values ≡ filter (is_valid_at slots) (range_with_len 0 n)
-  pub null : nulls ≡ filter (is_null_at slots) (range_with_len 0 n)
+  pub valid : map (λ element. element.1) values ≡ filter (is_valid_at slots) indexes
+  pub null : nulls ≡ filter (is_null_at slots) indexes
+
+-- these are the values of the slots of a column at some indexes that are valid, and the indexes of the others
+abbrev pub SplitsColumn : {V A X : Type 0} → (V → X) → ColumnWith A X → List ℕ → IndexedValues V → Type 0
+SplitsColumn seen column indexes split = SplitsList seen (slots_of column) indexes split.values.items split.nulls.items
+
+-- these are the values of the valid slots below n with their indexes, and the indexes of the null slots below n
+abbrev pub SplitsSlots : {V X : Type 0} → (V → X) → List (Option X) → ℕ → List (V × ℕ) → List ℕ → Type 0
+SplitsSlots seen slots n values nulls = SplitsList seen slots (range_with_len 0 n) values nulls
 
 -- these are the values of all valid slots with their indexes, and the indexes of all null slots
 abbrev pub SplitsAll : {V X : Type 0} → (V → X) → List (Option X) → List (V × ℕ) → List ℕ → Type 0
@@ -45,7 +66,7 @@ first_nulls nulls_first nulls others = if nulls_first then nulls ++ others else 
 
 -- the order of two pairs by an order of values, which is reversed if descending
 abbrev pub pair_order_by : {V : Type 0} → Bool → (V → V → Ordering) → V × ℕ → V × ℕ → Ordering
-pair_order_by descending cmp = pair_order (λ x y. if descending then cmp y x else cmp x y)
+pair_order_by descending cmp = pair_order (flip_if descending cmp)
 
 -- the same by an order of what is seen of values
 abbrev pub seen_order : {V X : Type 0} → Bool → (V → X) → (X → X → Ordering) → V × ℕ → V × ℕ → Ordering
@@ -120,9 +141,21 @@ pub record SortsFirst {E : Type 0} (order : E → E → Ordering) (limit : ℕ) 
   pub sorted : IsSorted order whole
   pub is : first ≡ take limit whole
 
+-- these are the indexes of the first `limit` of n rows, sorted
+abbrev pub SortsFirstRows : (ℕ → ℕ → Ordering) → ℕ → ℕ → List ℕ → Type 0
+SortsFirstRows order n limit first = SortsFirst order limit (range_with_len 0 n) first
+
 -- these are the first `limit` values of the valid slots, sorted, with their indexes, and the indexes of the null slots
 pub record SortsFirstSlots {V X : Type 0} (seen : V → X) (order : V × ℕ → V × ℕ → Ordering) (limit : ℕ)
     (slots : List (Option X)) (first : IndexedValues V) : Type 0 where
   pub all : List (V × ℕ)
   pub split : SplitsAll seen slots all first.nulls.items
   pub sorts : SortsFirst order limit all first.values.items
+
+-- none of the rows below n is less than the one before it
+abbrev pub AreInOrder : (ℕ → ℕ → Ordering) → ℕ → Type 0
+AreInOrder order n = (k : ℕ) → k + 1 < n → is_lt (order (k + 1) k) ≡ false
+
+-- each of the rows below n is less than the one before it
+abbrev pub AreInReverse : (ℕ → ℕ → Ordering) → ℕ → Type 0
+AreInReverse order n = (k : ℕ) → k + 1 < n → is_lt (order (k + 1) k) ≡ true

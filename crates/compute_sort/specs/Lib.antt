@@ -1,3 +1,4 @@
 pub mod Sort
 pub mod IndexedValues
 pub mod Columns
+pub mod Partition

@@ -1,14 +1,15 @@
 -- The order of slots, and the indexes that sort them.
-use Rattle.std.specs.Prelude.{◌≡◌, ℕ, Bool, true, false, List, Option, Some, None, length, take, if◌then◌else◌}
+use Rattle.std.specs.Prelude.{◌≡◌, ◌≤◌, ℕ, Bool, true, false, List, Option, Some, None, length, map, slice_get, take}
+use Rattle.std.specs.Prelude.{if◌then◌else◌}
 use Rattle.std.specs.List.{range_with_len}
 use Rattle.std.specs.List.Sorted.{IsPermutation, IsSorted}
-use Rattle.std.specs.Ordering.{nat_cmp, ordering_then}
+use Rattle.std.specs.Ordering.{is_lt, nat_cmp, ordering_then}
 use Rattle.std.specs.declared.cmp.Ordering.{Ordering}
 use Rattle.std.specs.declared.cmp.Ordering.TheVariants.{Less, Equal, Greater}
 -- the slot at an index; past the end a null
 pub use Rattle.arrow_types.specs.ListText.{slot_at}
 use Rattle.arrow_types.specs.Types.{plain, uint64}
-use Rattle.arrow_column.specs.Column.{Column, column_of_parts, stored_values}
+use Rattle.arrow_column.specs.Column.{Column, ColumnWith, column_of_parts, slots_of, stored_values}
 use Rattle.compute_sort.specs.declared.options.SortOptions.{SortOptions}
 
 -- the order of two slots: values by their order, and nulls before or after all values
@@ -77,3 +78,50 @@ abbrev pub TakesSortedSlots : {X V : Type 0} → SortOptions → (X → X → Or
     → (List ℕ → V) → V → Type 0
 TakesSortedSlots options cmp slots limit take_at made =
     TakesSorted (index_order (slot_order options cmp) slots) (length slots) limit take_at made
+
+-- these are the slots at the sorted indexes of slots, up to a limit
+abbrev pub HasSortedSlots : {X : Type 0} → SortOptions → (X → X → Ordering) → List (Option X) → Option ℕ
+    → List (Option X) → Type 0
+HasSortedSlots options cmp slots limit shown = (keys : List ℕ) × AreSortedSlots options cmp slots limit keys
+    × (shown ≡ map (slot_at slots) keys)
+
+-- an array has the slots of another, sorted, up to a limit
+abbrev pub IsSortedColumn : {A B X : Type 0} → SortOptions → (X → X → Ordering) → ColumnWith A X → Option ℕ
+    → ColumnWith B X → Type 0
+IsSortedColumn options cmp array limit made = HasSortedSlots options cmp (slots_of array) limit (slots_of made)
+
+-- an array has the slots of another at these indexes
+abbrev pub HasSlotsAt : {A B X : Type 0} → ColumnWith A X → List ℕ → ColumnWith B X → Type 0
+HasSlotsAt array keys made = slots_of made ≡ map (slot_at (slots_of array)) keys
+
+-- of any two slots, the later does not come before the earlier
+abbrev pub Ascend : {X : Type 0} → SortOptions → (X → X → Ordering) → List (Option X) → Type 0
+Ascend {X} options cmp shown = (a b : ℕ) (x y : Option X) → a ≤ b → slice_get shown a ≡ Some x
+    → slice_get shown b ≡ Some y → is_lt (slot_order options cmp y x) ≡ false
+
+-- before a null are only nulls
+abbrev pub NullsComeFirst : {X : Type 0} → List (Option X) → Type 0
+NullsComeFirst {X} shown = (a b : ℕ) (x : Option X) → a ≤ b → slice_get shown a ≡ Some x
+    → slice_get shown b ≡ Some None → x ≡ None
+
+-- after a null are only nulls
+abbrev pub NullsComeLast : {X : Type 0} → List (Option X) → Type 0
+NullsComeLast {X} shown = (a b : ℕ) (y : Option X) → a ≤ b → slice_get shown a ≡ Some None
+    → slice_get shown b ≡ Some y → y ≡ None
+
+-- of two indexes of equal slots, the lesser comes first
+abbrev pub KeepOrder : {X : Type 0} → SortOptions → (X → X → Ordering) → List (Option X) → List ℕ → Type 0
+KeepOrder options cmp slots keys = (a b i j : ℕ) → a ≤ b → slice_get keys a ≡ Some i → slice_get keys b ≡ Some j
+    → slot_order options cmp (slot_at slots i) (slot_at slots j) ≡ Equal → i ≤ j
+
+-- a fact of any sort: of its options, the order of values, the slots, the limit and the sorted slots
+abbrev pub ForSorts : (X : Type 0) → (SortOptions → (X → X → Ordering) → List (Option X) → Option ℕ → List (Option X)
+    → Type 0) → Type 0
+ForSorts X P = (options : SortOptions) (cmp : X → X → Ordering) (slots : List (Option X)) (limit : Option ℕ)
+    (shown : List (Option X)) → HasSortedSlots options cmp slots limit shown → P options cmp slots limit shown
+
+-- a fact of any indexes that sort: of the options, the order of values, the slots, the limit and the indexes
+abbrev pub ForSortedIndexes : (X : Type 0) → (SortOptions → (X → X → Ordering) → List (Option X) → Option ℕ → List ℕ
+    → Type 0) → Type 0
+ForSortedIndexes X P = (options : SortOptions) (cmp : X → X → Ordering) (slots : List (Option X)) (limit : Option ℕ)
+    (keys : List ℕ) → AreSortedSlots options cmp slots limit keys → P options cmp slots limit keys

@@ -10,7 +10,7 @@ use std::cmp::Ordering;
 
 /// Returns the slot at an index; past the end it is null.
 #[inline(always)]
-fn slot_or_null<'a, A: BorrowSlots<'a>>(array: &'a A, i: usize) -> Option<A::Value>
+pub(crate) fn slot_or_null<'a, A: BorrowSlots<'a>>(array: &'a A, i: usize) -> Option<A::Value>
     ensures { option_map A.seen result ≡ slot_at (slots_of (A.column array.entry.now)) i }
 {
     if i < array.len() {

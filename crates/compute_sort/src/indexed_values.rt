@@ -1,13 +1,16 @@
 //! The values of slots with their indexes, and the indexes of null slots.
-ghost use Rattle.std.specs.Prelude.{◌≡◌, ◌++◌, IfOk, OnOk, map, if◌then◌else◌};
+ghost use Rattle.std.specs.Prelude.{◌≡◌, ◌++◌, IfOk, OnOk, map};
 ghost use Rattle.std.specs.Cmp.{IsTotalOrder};
-ghost use Rattle.std.specs.List.Sorted.{IsPermutation, IsSorted, IsSortedBy};
+ghost use Rattle.std.specs.List.Sorted.{IsPermutation};
 ghost use Rattle.std.specs.Ordering.{on};
 ghost use Rattle.arrow_column.specs.Column.{slots_of};
-ghost use Rattle.compute_sort.specs.IndexedValues.{PushesPair, SplitsAll, by_index, pair_order, pair_order_by, first_nulls};
+ghost use Rattle.compute_sort.specs.IndexedValues.{PushesPair, SortsPairs, SplitsAll, SplitsColumn, first_nulls, flip_if};
+ghost use Rattle.compute_sort.specs.Columns.{SortsAt};
 ghost use Rattle.compute_sort.specs.Sort.{SortsSlots, up_to};
 
 use crate::SortOptions;
+use crate::compare::slot_or_null;
+use crate::in_order::{all_indexes, are_in_order, are_in_reverse, reversed_indexes};
 use compute_slots::{BorrowSlots, OrderSlots, get_slot};
 use std::alloc::{AllocError, Global};
 
@@ -56,15 +59,34 @@ fn split_slots<'a, A: BorrowSlots<'a>>(
     Ok(indexed)
 }
 
-/// Sorts values ascending. They must be in the order of their indexes, so equal values stay so.
+/// Returns the values of the slots at indexes that are valid, and the indexes of the others, both in their order.
+fn split_indexes<'a, A: BorrowSlots<'a>>(
+    alloc: Global,
+    array: &'a A,
+    indexes: &[u64],
+) -> Result<IndexedValues<A::Value>, AllocError>
+    ensures { IfOk result (SplitsColumn A.seen (A.column array.entry.now) indexes.now) }
+{
+    let nulls = array.null_count();
+    let mut indexed = IndexedValues {
+        values: Vec::with_capacity(alloc, indexes.len().saturating_sub(nulls))?,
+        nulls: Vec::with_capacity(alloc, nulls)?,
+    };
+    for index in indexes {
+        let slot = slot_or_null(array, *index as usize);
+        push_pair(&mut indexed, slot, *index)?;
+    }
+    Ok(indexed)
+}
+
+/// Sorts values ascending. Equal values stay in their order.
 fn sort_ascending<'a, V: Copy, A: OrderSlots<'a, Value = V>>(
     array: &'a A,
     values: &mut Vec<(V, u64)>,
 ) -> Result<(), AllocError>
-    requires rising { IsSortedBy by_index values.old.items }
-    requires total { IsTotalOrder A.order }
+    requires { IsTotalOrder A.order }
     ensures permutation { IsPermutation values.old.items values.new.items }
-    ensures sorted { OnOk result (IsSorted (pair_order (on A.seen A.order)) values.new.items) }
+    ensures sorted { OnOk result (SortsPairs (on A.seen A.order) values.old.items values.new.items) }
 {
     values.sort_by(
         |lhs, rhs|
@@ -73,16 +95,15 @@ fn sort_ascending<'a, V: Copy, A: OrderSlots<'a, Value = V>>(
     )
 }
 
-/// Sorts values descending. They must be in the order of their indexes, so equal values stay so.
+/// Sorts values descending. Equal values stay in their order.
 fn sort_descending<'a, V: Copy, A: OrderSlots<'a, Value = V>>(
     array: &'a A,
     values: &mut Vec<(V, u64)>,
 ) -> Result<(), AllocError>
-    requires rising { IsSortedBy by_index values.old.items }
-    requires total { IsTotalOrder A.order }
+    requires { IsTotalOrder A.order }
     ensures permutation { IsPermutation values.old.items values.new.items }
     ensures sorted { OnOk result
-        (IsSorted (pair_order (λ x y. on A.seen A.order y x)) values.new.items) }
+        (SortsPairs (λ x y. on A.seen A.order y x) values.old.items values.new.items) }
 {
     values.sort_by(
         |lhs, rhs|
@@ -91,18 +112,16 @@ fn sort_descending<'a, V: Copy, A: OrderSlots<'a, Value = V>>(
     )
 }
 
-/// Sorts values ascending or descending. They must be in the order of their indexes, so equal values
-/// stay so.
+/// Sorts values ascending or descending. Equal values stay in their order.
 fn sort_values<'a, A: OrderSlots<'a>>(
     array: &'a A,
     values: &mut Vec<(A::Value, u64)>,
     descending: bool,
 ) -> Result<(), AllocError>
-    requires rising { IsSortedBy by_index values.old.items }
-    requires total { IsTotalOrder A.order }
+    requires { IsTotalOrder A.order }
     ensures permutation { IsPermutation values.old.items values.new.items }
     ensures sorted { OnOk result
-        (IsSorted (pair_order_by descending (on A.seen A.order)) values.new.items) }
+        (SortsPairs (flip_if descending (on A.seen A.order)) values.old.items values.new.items) }
 {
     if descending {
         return sort_descending::<A::Value, A>(array, values);
@@ -141,7 +160,7 @@ pub(crate) fn join_indexes<V>(
     Ok(indexes)
 }
 
-/// Returns the indexes of all slots, sorted.
+/// Returns the indexes of all slots, sorted. Slots that are in order, or in the reverse order, are not copied.
 pub(crate) fn sorted_indexes<'a, A: OrderSlots<'a>>(
     alloc: Global,
     array: &'a A,
@@ -151,8 +170,30 @@ pub(crate) fn sorted_indexes<'a, A: OrderSlots<'a>>(
     ensures { IfOk result (λ indexes.
         SortsSlots options A.order (slots_of (A.column array.entry.now)) indexes.items) }
 {
+    if are_in_order(array, options) {
+        return all_indexes(alloc, array.len());
+    }
+    if are_in_reverse(array, options) {
+        return reversed_indexes(alloc, array.len());
+    }
     let nulls = array.null_count();
     let mut indexed = split_slots(alloc, array, nulls)?;
+    sort_values(array, &mut indexed.values, options.descending)?;
+    let (values, nulls) = (indexed.values.as_slice(), indexed.nulls.as_slice());
+    join_indexes(alloc, values, nulls, options.nulls_first)
+}
+
+/// Returns indexes sorted by the slots there. Those of equal slots stay in their order.
+pub(crate) fn sort_indexes<'a, A: OrderSlots<'a>>(
+    alloc: Global,
+    array: &'a A,
+    options: SortOptions,
+    indexes: &[u64],
+) -> Result<Vec<u64>, AllocError>
+    ensures { IfOk result (λ sorted.
+        SortsAt A.order (A.column array.entry.now) options indexes.now sorted.items) }
+{
+    let mut indexed = split_indexes(alloc, array, indexes)?;
     sort_values(array, &mut indexed.values, options.descending)?;
     let (values, nulls) = (indexed.values.as_slice(), indexed.nulls.as_slice());
     join_indexes(alloc, values, nulls, options.nulls_first)

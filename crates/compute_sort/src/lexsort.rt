@@ -1,148 +1,96 @@
 //! Sorts over several columns.
-ghost use Rattle.std.specs.Prelude.{◌≡◌, ◌<◌, IfOk, length, unwrap_or};
-ghost use Rattle.std.specs.List.{range_with_len};
+ghost use Rattle.std.specs.Prelude.{◌≡◌, ◌<◌, IfOk, Some, length};
 ghost use Rattle.arrow_types.specs.Failures.{OnlyOutOfMemory};
-ghost use Rattle.compute_sort.specs.Columns.{AreColumns, rows_count, rows_order, values_count, values_order};
-ghost use Rattle.compute_sort.specs.Sort.{HoldsSorted, SortsIndexes, default_options};
+ghost use Rattle.compute_sort.specs.Columns.{AreColumns, AreSortedColumns, AreSortedRows, columns_at, rows_count};
+ghost use Rattle.compute_sort.specs.Columns.{rows_order};
+ghost use Rattle.compute_sort.specs.Sort.{HoldsSorted, PickOnce, SortsIndexes};
 
 use crate::SortOptions;
-use crate::compare::compare_slots;
+use crate::columns::sort_by_column;
+pub use crate::columns::{SortColumn, SortValues, SortedValues};
+use crate::in_order::all_indexes;
 use crate::indexed_values::truncate_to;
-use arrow_binary::BinaryArray;
-use arrow_boolean::BooleanArray;
+use crate::rows::selected_by;
 use arrow_primitive::PrimitiveArray;
 use arrow_types::error::Error;
-use arrow_utf8::Utf8Array;
 use std::alloc::{AllocError, Global};
-use std::cmp::Ordering;
 
-/// An array of one of the kinds by which rows are sorted.
-#[derive(Clone, Copy)]
-pub enum SortValues<'a> {
-    /// Numbers of 8 bits.
-    Int8(&'a PrimitiveArray<i8>),
-    /// Numbers of 16 bits.
-    Int16(&'a PrimitiveArray<i16>),
-    /// Numbers of 32 bits.
-    Int32(&'a PrimitiveArray<i32>),
-    /// Numbers of 64 bits.
-    Int64(&'a PrimitiveArray<i64>),
-    /// Numbers of 128 bits.
-    Int128(&'a PrimitiveArray<i128>),
-    /// Unsigned numbers of 8 bits.
-    UInt8(&'a PrimitiveArray<u8>),
-    /// Unsigned numbers of 16 bits.
-    UInt16(&'a PrimitiveArray<u16>),
-    /// Unsigned numbers of 32 bits.
-    UInt32(&'a PrimitiveArray<u32>),
-    /// Unsigned numbers of 64 bits.
-    UInt64(&'a PrimitiveArray<u64>),
-    /// Booleans.
-    Boolean(&'a BooleanArray),
-    /// Bytes.
-    Binary(&'a BinaryArray<i32>),
-    /// Bytes with large offsets.
-    LargeBinary(&'a BinaryArray<i64>),
-    /// Text.
-    Utf8(&'a Utf8Array<i32>),
-    /// Text with large offsets.
-    LargeUtf8(&'a Utf8Array<i64>),
-}
-
-/// A column by which rows are sorted, and how; without options ascending, nulls first.
-#[derive(Clone, Copy)]
-pub struct SortColumn<'a> {
-    /// The slots.
-    pub values: SortValues<'a>,
-    /// How they are ordered.
-    pub options: Option<SortOptions>,
-}
-
-/// Returns the order of the slots of an array at two indexes.
-fn compare_values(values: &SortValues<'_>, options: SortOptions, i: usize, j: usize) -> Ordering
-    ensures { result ≡ values_order values.now options i j }
+/// Returns the indexes of all rows, sorted: by the last column first, since each sort keeps the order of the one before
+/// it where slots are equal. The kind of a column is asked once, and no two rows are compared by more than one column.
+fn sorted_rows(
+    alloc: Global,
+    columns: &[SortColumn<'_>],
+    count: usize,
+) -> Result<Vec<u64>, AllocError>
+    ensures { IfOk result (λ indexes. SortsIndexes (rows_order columns.now) count indexes.items) }
 {
-    match *values {
-        SortValues::Int8(array) => compare_slots(array, options, i, j),
-        SortValues::Int16(array) => compare_slots(array, options, i, j),
-        SortValues::Int32(array) => compare_slots(array, options, i, j),
-        SortValues::Int64(array) => compare_slots(array, options, i, j),
-        SortValues::Int128(array) => compare_slots(array, options, i, j),
-        SortValues::UInt8(array) => compare_slots(array, options, i, j),
-        SortValues::UInt16(array) => compare_slots(array, options, i, j),
-        SortValues::UInt32(array) => compare_slots(array, options, i, j),
-        SortValues::UInt64(array) => compare_slots(array, options, i, j),
-        SortValues::Boolean(array) => compare_slots(array, options, i, j),
-        SortValues::Binary(array) => compare_slots(array, options, i, j),
-        SortValues::LargeBinary(array) => compare_slots(array, options, i, j),
-        SortValues::Utf8(array) => compare_slots(array, options, i, j),
-        SortValues::LargeUtf8(array) => compare_slots(array, options, i, j),
-    }
-}
-
-/// Returns the number of slots of an array.
-fn count_slots(values: &SortValues<'_>) -> usize
-    ensures { result ≡ values_count values.now }
-{
-    match *values {
-        SortValues::Int8(array) => array.len(),
-        SortValues::Int16(array) => array.len(),
-        SortValues::Int32(array) => array.len(),
-        SortValues::Int64(array) => array.len(),
-        SortValues::Int128(array) => array.len(),
-        SortValues::UInt8(array) => array.len(),
-        SortValues::UInt16(array) => array.len(),
-        SortValues::UInt32(array) => array.len(),
-        SortValues::UInt64(array) => array.len(),
-        SortValues::Boolean(array) => array.len(),
-        SortValues::Binary(array) => array.len(),
-        SortValues::LargeBinary(array) => array.len(),
-        SortValues::Utf8(array) => array.len(),
-        SortValues::LargeUtf8(array) => array.len(),
-    }
-}
-
-/// Returns the order of two rows: the first column in which they differ decides, and of equal rows
-/// their indexes.
-fn compare_rows(columns: &[SortColumn<'_>], i: usize, j: usize) -> Ordering
-    ensures { result ≡ rows_order columns.now i j }
-{
-    for column in columns {
+    let mut indexes = all_indexes(alloc, count)?;
+    for k in 0..columns.len() {
+        let column = columns[columns.len() - 1 - k];
         let options = column.options.unwrap_or(SortOptions::default());
-        match compare_values(&column.values, options, i, j) {
-            Ordering::Equal => {}
-            order => return order,
+        indexes = sort_by_column(alloc, &column.values, options, indexes.as_slice())?;
+    }
+    Ok(indexes)
+}
+
+/// Returns the first `limit` of the sorted indexes of all rows, from a selection.
+fn selected_rows<'a>(
+    alloc: Global,
+    columns: &'a [SortColumn<'a>],
+    limit: usize,
+) -> Result<Vec<u64>, AllocError>
+    requires { 0 < length columns.now }
+    ensures { IfOk result (λ indexes. AreSortedRows columns.entry.now (Some limit) indexes.items) }
+{
+    let first = columns[0];
+    let options = first.options.unwrap_or(SortOptions::default());
+    selected_by(alloc, first.values, options, &columns[1..], limit)
+}
+
+/// Returns the sorted indexes of all rows, up to a limit. If the limit is small beside the number of rows, the first
+/// rows are selected rather than all sorted.
+fn limited_rows<'a>(
+    alloc: Global,
+    columns: &'a [SortColumn<'a>],
+    limit: Option<usize>,
+) -> Result<Vec<u64>, AllocError>
+    requires { 0 < length columns.now }
+    ensures { IfOk result (λ indexes. AreSortedRows columns.entry.now limit indexes.items) }
+{
+    let count = columns[0].values.len();
+    if let Some(limit) = limit {
+        if limit < count / 8 {
+            return selected_rows(alloc, columns, limit);
         }
     }
-    i.cmp(&j)
+    let indexes = sorted_rows(alloc, columns, count)?;
+    Ok(truncate_to(indexes, limit))
 }
 
-/// Returns the numbers below `count`.
-fn all_indexes(alloc: Global, count: usize) -> Result<Vec<u64>, AllocError>
-    ensures { IfOk result (λ indexes. indexes.items ≡ range_with_len 0 count) }
+/// Returns the slots of each column at indexes, each of which is there at most once.
+fn take_columns(
+    alloc: Global,
+    columns: &[SortColumn<'_>],
+    indexes: &[u64],
+) -> Result<Vec<SortedValues>, Error>
+    requires columns { AreColumns columns.now }
+    requires once { PickOnce (rows_count columns.now) indexes.now }
+    ensures ok { IfOk result (λ made. made.items ≡ columns_at columns.now indexes.now) }
+    ensures err { OnlyOutOfMemory result }
 {
-    let mut indexes = Vec::with_capacity(alloc, count)?;
-    for i in 0..count {
-        indexes.push(i as u64)?;
+    let mut made = Vec::with_capacity(alloc, columns.len())?;
+    for column in columns {
+        made.push(column.values.take(alloc, indexes)?)?;
     }
-    Ok(indexes)
+    Ok(made)
 }
 
-/// Returns the indexes of all rows, sorted.
-fn sorted_rows(alloc: Global, columns: &[SortColumn<'_>]) -> Result<Vec<u64>, AllocError>
-    requires { 0 < length columns.now }
-    ensures { IfOk result (λ indexes.
-        SortsIndexes (rows_order columns.now) (rows_count columns.now) indexes.items) }
-{
-    let mut indexes = all_indexes(alloc, count_slots(&columns[0].values))?;
-    indexes.sort_unstable_by(|i, j| compare_rows(columns, *i as usize, *j as usize));
-    Ok(indexes)
-}
-
-/// Returns the indexes that sort rows, up to a limit, as unsigned 64-bit numbers: every index once,
-/// in the order of the rows there; the first column in which two rows differ decides, and equal
-/// rows are in the order of their indexes. There must be a column, and all must have equally many
-/// slots.
+/// Returns the indexes that sort rows, up to a limit, as unsigned 64-bit numbers: every index once, in the order of the
+/// rows there; the first column in which two rows differ decides, and equal rows are in the order of their indexes.
+/// There must be a column, and all must have equally many slots ([`SortValues::len`]).
+///
+/// A sort of all rows needs the memory of [`crate::sort::sort_to_indices`] for one column at a time, and 8 bytes a row
+/// more. With a limit below an eighth of the rows, 16 bytes for each of the first rows, of which at least 32 are kept.
 ///
 /// # Errors
 /// `OutOfMemory` if an allocation fails.
@@ -155,6 +103,25 @@ pub fn lexsort_to_indices<'a>(
     ensures ok { IfOk result (HoldsSorted (rows_order columns.entry.now) (rows_count columns.entry.now) limit) }
     ensures err { OnlyOutOfMemory result }
 {
-    let indexes = sorted_rows(alloc, columns)?;
-    PrimitiveArray::from_vec(truncate_to(indexes, limit))
+    PrimitiveArray::from_vec(limited_rows(alloc, columns, limit)?)
+}
+
+/// Returns the columns by which rows are sorted, each with its slots at the indexes of [`lexsort_to_indices`], up to a
+/// limit. There must be a column, and all must have equally many slots ([`SortValues::len`]).
+///
+/// It needs the memory of [`lexsort_to_indices`], beside that of the columns which it returns.
+///
+/// # Errors
+/// `OutOfMemory` if an allocation fails.
+pub fn lexsort<'a>(
+    alloc: Global,
+    columns: &'a [SortColumn<'a>],
+    limit: Option<usize>,
+) -> Result<Vec<SortedValues>, Error>
+    requires { AreColumns columns.now }
+    ensures ok { IfOk result (λ made. AreSortedColumns columns.entry.now limit made.items) }
+    ensures err { OnlyOutOfMemory result }
+{
+    let indexes = limited_rows(alloc, columns, limit)?;
+    take_columns(alloc, columns, indexes.as_slice())
 }

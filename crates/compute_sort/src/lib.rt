@@ -2,10 +2,16 @@
 //! array or of several, and sorted arrays.
 #![tactic(auto)]
 
+mod columns;
 mod compare;
+mod first_rows;
+mod in_order;
 mod indexed_values;
+pub mod laws;
 pub mod lexsort;
 mod options;
+pub mod partition;
+mod rows;
 mod select;
 pub mod sort;
 mod sortable;

@@ -15,7 +15,7 @@ use std::alloc::{AllocError, Global};
 use std::cmp::Ordering;
 
 /// The least number of first values that are kept: sorts of fewer at a time cost more in all.
-const LEAST_KEPT: usize = 32;
+pub(crate) const LEAST_KEPT: usize = 32;
 
 /// Returns the order of two pairs: that of their values, and for equal values that of their
 /// indexes.

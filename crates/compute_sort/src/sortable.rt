@@ -5,7 +5,7 @@ ghost use Rattle.arrow_types.specs.Failures.{OnlyOutOfMemory};
 ghost use Rattle.arrow_bytes.specs.Pieces.{nothing_around};
 ghost use Rattle.arrow_bytes.specs.Selection.{taken};
 ghost use Rattle.arrow_column.specs.Column.{slots_of};
-ghost use Rattle.compute_sort.specs.Sort.{AreSortedSlots, PickOnce};
+ghost use Rattle.compute_sort.specs.Sort.{AreSortedSlots, HasSlotsAt, PickOnce};
 
 use crate::SortOptions;
 use crate::select::limited_indexes;
@@ -49,6 +49,8 @@ pub trait SortableArray: Array {
     fn take_indexes(&self, alloc: Global, indexes: &[u64]) -> Result<Self, Error>
         requires { PickOnce (length (slots_of (Self.column self.now))) indexes.now }
         ensures ok { IfOk result (λ made. made ≡ take_at self.now indexes.now) }
+        ensures slots { IfOk result (λ made.
+            HasSlotsAt (Self.column self.now) indexes.now (Self.column made)) }
         ensures err { OnlyOutOfMemory result };
 }
 
@@ -109,6 +111,7 @@ fn take_items_once<K: ByteKind, O: Offset>(
 ) -> Result<ByteArray<K, O>, Error>
     requires { PickOnce (length (slots_of array.now)) indexes.now }
     ensures ok { IfOk result (λ made. made ≡ taken nothing_around (λ key. pos key) array.now indexes.now) }
+    ensures slots { IfOk result (λ made. HasSlotsAt array.now indexes.now made) }
     ensures err { OnlyOutOfMemory result }
 {
     // Called for their contracts: the number of slots fits in a `usize`, and no item ends past the

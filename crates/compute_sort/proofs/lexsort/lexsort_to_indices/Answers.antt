@@ -11,8 +11,8 @@ pub returns-clause-ok : goal.returns-clause-ok
 returns-clause-ok c =
     let order = rows_order c.args.columns.now in
     let n = rows_count c.args.columns.now in
-    IfOk-weaker c.from_vec.result (λ made. made ≡ column_of_parts (plain uint64) c.truncate_to.result.items None)
+    let indexes = c.in_ok-limited_rows.field-0.items in
+    IfOk-weaker c.from_vec.result (λ made. made ≡ column_of_parts (plain uint64) indexes None)
     (HoldsSorted order n c.args.limit)
-    (λ made is. holds-sorted order n c.args.limit made c.truncate_to.result.items is
-    (c.in_ok-indexes.indexes.items, c.in_ok-indexes.ensures, c.truncate_to.ensures))
+    (λ made is. holds-sorted order n c.args.limit made indexes is c.in_ok-limited_rows.ensures)
     c.from_vec.ensures.ok

@@ -1,6 +1,6 @@
 use Rattle.std.proofs.Common.{◌∙◌, ◌++◌, [], ◌∷◌, ap, sym}
 use Rattle.arrow_types.proofs.CallerLemmas.{range-more}
-use Rattle.compute_sort.proofs.lexsort.all_indexes.Goals as goal
+use Rattle.compute_sort.proofs.in_order.all_indexes.Goals as goal
 
 pub loop-i-preserved : goal.loop-i-preserved
 loop-i-preserved c =
