@@ -1,20 +1,18 @@
 -- A division by values that are not zero needs no answer for a zero.
-use Rattle.std.proofs.Common.{◌≡◌, ◌≢◌, ◌≤◌, ◌<◌, ℕ, ℤ, pos, Bool, false, not, List, [], ◌∷◌, length, map, take, get_or}
+use Rattle.std.proofs.Common.{◌≡◌, ◌≢◌, ◌≤◌, ◌<◌, ℕ, ℤ, pos, false, List, [], ◌∷◌, length, map, take, get_or}
 use Rattle.std.proofs.Common.{Option, Some, None, option_map, if◌then◌else◌, refl, sym, ap, ap₂, ◌∙◌, arith, slice_get}
-use Rattle.std.specs.Bool.{Decides}
 use Rattle.std.specs.Prelude.{IfSome}
 use Rattle.std.specs.List.{All, list_any, zip}
 use Rattle.std.specs.Ordering.{int_eq}
 use Rattle.std.proofs.lemmas.Bool.{false_from_ne_true, or_parts}
-use Rattle.std.proofs.lemmas.Bool.Decides.{Decides-int_eq, Decides-like, not_from_Decides, same_from_decides}
+use Rattle.std.proofs.lemmas.Bool.Decides.{Decides-int_eq, not_from_Decides}
 use Rattle.std.proofs.lemmas.List.{length-map, take_all}
 use Rattle.std.proofs.lemmas.List.Elements.{All-cons, All-head, All-nil, All-tail}
 use Rattle.std.proofs.lemmas.Option.{get_or_from_slice_get, slice_get_within}
 use Rattle.std.proofs.lemmas.Slice.Zip.{get_or-zip, length-zip}
 use Rattle.arrow_column.specs.Column.{Column, slots_of}
 use Rattle.arrow_memory.specs.Rows.{slot}
-use Rattle.compute_arithmetics.specs.Cast.{is_nonzero}
-use Rattle.compute_base.specs.Slots.{combine_valid}
+use Rattle.compute_base.specs.Slots.{combine_valid, pairwise}
 use Rattle.compute_arithmetics.specs.Arithmetic.{CombinesValues, MapsValues, NoSlotIsZero, NoZeroDivisor, divides_by_zero}
 use Rattle.compute_arithmetics.specs.Arithmetic.{slot_is_zero, unless_zero}
 
@@ -34,8 +32,7 @@ module _ {X : Type 0} (number : X → ℤ) (instead : X) (make : X → X → X) 
   divided_slot None t h = refl
 
   divided_slots : (ss ts : List (Option X)) → NoZeroDivisor number ss ts
-      → map (λ pair. combine_valid (unless_zero number instead make) pair.0 pair.1) (zip ss ts)
-      ≡ map (λ pair. combine_valid make pair.0 pair.1) (zip ss ts)
+      → pairwise (combine_valid (unless_zero number instead make)) ss ts ≡ pairwise (combine_valid make) ss ts
   divided_slots [] ts h = refl
   divided_slots (s ∷ ss) [] h = refl
   divided_slots (s ∷ ss) (t ∷ ts) h =
@@ -46,6 +43,7 @@ module _ {X : Type 0} (number : X → ℤ) (instead : X) (make : X → X → X) 
       → CombinesValues (unless_zero number instead make) lhs rhs made → CombinesValues make lhs rhs made
   divides_slots lhs rhs made h combines = record {
     data_type = combines.data_type;
+    count = combines.count;
     slots = combines.slots ∙ divided_slots (slots_of lhs) (slots_of rhs) h;
     held = combines.held;
   }
@@ -60,6 +58,7 @@ module _ {X : Type 0} (number : X → ℤ) (instead : X) (make : X → X → X) 
       → MapsValues (λ x. unless_zero number instead make x y) array made → MapsValues (λ x. make x y) array made
   divides_by array y made h maps = record {
     data_type = maps.data_type;
+    count = maps.count;
     slots = maps.slots ∙ divided_by y h (slots_of array);
     held = maps.held;
   }
@@ -67,12 +66,6 @@ module _ {X : Type 0} (number : X → ℤ) (instead : X) (make : X → X → X) 
 -- ---- whether a slot holds zero
 
 module _ {X : Type 0} (number : X → ℤ) where
-  pub zero_slot : (instead x : X) (b : Bool) → number instead ≡ pos 0 → ((x y : X) → number x ≡ number y → x ≡ y)
-      → Decides b (x ≡ instead) → b ≡ int_eq (number x) (pos 0)
-  zero_slot instead x b nought same d = same_from_decides b (int_eq (number x) (pos 0))
-      (Decides-like b (λ (e : x ≡ instead). ap number e ∙ nought) (λ (e : number x ≡ pos 0). same x instead (e ∙ sym nought)) d)
-      (Decides-int_eq (number x) (pos 0))
-
   not_zero : (slots : List (Option X)) → list_any (slot_is_zero number) slots ≡ false → NoSlotIsZero number slots
   not_zero [] e = All-nil (λ slot. IfSome slot (λ y. number y ≢ pos 0))
   not_zero (None ∷ slots) e = All-cons (λ slot. IfSome slot (λ y. number y ≢ pos 0)) None slots tt (not_zero slots e)
@@ -129,8 +122,3 @@ module _ {X : Type 0} (number : X → ℤ) where
   divides_any (t ∷ ts) h (s ∷ ss) = All-cons (IsDivided number) (s, t) (zip ss ts)
       (slot_divided s t (All-head (λ slot. IfSome slot (λ y. number y ≢ pos 0)) t ts h))
       (divides_any ts (All-tail (λ slot. IfSome slot (λ y. number y ≢ pos 0)) t ts h) ss)
-
--- whether a value is another one than the zero of its type
-pub nonzero_value : {X : Type 0} (number : X → ℤ) (instead x : X) (b : Bool) → number instead ≡ pos 0
-    → ((x y : X) → number x ≡ number y → x ≡ y) → Decides b (x ≡ instead) → not b ≡ is_nonzero (number x)
-nonzero_value number instead x b nought same d = ap not (zero_slot number instead x b nought same d)

@@ -1,4 +1,2 @@
 pub mod CombineLemmas
 pub mod DivisionLemmas
-pub mod TextLemmas
-pub mod WrapLemmas

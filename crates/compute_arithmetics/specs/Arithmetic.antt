@@ -2,13 +2,13 @@
 use Rattle.std.specs.Prelude.{◌≡◌, ◌≢◌, ℤ, pos, Bool, false, true, List, map, Option, Some, None, IfSome, option_map}
 use Rattle.std.specs.Prelude.{if◌then◌else◌}
 use Rattle.std.specs.List.{All, zip}
-use Rattle.std.specs.Option.{option_and_then}
 use Rattle.std.specs.Ordering.{int_eq}
-use Rattle.arrow_types.specs.Types.{LogicalType}
 use Rattle.arrow_column.specs.Column.{Column, slots_of}
 -- the results of a function on the values at each index of two lists
 pub use Rattle.arrow_column.specs.Combined.{of_pairs}
 use Rattle.compute_base.specs.Slots.{CombinesSlots, MapsSlots, combine_valid}
+-- an array whose slots are null where a function has no result
+pub use Rattle.compute_base.specs.Slots.{MapsSlotsIf}
 
 -- ---- values
 
@@ -43,14 +43,6 @@ abbrev pub combine_valid_if : {X Y Z : Type 0} → (X → Y → Option Z) → Op
 combine_valid_if make (Some x) (Some y) = make x y
 combine_valid_if make (Some x) None = None
 combine_valid_if make None y = None
-
--- an array of this type whose slots are the results of a function on the slots of another, null where there is no
--- result; it holds a mask
-pub record MapsSlotsIf {X Z : Type 0} (t : LogicalType) (make : X → Option Z) (array : Column X) (made : Column Z)
-    : Type 0 where
-  pub data_type : made.data_type ≡ t
-  pub slots : slots_of made ≡ map (option_and_then make) (slots_of array)
-  pub held : made.held ≡ true
 
 -- ---- arrays, of the type of the left one
 

@@ -3,7 +3,5 @@
 #![tactic(auto)]
 
 pub mod basic;
-pub mod cast;
 mod combine;
 mod operation;
-pub mod wrap_number;

@@ -1,5 +1,6 @@
--- Lemmas about a decimal text that is copied with bytes behind it, which are then removed.
-use Rattle.std.proofs.Common.{◌≡◌, ◌∙◌, ℕ, ◌+◌, ◌-◌, List, ◌++◌, length, take, drop, refl, ap, ap₂, arith}
+-- Lemmas about decimal texts: that of one digit, and one that is copied with bytes behind it, which are then removed.
+use Rattle.std.proofs.Common.{◌≡◌, ◌∙◌, ℕ, zero, suc, pos, ◌+◌, ◌-◌, ◌<◌, List, [], ◌∷◌, ◌++◌, length, take, drop, refl, ap, ap₂, arith}
+use Rattle.std.specs.Fmt.{digits, signed_decimal}
 use Rattle.std.specs.Prelude.{slice_range}
 use Rattle.std.proofs.Math.Seq.{take-append-add}
 use Rattle.std.proofs.lemmas.List.{take-take, take_at}
@@ -14,3 +15,18 @@ text-cut old buffer text rest start end written same at =
     ∙ take-append-add old (take 20 (text ++ rest)) (length text)
     ∙ ap (λ xs. old ++ xs)
     (take-take (length text) 20 (text ++ rest) (omega (arith, same)) ∙ take_at text rest (length text) refl)
+
+-- the text of a number of one digit
+pub digit-text : (digit : ℕ) → digit < 10 → signed_decimal (pos digit) ≡ (48 + digit) ∷ []
+unfolding digits
+digit-text zero low = refl
+digit-text (suc zero) low = refl
+digit-text (suc (suc zero)) low = refl
+digit-text (suc (suc (suc zero))) low = refl
+digit-text (suc (suc (suc (suc zero)))) low = refl
+digit-text (suc (suc (suc (suc (suc zero))))) low = refl
+digit-text (suc (suc (suc (suc (suc (suc zero)))))) low = refl
+digit-text (suc (suc (suc (suc (suc (suc (suc zero))))))) low = refl
+digit-text (suc (suc (suc (suc (suc (suc (suc (suc zero)))))))) low = refl
+digit-text (suc (suc (suc (suc (suc (suc (suc (suc (suc zero))))))))) low = refl
+digit-text (suc (suc (suc (suc (suc (suc (suc (suc (suc (suc digit)))))))))) low = absurd (omega (arith, low))

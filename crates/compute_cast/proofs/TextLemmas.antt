@@ -2,13 +2,14 @@
 use Rattle.std.proofs.Common.{◌≡◌, ◌∙◌, ℕ, ℤ, ◌+◌, ◌<◌, ◌≤◌, Bool, true, false, nat_lt, List, [], ◌∷◌, ◌++◌, map, take, length}
 use Rattle.std.proofs.Common.{Option, Some, None, option_map, slice_get, unwrap_or, refl, ap, ap₂, sym, subst}
 use Rattle.std.proofs.Common.{arith, length-append}
+use Rattle.std.specs.Fmt.{signed_decimal}
 use Rattle.std.specs.List.{concat}
 use Rattle.std.specs.Option.{option_map_or}
 use Rattle.std.proofs.lemmas.List.{append-nil}
 use Rattle.std.proofs.lemmas.Bool.{lt-ltb}
 use Rattle.std.proofs.lemmas.List.Folds.{concat-append}
 use Rattle.std.proofs.lemmas.List.Sums.{sum_by_more, sum_by-take-le}
-use Rattle.std.proofs.lemmas.Option.{get_or_from_slice_get, slice_get_within}
+use Rattle.std.proofs.lemmas.Option.{get_or_from_slice_get, same_Some, slice_get_within}
 use Rattle.arrow_types.specs.Types.{LogicalType}
 use Rattle.arrow_types.proofs.CallerLemmas.{map-map, take-next}
 use Rattle.arrow_memory.specs.Offsets.{last_of}
@@ -47,6 +48,37 @@ offsets-push items item =
 
 concat-push : (items : List (List ℕ)) (item : List ℕ) → concat (items ++ item ∷ []) ≡ concat items ++ item
 concat-push items item = concat-append items (item ∷ []) ∙ ap (λ rest. concat items ++ rest) (append-nil item)
+
+-- ---- slots by their numbers
+
+-- the slot at an index, by its number
+pub next-slot : {X : Type 0} (number : X → ℤ) (slots : List (Option X)) (i : ℕ) (read : Option ℤ)
+    → option_map (option_map number) (slice_get slots i) ≡ Some read
+    → (next : Option X) × (slice_get slots i ≡ Some next) × (option_map number next ≡ read)
+next-slot {X} number slots i read e = by_slot (slice_get slots i) refl e
+  where
+    by_slot : (o : Option (Option X)) → slice_get slots i ≡ o → option_map (option_map number) o ≡ Some read
+        → (next : Option X) × (slice_get slots i ≡ Some next) × (option_map number next ≡ read)
+    by_slot None found is = absurd cc
+    by_slot (Some next) found is = (next, found, same_Some (option_map number next) read is)
+
+-- its text, where that ends, and how long it is
+module _ {X : Type 0} (number : X → ℤ) where
+  number-text : (next : Option X) (read : Option ℤ) → option_map number next ≡ read
+      → decimal_text (λ z. z) read ≡ decimal_text number next
+  number-text None read is = ap (decimal_text (λ z. z)) (sym is)
+  number-text (Some x) read is = ap (decimal_text (λ z. z)) (sym is)
+
+  number-past : (most start : ℕ) (next : Option X) (read : Option ℤ) → option_map number next ≡ read
+      → ends_past number most start next ≡ ends_past (λ z. z) most start read
+  number-past most start None read is = ap (ends_past (λ z. z) most start) is
+  number-past most start (Some x) read is = ap (ends_past (λ z. z) most start) is
+
+  pub number-size : (next : Option X) (read : Option ℤ) → option_map number next ≡ read
+      → option_map_or (λ z. length (signed_decimal z)) read 0
+      ≡ option_map_or (λ x. length (value_decimal number x)) next 0
+  number-size None read is = ap (λ o. option_map_or (λ z. length (signed_decimal z)) o 0) (sym is)
+  number-size (Some x) read is = ap (λ o. option_map_or (λ z. length (signed_decimal z)) o 0) (sym is)
 
 -- ---- decimal texts
 
@@ -94,6 +126,18 @@ module _ {X : Type 0} (number : X → ℤ) (most : ℕ) (is_text : Bool) (t : Lo
           texts = text ∙ ap (λ bs. bs ++ decimal_text number next) held.texts
               ∙ sym (ap concat more ∙ concat-push texts (decimal_text number next));
         }
+
+    -- one more slot, by its number
+    pub next-held : (read : Option ℤ) → option_map number next ≡ read
+        → (grown longer : List ℕ) → ends_past (λ z. z) most (last_of offsets) read ≡ false
+        → AppendsDecimal (λ z. z) offsets read grown → longer ≡ bytes ++ decimal_text (λ z. z) read
+        → IsItem is_text (decimal_text (λ z. z) read)
+        → HoldTexts number most is_text t (take (i + 1) slots) grown longer
+    next-held read is grown longer fits ends text item =
+        let same : decimal_text (λ z. z) read ≡ decimal_text number next = number-text number next read is in
+        more-held grown longer (number-past number most (last_of offsets) next read is ∙ fits)
+        (ends ∙ ap (λ xs. offsets ++ (last_of offsets + length xs) ∷ []) same) (text ∙ ap (λ xs. bytes ++ xs) same)
+        (subst (IsItem is_text) same item)
 
   -- offsets and bytes that are frozen hold what they held while they grew
   pub still-held : (slots : List (Option X)) (offsets bytes ends values : List ℕ) → ends ≡ offsets → values ≡ bytes

@@ -1,14 +1,14 @@
 -- The decimal texts of slots, one after the other in the bytes of an array. Only private functions cite this.
 use Rattle.std.specs.Prelude.{◌≡◌, ◌+◌, ℕ, ℤ, Bool, true, false, nat_lt, List, [], ◌∷◌, ◌++◌, length, map}
-use Rattle.std.specs.Prelude.{Option, Some, None, option_map, unwrap_or}
+use Rattle.std.specs.Prelude.{Option, Some, None, Vec, option_map, unwrap_or}
 use Rattle.std.specs.List.{concat}
 use Rattle.arrow_types.specs.Types.{LogicalType}
 use Rattle.arrow_memory.specs.Offsets.{last_of}
-use Rattle.arrow_column.specs.Column.{slots_fit}
+use Rattle.arrow_column.specs.Column.{ColumnWith, slots_fit, slots_of}
 use Rattle.arrow_check.specs.Pieces.{offsets_of}
-use Rattle.arrow_bytes.specs.Column.{empty_bytes, item_overflows}
+use Rattle.arrow_bytes.specs.Column.{ByteColumn, empty_bytes, item_overflows}
 use Rattle.arrow_bytes.specs.Kinds.{AreItems}
-use Rattle.compute_cast.specs.Decimals.{value_decimal}
+use Rattle.compute_cast.specs.Decimals.{MakesDecimals, value_decimal}
 
 module _ {X : Type 0} (number : X → ℤ) where
   -- the bytes that a slot stores: the decimal text of its number, and none if it is null
@@ -36,3 +36,11 @@ pub record HoldTexts {X : Type 0} (number : X → ℤ) (most : ℕ) (is_text : B
   pub items : AreItems is_text (decimal_texts number slots)
   pub ends : offsets ≡ offsets_of 0 (decimal_texts number slots)
   pub texts : bytes ≡ concat (decimal_texts number slots)
+
+-- they are those of the texts of the slots of a column
+abbrev pub HoldSlots : {A X Z : Type 0} → (X → ℤ) → ℕ → Bool → LogicalType → ColumnWith A X → List ℕ × Vec ℕ Z → Type 0
+HoldSlots number most is_text t column parts = HoldTexts number most is_text t (slots_of column) parts.0 parts.1.items
+
+-- an array of the texts of the slots of a column
+abbrev pub MakesTexts : {A X : Type 0} → (X → ℤ) → ℕ → LogicalType → ColumnWith A X → ByteColumn → Type 0
+MakesTexts number most t column = MakesDecimals number most t (slots_of column)

@@ -1,5 +1,5 @@
 //! Decimal texts of numbers.
-ghost use Rattle.std.specs.Prelude.{◌≡◌, ◌+◌, ◌++◌, OnOk, drop, length};
+ghost use Rattle.std.specs.Prelude.{◌≡◌, ◌+◌, ◌<◌, ◌++◌, OnOk, drop, length, pos};
 ghost use Rattle.std.specs.Fmt.{signed_decimal};
 ghost use Rattle.std.specs.Str.{IsAscii};
 
@@ -21,6 +21,16 @@ fn write_short(number: i64, buffer: &mut [u8; 40]) -> usize
     }
     buffer[start - 1] = b'-';
     start - 1
+}
+
+/// Appends the one digit of a number below 10.
+#[inline(always)]
+fn append_digit(bytes: &mut Vec<u8>, digit: u8) -> Result<(), AllocError>
+    requires { digit < 10 }
+    ensures { OnOk result (bytes.new.items ≡ bytes.old.items ++ signed_decimal (pos digit)) }
+{
+    bytes.push(b'0' + digit)?;
+    Ok(())
 }
 
 /// Appends the decimal text of a number of 64 bits.
@@ -53,6 +63,8 @@ pub(crate) fn append_number(bytes: &mut Vec<u8>, number: i128) -> Result<(), All
     ensures ascii { IsAscii (signed_decimal number) }
 {
     match i64::try_from(number) {
+        // One digit, as that of a boolean, needs no buffer.
+        Ok(short) if short >= 0 && short < 10 => append_digit(bytes, short as u8),
         Ok(short) => append_short(bytes, short),
         Err(_) => append_long(bytes, number),
     }

@@ -2,7 +2,8 @@ use Rattle.std.proofs.Common.{ap, is_some, map, unwrap_or, ◌∙◌}
 use Rattle.arrow_types.proofs.CallerLemmas.{map-map}
 use Rattle.arrow_column.specs.Column.{stored_values}
 use Rattle.compute_base.specs.Slots.{stored_of, valid_of}
-use Rattle.compute_arithmetics.proofs.CombineLemmas.{checked-map-fits, makes-checked-map, marks-fit, outcome-slot}
+use Rattle.compute_base.proofs.CallerLemmas.{checked-map-fits, makes-checked-map, marks-fit}
+use Rattle.compute_arithmetics.proofs.CombineLemmas.{outcome-slot}
 use Rattle.compute_arithmetics.proofs.combine.combine_checked_scalar.Goals as goal
 
 pub mask_of_both-requires : goal.mask_of_both-requires
