@@ -20,11 +20,13 @@ use Rattle.arrow_memory.specs.Rows.{Row, rows_of, slot}
 use Rattle.std.specs.Prelude.{Err, IfOk, Ok, Result, count_by, not}
 use Rattle.std.specs.List.{zip}
 use Rattle.arrow_types.proofs.CallerLemmas.{get-push, get-zip}
-use Rattle.arrow_column.specs.Column.{ColumnWith, IsColumn, marks_of, mask_of, stored_values}
+use Rattle.arrow_types.specs.Types.{LogicalType}
+use Rattle.arrow_column.specs.Column.{Column, ColumnWith, IsColumn, marks_of, mask_of, stored_values}
 use Rattle.arrow_column.proofs.CallerLemmas.{all-valid, rows-valid, valid_by_held}
+use Rattle.compute_group.specs.Grouping.{GroupLists}
 use Rattle.compute_aggregate.specs.Groups.{group_values, values_at}
 use Rattle.compute_aggregate.specs.GroupSums.{AddsSlot, GroupsRefused, IsGroupSum, IsWholeSum, ShowsGroupSums, ShowsSums, ShowsWhole}
-use Rattle.compute_aggregate.specs.GroupSums.{SlotsRefused, SumsTo, WholeRefused, more_in_sum, slots_by_group, sum_slot_of, whole_slot_of}
+use Rattle.compute_aggregate.specs.GroupSums.{SlotsRefused, SumsGroupsAs, SumsGroupsWide, SumsTo, WholeRefused, more_in_sum, slots_by_group, sum_slot_of, whole_slot_of}
 use Rattle.compute_aggregate.specs.Sums.{number_or_zero, sum_split}
 use Rattle.compute_aggregate.proofs.GroupLemmas.{own_slot, set_other, set_same, values-more}
 use Rattle.compute_aggregate.proofs.AggregateLemmas.{size_of_sum}
@@ -169,16 +171,16 @@ module _ {T : Type 0} (number : T → ℤ) where
       let same : sum ≡ group.0 = same_Some sum group.0 (sym own ∙ group.1) in
       inr (why.0, (g, omega (arith, low, count), ap fits (sym (ap (λ s. sum_split (s.0)) same ∙ group.2.total)) ∙ why.1))
 
-  -- the slots of sums show those of the groups
-  pub split_shown : (groups n : ℕ) (values : ℕ → List T) (sums : List Sum) (slots : List (Option T))
-      → length slots ≡ length sums → length sums ≡ groups
-      → ((g : ℕ) → g < groups → (s : Sum) × (slice_get sums g ≡ Some s) × IsGroupSum number (values g) n s)
-      → ShowsSums number sums slots
-      → (g : ℕ) (o : Option T) → slice_get slots g ≡ Some o → option_map number o ≡ sum_of (map number (values g))
-  split_shown groups n values sums slots count all each shown g o at =
-      let low = slice_get_within slots g o at in
-      let group = each g (omega (arith, low, count, all)) in
-      shown g o group.0 at group.1 ∙ sum_shown (values g) n group.0 group.2
+-- the slots of sums show those of the groups
+pub split_shown : {S T : Type 0} (shown : S → ℤ) (number : T → ℤ) (groups n : ℕ) (values : ℕ → List T) (sums : List Sum)
+    (slots : List (Option S)) → length slots ≡ length sums → length sums ≡ groups
+    → ((g : ℕ) → g < groups → (s : Sum) × (slice_get sums g ≡ Some s) × IsGroupSum number (values g) n s)
+    → ShowsSums shown sums slots
+    → (g : ℕ) (o : Option S) → slice_get slots g ≡ Some o → option_map shown o ≡ sum_of (map number (values g))
+split_shown shown number groups n values sums slots count all each slot_of g o at =
+    let low = slice_get_within slots g o at in
+    let group = each g (omega (arith, low, count, all)) in
+    slot_of g o group.0 at group.1 ∙ sum_shown number (values g) n group.0 group.2
 
 -- ---- whole sums
 
@@ -282,17 +284,33 @@ module _ {T : Type 0} (number : T → ℤ) where
       let total = subst (λ ps. sum.0 ≡ sum_all (map number (values_at ps g))) (by_group_all indices column.rows rows) (before g sum own).total in
       inr (why.0, (g, omega (arith, low, count), ap fits (sym total) ∙ why.1))
 
-  pub whole_shown : {A : Type 0} (column : ColumnWith A T) (indices : List ℕ) (sums : List Whole) (slots : List (Option T))
-      → length slots ≡ length sums → length indices ≡ length column.rows
-      → SumsTo number (slots_by_group indices column.rows) (length indices) sums → ShowsWhole number sums slots
-      → ShowsGroupSums number column indices slots
-  whole_shown column indices sums slots count rows before shown g o at =
-      let low = slice_get_within slots g o at in
-      let own = slice_get-get_or sums g (pos 0, false) (omega (arith, low, count)) in
-      let current = get_or sums g (pos 0, false) in
-      shown g o current at own ∙ whole_slot (values_at (take (length indices) (slots_by_group indices column.rows)) g)
-      (length indices) current (before g current own)
-      ∙ ap (λ ps. sum_of (map number (values_at ps g))) (by_group_all indices column.rows rows)
+pub whole_shown : {A S T : Type 0} (shown : S → ℤ) (number : T → ℤ) (column : ColumnWith A T) (indices : List ℕ)
+    (sums : List Whole) (slots : List (Option S)) → length slots ≡ length sums → length indices ≡ length column.rows
+    → SumsTo number (slots_by_group indices column.rows) (length indices) sums → ShowsWhole shown sums slots
+    → ShowsGroupSums shown number column indices slots
+whole_shown shown number column indices sums slots count rows before slot_of g o at =
+    let low = slice_get_within slots g o at in
+    let own = slice_get-get_or sums g (pos 0, false) (omega (arith, low, count)) in
+    let current = get_or sums g (pos 0, false) in
+    slot_of g o current at own
+    ∙ whole_slot number (values_at (take (length indices) (slots_by_group indices column.rows)) g)
+    (length indices) current (before g current own)
+    ∙ ap (λ ps. sum_of (map number (values_at ps g))) (by_group_all number indices column.rows rows)
+
+-- the sums of groups as integers themselves
+pub wide_sums : {A T : Type 0} (t : LogicalType) (number : T → ℤ) (column : ColumnWith A T) (groups : GroupLists)
+    (made : Column ℤ) → SumsGroupsAs t (λ z. z) number column groups.indices (length groups.first) made
+    → SumsGroupsWide t number column groups made
+wide_sums t number column groups made sums = record {
+  data_type = sums.data_type;
+  held = sums.held;
+  count = sums.count;
+  slots = λ g slot at. same_slot slot ∙ sums.slots g slot at;
+}
+  where
+    same_slot : (slot : Option ℤ) → slot ≡ option_map (λ z. z) slot
+    same_slot None = refl
+    same_slot (Some z) = refl
 
 -- each slot so far is that of its whole sum
 pub record WholeSlotsSoFar {T : Type 0} (number : T → ℤ) (sums : List Whole) (i : ℕ) (slots : List (Option T)) : Type 0 where

@@ -6,3 +6,4 @@ pub mod GroupSumLemmas
 pub mod OrderedLemmas
 pub mod ExtremeLemmas
 pub mod CallerLemmas
+pub mod LawLemmas

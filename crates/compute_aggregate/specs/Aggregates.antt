@@ -1,5 +1,5 @@
 -- Sums, least and greatest values of the valid slots of arrays.
-use Rattle.std.specs.Prelude.{ℕ, ℤ, pos, ◌+ℤ◌, IsTrue, List, [], ◌∷◌, All, Contains, fold, take, Option, Some, None}
+use Rattle.std.specs.Prelude.{◌≡◌, ℕ, ℤ, pos, ◌+ℤ◌, IsTrue, List, [], ◌∷◌, ◌++◌, All, Contains, fold, take, Option, Some, None}
 use Rattle.std.specs.List.{filter_map}
 use Rattle.std.specs.Cmp.Lexicographic.{slice_cmp}
 use Rattle.std.specs.Ordering.{is_le, nat_cmp, ord_max, ord_min}
@@ -11,6 +11,10 @@ use Rattle.compute_aggregate.specs.declared.aggregate.extreme.Extreme.TheVariant
 -- the values of the valid slots, in order
 abbrev pub valid_values : {A S : Type 0} → ColumnWith A S → List S
 valid_values column = filter_map (λ slot. slot) (slots_of column)
+
+-- the slots of an array are those of two others in a row
+abbrev pub JoinsSlots : {A S : Type 0} → ColumnWith A S → ColumnWith A S → ColumnWith A S → Type 0
+JoinsSlots column first second = slots_of column ≡ slots_of first ++ slots_of second
 
 -- the sum of integers, however great
 abbrev pub sum_all : List ℤ → ℤ

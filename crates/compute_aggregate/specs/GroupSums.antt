@@ -2,6 +2,7 @@
 use Rattle.std.specs.Prelude.{◌≡◌, ◌*◌, ◌<◌, ◌≤◌, ◌^◌, ℕ, ℤ, Bool, false, List, length, map, nat_lt, Option, Some, None, if◌then◌else◌, slice_get}
 use Rattle.std.specs.Prelude.{◌⊎◌, ◌+ℤ◌, ◌||◌, is_some, slice_set, take, unsigned_abs}
 use Rattle.std.specs.List.{zip}
+use Rattle.arrow_types.specs.Types.{LogicalType}
 use Rattle.arrow_types.specs.declared.error.Error.{Error}
 use Rattle.arrow_types.specs.declared.error.Error.TheVariants as error
 use Rattle.std.specs.Prelude.{option_map}
@@ -37,10 +38,14 @@ abbrev pub GroupsRefused : (ℤ → Bool) → ℕ → (ℕ → List ℤ) → Err
 GroupsRefused fits groups numbers e = (e ≡ error.OutOfMemory)
     ⊎ ((e ≡ error.Overflow) × ((g : ℕ) × (g < groups) × (fits (sum_all (numbers g)) ≡ false)))
 
+-- the error if the groups of the slots of a column are not summed
+abbrev pub GroupSumsRefused : {A T : Type 0} → (ℤ → Bool) → (T → ℤ) → ColumnWith A T → List ℕ → ℕ → Error → Type 0
+GroupSumsRefused fits number column indices groups =
+    GroupsRefused fits groups (λ g. map number (group_values column indices g))
+
 -- the error if the valid slots of groups are not summed
 abbrev pub SumsRefused : {A T : Type 0} → (T → ℤ) → (ℤ → Bool) → ColumnWith A T → GroupLists → Error → Type 0
-SumsRefused number fits column groups e =
-    GroupsRefused fits (length groups.first) (λ g. map number (group_values column groups.indices g)) e
+SumsRefused number fits column groups = GroupSumsRefused fits number column groups.indices (length groups.first)
 
 -- the parts of the sum of each group
 abbrev pub HasGroupSums : {A T : Type 0} → (T → ℤ) → ColumnWith A T → List ℕ → ℕ → List ((ℤ × ℕ) × Bool) → Type 0
@@ -52,15 +57,26 @@ abbrev pub ShowsSums : {T : Type 0} → (T → ℤ) → List ((ℤ × ℕ) × Bo
 ShowsSums {T} number sums slots = (g : ℕ) (slot : Option T) (parts : (ℤ × ℕ) × Bool) → slice_get slots g ≡ Some slot
     → slice_get sums g ≡ Some parts → option_map number slot ≡ sum_slot_of parts
 
--- each slot has the sum of the values of its group
-abbrev pub ShowsGroupSums : {A T : Type 0} → (T → ℤ) → ColumnWith A T → List ℕ → List (Option T) → Type 0
-ShowsGroupSums {A} {T} number column indices slots = (g : ℕ) (slot : Option T) → slice_get slots g ≡ Some slot
-    → option_map number slot ≡ sum_of (map number (group_values column indices g))
+-- each slot has the sum of the values of its group; `shown` is the number of a slot's value
+abbrev pub ShowsGroupSums : {A S T : Type 0} → (S → ℤ) → (T → ℤ) → ColumnWith A T → List ℕ → List (Option S) → Type 0
+ShowsGroupSums {A} {S} {T} shown number column indices slots = (g : ℕ) (slot : Option S) → slice_get slots g ≡ Some slot
+    → option_map shown slot ≡ sum_of (map number (group_values column indices g))
 
--- an array of the same type with the sum of each group, null if it has no valid slot
-abbrev pub SumsGroups : {A T : Type 0} → (T → ℤ) → ColumnWith A T → List ℕ → ℕ → Column T → Type 0
-SumsGroups number column indices groups made = GroupSlots column.data_type groups (λ g slot. option_map number slot
+-- an array of this type with the sum of each group, null if it has no valid slot; `shown` is the number of a slot's
+-- value
+abbrev pub SumsGroupsAs : {A S T : Type 0} → LogicalType → (S → ℤ) → (T → ℤ) → ColumnWith A T → List ℕ → ℕ → Column S
+    → Type 0
+SumsGroupsAs t shown number column indices groups made = GroupSlots t groups (λ g slot. option_map shown slot
     ≡ sum_of (map number (group_values column indices g))) made
+
+-- such an array of the same type and of values of the same type
+abbrev pub SumsGroups : {A T : Type 0} → (T → ℤ) → ColumnWith A T → List ℕ → ℕ → Column T → Type 0
+SumsGroups number column = SumsGroupsAs column.data_type number number column
+
+-- such an array of integers, each of which is the sum itself
+abbrev pub SumsGroupsWide : {A T : Type 0} → LogicalType → (T → ℤ) → ColumnWith A T → GroupLists → Column ℤ → Type 0
+SumsGroupsWide t number column groups made = GroupSlots t (length groups.first) (λ g slot. slot
+    ≡ sum_of (map number (group_values column groups.indices g))) made
 
 -- ---- whole sums, of numbers that are at most 2 ^ 64 from zero
 

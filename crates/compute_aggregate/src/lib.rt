@@ -3,3 +3,4 @@
 #![tactic(auto)]
 
 pub mod aggregate;
+pub mod laws;

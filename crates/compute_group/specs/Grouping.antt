@@ -45,6 +45,16 @@ abbrev pub ForGroupings : (A S : Type 0) → (ColumnWith A S → List ℕ → Li
 ForGroupings A S P = (column : ColumnWith A S) (first numbers : List ℕ)
     → IsGrouping (slots_of column) first numbers → P column first numbers
 
+-- slots whose numbers are equal are equal
+abbrev pub AreEqualInGroups : {X : Type 0} → List X → List ℕ → Type 0
+AreEqualInGroups slots numbers = (i j g : ℕ) → slice_get numbers i ≡ Some g → slice_get numbers j ≡ Some g
+    → slice_get slots i ≡ slice_get slots j
+
+-- the numbers of equal slots are equal
+abbrev pub EqualsShareGroups : {X : Type 0} → List X → List ℕ → Type 0
+EqualsShareGroups {X} slots numbers = (i j : ℕ) (s : X) → slice_get slots i ≡ Some s → slice_get slots j ≡ Some s
+    → slice_get numbers i ≡ slice_get numbers j
+
 -- the first slots of groups after a key at this index, which begins a new group if no key of a group is equal
 abbrev pub first_after : {K : Type 0} → (K → K → Bool) → List K → List ℕ → ℕ → K → List ℕ
 first_after eq groups first place key = if list_any (eq key) groups then first else first ++ place ∷ []

@@ -1,18 +1,24 @@
 //! Sums of groups of slots.
 ghost use Rattle.std.specs.Prelude.{◌≡◌, ◌+ℤ◌, ◌+◌, ◌||◌, ◌<◌, ◌≤◌, ◌^◌, ℕ, All, IfErr, IfOk, None, Some, false};
-ghost use Rattle.std.specs.Prelude.{length, map};
-ghost use Rattle.std.specs.Prelude.{if◌then◌else◌, option_map, pos, slice_get, unsigned_abs};
-ghost use Rattle.compute_aggregate.specs.Groups.{group_values};
-ghost use Rattle.compute_aggregate.specs.GroupSums.{GroupsRefused, HasGroupSums, ShowsGroupSums, ShowsSums, SlotOverflow};
-ghost use Rattle.compute_aggregate.specs.GroupSums.{SlotsRefused, SumsGroups, SumsRefused, sum_slot_of};
+ghost use Rattle.std.specs.Prelude.{if◌then◌else◌, length, option_map, pos, slice_get, unsigned_abs};
+ghost use Rattle.std.specs.Int.{w128};
+ghost use Rattle.arrow_types.specs.Types.{IsRightType, logical_type};
+ghost use Rattle.arrow_types.specs.declared.physical_type.PhysicalType.TheVariants as PhysicalType;
+ghost use Rattle.arrow_types.specs.declared.primitive_type.PrimitiveType.TheVariants.{Int128};
+ghost use Rattle.arrow_integers.specs.NativeArithmetics.{fits_signed};
+ghost use Rattle.compute_aggregate.specs.GroupSums.{GroupSumsRefused, HasGroupSums, ShowsGroupSums, ShowsSums};
+ghost use Rattle.compute_aggregate.specs.GroupSums.{SlotOverflow, SlotsRefused, SumsGroups, SumsGroupsAs};
+ghost use Rattle.compute_aggregate.specs.GroupSums.{SumsGroupsWide, SumsRefused, sum_slot_of};
 ghost use Rattle.compute_aggregate.specs.Sums.{number_or_zero};
 
-use crate::aggregate::made::numbers_like;
+use crate::aggregate::made::numbers_of_type;
 use crate::aggregate::sum::{join_sum, split};
 use crate::aggregate::whole_sums::{whole_slots, whole_sums};
 use arrow_integers::NativeArithmetics;
 use arrow_primitive::PrimitiveArray;
+use arrow_types::data_type::DataType;
 use arrow_types::error::Error;
+use arrow_types::physical_type::PhysicalType;
 use compute_group::Groups;
 use std::alloc::Global;
 
@@ -101,83 +107,82 @@ fn sum_slots<T: NativeArithmetics>(
 /// Returns the slot of the sum of each group, from sums of high and low parts.
 #[cold]
 #[inline(never)]
-fn split_slots<T: NativeArithmetics>(
+fn split_slots<T: NativeArithmetics, S: NativeArithmetics>(
     alloc: Global,
     array: &PrimitiveArray<T>,
     indices: &[usize],
     groups: usize,
-) -> Result<Vec<Option<T>>, Error>
+) -> Result<Vec<Option<S>>, Error>
     requires rows { length indices.now ≡ length array.now.rows }
     requires within { All (λ g. g < groups) indices.now }
     ensures count { IfOk result (λ slots. length slots.items ≡ groups) }
-    ensures ok { IfOk result (λ slots. ShowsGroupSums T.number array.now indices.now slots.items) }
-    ensures err { IfErr result (GroupsRefused T.fits groups (λ g.
-        map T.number (group_values array.now indices.now g))) }
+    ensures ok { IfOk result (λ slots. ShowsGroupSums S.number T.number array.now indices.now slots.items) }
+    ensures err { IfErr result (GroupSumsRefused S.fits T.number array.now indices.now groups) }
 {
     let mut sums = Vec::new(alloc);
     sums.resize(groups, ((0i128, 0u128), false))?;
     sum_rows(array, indices, sums.as_mut_slice());
-    let slots = sum_slots(alloc, sums.as_slice());
+    let slots = sum_slots::<S>(alloc, sums.as_slice());
     drop(sums);
     slots
 }
 
 /// Returns the slot of the sum of each group. Each way is exact, the first that applies is the faster.
-fn group_slots<T: NativeArithmetics>(
+fn group_slots<T: NativeArithmetics, S: NativeArithmetics>(
     alloc: Global,
     array: &PrimitiveArray<T>,
     indices: &[usize],
     groups: usize,
-) -> Result<Vec<Option<T>>, Error>
+) -> Result<Vec<Option<S>>, Error>
     requires rows { length indices.now ≡ length array.now.rows }
     requires within { All (λ g. g < groups) indices.now }
     ensures count { IfOk result (λ slots. length slots.items ≡ groups) }
-    ensures ok { IfOk result (λ slots. ShowsGroupSums T.number array.now indices.now slots.items) }
-    ensures err { IfErr result (GroupsRefused T.fits groups (λ g.
-        map T.number (group_values array.now indices.now g))) }
+    ensures ok { IfOk result (λ slots. ShowsGroupSums S.number T.number array.now indices.now slots.items) }
+    ensures err { IfErr result (GroupSumsRefused S.fits T.number array.now indices.now groups) }
 {
     let mut sums = Vec::new(alloc);
     sums.resize(groups, (0i128, false))?;
     let is_whole = whole_sums(array, indices, sums.as_mut_slice());
     if !is_whole {
         drop(sums);
-        return split_slots(alloc, array, indices, groups);
+        return split_slots::<T, S>(alloc, array, indices, groups);
     }
-    let slots = whole_slots(alloc, sums.as_slice());
+    let slots = whole_slots::<S>(alloc, sums.as_slice());
     drop(sums);
     slots
 }
 
 /// Returns the array of the sum of each group, null for a group that has no valid slot.
-fn sum_groups<T: NativeArithmetics>(
+fn sum_groups<T: NativeArithmetics, S: NativeArithmetics>(
     alloc: Global,
     array: &PrimitiveArray<T>,
     indices: &[usize],
     groups: usize,
-) -> Result<PrimitiveArray<T>, Error>
+    data_type: DataType,
+) -> Result<PrimitiveArray<S>, Error>
     requires rows { length indices.now ≡ length array.now.rows }
     requires within { All (λ g. g < groups) indices.now }
-    ensures ok { IfOk result (SumsGroups T.number array.now indices.now groups) }
-    ensures err { IfErr result (GroupsRefused T.fits groups (λ g.
-        map T.number (group_values array.now indices.now g))) }
+    requires right { IsRightType (PhysicalType.Primitive S.PRIMITIVE) (logical_type data_type) }
+    ensures ok { IfOk result
+        (SumsGroupsAs (logical_type data_type) S.number T.number array.now indices.now groups) }
+    ensures err { IfErr result (GroupSumsRefused S.fits T.number array.now indices.now groups) }
 {
-    match group_slots(alloc, array, indices, groups) {
+    match group_slots::<T, S>(alloc, array, indices, groups) {
         Err(error) => Err(error),
         Ok(slots) => {
-            let made = numbers_like(alloc, array, slots.as_slice());
+            let made = numbers_of_type(alloc, slots.as_slice(), data_type);
             drop(slots);
             made
         }
     }
 }
 
-/// Returns the sum of the valid slots of each group, null for a group that has none. Only whole sums
-/// have to fit, and not those on the way to them. The groups must be of as many slots as the array
-/// has. The result has the data type of the array.
+/// Returns the sum of the valid slots of each group, null for a group that has none. Only whole sums have to fit, and
+/// not those on the way to them. The groups must be of as many slots as the array has. The result has the data type of
+/// the array.
 ///
 /// # Errors
-/// `Overflow` if the sum of a group does not fit in the type of the values, and `OutOfMemory` if an
-/// allocation fails.
+/// `Overflow` if the sum of a group does not fit in the type of the values, and `OutOfMemory` if an allocation fails.
 pub fn group_sum_primitive<T: NativeArithmetics>(
     alloc: Global,
     array: &PrimitiveArray<T>,
@@ -188,5 +193,26 @@ pub fn group_sum_primitive<T: NativeArithmetics>(
         (SumsGroups T.number array.now groups.now.indices (length groups.now.first)) }
     ensures err { IfErr result (SumsRefused T.number T.fits array.now groups.now) }
 {
-    sum_groups(alloc, array, groups.indices(), groups.len())
+    let data_type = array.data_type().clone()?;
+    sum_groups::<T, T>(alloc, array, groups.indices(), groups.len(), data_type)
+}
+
+/// Returns the sum of the valid slots of each group as an `i128`, null for a group that has none. Only whole sums have
+/// to fit, and not those on the way to them. The groups must be of as many slots as the array has. The data type must
+/// have the physical type of `i128`.
+///
+/// # Errors
+/// `Overflow` if the sum of a group does not fit in 128 bits, and `OutOfMemory` if an allocation fails.
+pub fn group_sum_wide<T: NativeArithmetics>(
+    alloc: Global,
+    array: &PrimitiveArray<T>,
+    groups: &Groups,
+    data_type: DataType,
+) -> Result<PrimitiveArray<i128>, Error>
+    requires rows { length groups.now.indices ≡ length array.now.rows }
+    requires right { IsRightType (PhysicalType.Primitive Int128) (logical_type data_type) }
+    ensures ok { IfOk result (SumsGroupsWide (logical_type data_type) T.number array.now groups.now) }
+    ensures err { IfErr result (SumsRefused T.number (fits_signed w128) array.now groups.now) }
+{
+    sum_groups::<T, i128>(alloc, array, groups.indices(), groups.len(), data_type)
 }

@@ -18,7 +18,7 @@ use arrow_types::native_type::NativeType;
 use arrow_types::offset::Offset;
 use arrow_utf8::Utf8Array;
 use compute_group::Groups;
-use compute_slots::OrderSlots;
+use compute_slots::{OrderSlots, ReadValues};
 use std::alloc::{AllocError, Global};
 
 /// Counts the valid slots of each group.
@@ -114,7 +114,7 @@ pub fn group_rows(alloc: Global, groups: &Groups) -> Result<PrimitiveArray<u64>,
 }
 
 /// Keeps the extreme value of the valid slots of each group.
-fn extreme_rows<'a, A: OrderSlots<'a>>(
+fn extreme_rows<'a, A: OrderSlots<'a> + ReadValues<'a>>(
     array: &'a A,
     indices: &[usize],
     best: &mut [Option<A::Value>],
@@ -126,8 +126,9 @@ fn extreme_rows<'a, A: OrderSlots<'a>>(
     ensures { ExtremesOfGroups extreme A.order (A.column array.entry.now) indices.now (length best.old)
         (as_seen A.seen best.new) }
 {
+    let values = array.stored_values();
     for i in 0..indices.len() {
-        let (group, value) = (indices[i], array.value(i));
+        let (group, value) = (indices[i], A::stored_value(values, i));
         let state = best[group];
         let next = more_extreme::<A>(state, value, extreme);
         best[group] = if array.is_valid(i) { next } else { state };
@@ -135,7 +136,7 @@ fn extreme_rows<'a, A: OrderSlots<'a>>(
 }
 
 /// Returns the extreme value of the valid slots of each group.
-fn extremes_of_groups<'a, A: OrderSlots<'a>>(
+fn extremes_of_groups<'a, A: OrderSlots<'a> + ReadValues<'a>>(
     alloc: Global,
     array: &'a A,
     groups: &Groups,

@@ -16,6 +16,22 @@ use arrow_types::offset::Offset;
 use arrow_types::physical_type::PhysicalType;
 use std::alloc::Global;
 
+/// Returns the array of slots, under a data type, which must have the physical type of `T`.
+///
+/// # Errors
+/// `OutOfMemory` if an allocation fails.
+pub(crate) fn numbers_of_type<T: NativeType>(
+    alloc: Global,
+    slots: &[Option<T>],
+    data_type: DataType,
+) -> Result<PrimitiveArray<T>, Error>
+    requires { IsRightType (PhysicalType.Primitive T.PRIMITIVE) (logical_type data_type) }
+    ensures ok { IfOk result (MakesSlots (logical_type data_type) slots.now) }
+    ensures err { OnlyOutOfMemory result }
+{
+    Ok(PrimitiveArray::from(alloc, slots)?.to(data_type))
+}
+
 /// Returns the array of slots, under the data type of another array.
 ///
 /// # Errors
@@ -28,8 +44,7 @@ pub(crate) fn numbers_like<T: NativeType>(
     ensures ok { IfOk result (MakesSlots array.now.data_type slots.now) }
     ensures err { OnlyOutOfMemory result }
 {
-    let data_type = array.data_type().clone()?;
-    Ok(PrimitiveArray::from(alloc, slots)?.to(data_type))
+    numbers_of_type(alloc, slots, array.data_type().clone()?)
 }
 
 /// Returns the same slots under another data type.

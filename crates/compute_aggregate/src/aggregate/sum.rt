@@ -1,6 +1,8 @@
 //! Sums of arrays of integers.
 ghost use Rattle.std.specs.Prelude.{◌≡◌, ◌&&◌, ◌<◌, ◌≤◌, ◌^◌, IfErr, IfOk, IfSome, Some};
 ghost use Rattle.std.specs.Prelude.{if◌then◌else◌, length, map, nat_le, option_map, pos, slice_get, unsigned_abs};
+ghost use Rattle.std.specs.Int.{w128};
+ghost use Rattle.arrow_integers.specs.NativeArithmetics.{fits_signed};
 ghost use Rattle.arrow_column.specs.Column.{slots_of};
 ghost use Rattle.compute_aggregate.specs.Aggregates.{sum_all, sum_of, valid_values};
 ghost use Rattle.compute_aggregate.specs.Sums.{IsTotal, TotalOverflows, high_half, low_half, number_or_zero};
@@ -158,8 +160,8 @@ pub(crate) fn join_sum(sums: (i128, u128)) -> Option<i128>
     high.checked_add((low % (1 << 64)) as i128)
 }
 
-/// Returns the sum of the valid slots, if there are fewer than 2 ^ 30 slots and no number is more than
-/// 2 ^ 32 from zero.
+/// Returns the sum of the valid slots, if there are fewer than 2 ^ 30 slots and no number is more than 2 ^ 32 from
+/// zero.
 fn narrow_total<T: NativeArithmetics>(array: &PrimitiveArray<T>) -> Option<i64>
     ensures { IfSome result (λ sum. sum ≡ sum_all (map T.number (valid_values array.now))) }
 {
@@ -183,8 +185,8 @@ fn halves_total<T: NativeArithmetics>(array: &PrimitiveArray<T>) -> Option<i128>
     }
 }
 
-/// Returns the sum of the valid slots, if there are fewer than 2 ^ 62 slots and no number is more than
-/// 2 ^ 64 from zero.
+/// Returns the sum of the valid slots, if there are fewer than 2 ^ 62 slots and no number is more than 2 ^ 64 from
+/// zero.
 fn wide_total<T: NativeArithmetics>(array: &PrimitiveArray<T>) -> Option<i128>
     ensures { IfSome result (λ sum. sum ≡ sum_all (map T.number (valid_values array.now))) }
 {
@@ -218,8 +220,8 @@ fn split_total<T: NativeArithmetics>(array: &PrimitiveArray<T>) -> Option<i128>
     join_sum((high, low))
 }
 
-/// Returns the sum of the valid slots, if it fits in an `i128`. Each way is exact, the first that applies
-/// is the fastest.
+/// Returns the sum of the valid slots, if it fits in an `i128`. Each way is exact, the first that applies is the
+/// fastest.
 fn total<T: NativeArithmetics>(array: &PrimitiveArray<T>) -> Option<i128>
     ensures { IsTotal (sum_all (map T.number (valid_values array.now))) result }
 {
@@ -239,8 +241,8 @@ fn total<T: NativeArithmetics>(array: &PrimitiveArray<T>) -> Option<i128>
     }
 }
 
-/// Returns the sum of the valid slots, or `None` if no slot is valid. Only the whole sum has to fit,
-/// and not those on the way to it.
+/// Returns the sum of the valid slots, or `None` if no slot is valid. Only the whole sum has to fit, and not those on
+/// the way to it.
 ///
 /// # Errors
 /// `Overflow` if the sum does not fit in the type of the values.
@@ -258,4 +260,23 @@ pub fn sum_primitive<T: NativeArithmetics>(array: &PrimitiveArray<T>) -> Result<
         Some(sum) => Ok(Some(sum)),
         None => Err(Error::Overflow),
     }
+}
+
+/// Returns the sum of the valid slots as an `i128`, or `None` if no slot is valid. Only the whole sum has to fit, and
+/// not those on the way to it.
+///
+/// # Errors
+/// `Overflow` if the sum does not fit in 128 bits.
+pub fn sum_wide<T: NativeArithmetics>(array: &PrimitiveArray<T>) -> Result<Option<i128>, Error>
+    ensures ok { IfOk result (λ sum. sum ≡ sum_of (map T.number (valid_values array.now))) }
+    ensures err { IfErr result (TotalOverflows (fits_signed w128)
+        (sum_all (map T.number (valid_values array.now)))) }
+{
+    if array.null_count() == array.len() {
+        return Ok(None);
+    }
+    let Some(wide) = total(array) else {
+        return Err(Error::Overflow);
+    };
+    Ok(Some(wide))
 }

@@ -14,15 +14,16 @@ use arrow_types::error::Error;
 use compute_base::bits::is_set;
 use std::alloc::Global;
 
-/// Adds a number to a sum, and notes whether there was a valid slot.
+/// Adds a number to a sum, and notes whether there was a valid slot. The parts are written each by itself: a whole pair
+/// would be written with the bytes that pad it.
 #[inline(always)]
-fn add_number(sum: (i128, bool), number: i128, is_valid: bool) -> (i128, bool)
-    requires sum { unsigned_abs sum.0 ≤ 2 ^ 126 }
+fn add_number(sum: &mut (i128, bool), number: i128, is_valid: bool)
+    requires sum { unsigned_abs sum.old.0 ≤ 2 ^ 126 }
     requires number { unsigned_abs number ≤ 2 ^ 64 }
-    ensures { result ≡ (sum.0 +ℤ number, sum.1 || is_valid) }
+    ensures { sum.new ≡ (sum.old.0 +ℤ number, sum.old.1 || is_valid) }
 {
-    let is_some = either(sum.1, is_valid);
-    (sum.0 + number, is_some)
+    sum.0 += number;
+    sum.1 = either(sum.1, is_valid);
 }
 
 /// Adds the number of a slot to the sum of its group, if it is at most 2 ^ 64 from zero, and returns
@@ -42,8 +43,7 @@ fn add_slot<T: NativeArithmetics>(
     if number.unsigned_abs() > 1 << 64 {
         return false;
     }
-    let sum = sums[group];
-    sums[group] = add_number(sum, number, is_valid);
+    add_number(&mut sums[group], number, is_valid);
     true
 }
 

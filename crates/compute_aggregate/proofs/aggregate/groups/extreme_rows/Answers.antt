@@ -24,12 +24,14 @@ loop-i-preserved g c = λ k low.
     let column = g.A.Array.column c.args.array.now in
     let step = λ (state : _) (value : _). extreme_slot c.args.extreme g.A.OrderSlots.order state (Some value) in
     let index = get_or c.args.indices.now c.loop-i.i 0 in
-    let value = seen c.value-value.result in
+    let value = seen c.stored_value-value.result in
     let current = c.index-best-group.result in
     let shown = if c.is_valid.result then Some value else None in
     let within = c.requires.within c.loop-i.i 0 c.loop-i-test.true in
     let at = slice_get-get_or c.args.indices.now c.loop-i.i 0 c.loop-i-test.true in
-    let own = slot-at column.rows c.loop-i.i value c.is_valid.result c.value-value.ensures c.is_valid.ensures in
+    let own = slot-at column.rows c.loop-i.i value c.is_valid.result
+    (ap (λ xs. slice_get xs c.loop-i.i) (sym c.stored_values-values.ensures) ∙ c.stored_value-value.ensures)
+    c.is_valid.ensures in
     let state = slice_get_read c.loop-i.best (length c.loop-i.best) index current refl (omega (arith, within, c.loop-i.auto.best))
     c.index-best-group.is in
     let seen_state = slice_get-map (option_map seen) c.loop-i.best index ∙ ap (option_map (option_map seen)) state in

@@ -1,13 +1,10 @@
-use Rattle.std.proofs.Common.{◌∙◌, ap}
-use Rattle.arrow_types.specs.Types.{default_logical_type, logical_type}
-use Rattle.arrow_column.specs.Column.{with_type}
-use Rattle.compute_aggregate.proofs.OrderedLemmas.{made_of_numbers, made_under}
+use Rattle.std.proofs.Common.{◌∙◌, subst}
+use Rattle.std.specs.Prelude.{IfOk}
+use Rattle.compute_aggregate.specs.Groups.{MakesSlots}
 use Rattle.compute_aggregate.proofs.aggregate.made.numbers_like.Goals as goal
 
 pub returns-clause-ok : goal.returns-clause-ok
 returns-clause-ok g c =
-    let t = logical_type c.in_ok-data_type.data_type in
-    made_under t c.args.array.now.data_type c.args.slots.now c.to.result
-    (c.in_ok-data_type.ensures.cases ∙ c.data_type.ensures.value)
-    (made_of_numbers g.T.NativeType.zero (default_logical_type g.T.NativeType.PRIMITIVE) t c.args.slots.now c.to.result
-    (c.to.ensures ∙ ap (λ array. with_type array t) c.in_ok-from.ensures.ok))
+    subst (λ t. IfOk c.numbers_of_type.result (MakesSlots t c.args.slots.now)) (c.in_ok-clone.ensures.cases
+    ∙ c.data_type.ensures.value)
+    c.numbers_of_type.ensures.ok
