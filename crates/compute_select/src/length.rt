@@ -1,13 +1,15 @@
 //! The lengths of bytes and text.
-ghost use Rattle.std.specs.Prelude.{◌≡◌, ◌<◌, List, ℕ, Some, length as length_of, map, pos, slice_get, IfOk};
+ghost use Rattle.std.specs.Prelude.{◌≡◌, ◌+◌, ◌<◌, ◌≤◌, length as length_of, map, pos, slice_index, IfOk};
 ghost use Rattle.arrow_types.specs.Failures.{OnlyOutOfMemory};
 ghost use Rattle.arrow_types.specs.Types.{default_logical_type};
+ghost use Rattle.arrow_memory.specs.Offsets.{KeepsOffsets, last_of, numbers_of};
 ghost use Rattle.arrow_column.specs.Column.{stored_values};
-ghost use Rattle.compute_select.specs.Lengths.{HasLengths};
+ghost use Rattle.compute_select.specs.Lengths.{HasLengths, length_at};
 
 use arrow_byte_array::ByteArray;
 use arrow_bytes::ByteKind;
 use arrow_memory::buffer::Buffer;
+use arrow_memory::offset::start_end_of;
 use arrow_primitive::PrimitiveArray;
 use arrow_types::error::Error;
 use arrow_types::native_type::NativeType;
@@ -15,17 +17,16 @@ use arrow_types::offset::Offset;
 use compute_base::masks::clone_mask;
 use std::alloc::{AllocError, Global};
 
-/// Returns the number of bytes of the item at an index.
+/// Returns the distance between the offset at `i` and the next one, which is the number of bytes of an item.
 #[inline(always)]
-fn item_length<K: ByteKind, O: Offset>(array: &ByteArray<K, O>, i: usize) -> O
-    requires { i < length_of array.now.rows }
-    ensures { (item : List ℕ) → slice_get (stored_values array.now) i ≡ Some item
-        → O.number result ≡ pos (length_of item) }
+fn item_length<O: Offset>(offsets: &[O], i: usize) -> O
+    requires keeps { KeepsOffsets O.number O.most offsets.now }
+    requires within { i + 1 < length_of offsets.now }
+    ensures size { O.number result ≡ pos (length_at (numbers_of O.number offsets.now) i) }
+    ensures last { slice_index (numbers_of O.number offsets.now) (i + 1)
+        ≤ last_of (numbers_of O.number offsets.now) }
 {
-    let offsets = array.offsets();
-    // Called for its contract: no item ends past the greatest offset.
-    offsets.last();
-    let (start, end) = offsets.start_end(i);
+    let (start, end) = start_end_of(offsets, i);
     O::from_as_usize(end - start)
 }
 
@@ -37,9 +38,11 @@ fn item_lengths<K: ByteKind, O: Offset>(
     ensures { IfOk result (λ lengths.
         map O.number lengths.items ≡ map (λ item. pos (length_of item)) (stored_values array.now)) }
 {
+    // A slice: through the array, each offset would be read behind two pointers, and one at a time.
+    let offsets = array.offsets().buffer().as_slice();
     let mut lengths = Vec::with_capacity(alloc, array.len())?;
     for i in 0..array.len() {
-        lengths.push(item_length(array, i))?;
+        lengths.push_reserved(item_length(offsets, i));
     }
     Ok(lengths)
 }
