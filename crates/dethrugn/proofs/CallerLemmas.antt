@@ -10,7 +10,7 @@ pub use Rattle.arrow_column.proofs.CallerLemmas as Column
 pub use Rattle.arrow_bytes.proofs.CallerLemmas as Bytes
 -- kernels
 pub use Rattle.arrow_kernels.proofs.CallerLemmas as Kernels
--- arrays that kernels make of others slot by slot
+-- results of kernels that have no null
 pub use Rattle.compute_comparison.proofs.CallerLemmas as Compute
 -- groups of rows of several columns
 pub use Rattle.compute_group.proofs.CallerLemmas as Group

@@ -75,7 +75,7 @@ pub use Rattle.compute_comparison.specs.Logic
 pub use Rattle.compute_comparison.specs.Kleene
 pub use Rattle.arrow_integers.specs.NativeArithmetics
 pub use Rattle.compute_arithmetics.specs.Arithmetic
-pub use Rattle.compute_arithmetics.specs.Cast
+pub use Rattle.compute_cast.specs.Cast
 pub use Rattle.compute_cast.specs.Decimals
 pub use Rattle.compute_select.specs.Selects
 pub use Rattle.compute_select.specs.Lengths
@@ -86,5 +86,9 @@ pub use Rattle.compute_aggregate.specs.GroupSums
 pub use Rattle.compute_group.specs.Grouping
 pub use Rattle.compute_group.specs.Hashes
 pub use Rattle.compute_sort.specs.declared.options.SortOptions
+pub use Rattle.compute_sort.specs.declared.columns.SortColumn
+pub use Rattle.compute_sort.specs.declared.columns.SortValues
+pub use Rattle.compute_sort.specs.declared.columns.SortedValues
 pub use Rattle.compute_sort.specs.Sort
 pub use Rattle.compute_sort.specs.Columns as SortColumns
+pub use Rattle.compute_sort.specs.Partition

@@ -14,13 +14,11 @@ pub mod cast {
     pub use arrow_kernels::{
         narrow_binary, narrow_items, narrow_utf8, widen_binary, widen_items, widen_utf8,
     };
-    pub use compute_arithmetics::cast::{
-        CastOptions, binary_to_utf8, boolean_to_primitive, primitive_as_primitive,
-        primitive_to_boolean, primitive_to_primitive,
-    };
-    pub use compute_arithmetics::wrap_number::WrapNumber;
     pub use compute_cast::{
-        binary_to_primitive, primitive_to_binary, primitive_to_utf8, utf8_to_primitive,
+        CastOptions, WrapNumber, binary_to_primitive, binary_to_utf8, boolean_to_binary,
+        boolean_to_primitive, boolean_to_utf8, cast_primitive, primitive_as_primitive,
+        primitive_to_binary, primitive_to_boolean, primitive_to_primitive,
+        primitive_to_same_primitive, primitive_to_utf8, utf8_to_binary, utf8_to_primitive,
     };
 }
 
@@ -54,9 +52,16 @@ pub mod hash {
     pub use compute_group::{hash_binary, hash_boolean, hash_primitive, hash_utf8};
 }
 
+/// Ranges of equal rows of sorted columns.
+pub mod partition {
+    pub use compute_sort::partition::lexicographical_partition_ranges;
+}
+
 /// Sorts of one array and over several columns.
 pub mod sort {
-    pub use compute_sort::lexsort::{SortColumn, SortValues, lexsort_to_indices};
+    pub use compute_sort::lexsort::{
+        SortColumn, SortValues, SortedValues, lexsort, lexsort_to_indices,
+    };
     pub use compute_sort::sort::{sort, sort_to_indices};
     pub use compute_sort::{SortOptions, SortableArray};
 }

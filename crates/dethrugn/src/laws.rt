@@ -12,3 +12,12 @@ pub use arrow_memory::bitmap::laws as bitmap;
 pub use arrow_primitive::laws as primitive;
 pub use arrow_types::laws as types;
 pub use compute_group::laws as group;
+
+/// Laws of the kernels that compute: how many slots a result has, what slot `i` is, and what two calls in a row make.
+pub mod compute {
+    pub use compute_aggregate::laws::summed_slots as summed;
+    pub use compute_base::laws::{combined_slots, mapped_slots};
+    pub use compute_comparison::laws::compared_slots;
+    pub use compute_group::laws::{grouped_slots as grouped, grouped_values};
+    pub use compute_sort::laws::{partitioned_rows, sorted_indexes, sorted_slots as sorted};
+}
