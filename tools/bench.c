@@ -14,7 +14,7 @@
 /* The functions, with what each is given: an item here is ITEM bytes of `data`. */
 #include "comparison/driver/rattle_flat.h"
 
-enum { ITEM = 12, DIGITS = 6, KEY = 32, FEW = 100, TIMES = 9, SIZES = 3 };
+enum { ITEM = 12, DIGITS = 6, KEY = 32, FEW = 100, LIMIT = 100, TIMES = 9, SIZES = 3 };
 
 static const size_t sizes[SIZES] = {1 << 10, 1 << 16, 1 << 22};
 
@@ -29,10 +29,12 @@ struct marks {
    too, and filters that keep most slots, 99 of 100, or runs of them. Kernels that compute are given besides: numbers of
    six digits, also as text with its ends; numbers of which one in ten takes more than 32 bits; two lists of few
    different numbers, and a word for each of the first; items of which half are those of ASCII; and different texts of 32
-   characters with their ends: some that the hash function with its fixed keys maps to one number, and others. */
+   characters with their ends: some that the hash function with its fixed keys maps to one number, and others. Sorts are
+   given the numbers in order, and in the opposite one, and eight different ones; and what finds ranges of equal rows two
+   lists that are sorted by their rows, of which about one in six differs from the one before it. */
 struct input {
     size_t n;
-    int64_t *values, *others, *keys, *small, *wide, *few, *other_few;
+    int64_t *values, *others, *keys, *small, *wide, *few, *other_few, *ascending, *descending, *eight, *first, *second;
     uint8_t *ascii, *mixed, *half_equal, *words, *digits, *alike, *unlike;
     int32_t *ends, *digit_ends, *key_ends;
     struct marks valid, bits, most, runs;
@@ -113,6 +115,28 @@ static void add_keys(struct input *in) {
     in->key_ends[n] = (int32_t)(n * KEY);
 }
 
+static int compare_numbers(const void *one, const void *other) {
+    int64_t x = *(const int64_t *)one, y = *(const int64_t *)other;
+    return (x > y) - (x < y);
+}
+
+/* What is in order. */
+static void add_sorted(struct input *in) {
+    const size_t n = in->n;
+    in->ascending = room(n * 8), in->descending = room(n * 8), in->eight = room(n * 8);
+    in->first = room(n * 8), in->second = room(n * 8);
+    memcpy(in->ascending, in->values, n * 8);
+    qsort(in->ascending, n, 8, compare_numbers);
+    int64_t row = 0;
+    for (size_t i = 0; i < n; i++) {
+        in->descending[i] = in->ascending[n - 1 - i];
+        in->eight[i] = in->values[i] & 7;
+        row += random_word() % 6 == 0;
+        in->first[i] = row / FEW;
+        in->second[i] = row % FEW;
+    }
+}
+
 static struct input make_input(size_t n) {
     struct input in = {.n = n, .ascii = room(n * ITEM), .mixed = room(n * ITEM), .ends = room((n + 1) * 4),
                        .valid = make_marks(n, 1, 10), .bits = make_marks(n, 1, 2), .most = make_marks(n, 1, 100),
@@ -131,6 +155,7 @@ static struct input make_input(size_t n) {
     in.ends[n] = (int32_t)(n * ITEM);
     add_operands(&in);
     add_keys(&in);
+    add_sorted(&in);
     return in;
 }
 
@@ -139,6 +164,7 @@ static void drop_input(struct input in) {
     free(in.others), free(in.small), free(in.wide), free(in.few), free(in.other_few);
     free(in.half_equal), free(in.words), free(in.digits), free(in.digit_ends);
     free(in.alike), free(in.unlike), free(in.key_ends);
+    free(in.ascending), free(in.descending), free(in.eight), free(in.first), free(in.second);
     free(in.valid.of), free(in.bits.of), free(in.most.of), free(in.runs.of);
 }
 
@@ -163,6 +189,10 @@ struct traffic {
 #define WIDE in->wide, n
 #define FEW_VALUES in->few, n
 #define OTHER_FEW in->other_few, n
+#define ASCENDING in->ascending, n
+#define DESCENDING in->descending, n
+#define EIGHT in->eight, n
+#define ROWS in->first, n, in->second, n
 #define OTHER_BITS in->runs.of, n
 #define HALF_EQUAL in->half_equal, n * ITEM
 #define WORDS in->words, n * ITEM
@@ -275,6 +305,10 @@ static uint64_t seed;
     LINE(cmp_eq_utf8_12, 2 * ITEM * n + 8 * (n + 1), MASK, cmp_eq_utf8(ITEMS, HALF_EQUAL, ENDS, rounds))               \
     LINE(logic_and, 2 * MASK, MASK, logic_and(BITS, OTHER_BITS, ALL_VALID, rounds))                                    \
     LINE(logic_and_null10, 3 * MASK, MASK, logic_and(BITS, OTHER_BITS, NULLS, rounds))                                 \
+    LINE(logic_not, MASK, MASK, logic_not(BITS, ALL_VALID, rounds))                                                    \
+    LINE(logic_not_null10, 2 * MASK, MASK, logic_not(BITS, NULLS, rounds))                                             \
+    LINE(logic_is_null, 0, MASK, logic_is_null(VALUES, ALL_VALID, rounds))                                             \
+    LINE(logic_is_null_null10, MASK, MASK, logic_is_null(VALUES, NULLS, rounds))                                       \
     LINE(kleene_and, 2 * MASK, MASK, kleene_and(BITS, OTHER_BITS, ALL_VALID, rounds))                                  \
     LINE(kleene_and_null10, 3 * MASK, 2 * MASK, kleene_and(BITS, OTHER_BITS, NULLS, rounds))                           \
     LINE(kleene_and_null, MASK, MASK, kleene_and_null(BITS, ALL_VALID, rounds))                                        \
@@ -285,6 +319,11 @@ static uint64_t seed;
     LINE(arith_checked_add_i64_null10, 16 * n + MASK, 8 * n + MASK,                                                    \
          arith_checked_add_i64(VALUES, OTHERS, NULLS, rounds))                                                         \
     LINE(arith_mul_i64, 16 * n, 8 * n, arith_mul_i64(VALUES, OTHERS, ALL_VALID, rounds))                               \
+    LINE(arith_div_i64, 16 * n, 8 * n, arith_div_i64(VALUES, SMALL, ALL_VALID, rounds))                                \
+    LINE(arith_sub_scalar_i64, 8 * n, 8 * n, arith_sub_scalar_i64(VALUES, ALL_VALID, rounds))                          \
+    LINE(arith_sub_scalar_i64_null10, 8 * n + MASK, 8 * n, arith_sub_scalar_i64(VALUES, NULLS, rounds))                \
+    LINE(arith_negate_i64, 8 * n, 8 * n, arith_negate_i64(VALUES, ALL_VALID, rounds))                                  \
+    LINE(arith_negate_i64_null10, 8 * n + MASK, 8 * n, arith_negate_i64(VALUES, NULLS, rounds))                        \
     LINE(arith_add_i32, 8 * n, 4 * n, arith_add_i32(VALUES, OTHERS, rounds))                                           \
     LINE(arith_saturating_add_i32, 8 * n, 4 * n, arith_saturating_add_i32(VALUES, OTHERS, rounds))                     \
     LINE(cast_wrap_i32, 8 * n, 4 * n, cast_wrap_i32(WIDE, ALL_VALID, rounds))                                          \
@@ -296,8 +335,16 @@ static uint64_t seed;
          cast_to_utf8(SMALL, NULLS, rounds))                                                                           \
     LINE(cast_of_utf8, DIGITS * n + 4 * (n + 1), 8 * n, cast_of_utf8(DIGIT_TEXTS, ALL_VALID, rounds))                  \
     LINE(cast_of_utf8_null10, DIGITS * n + 4 * (n + 1) + MASK, 8 * n + MASK, cast_of_utf8(DIGIT_TEXTS, NULLS, rounds)) \
+    LINE(cast_to_bool, 8 * n, MASK, cast_to_bool(FEW_VALUES, ALL_VALID, rounds))                                       \
+    LINE(cast_to_bool_null10, 8 * n + MASK, MASK, cast_to_bool(FEW_VALUES, NULLS, rounds))                             \
+    LINE(cast_of_bool, MASK, 8 * n, cast_of_bool(BITS, ALL_VALID, rounds))                                             \
+    LINE(cast_of_bool_null10, 2 * MASK, 8 * n, cast_of_bool(BITS, NULLS, rounds))                                      \
+    LINE(cast_bool_utf8, MASK, n + 4 * (n + 1), cast_bool_utf8(BITS, ALL_VALID, rounds))                               \
+    LINE(cast_bool_utf8_null10, 2 * MASK, in->valid.set + 4 * (n + 1) + MASK, cast_bool_utf8(BITS, NULLS, rounds))     \
     LINE(agg_sum, 8 * n, 0, agg_sum(SMALL, ALL_VALID, rounds))                                                         \
     LINE(agg_sum_null10, 8 * n + MASK, 0, agg_sum(SMALL, NULLS, rounds))                                               \
+    LINE(agg_sum_wide, 8 * n, 0, agg_sum_wide(VALUES, ALL_VALID, rounds))                                              \
+    LINE(agg_sum_wide_null10, 8 * n + MASK, 0, agg_sum_wide(VALUES, NULLS, rounds))                                    \
     LINE(agg_min, 8 * n, 0, agg_min(VALUES, ALL_VALID, rounds))                                                        \
     LINE(agg_min_null10, 8 * n + MASK, 0, agg_min(VALUES, NULLS, rounds))                                              \
     LINE(agg_max, 8 * n, 0, agg_max(VALUES, ALL_VALID, rounds))                                                        \
@@ -312,6 +359,10 @@ static uint64_t seed;
     LINE(group_utf8_alike, KEY * n + 4 * (n + 1), 16 * n, group_utf8_with(ALIKE, seed, rounds))                        \
     LINE(group_sum_few, 16 * n, 8 * FEW, group_sum(SMALL, FEW_VALUES, ALL_VALID, rounds))                              \
     LINE(group_sum_few_null10, 16 * n + MASK, 8 * FEW, group_sum(SMALL, FEW_VALUES, NULLS, rounds))                    \
+    LINE(group_sum_wide_few, 16 * n, 16 * FEW, group_sum_wide(VALUES, FEW_VALUES, ALL_VALID, rounds))                  \
+    LINE(group_sum_wide_few_null10, 16 * n + MASK, 16 * FEW, group_sum_wide(VALUES, FEW_VALUES, NULLS, rounds))        \
+    LINE(group_min_few, 16 * n, 8 * FEW, group_min(VALUES, FEW_VALUES, ALL_VALID, rounds))                             \
+    LINE(group_min_few_null10, 16 * n + MASK, 8 * FEW, group_min(VALUES, FEW_VALUES, NULLS, rounds))                   \
     LINE(hash_prim, 8 * n, 8 * n, hash_prim(VALUES, ALL_VALID, rounds))                                                \
     LINE(hash_prim_null10, 8 * n + MASK, 8 * n, hash_prim(VALUES, NULLS, rounds))                                      \
     LINE(select_take_null10, 16 * n + MASK, 8 * n, select_take(KEYS, VALUES, NULLS, rounds))                           \
@@ -320,9 +371,19 @@ static uint64_t seed;
          select_if_then_else(BITS, VALUES, OTHERS, NULLS, rounds))                                                     \
     LINE(select_nullif, 16 * n, MASK, select_nullif(FEW_VALUES, OTHER_FEW, ALL_VALID, rounds))                         \
     LINE(select_nullif_null10, 16 * n + MASK, MASK, select_nullif(FEW_VALUES, OTHER_FEW, NULLS, rounds))               \
+    LINE(select_length, 4 * (n + 1), 4 * n, select_length(ITEMS, ENDS, ALL_VALID, rounds))                             \
+    LINE(select_length_null10, 4 * (n + 1) + MASK, 4 * n, select_length(ITEMS, ENDS, NULLS, rounds))                   \
     LINE(sort_prim, 8 * n, 8 * n, sort_prim(VALUES, ALL_VALID, rounds))                                                \
     LINE(sort_prim_null10, 8 * n + MASK, 8 * n, sort_prim(VALUES, NULLS, rounds))                                      \
     LINE(sort_utf8_12, TEXT, 8 * n, sort_utf8(ITEMS, ENDS, ALL_VALID, rounds))                                         \
+    LINE(sort_sorted, 8 * n, 8 * n, sort_prim(ASCENDING, ALL_VALID, rounds))                                           \
+    LINE(sort_reversed, 8 * n, 8 * n, sort_prim(DESCENDING, ALL_VALID, rounds))                                        \
+    LINE(sort_few, 8 * n, 8 * n, sort_prim(EIGHT, ALL_VALID, rounds))                                                  \
+    LINE(sort_limit, 8 * n, 8 * LIMIT, sort_limit(VALUES, rounds))                                                     \
+    LINE(lexsort_two, 16 * n, 8 * n, lexsort(FEW_VALUES, VALUES, ALL_VALID, rounds))                                   \
+    LINE(lexsort_limit, 16 * n, 8 * LIMIT, lexsort_limit(FEW_VALUES, VALUES, ALL_VALID, rounds))                       \
+    LINE(lexsort_limit_null10, 16 * n + MASK, 8 * LIMIT, lexsort_limit(FEW_VALUES, VALUES, NULLS, rounds))             \
+    LINE(partition_two, 16 * n, 16 * (n / 6), partition(ROWS, rounds))                                                 \
     LINE(prim_null_count, 0, 0, prim_null_count(VALUES, NULLS, rounds))                                                \
     LINE(prim_freeze_thaw, MASK, 0, prim_freeze_thaw(VALUES, NULLS, rounds))                                           \
     LINE(prim_thaw_push, MASK, 0, prim_thaw_push(VALUES, NULLS, rounds))                                               \

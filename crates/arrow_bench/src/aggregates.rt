@@ -5,7 +5,10 @@ use crate::rounds::read_rounds;
 use crate::whole::array_of_parts;
 use arrow_primitive::PrimitiveArray;
 use arrow_utf8::Utf8Array;
-use compute_aggregate::aggregate::{max_primitive, min_primitive, min_string, sum_primitive};
+use compute_aggregate::aggregate::{
+    max_primitive, min_primitive, min_string, sum_primitive, sum_wide,
+};
+use compute_cast::WrapNumber;
 use std::alloc::Global;
 
 #[inline(never)]
@@ -26,6 +29,26 @@ pub extern "C" fn rattle_flat_agg_sum(
     rounds: usize,
 ) -> u64 {
     read_rounds(array_of_parts(alloc, values, valid), rounds, add_sum)
+}
+
+#[inline(never)]
+fn add_wide_sum(array: &PrimitiveArray<i64>, start: u64) -> u64 {
+    match sum_wide(array) {
+        Ok(Some(sum)) => start.wrapping_add(u64::wrap_number(sum)),
+        Ok(None) => start,
+        Err(_) => start.wrapping_add(1),
+    }
+}
+
+// sum: the low 64 bits of the sum of the valid values in 128 bits
+#[unsafe(no_mangle)]
+pub extern "C" fn rattle_flat_agg_sum_wide(
+    alloc: Global,
+    values: &[i64],
+    valid: &[u8],
+    rounds: usize,
+) -> u64 {
+    read_rounds(array_of_parts(alloc, values, valid), rounds, add_wide_sum)
 }
 
 #[inline(never)]

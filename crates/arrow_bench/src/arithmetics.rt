@@ -1,14 +1,13 @@
-//! Arithmetic and casts, over arrays that are made once.
+//! Arithmetic, over arrays that are made once.
 use crate::compute::{Pair, pair};
-use crate::kernels::texts_array;
-use crate::operation::{Operation, run};
+use crate::operation::{Operation, Probe, run};
 use crate::whole::array_of_parts;
 use arrow_primitive::PrimitiveArray;
 use arrow_types::data_type::DataType;
-use arrow_utf8::Utf8Array;
-use compute_arithmetics::basic::{add, checked_add, mul, saturating_add};
-use compute_arithmetics::cast::{CastOptions, primitive_as_primitive, primitive_to_primitive};
-use compute_cast::{primitive_to_utf8, utf8_to_primitive};
+use compute_arithmetics::basic::{
+    add, checked_add, div, has_zero_divisor, mul, negate, saturating_add, sub_scalar,
+};
+use compute_cast::primitive_as_primitive;
 use std::alloc::Global;
 
 /// Two arrays of 32-bit values.
@@ -98,6 +97,89 @@ pub extern "C" fn rattle_flat_arith_mul_i64(
     run::<MulValues>(alloc, pair(alloc, values, others, valid), rounds)
 }
 
+struct SubSeven;
+
+impl Operation for SubSeven {
+    type Source = PrimitiveArray<i64>;
+
+    type Made = PrimitiveArray<i64>;
+
+    #[inline(always)]
+    fn make(alloc: Global, array: &PrimitiveArray<i64>) -> Option<PrimitiveArray<i64>> {
+        sub_scalar(alloc, array, 7i64).ok()
+    }
+}
+
+// each value - 7, wrapping around
+#[unsafe(no_mangle)]
+pub extern "C" fn rattle_flat_arith_sub_scalar_i64(
+    alloc: Global,
+    values: &[i64],
+    valid: &[u8],
+    rounds: usize,
+) -> u64 {
+    run::<SubSeven>(alloc, array_of_parts(alloc, values, valid), rounds)
+}
+
+struct NegateValues;
+
+impl Operation for NegateValues {
+    type Source = PrimitiveArray<i64>;
+
+    type Made = PrimitiveArray<i64>;
+
+    #[inline(always)]
+    fn make(alloc: Global, array: &PrimitiveArray<i64>) -> Option<PrimitiveArray<i64>> {
+        negate(alloc, array).ok()
+    }
+}
+
+// each value with the other sign, wrapping around
+#[unsafe(no_mangle)]
+pub extern "C" fn rattle_flat_arith_negate_i64(
+    alloc: Global,
+    values: &[i64],
+    valid: &[u8],
+    rounds: usize,
+) -> u64 {
+    run::<NegateValues>(alloc, array_of_parts(alloc, values, valid), rounds)
+}
+
+/// Divides in each round. That no divisor is zero is tested once.
+fn divide_each(
+    alloc: Global,
+    lhs: &PrimitiveArray<i64>,
+    rhs: &PrimitiveArray<i64>,
+    rounds: usize,
+) -> u64 {
+    if lhs.len() != rhs.len() || has_zero_divisor(lhs, rhs) {
+        return u64::MAX;
+    }
+    let mut sum = 0u64;
+    for round in 0..rounds {
+        match div(alloc, lhs, rhs) {
+            Ok(made) => sum = sum.wrapping_add(made.probe(round)),
+            Err(_) => return u64::MAX,
+        }
+    }
+    sum
+}
+
+// lhs / rhs, which has no zero
+#[unsafe(no_mangle)]
+pub extern "C" fn rattle_flat_arith_div_i64(
+    alloc: Global,
+    values: &[i64],
+    others: &[i64],
+    valid: &[u8],
+    rounds: usize,
+) -> u64 {
+    match pair(alloc, values, others, valid) {
+        Some((lhs, rhs)) => divide_each(alloc, &lhs, &rhs, rounds),
+        None => u64::MAX,
+    }
+}
+
 /// Returns an array of the low 32 bits of values.
 fn shorts(alloc: Global, values: &[i64]) -> Option<PrimitiveArray<i32>> {
     let wide = array_of_parts(alloc, values, &[])?;
@@ -162,102 +244,4 @@ pub extern "C" fn rattle_flat_arith_saturating_add_i32(
     rounds: usize,
 ) -> u64 {
     run::<SaturatingAddShorts>(alloc, short_pair(alloc, values, others), rounds)
-}
-
-struct WrapValues;
-
-impl Operation for WrapValues {
-    type Source = PrimitiveArray<i64>;
-
-    type Made = PrimitiveArray<i32>;
-
-    #[inline(always)]
-    fn make(alloc: Global, array: &PrimitiveArray<i64>) -> Option<PrimitiveArray<i32>> {
-        primitive_as_primitive(alloc, array, DataType::Int32).ok()
-    }
-}
-
-// the low 32 bits of each value
-#[unsafe(no_mangle)]
-pub extern "C" fn rattle_flat_cast_wrap_i32(
-    alloc: Global,
-    values: &[i64],
-    valid: &[u8],
-    rounds: usize,
-) -> u64 {
-    run::<WrapValues>(alloc, array_of_parts(alloc, values, valid), rounds)
-}
-
-struct FitValues;
-
-impl Operation for FitValues {
-    type Source = PrimitiveArray<i64>;
-
-    type Made = PrimitiveArray<i32>;
-
-    #[inline(always)]
-    fn make(alloc: Global, array: &PrimitiveArray<i64>) -> Option<PrimitiveArray<i32>> {
-        let options = CastOptions { wrapped: false };
-        primitive_to_primitive(alloc, array, options, DataType::Int32).ok()
-    }
-}
-
-// the values as 32-bit numbers, null where one does not fit
-#[unsafe(no_mangle)]
-pub extern "C" fn rattle_flat_cast_fit_i32(
-    alloc: Global,
-    values: &[i64],
-    valid: &[u8],
-    rounds: usize,
-) -> u64 {
-    run::<FitValues>(alloc, array_of_parts(alloc, values, valid), rounds)
-}
-
-struct ToText;
-
-impl Operation for ToText {
-    type Source = PrimitiveArray<i64>;
-
-    type Made = Utf8Array<i32>;
-
-    #[inline(always)]
-    fn make(alloc: Global, array: &PrimitiveArray<i64>) -> Option<Utf8Array<i32>> {
-        primitive_to_utf8(alloc, array).ok()
-    }
-}
-
-// the values in decimal
-#[unsafe(no_mangle)]
-pub extern "C" fn rattle_flat_cast_to_utf8(
-    alloc: Global,
-    values: &[i64],
-    valid: &[u8],
-    rounds: usize,
-) -> u64 {
-    run::<ToText>(alloc, array_of_parts(alloc, values, valid), rounds)
-}
-
-struct OfText;
-
-impl Operation for OfText {
-    type Source = Utf8Array<i32>;
-
-    type Made = PrimitiveArray<i64>;
-
-    #[inline(always)]
-    fn make(alloc: Global, array: &Utf8Array<i32>) -> Option<PrimitiveArray<i64>> {
-        utf8_to_primitive(alloc, array, DataType::Int64).ok()
-    }
-}
-
-// the numbers of texts, null where one is none
-#[unsafe(no_mangle)]
-pub extern "C" fn rattle_flat_cast_of_utf8(
-    alloc: Global,
-    data: &[u8],
-    offsets: &[i32],
-    valid: &[u8],
-    rounds: usize,
-) -> u64 {
-    run::<OfText>(alloc, texts_array(alloc, data, offsets, valid), rounds)
 }

@@ -227,6 +227,54 @@ pub extern "C" fn rattle_flat_logic_and(
     run::<LogicAnd>(alloc, truths_pair(alloc, bits, others, valid), rounds)
 }
 
+struct LogicNot;
+
+impl Operation for LogicNot {
+    type Source = BooleanArray;
+
+    type Made = BooleanArray;
+
+    #[inline(always)]
+    fn make(alloc: Global, array: &BooleanArray) -> Option<BooleanArray> {
+        boolean::not(alloc, array).ok()
+    }
+}
+
+// the opposite of each slot
+#[unsafe(no_mangle)]
+pub extern "C" fn rattle_flat_logic_not(
+    alloc: Global,
+    bits: &[u8],
+    valid: &[u8],
+    rounds: usize,
+) -> u64 {
+    run::<LogicNot>(alloc, truths_array(alloc, bits, valid), rounds)
+}
+
+struct NullSlots;
+
+impl Operation for NullSlots {
+    type Source = PrimitiveArray<i64>;
+
+    type Made = BooleanArray;
+
+    #[inline(always)]
+    fn make(alloc: Global, array: &PrimitiveArray<i64>) -> Option<BooleanArray> {
+        boolean::is_null(alloc, array).ok()
+    }
+}
+
+// which slots are null
+#[unsafe(no_mangle)]
+pub extern "C" fn rattle_flat_logic_is_null(
+    alloc: Global,
+    values: &[i64],
+    valid: &[u8],
+    rounds: usize,
+) -> u64 {
+    run::<NullSlots>(alloc, array_of_parts(alloc, values, valid), rounds)
+}
+
 struct KleeneAnd;
 
 impl Operation for KleeneAnd {

@@ -1,14 +1,12 @@
-//! Groups, sums of groups, and hashes, over arrays that are made once.
-ghost use Rattle.std.specs.Prelude.{◌≡◌, length};
-
+//! Groups, sums and least values of groups, and hashes, over arrays that are made once.
 use crate::compute::pair;
 use crate::kernels::texts_array;
-use crate::operation::{Operation, Probe, run};
+use crate::operation::{Operation, run};
 use crate::whole::array_of_parts;
 use arrow_primitive::PrimitiveArray;
+use arrow_types::data_type::DataType;
 use arrow_utf8::Utf8Array;
-use compute_aggregate::aggregate::group_sum_primitive;
-use compute_group::laws::grouped_slots;
+use compute_aggregate::aggregate::{group_min_primitive, group_sum_primitive, group_sum_wide};
 use compute_group::{Groups, group_primitive, group_utf8, group_utf8_with, hash_primitive};
 use std::alloc::Global;
 use std::hash::RandomState;
@@ -111,32 +109,34 @@ pub extern "C" fn rattle_flat_group_utf8_with(
     run::<GroupTextsByKeys>(alloc, source, rounds)
 }
 
-fn sum_each(alloc: Global, values: &PrimitiveArray<i64>, groups: &Groups, rounds: usize) -> u64
-    requires { length groups.now.indices ≡ length values.now.rows }
-{
-    let mut sum = 0u64;
-    for round in 0..rounds {
-        match group_sum_primitive(alloc, values, groups) {
-            Ok(sums) => sum = sum.wrapping_add(sums.probe(round)),
-            Err(_) => return u64::MAX,
-        }
-    }
-    sum
+/// Values, and the groups of keys.
+type ValuesOfGroups = (PrimitiveArray<i64>, Groups);
+
+/// Returns values, and the groups of equal keys, which have no null.
+fn with_groups(
+    alloc: Global,
+    values: &[i64],
+    keys: &[i64],
+    valid: &[u8],
+) -> Option<ValuesOfGroups> {
+    let (values, keys) = pair(alloc, values, keys, valid)?;
+    let groups = group_primitive(alloc, &keys).ok()?;
+    Some((values, groups))
 }
 
-fn sum_by(
-    alloc: Global,
-    values: &PrimitiveArray<i64>,
-    keys: &PrimitiveArray<i64>,
-    rounds: usize,
-) -> u64 {
-    if values.len() != keys.len() {
-        return u64::MAX;
-    }
-    grouped_slots::<(), i64>();
-    match group_primitive(alloc, keys) {
-        Ok(groups) => sum_each(alloc, values, &groups, rounds),
-        Err(_) => u64::MAX,
+struct SumGroups;
+
+impl Operation for SumGroups {
+    type Source = ValuesOfGroups;
+
+    type Made = PrimitiveArray<i64>;
+
+    #[inline(always)]
+    fn make(alloc: Global, (values, groups): &ValuesOfGroups) -> Option<PrimitiveArray<i64>> {
+        if groups.indices().len() != values.len() {
+            return None;
+        }
+        group_sum_primitive(alloc, values, groups).ok()
     }
 }
 
@@ -149,10 +149,63 @@ pub extern "C" fn rattle_flat_group_sum(
     valid: &[u8],
     rounds: usize,
 ) -> u64 {
-    match pair(alloc, values, keys, valid) {
-        Some((values, keys)) => sum_by(alloc, &values, &keys, rounds),
-        None => u64::MAX,
+    run::<SumGroups>(alloc, with_groups(alloc, values, keys, valid), rounds)
+}
+
+struct SumGroupsWide;
+
+impl Operation for SumGroupsWide {
+    type Source = ValuesOfGroups;
+
+    type Made = PrimitiveArray<i128>;
+
+    #[inline(always)]
+    fn make(alloc: Global, (values, groups): &ValuesOfGroups) -> Option<PrimitiveArray<i128>> {
+        if groups.indices().len() != values.len() {
+            return None;
+        }
+        group_sum_wide(alloc, values, groups, DataType::Decimal(38, 0)).ok()
     }
+}
+
+// the sum of the values of each group, in 128 bits
+#[unsafe(no_mangle)]
+pub extern "C" fn rattle_flat_group_sum_wide(
+    alloc: Global,
+    values: &[i64],
+    keys: &[i64],
+    valid: &[u8],
+    rounds: usize,
+) -> u64 {
+    run::<SumGroupsWide>(alloc, with_groups(alloc, values, keys, valid), rounds)
+}
+
+struct LeastOfGroups;
+
+impl Operation for LeastOfGroups {
+    type Source = ValuesOfGroups;
+
+    type Made = PrimitiveArray<i64>;
+
+    #[inline(always)]
+    fn make(alloc: Global, (values, groups): &ValuesOfGroups) -> Option<PrimitiveArray<i64>> {
+        if groups.indices().len() != values.len() {
+            return None;
+        }
+        group_min_primitive(alloc, values, groups).ok()
+    }
+}
+
+// the least value of each group
+#[unsafe(no_mangle)]
+pub extern "C" fn rattle_flat_group_min(
+    alloc: Global,
+    values: &[i64],
+    keys: &[i64],
+    valid: &[u8],
+    rounds: usize,
+) -> u64 {
+    run::<LeastOfGroups>(alloc, with_groups(alloc, values, keys, valid), rounds)
 }
 
 struct Hash;

@@ -7,8 +7,10 @@ use arrow_boolean::BooleanArray;
 use arrow_primitive::{MutablePrimitiveArray, PrimitiveArray};
 use arrow_types::native_type::NativeType;
 use arrow_utf8::Utf8Array;
+use compute_cast::WrapNumber;
 use compute_group::Groups;
 use std::alloc::Global;
+use std::ops::Range;
 
 /// What a round makes.
 pub(crate) trait Probe {
@@ -54,6 +56,17 @@ impl Probe for PrimitiveArray<u64> {
     fn probe(&self, round: usize) -> u64 {
         match probe_slot(self, round) {
             (counts, Some(value)) => counts.wrapping_add(value),
+            (counts, None) => counts,
+        }
+    }
+}
+
+impl Probe for PrimitiveArray<i128> {
+    /// As that of numbers of 64 bits: a value is its low 64 bits.
+    #[inline(always)]
+    fn probe(&self, round: usize) -> u64 {
+        match probe_slot(self, round) {
+            (counts, Some(value)) => counts.wrapping_add(u64::wrap_number(value)),
             (counts, None) => counts,
         }
     }
@@ -112,6 +125,18 @@ impl Probe for Groups {
         match indices.get(place(round, rows)) {
             Some(number) => counts.wrapping_add(*number as u64),
             None => counts,
+        }
+    }
+}
+
+impl Probe for Vec<Range<usize>> {
+    /// Returns the number of ranges, and where one of them begins.
+    #[inline(always)]
+    fn probe(&self, round: usize) -> u64 {
+        let count = self.len();
+        match self.get(place(round, count)) {
+            Some(range) => (count as u64).wrapping_add(range.start as u64),
+            None => count as u64,
         }
     }
 }

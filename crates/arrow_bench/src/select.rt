@@ -1,4 +1,4 @@
-//! Selections and sorts, over arrays that are made once.
+//! Selections, over arrays that are made once.
 use crate::compute::{Pair, pair};
 use crate::kernels::{texts_array, truths_array};
 use crate::operation::{Operation, run};
@@ -7,10 +7,9 @@ use arrow_boolean::BooleanArray;
 use arrow_primitive::PrimitiveArray;
 use arrow_utf8::Utf8Array;
 use compute_select::if_then_else::if_then_else_primitive;
+use compute_select::length::length;
 use compute_select::nullif::nullif_primitive;
 use compute_select::take::take_primitive;
-use compute_sort::SortOptions;
-use compute_sort::sort::sort_to_indices;
 use std::alloc::Global;
 
 struct Take;
@@ -113,51 +112,27 @@ pub extern "C" fn rattle_flat_select_if_then_else(
     run::<Choose>(alloc, choice(alloc, bits, values, others, valid), rounds)
 }
 
-struct Sort;
+struct Lengths;
 
-impl Operation for Sort {
-    type Source = PrimitiveArray<i64>;
-
-    type Made = PrimitiveArray<u64>;
-
-    #[inline(always)]
-    fn make(alloc: Global, array: &PrimitiveArray<i64>) -> Option<PrimitiveArray<u64>> {
-        sort_to_indices(alloc, array, SortOptions::default(), None).ok()
-    }
-}
-
-// the indexes that sort the array, nulls first
-#[unsafe(no_mangle)]
-pub extern "C" fn rattle_flat_sort_prim(
-    alloc: Global,
-    values: &[i64],
-    valid: &[u8],
-    rounds: usize,
-) -> u64 {
-    run::<Sort>(alloc, array_of_parts(alloc, values, valid), rounds)
-}
-
-struct SortTexts;
-
-impl Operation for SortTexts {
+impl Operation for Lengths {
     type Source = Utf8Array<i32>;
 
-    type Made = PrimitiveArray<u64>;
+    type Made = PrimitiveArray<i32>;
 
     #[inline(always)]
-    fn make(alloc: Global, array: &Utf8Array<i32>) -> Option<PrimitiveArray<u64>> {
-        sort_to_indices(alloc, array, SortOptions::default(), None).ok()
+    fn make(alloc: Global, array: &Utf8Array<i32>) -> Option<PrimitiveArray<i32>> {
+        length(alloc, array).ok()
     }
 }
 
-// the indexes that sort the texts
+// the number of bytes of each text
 #[unsafe(no_mangle)]
-pub extern "C" fn rattle_flat_sort_utf8(
+pub extern "C" fn rattle_flat_select_length(
     alloc: Global,
     data: &[u8],
     offsets: &[i32],
     valid: &[u8],
     rounds: usize,
 ) -> u64 {
-    run::<SortTexts>(alloc, texts_array(alloc, data, offsets, valid), rounds)
+    run::<Lengths>(alloc, texts_array(alloc, data, offsets, valid), rounds)
 }

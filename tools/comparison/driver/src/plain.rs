@@ -1,6 +1,8 @@
 //! Column kernels as plain loops over slices, for the comparison with the library's: marks by words of 64, with a count
 //! of the clear ones, and shared where the library shares them. No slot is an `Option`.
+use std::cmp::Ordering;
 use std::hint::black_box;
+use std::ops::Range;
 use std::rc::Rc;
 
 /// One mark a bit, the least significant first; the bits behind the last mark are clear.
@@ -166,6 +168,29 @@ pub fn eq_texts(lhs: Texts, rhs: Texts) -> Marks {
     Marks::new(words, lhs.len())
 }
 
+/// The opposite of words; the bits behind the last mark are clear.
+fn opposite(words: &[u64], len: usize) -> Vec<u64> {
+    let mut words: Vec<u64> = words.iter().map(|word| !word).collect();
+    if len % 64 != 0 {
+        words[len / 64] &= (1 << (len % 64)) - 1;
+    }
+    words
+}
+
+#[inline(never)]
+pub fn not(values: &Marks, mask: &Mask, len: usize) -> (Marks, Mask) {
+    (Marks::new(opposite(&values.words, len), len), mask.clone())
+}
+
+/// Marks of the slots that are null.
+#[inline(never)]
+pub fn null_marks(mask: &Mask, len: usize) -> Marks {
+    match mask {
+        Some(marks) => Marks::new(opposite(&marks.words, len), len),
+        None => Marks { words: vec![0; len.div_ceil(64)], clear: len },
+    }
+}
+
 #[inline(never)]
 pub fn and(lhs: &Marks, rhs: &Marks, mask: &Mask, len: usize) -> (Marks, Mask) {
     (Marks::new(zip_words(&lhs.words, &rhs.words, |x, y| x & y), len), mask.clone())
@@ -209,6 +234,22 @@ pub fn add(lhs: &[i64], rhs: &[i64], mask: &Mask) -> (Vec<i64>, Mask) {
 #[inline(never)]
 pub fn mul(lhs: &[i64], rhs: &[i64], mask: &Mask) -> (Vec<i64>, Mask) {
     (zip_values(lhs, rhs, i64::wrapping_mul), mask.clone())
+}
+
+/// The divisors have no zero.
+#[inline(never)]
+pub fn div(lhs: &[i64], rhs: &[i64], mask: &Mask) -> (Vec<i64>, Mask) {
+    (zip_values(lhs, rhs, i64::wrapping_div), mask.clone())
+}
+
+#[inline(never)]
+pub fn sub_seven(values: &[i64], mask: &Mask) -> (Vec<i64>, Mask) {
+    (values.iter().map(|x| x.wrapping_sub(7)).collect(), mask.clone())
+}
+
+#[inline(never)]
+pub fn negate(values: &[i64], mask: &Mask) -> (Vec<i64>, Mask) {
+    (values.iter().map(|x| x.wrapping_neg()).collect(), mask.clone())
 }
 
 #[inline(never)]
@@ -305,13 +346,49 @@ pub fn of_texts(texts: Texts, mask: &Mask) -> (Vec<i64>, Mask) {
     (values, mask)
 }
 
+/// Whether each value is another one.
+#[inline(never)]
+pub fn ne_scalar(values: &[i64], other: i64, mask: &Mask) -> (Marks, Mask) {
+    (Marks::new(test_each(values, |x| x != other), values.len()), mask.clone())
+}
+
+/// One for each mark that is set, else zero.
+#[inline(never)]
+pub fn of_marks(marks: &Marks, mask: &Mask, len: usize) -> (Vec<i64>, Mask) {
+    let mut out = Vec::with_capacity(64 * marks.words.len());
+    for word in &marks.words {
+        out.extend((0..64).map(|k| (word >> k & 1) as i64));
+    }
+    out.truncate(len);
+    (out, mask.clone())
+}
+
+/// The text 1 for each mark that is set, else 0, of the valid slots: bytes, offsets and mask.
+#[inline(never)]
+pub fn marks_to_texts(marks: &Marks, mask: &Mask, len: usize) -> (Vec<u8>, Vec<i32>, Mask) {
+    let mut bytes = Vec::with_capacity(len);
+    let mut offsets = Vec::with_capacity(len + 1);
+    offsets.push(0);
+    for i in 0..len {
+        if is_valid(mask, i) {
+            bytes.push(b'0' + marks.is_set(i) as u8);
+        }
+        offsets.push(i32::try_from(bytes.len()).unwrap());
+    }
+    (bytes, offsets, mask.clone())
+}
+
 // ---- aggregates
 
-/// The sum of the valid values, 1 if it does not fit.
+/// The sum of the valid values.
 #[inline(never)]
+pub fn sum_wide(values: &[i64], mask: &Mask) -> i128 {
+    fold_slots(values, mask, 0i128, |sum, x, valid| sum + if valid { x as i128 } else { 0 })
+}
+
+/// The sum of the valid values, 1 if it does not fit.
 pub fn sum(values: &[i64], mask: &Mask) -> i64 {
-    let total = fold_slots(values, mask, 0i128, |sum, x, valid| sum + if valid { x as i128 } else { 0 });
-    i64::try_from(total).unwrap_or(1)
+    i64::try_from(sum_wide(values, mask)).unwrap_or(1)
 }
 
 #[inline(never)]
@@ -489,15 +566,22 @@ pub fn group_texts(texts: Texts, mask: &Mask) -> Groups {
     group_keys(texts.iter(), mask)
 }
 
-/// The sum of each group, a null for a group of nulls; `None` if one does not fit.
-#[inline(never)]
-pub fn group_sum(values: &[i64], mask: &Mask, groups: &Groups) -> Option<(Vec<i64>, Mask)> {
-    let mut sums = vec![(0i128, false); groups.first.len()];
+/// What is folded of each group, beside whether a slot of it is valid: `step` is passed the sum so far, a value and whether
+/// it is valid.
+#[inline(always)]
+fn fold_groups<S: Copy>(
+    values: &[i64],
+    mask: &Mask,
+    groups: &Groups,
+    start: S,
+    step: impl Fn(S, i64, bool) -> S,
+) -> Vec<(S, bool)> {
+    let mut sums = vec![(start, false); groups.first.len()];
     match mask {
         None => {
             for (x, number) in values.iter().zip(&groups.numbers) {
                 let sum = &mut sums[*number];
-                *sum = (sum.0 + *x as i128, true);
+                *sum = (step(sum.0, *x, true), true);
             }
         }
         Some(marks) => {
@@ -505,14 +589,45 @@ pub fn group_sum(values: &[i64], mask: &Mask, groups: &Groups) -> Option<(Vec<i6
                 for (k, (x, number)) in values.iter().zip(numbers).enumerate() {
                     let valid = word >> k & 1 != 0;
                     let sum = &mut sums[*number];
-                    *sum = (sum.0 + if valid { *x as i128 } else { 0 }, sum.1 | valid);
+                    *sum = (step(sum.0, *x, valid), sum.1 | valid);
                 }
             }
         }
     }
+    sums
+}
+
+#[inline(always)]
+fn sums_of_groups(values: &[i64], mask: &Mask, groups: &Groups) -> Vec<(i128, bool)> {
+    fold_groups(values, mask, groups, 0, |sum, x, valid| sum + if valid { x as i128 } else { 0 })
+}
+
+/// The mask of what was folded: a null for a group of nulls.
+fn mask_of_groups<S: Copy>(sums: &[(S, bool)]) -> Mask {
+    needed(Marks::new(test_each(sums, |sum| sum.1), sums.len()))
+}
+
+/// The sum of each group, a null for a group of nulls; `None` if one does not fit.
+#[inline(never)]
+pub fn group_sum(values: &[i64], mask: &Mask, groups: &Groups) -> Option<(Vec<i64>, Mask)> {
+    let sums = sums_of_groups(values, mask, groups);
     let values = sums.iter().map(|sum| i64::try_from(sum.0)).collect::<Result<Vec<_>, _>>().ok()?;
-    let marks = Marks::new(test_each(&sums, |sum| sum.1), sums.len());
-    Some((values, needed(marks)))
+    Some((values, mask_of_groups(&sums)))
+}
+
+/// The sum of each group in 128 bits.
+#[inline(never)]
+pub fn group_sum_wide(values: &[i64], mask: &Mask, groups: &Groups) -> (Vec<i128>, Mask) {
+    let sums = sums_of_groups(values, mask, groups);
+    (sums.iter().map(|sum| sum.0).collect(), mask_of_groups(&sums))
+}
+
+/// The least value of each group.
+#[inline(never)]
+pub fn group_least(values: &[i64], mask: &Mask, groups: &Groups) -> (Vec<i64>, Mask) {
+    let least = |least: i64, x, valid| least.min(if valid { x } else { i64::MAX });
+    let sums = fold_groups(values, mask, groups, i64::MAX, least);
+    (sums.iter().map(|sum| sum.0).collect(), mask_of_groups(&sums))
 }
 
 // ---- selections
@@ -557,6 +672,12 @@ pub fn nullif(lhs: &Rc<Vec<i64>>, rhs: &[i64], mask: &Mask) -> (Rc<Vec<i64>>, Ma
     (lhs.clone(), needed(Marks::new(words, lhs.len())))
 }
 
+/// The number of bytes of each text.
+#[inline(never)]
+pub fn lengths(texts: Texts, mask: &Mask) -> (Vec<i32>, Mask) {
+    (texts.offsets.windows(2).map(|ends| ends[1] - ends[0]).collect(), mask.clone())
+}
+
 // ---- sorts
 
 /// The indexes of the slots in their order, nulls first.
@@ -584,6 +705,75 @@ pub fn sort_indexes(values: &[i64], mask: &Mask) -> Vec<u64> {
 #[inline(never)]
 pub fn sort_text_indexes(texts: Texts, mask: &Mask) -> Vec<u64> {
     sort_slots(texts.iter(), texts.len(), mask)
+}
+
+/// How many indexes a sort with a limit returns.
+const LIMIT: usize = 100;
+
+/// The first items in an order, sorted.
+#[inline(always)]
+fn sort_first<T>(mut items: Vec<T>, order: impl Fn(&T, &T) -> Ordering + Copy) -> Vec<T> {
+    if LIMIT < items.len() {
+        items.select_nth_unstable_by(LIMIT, order);
+        items.truncate(LIMIT);
+    }
+    items.sort_unstable_by(order);
+    items
+}
+
+/// The indexes of the first values in their order.
+#[inline(never)]
+pub fn sort_first_indexes(values: &[i64]) -> Vec<u64> {
+    let pairs: Vec<(i64, u64)> = values.iter().copied().zip(0..).collect();
+    sort_first(pairs, Ord::cmp).iter().map(|pair| pair.1).collect()
+}
+
+/// The order of two rows of two columns, nulls first; the second column has none.
+#[inline(always)]
+fn row_order(first: &[i64], second: &[i64], mask: &Mask, i: u64, j: u64) -> Ordering {
+    let (i, j) = (i as usize, j as usize);
+    let slot = |i| is_valid(mask, i).then(|| first[i]);
+    slot(i).cmp(&slot(j)).then_with(|| second[i].cmp(&second[j]))
+}
+
+fn all_indexes(len: usize) -> Vec<u64> {
+    (0..len as u64).collect()
+}
+
+#[inline(never)]
+pub fn sort_rows(first: &[i64], second: &[i64], mask: &Mask) -> Vec<u64> {
+    let mut out = all_indexes(first.len());
+    match mask {
+        None => out.sort_by(|i, j| row_order(first, second, &None, *i, *j)),
+        Some(_) => out.sort_by(|i, j| row_order(first, second, mask, *i, *j)),
+    }
+    out
+}
+
+/// The indexes of the first rows in their order, equal rows in that of their indexes.
+#[inline(never)]
+pub fn sort_first_rows(first: &[i64], second: &[i64], mask: &Mask) -> Vec<u64> {
+    let all = all_indexes(first.len());
+    match mask {
+        None => sort_first(all, |i, j| row_order(first, second, &None, *i, *j).then(i.cmp(j))),
+        Some(_) => sort_first(all, |i, j| row_order(first, second, mask, *i, *j).then(i.cmp(j))),
+    }
+}
+
+/// The ranges of equal rows: each row that differs from the one before it begins one.
+#[inline(never)]
+pub fn ranges(first: &[i64], second: &[i64]) -> Vec<Range<usize>> {
+    let (mut out, mut start) = (Vec::new(), 0);
+    for (i, (x, y)) in first.windows(2).zip(second.windows(2)).enumerate() {
+        if x[0] != x[1] || y[0] != y[1] {
+            out.push(start..i + 1);
+            start = i + 1;
+        }
+    }
+    if !first.is_empty() {
+        out.push(start..first.len());
+    }
+    out
 }
 
 // ---- what is read of a round's answer: as rattle_flat.h says
@@ -651,6 +841,23 @@ pub fn combine_marks<'a>(
     })
 }
 
+/// A kernel of a column of booleans that makes booleans.
+pub fn map_marks<'a>(kernel: fn(&Marks, &Mask, usize) -> (Marks, Mask), bits: &[u8], valid: &[u8]) -> Operation<'a> {
+    let (values, mask, rows) = (marks_of(bits), packed(valid), bits.len());
+    Box::new(move |round| {
+        let (marks, mask) = kernel(black_box(&values), &mask, rows);
+        probe(rows, &mask, round, |at| marks.is_set(at) as u64)
+    })
+}
+
+pub fn logic_is_null<'a>(rows: usize, valid: &[u8]) -> Operation<'a> {
+    let mask = packed(valid);
+    Box::new(move |round| {
+        let marks = null_marks(black_box(&mask), rows);
+        probe(rows, &None, round, |at| marks.is_set(at) as u64)
+    })
+}
+
 pub fn combine_marks_with_null<'a>(bits: &[u8], valid: &[u8]) -> Operation<'a> {
     let (values, mask, rows) = (marks_of(bits), packed(valid), bits.len());
     Box::new(move |round| {
@@ -669,6 +876,15 @@ pub fn combine<'a>(
     let mask = packed(valid);
     Box::new(move |round| {
         let (values, mask) = kernel(black_box(lhs), rhs, &mask);
+        probe(values.len(), &mask, round, |at| values[at] as u64)
+    })
+}
+
+/// A kernel of a column of numbers that makes numbers.
+pub fn map_values<'a>(kernel: fn(&[i64], &Mask) -> (Vec<i64>, Mask), values: &'a [i64], valid: &[u8]) -> Operation<'a> {
+    let mask = packed(valid);
+    Box::new(move |round| {
+        let (values, mask) = kernel(black_box(values), &mask);
         probe(values.len(), &mask, round, |at| values[at] as u64)
     })
 }
@@ -694,12 +910,27 @@ pub fn cast_i32<'a>(kernel: fn(&[i64], &Mask) -> (Vec<i32>, Mask), values: &'a [
     })
 }
 
+/// Of texts: their bytes, offsets and mask.
+fn probe_texts((bytes, offsets, mask): &(Vec<u8>, Vec<i32>, Mask), round: u64) -> u64 {
+    let texts = Texts { bytes, offsets };
+    probe(texts.len(), mask, round, |at| texts.get(at).first().map_or(0, |byte| *byte as u64))
+}
+
 pub fn cast_to_utf8<'a>(values: &'a [i64], valid: &[u8]) -> Operation<'a> {
     let mask = packed(valid);
+    Box::new(move |round| probe_texts(&to_texts(black_box(values), &mask), round))
+}
+
+pub fn cast_bool_utf8<'a>(bits: &[u8], valid: &[u8]) -> Operation<'a> {
+    let (values, mask, rows) = (marks_of(bits), packed(valid), bits.len());
+    Box::new(move |round| probe_texts(&marks_to_texts(black_box(&values), &mask, rows), round))
+}
+
+pub fn cast_of_bool<'a>(bits: &[u8], valid: &[u8]) -> Operation<'a> {
+    let (values, mask, rows) = (marks_of(bits), packed(valid), bits.len());
     Box::new(move |round| {
-        let (bytes, offsets, mask) = to_texts(black_box(values), &mask);
-        let texts = Texts { bytes: &bytes, offsets: &offsets };
-        probe(values.len(), &mask, round, |at| texts.get(at).first().map_or(0, |byte| *byte as u64))
+        let (values, mask) = of_marks(black_box(&values), &mask, rows);
+        probe(rows, &mask, round, |at| values[at] as u64)
     })
 }
 
@@ -715,6 +946,11 @@ pub fn cast_of_utf8<'a>(bytes: &'a [u8], offsets: &'a [i32], valid: &[u8]) -> Op
 pub fn aggregate<'a>(kernel: fn(&[i64], &Mask) -> i64, values: &'a [i64], valid: &[u8]) -> Operation<'a> {
     let mask = packed(valid);
     Box::new(move |_| kernel(black_box(values), &mask) as u64)
+}
+
+pub fn agg_sum_wide<'a>(values: &'a [i64], valid: &[u8]) -> Operation<'a> {
+    let mask = packed(valid);
+    Box::new(move |_| sum_wide(black_box(values), &mask) as u64)
 }
 
 pub fn agg_min_utf8<'a>(bytes: &'a [u8], offsets: &'a [i32], valid: &[u8]) -> Operation<'a> {
@@ -743,6 +979,22 @@ pub fn sum_groups<'a>(values: &'a [i64], keys: &[i64], valid: &[u8]) -> Operatio
     Box::new(move |round| match group_sum(black_box(values), &mask, &groups) {
         Some((sums, mask)) => probe(sums.len(), &mask, round, |at| sums[at] as u64),
         None => u64::MAX,
+    })
+}
+
+pub fn sum_groups_wide<'a>(values: &'a [i64], keys: &[i64], valid: &[u8]) -> Operation<'a> {
+    let (mask, groups) = (packed(valid), group(keys, &None));
+    Box::new(move |round| {
+        let (sums, mask) = group_sum_wide(black_box(values), &mask, &groups);
+        probe(sums.len(), &mask, round, |at| sums[at] as u64)
+    })
+}
+
+pub fn least_of_groups<'a>(values: &'a [i64], keys: &[i64], valid: &[u8]) -> Operation<'a> {
+    let (mask, groups) = (packed(valid), group(keys, &None));
+    Box::new(move |round| {
+        let (least, mask) = group_least(black_box(values), &mask, &groups);
+        probe(least.len(), &mask, round, |at| least[at] as u64)
     })
 }
 
@@ -778,18 +1030,48 @@ pub fn select_nullif<'a>(values: &[i64], others: &'a [i64], valid: &[u8]) -> Ope
     })
 }
 
+pub fn select_length<'a>(bytes: &'a [u8], offsets: &'a [i32], valid: &[u8]) -> Operation<'a> {
+    let (texts, mask) = (Texts { bytes, offsets }, packed(valid));
+    Box::new(move |round| {
+        let (lengths, mask) = lengths(black_box(texts), &mask);
+        probe(lengths.len(), &mask, round, |at| lengths[at] as u64)
+    })
+}
+
+fn probe_indexes(indexes: &[u64], round: u64) -> u64 {
+    probe(indexes.len(), &None, round, |at| indexes[at])
+}
+
 pub fn sort_prim<'a>(values: &'a [i64], valid: &[u8]) -> Operation<'a> {
     let mask = packed(valid);
-    Box::new(move |round| {
-        let indexes = sort_indexes(black_box(values), &mask);
-        probe(indexes.len(), &None, round, |at| indexes[at])
-    })
+    Box::new(move |round| probe_indexes(&sort_indexes(black_box(values), &mask), round))
 }
 
 pub fn sort_utf8<'a>(bytes: &'a [u8], offsets: &'a [i32], valid: &[u8]) -> Operation<'a> {
     let (texts, mask) = (Texts { bytes, offsets }, packed(valid));
+    Box::new(move |round| probe_indexes(&sort_text_indexes(black_box(texts), &mask), round))
+}
+
+/// The values have no null.
+pub fn sort_limit<'a>(values: &'a [i64]) -> Operation<'a> {
+    Box::new(move |round| probe_indexes(&sort_first_indexes(black_box(values)), round))
+}
+
+/// A sort of the rows of two columns, of which the second has no null.
+pub fn lexsort<'a>(
+    kernel: fn(&[i64], &[i64], &Mask) -> Vec<u64>,
+    first: &'a [i64],
+    second: &'a [i64],
+    valid: &[u8],
+) -> Operation<'a> {
+    let mask = packed(valid);
+    Box::new(move |round| probe_indexes(&kernel(black_box(first), second, &mask), round))
+}
+
+/// The columns have no null.
+pub fn partition<'a>(first: &'a [i64], second: &'a [i64]) -> Operation<'a> {
     Box::new(move |round| {
-        let indexes = sort_text_indexes(black_box(texts), &mask);
-        probe(indexes.len(), &None, round, |at| indexes[at])
+        let ranges = ranges(black_box(first), second);
+        probe(ranges.len(), &None, round, |at| ranges[at].start as u64)
     })
 }

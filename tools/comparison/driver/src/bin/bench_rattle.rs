@@ -59,30 +59,46 @@ mod library {
         pub fn rattle_flat_cmp_eq_scalar_validity(v: *const i64, nv: usize, m: *const u8, nm: usize, rounds: usize) -> u64;
         pub fn rattle_flat_cmp_eq_utf8(d: *const u8, nd: usize, e: *const u8, ne: usize, o: *const i32, no: usize, rounds: usize) -> u64;
         pub fn rattle_flat_logic_and(b: *const u8, nb: usize, c: *const u8, nc: usize, m: *const u8, nm: usize, rounds: usize) -> u64;
+        pub fn rattle_flat_logic_not(b: *const u8, nb: usize, m: *const u8, nm: usize, rounds: usize) -> u64;
+        pub fn rattle_flat_logic_is_null(v: *const i64, nv: usize, m: *const u8, nm: usize, rounds: usize) -> u64;
         pub fn rattle_flat_kleene_and(b: *const u8, nb: usize, c: *const u8, nc: usize, m: *const u8, nm: usize, rounds: usize) -> u64;
         pub fn rattle_flat_kleene_and_null(b: *const u8, nb: usize, m: *const u8, nm: usize, rounds: usize) -> u64;
         pub fn rattle_flat_arith_add_i64(v: *const i64, nv: usize, w: *const i64, nw: usize, m: *const u8, nm: usize, rounds: usize) -> u64;
         pub fn rattle_flat_arith_checked_add_i64(v: *const i64, nv: usize, w: *const i64, nw: usize, m: *const u8, nm: usize, rounds: usize) -> u64;
         pub fn rattle_flat_arith_mul_i64(v: *const i64, nv: usize, w: *const i64, nw: usize, m: *const u8, nm: usize, rounds: usize) -> u64;
+        pub fn rattle_flat_arith_div_i64(v: *const i64, nv: usize, w: *const i64, nw: usize, m: *const u8, nm: usize, rounds: usize) -> u64;
+        pub fn rattle_flat_arith_sub_scalar_i64(v: *const i64, nv: usize, m: *const u8, nm: usize, rounds: usize) -> u64;
+        pub fn rattle_flat_arith_negate_i64(v: *const i64, nv: usize, m: *const u8, nm: usize, rounds: usize) -> u64;
         pub fn rattle_flat_arith_add_i32(v: *const i64, nv: usize, w: *const i64, nw: usize, rounds: usize) -> u64;
         pub fn rattle_flat_arith_saturating_add_i32(v: *const i64, nv: usize, w: *const i64, nw: usize, rounds: usize) -> u64;
         pub fn rattle_flat_cast_wrap_i32(v: *const i64, nv: usize, m: *const u8, nm: usize, rounds: usize) -> u64;
         pub fn rattle_flat_cast_fit_i32(v: *const i64, nv: usize, m: *const u8, nm: usize, rounds: usize) -> u64;
         pub fn rattle_flat_cast_to_utf8(v: *const i64, nv: usize, m: *const u8, nm: usize, rounds: usize) -> u64;
         pub fn rattle_flat_cast_of_utf8(d: *const u8, nd: usize, o: *const i32, no: usize, m: *const u8, nm: usize, rounds: usize) -> u64;
+        pub fn rattle_flat_cast_to_bool(v: *const i64, nv: usize, m: *const u8, nm: usize, rounds: usize) -> u64;
+        pub fn rattle_flat_cast_of_bool(b: *const u8, nb: usize, m: *const u8, nm: usize, rounds: usize) -> u64;
+        pub fn rattle_flat_cast_bool_utf8(b: *const u8, nb: usize, m: *const u8, nm: usize, rounds: usize) -> u64;
         pub fn rattle_flat_agg_sum(v: *const i64, nv: usize, m: *const u8, nm: usize, rounds: usize) -> u64;
+        pub fn rattle_flat_agg_sum_wide(v: *const i64, nv: usize, m: *const u8, nm: usize, rounds: usize) -> u64;
         pub fn rattle_flat_agg_min(v: *const i64, nv: usize, m: *const u8, nm: usize, rounds: usize) -> u64;
         pub fn rattle_flat_agg_max(v: *const i64, nv: usize, m: *const u8, nm: usize, rounds: usize) -> u64;
         pub fn rattle_flat_agg_min_utf8(d: *const u8, nd: usize, o: *const i32, no: usize, m: *const u8, nm: usize, rounds: usize) -> u64;
         pub fn rattle_flat_group_prim(v: *const i64, nv: usize, m: *const u8, nm: usize, rounds: usize) -> u64;
         pub fn rattle_flat_group_utf8(d: *const u8, nd: usize, o: *const i32, no: usize, m: *const u8, nm: usize, rounds: usize) -> u64;
         pub fn rattle_flat_group_sum(v: *const i64, nv: usize, w: *const i64, nw: usize, m: *const u8, nm: usize, rounds: usize) -> u64;
+        pub fn rattle_flat_group_sum_wide(v: *const i64, nv: usize, w: *const i64, nw: usize, m: *const u8, nm: usize, rounds: usize) -> u64;
+        pub fn rattle_flat_group_min(v: *const i64, nv: usize, w: *const i64, nw: usize, m: *const u8, nm: usize, rounds: usize) -> u64;
         pub fn rattle_flat_hash_prim(v: *const i64, nv: usize, m: *const u8, nm: usize, rounds: usize) -> u64;
         pub fn rattle_flat_select_take(v: *const i64, nv: usize, w: *const i64, nw: usize, m: *const u8, nm: usize, rounds: usize) -> u64;
         pub fn rattle_flat_select_if_then_else(b: *const u8, nb: usize, v: *const i64, nv: usize, w: *const i64, nw: usize, m: *const u8, nm: usize, rounds: usize) -> u64;
         pub fn rattle_flat_select_nullif(v: *const i64, nv: usize, w: *const i64, nw: usize, m: *const u8, nm: usize, rounds: usize) -> u64;
+        pub fn rattle_flat_select_length(d: *const u8, nd: usize, o: *const i32, no: usize, m: *const u8, nm: usize, rounds: usize) -> u64;
         pub fn rattle_flat_sort_prim(v: *const i64, nv: usize, m: *const u8, nm: usize, rounds: usize) -> u64;
         pub fn rattle_flat_sort_utf8(d: *const u8, nd: usize, o: *const i32, no: usize, m: *const u8, nm: usize, rounds: usize) -> u64;
+        pub fn rattle_flat_sort_limit(v: *const i64, nv: usize, rounds: usize) -> u64;
+        pub fn rattle_flat_lexsort(v: *const i64, nv: usize, w: *const i64, nw: usize, m: *const u8, nm: usize, rounds: usize) -> u64;
+        pub fn rattle_flat_lexsort_limit(v: *const i64, nv: usize, w: *const i64, nw: usize, m: *const u8, nm: usize, rounds: usize) -> u64;
+        pub fn rattle_flat_partition(v: *const i64, nv: usize, w: *const i64, nw: usize, rounds: usize) -> u64;
         pub fn rattle_flat_prim_push_null(count: usize, rounds: usize) -> u64;
         pub fn rattle_flat_prim_push_pop(v: *const i64, nv: usize, m: *const u8, nm: usize, rounds: usize) -> u64;
         pub fn rattle_flat_prim_push_freeze(v: *const i64, nv: usize, m: *const u8, nm: usize, rounds: usize) -> u64;
@@ -166,30 +182,46 @@ mod stub {
         rattle_flat_cmp_eq_scalar_validity(v: *const i64, nv: usize, m: *const u8, nm: usize) plain::compare_zero(plain::eq_scalar_validity, list(v, nv), list(m, nm));
         rattle_flat_cmp_eq_utf8(d: *const u8, nd: usize, e: *const u8, ne: usize, o: *const i32, no: usize) plain::compare_texts(list(d, nd), list(e, ne), list(o, no));
         rattle_flat_logic_and(b: *const u8, nb: usize, c: *const u8, nc: usize, m: *const u8, nm: usize) plain::combine_marks(plain::and, list(b, nb), list(c, nc), list(m, nm));
+        rattle_flat_logic_not(b: *const u8, nb: usize, m: *const u8, nm: usize) plain::map_marks(plain::not, list(b, nb), list(m, nm));
+        rattle_flat_logic_is_null(v: *const i64, nv: usize, m: *const u8, nm: usize) plain::logic_is_null(list(v, nv).len(), list(m, nm));
         rattle_flat_kleene_and(b: *const u8, nb: usize, c: *const u8, nc: usize, m: *const u8, nm: usize) plain::combine_marks(plain::kleene_and, list(b, nb), list(c, nc), list(m, nm));
         rattle_flat_kleene_and_null(b: *const u8, nb: usize, m: *const u8, nm: usize) plain::combine_marks_with_null(list(b, nb), list(m, nm));
         rattle_flat_arith_add_i64(v: *const i64, nv: usize, w: *const i64, nw: usize, m: *const u8, nm: usize) plain::combine(plain::add, list(v, nv), list(w, nw), list(m, nm));
         rattle_flat_arith_checked_add_i64(v: *const i64, nv: usize, w: *const i64, nw: usize, m: *const u8, nm: usize) plain::combine(plain::checked_add, list(v, nv), list(w, nw), list(m, nm));
         rattle_flat_arith_mul_i64(v: *const i64, nv: usize, w: *const i64, nw: usize, m: *const u8, nm: usize) plain::combine(plain::mul, list(v, nv), list(w, nw), list(m, nm));
+        rattle_flat_arith_div_i64(v: *const i64, nv: usize, w: *const i64, nw: usize, m: *const u8, nm: usize) plain::combine(plain::div, list(v, nv), list(w, nw), list(m, nm));
+        rattle_flat_arith_sub_scalar_i64(v: *const i64, nv: usize, m: *const u8, nm: usize) plain::map_values(plain::sub_seven, list(v, nv), list(m, nm));
+        rattle_flat_arith_negate_i64(v: *const i64, nv: usize, m: *const u8, nm: usize) plain::map_values(plain::negate, list(v, nv), list(m, nm));
         rattle_flat_arith_add_i32(v: *const i64, nv: usize, w: *const i64, nw: usize) plain::combine_i32(plain::add_i32, list(v, nv), list(w, nw));
         rattle_flat_arith_saturating_add_i32(v: *const i64, nv: usize, w: *const i64, nw: usize) plain::combine_i32(plain::saturating_add_i32, list(v, nv), list(w, nw));
         rattle_flat_cast_wrap_i32(v: *const i64, nv: usize, m: *const u8, nm: usize) plain::cast_i32(plain::wrap_i32, list(v, nv), list(m, nm));
         rattle_flat_cast_fit_i32(v: *const i64, nv: usize, m: *const u8, nm: usize) plain::cast_i32(plain::fit_i32, list(v, nv), list(m, nm));
         rattle_flat_cast_to_utf8(v: *const i64, nv: usize, m: *const u8, nm: usize) plain::cast_to_utf8(list(v, nv), list(m, nm));
         rattle_flat_cast_of_utf8(d: *const u8, nd: usize, o: *const i32, no: usize, m: *const u8, nm: usize) plain::cast_of_utf8(list(d, nd), list(o, no), list(m, nm));
+        rattle_flat_cast_to_bool(v: *const i64, nv: usize, m: *const u8, nm: usize) plain::compare_zero(plain::ne_scalar, list(v, nv), list(m, nm));
+        rattle_flat_cast_of_bool(b: *const u8, nb: usize, m: *const u8, nm: usize) plain::cast_of_bool(list(b, nb), list(m, nm));
+        rattle_flat_cast_bool_utf8(b: *const u8, nb: usize, m: *const u8, nm: usize) plain::cast_bool_utf8(list(b, nb), list(m, nm));
         rattle_flat_agg_sum(v: *const i64, nv: usize, m: *const u8, nm: usize) plain::aggregate(plain::sum, list(v, nv), list(m, nm));
+        rattle_flat_agg_sum_wide(v: *const i64, nv: usize, m: *const u8, nm: usize) plain::agg_sum_wide(list(v, nv), list(m, nm));
         rattle_flat_agg_min(v: *const i64, nv: usize, m: *const u8, nm: usize) plain::aggregate(plain::least, list(v, nv), list(m, nm));
         rattle_flat_agg_max(v: *const i64, nv: usize, m: *const u8, nm: usize) plain::aggregate(plain::greatest, list(v, nv), list(m, nm));
         rattle_flat_agg_min_utf8(d: *const u8, nd: usize, o: *const i32, no: usize, m: *const u8, nm: usize) plain::agg_min_utf8(list(d, nd), list(o, no), list(m, nm));
         rattle_flat_group_prim(v: *const i64, nv: usize, m: *const u8, nm: usize) plain::group_prim(list(v, nv), list(m, nm));
         rattle_flat_group_utf8(d: *const u8, nd: usize, o: *const i32, no: usize, m: *const u8, nm: usize) plain::group_utf8(list(d, nd), list(o, no), list(m, nm));
         rattle_flat_group_sum(v: *const i64, nv: usize, w: *const i64, nw: usize, m: *const u8, nm: usize) plain::sum_groups(list(v, nv), list(w, nw), list(m, nm));
+        rattle_flat_group_sum_wide(v: *const i64, nv: usize, w: *const i64, nw: usize, m: *const u8, nm: usize) plain::sum_groups_wide(list(v, nv), list(w, nw), list(m, nm));
+        rattle_flat_group_min(v: *const i64, nv: usize, w: *const i64, nw: usize, m: *const u8, nm: usize) plain::least_of_groups(list(v, nv), list(w, nw), list(m, nm));
         rattle_flat_hash_prim(v: *const i64, nv: usize, m: *const u8, nm: usize) plain::hash_prim(list(v, nv), list(m, nm));
         rattle_flat_select_take(v: *const i64, nv: usize, w: *const i64, nw: usize, m: *const u8, nm: usize) plain::select_take(list(v, nv), list(w, nw), list(m, nm));
         rattle_flat_select_if_then_else(b: *const u8, nb: usize, v: *const i64, nv: usize, w: *const i64, nw: usize, m: *const u8, nm: usize) plain::select_if_then_else(list(b, nb), list(v, nv), list(w, nw), list(m, nm));
         rattle_flat_select_nullif(v: *const i64, nv: usize, w: *const i64, nw: usize, m: *const u8, nm: usize) plain::select_nullif(list(v, nv), list(w, nw), list(m, nm));
+        rattle_flat_select_length(d: *const u8, nd: usize, o: *const i32, no: usize, m: *const u8, nm: usize) plain::select_length(list(d, nd), list(o, no), list(m, nm));
         rattle_flat_sort_prim(v: *const i64, nv: usize, m: *const u8, nm: usize) plain::sort_prim(list(v, nv), list(m, nm));
         rattle_flat_sort_utf8(d: *const u8, nd: usize, o: *const i32, no: usize, m: *const u8, nm: usize) plain::sort_utf8(list(d, nd), list(o, no), list(m, nm));
+        rattle_flat_sort_limit(v: *const i64, nv: usize) plain::sort_limit(list(v, nv));
+        rattle_flat_lexsort(v: *const i64, nv: usize, w: *const i64, nw: usize, m: *const u8, nm: usize) plain::lexsort(plain::sort_rows, list(v, nv), list(w, nw), list(m, nm));
+        rattle_flat_lexsort_limit(v: *const i64, nv: usize, w: *const i64, nw: usize, m: *const u8, nm: usize) plain::lexsort(plain::sort_first_rows, list(v, nv), list(w, nw), list(m, nm));
+        rattle_flat_partition(v: *const i64, nv: usize, w: *const i64, nw: usize) plain::partition(list(v, nv), list(w, nw));
     }
 }
 
@@ -555,7 +587,13 @@ fn main() {
     let few = leak(data::keys(C, 100, 23));
     let other_few = leak(data::keys(C, 100, 24));
     let wide = leak((0..C).map(|i| if i % 10 == 0 { values[i] } else { small[i] }).collect());
+    let divisors = leak(small.iter().map(|x| x + 1).collect());
     let keys = leak(data::keys(C, C, 25));
+    // the same values in other orders, and eight different ones; and two columns that are sorted by their rows
+    let (ascending, descending) = (leak(data::ascending(values)), leak(data::descending(values)));
+    let eight = leak(values.iter().map(|x| x.rem_euclid(8)).collect());
+    let (first, second) = data::sorted_rows(few, other_few);
+    let (first, second) = (leak(first), leak(second));
     let ends = &offsets[..=C];
     let texts = &bytes[..ends[C] as usize];
     let half_equal = leak(data::half_equal(texts, ends, bits));
@@ -582,6 +620,12 @@ fn main() {
         side!(out, have_logic_and, format!("logic_and_{word}"), Unit::Item(C), true,
             plain::combine_marks(plain::and, bits, other_bits, m),
             |r| rattle_flat_logic_and(bits.as_ptr(), bits.len(), other_bits.as_ptr(), other_bits.len(), m.as_ptr(), m.len(), r));
+        side!(out, have_logic_not, format!("logic_not_{word}"), Unit::Item(C), true,
+            plain::map_marks(plain::not, bits, m),
+            |r| rattle_flat_logic_not(bits.as_ptr(), bits.len(), m.as_ptr(), m.len(), r));
+        side!(out, have_logic_is_null, format!("logic_is_null_{word}"), Unit::Item(C), true,
+            plain::logic_is_null(values.len(), m),
+            |r| rattle_flat_logic_is_null(values.as_ptr(), values.len(), m.as_ptr(), m.len(), r));
         side!(out, have_kleene_and, format!("kleene_and_{word}"), Unit::Item(C), true,
             plain::combine_marks(plain::kleene_and, bits, other_bits, m),
             |r| rattle_flat_kleene_and(bits.as_ptr(), bits.len(), other_bits.as_ptr(), other_bits.len(), m.as_ptr(), m.len(), r));
@@ -594,6 +638,12 @@ fn main() {
         side!(out, have_arith_checked_add_i64, format!("arith_checked_add_i64_{word}"), Unit::Item(C), true,
             plain::combine(plain::checked_add, values, others, m),
             |r| rattle_flat_arith_checked_add_i64(values.as_ptr(), values.len(), others.as_ptr(), others.len(), m.as_ptr(), m.len(), r));
+        side!(out, have_arith_sub_scalar_i64, format!("arith_sub_scalar_i64_{word}"), Unit::Item(C), true,
+            plain::map_values(plain::sub_seven, values, m),
+            |r| rattle_flat_arith_sub_scalar_i64(values.as_ptr(), values.len(), m.as_ptr(), m.len(), r));
+        side!(out, have_arith_negate_i64, format!("arith_negate_i64_{word}"), Unit::Item(C), true,
+            plain::map_values(plain::negate, values, m),
+            |r| rattle_flat_arith_negate_i64(values.as_ptr(), values.len(), m.as_ptr(), m.len(), r));
         side!(out, have_cast_wrap_i32, format!("cast_wrap_i32_{word}"), Unit::Item(C), true,
             plain::cast_i32(plain::wrap_i32, wide, m),
             |r| rattle_flat_cast_wrap_i32(wide.as_ptr(), wide.len(), m.as_ptr(), m.len(), r));
@@ -606,9 +656,21 @@ fn main() {
         side!(out, have_cast_of_utf8, format!("cast_of_utf8_{word}"), Unit::Item(C), true,
             plain::cast_of_utf8(digits, digit_ends, m),
             |r| rattle_flat_cast_of_utf8(digits.as_ptr(), digits.len(), digit_ends.as_ptr(), digit_ends.len(), m.as_ptr(), m.len(), r));
+        side!(out, have_cast_to_bool, format!("cast_to_bool_{word}"), Unit::Item(C), true,
+            plain::compare_zero(plain::ne_scalar, few, m),
+            |r| rattle_flat_cast_to_bool(few.as_ptr(), few.len(), m.as_ptr(), m.len(), r));
+        side!(out, have_cast_of_bool, format!("cast_of_bool_{word}"), Unit::Item(C), true,
+            plain::cast_of_bool(bits, m),
+            |r| rattle_flat_cast_of_bool(bits.as_ptr(), bits.len(), m.as_ptr(), m.len(), r));
+        side!(out, have_cast_bool_utf8, format!("cast_bool_utf8_{word}"), Unit::Item(C), true,
+            plain::cast_bool_utf8(bits, m),
+            |r| rattle_flat_cast_bool_utf8(bits.as_ptr(), bits.len(), m.as_ptr(), m.len(), r));
         side!(out, have_agg_sum, format!("agg_sum_{word}"), Unit::Item(C), true,
             plain::aggregate(plain::sum, small, m),
             |r| rattle_flat_agg_sum(small.as_ptr(), small.len(), m.as_ptr(), m.len(), r));
+        side!(out, have_agg_sum_wide, format!("agg_sum_wide_{word}"), Unit::Item(C), true,
+            plain::agg_sum_wide(values, m),
+            |r| rattle_flat_agg_sum_wide(values.as_ptr(), values.len(), m.as_ptr(), m.len(), r));
         side!(out, have_agg_min, format!("agg_min_{word}"), Unit::Item(C), true,
             plain::aggregate(plain::least, values, m),
             |r| rattle_flat_agg_min(values.as_ptr(), values.len(), m.as_ptr(), m.len(), r));
@@ -624,6 +686,12 @@ fn main() {
         side!(out, have_group_sum, format!("group_sum_few_{word}"), Unit::Item(C), true,
             plain::sum_groups(small, few, m),
             |r| rattle_flat_group_sum(small.as_ptr(), small.len(), few.as_ptr(), few.len(), m.as_ptr(), m.len(), r));
+        side!(out, have_group_sum_wide, format!("group_sum_wide_few_{word}"), Unit::Item(C), true,
+            plain::sum_groups_wide(values, few, m),
+            |r| rattle_flat_group_sum_wide(values.as_ptr(), values.len(), few.as_ptr(), few.len(), m.as_ptr(), m.len(), r));
+        side!(out, have_group_min, format!("group_min_few_{word}"), Unit::Item(C), true,
+            plain::least_of_groups(values, few, m),
+            |r| rattle_flat_group_min(values.as_ptr(), values.len(), few.as_ptr(), few.len(), m.as_ptr(), m.len(), r));
         // the hash functions are two
         side!(out, have_hash_prim, format!("hash_prim_{word}"), Unit::Item(C), false,
             plain::hash_prim(values, m),
@@ -634,9 +702,18 @@ fn main() {
         side!(out, have_select_nullif, format!("select_nullif_{word}"), Unit::Item(C), true,
             plain::select_nullif(few, other_few, m),
             |r| rattle_flat_select_nullif(few.as_ptr(), few.len(), other_few.as_ptr(), other_few.len(), m.as_ptr(), m.len(), r));
+        side!(out, have_select_length, format!("select_length_{word}"), Unit::Item(C), true,
+            plain::select_length(texts, ends, m),
+            |r| rattle_flat_select_length(texts.as_ptr(), texts.len(), ends.as_ptr(), ends.len(), m.as_ptr(), m.len(), r));
         side!(out, have_sort_prim, format!("sort_prim_{word}"), Unit::Item(C), true,
             plain::sort_prim(values, m),
             |r| rattle_flat_sort_prim(values.as_ptr(), values.len(), m.as_ptr(), m.len(), r));
+        side!(out, have_lexsort, format!("lexsort_two_{word}"), Unit::Item(C), true,
+            plain::lexsort(plain::sort_rows, few, values, m),
+            |r| rattle_flat_lexsort(few.as_ptr(), few.len(), values.as_ptr(), values.len(), m.as_ptr(), m.len(), r));
+        side!(out, have_lexsort_limit, format!("lexsort_limit_{word}"), Unit::Item(C), true,
+            plain::lexsort(plain::sort_first_rows, few, values, m),
+            |r| rattle_flat_lexsort_limit(few.as_ptr(), few.len(), values.as_ptr(), values.len(), m.as_ptr(), m.len(), r));
     }
     side!(out, have_cmp_eq_utf8, "cmp_eq_utf8_nonull", Unit::Item(C), true,
         plain::compare_texts(texts, half_equal, ends),
@@ -644,6 +721,9 @@ fn main() {
     side!(out, have_arith_mul_i64, "arith_mul_i64_nonull", Unit::Item(C), true,
         plain::combine(plain::mul, values, others, none),
         |r| rattle_flat_arith_mul_i64(values.as_ptr(), values.len(), others.as_ptr(), others.len(), none.as_ptr(), none.len(), r));
+    side!(out, have_arith_div_i64, "arith_div_i64_nonull", Unit::Item(C), true,
+        plain::combine(plain::div, values, divisors, none),
+        |r| rattle_flat_arith_div_i64(values.as_ptr(), values.len(), divisors.as_ptr(), divisors.len(), none.as_ptr(), none.len(), r));
     side!(out, have_arith_add_i32, "arith_add_i32_nonull", Unit::Item(C), true,
         plain::combine_i32(plain::add_i32, values, others),
         |r| rattle_flat_arith_add_i32(values.as_ptr(), values.len(), others.as_ptr(), others.len(), r));
@@ -662,6 +742,17 @@ fn main() {
     side!(out, have_sort_utf8, "sort_utf8_nonull", Unit::Item(C), true,
         plain::sort_utf8(texts, ends, none),
         |r| rattle_flat_sort_utf8(texts.as_ptr(), texts.len(), ends.as_ptr(), ends.len(), none.as_ptr(), none.len(), r));
+    for (word, values) in [("sorted", ascending), ("reversed", descending), ("few", eight)] {
+        side!(out, have_sort_prim, format!("sort_{word}_nonull"), Unit::Item(C), true,
+            plain::sort_prim(values, none),
+            |r| rattle_flat_sort_prim(values.as_ptr(), values.len(), none.as_ptr(), none.len(), r));
+    }
+    side!(out, have_sort_limit, "sort_limit_nonull", Unit::Item(C), true,
+        plain::sort_limit(values),
+        |r| rattle_flat_sort_limit(values.as_ptr(), values.len(), r));
+    side!(out, have_partition, "partition_two_nonull", Unit::Item(C), true,
+        plain::partition(first, second),
+        |r| rattle_flat_partition(first.as_ptr(), first.len(), second.as_ptr(), second.len(), r));
     if out.differs {
         std::process::exit(1);
     }
