@@ -1,5 +1,4 @@
-//! Arithmetic on arrays of integers, and conversions between types. What each call makes was worked out by hand.
-mod casts;
+//! Arithmetic on arrays of integers. What each call makes was worked out by hand.
 mod numbers;
 mod pairs;
 mod scalars;

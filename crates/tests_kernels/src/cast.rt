@@ -1,3 +1,5 @@
-//! Conversions between integers and their decimal texts. What each call makes was worked out by hand.
+//! Conversions between integers, booleans, bytes and text. What each call makes was worked out by hand.
+mod conversions;
 mod decimals;
 mod parsing;
+mod retyped;

@@ -1,12 +1,15 @@
 //! Callers of laws: the contract of each function follows from a law and from the contracts of the calls that it makes.
 ghost use Rattle.std.specs.Prelude.{◌≡◌, ◌+◌, ◌+ℤ◌, ◌^◌, ◌++◌, ◌∷◌, ◌<◌, ◌≤◌, [], ℕ, IfOk, List, None, OnOk, Some};
 ghost use Rattle.std.specs.Prelude.{count_by, flat_map, length, map, slice_get, slice_range, sum_by, true};
+ghost use Rattle.std.specs.List.Sorted.{IsPermutation};
+ghost use Rattle.std.specs.Ordering.{int_cmp, is_ge};
 ghost use Rattle.arrow_integers.specs.NativeArithmetics.{DiffersByMultiple};
 ghost use Rattle.arrow_memory.specs.Rows.{FitsMask};
 ghost use Rattle.arrow_column.specs.Column.{mask_of, slots_of, stored_values};
 ghost use Rattle.arrow_check.specs.Pieces.{items_of};
 ghost use Rattle.arrow_bytes.specs.Pieces.{nothing_around};
 ghost use Rattle.arrow_bytes.specs.Selection.{asked, at_keys, filtered, where_set};
+ghost use Rattle.compute_comparison.specs.Comparison.{compare_slot};
 
 use arrow_boolean::BooleanArray;
 use arrow_bytes::BytesAround;
@@ -30,6 +33,12 @@ use arrow_types::data_type::DataType;
 use arrow_types::error::Error;
 use arrow_types::index_key::IndexKey;
 use arrow_utf8::Utf8Array;
+use compute_comparison::boolean::not;
+use compute_comparison::comparison::lt_scalar;
+use compute_comparison::laws::compared_slots;
+use compute_sort::SortOptions;
+use compute_sort::laws::sorted_slots;
+use compute_sort::sort::sort;
 use std::alloc::Global;
 
 type Numbers = PrimitiveArray<i64>;
@@ -205,4 +214,22 @@ fn add_wrapping<T: NativeArithmetics>(lhs: T, rhs: T) -> T
 {
     wrapped_numbers::<T>();
     lhs.wrapping_add(rhs)
+}
+
+/// Returns whether each value is not less than a number; null where it is null.
+fn is_not_less(alloc: Global, array: &Numbers, number: i64) -> Result<BooleanArray, Error>
+    ensures { IfOk result (λ made.
+        slots_of made ≡ map (compare_slot is_ge int_cmp number) (slots_of array.now)) }
+{
+    compared_slots::<i64>();
+    let less = lt_scalar(alloc, array, number)?;
+    not(alloc, &less)
+}
+
+/// Sorts an array: the result has the same slots.
+fn sort_all(alloc: Global, array: &Numbers, options: SortOptions) -> Result<Numbers, Error>
+    ensures { IfOk result (λ made. IsPermutation (slots_of array.now) (slots_of made)) }
+{
+    sorted_slots::<i64>();
+    sort(alloc, array, options, None)
 }

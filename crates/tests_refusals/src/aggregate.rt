@@ -6,11 +6,12 @@ use crate::refusal::{end, results};
 use arrow_binary::BinaryArray;
 use arrow_boolean::BooleanArray;
 use arrow_primitive::PrimitiveArray;
+use arrow_types::data_type::DataType;
 use arrow_utf8::Utf8Array;
 use compute_aggregate::aggregate::{
     group_count, group_max_binary, group_max_boolean, group_max_primitive, group_max_utf8,
     group_min_binary, group_min_boolean, group_min_primitive, group_min_utf8, group_rows,
-    group_sum_primitive,
+    group_sum_primitive, group_sum_wide,
 };
 use compute_group::{Groups, group_primitive};
 use std::process::Abort;
@@ -27,6 +28,11 @@ fn groups_of_keys(rt: &(impl Abort + AllocGlobal)) -> Groups {
     let groups = group_primitive(alloc, &keys).expect(rt, "refused");
     drop(keys);
     groups
+}
+
+/// Writes sums of 128 bits.
+fn wide_text(array: &PrimitiveArray<i128>) -> Text {
+    Text::of(format_args!("{:?}", array.values().as_slice()))
 }
 
 /// Writes counts.
@@ -47,6 +53,7 @@ fn groups_of_numbers_answer_again(rt: HostRuntime) -> Result<(), Fail> {
         count_text: group_rows(alloc, &groups) => "[2, 1]";
         count_text: group_count(alloc, &array, &groups) => "[2, 1]";
         number_text: group_sum_primitive(alloc, &array, &groups) => "16 8";
+        wide_text: group_sum_wide(alloc, &array, &groups, DataType::Decimal(38, 0)) => "[16, 8]";
         number_text: group_min_primitive(alloc, &array, &groups) => "7 8";
         number_text: group_max_primitive(alloc, &array, &groups) => "9 8";
     };

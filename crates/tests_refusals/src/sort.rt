@@ -7,8 +7,10 @@ use arrow_boolean::BooleanArray;
 use arrow_primitive::PrimitiveArray;
 use arrow_utf8::Utf8Array;
 use compute_sort::SortOptions;
-use compute_sort::lexsort::{SortColumn, SortValues, lexsort_to_indices};
+use compute_sort::lexsort::{SortColumn, SortValues, SortedValues, lexsort, lexsort_to_indices};
+use compute_sort::partition::lexicographical_partition_ranges;
 use compute_sort::sort::{sort, sort_to_indices};
+use std::ops::Range;
 use std::test::Fail;
 use tests_support::Text;
 
@@ -33,6 +35,27 @@ const DESCENDING: SortOptions = SortOptions {
 /// Writes indexes.
 pub(crate) fn index_text(array: &PrimitiveArray<u64>) -> Text {
     Text::of(format_args!("{:?}", array.values().as_slice()))
+}
+
+/// Writes the numbers and the texts of sorted columns.
+fn columns_text(columns: &Vec<SortedValues>) -> Text {
+    let mut written = Text::new();
+    for column in columns {
+        written = match column {
+            SortedValues::Int64(array) => {
+                let values = Text::of(format_args!("{:?} ", array.values().as_slice()));
+                written.and(values.as_str(), 100)
+            }
+            SortedValues::Utf8(array) => written.and(array_text(array).as_str(), 100),
+            _ => written.and("another kind", 100),
+        };
+    }
+    written
+}
+
+/// Writes ranges of rows.
+fn ranges_text(ranges: &Vec<Range<usize>>) -> Text {
+    Text::of(format_args!("{:?}", ranges.as_slice()))
 }
 
 #[test]
@@ -74,8 +97,27 @@ fn sorts_of_rows_answer_again(rt: HostRuntime) -> Result<(), Fail> {
     let is_refused = results! { &rt;
         index_text: lexsort_to_indices(alloc, &columns, None) => "[2, 0, 1]";
         index_text: lexsort_to_indices(alloc, &columns, Some(1)) => "[2]";
+        columns_text: lexsort(alloc, &columns, None) => "[7, 7, 8] <cde> <ab> (<>)";
+        ranges_text: lexicographical_partition_ranges(alloc, &columns) => "[0..1, 1..2, 2..3]";
     };
     drop(texts);
+    drop(numbers);
+    end(is_refused)
+}
+
+#[test]
+fn selections_of_rows_answer_again(rt: HostRuntime) -> Result<(), Fail> {
+    let alloc = rt.alloc();
+    let values = [9, 8, 7, 6, 5, 4, 3, 2, 1, 9, 8, 7, 6, 5, 4, 3];
+    let numbers = PrimitiveArray::from_slice(alloc, values.as_slice()).expect(&rt, "refused");
+    let columns = [SortColumn {
+        values: SortValues::Int64(&numbers),
+        options: None,
+    }];
+    let is_refused = results! { &rt;
+        index_text: lexsort_to_indices(alloc, &columns, Some(1)) => "[8]";
+        columns_text: lexsort(alloc, &columns, Some(1)) => "[1] ";
+    };
     drop(numbers);
     end(is_refused)
 }

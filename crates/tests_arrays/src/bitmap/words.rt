@@ -28,6 +28,27 @@ fn words_are_read_from_any_index(rt: HostRuntime) {
     }
 }
 
+#[test]
+fn blocks_are_the_words_of_512_marks(rt: HostRuntime) {
+    for (at, index) in [0, 1, 8, 15, 64].iter().enumerate() {
+        let mut bytes = Vec::new(rt.alloc());
+        for i in 0..72u8 {
+            bytes.push(i.wrapping_mul(37)).expect(&rt, "memory");
+        }
+        let marks = Bitmap::try_new(bytes, 576).expect(&rt, "bits for all marks");
+        assert!(rt; marks.len() == 576);
+        let words = marks.block(*index).to_array();
+        for i in 0..8 {
+            assert!(rt; index + 64 * i + 64 <= marks.len());
+            assert_text::value((i, words[i]), (i, marks.word(index + 64 * i))).expect(
+                &rt,
+                row("a word of a block", at).as_str(),
+            );
+        }
+        drop(marks);
+    }
+}
+
 /// A name, words and how many of their first bits are appended, and the marks, with a set one after them.
 const APPENDED: &[(&str, &[(u64, usize)], &str)] = &[
     ("none", &[], "1"),

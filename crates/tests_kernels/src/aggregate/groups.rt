@@ -8,6 +8,7 @@ use arrow_types::data_type::DataType;
 use arrow_types::error::Error;
 use compute_aggregate::aggregate::{
     group_count, group_max_primitive, group_min_primitive, group_rows, group_sum_primitive,
+    group_sum_wide,
 };
 use compute_group::{Groups, group_primitive};
 use std::fmt::Debug;
@@ -86,6 +87,52 @@ fn check_sums<T: NativeArithmetics + Debug>(
         drop((groups, array));
         drop(data_type);
     }
+}
+
+/// Sums past 64 bits of values of 64 bits.
+#[rattlefmt::skip]
+const WIDE_OF_LONG: &[Sum<i64>] = &[
+    ("past the type", &[Some(i64::MAX), Some(2), Some(i64::MAX)], &[0, 1, 0], Ok(("[18446744073709551614 2]", "none"))),
+    ("below the type, and a null", &[Some(i64::MIN), None, Some(-1)], &[0, 1, 0],
+        Ok(("[-9223372036854775809 _]", "10"))),
+    ("no group", &[], &[], Ok(("[]", "none"))),
+];
+
+/// Sums past 8 bits of values of 8 bits.
+#[rattlefmt::skip]
+const WIDE_OF_BYTES: &[Sum<u8>] = &[
+    ("past the type", &[Some(255), Some(1), None], &[0, 0, 0], Ok(("[256]", "none"))),
+];
+
+/// Sums of values of 128 bits.
+#[rattlefmt::skip]
+const WIDE_OF_WIDE: &[Sum<i128>] = &[
+    ("only the whole has to fit", &[Some(i128::MAX), Some(1), Some(-1)], &[0, 0, 0],
+        Ok(("[170141183460469231731687303715884105727]", "none"))),
+    ("one group overflows", &[Some(1), Some(i128::MIN), Some(-1)], &[0, 1, 1], Err(Error::Overflow)),
+];
+
+/// Compares the sums of the groups of each row as numbers of 128 bits.
+fn check_wide_sums<T: NativeArithmetics>(rt: &(impl Abort + AllocGlobal), rows: &[Sum<T>]) {
+    for (index, (case, slots, keys, expected)) in rows.iter().enumerate() {
+        let row = row("group_sum_wide", "numbers", index, *case);
+        let array = numbers(rt, *slots);
+        let groups = groups_of_keys(rt, *keys);
+        assert!(rt;
+            groups.indices().len() == array.len(),
+            "a key for each slot"
+        );
+        let made = group_sum_wide(rt.alloc(), &array, &groups, DataType::Decimal(38, 0));
+        check_numbers(rt, row.as_str(), made, *expected, &DataType::Decimal(38, 0));
+        drop((groups, array));
+    }
+}
+
+#[test]
+fn sums_of_groups_in_128_bits(rt: HostRuntime) {
+    check_wide_sums(&rt, WIDE_OF_LONG);
+    check_wide_sums(&rt, WIDE_OF_BYTES);
+    check_wide_sums(&rt, WIDE_OF_WIDE);
 }
 
 /// Compares the numbers of the slots of each group.

@@ -6,7 +6,9 @@ use arrow_memory::buffer::Buffer;
 use arrow_primitive::PrimitiveArray;
 use arrow_types::data_type::DataType;
 use arrow_types::error::Error;
-use compute_aggregate::aggregate::{count_valid, max_primitive, min_primitive, sum_primitive};
+use compute_aggregate::aggregate::{
+    count_valid, max_primitive, min_primitive, sum_primitive, sum_wide,
+};
 use std::fmt::Debug;
 use std::process::Abort;
 use tests_support::Text;
@@ -107,6 +109,63 @@ const PERIODS: &[(&str, usize, usize, i32, i32, i32)] = &[
     ("only the last", 299, 1, 299, 299, 299),
     ("one in the fourth word", 250, 1, 250, 250, 250),
 ];
+
+/// A name, values, marks and the sum as an `i128`.
+type WideSum<T> = (
+    &'static str,
+    &'static [T],
+    &'static str,
+    Result<Option<i128>, Error>,
+);
+
+#[rattlefmt::skip]
+const WIDE_OF_BYTES: &[WideSum<i8>] = &[
+    ("no slot", &[], "none", Ok(None)),
+    ("null slots only", &[1, 2], "00", Ok(None)),
+    ("past the type", &[127, 127, 1], "none", Ok(Some(255))),
+    ("below the type", &[-128, -1, 5], "110", Ok(Some(-129))),
+    ("a sum of zero", &[-128, 127, 1], "111", Ok(Some(0))),
+];
+
+#[rattlefmt::skip]
+const WIDE_OF_LONG: &[WideSum<i64>] = &[
+    ("past the type", &[MAX, MAX, 1], "none", Ok(Some(18446744073709551615))),
+    ("below the type", &[MIN, MIN, -1, 7], "1110", Ok(Some(-18446744073709551617))),
+];
+
+#[rattlefmt::skip]
+const WIDE_OF_NATURALS: &[WideSum<u64>] = &[
+    ("past the type", &[u64::MAX, u64::MAX, 3], "none", Ok(Some(36893488147419103233))),
+];
+
+#[rattlefmt::skip]
+const WIDE_OF_WIDE: &[WideSum<i128>] = &[
+    ("only the whole has to fit", &[HUGE, 1, -1], "none", Ok(Some(HUGE))),
+    ("past 128 bits", &[HUGE, 1], "none", Err(Error::Overflow)),
+    ("below 128 bits", &[-HUGE, -2, 5], "110", Err(Error::Overflow)),
+];
+
+/// Compares the sums of the numbers of each row.
+fn check_wide_sums<T: NativeArithmetics + Debug>(
+    rt: &(impl Abort + AllocGlobal),
+    rows: &[WideSum<T>],
+) {
+    for (index, (case, values, mask, sum)) in rows.iter().enumerate() {
+        let kind = Text::of(format_args!("{:?}", T::PRIMITIVE));
+        let row = row("sum_wide", kind.as_str(), index, *case);
+        let numbers = stored_numbers(rt, T::PRIMITIVE.default_data_type(), *values, *mask);
+        check_value(rt, row.as_str(), sum_wide(&numbers), *sum);
+        drop(numbers);
+    }
+}
+
+#[test]
+fn numbers_are_summed_in_128_bits(rt: HostRuntime) {
+    check_wide_sums(&rt, WIDE_OF_BYTES);
+    check_wide_sums(&rt, WIDE_OF_LONG);
+    check_wide_sums(&rt, WIDE_OF_NATURALS);
+    check_wide_sums(&rt, WIDE_OF_WIDE);
+}
 
 #[test]
 fn numbers_are_summed_and_compared(rt: HostRuntime) {

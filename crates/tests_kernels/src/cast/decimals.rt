@@ -1,9 +1,12 @@
-//! Integers as decimal text.
-use crate::arrays::{Slots, check_mask, check_slots, check_value, numbers};
+//! Integers and booleans as decimal text.
+use crate::arrays::{
+    Items, Slots, booleans, check_mask, check_slots, check_stored_items, check_value, numbers, row,
+    stored_booleans,
+};
 use arrow_integers::NativeArithmetics;
 use arrow_types::data_type::DataType;
 use arrow_types::error::Error;
-use compute_cast::{primitive_to_binary, primitive_to_utf8};
+use compute_cast::{boolean_to_binary, boolean_to_utf8, primitive_to_binary, primitive_to_utf8};
 use std::process::Abort;
 use tests_support::{Text, Tiny};
 
@@ -106,5 +109,44 @@ fn texts_past_the_greatest_offset_overflow(rt: HostRuntime) {
     let made = primitive_to_utf8::<i128, Tiny>(alloc, &array).expect(&rt, "94 bytes");
     drop(array);
     check_value(&rt, "94 bytes", made.len(), 3);
+    drop(made);
+}
+
+/// A name, stored booleans and marks, and the offsets, the bytes and the marks of the texts. A null stores no byte.
+#[rattlefmt::skip]
+const BOOLEANS: &[(&str, (&str, &str), Items)] = &[
+    ("no slot", ("", "none"), (&[0], b"", "none")),
+    ("without a mask", ("110", "none"), (&[0, 1, 2, 3], b"110", "none")),
+    ("a needless mask", ("01", "11"), (&[0, 1, 2], b"01", "none")),
+    ("nulls that store both", ("0110", "1100"), (&[0, 1, 2, 2, 2], b"01", "1100")),
+    ("null slots only", ("10", "00"), (&[0, 0, 0], b"", "00")),
+];
+
+#[test]
+fn booleans_have_the_texts_one_and_zero(rt: HostRuntime) {
+    let alloc = rt.alloc();
+    for (index, (case, parts, expected)) in BOOLEANS.iter().enumerate() {
+        let array = stored_booleans(&rt, *parts);
+        let text = row("boolean_to_utf8", "Boolean", index, *case);
+        let made = boolean_to_utf8::<i32>(alloc, &array);
+        check_stored_items(&rt, text.as_str(), made, Ok(*expected));
+        let bytes = row("boolean_to_binary", "Boolean", index, *case);
+        let made = boolean_to_binary::<i64>(alloc, &array);
+        drop(array);
+        check_stored_items(&rt, bytes.as_str(), made, Ok(*expected));
+    }
+}
+
+#[test]
+fn texts_of_booleans_past_the_greatest_offset_overflow(rt: HostRuntime) {
+    let alloc = rt.alloc();
+    let array = booleans(&rt, &[Some(true); 101]);
+    let made = boolean_to_utf8::<Tiny>(alloc, &array).err();
+    check_value(&rt, "101 bytes", made, Some(Error::Overflow));
+    assert!(rt; array.len() == 101, "slots");
+    let array = array.sliced(1, 100);
+    let made = boolean_to_binary::<Tiny>(alloc, &array).expect(&rt, "100 bytes");
+    drop(array);
+    check_value(&rt, "100 bytes", made.values().len(), 100);
     drop(made);
 }

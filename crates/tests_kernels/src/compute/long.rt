@@ -1,13 +1,13 @@
 //! More than 64 slots, whose marks and values begin within a byte.
 use crate::arrays::{check_booleans, numbers, stored_booleans};
-use arrow_boolean::BooleanArray;
+use arrow_boolean::{BooleanArray, MutableBooleanArray};
 use arrow_types::error::Error;
 use compute_comparison::comparison::{
     eq, eq_and_validity, eq_scalar, lt, lt_scalar, neq_scalar_and_validity,
 };
 use compute_comparison::{boolean, boolean_kleene};
 use std::process::Abort;
-use tests_support::Text;
+use tests_support::{Text, assert_text};
 
 /// Four letters that a text repeats.
 type Letters = &'static [&'static str; 4];
@@ -176,4 +176,81 @@ fn booleans_and_numbers_are_read_64_at_a_time(rt: HostRuntime) {
         drop(array);
     }
     drop(slots);
+}
+
+/// The slots that repeat in arrays of more than 1,024, and what three-valued logic makes of them: two arrays, then what
+/// `and` and `or` make of both, then of the first and a null.
+const KNOWN: &[[Option<bool>; 4]; 6] = &[
+    [Some(true), Some(false), Some(false), None],
+    [None, Some(false), Some(true), Some(false)],
+    [None, Some(false), Some(false), Some(false)],
+    [Some(true), Some(false), Some(true), None],
+    [None, Some(false), Some(false), None],
+    [Some(true), None, None, None],
+];
+
+/// Returns 1,030 slots, of which four repeat, behind at most eight others.
+fn repeated(
+    rt: &(impl Abort + AllocGlobal),
+    slots: &[Option<bool>; 4],
+    from: usize,
+) -> BooleanArray {
+    assert!(rt; from <= 8);
+    let mut builder = MutableBooleanArray::new(rt.alloc());
+    for i in 0..from + 1030 {
+        builder.push(slots[(i + 8 - from) % 4]).expect(rt, "memory");
+    }
+    let array = builder.freeze().expect(rt, "memory");
+    assert!(rt; array.len() == from + 1030, "all slots");
+    array.sliced(from, 1030)
+}
+
+/// Compares each slot of an answer with that of four which repeat.
+fn check_known(
+    rt: &impl Abort,
+    call: &str,
+    answer: Result<BooleanArray, Error>,
+    slots: &[Option<bool>; 4],
+) {
+    let made = answer.expect(rt, call);
+    assert!(rt; made.len() == 1030, "as many slots");
+    for i in 0..made.len() {
+        assert_text::value((i, made.get(i)), (i, slots[i % 4])).expect(rt, call);
+    }
+    drop(made);
+}
+
+#[test]
+fn known_slots_are_computed_512_at_a_time(rt: HostRuntime) {
+    let alloc = rt.alloc();
+    // Both begin with a byte, both within one, and one of each.
+    for (left, right) in [(0, 0), (3, 6), (8, 1)] {
+        let lhs = repeated(&rt, &KNOWN[0], left);
+        let rhs = repeated(&rt, &KNOWN[1], right);
+        assert!(&rt; lhs.len() == rhs.len());
+        check_known(
+            &rt,
+            "known and",
+            boolean_kleene::and(alloc, &lhs, &rhs),
+            &KNOWN[2],
+        );
+        check_known(
+            &rt,
+            "known or",
+            boolean_kleene::or(alloc, &lhs, &rhs),
+            &KNOWN[3],
+        );
+        check_known(
+            &rt,
+            "and a null",
+            boolean_kleene::and_scalar(alloc, &lhs, None),
+            &KNOWN[4],
+        );
+        check_known(
+            &rt,
+            "or a null",
+            boolean_kleene::or_scalar(alloc, &lhs, None),
+            &KNOWN[5],
+        );
+    }
 }
