@@ -206,7 +206,7 @@ def boolean(name, kinds, slots):
 
 
 def refusal(case):
-    return f"there is no kernel '{case.kernel}' of such operands"
+    return f"kernel '{case.kernel}' does not take these operands"
 
 
 # Comparisons.

@@ -76,6 +76,6 @@ impl<'a, A: Kind> Case<'a, A> {
 
     /// Prints that the kernel can't be run.
     pub fn refuse(&self) -> io::Result<()> {
-        println!(self.rt; "there is no kernel '{}' of such operands", self.kernel)
+        println!(self.rt; "kernel '{}' does not take these operands", self.kernel)
     }
 }

@@ -126,7 +126,7 @@ pub fn answer(rt: &HostRuntime, line: &Line<'_>) -> anyhow::Result<()> {
         "utf8" => run::<Utf8Array<i32>>(rt, line),
         "large_utf8" => run::<Utf8Array<i64>>(rt, line),
         kind => {
-            println!(rt; "there is no type '{kind}'")?;
+            println!(rt; "unknown type '{kind}'")?;
             Ok(())
         }
     }

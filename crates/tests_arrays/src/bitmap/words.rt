@@ -36,10 +36,13 @@ fn blocks_are_the_words_of_512_marks(rt: HostRuntime) {
             bytes.push(i.wrapping_mul(37)).expect(&rt, "memory");
         }
         let marks = Bitmap::try_new(bytes, 576).expect(&rt, "bits for all marks");
-        assert!(rt; marks.len() == 576);
+        assert!(rt; marks.len() == 576, "all marks");
         let words = marks.block(*index).to_array();
         for i in 0..8 {
-            assert!(rt; index + 64 * i + 64 <= marks.len());
+            assert!(rt;
+                index + 64 * i + 64 <= marks.len(),
+                "a word within the marks"
+            );
             assert_text::value((i, words[i]), (i, marks.word(index + 64 * i))).expect(
                 &rt,
                 row("a word of a block", at).as_str(),

@@ -195,7 +195,7 @@ fn repeated(
     slots: &[Option<bool>; 4],
     from: usize,
 ) -> BooleanArray {
-    assert!(rt; from <= 8);
+    assert!(rt; from <= 8, "at most eight slots before");
     let mut builder = MutableBooleanArray::new(rt.alloc());
     for i in 0..from + 1030 {
         builder.push(slots[(i + 8 - from) % 4]).expect(rt, "memory");
@@ -227,7 +227,7 @@ fn known_slots_are_computed_512_at_a_time(rt: HostRuntime) {
     for (left, right) in [(0, 0), (3, 6), (8, 1)] {
         let lhs = repeated(&rt, &KNOWN[0], left);
         let rhs = repeated(&rt, &KNOWN[1], right);
-        assert!(&rt; lhs.len() == rhs.len());
+        assert!(&rt; lhs.len() == rhs.len(), "equally many slots");
         check_known(
             &rt,
             "known and",
