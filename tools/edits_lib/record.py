@@ -13,7 +13,7 @@ from repository import read, without_comments
 from rt_syntax import module_of, without_bodies
 
 HEAD = "# Edits that the prover refused: edit, sum of the sources that decide it, goals that refused it. By tools/edits --write."
-OLD = "\n# A row with - for its goals stands for an edit that the gate of 29 November 2026 refused."
+OLD = "\n# A row with - for its goals stands for an edit that the gate of 1 December 2026 refused."
 CITED = re.compile(r"Rattle\.(\w+)\.proofs((?:\.[^\s.{}(),;]+)*)")
 
 
