@@ -6,6 +6,7 @@ it, up to the next heading, are of that tier; a tier may have several. No list o
 """
 import functools
 import hashlib
+import itertools
 import os
 import re
 
@@ -129,10 +130,9 @@ class Crate:
 
     @property
     def about(self):
-        """What the comment at the head of the crate says."""
-        lines = self.read(self.root).splitlines()
-        head = lines[: next((at for at, it in enumerate(lines) if not it.startswith("//!")), len(lines))]
-        return " ".join(it.removeprefix("//!").strip() for it in head).strip()
+        """What the first paragraph of the comment at the head of the crate says."""
+        lines = [it.removeprefix("//!").strip() if it.startswith("//!") else "" for it in self.read(self.root).splitlines()]
+        return " ".join(itertools.takewhile(bool, lines))
 
     def sum(self):
         """A sum of the crate's line in crates.txt and of its files, but for what was built, edits and manuals."""
