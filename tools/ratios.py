@@ -1,0 +1,30 @@
+"""Reads the figures of docs/ratios.svg, as tools/plot_ratios draws it, and compares docs/PERFORMANCE.md with them."""
+import re
+
+# A row of the picture is the name of a line, and for each processor a bar, a point and the median.
+MEDIAN = r"<line[^>]*>\n<circle[^>]*>\n<text[^>]*>([\d.]+)</text>\n"
+ROW = re.compile(rf'<text[^>]*text-anchor="end"[^>]*>(\w+)</text>\n{MEDIAN}{MEDIAN}')
+# A cell with the name of a line, or of several that have the same figures, and those of both processors.
+CELLS = re.compile(r"\| (`\w+`(?:, `\w+`)*) \| ([\d.]+) \| ([\d.]+) \|")
+# The document names each line above this, but those of the validation of text, of which it gives ranges.
+MOST, APART = 1.03, "utf8_try_new_"
+
+
+def ratios_of(picture):
+    """Returns the medians of each line of a picture, for both processors, as they are written there."""
+    return {name: (first, second) for name, first, second in ROW.findall(picture)}
+
+
+def faults_of(picture, page):
+    """Returns in which figures a document differs from a picture, and which lines it should name and does not."""
+    ratios, found = ratios_of(picture), []
+    for names, *figures in CELLS.findall(page):
+        name = re.match(r"`(\w+)`", names)[1]
+        if name in ratios and ratios[name] != tuple(figures):
+            found.append(f"{name} is {' and '.join(figures)}, and {' and '.join(ratios[name])} in the picture")
+    named = re.findall(r"`(\w+)`", " ".join(names for names, *_ in CELLS.findall(page)))
+    for name, medians in ratios.items():
+        is_named = any(name == it or it.startswith("_") and name.endswith(it) for it in named)
+        if max(map(float, medians)) > MOST and not name.startswith(APART) and not is_named:
+            found.append(f"names no line {name}, which is {' and '.join(medians)} in the picture")
+    return found
