@@ -1,5 +1,9 @@
-"""Reads the figures of docs/ratios.svg, as tools/plot_ratios draws it, and compares docs/PERFORMANCE.md with them."""
+"""Reads the figures of docs/ratios.svg, as tools/plot_ratios draws it, compares docs/PERFORMANCE.md with them, and reads
+which lines of the comparison stand beside plain loops. tools/repository_test tries it."""
 import re
+
+# A line of the comparison's driver, with what it is compared with.
+SIDE = re.compile(r'\bside!\(\w+, \w+, (?:format!\()?"([a-z]+_).*?\|\w+\|', re.S)
 
 # A row of the picture is the name of a line, and for each processor a bar, a point and the median.
 MEDIAN = r"<line[^>]*>\n<circle[^>]*>\n<text[^>]*>([\d.]+)</text>\n"
@@ -28,3 +32,8 @@ def faults_of(picture, page):
         if max(map(float, medians)) > MOST and not name.startswith(APART) and not is_named:
             found.append(f"names no line {name}, which is {' and '.join(medians)} in the picture")
     return found
+
+
+def loops_of(driver):
+    """Returns the words with which the names of those lines of a driver begin that stand beside plain loops."""
+    return tuple(sorted({it[1] for it in SIDE.finditer(driver) if "plain::" in it[0]}))
