@@ -1,4 +1,4 @@
-//! Bitmaps.
+//! Bitmaps: lists of marks, frozen and growing, and what two of them make mark by mark.
 pub use arrow_memory::bitmap::{Bitmap, BitmapIntoIter as IntoIter, MutableBitmap, and, not, or};
 
 /// Iterators over marks, and over slots.

@@ -1,3 +1,4 @@
+//! Each recipe run once. What a recipe returns is proved; that it succeeds with ample memory is tested here.
 use crate::from_arrow2;
 use crate::parts::receive;
 use crate::push::prices;
