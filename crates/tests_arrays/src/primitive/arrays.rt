@@ -1,4 +1,4 @@
-//! Arrays.
+//! Arrays: when they hold a mask, what slices count, and when their values may be written.
 use super::*;
 
 /// Compares what each constructor makes of a value and a null, which stores zero.

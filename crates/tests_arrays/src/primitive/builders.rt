@@ -1,4 +1,4 @@
-//! Builders.
+//! Builders: how they are made, grow and shrink, when they hold a mask, and what they freeze.
 ghost use Rattle.std.specs.Prelude.{◌≡◌, vec_len};
 
 use super::*;

@@ -1,3 +1,4 @@
+//! Laws of columns, called with the types of arrays of numbers. What they say is proved where they stand.
 use arrow_column::laws::{
     bare_column, cut_of_cut, empty_cut, freeze_drops_mask, held_masks, mask_bits, no_mask,
     one_by_one, parts_again, push_then_pop, rows_by_parts, slot_by_value, slots_in_order,
