@@ -1,4 +1,5 @@
-//! The answer of the program.
+//! The answer of the program: `answer`, whose contract says what is written of any input whose bytes are known. All
+//! other files serve it.
 ghost use Rattle.std.specs.Prelude.{◌⊎◌, IfErr, IfOk, IfSome};
 ghost use Rattle.std.specs.Io.KnownBytes.{Appends};
 ghost use Rattle.example_csv.specs.Answering.{CannotAsk, CannotPrint, IsAsked, Prints, table_text};

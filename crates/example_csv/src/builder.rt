@@ -1,4 +1,5 @@
-//! Columns that grow by fields.
+//! Columns that grow by fields, for `read_table`. A column without a declared type grows as text, and is converted at
+//! the end of the input, when all of its fields are known.
 ghost use Rattle.std.specs.Prelude.{◌≡◌, ℕ, List, [], IfErr, IfOk, OnOk, map};
 ghost use Rattle.dethrugn.specs.Column.{slots_of};
 ghost use Rattle.example_csv.specs.Builders.{CannotPush, GrowsBy, IsArrayOf, IsOutOfMemory, built_cells, HoldsFields};

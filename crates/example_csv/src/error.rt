@@ -1,4 +1,4 @@
-//! The errors of the program.
+//! The errors of the program. Contracts say which one comes and what it names; their texts are only tested.
 ghost use Rattle.std.specs.Prelude.{◌≡◌};
 
 use crate::kind::Kind;

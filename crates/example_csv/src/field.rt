@@ -1,4 +1,5 @@
-//! What header fields and fields mean.
+//! What header fields and fields mean. A number is the text that it prints as, so that nothing is lost between reading
+//! and printing.
 ghost use Rattle.std.specs.Prelude.{◌≡◌, option_map};
 ghost use Rattle.example_csv.specs.Fields.{header_of, parsed_number, slot_as, field_text, truth_of};
 

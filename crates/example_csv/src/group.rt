@@ -1,4 +1,5 @@
-//! Rows by group, and aggregates of each group.
+//! Rows by group, and aggregates of each group. `group_rows` makes a row for each distinct value of a column, by
+//! `IsGroupedBy`.
 ghost use Rattle.std.specs.Prelude.{◌≡◌, ◌<◌, IfErr, IfOk, IsSome, Ok, Some, length, map, option_map};
 ghost use Rattle.std.specs.Prelude.{string_bytes};
 ghost use Rattle.example_record_batch.specs.AnyArrays.{slot_count};

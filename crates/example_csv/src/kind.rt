@@ -1,4 +1,4 @@
-//! The types of columns.
+//! The types of columns. Another one needs a builder, a meaning of fields, and a text of cells.
 use std::fmt;
 
 /// The type of a column.

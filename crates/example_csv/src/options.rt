@@ -1,4 +1,4 @@
-//! The options of the command line.
+//! The options of the command line, as `clap` reads them, which is only tested.
 use crate::error::Error;
 use crate::group::{Aggregation, GroupBy};
 use crate::sort::SortKey;

@@ -1,4 +1,5 @@
-//! Where a record stands in a text.
+//! Where a record stands in a text, for the line of an error, since the CSV reader counts lines by line feeds alone.
+//! Only tested.
 
 /// Returns the line, from 1, on which a record begins that is read from `byte` on: ends of lines are skipped before it,
 /// and a byte order mark. A line ends with a line feed, a carriage return, or both in this order.

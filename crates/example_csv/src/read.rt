@@ -1,4 +1,5 @@
-//! Reads a table of CSV.
+//! Reads a table of CSV in one pass. The contract of `read_table` says which table a text is, and for which reasons one
+//! is refused.
 ghost use Rattle.std.specs.Prelude.{◌≡◌, ℕ, List, [], IfErr, IfOk, IfSome, OnOk, Some};
 ghost use Rattle.csv.specs.Reading.{source_of, strip_bom};
 ghost use Rattle.csv.specs.Records.{fields_of};

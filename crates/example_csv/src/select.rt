@@ -1,4 +1,4 @@
-//! Rows and columns of a table.
+//! Rows and columns of a table: `select` does what the options ask, in the order that README.md gives.
 ghost use Rattle.std.specs.Prelude.{◌≡◌, Some, None, Ok, IfOk, IfErr, OnOk, length, map, option_map, string_bytes};
 ghost use Rattle.std.specs.List.{filter_map};
 ghost use Rattle.example_record_batch.specs.Batches.{HaveRows, column_of, named};

@@ -1,4 +1,4 @@
-//! Rows in the order of a column.
+//! Rows in the order of a column: those of a take by the indexes that sort it.
 ghost use Rattle.std.specs.Prelude.{◌≡◌, Ok, IfOk, IfErr, string_bytes};
 ghost use Rattle.example_record_batch.specs.AnyArrays.{slot_count};
 ghost use Rattle.example_record_batch.specs.Batches.{column_of};

@@ -1,4 +1,4 @@
-//! A summary of a table: a row for each column.
+//! A summary of a table: a row for each column, by `IsSummary`.
 ghost use Rattle.std.specs.Prelude.{◌≡◌, ◌∷◌, ◌++◌, [], Some, ℕ, length, map, option_map};
 ghost use Rattle.std.specs.Prelude.{IfOk, IfErr, OnOk};
 ghost use Rattle.example_record_batch.specs.AnyArrays.{cells_of, nulls_of, slot_count, text};

@@ -1,4 +1,4 @@
-//! Cells as text.
+//! Cells as text, for both forms of output. Text is borrowed from its array; one scratch text serves all numbers.
 ghost use Rattle.std.specs.Prelude.{◌≡◌, ◌<◌, IfOk};
 ghost use Rattle.std.specs.Fmt.{signed_decimal};
 ghost use Rattle.hex.specs.Hex.{encode_lower};

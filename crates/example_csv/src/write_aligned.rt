@@ -1,4 +1,4 @@
-//! Tables as aligned columns.
+//! Tables as aligned columns: `write_aligned` appends the text that `aligned_text` defines to what is written.
 ghost use Rattle.std.specs.Prelude.{◌≡◌, ◌<◌, ◌++◌, codes, encode_utf8, replicate, string_bytes, IfOk, IfErr, OnOk};
 ghost use Rattle.std.specs.Io.KnownBytes.{Appends};
 ghost use Rattle.std.specs.Str.{trim_end};

@@ -1,4 +1,4 @@
-//! Tables as CSV.
+//! Tables as CSV: `write_csv` appends the text that `csv_text` defines to what is written.
 ghost use Rattle.std.specs.Prelude.{◌≡◌, ◌<◌, IfOk, IfErr, OnOk, false};
 ghost use Rattle.std.specs.Io.KnownBytes.{Appends};
 ghost use Rattle.csv.specs.Records.{fields_of};

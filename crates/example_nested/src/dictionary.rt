@@ -1,5 +1,5 @@
-//! Dictionary arrays: each slot is a key, the index of a value (Arrow columnar format,
-//! "Dictionary-encoded Layout").
+//! Dictionary arrays: each slot is a key, the index of a value (Arrow columnar format, "Dictionary-encoded Layout").
+//! All keys are tested once, so that no read of a slot can fail.
 ghost use Rattle.std.specs.Prelude.{◌≡◌, ◌==◌, ◌<◌, Some, is_none, length, map, option_map, slice_get};
 ghost use Rattle.std.specs.Prelude.{IfOk, IfSome, IsOk, MatchOption};
 ghost use Rattle.dethrugn.specs.Column.{slots_of};

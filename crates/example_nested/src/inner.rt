@@ -1,4 +1,5 @@
-//! Inner arrays: the arrays that lists and dictionaries are made over.
+//! Inner arrays: the arrays that lists and dictionaries are made over. An array of a user's own takes part by the same
+//! two traits.
 ghost use Rattle.std.specs.Prelude.{◌≡◌, ◌<◌, List, Option, Some, length, option_map, slice_get};
 
 use dethrugn::array::{Binary, BooleanArray, ByteArray, ByteKind, PrimitiveArray, Utf8};

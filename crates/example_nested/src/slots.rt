@@ -1,4 +1,5 @@
-//! Borrowed slots of an inner array, and an iterator over them.
+//! Borrowed slots of an inner array, and an iterator over them. The library's iterator over an array's items would
+//! borrow the list instead of the array.
 ghost use Rattle.std.specs.Prelude.{◌≡◌, ◌==◌, ◌<◌, ◌≤◌, Some, IfSome, length, option_map, slice_get, slice_range};
 ghost use Rattle.std.specs.Iterator.{UpTo, YieldsFirstBy, YieldsLastBy, at_most, item_count};
 ghost use Rattle.std.specs.Iterator.SizeHint.{IsWithinCount};

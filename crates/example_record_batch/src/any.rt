@@ -1,4 +1,5 @@
-//! An array of one of four kinds.
+//! An array of one of four kinds. Its functions go by cases, and so do the definitions that their contracts cite.
+//! README.md says what another kind needs.
 ghost use Rattle.std.specs.Prelude.{◌≡◌, ◌<◌, length, not, slice_get, None, Some, IfOk};
 ghost use Rattle.dethrugn.specs.Failures.{OnlyOutOfMemory};
 ghost use Rattle.example_record_batch.specs.AnyArrays.{FitsAnyCut, any_cut, any_filtered, array_kind, nulls_of};

@@ -1,4 +1,4 @@
-//! Named columns of equal length.
+//! Named columns of equal length. That they have it is the invariant of `RecordBatch`, so no function tests it again.
 ghost use Rattle.std.specs.Prelude.{◌≡◌, ◌≤◌, ◌-◌, All, IfErr, IfOk, IfSome, find, length, map, string_bytes};
 ghost use Rattle.std.specs.Str.{bytes_eq};
 ghost use Rattle.std.specs.Option.{option_copied};

@@ -1,4 +1,4 @@
-//! The names and the data types of a batch's columns.
+//! The names and the data types of a batch's columns, and their text, which is part of the contract.
 ghost use Rattle.std.specs.Prelude.{Some};
 ghost use Rattle.example_record_batch.specs.Schemas.{schema_text};
 

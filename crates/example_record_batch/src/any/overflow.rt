@@ -1,4 +1,5 @@
-//! Which group has a sum that does not fit in 64 bits.
+//! Which group has a sum that does not fit in 64 bits, so that an error can name it: a sum of groups says only that
+//! there is one.
 ghost use Rattle.std.specs.Prelude.{◌≡◌, ◌+◌, ◌+ℤ◌, ◌<◌, ◌≤◌, ◌^◌, ℕ, All, IfOk, IfSome, Some, length, not, pos};
 ghost use Rattle.std.specs.Prelude.{slice_get, unsigned_abs, unwrap_or};
 ghost use Rattle.std.specs.Int.{w64};
