@@ -102,7 +102,7 @@ class Declaration:
 
     def __init__(self, kind, name, first, lines):
         self.kind, self.name, self.first, self.last = kind, name, first, first + len(lines) - 1
-        above = next(at for at, it in enumerate(lines) if not it.startswith(("///", "#[", " ", "]", ")")))
+        above = next(at for at, it in enumerate(lines) if not it.startswith(("//", "#[", " ", "]", ")")))
         self.at, self.above, self.rows = first + above, lines[:above], lines[above:]
         self.header = header_of(self.rows, 0)
         opened = next((at for at, it in enumerate(self.rows) if it.rstrip().endswith("{")), None)
@@ -147,7 +147,7 @@ def split_body(lines, indent):
 
 
 def attributes_before(lines, at):
-    """The number of the line at which the attributes and the description of an item in line `at` begin."""
+    """The number of the line at which the attributes and the comments of an item in line `at` begin."""
     first = at
     while first > 0:
         line = lines[first - 1].strip()
@@ -157,7 +157,7 @@ def attributes_before(lines, at):
             if not lines[opened].strip().startswith("#["):
                 break
             first = opened
-        elif line.startswith(("#[", "///")):
+        elif line.startswith(("#[", "//")) and not line.startswith("//!"):
             first -= 1
         else:
             break
@@ -172,7 +172,7 @@ def header_of(lines, at):
 
 def attributes_of(lines, at):
     """The attributes of an item in line `at`, each line by itself."""
-    return [it.strip() for it in lines[attributes_before(lines, at) : at] if not it.strip().startswith("///")]
+    return [it.strip() for it in lines[attributes_before(lines, at) : at] if not it.strip().startswith("//")]
 
 
 def functions_of(text):
