@@ -14,6 +14,9 @@ pub use arrow_types::laws as types;
 pub use compute_group::laws as group;
 
 /// Laws of the kernels that compute: how many slots a result has, what slot `i` is, and what two calls in a row make.
+/// In their clauses `xs` and `ys` are slots, `f`, `g` and `h` make slots of slots, `op` makes a slot of two, `cmp` is
+/// the order of two values, `eq` whether they are equal, `o` are the options of a sort, `l` its limit, `ks` its
+/// indexes.
 pub mod compute {
     pub use compute_aggregate::laws::summed_slots as summed;
     pub use compute_base::laws::{combined_slots, mapped_slots};
