@@ -1,8 +1,10 @@
-"""Reads the figures of docs/ratios.svg, as tools/plot_ratios draws it, compares docs/PERFORMANCE.md with them, and reads
-which lines of the comparison stand beside plain loops. tools/repository_test tries it."""
+"""Reads the figures of docs/ratios.svg, as tools/plot_ratios draws it, compares docs/PERFORMANCE.md with them, and
+reads which lines of the comparison stand beside plain loops. tools/repository_test tries it."""
+import os
 import re
 
-# A line of the comparison's driver, with what it is compared with.
+# The comparison's driver, and a line of it, with what it is compared with.
+DRIVER = os.path.join(os.path.dirname(os.path.realpath(__file__)), "comparison/driver/src/bin/bench_rattle.rs")
 SIDE = re.compile(r'\bside!\(\w+, \w+, (?:format!\()?"([a-z]+_).*?\|\w+\|', re.S)
 
 # A row of the picture is the name of a line, and for each processor a bar, a point and the median.
@@ -10,7 +12,7 @@ MEDIAN = r"<line[^>]*>\n<circle[^>]*>\n<text[^>]*>([\d.]+)</text>\n"
 ROW = re.compile(rf'<text[^>]*text-anchor="end"[^>]*>(\w+)</text>\n{MEDIAN}{MEDIAN}')
 # A cell with the name of a line, or of several that have the same figures, and those of both processors.
 CELLS = re.compile(r"\| (`\w+`(?:, `\w+`)*) \| ([\d.]+) \| ([\d.]+) \|")
-# The document names each line above this, but those of the validation of text, of which it gives ranges.
+# The document names each line beside arrow2 above this, but those of the validation of text, of which it gives ranges.
 MOST, APART = 1.03, "utf8_try_new_"
 
 
@@ -19,8 +21,9 @@ def ratios_of(picture):
     return {name: (first, second) for name, first, second in ROW.findall(picture)}
 
 
-def faults_of(picture, page):
-    """Returns in which figures a document differs from a picture, and which lines it should name and does not."""
+def faults_of(picture, page, loops):
+    """Returns in which figures a document differs from a picture, and which lines it should name and does not. Names
+    that begin with one of `loops` are of lines beside plain loops."""
     ratios, found = ratios_of(picture), []
     for names, *figures in CELLS.findall(page):
         name = re.match(r"`(\w+)`", names)[1]
@@ -29,7 +32,7 @@ def faults_of(picture, page):
     named = re.findall(r"`(\w+)`", " ".join(names for names, *_ in CELLS.findall(page)))
     for name, medians in ratios.items():
         is_named = any(name == it or it.startswith("_") and name.endswith(it) for it in named)
-        if max(map(float, medians)) > MOST and not name.startswith(APART) and not is_named:
+        if max(map(float, medians)) > MOST and not name.startswith((APART, *loops)) and not is_named:
             found.append(f"names no line {name}, which is {' and '.join(medians)} in the picture")
     return found
 
