@@ -4,7 +4,7 @@ import os
 import repository
 
 VERIFIED, COSTS = f"{repository.TOP}/verified.tsv", f"{repository.TOP}/docs/costs.tsv"
-HEAD = """# Crates of tests and examples and the benchmark, each with a sum of its files when ./verify --all last proved it.
+HEAD = """# Crates of tests and examples and the benchmark, each with a sum of its files without comments when ./verify --all last proved it.
 # ./verify proves those that have changed since. Written by ./verify --all.
 """
 COSTS_HEAD = """# What ./verify --all took: how many processors there were, a step or a proof, its seconds of processors, and of the clock.

@@ -135,12 +135,15 @@ class Crate:
         return " ".join(itertools.takewhile(bool, lines))
 
     def sum(self):
-        """A sum of the crate's line in crates.txt and of its files, but for what was built, edits and manuals."""
+        """A sum of the crate's line in crates.txt and of its files, but for comments, what was built, edits and manuals."""
         total = hashlib.sha256(self.line.encode())
         for path in files_below(self.folder, left_out=LEFT_OUT):
             if not path.endswith(".md"):
                 with open(path, "rb") as file:
-                    total.update(repr((os.path.relpath(path, self.top), file.read())).encode())
+                    content = file.read()
+                if path.endswith((".rt", ".antt")):
+                    content = without_comments(path, content.decode()).encode()
+                total.update(repr((os.path.relpath(path, self.top), content)).encode())
         return total.hexdigest()
 
 
