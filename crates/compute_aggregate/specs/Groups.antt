@@ -3,9 +3,10 @@
 use Rattle.std.specs.Prelude.{◌≡◌, [], MatchOption, ◌+◌, ◌^◌, ◌%◌, ◌==◌, ℕ, List, length, Option, Some, None, if◌then◌else◌, slice_get}
 use Rattle.std.specs.List.{filter_map, zip}
 use Rattle.std.specs.declared.cmp.Ordering.{Ordering}
-use Rattle.std.specs.Prelude.{◌<◌, not, filter, fold, map, option_map}
+use Rattle.std.specs.Prelude.{◌<◌, Bool, not, filter, fold, map, option_map}
 use Rattle.std.specs.List.{sum_by}
 use Rattle.std.specs.Option.{option_map_or}
+use Rattle.arrow_memory.specs.Rows.{slot}
 use Rattle.arrow_types.specs.Types.{LogicalType, default_logical_type}
 use Rattle.arrow_types.specs.declared.primitive_type.PrimitiveType.TheVariants.{UInt64}
 use Rattle.arrow_column.specs.Column.{Column, ColumnWith, all_valid, slots_of}
@@ -81,11 +82,20 @@ StatesOf step start pairs groups states = (g : ℕ) → g < groups
 abbrev pub GroupStates : {A S Y : Type 0} → (Y → S → Y) → Y → ColumnWith A S → List ℕ → ℕ → List Y → Type 0
 GroupStates step start column indices groups states = StatesOf step start (zip indices (slots_of column)) groups states
 
+-- the extreme of the values so far, if there are any, and of one more
+abbrev pub extreme_step : {S : Type 0} → Extreme → (S → S → Ordering) → Option S → S → Option S
+extreme_step extreme cmp best value = extreme_slot extreme cmp best (Some value)
+
+-- what is seen of a value is the extreme so far after a slot more, which is given by its value and its mark
+abbrev pub KeepsExtreme : {S V : Type 0} → Extreme → (S → S → Ordering) → (V → S) → Option V → V × Bool → Option V → Type 0
+KeepsExtreme extreme cmp seen best row kept =
+    option_map seen kept ≡ fold_slot (extreme_step extreme cmp) (option_map seen best) (slot (seen row.0, row.1))
+
 -- the extreme value of each group
 abbrev pub ExtremesOfGroups : {A S : Type 0} → Extreme → (S → S → Ordering) → ColumnWith A S → List ℕ → ℕ → List (Option S)
     → Type 0
 ExtremesOfGroups extreme cmp column indices groups best =
-    GroupStates (λ state value. extreme_slot extreme cmp state (Some value)) None column indices groups best
+    GroupStates (extreme_step extreme cmp) None column indices groups best
 
 -- what contracts see of slots
 abbrev pub as_seen : {V S : Type 0} → (V → S) → List (Option V) → List (Option S)

@@ -5,6 +5,7 @@ ghost use Rattle.arrow_types.specs.Failures.{OnlyOutOfMemory};
 ghost use Rattle.compute_aggregate.specs.Aggregates.{extreme_slot, text_cmp};
 ghost use Rattle.compute_aggregate.specs.Groups.{CountsGroups, CountsValid, ExtremesOfGroups, GroupStates, IsExtremeSlot, IsGreatestSlot, IsLeastSlot};
 ghost use Rattle.compute_aggregate.specs.Groups.{AggregatesGroups, CountsRows, SeenExtremes, StatesOf, as_seen, count_step};
+ghost use Rattle.compute_aggregate.specs.Groups.{KeepsExtreme};
 ghost use Rattle.compute_aggregate.specs.Groups.{own_pairs};
 
 use crate::aggregate::extreme::{Extreme, more_extreme};
@@ -17,6 +18,8 @@ use arrow_types::error::Error;
 use arrow_types::native_type::NativeType;
 use arrow_types::offset::Offset;
 use arrow_utf8::Utf8Array;
+use compute_base::bits::is_set;
+use compute_base::words::marks_word;
 use compute_group::Groups;
 use compute_slots::{OrderSlots, ReadValues};
 use std::alloc::{AllocError, Global};
@@ -113,7 +116,21 @@ pub fn group_rows(alloc: Global, groups: &Groups) -> Result<PrimitiveArray<u64>,
     PrimitiveArray::from_vec(sizes_of_groups(alloc, groups)?)
 }
 
-/// Keeps the extreme value of the valid slots of each group.
+/// Returns the lesser, or the greater, of a value and the one before it; the one before it if the slot is null.
+#[inline(always)]
+fn kept_value<'a, A: OrderSlots<'a>>(
+    best: Option<A::Value>,
+    value: A::Value,
+    is_valid: bool,
+    extreme: Extreme,
+) -> Option<A::Value>
+    ensures { KeepsExtreme extreme A.order A.seen best (value, is_valid) result }
+{
+    let next = more_extreme::<A>(best, value, extreme);
+    if is_valid { next } else { best }
+}
+
+/// Keeps the extreme value of the valid slots of each group. Looks the mask up once for 64 slots.
 fn extreme_rows<'a, A: OrderSlots<'a> + ReadValues<'a>>(
     array: &'a A,
     indices: &[usize],
@@ -126,12 +143,15 @@ fn extreme_rows<'a, A: OrderSlots<'a> + ReadValues<'a>>(
     ensures { ExtremesOfGroups extreme A.order (A.column array.entry.now) indices.now (length best.old)
         (as_seen A.seen best.new) }
 {
-    let values = array.stored_values();
-    for i in 0..indices.len() {
-        let (group, value) = (indices[i], A::stored_value(values, i));
-        let state = best[group];
-        let next = more_extreme::<A>(state, value, extreme);
-        best[group] = if array.is_valid(i) { next } else { state };
+    let (values, rows) = (array.stored_values(), indices.len());
+    for i in 0..rows.div_ceil(64) {
+        let place = 64 * i;
+        let count = (rows - place).min(64);
+        let word = marks_word(array, place, count);
+        for k in 0..count {
+            let (group, value) = (indices[place + k], A::stored_value(values, place + k));
+            best[group] = kept_value::<A>(best[group], value, is_set(word, k), extreme);
+        }
     }
 }
 
